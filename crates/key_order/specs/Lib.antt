@@ -1,0 +1,4 @@
+pub mod Order
+pub mod Interval
+pub mod Map
+pub mod Join
