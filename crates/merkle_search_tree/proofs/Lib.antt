@@ -1,0 +1,10 @@
+pub mod Rows
+pub mod Parts
+pub mod Gaps
+pub mod Unique
+pub mod TreeOf
+pub mod Sides
+pub mod Set
+pub mod Keeps
+pub mod Drops
+pub mod Upserts

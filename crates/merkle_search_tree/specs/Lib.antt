@@ -1,0 +1,14 @@
+pub mod Tree
+pub mod TreeCode
+pub mod TreeFalls
+pub mod Page
+pub mod Canonical
+pub mod TreeOf
+pub mod Stream
+pub mod Cache
+pub mod Events
+pub mod Settings
+pub mod State
+pub mod Sound
+pub mod Upsert
+pub mod Parted

@@ -1,0 +1,139 @@
+//! The tree.
+
+ghost use Rattle.std.specs.Prelude.{◌≡◌, ◌≢◌, ◌+◌, ◌≤◌, None, OnOk, OnErr, IfErr, IsOk, true};
+ghost use Rattle.std.specs.Option.{option_map};
+ghost use Rattle.std.specs.Int.NonZero.{non_zero_u8_get};
+ghost use Rattle.key_order.specs.Map.{set, has_key};
+ghost use Rattle.merkle_digest.specs.Level.{level_of};
+ghost use Rattle.merkle_digest.specs.SipHash.{zero_key};
+ghost use Rattle.merkle_search_tree.specs.Tree.{page, high, nothing};
+ghost use Rattle.merkle_search_tree.specs.Page.{level};
+ghost use Rattle.merkle_search_tree.specs.Cache.{missing, KeyUncached};
+ghost use Rattle.merkle_search_tree.specs.State.{map_of, IsNew};
+
+use crate::builder::Builder;
+use crate::page::Page;
+use crate::upsert::UpsertRefused;
+use merkle_digest::{Hasher, KeyBytes, RootHash, SipHasher, ValueDigest, level};
+use std::alloc::Global;
+use std::marker::{Model, PhantomData};
+use std::num::NonZeroU8;
+
+/// A Merkle search tree (Auvolat and Taïani, "Merkle Search Trees: Efficient State-Based CRDTs in Open Networks"): an ordered map
+/// from keys to digests of values, whose pages and root hash depend on the map, the hasher and the level base alone, and not on
+/// the order in which keys came.
+///
+/// A contract sees the tree as its hasher, its level base, its root page with all caches, and its cached root hash. Of every
+/// tree it holds that the keys ascend, that the pages are the tree of the map, that each cached digest is that of its page with
+/// every page below it cached too, and that a cached root hash is the digest of the root page.
+///
+/// The tree keeps the allocator that it was made with.
+#[derive(Drop)]
+pub struct MerkleSearchTree<K: Ord + KeyBytes, V, H: Hasher<N, K>, const N: usize> {
+    alloc: Global,
+    hasher: H,
+    level_base: NonZeroU8,
+    root: Page<N, K>,
+    root_hash: Option<RootHash>,
+    value_type: PhantomData<V>,
+}
+
+impl<K: Ord + KeyBytes, V, H: Hasher<N, K>, const N: usize> Model for MerkleSearchTree<K, V, H, N> {
+    ghost use Rattle.std.specs.Int.NonZero.{non_zero_u8_get};
+    ghost use Rattle.merkle_search_tree.specs.State.{State, state_code};
+
+    ghost Value = { State K H };
+
+    ghost coded = { state_code K.code H.code };
+
+    ghost view = { λ a. record { hasher = a.hasher; base = non_zero_u8_get a.level_base; root = a.root; root_hash = a.root_hash } };
+
+    ghost use Rattle.merkle_search_tree.specs.Sound.{IsSound};
+
+    ghost invariant = { λ a. IsSound K.cmp H.digest_of K.bytes_of (record { hasher = a.hasher; base = non_zero_u8_get a.level_base; root = a.root; root_hash = a.root_hash }) };
+}
+
+impl<K: Ord + KeyBytes, V, const N: usize> MerkleSearchTree<K, V, SipHasher, N>
+where
+    SipHasher: Hasher<N, K>,
+{
+    /// The empty tree with the default hasher, SipHash under the zero key, and level base 16. It takes no memory.
+    pub fn with_defaults(alloc: Global) -> Self
+        ensures { IsNew zero_key 16 result }
+    {
+        Builder::default().build(alloc)
+    }
+}
+
+impl<K: Ord + KeyBytes, V, H: Hasher<N, K>, const N: usize> MerkleSearchTree<K, V, H, N> {
+    /// The empty tree with this hasher and level base 16. It takes no memory.
+    ///
+    /// Deprecated: use [`Builder`](crate::builder::Builder).
+    pub fn new_with_hasher(alloc: Global, hasher: H) -> Self
+        ensures { IsNew hasher 16 result }
+    {
+        MerkleSearchTree::new(alloc, hasher, merkle_digest::default_level_base())
+    }
+
+    /// The empty tree with this hasher and level base.
+    pub(crate) fn new(alloc: Global, hasher: H, level_base: NonZeroU8) -> Self
+        ensures { IsNew hasher (non_zero_u8_get level_base) result }
+    {
+        MerkleSearchTree {
+            alloc,
+            hasher,
+            level_base,
+            root: Page::empty(alloc),
+            root_hash: None,
+            value_type: PhantomData,
+        }
+    }
+
+    /// The digest of the root page, where it is cached: `None` for a new tree, and after every accepted upsert until the tree is
+    /// hashed again.
+    pub fn root_hash_cached(&self) -> Option<&RootHash>
+        ensures { option_map (λ digest. digest.now) result ≡ self.now.root_hash }
+    {
+        self.root_hash.as_ref()
+    }
+}
+
+impl<
+    K: Ord + KeyBytes + Drop,
+    V: Eq,
+    H: Hasher<N, K> + Hasher<N, V>,
+    const N: usize,
+> MerkleSearchTree<K, V, H, N> {
+    /// Sets `key` to the digest of `value`. Where an equal key is there, it stays, and gets the new digest; no memory is taken
+    /// then, and the upsert is accepted.
+    ///
+    /// Accepted, it drops the cached root hash and the cached digest of each page whose subtree then holds the key, even where
+    /// the digest stays the same. It is refused only for want of memory: the key is handed back, and the pages, all cached
+    /// digests and the cached root hash are as before.
+    pub fn upsert(&mut self, key: K, value: &V) -> Result<(), UpsertRefused<K>>
+        // The map has the key with the digest of the value.
+        ensures set { OnOk result (map_of self.new ≡ set K.cmp (map_of self.old) key (⟦<H as Hasher<N, V>>⟧.digest_of self.old.hasher value.now)) }
+
+        // No digest over the key is left, and into a hashed tree few others are dropped.
+        ensures forgotten { OnOk result (self.new.root_hash ≡ None) }
+        ensures dropped { OnOk result (KeyUncached K.cmp key self.new.root) }
+        ensures few { OnOk result (self.old.root_hash ≢ None → missing self.new.root ≤ level self.new.root + level_of (⟦<H as Hasher<N, K>>⟧.digest_of self.old.hasher key) self.old.base + 1) }
+
+        ensures hasher { self.new.hasher ≡ self.old.hasher }
+        ensures base { self.new.base ≡ self.old.base }
+
+        // Refused, it leaves the tree and hands the key back.
+        ensures unchanged { OnErr result (self.new ≡ self.old) }
+        ensures returned { IfErr result (λ refused. refused ≡ key) }
+        ensures succeeds { has_key K.cmp (map_of self.old) key ≡ true → IsOk result }
+    {
+        let digest = ValueDigest::new(<H as Hasher<N, V>>::hash(&self.hasher, value));
+        let key_level = level(
+            &<H as Hasher<N, K>>::hash(&self.hasher, &key),
+            self.level_base,
+        );
+        self.root.set(self.alloc, key, key_level, digest)?;
+        self.root_hash = None;
+        Ok(())
+    }
+}
