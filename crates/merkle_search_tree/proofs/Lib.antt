@@ -7,4 +7,9 @@ pub mod Sides
 pub mod Set
 pub mod Keeps
 pub mod Drops
+pub mod Same
+pub mod Sound
 pub mod Upserts
+pub mod Equals
+pub mod Copies
+pub mod Paths

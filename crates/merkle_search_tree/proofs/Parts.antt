@@ -1,5 +1,5 @@
 -- The parts of a page at a key, by the place of the key among its nodes.
-use Rattle.std.specs.Prelude.{Result, Ok, Err, OnErr, OnOk}
+use Rattle.std.specs.Prelude.{Result, Ok, Err, OnErr, OnOk, IfOk}
 use Rattle.std.proofs.Common.{◌≡◌, ℕ, zero, suc, ◌<◌, List, [], ◌∷◌, length, take, drop, get_or, slice_set, Bool, true, false, if◌then◌else◌, Option, None, refl, ap, sym, ◌∙◌, arith}
 use Rattle.std.specs.declared.cmp.Ordering.{Ordering}
 use Rattle.std.specs.Ordering.{is_gt}
@@ -110,3 +110,7 @@ take_set (y ∷ ys) (suc i) v r = ap (λ zs. y ∷ zs) (take_set ys i v (omega a
 pub on_ok_map : {T E : Type 0} (r : Result T E) (P Q : Type 0) → (P → Q) → OnOk r P → OnOk r Q
 on_ok_map (Ok x) P Q f p = f p
 on_ok_map (Err e) P Q f p = tt
+
+pub if_ok_map : {T E : Type 0} (r : Result T E) (P Q : T → Type 0) → ((v : T) → P v → Q v) → IfOk r P → IfOk r Q
+if_ok_map (Ok x) P Q f p = f x p
+if_ok_map (Err e) P Q f p = tt

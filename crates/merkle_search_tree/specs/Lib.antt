@@ -7,6 +7,10 @@ pub mod TreeOf
 pub mod Stream
 pub mod Cache
 pub mod Events
+pub mod Equal
+pub mod EqualLaws
+pub mod Copy
+pub mod Path
 pub mod Settings
 pub mod State
 pub mod Sound

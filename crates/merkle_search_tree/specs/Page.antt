@@ -11,6 +11,10 @@ module _ {K D : Type 0} where
   abbrev pub cache : Tree K D → Option (List ℕ)
   cache (page l c r) = c
 
+  -- the key and the value digest of a node
+  abbrev pub pair_of : Node K D → K × D
+  pair_of n = (n.key, n.digest)
+
   abbrev pub row_nodes : Row K D → List (Node K D)
   row_nodes (high h) = []
   row_nodes (node h k d r) = record { lt = h; key = k; digest = d } ∷ row_nodes r

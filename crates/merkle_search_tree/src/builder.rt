@@ -1,6 +1,6 @@
 //! A tree's hasher and level base, chosen before the tree is made.
 
-ghost use Rattle.std.specs.Prelude.{◌≡◌, IfOk};
+ghost use Rattle.std.specs.Prelude.{◌≡◌, IfOk, IsOk};
 ghost use Rattle.std.specs.Int.NonZero.{non_zero_u8_get};
 ghost use Rattle.merkle_digest.specs.SipHash.{zero_key};
 ghost use Rattle.merkle_search_tree.specs.State.{IsNew};
@@ -38,6 +38,20 @@ impl Default for Builder<SipHasher> {
             hasher: SipHasher::default(),
             level_base: default_level_base(),
         }
+    }
+}
+
+impl<H: Clone> Builder<H> {
+    /// A builder with a clone of the hasher, and the same level base. It takes no memory but what the clone of the hasher takes.
+    pub fn try_clone(&self) -> Result<Self, AllocError>
+        ensures hasher { IfOk result (λ copy. H.is_clone self.now.hasher copy.hasher) }
+        ensures base { IfOk result (λ copy. copy.base ≡ self.now.base) }
+        ensures succeeds { H.is_infallible self.now.hasher → IsOk result }
+    {
+        Ok(Builder {
+            hasher: self.hasher.clone()?,
+            level_base: self.level_base,
+        })
     }
 }
 

@@ -7,6 +7,10 @@
 #![tactic(auto)]
 
 pub mod builder;
+mod copy;
+mod equality;
+pub mod laws;
+mod node_iter;
 mod page;
 mod spare;
 mod split;
@@ -14,6 +18,7 @@ mod tree;
 mod upsert;
 
 pub use merkle_digest as digest;
+pub use node_iter::{NodeIter, NodeIterOf};
 pub use page::{Node, NodeOf, Page, PageOf};
 pub use tree::MerkleSearchTree;
 pub use upsert::UpsertRefused;

@@ -1,21 +1,24 @@
 //! The tree.
 
-ghost use Rattle.std.specs.Prelude.{◌≡◌, ◌≢◌, ◌+◌, ◌≤◌, None, OnOk, OnErr, IfErr, IsOk, true};
+ghost use Rattle.std.specs.Prelude.{◌≡◌, ◌≢◌, ◌+◌, ◌≤◌, None, OnOk, OnErr, IfOk, IfErr, IsOk, true, map};
 ghost use Rattle.std.specs.Option.{option_map};
 ghost use Rattle.std.specs.Int.NonZero.{non_zero_u8_get};
+ghost use Rattle.key_order.specs.Order.{Same};
 ghost use Rattle.key_order.specs.Map.{set, has_key};
 ghost use Rattle.merkle_digest.specs.Level.{level_of};
 ghost use Rattle.merkle_digest.specs.SipHash.{zero_key};
 ghost use Rattle.merkle_search_tree.specs.Tree.{page, high, nothing};
-ghost use Rattle.merkle_search_tree.specs.Page.{level};
+ghost use Rattle.merkle_search_tree.specs.Page.{level, pair_of, nodes_in_order};
 ghost use Rattle.merkle_search_tree.specs.Cache.{missing, KeyUncached};
+ghost use Rattle.merkle_search_tree.specs.Copy.{IsCopy};
 ghost use Rattle.merkle_search_tree.specs.State.{map_of, IsNew};
 
 use crate::builder::Builder;
+use crate::node_iter::NodeIter;
 use crate::page::Page;
 use crate::upsert::UpsertRefused;
 use merkle_digest::{Hasher, KeyBytes, RootHash, SipHasher, ValueDigest, level};
-use std::alloc::Global;
+use std::alloc::{AllocError, Global};
 use std::marker::{Model, PhantomData};
 use std::num::NonZeroU8;
 
@@ -33,7 +36,7 @@ pub struct MerkleSearchTree<K: Ord + KeyBytes, V, H: Hasher<N, K>, const N: usiz
     alloc: Global,
     hasher: H,
     level_base: NonZeroU8,
-    root: Page<N, K>,
+    pub(crate) root: Page<N, K>,
     root_hash: Option<RootHash>,
     value_type: PhantomData<V>,
 }
@@ -95,6 +98,45 @@ impl<K: Ord + KeyBytes, V, H: Hasher<N, K>, const N: usize> MerkleSearchTree<K, 
         ensures { option_map (λ digest. digest.now) result ≡ self.now.root_hash }
     {
         self.root_hash.as_ref()
+    }
+
+    /// The nodes of all pages, in ascending key order: as many items as the tree has keys. The memory that the iteration takes,
+    /// room for one page more than the level of the root, is taken here.
+    pub fn node_iter(&self) -> Result<NodeIter<'_, N, K>, AllocError>
+        ensures nodes { IfOk result (λ rest. rest ≡ nodes_in_order self.now.root) }
+        ensures map { IfOk result (λ rest. map pair_of rest ≡ map_of self.now) }
+    {
+        NodeIter::new(self.alloc, &self.root)
+    }
+}
+
+impl<K: Ord + KeyBytes + Clone, V, H: Hasher<N, K> + Clone, const N: usize> MerkleSearchTree<
+    K,
+    V,
+    H,
+    N,
+> {
+    /// A tree with equal pages, all cached digests included, and the same hasher, level base and cached root hash.
+    pub fn try_clone(&self) -> Result<Self, AllocError>
+        // A clone equals its original.
+        requires keys { (a b : K) → K.is_clone a b → Same K.cmp a b }
+        requires hashers { (a b : H) → H.is_clone a b → b ≡ a }
+
+        ensures pages { IfOk result (λ copy. IsCopy (Same K.cmp) self.now.root copy.root) }
+        ensures hasher { IfOk result (λ copy. copy.hasher ≡ self.now.hasher) }
+        ensures base { IfOk result (λ copy. copy.base ≡ self.now.base) }
+        ensures root_hash { IfOk result (λ copy. copy.root_hash ≡ self.now.root_hash) }
+    {
+        let hasher = self.hasher.clone()?;
+        let root = self.root.try_clone(self.alloc)?;
+        Ok(MerkleSearchTree {
+            alloc: self.alloc,
+            hasher,
+            level_base: self.level_base,
+            root,
+            root_hash: self.root_hash,
+            value_type: PhantomData,
+        })
     }
 }
 
