@@ -1,0 +1,11 @@
+pub use Rattle.key_order.specs.Order
+pub use Rattle.key_order.specs.Interval
+pub mod Entry
+pub mod PageRange
+pub mod DiffRange
+pub mod Merge
+pub mod Cut
+pub mod TreeShape
+pub mod Iterable
+pub mod Walk
+pub mod Difference
