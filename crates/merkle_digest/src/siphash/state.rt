@@ -4,7 +4,7 @@ ghost use Rattle.std.specs.Prelude.{◌≡◌, ◌+◌, ◌≤◌, length, take,
 ghost use Rattle.merkle_digest.specs.SipHash.{word, start, round, absorb_word, four_rounds, folded, output};
 
 /// The state of SipHash-2-4 with 128 bits of output, between words of the message.
-#[derive(Clone, Copy)]
+#[derive(Clone, Copy, Debug)]
 pub struct State {
     v0: u64,
     v1: u64,
