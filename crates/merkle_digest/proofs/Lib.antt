@@ -1,2 +1,2 @@
 pub mod Absorbing
-pub mod LeadingZeros
+pub mod LevelLemmas

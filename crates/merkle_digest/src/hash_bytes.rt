@@ -52,7 +52,7 @@ impl HashBytes for Vec<u8> {
     ghost fed_bytes_respect_eq = { λ a b equal. same_text a.items b.items (sym equal) };
 
     fn feed(&self, sip: &mut Sip24) {
-        sip.write(self);
+        sip.write(self.as_slice());
     }
 }
 
@@ -85,7 +85,7 @@ impl HashBytes for u16 {
     ghost fed_bytes_respect_eq = { λ a b equal. ap (to_le_bytes w16) (eqb-true a b equal) };
 
     fn feed(&self, sip: &mut Sip24) {
-        sip.write(&self.to_le_bytes());
+        sip.write(&u16::to_le_bytes(*self));
     }
 }
 
@@ -96,7 +96,7 @@ impl HashBytes for u32 {
     ghost fed_bytes_respect_eq = { λ a b equal. ap (to_le_bytes w32) (eqb-true a b equal) };
 
     fn feed(&self, sip: &mut Sip24) {
-        sip.write(&self.to_le_bytes());
+        sip.write(&u32::to_le_bytes(*self));
     }
 }
 
@@ -107,7 +107,7 @@ impl HashBytes for u64 {
     ghost fed_bytes_respect_eq = { λ a b equal. ap (to_le_bytes w64) (eqb-true a b equal) };
 
     fn feed(&self, sip: &mut Sip24) {
-        sip.write(&self.to_le_bytes());
+        sip.write(&u64::to_le_bytes(*self));
     }
 }
 
@@ -118,7 +118,7 @@ impl HashBytes for u128 {
     ghost fed_bytes_respect_eq = { λ a b equal. ap (to_le_bytes w128) (eqb-true a b equal) };
 
     fn feed(&self, sip: &mut Sip24) {
-        sip.write(&self.to_le_bytes());
+        sip.write(&u128::to_le_bytes(*self));
     }
 }
 
@@ -128,7 +128,5 @@ impl HashBytes for () {
 
     ghost fed_bytes_respect_eq = { λ a b equal. refl };
 
-    fn feed(&self, sip: &mut Sip24) {
-        sip.write(&[]);
-    }
+    fn feed(&self, _sip: &mut Sip24) {}
 }

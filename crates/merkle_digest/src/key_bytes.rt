@@ -47,7 +47,7 @@ impl KeyBytes for Vec<u8> {
     ghost bytes_respect_eq = { λ a b equal. same_text a.items b.items (sym equal) };
 
     fn key_bytes(&self) -> &[u8] {
-        self
+        self.as_slice()
     }
 }
 

@@ -1,6 +1,9 @@
 //! Digests by what they are of: a value, a page, the root page.
 
-ghost use Rattle.std.specs.Prelude.{◌≡◌, Some};
+ghost use Rattle.std.specs.Prelude.{◌≡◌, ◌↔◌, ℕ, List, Some, IsTrue, nat_eq};
+ghost use Rattle.std.specs.Cmp.Lexicographic.{pointwise};
+ghost use Rattle.std.specs.Cmp.Rules.{comparing};
+ghost use Rattle.std.proofs.Common.{rules};
 ghost use Rattle.base64.specs.Engines.{standard};
 ghost use Rattle.base64.specs.GeneralPurpose.{encode_of};
 
@@ -10,14 +13,12 @@ use std::marker::Model;
 
 /// The digest of the root page of a tree, which stands for all that the tree holds: trees of equal keys and values have equal
 /// root hashes. The converse holds only as far as no digests collide.
-#[derive(Clone, Copy, Debug, PartialEq, Eq)]
+#[derive(Clone, Copy, Debug, Eq)]
 pub struct RootHash {
     digest: Digest<16>,
 }
 
 impl Model for RootHash {
-    ghost use Rattle.std.specs.Prelude.{List, ℕ};
-
     ghost Value = { List ℕ };
 
     ghost view = { λ root_hash. root_hash.digest };
@@ -50,6 +51,19 @@ impl RootHash {
     }
 }
 
+impl PartialEq for RootHash {
+    ghost eq = { pointwise nat_eq };
+
+    ghost laws = { Prim.search (comparing, rules) };
+
+    fn eq(&self, other: &Self) -> bool
+        ensures value { result ≡ pointwise nat_eq self.now other.now }
+        ensures same_bytes { IsTrue result ↔ (self.now ≡ other.now) }
+    {
+        self.digest == other.digest
+    }
+}
+
 impl fmt::Display for RootHash {
     ghost output = { λ root_hash. Some (encode_of standard root_hash) };
 
@@ -59,14 +73,12 @@ impl fmt::Display for RootHash {
 }
 
 /// The digest of a page: of its nodes and of every page below it.
-#[derive(Clone, Copy, Debug, PartialEq, Eq)]
+#[derive(Clone, Copy, Debug, Eq)]
 pub struct PageDigest {
     digest: Digest<16>,
 }
 
 impl Model for PageDigest {
-    ghost use Rattle.std.specs.Prelude.{List, ℕ};
-
     ghost Value = { List ℕ };
 
     ghost view = { λ page. page.digest };
@@ -107,6 +119,19 @@ impl From<Digest<16>> for PageDigest {
     }
 }
 
+impl PartialEq for PageDigest {
+    ghost eq = { pointwise nat_eq };
+
+    ghost laws = { Prim.search (comparing, rules) };
+
+    fn eq(&self, other: &Self) -> bool
+        ensures value { result ≡ pointwise nat_eq self.now other.now }
+        ensures same_bytes { IsTrue result ↔ (self.now ≡ other.now) }
+    {
+        self.digest == other.digest
+    }
+}
+
 impl fmt::Display for PageDigest {
     ghost output = { λ page. Some (encode_of standard page) };
 
@@ -116,14 +141,12 @@ impl fmt::Display for PageDigest {
 }
 
 /// The digest of a value that a tree holds under a key.
-#[derive(Clone, Copy, Debug, PartialEq, Eq)]
+#[derive(Clone, Copy, Debug, Eq)]
 pub struct ValueDigest<const N: usize> {
     digest: Digest<N>,
 }
 
 impl<const N: usize> Model for ValueDigest<N> {
-    ghost use Rattle.std.specs.Prelude.{List, ℕ};
-
     ghost Value = { List ℕ };
 
     ghost view = { λ value. value.digest };
@@ -151,6 +174,19 @@ impl<const N: usize> ValueDigest<N> {
         ensures { result.now ≡ self.now }
     {
         self.digest.as_bytes()
+    }
+}
+
+impl<const N: usize> PartialEq for ValueDigest<N> {
+    ghost eq = { pointwise nat_eq };
+
+    ghost laws = { Prim.search (comparing, rules) };
+
+    fn eq(&self, other: &Self) -> bool
+        ensures value { result ≡ pointwise nat_eq self.now other.now }
+        ensures same_bytes { IsTrue result ↔ (self.now ≡ other.now) }
+    {
+        self.digest == other.digest
     }
 }
 

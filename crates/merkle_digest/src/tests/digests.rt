@@ -15,10 +15,16 @@ fn printed_digests(rt: HostRuntime) -> Result<(), Fail> {
     let alloc = rt.alloc();
     let digest = Digest::new(BANANAS);
     assert_eq!(rt; digest.to_string(alloc)?.as_str(), "YmFuYW5hcwo=");
-    assert_eq!(rt; ValueDigest::new(digest).to_string(alloc)?.as_str(), "YmFuYW5hcwo=");
+    assert_eq!(rt;
+        ValueDigest::new(digest).to_string(alloc)?.as_str(),
+        "YmFuYW5hcwo="
+    );
     let page = PageDigest::new(TWICE);
     assert_eq!(rt; page.to_string(alloc)?.as_str(), "YmFuYW5hcwpiYW5hbmFzCg==");
-    assert_eq!(rt; RootHash::new(page).to_string(alloc)?.as_str(), "YmFuYW5hcwpiYW5hbmFzCg==");
+    assert_eq!(rt;
+        RootHash::new(page).to_string(alloc)?.as_str(),
+        "YmFuYW5hcwpiYW5hbmFzCg=="
+    );
     assert_eq!(rt; Digest::new([]).to_string(alloc)?.as_str(), "");
     Ok(())
 }
@@ -48,8 +54,20 @@ fn the_first_byte_orders_first(rt: HostRuntime) {
         ([3, 4], [3, 4], Ordering::Equal),
     ];
     for (a, b, want) in rows {
-        assert_eq!(rt; Digest::new(a).cmp(&Digest::new(b)), want, "{a:?} and {b:?}");
-        assert_eq!(rt; Digest::new(a) == Digest::new(b), want == Ordering::Equal, "{a:?} and {b:?}");
-        assert_eq!(rt; Digest::new(a) < Digest::new(b), want == Ordering::Less, "{a:?} and {b:?}");
+        assert_eq!(rt;
+            Digest::new(a).cmp(&Digest::new(b)),
+            want,
+            "{a:?} and {b:?}"
+        );
+        assert_eq!(rt;
+            Digest::new(a) == Digest::new(b),
+            want == Ordering::Equal,
+            "{a:?} and {b:?}"
+        );
+        assert_eq!(rt;
+            Digest::new(a) < Digest::new(b),
+            want == Ordering::Less,
+            "{a:?} and {b:?}"
+        );
     }
 }

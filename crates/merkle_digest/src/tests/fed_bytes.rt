@@ -23,6 +23,10 @@ fn bytes_that_are_fed(rt: HostRuntime) -> Result<(), Fail> {
     expect_fed(&rt, &4660u16, &[0x34, 0x12]);
     expect_fed(&rt, &0x0403_0201u32, &[1, 2, 3, 4]);
     expect_fed(&rt, &42u64, &[0x2a, 0, 0, 0, 0, 0, 0, 0]);
-    expect_fed(&rt, &1u128, &[1, 0, 0, 0, 0, 0, 0, 0, 0, 0, 0, 0, 0, 0, 0, 0]);
+    expect_fed(
+        &rt,
+        &1u128,
+        &[1, 0, 0, 0, 0, 0, 0, 0, 0, 0, 0, 0, 0, 0, 0, 0],
+    );
     Ok(())
 }

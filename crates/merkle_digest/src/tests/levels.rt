@@ -15,7 +15,12 @@ fn levels_in_base_16(rt: HostRuntime) {
     for (bytes, want) in [([0x00, 0x10], 3), ([0x00, 0x11], 2)] {
         assert_eq!(rt; level(&Digest::new(bytes), base), want, "{bytes:?}");
     }
-    for (first, second, want) in [(0x00, 0x00, 32), (0x01, 0x00, 0), (0x10, 0x00, 1), (0x00, 0x10, 3)] {
+    for (first, second, want) in [
+        (0x00, 0x00, 32),
+        (0x01, 0x00, 0),
+        (0x10, 0x00, 1),
+        (0x00, 0x10, 3),
+    ] {
         let mut bytes = [0; 16];
         bytes[0] = first;
         bytes[1] = second;
@@ -29,7 +34,11 @@ fn levels_of_one_byte_in_base_16(rt: HostRuntime) {
     assert_eq!(rt; level(&Digest::new([0]), default_level_base()), 2);
     for byte in 1..=255 {
         let want = if byte % 16 == 0 { 1 } else { 0 };
-        assert_eq!(rt; level(&Digest::new([byte]), default_level_base()), want, "{byte}");
+        assert_eq!(rt;
+            level(&Digest::new([byte]), default_level_base()),
+            want,
+            "{byte}"
+        );
     }
 }
 
@@ -38,7 +47,11 @@ fn levels_stop_at_255(rt: HostRuntime) {
     for (last, want) in [(0x00, 255), (0x10, 255), (0x11, 254)] {
         let mut bytes = [0; 128];
         bytes[127] = last;
-        assert_eq!(rt; level(&Digest::new(bytes), default_level_base()), want, "{last}");
+        assert_eq!(rt;
+            level(&Digest::new(bytes), default_level_base()),
+            want,
+            "{last}"
+        );
     }
 }
 

@@ -91,7 +91,11 @@ fn published_vectors(rt: HostRuntime) {
     for length in 0..65 {
         let mut sip = Sip24::with_key(&KEY);
         sip.write(&message[..length]);
-        assert_eq!(rt; sip.finish128(), VECTORS[length].to_be_bytes(), "{length} bytes");
+        assert_eq!(rt;
+            sip.finish128(),
+            VECTORS[length].to_be_bytes(),
+            "{length} bytes"
+        );
     }
 }
 
@@ -104,7 +108,11 @@ fn two_pieces_are_one_message(rt: HostRuntime) {
                 let mut sip = Sip24::with_key(&KEY);
                 sip.write(&message[..cut]);
                 sip.write(&message[cut..length]);
-                assert_eq!(rt; sip.finish128(), VECTORS[length].to_be_bytes(), "{cut} of {length} bytes");
+                assert_eq!(rt;
+                    sip.finish128(),
+                    VECTORS[length].to_be_bytes(),
+                    "{cut} of {length} bytes"
+                );
             }
         }
     }
@@ -167,5 +175,8 @@ fn a_hasher_hashes_what_is_fed(rt: HostRuntime) {
     assert_eq!(rt; digest_of(&hasher, &"plátanos"), digest_of(&hasher, &bytes));
     let mut sip = Sip24::new();
     sip.write(&bytes);
-    assert_eq!(rt; digest_of(&SipHasher::default(), &"plátanos"), Digest::new(sip.finish128()));
+    assert_eq!(rt;
+        digest_of(&SipHasher::default(), &"plátanos"),
+        Digest::new(sip.finish128())
+    );
 }

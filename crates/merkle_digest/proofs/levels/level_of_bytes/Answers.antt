@@ -1,5 +1,5 @@
 use Rattle.std.proofs.Common.{arith}
-use Rattle.merkle_digest.proofs.LeadingZeros.{all_zero_more, level_of-stop, level_of-all}
+use Rattle.merkle_digest.proofs.LevelLemmas.{all_zero_more, level_of-stop, level_of-all}
 use Rattle.merkle_digest.proofs.levels.level_of_bytes.Goals as goal
 
 pub zeros-preserved : goal.zeros-preserved
