@@ -10,6 +10,8 @@ mod order;
 mod page_range;
 mod range_list;
 mod reduce;
+#[cfg(test)]
+mod tests;
 mod walk;
 
 pub use diff_range::DiffRange;

@@ -1,0 +1,5 @@
+mod differences;
+mod page_ranges;
+mod range_lists;
+mod rust_answers;
+mod texts;
