@@ -14,3 +14,4 @@ pub mod Lookahead
 pub mod Sweep
 pub mod Stack
 pub mod Turn
+pub mod OnePass
