@@ -15,3 +15,4 @@ pub mod Sweep
 pub mod Stack
 pub mod Turn
 pub mod OnePass
+pub mod DiffListBuilder
