@@ -19,3 +19,5 @@ pub mod IntervalLaws
 pub mod TreeLaws
 pub mod FromWalk
 pub mod NoAnswer
+pub mod CutByMerge
+pub mod OnePass

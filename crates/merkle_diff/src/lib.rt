@@ -1,6 +1,7 @@
 //! Page ranges and their differences.
 #![tactic(auto)]
 
+mod diff_builder;
 mod diff_range;
 mod difference;
 mod lookahead;
@@ -19,6 +20,7 @@ pub use difference::diff;
 pub use page_range::PageRange;
 
 pub mod parts {
+    pub use crate::diff_builder::DiffListBuilder;
     pub use crate::merge::merge_overlapping;
     pub use crate::range_list::RangeList;
     pub use crate::reduce::reduce_sync_range;
