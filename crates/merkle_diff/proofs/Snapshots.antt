@@ -18,7 +18,7 @@ module _ {K D : Type 0} (cmp : K → K → Ordering) where
   pub same_entries-taken : {A B : Type 0} (f : A → Entry K D) (g : B → Entry K D) (xs : List A) (ys zs : List B) (x : A) (y : B) → zs ≡ ys ++ y ∷ []
       → SameEntries cmp (map f xs) (map g ys) → SameEntry cmp (f x) (g y) → SameEntries cmp (map f (xs ++ x ∷ [])) (map g zs)
   same_entries-taken f g xs ys zs x y e h k =
-      rw (e, map-append, map-append g ys) (same_entries-push (map f xs) (map g ys) (f x) (g y) h k)
+      rw (e, map-append f xs, map-append g ys) (same_entries-push (map f xs) (map g ys) (f x) (g y) h k)
 
 -- what an iterator gave up to its end is what it had left
 pub drained : {S A B : Type 0} (view : A → B) (rest : S → List B) (s : S) (xs : List A) → Drains (YieldsFirstBy view rest) s xs → map view xs ≡ rest s

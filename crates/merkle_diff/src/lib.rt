@@ -5,6 +5,8 @@ mod diff_range;
 mod owned_page_range;
 mod page_range;
 mod page_range_snapshot;
+#[cfg(test)]
+mod tests;
 
 pub use diff_range::DiffRange;
 pub use owned_page_range::OwnedPageRange;
