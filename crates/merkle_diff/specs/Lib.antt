@@ -12,3 +12,8 @@ pub mod TreeShape
 pub mod Iterable
 pub mod Walk
 pub mod Difference
+pub mod RangeList
+pub mod Lookahead
+pub mod Sweep
+pub mod Stack
+pub mod Turn

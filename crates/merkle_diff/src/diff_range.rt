@@ -3,14 +3,16 @@ ghost use Rattle.std.proofs.Common.{rules};
 ghost use Rattle.std.specs.Cmp.Rules.{comparing};
 ghost use Rattle.std.specs.Ordering.{eq_of_both, on};
 ghost use Rattle.std.specs.Prelude.{◌≡◌, ⊤};
+ghost use Rattle.key_order.specs.Interval.{is_within};
 ghost use Rattle.key_order.specs.Order.{Upto};
 
+use crate::order::is_upto;
 use std::alloc::AllocError;
 
 /// A range of keys that a peer is asked for, from `start` to `end`, both in it. `start` is at most `end`, always.
 #[derive(Drop)]
 pub struct DiffRange<'a, K: Ord> {
-    start: &'a K,
+    pub(crate) start: &'a K,
     end: &'a K,
     ghost ordered: { Upto K.cmp start.now end.now },
 }
@@ -38,6 +40,13 @@ impl<'a, K: Ord> DiffRange<'a, K> {
         ensures { result.now ≡ (span self.now).last }
     {
         self.end
+    }
+
+    /// Whether the range is within `outer`, which then holds it. Equal ranges hold each other.
+    pub(crate) fn is_within(&self, outer: &DiffRange<'_, K>) -> bool
+        ensures { result ≡ is_within K.cmp (span self.now) (span outer.now) }
+    {
+        is_upto(outer.start, self.start) && is_upto(self.end, outer.end)
     }
 }
 
