@@ -21,3 +21,4 @@ pub mod FromWalk
 pub mod NoAnswer
 pub mod CutByMerge
 pub mod OnePass
+pub mod Snapshots

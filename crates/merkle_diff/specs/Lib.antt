@@ -1,7 +1,10 @@
 pub use Rattle.key_order.specs.Order
 pub use Rattle.key_order.specs.Interval
 pub mod Entry
+pub mod SameEntries
 pub mod PageRange
+pub mod OwnedPageRange
+pub mod PageRangeSnapshot
 pub mod DiffRange
 pub mod Merge
 pub mod Cut

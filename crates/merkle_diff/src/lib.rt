@@ -8,7 +8,9 @@ mod lookahead;
 mod marks;
 mod merge;
 mod order;
+mod owned_page_range;
 mod page_range;
+mod page_range_snapshot;
 mod range_list;
 mod reduce;
 #[cfg(test)]
@@ -17,7 +19,9 @@ mod walk;
 
 pub use diff_range::DiffRange;
 pub use difference::diff;
+pub use owned_page_range::OwnedPageRange;
 pub use page_range::PageRange;
+pub use page_range_snapshot::{PageRangeSnapshot, SnapshotIter};
 
 pub mod parts {
     pub use crate::diff_builder::DiffListBuilder;

@@ -1,6 +1,6 @@
 //! Digests by what they are of: a value, a page, the root page.
 
-ghost use Rattle.std.specs.Prelude.{◌≡◌, ◌↔◌, ℕ, List, Some, IsTrue, nat_eq};
+ghost use Rattle.std.specs.Prelude.{◌≡◌, ◌↔◌, ⊤, ℕ, List, Some, IsTrue, nat_eq};
 ghost use Rattle.std.specs.Cmp.Lexicographic.{pointwise};
 ghost use Rattle.std.specs.Cmp.Rules.{comparing};
 ghost use Rattle.std.proofs.Common.{rules};
@@ -8,12 +8,13 @@ ghost use Rattle.base64.specs.Engines.{standard};
 ghost use Rattle.base64.specs.GeneralPurpose.{encode_of};
 
 use crate::digest::Digest;
+use std::alloc::AllocError;
 use std::fmt;
 use std::marker::Model;
 
 /// The digest of the root page of a tree, which stands for all that the tree holds: trees of equal keys and values have equal
 /// root hashes. The converse holds only as far as no digests collide.
-#[derive(Clone, Copy, Debug, Eq)]
+#[derive(Debug, Drop, Eq)]
 pub struct RootHash {
     digest: Digest<16>,
 }
@@ -51,6 +52,19 @@ impl RootHash {
     }
 }
 
+/// The same digest, for which no memory is taken.
+impl Clone for RootHash {
+    ghost is_clone = { λ root_hash copy. copy ≡ root_hash };
+
+    ghost is_infallible = { λ _. ⊤ };
+
+    fn clone(&self) -> Result<Self, AllocError> {
+        Ok(RootHash {
+            digest: Digest::new(*self.as_bytes()),
+        })
+    }
+}
+
 impl PartialEq for RootHash {
     ghost eq = { pointwise nat_eq };
 
@@ -73,7 +87,7 @@ impl fmt::Display for RootHash {
 }
 
 /// The digest of a page: of its nodes and of every page below it.
-#[derive(Clone, Copy, Debug, Eq)]
+#[derive(Debug, Drop, Eq)]
 pub struct PageDigest {
     digest: Digest<16>,
 }
@@ -119,6 +133,19 @@ impl From<Digest<16>> for PageDigest {
     }
 }
 
+/// The same digest, for which no memory is taken.
+impl Clone for PageDigest {
+    ghost is_clone = { λ page copy. copy ≡ page };
+
+    ghost is_infallible = { λ _. ⊤ };
+
+    fn clone(&self) -> Result<Self, AllocError> {
+        Ok(PageDigest {
+            digest: Digest::new(*self.as_bytes()),
+        })
+    }
+}
+
 impl PartialEq for PageDigest {
     ghost eq = { pointwise nat_eq };
 
@@ -141,7 +168,7 @@ impl fmt::Display for PageDigest {
 }
 
 /// The digest of a value that a tree holds under a key.
-#[derive(Clone, Copy, Debug, Eq)]
+#[derive(Debug, Drop, Eq)]
 pub struct ValueDigest<const N: usize> {
     digest: Digest<N>,
 }
@@ -174,6 +201,19 @@ impl<const N: usize> ValueDigest<N> {
         ensures { result.now ≡ self.now }
     {
         self.digest.as_bytes()
+    }
+}
+
+/// The same digest, for which no memory is taken.
+impl<const N: usize> Clone for ValueDigest<N> {
+    ghost is_clone = { λ value copy. copy ≡ value };
+
+    ghost is_infallible = { λ _. ⊤ };
+
+    fn clone(&self) -> Result<Self, AllocError> {
+        Ok(ValueDigest {
+            digest: Digest::new(*self.as_bytes()),
+        })
     }
 }
 

@@ -46,6 +46,18 @@ fn bytes_come_back(rt: HostRuntime) {
 }
 
 #[test]
+fn clones_are_equal(rt: HostRuntime) -> Result<(), Fail> {
+    let page = PageDigest::new(TWICE);
+    assert_eq!(rt; page.clone()?, page);
+    assert_eq!(rt; page.digest().clone()?, Digest::new(TWICE));
+    let root = RootHash::new(page);
+    assert_eq!(rt; root.clone()?, root);
+    let value = ValueDigest::new(Digest::new(BANANAS));
+    assert_eq!(rt; value.clone()?, value);
+    Ok(())
+}
+
+#[test]
 fn the_first_byte_orders_first(rt: HostRuntime) {
     let rows = [
         ([1, 9], [2, 0], Ordering::Less),
