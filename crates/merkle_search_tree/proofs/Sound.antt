@@ -1,5 +1,5 @@
 -- What follows for sound trees.
-use Rattle.std.proofs.Common.{◌≡◌, ℕ, ◌<◌, List, Bool, true, ap, sym, ◌∙◌, subst, arith}
+use Rattle.std.proofs.Common.{◌≡◌, ℕ, ◌<◌, List, Bool, true, ap, sym, ◌∙◌, subst, arith, Option}
 use Rattle.std.specs.declared.cmp.Ordering.{Ordering}
 use Rattle.std.specs.Ordering.{is_eq}
 use Rattle.std.specs.Cmp.{IsTotalOrder}
@@ -9,7 +9,7 @@ use Rattle.merkle_digest.specs.Level.{level_of}
 use Rattle.merkle_search_tree.specs.State.{State, map_of}
 use Rattle.merkle_search_tree.specs.Sound.{IsSound, RootHashHolds}
 use Rattle.merkle_search_tree.specs.Tree.{Tree}
-use Rattle.merkle_search_tree.specs.Page.{pairs}
+use Rattle.merkle_search_tree.specs.Page.{pairs, cache}
 use Rattle.merkle_search_tree.specs.Copy.{IsCopy}
 use Rattle.merkle_search_tree.proofs.Copies.{copy-pairs, copy-root, copy-caches, copy-cache, same_is_map}
 use Rattle.merkle_search_tree.specs.Canonical.{SamePages, IsCanonicalRoot}
@@ -46,11 +46,11 @@ module _ {K H : Type 0} (cmp : K → K → Ordering) (o : IsTotalOrder cmp) (eq 
       (subst (λ n. IsCanonicalRoot (λ k. level_of (digest_of s.hasher k) n) t.root) (sym e) (subst (λ j. IsCanonicalRoot (λ k. level_of (digest_of j k) t.base) t.root) (sym h) b.canonical)) m
 
   -- a copy of the pages of a sound tree, with the same hasher, base and root hash, is sound
-  pub copy_sound : ((x y : K) → eq x y ≡ true → bytes_of x ≡ bytes_of y) → (s : State K H) → IsSound cmp digest_of bytes_of s → (h : H) (t : Tree K (List ℕ)) → h ≡ s.hasher → IsCopy (Same cmp) s.root t
-      → IsSound cmp digest_of bytes_of (record { hasher = h; base = s.base; root = t; root_hash = s.root_hash })
-  copy_sound bytes_respect s a h t e copy = record {
+  pub copy_sound : ((x y : K) → eq x y ≡ true → bytes_of x ≡ bytes_of y) → (s : State K H) → IsSound cmp digest_of bytes_of s → (h : H) (t : Tree K (List ℕ)) (r : Option (List ℕ)) → h ≡ s.hasher → r ≡ s.root_hash → IsCopy (Same cmp) (λ d e. d ≡ e) s.root t
+      → IsSound cmp digest_of bytes_of (record { hasher = h; base = s.base; root = t; root_hash = r })
+  copy_sound bytes_respect s a h t r e q copy = record {
     ascending = same_is_map cmp o (λ d e. d ≡ e) (map_of s) (pairs t) (copy-pairs cmp s.root t copy) a.ascending;
     canonical = subst (λ j. IsCanonicalRoot (λ k. level_of (digest_of j k) s.base) t) (sym e) (copy-root cmp (λ k. level_of (digest_of s.hasher k) s.base) (alike s) s.root t copy a.canonical);
     caches = copy-caches (Same cmp) bytes_of (same_bytes cmp eq matches bytes_of bytes_respect) s.root t copy a.caches;
-    root_hash_holds = subst (RootHashHolds s.root_hash) (copy-cache (Same cmp) s.root t copy) a.root_hash_holds;
+    root_hash_holds = subst (λ n. RootHashHolds n (cache t)) (sym q) (subst (RootHashHolds s.root_hash) (copy-cache (Same cmp) (λ d e. d ≡ e) s.root t copy) a.root_hash_holds);
   }

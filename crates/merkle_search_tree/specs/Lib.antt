@@ -11,6 +11,7 @@ pub mod Equal
 pub mod EqualLaws
 pub mod Copy
 pub mod Path
+pub mod Ranges
 pub mod Settings
 pub mod State
 pub mod Sound

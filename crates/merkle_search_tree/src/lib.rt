@@ -17,6 +17,7 @@ mod split;
 mod tree;
 mod upsert;
 
+pub use merkle_diff as diff;
 pub use merkle_digest as digest;
 pub use node_iter::{NodeIter, NodeIterOf};
 pub use page::{Node, NodeOf, Page, PageOf};

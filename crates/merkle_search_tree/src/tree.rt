@@ -122,19 +122,20 @@ impl<K: Ord + KeyBytes + Clone, V, H: Hasher<N, K> + Clone, const N: usize> Merk
         requires keys { (a b : K) → K.is_clone a b → Same K.cmp a b }
         requires hashers { (a b : H) → H.is_clone a b → b ≡ a }
 
-        ensures pages { IfOk result (λ copy. IsCopy (Same K.cmp) self.now.root copy.root) }
+        ensures pages { IfOk result (λ copy. IsCopy (Same K.cmp) (λ d e. d ≡ e) self.now.root copy.root) }
         ensures hasher { IfOk result (λ copy. copy.hasher ≡ self.now.hasher) }
         ensures base { IfOk result (λ copy. copy.base ≡ self.now.base) }
         ensures root_hash { IfOk result (λ copy. copy.root_hash ≡ self.now.root_hash) }
     {
         let hasher = self.hasher.clone()?;
         let root = self.root.try_clone(self.alloc)?;
+        let root_hash = copy_root_hash(&self.root_hash)?;
         Ok(MerkleSearchTree {
             alloc: self.alloc,
             hasher,
             level_base: self.level_base,
             root,
-            root_hash: self.root_hash,
+            root_hash,
             value_type: PhantomData,
         })
     }
@@ -177,5 +178,15 @@ impl<
         self.root.set(self.alloc, key, key_level, digest)?;
         self.root_hash = None;
         Ok(())
+    }
+}
+
+/// A copy of a cached root hash, where there is one. It never fails.
+fn copy_root_hash(digest: &Option<RootHash>) -> Result<Option<RootHash>, AllocError>
+    ensures { IfOk result (λ copy. copy ≡ digest.now) }
+{
+    match digest {
+        None => Ok(None),
+        Some(digest) => Ok(Some(digest.clone()?)),
     }
 }

@@ -1,6 +1,6 @@
-use Rattle.std.proofs.Common.{rules, ◌≡◌, ◌<◌, ◌≤◌, length, Bool, true, false, not, refl, sym, ◌∙◌, arith}
+use Rattle.std.proofs.Common.{rules, ◌≡◌, ◌<◌, ◌≤◌, length, Bool, true, false, not, refl, sym, ◌∙◌, arith, nat_eq}
 use Rattle.std.specs.Option.{option_eq}
-use Rattle.merkle_digest.specs.contracts.PageDigestPartialEq.TheImpl.{eq-value}
+use Rattle.std.specs.Cmp.Lexicographic.{pointwise}
 use Rattle.merkle_search_tree.specs.Tree.{held_of}
 use Rattle.merkle_search_tree.specs.Equal.{tree_eq, node_eq}
 use Rattle.merkle_search_tree.proofs.Equals.{nodes_eq, nodes_eq-length, nodes_eq-differ, nodes_eq-end, tree_eq-from, tree_eq-not, both_false}
@@ -10,7 +10,7 @@ pub same_page-returns-then-len : goal.same_page-returns-then-len
 same_page-returns-then-len g t c =
     let s = c.a.inside in
     let o = c.b.inside in
-    let C = option_eq eq-value.it in
+    let C = option_eq (pointwise nat_eq) in
     let no : nodes_eq C g.K.PartialEq.eq g.D.PartialEq.eq s.nodes.items o.nodes.items ≡ false =
     both_false _ (λ e. let l = nodes_eq-length C g.K.PartialEq.eq g.D.PartialEq.eq s.nodes.items o.nodes.items e in c.if-len.true (omega (arith, l, c.len.ensures, c.len-2.ensures, s.nodes.ok.0, o.nodes.ok.0))) in
     sym (tree_eq-not C g.K.PartialEq.eq g.D.PartialEq.eq s.level o.level s.tree_hash o.tree_hash s.nodes.items o.nodes.items (held_of s.high_page) (held_of o.high_page) no)
@@ -20,7 +20,7 @@ pub same_page-returns-then-not-same_node : goal.same_page-returns-then-not-same_
 same_page-returns-then-not-same_node g t c =
     let s = c.a.inside in
     let o = c.b.inside in
-    let C = option_eq eq-value.it in
+    let C = option_eq (pointwise nat_eq) in
     let E = g.K.PartialEq.eq in
     let F = g.D.PartialEq.eq in
     let len : length s.nodes.items ≡ length o.nodes.items = omega (arith, c.if-len.false, c.len.ensures, c.len-2.ensures, s.nodes.ok.0, o.nodes.ok.0) in
@@ -37,7 +37,7 @@ pub same_page-returns : goal.same_page-returns
 same_page-returns g t c =
     let s = c.a.inside in
     let o = c.b.inside in
-    let C = option_eq eq-value.it in
+    let C = option_eq (pointwise nat_eq) in
     let E = g.K.PartialEq.eq in
     let F = g.D.PartialEq.eq in
     let len : length s.nodes.items ≡ length o.nodes.items = omega (arith, c.if-len.false, c.len.ensures, c.len-2.ensures, s.nodes.ok.0, o.nodes.ok.0) in
