@@ -13,3 +13,4 @@ pub mod Upserts
 pub mod Equals
 pub mod Copies
 pub mod Paths
+pub mod Fill

@@ -67,3 +67,16 @@ module _ {K : Type 0} (bytes_of : K → List ℕ) where
     pub HeldCachesHold : Held K (List ℕ) → Type 0
     HeldCachesHold nothing = ⊤
     HeldCachesHold (below t) = CachesHold t
+
+  abbrev mutual
+    -- the page and those below it with every digest in place
+    pub filled : Tree K (List ℕ) → Tree K (List ℕ)
+    filled (page l c r) = page l (Some (siphash128 zero_key (row_stream bytes_of r))) (row_filled r)
+
+    pub row_filled : Row K (List ℕ) → Row K (List ℕ)
+    row_filled (high h) = high (held_filled h)
+    row_filled (node h k d r) = node (held_filled h) k d (row_filled r)
+
+    pub held_filled : Held K (List ℕ) → Held K (List ℕ)
+    held_filled nothing = nothing
+    held_filled (below t) = below (filled t)

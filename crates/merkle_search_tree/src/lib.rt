@@ -9,6 +9,7 @@
 pub mod builder;
 mod copy;
 mod equality;
+mod hash;
 pub mod laws;
 mod node_iter;
 mod page;

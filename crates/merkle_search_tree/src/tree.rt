@@ -17,7 +17,7 @@ use crate::builder::Builder;
 use crate::node_iter::NodeIter;
 use crate::page::Page;
 use crate::upsert::UpsertRefused;
-use merkle_digest::{Hasher, KeyBytes, RootHash, SipHasher, ValueDigest, level};
+use merkle_digest::{Hasher, KeyBytes, PageDigest, RootHash, SipHasher, ValueDigest, level};
 use std::alloc::{AllocError, Global};
 use std::marker::{Model, PhantomData};
 use std::num::NonZeroU8;
@@ -107,6 +107,52 @@ impl<K: Ord + KeyBytes, V, H: Hasher<N, K>, const N: usize> MerkleSearchTree<K, 
         ensures map { IfOk result (λ rest. map pair_of rest ≡ map_of self.now) }
     {
         NodeIter::new(self.alloc, &self.root)
+    }
+}
+
+impl<K: Ord + KeyBytes, V, H: Hasher<N, K>, const N: usize> MerkleSearchTree<K, V, H, N> {
+    ghost use Rattle.std.specs.Prelude.{◌≡◌, ◌-◌, ◌^◌, min, Some, ⊤};
+    ghost use Rattle.merkle_search_tree.specs.Stream.{page_digest};
+    ghost use Rattle.merkle_search_tree.specs.Cache.{missing, filled};
+    ghost use Rattle.merkle_search_tree.specs.contracts.tree.MerkleSearchTree.{the_row};
+    ghost use Rattle.std.specs.Borrow.{sem};
+    ghost use mathlib.Core.Option.{none};
+    ghost use denote.Follow.{follows_so};
+    ghost use denote.Param.{number};
+
+    /// How many pages lack a digest, but at most `usize::MAX`: none of a hashed tree.
+    pub fn pages_to_hash(&self) -> usize
+        ensures { result ≡ min (missing self.now.root) (2 ^ 64 - 1) }
+    {
+        self.root.missing()
+    }
+
+    /// The digest of the root page: SipHash-2-4-128 of its stream under the zero key, whatever the tree's own hasher is. It
+    /// fills in the digests that pages lack, and takes no memory. Trees of equal maps have equal root hashes; the converse holds
+    /// only as far as no digests collide.
+    pub fn root_hash(&mut self) -> &RootHash
+        ensures* tree { sem 𝓛 (follows_so (the_row K.row V.row H.row (number N) K.Ord.own K.PartialEq K.PartialOrd.own K.KeyBytes.own H.Hasher) (the_row K.row V.row H.row (number N) K.Ord.own K.PartialEq K.PartialOrd.own K.KeyBytes.own H.Hasher) self.entry.ghost_name none (λ _ _. ⊤)
+            (λ t. t ≡ record self.old { root = filled K.bytes_of self.old.root; root_hash = Some (page_digest K.bytes_of self.old.root) })) }
+        ensures digest { result.now ≡ page_digest K.bytes_of self.old.root }
+    {
+        let _ = self.root_hash_counted();
+        match &self.root_hash {
+            Some(digest) => digest,
+            None => unreachable!(),
+        }
+    }
+
+    /// The root hash, as [`root_hash`](Self::root_hash) gives it, and how many pages were hashed in this call: one for each page
+    /// that lacked a digest, but at most `usize::MAX`.
+    pub fn root_hash_counted(&mut self) -> (RootHash, usize)
+        ensures tree { self.new ≡ record self.old { root = filled K.bytes_of self.old.root; root_hash = Some (page_digest K.bytes_of self.old.root) } }
+        ensures digest { result.0 ≡ page_digest K.bytes_of self.old.root }
+        ensures count { result.1 ≡ min (missing self.old.root) (2 ^ 64 - 1) }
+    {
+        let (digest, hashed) = self.root.fill();
+        let bytes = *digest.as_bytes();
+        self.root_hash = Some(RootHash::new(digest));
+        (RootHash::new(PageDigest::new(bytes)), hashed)
     }
 }
 
