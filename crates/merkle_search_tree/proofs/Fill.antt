@@ -148,3 +148,17 @@ module _ {K D : Type 0} where
   pub row_missing-row : (es : List (Node K D)) (h : Held K D) → row_missing (row es h) ≡ sum_by node_missing es + held_missing h
   row_missing-row [] h = omega arith
   row_missing-row (e ∷ es) h = omega (arith, row_missing-row es h, sum_by-cons node_missing e es)
+
+module _ {K : Type 0} (b : K → List ℕ) where
+  mutual
+    -- where every digest is in place, no page lacks one
+    pub missing-filled : (t : Tree K (List ℕ)) → missing (filled b t) ≡ 0
+    missing-filled (page l c r) = omega (arith, row_missing-filled r)
+
+    row_missing-filled : (r : Row K (List ℕ)) → row_missing (row_filled b r) ≡ 0
+    row_missing-filled (high h) = held_missing-filled h
+    row_missing-filled (node h k d r) = omega (arith, held_missing-filled h, row_missing-filled r)
+
+    held_missing-filled : (h : Held K (List ℕ)) → held_missing (held_filled b h) ≡ 0
+    held_missing-filled nothing = refl
+    held_missing-filled (below t) = missing-filled t

@@ -148,6 +148,7 @@ impl<K: Ord + KeyBytes, V, H: Hasher<N, K>, const N: usize> MerkleSearchTree<K, 
         ensures tree { self.new ≡ record self.old { root = filled K.bytes_of self.old.root; root_hash = Some (page_digest K.bytes_of self.old.root) } }
         ensures digest { result.0 ≡ page_digest K.bytes_of self.old.root }
         ensures count { result.1 ≡ min (missing self.old.root) (2 ^ 64 - 1) }
+        ensures hashed { missing self.new.root ≡ 0 }
     {
         let (digest, hashed) = self.root.fill();
         let bytes = *digest.as_bytes();

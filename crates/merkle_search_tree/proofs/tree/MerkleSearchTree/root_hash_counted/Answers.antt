@@ -2,7 +2,8 @@ use Rattle.std.proofs.Common.{rules, ap, sym, subst, ◌∙◌, Some}
 use Rattle.std.specs.Int.NonZero.{non_zero_u8_get}
 use Rattle.key_order.specs.Map.{IsMap}
 use Rattle.merkle_digest.specs.Level.{level_of}
-use Rattle.merkle_search_tree.proofs.Fill.{pairs-filled, IsCanonicalRoot-filled, CachesHold-filled, cache-filled}
+use Rattle.merkle_search_tree.specs.Cache.{missing}
+use Rattle.merkle_search_tree.proofs.Fill.{pairs-filled, IsCanonicalRoot-filled, CachesHold-filled, cache-filled, missing-filled}
 use Rattle.merkle_search_tree.proofs.tree.MerkleSearchTree.root_hash_counted.Goals as goal
 
 pub fill-digest-requires : goal.fill-digest-requires
@@ -19,3 +20,6 @@ invariant_of-self g c =
       caches = CachesHold-filled b s.root;
       root_hash_holds = cache-filled b s.root;
     })
+
+pub returns-clause-hashed : goal.returns-clause-hashed
+returns-clause-hashed g c = ap missing c.fill-digest.ensures.pages ∙ missing-filled g.K.KeyBytes.bytes_of c.self.inside.root
