@@ -41,7 +41,7 @@ module _ {K D : Type 0} (R R' : K → K → Type 0) (f : (x y : K) → R x y →
     held_copy-weaker (below t) (below t') a = copy-weaker t t' a
 
 module _ {K D : Type 0} (cmp : K → K → Ordering) where
-  same-append : (xs ys us vs : List (K × D)) → SameMap cmp (λ d e. d ≡ e) xs us → SameMap cmp (λ d e. d ≡ e) ys vs → SameMap cmp (λ d e. d ≡ e) (xs ++ ys) (us ++ vs)
+  pub same-append : (xs ys us vs : List (K × D)) → SameMap cmp (λ d e. d ≡ e) xs us → SameMap cmp (λ d e. d ≡ e) ys vs → SameMap cmp (λ d e. d ≡ e) (xs ++ ys) (us ++ vs)
   same-append [] ys [] vs a b = b
   same-append [] ys (u ∷ us) vs a b = absurd a
   same-append (x ∷ xs) ys [] vs a b = absurd a

@@ -14,3 +14,10 @@ pub mod Equals
 pub mod Copies
 pub mod Paths
 pub mod Fill
+pub mod RangeKeys
+pub mod RangeShape
+pub mod SameRanges
+pub mod Listed
+pub mod RangeEnds
+pub mod Listing
+pub mod NoDifference

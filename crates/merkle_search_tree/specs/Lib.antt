@@ -12,8 +12,10 @@ pub mod EqualLaws
 pub mod Copy
 pub mod Path
 pub mod Ranges
+pub mod CachedRanges
 pub mod Settings
 pub mod State
 pub mod Sound
 pub mod Upsert
 pub mod Parted
+pub mod Listing

@@ -64,7 +64,10 @@ impl<const N: usize, K: KeyBytes> Page<N, K> {
 
 /// Fills in the digests of what a pointer holds, writes the digest of the page there to `sip`, and answers how many pages got one.
 #[cycle(fill)]
-fn fill_below<const N: usize, K: KeyBytes>(held: &mut Option<Box<Page<N, K>>>, sip: &mut Sip24) -> usize
+fn fill_below<const N: usize, K: KeyBytes>(
+    held: &mut Option<Box<Page<N, K>>>,
+    sip: &mut Sip24,
+) -> usize
     requires { HeldCachesHold K.bytes_of (held_of held.old) }
     ensures pages { held_of held.new ≡ held_filled K.bytes_of (held_of held.old) }
     ensures bytes { (key written : List ℕ) → Holds sip.old key written → Holds sip.new key (written ++ held_digest K.bytes_of (held_of held.old)) }

@@ -1,8 +1,16 @@
 //! Laws over the definitions alone. Each function has no effect and takes no memory; what it ensures holds of every tree.
 
-ghost use Rattle.std.specs.Prelude.{◌≡◌};
+ghost use Rattle.std.specs.Prelude.{◌≡◌, ⊤, List, [], MatchOption};
+ghost use Rattle.key_order.specs.Interval.{Span};
 ghost use Rattle.key_order.specs.Map.{SameMap};
 ghost use Rattle.merkle_digest.specs.Level.{level_of};
+ghost use Rattle.merkle_diff.specs.Difference.{IsDifference, SparesAgreed};
+ghost use Rattle.merkle_diff.specs.SameEntries.{SameEntries};
+ghost use Rattle.merkle_diff.specs.TreeShape.{IsTreeShaped};
+ghost use Rattle.merkle_search_tree.specs.Cache.{missing};
+ghost use Rattle.merkle_search_tree.specs.Listing.{IsListing};
+ghost use Rattle.merkle_search_tree.specs.Page.{pairs};
+ghost use Rattle.merkle_search_tree.specs.Ranges.{IsPageOf, ranges_of};
 ghost use Rattle.merkle_search_tree.specs.Canonical.{SamePages};
 ghost use Rattle.merkle_search_tree.specs.TreeOf.{tree_of};
 ghost use Rattle.merkle_search_tree.specs.Stream.{page_digest};
@@ -33,6 +41,56 @@ pub fn equal_maps_have_equal_pages<K: Ord + KeyBytes, V, H: Hasher<N, K>, const 
     requires maps { SameMap K.cmp (λ d e. d ≡ e) (map_of a.now) (map_of b.now) }
     ensures pages { SamePages K.cmp a.now.root b.now.root }
     ensures digests { page_digest K.bytes_of a.now.root ≡ page_digest K.bytes_of b.now.root }
+{
+    let _ = &a.root;
+    let _ = &b.root;
+}
+
+/// In a hashed tree no page lacks a digest, and the root hash is the digest of the root page.
+pub fn a_hashed_tree_has_every_digest<K: Ord + KeyBytes, V, H: Hasher<N, K>, const N: usize>(
+    tree: &MerkleSearchTree<K, V, H, N>,
+)
+    ensures { MatchOption tree.now.root_hash ⊤ (λ digest. (digest ≡ page_digest K.bytes_of tree.now.root) × (missing tree.now.root ≡ 0)) }
+{
+    let _ = &tree.root;
+}
+
+/// The page ranges of a tree are tree-shaped: each is within the first, and none holds one before it. So the laws of
+/// [`diff`](merkle_diff::diff) on tree-shaped lists hold of the page ranges of any two trees.
+pub fn page_ranges_are_tree_shaped<K: Ord + KeyBytes, V, H: Hasher<N, K>, const N: usize>(
+    tree: &MerkleSearchTree<K, V, H, N>,
+)
+    ensures { IsTreeShaped K.cmp (ranges_of K.bytes_of tree.now.root) }
+{
+    let _ = &tree.root;
+}
+
+/// The page ranges of a tree say where the pages of its map are: the first spans the whole map, and only the empty map has none;
+/// each is that of a page whose map is what the map has within the range.
+pub fn page_ranges_list_the_map<K: Ord + KeyBytes, V, H: Hasher<N, K>, const N: usize>(
+    tree: &MerkleSearchTree<K, V, H, N>,
+)
+    ensures { IsListing K.cmp (IsPageOf K.cmp (H.digest_of tree.now.hasher) tree.now.base) (page_digest K.bytes_of) pairs (map_of tree.now) (ranges_of K.bytes_of tree.now.root) }
+{
+    let _ = &tree.root;
+}
+
+/// Trees of equal maps, under one hasher and level base, have page ranges that agree in span and digest, place by place, so that
+/// what [`diff`](merkle_diff::diff) answers on them is empty in both directions.
+pub fn equal_maps_have_equal_page_ranges<K: Ord + KeyBytes, V, H: Hasher<N, K>, const N: usize>(
+    a: &MerkleSearchTree<K, V, H, N>,
+    b: &MerkleSearchTree<K, V, H, N>,
+)
+    requires hasher { a.now.hasher ≡ b.now.hasher }
+    requires base { a.now.base ≡ b.now.base }
+    requires maps { SameMap K.cmp (λ d e. d ≡ e) (map_of a.now) (map_of b.now) }
+    ensures ranges { SameEntries K.cmp (ranges_of K.bytes_of a.now.root) (ranges_of K.bytes_of b.now.root) }
+    ensures nothing_to_ask_b_for { (found : List (Span K))
+        → IsDifference K.cmp (ranges_of K.bytes_of a.now.root) (ranges_of K.bytes_of b.now.root) found
+        → SparesAgreed K.cmp (ranges_of K.bytes_of a.now.root) (ranges_of K.bytes_of b.now.root) found → found ≡ [] }
+    ensures nothing_to_ask_a_for { (found : List (Span K))
+        → IsDifference K.cmp (ranges_of K.bytes_of b.now.root) (ranges_of K.bytes_of a.now.root) found
+        → SparesAgreed K.cmp (ranges_of K.bytes_of b.now.root) (ranges_of K.bytes_of a.now.root) found → found ≡ [] }
 {
     let _ = &a.root;
     let _ = &b.root;

@@ -13,6 +13,7 @@ mod hash;
 pub mod laws;
 mod node_iter;
 mod page;
+mod page_ranges;
 mod spare;
 mod split;
 mod tree;

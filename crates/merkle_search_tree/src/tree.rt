@@ -17,6 +17,7 @@ use crate::builder::Builder;
 use crate::node_iter::NodeIter;
 use crate::page::Page;
 use crate::upsert::UpsertRefused;
+use merkle_diff::PageRange;
 use merkle_digest::{Hasher, KeyBytes, PageDigest, RootHash, SipHasher, ValueDigest, level};
 use std::alloc::{AllocError, Global};
 use std::marker::{Model, PhantomData};
@@ -154,6 +155,33 @@ impl<K: Ord + KeyBytes, V, H: Hasher<N, K>, const N: usize> MerkleSearchTree<K, 
         let bytes = *digest.as_bytes();
         self.root_hash = Some(RootHash::new(digest));
         (RootHash::new(PageDigest::new(bytes)), hashed)
+    }
+}
+
+impl<K: Ord + KeyBytes, V, H: Hasher<N, K>, const N: usize> MerkleSearchTree<K, V, H, N> {
+    ghost use Rattle.std.specs.Prelude.{◌≡◌, ◌≢◌, None, [], IfOk, IfSome, IsOk, MatchOption};
+    ghost use Rattle.merkle_diff.specs.PageRange.{entries};
+    ghost use Rattle.merkle_search_tree.specs.Ranges.{ranges_of};
+    ghost use Rattle.merkle_search_tree.specs.State.{map_of};
+
+    /// The ranges of all pages, each with its digest, where the tree is hashed; else `None`. The range of a page comes before those
+    /// of the pages below it, and that of the root first, so that peers can compare what they hold by
+    /// [`diff`](merkle_diff::diff). Neither `None` nor the empty list of a tree without keys takes memory.
+    pub fn serialise_page_ranges(&self) -> Result<Option<Vec<PageRange<'_, K>>>, AllocError>
+        ensures hashed { IfOk result (λ found. IfSome found (λ list. self.now.root_hash ≢ None)) }
+        ensures ranges { IfOk result (λ found. MatchOption found (self.now.root_hash ≡ None) (λ list. entries list.items ≡ ranges_of K.bytes_of self.now.root)) }
+        ensures not_hashed { self.now.root_hash ≡ None → IsOk result }
+        ensures empty { map_of self.now ≡ [] → IsOk result }
+    {
+        if self.root_hash.is_none() {
+            return Ok(None);
+        }
+        let mut list = Vec::new(self.alloc);
+        if self.root.nodes().is_empty() {
+            return Ok(Some(list));
+        }
+        self.root.list_ranges(&mut list)?;
+        Ok(Some(list))
     }
 }
 

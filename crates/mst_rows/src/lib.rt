@@ -4,6 +4,12 @@
 #[cfg(test)]
 mod defined;
 #[cfg(test)]
+mod page_ranges;
+#[cfg(test)]
+mod rust_roots;
+#[cfg(test)]
+mod snapshots;
+#[cfg(test)]
 mod trees;
 #[cfg(test)]
 mod upserts;

@@ -9,7 +9,7 @@ pub page::PageOf::missing-returns : goal.page::PageOf::missing-returns
 page::PageOf::missing-returns g t c =
     let s = c.self.inside in
     let whole : missing c.args.self.now ≡ one_without s.tree_hash + (sum_by node_missing s.nodes.items + held_missing (held_of s.high_page)) =
-        ap missing (sym c.self.view_is) ∙ ap (λ n. one_without s.tree_hash + n) (row_missing-row s.nodes.items (held_of s.high_page)) in
+    ap missing (sym c.self.view_is) ∙ ap (λ n. one_without s.tree_hash + n) (row_missing-row s.nodes.items (held_of s.high_page)) in
     let all : sum_by node_missing (take c.nodes.node-index c.deref-node-items.result.now) ≡ sum_by node_missing s.nodes.items =
-        ap (sum_by node_missing) (take_all c.nodes.node-index c.deref-node-items.result.now c.nodes-test.false ∙ c.deref-node-items.ensures.value) in
+    ap (sum_by node_missing) (take_all c.nodes.node-index c.deref-node-items.result.now c.nodes-test.false ∙ c.deref-node-items.ensures.value) in
     omega (arith, c.nodes.invariant, c.missing_below-2.ensures, c.saturating_add.ensures)

@@ -39,7 +39,7 @@ Page+N+K::fill-fill_below-requires g t c κs within =
     let rows = row_of_caches g.K.KeyBytes.bytes_of s.level s.tree_hash (row s.nodes.items (held_of s.high_page)) c.args.self.now c.self.view_is c.requires in
     let old = reads_old (node_filled g.K.KeyBytes.bytes_of) s.nodes.items c.nodes.self-inside.nodes.items c.nodes.i c.index_mut-node.result.now r inv.0 c.index_mut-node.ensures.value in
     let holds : HeldCachesHold g.K.KeyBytes.bytes_of (held_of c.node.inside.lt_pointer) =
-        subst (λ (e : Node g.row.K.Denot (List ℕ)). HeldCachesHold g.K.KeyBytes.bytes_of e.lt) (sym (c.node.view_is ∙ old)) (caches_at g.K.KeyBytes.bytes_of s.nodes.items (held_of s.high_page) rows c.nodes.i c.index_mut-node.result.now r) in
+    subst (λ (e : Node g.row.K.Denot (List ℕ)). HeldCachesHold g.K.KeyBytes.bytes_of e.lt) (sym (c.node.view_is ∙ old)) (caches_at g.K.KeyBytes.bytes_of s.nodes.items (held_of s.high_page) rows c.nodes.i c.index_mut-node.result.now r) in
     let small = size_at s.nodes.items (held_of s.high_page) c.nodes.i c.index_mut-node.result.now r in
     let same : held_size (held_of c.node.inside.lt_pointer) ≡ held_size (get_or s.nodes.items c.nodes.i c.index_mut-node.result.now).lt = ap (λ (e : Node g.row.K.Denot (List ℕ)). held_size e.lt) (c.node.view_is ∙ old) in
     let whole : row_size (row s.nodes.items (held_of s.high_page)) + 1 ≡ tree_size c.args.self.now = omega (arith, ap tree_size c.self.view_is) in
@@ -69,13 +69,17 @@ Page+N+K::fill-nodes-preserved g t c =
     let before = flat_map (node_stream b) (take i s.nodes.items) ++ held_digest b x.lt in
     let written = c.write-in-nodes.ensures zero_key _ (c.write.ensures zero_key _ (c.fill_below.ensures.bytes zero_key _ inv.1)) in
     let holds : Holds c.write-in-nodes.new.self zero_key ((before ++ b n.key) ++ n.value_hash) =
-        subst (λ ks. Holds c.write-in-nodes.new.self zero_key ((before ++ ks) ++ n.value_hash)) c.key_bytes.ensures
-        (subst (λ ds. Holds c.write-in-nodes.new.self zero_key ((before ++ c.key_bytes.result.now) ++ ds)) c.as_bytes-in-nodes.ensures written) in
+    subst (λ ks. Holds c.write-in-nodes.new.self zero_key ((before ++ ks) ++ n.value_hash)) c.key_bytes.ensures
+    (subst (λ ds. Holds c.write-in-nodes.new.self zero_key ((before ++ c.key_bytes.result.now) ++ ds)) c.as_bytes-in-nodes.ensures written) in
     let more = sum_by_more node_missing s.nodes.items i x r in
-    let here : held_missing x.lt ≡ held_missing (get_or s.nodes.items i x).lt = ap (λ (e : Node g.row.K.Denot (List ℕ)). held_missing e.lt) is in
-    (ap (slice_set c.nodes.self-inside.nodes.items i) new ∙ map_over_more (node_filled b) _ _ i _ r inv.0 c.index_mut-node.ensures.value,
-     step b s.nodes.items i c.write-in-nodes.new.self x r is holds,
-     omega (arith, c.saturating_add-hashed.ensures, c.fill_below.ensures.count, inv.2, more, here), inv.3, inv.4, inv.5)
+    let here : held_missing x.lt ≡ held_missing (get_or s.nodes.items i x).lt = ap (λ (e : Node g.row.K.Denot (List ℕ)). held_missing e.lt) is in (
+      ap (slice_set c.nodes.self-inside.nodes.items i) new ∙ map_over_more (node_filled b) _ _ i _ r inv.0 c.index_mut-node.ensures.value,
+      step b s.nodes.items i c.write-in-nodes.new.self x r is holds,
+      omega (arith, c.saturating_add-hashed.ensures, c.fill_below.ensures.count, inv.2, more, here),
+      inv.3,
+      inv.4,
+      inv.5,
+    )
 
 pub Page+N+K::fill-fill_below-requires-2 : goal.Page+N+K::fill-fill_below-requires-2
 Page+N+K::fill-fill_below-requires-2 g t c κs within =
@@ -83,7 +87,7 @@ Page+N+K::fill-fill_below-requires-2 g t c κs within =
     let inv = c.nodes.invariant in
     let rows = row_of_caches g.K.KeyBytes.bytes_of s.level s.tree_hash (row s.nodes.items (held_of s.high_page)) c.args.self.now c.self.view_is c.requires in
     let holds : HeldCachesHold g.K.KeyBytes.bytes_of (held_of c.nodes.self-inside.high_page) =
-        subst (λ o. HeldCachesHold g.K.KeyBytes.bytes_of (held_of o)) (sym inv.4) (caches_high g.K.KeyBytes.bytes_of s.nodes.items (held_of s.high_page) rows) in
+    subst (λ o. HeldCachesHold g.K.KeyBytes.bytes_of (held_of o)) (sym inv.4) (caches_high g.K.KeyBytes.bytes_of s.nodes.items (held_of s.high_page) rows) in
     let small = size_high s.nodes.items (held_of s.high_page) in
     let same : held_size (held_of c.nodes.self-inside.high_page) ≡ held_size (held_of s.high_page) = ap (λ o. held_size (held_of o)) inv.4 in
     let whole : row_size (row s.nodes.items (held_of s.high_page)) + 1 ≡ tree_size c.args.self.now = omega (arith, ap tree_size c.self.view_is) in
@@ -116,7 +120,7 @@ Page+N+K::fill-returns-clause-pages g t c =
     let r : length s.nodes.items ≤ c.nodes.i = omega (arith, c.nodes-test.false, inv.5) in
     let stream = whole b s.nodes.items c.nodes.self-inside.high_page s.high_page c.nodes.i r inv.4 in
     let digest_is : c.new-2.result ≡ siphash128 zero_key (row_stream b (row s.nodes.items (held_of s.high_page))) =
-        c.new-2.ensures ∙ c.finish128-bytes.ensures zero_key _ (c.fill_below-2.ensures.bytes zero_key _ inv.1) ∙ ap (siphash128 zero_key) stream in
+    c.new-2.ensures ∙ c.finish128-bytes.ensures zero_key _ (c.fill_below-2.ensures.bytes zero_key _ inv.1) ∙ ap (siphash128 zero_key) stream in
     let all = ap (map (node_filled b)) (take_all c.nodes.i s.nodes.items r) in
     let none = drop_all c.nodes.i s.nodes.items r in
     let items : c.nodes.self-inside.nodes.items ≡ map (node_filled b) s.nodes.items = rw (inv.0, all, none) (append-nil _) in
@@ -130,7 +134,7 @@ Page+N+K::fill-returns-clause-count g t c =
     let r : length s.nodes.items ≤ c.nodes.i = omega (arith, c.nodes-test.false, inv.5) in
     let one = is_one s.tree_hash (λ d e. c.in_default.not-Some d e) in
     let all : missing c.args.self.now ≡ one_without s.tree_hash + (sum_by node_missing s.nodes.items + held_missing (held_of s.high_page)) =
-        ap missing (sym c.self.view_is) ∙ ap (λ n. one_without s.tree_hash + n) (row_missing-row s.nodes.items (held_of s.high_page)) in
+    ap missing (sym c.self.view_is) ∙ ap (λ n. one_without s.tree_hash + n) (row_missing-row s.nodes.items (held_of s.high_page)) in
     let sum : sum_by node_missing (take c.nodes.i s.nodes.items) ≡ sum_by node_missing s.nodes.items = ap (sum_by node_missing) (take_all c.nodes.i s.nodes.items r) in
     let high_is : held_missing (held_of c.nodes.self-inside.high_page) ≡ held_missing (held_of s.high_page) = ap (λ o. held_missing (held_of o)) inv.4 in
     omega (arith, c.saturating_add-hashed-2.ensures, c.fill_below-2.ensures.count, inv.2, sum, high_is, one, all)

@@ -1,0 +1,8 @@
+use Rattle.std.proofs.Common.{◌≡◌, ◌++◌, take}
+use Rattle.std.specs.List.{flat_map}
+use Rattle.merkle_diff.specs.PageRange.{entries}
+use Rattle.merkle_search_tree.proofs.RangeEnds.{node_cached}
+use Rattle.merkle_search_tree.proofs.+list.Given as goal
+
+abbrev pub invariant-page::PageOf::list_ranges-nodes : goal.invariant-page::PageOf::list_ranges-nodes
+invariant-page::PageOf::list_ranges-nodes g l = entries l.list.items ≡ entries l.initial.list.items ++ flat_map (node_cached g.K.Ord.cmp) (take l.node-index l.node-items)

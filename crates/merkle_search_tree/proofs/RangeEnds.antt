@@ -1,0 +1,135 @@
+-- The first and the last key of a page and those below it, read off its list of nodes.
+use Rattle.std.proofs.Common.{◌≡◌, ℕ, suc, ◌-◌, List, [], ◌∷◌, ◌++◌, length, Option, Some, None, refl, ap, sym, ◌∙◌, append_assoc, arith, ◌⊎◌, inl, inr}
+use Rattle.std.specs.Prelude.{◌≢◌, ◌↔◌, false, true, if◌then◌else◌, slice_get, IsSome, IfSome}
+use Rattle.std.specs.Option.{option_map}
+use Rattle.std.specs.Ordering.{is_gt}
+use Rattle.std.proofs.lemmas.Bool.{false≢true}
+use Rattle.std.specs.List.{flat_map}
+use Rattle.std.proofs.lemmas.List.Concat.{flat_map-cons}
+use Rattle.std.specs.declared.cmp.Ordering.{Ordering}
+use Rattle.key_order.specs.Order.{Upto, upto}
+use Rattle.key_order.specs.Map.{last_key}
+use Rattle.key_order.proofs.Bools.{which}
+use Rattle.merkle_diff.specs.Entry.{Entry}
+use Rattle.merkle_search_tree.specs.Tree.{page, Held, Node, row}
+use Rattle.merkle_search_tree.specs.Page.{row_pairs, held_pairs}
+use Rattle.merkle_search_tree.specs.CachedRanges.{first_of, last_of, range_from, range_of, row_cached, held_cached}
+
+module _ {K D : Type 0} where
+  first-append : (ps : List (K × D)) (q : K × D) (qs : List (K × D)) (k : K) → first_of ps ≡ Some k → first_of (ps ++ q ∷ qs) ≡ Some k
+  first-append [] q qs k e = absurd (cc)
+  first-append (p ∷ ps) q qs k e = e
+
+  first-skip : (ps : List (K × D)) (q : K × D) (qs : List (K × D)) → first_of ps ≡ None → first_of (ps ++ q ∷ qs) ≡ Some q.0
+  first-skip [] q qs e = refl
+  first-skip (p ∷ ps) q qs e = absurd (cc)
+
+  pub first-high : (es : List (Node K D)) (h : Held K D) → slice_get es 0 ≡ None → first_of (row_pairs (row es h)) ≡ first_of (held_pairs h)
+  first-high [] h e = refl
+  first-high (x ∷ es) h e = absurd (cc)
+
+  pub first-below : (es : List (Node K D)) (h : Held K D) (x : Node K D) (k : K) → slice_get es 0 ≡ Some x → first_of (held_pairs x.lt) ≡ Some k → first_of (row_pairs (row es h)) ≡ Some k
+  first-below [] h x k e f = absurd (cc)
+  first-below (y ∷ es) h x k e f = first-append (held_pairs y.lt) (y.key, y.digest) (row_pairs (row es h)) k (ap (λ (n : Node K D). first_of (held_pairs n.lt)) (some y x e) ∙ f)
+    where
+      some : (a b : Node K D) → Some a ≡ Some b → a ≡ b
+      some a b e = cc
+
+  pub first-own : (es : List (Node K D)) (h : Held K D) (x : Node K D) → slice_get es 0 ≡ Some x → first_of (held_pairs x.lt) ≡ None → first_of (row_pairs (row es h)) ≡ Some x.key
+  first-own [] h x e f = absurd (cc)
+  first-own (y ∷ es) h x e f =
+      first-skip (held_pairs y.lt) (y.key, y.digest) (row_pairs (row es h)) (ap (λ (n : Node K D). first_of (held_pairs n.lt)) (some y x e) ∙ f) ∙ ap (λ (n : Node K D). Some n.key) (some y x e)
+    where
+      some : (a b : Node K D) → Some a ≡ Some b → a ≡ b
+      some a b e = cc
+
+  last-append : (c : K) (ps : List (K × D)) (q : K × D) (qs : List (K × D)) → last_key c (ps ++ q ∷ qs) ≡ last_key q.0 qs
+  last-append c [] q qs = refl
+  last-append c (p ∷ ps) q qs = last-append p.0 ps q qs
+
+  last-pair : (ps : List (K × D)) (q : K × D) (qs : List (K × D)) → last_of (ps ++ q ∷ qs) ≡ Some (last_key q.0 qs)
+  last-pair [] q qs = refl
+  last-pair (p ∷ ps) q qs = ap Some (last-append p.0 ps q qs)
+
+  last-key : (c : K) (ps : List (K × D)) (k : K) → last_of ps ≡ Some k → Some (last_key c ps) ≡ Some k
+  last-key c [] k e = absurd (cc)
+  last-key c (p ∷ ps) k e = e
+
+  last-none : (c : K) (ps : List (K × D)) → last_of ps ≡ None → last_key c ps ≡ c
+  last-none c [] e = refl
+  last-none c (p ∷ ps) e = absurd (cc)
+
+  -- the last node of a list is that of the list behind its first node
+  behind : (y z : Node K D) (es : List (Node K D)) (o : Option (Node K D)) → slice_get (y ∷ z ∷ es) (length (y ∷ z ∷ es) - 1) ≡ o → slice_get (z ∷ es) (length (z ∷ es) - 1) ≡ o
+  behind y z es o e =
+      let one : suc (length (z ∷ es) - 1) ≡ length (y ∷ z ∷ es) - 1 = omega arith in
+      ap (slice_get (y ∷ z ∷ es)) one ∙ e
+
+  pub last-high : (es : List (Node K D)) (h : Held K D) (k : K) → last_of (held_pairs h) ≡ Some k → last_of (row_pairs (row es h)) ≡ Some k
+  last-high [] h k e = e
+  last-high (x ∷ es) h k e = last-pair (held_pairs x.lt) (x.key, x.digest) (row_pairs (row es h)) ∙ last-key x.key (row_pairs (row es h)) k (last-high es h k e)
+
+  pub last-own : (es : List (Node K D)) (h : Held K D) (x : Node K D) → slice_get es (length es - 1) ≡ Some x → last_of (held_pairs h) ≡ None → last_of (row_pairs (row es h)) ≡ Some x.key
+  last-own [] h x e f = absurd (cc)
+  last-own (y ∷ []) h x e f =
+      last-pair (held_pairs y.lt) (y.key, y.digest) (held_pairs h) ∙ ap Some (last-none y.key (held_pairs h) f) ∙ ap (λ (n : Node K D). Some n.key) (some y x e)
+    where
+      some : (a b : Node K D) → Some a ≡ Some b → a ≡ b
+      some a b e = cc
+  last-own (y ∷ z ∷ es) h x e f =
+      last-pair (held_pairs y.lt) (y.key, y.digest) (row_pairs (row (z ∷ es) h)) ∙ last-key y.key (row_pairs (row (z ∷ es) h)) x.key (last-own (z ∷ es) h x (behind y z es (Some x) e) f)
+
+  pub last-nothing : (es : List (Node K D)) (h : Held K D) → slice_get es (length es - 1) ≡ None → last_of (held_pairs h) ≡ None → last_of (row_pairs (row es h)) ≡ None
+  last-nothing [] h e f = f
+  last-nothing (y ∷ []) h e f = absurd (cc)
+  last-nothing (y ∷ z ∷ es) h e f = absurd (there (held_pairs z.lt) (z.key, z.digest) (row_pairs (row es h)) (last-nothing (z ∷ es) h (behind y z es None e) f))
+    where
+      there : (ps : List (K × D)) (q : K × D) (qs : List (K × D)) → last_of (ps ++ q ∷ qs) ≡ None → ⊥
+      there [] q qs e = cc
+      there (p ∷ ps) q qs e = cc
+
+module _ {K D : Type 0} (cmp : K → K → Ordering) where
+  -- the ranges of the pages below a node
+  abbrev pub node_cached : Node K D → List (Entry K (List ℕ))
+  node_cached e = held_cached cmp e.lt
+
+  pub row_cached-row : (es : List (Node K D)) (h : Held K D) → row_cached cmp (row es h) ≡ flat_map node_cached es ++ held_cached cmp h
+  row_cached-row [] h = refl
+  row_cached-row (e ∷ es) h =
+      ap (λ w. node_cached e ++ w) (row_cached-row es h) ∙ sym (append_assoc (node_cached e) (flat_map node_cached es) (held_cached cmp h))
+      ∙ ap (λ w. w ++ held_cached cmp h) (sym (flat_map-cons node_cached e es))
+
+module _ {K : Type 0} (cmp : K → K → Ordering) where
+  -- the range from a to b, where a is at most b
+  abbrev pub range_if : K → K → List ℕ → Option (Entry K (List ℕ))
+  range_if a b d = if upto cmp a b then Some (record { first = a; last = b; digest = d }) else None
+
+  from-ends : {D : Type 0} (ps : List (K × D)) (d : List ℕ) (a b : K) → Some a ≡ first_of ps → Some b ≡ last_of ps → range_if a b d ≡ range_from cmp ps d
+  from-ends [] d a b e f = absurd (cc)
+  from-ends (p ∷ ps) d a b e f = λ i. range_if (some a p.0 e i) (some b (last_key p.0 ps) f i) d
+    where
+      some : (x y : K) → Some x ≡ Some y → x ≡ y
+      some x y e = cc
+
+  -- the range of a page with a node and a cached digest is from its first to its last key
+  pub range-ends : {D : Type 0} (l : ℕ) (o : Option (List ℕ)) (es : List (Node K D)) (h : Held K D) (d : List ℕ) (a b : K) → o ≡ Some d → length es ≢ 0 → Some a ≡ first_of (row_pairs (row es h)) → Some b ≡ last_of (row_pairs (row es h))
+      → range_if a b d ≡ range_of cmp (page l o (row es h))
+  range-ends l None es h d a b o n e f = absurd (cc)
+  range-ends l (Some c) [] h d a b o n e f = absurd (n refl)
+  range-ends l (Some c) (x ∷ es) h d a b o n e f = from-ends (row_pairs (row (x ∷ es) h)) d a b e f ∙ ap (range_from cmp (row_pairs (row (x ∷ es) h))) (some d c (sym o))
+    where
+      some : (x y : List ℕ) → Some x ≡ Some y → x ≡ y
+      some x y e = cc
+
+  -- what `PageRange::try_new` answers
+  pub made-range : {R : Type 0} (f : R → Entry K (List ℕ)) (o : Option R) (a b : K) (d : List ℕ) → (IsSome o ↔ Upto cmp a b) → IfSome o (λ r. f r ≡ record { first = a; last = b; digest = d }) → option_map f o ≡ range_if a b d
+  made-range f None a b d q e = by (which (is_gt (cmp a b)))
+    where
+      by : (is_gt (cmp a b) ≡ false) ⊎ (is_gt (cmp a b) ≡ true) → None ≡ range_if a b d
+      by (inl u) = absurd (false≢true (q.1 u))
+      by (inr u) = rw u refl
+  made-range f (Some r) a b d q e = rw (q.0 refl) (ap Some e)
+
+-- lists joined in another order
+pub regroup : {X : Type 0} (xs ys zs ws : List X) → ((xs ++ ys) ++ zs) ++ ws ≡ xs ++ (ys ++ (zs ++ ws))
+regroup xs ys zs ws = simp append_assoc

@@ -1,0 +1,9 @@
+use Rattle.std.proofs.Common.{subst}
+use Rattle.merkle_search_tree.specs.Sound.{IsSound}
+use Rattle.merkle_search_tree.proofs.Listed.{hashed_has}
+use Rattle.merkle_search_tree.proofs.laws.a_hashed_tree_has_every_digest.Goals as goal
+
+pub returns : goal.returns
+returns g c =
+    let sound = subst (IsSound g.K.Ord.cmp g.H.Hasher.digest_of g.K.KeyBytes.bytes_of) c.tree.view_is c.tree.invariant in
+    hashed_has g.K.KeyBytes.bytes_of c.args.tree.now.root_hash c.args.tree.now.root sound.root_hash_holds sound.caches

@@ -1,0 +1,24 @@
+use Rattle.std.proofs.Common.{subst}
+use Rattle.merkle_search_tree.specs.Ranges.{ranges_of}
+use Rattle.merkle_search_tree.specs.Sound.{IsSound}
+use Rattle.merkle_search_tree.proofs.NoDifference.{none_found, same-entries-back}
+use Rattle.merkle_search_tree.proofs.SameRanges.{same_ranges}
+use Rattle.merkle_search_tree.proofs.Sound.{same_pages, same_bytes}
+use Rattle.merkle_search_tree.proofs.laws.equal_maps_have_equal_page_ranges.Goals as goal
+
+pub returns-clause-ranges : goal.returns-clause-ranges
+returns-clause-ranges g c =
+    same_ranges g.K.Ord.cmp g.K.KeyBytes.bytes_of (same_bytes g.K.Ord.cmp g.K.PartialEq.eq g.met.K.Ord.matches_eq g.K.KeyBytes.bytes_of g.met.K.KeyBytes.bytes_respect_eq) c.args.a.now.root c.args.b.now.root
+    (same_pages g.K.Ord.cmp g.met.K.Ord.total g.K.PartialEq.eq g.met.K.Ord.matches_eq g.H.Hasher.digest_of g.met.H.Hasher.respects_eq g.K.KeyBytes.bytes_of c.args.a.now c.args.b.now
+    (subst (IsSound g.K.Ord.cmp g.H.Hasher.digest_of g.K.KeyBytes.bytes_of) c.a.view_is c.a.invariant)
+    (subst (IsSound g.K.Ord.cmp g.H.Hasher.digest_of g.K.KeyBytes.bytes_of) c.b.view_is c.b.invariant)
+    c.requires.hasher c.requires.base c.requires.maps)
+
+pub returns-clause-nothing_to_ask_b_for : goal.returns-clause-nothing_to_ask_b_for
+returns-clause-nothing_to_ask_b_for g c = λ found laws spares.
+    none_found g.K.Ord.cmp (ranges_of g.K.KeyBytes.bytes_of c.args.a.now.root) (ranges_of g.K.KeyBytes.bytes_of c.args.b.now.root) found (returns-clause-ranges g c) laws.table spares.equal
+
+pub returns-clause-nothing_to_ask_a_for : goal.returns-clause-nothing_to_ask_a_for
+returns-clause-nothing_to_ask_a_for g c = λ found laws spares.
+    none_found g.K.Ord.cmp (ranges_of g.K.KeyBytes.bytes_of c.args.b.now.root) (ranges_of g.K.KeyBytes.bytes_of c.args.a.now.root) found
+    (same-entries-back g.K.Ord.cmp g.met.K.Ord.total (ranges_of g.K.KeyBytes.bytes_of c.args.a.now.root) (ranges_of g.K.KeyBytes.bytes_of c.args.b.now.root) (returns-clause-ranges g c)) laws.table spares.equal

@@ -1,0 +1,110 @@
+//! The ranges of keys that pages hold.
+
+ghost use Rattle.std.specs.Prelude.{◌≡◌, ◌++◌, OnOk};
+ghost use Rattle.std.specs.Option.{option_map};
+ghost use Rattle.merkle_diff.specs.PageRange.{entry, entries};
+ghost use Rattle.merkle_search_tree.specs.Tree.{held_of};
+ghost use Rattle.merkle_search_tree.specs.Page.{pairs, held_pairs};
+ghost use Rattle.merkle_search_tree.specs.CachedRanges.{first_of, last_of, range_of, cached_ranges, held_cached};
+
+use crate::page::PageOf;
+use merkle_diff::PageRange;
+use merkle_digest::PageDigest;
+use std::alloc::AllocError;
+
+/// The first key of a page and those below it.
+#[cycle(first)]
+fn first_key<K, D>(page: &PageOf<K, D>) -> Option<&K>
+    ensures { option_map (λ key. key.now) result ≡ first_of (pairs page.now) }
+{
+    match page.nodes.first() {
+        None => first_key_below(&page.high_page),
+        Some(node) => match first_key_below(&node.lt_pointer) {
+            Some(key) => Some(key),
+            None => Some(&node.key),
+        },
+    }
+}
+
+/// The first key of what a pointer holds.
+#[cycle(first)]
+fn first_key_below<K, D>(held: &Option<Box<PageOf<K, D>>>) -> Option<&K>
+    ensures { option_map (λ key. key.now) result ≡ first_of (held_pairs (held_of held.now)) }
+{
+    match held {
+        None => None,
+        Some(page) => first_key(page),
+    }
+}
+
+/// The last key of a page and those below it.
+#[cycle(last)]
+fn last_key<K, D>(page: &PageOf<K, D>) -> Option<&K>
+    ensures { option_map (λ key. key.now) result ≡ last_of (pairs page.now) }
+{
+    match last_key_below(&page.high_page) {
+        Some(key) => Some(key),
+        None => match page.nodes.last() {
+            Some(node) => Some(&node.key),
+            None => None,
+        },
+    }
+}
+
+/// The last key of what a pointer holds.
+#[cycle(last)]
+fn last_key_below<K, D>(held: &Option<Box<PageOf<K, D>>>) -> Option<&K>
+    ensures { option_map (λ key. key.now) result ≡ last_of (held_pairs (held_of held.now)) }
+{
+    match held {
+        None => None,
+        Some(page) => last_key(page),
+    }
+}
+
+impl<K: Ord, D> PageOf<K, D> {
+    /// From the first to the last key of the page and those below it, with the cached digest of the page. `None` without a node,
+    /// without a cached digest, or where that first key is above the last.
+    pub fn page_range(&self) -> Option<PageRange<'_, K>>
+        ensures { option_map entry result ≡ range_of K.cmp self.now }
+    {
+        let digest = self.tree_hash.as_ref()?;
+        if self.nodes.is_empty() {
+            return None;
+        }
+        let first = first_key(self)?;
+        let last = last_key(self)?;
+        PageRange::try_new(first, last, PageDigest::new(*digest.as_bytes()))
+    }
+
+    /// Adds the ranges of the page and those below it to a list, that of a page before those of the pages below it.
+    #[cycle(list)]
+    pub(crate) fn list_ranges<'a>(
+        &'a self,
+        list: &mut Vec<PageRange<'a, K>>,
+    ) -> Result<(), AllocError>
+        ensures { OnOk result (entries list.new.items ≡ entries list.old.items ++ cached_ranges K.cmp self.now) }
+    {
+        if let Some(range) = self.page_range() {
+            list.push(range)?;
+        }
+        'nodes: for node in &self.nodes {
+            list_below(&node.lt_pointer, list)?;
+        }
+        list_below(&self.high_page, list)
+    }
+}
+
+/// Adds the ranges of what a pointer holds to a list.
+#[cycle(list)]
+fn list_below<'a, K: Ord, D>(
+    held: &'a Option<Box<PageOf<K, D>>>,
+    list: &mut Vec<PageRange<'a, K>>,
+) -> Result<(), AllocError>
+    ensures { OnOk result (entries list.new.items ≡ entries list.old.items ++ held_cached K.cmp (held_of held.now)) }
+{
+    match held {
+        None => Ok(()),
+        Some(page) => page.list_ranges(list),
+    }
+}
