@@ -26,10 +26,7 @@ const RUST_ROOTS: &str = "\
 ";
 
 /// The default tree of that many keys.
-fn squares(
-    alloc: Global,
-    size: u64,
-) -> Result<MerkleSearchTree<String, u64, SipHasher, 16>, Fail> {
+fn squares(alloc: Global, size: u64) -> Result<MerkleSearchTree<String, u64, SipHasher, 16>, Fail> {
     let mut tree = MerkleSearchTree::with_defaults(alloc);
     for i in 0..size {
         let key = format!(in alloc; "k{i:04}")?;
@@ -49,7 +46,11 @@ fn roots_and_ranges_are_those_of_the_rust_crate(rt: HostRuntime) -> Result<(), F
         let size = words.next().ok_or("no size")?.parse::<u64>()?;
         let mut tree = squares(rt.alloc(), size)?;
         let root_hash = format!(in rt.alloc(); "{}", tree.root_hash())?;
-        assert_eq!(rt; root_hash.as_str(), words.next().ok_or("no root hash")?, "at {line}");
+        assert_eq!(rt;
+            root_hash.as_str(),
+            words.next().ok_or("no root hash")?,
+            "at {line}"
+        );
         let count = words.next().ok_or("no count")?.parse::<usize>()?;
         let ranges = tree.serialise_page_ranges()?.ok_or("not hashed")?;
         assert_eq!(rt; ranges.len(), count, "at {line}");

@@ -17,10 +17,7 @@ fn put(tree: &mut Tree<'_>, value: u64) -> Result<(), Fail> {
 }
 
 /// A snapshot of the page ranges of a tree, which it hashes.
-fn snapshot<'a>(
-    alloc: Global,
-    tree: &mut Tree<'a>,
-) -> Result<PageRangeSnapshot<&'a str>, Fail> {
+fn snapshot<'a>(alloc: Global, tree: &mut Tree<'a>) -> Result<PageRangeSnapshot<&'a str>, Fail> {
     tree.root_hash();
     let ranges = tree.serialise_page_ranges()?.ok_or("not hashed")?;
     Ok(PageRangeSnapshot::from_ranges(alloc, ranges)?)
@@ -45,6 +42,9 @@ fn snapshots_keep_what_they_saw(rt: HostRuntime) -> Result<(), Fail> {
         assert_eq!(rt; *range.start(), "bananas");
         assert_eq!(rt; *range.end(), "bananas");
     }
-    assert_eq!(rt; diff(rt.alloc(), local_seen.iter(), local_seen.iter())?.len(), 0);
+    assert_eq!(rt;
+        diff(rt.alloc(), local_seen.iter(), local_seen.iter())?.len(),
+        0
+    );
     Ok(())
 }
