@@ -1,0 +1,2 @@
+pub mod Absorbing
+pub mod LevelLemmas

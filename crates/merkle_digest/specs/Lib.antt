@@ -1,0 +1,3 @@
+pub mod Level
+pub mod SipHash
+pub mod Sip24

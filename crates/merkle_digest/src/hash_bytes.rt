@@ -1,0 +1,132 @@
+//! The bytes that a value feeds to SipHash.
+
+ghost use Rattle.std.specs.Prelude.{◌≡◌, ℕ, List, [], ◌∷◌, ◌++◌, true, string_bytes, refl};
+ghost use Rattle.std.specs.Int.{w16, w32, w64, w128, to_le_bytes};
+ghost use Rattle.std.proofs.Common.{sym, ap};
+ghost use Rattle.std.proofs.lemmas.Bool.{eqb-true};
+ghost use Rattle.std.specs.Cmp.Lexicographic.{same_text};
+ghost use Rattle.merkle_digest.specs.Sip24.{Holds};
+
+use crate::siphash::Sip24;
+
+/// A value that can be hashed by its bytes. Each implementation states which bytes those are, and proves that equal values feed
+/// equal bytes. No length and no end mark is fed.
+pub trait HashBytes: Eq {
+    /// The bytes that a value feeds.
+    ghost fed_bytes: { Self → List ℕ };
+
+    /// Writes the bytes of the value to the hasher.
+    fn feed(&self, sip: &mut Sip24)
+        ensures { (key written : List ℕ) → Holds sip.old key written → Holds sip.new key (written ++ fed_bytes self.now) };
+
+    /// Equal values feed equal bytes.
+    ghost fed_bytes_respect_eq: { (a b : Self) → Self.eq a b ≡ true → fed_bytes a ≡ fed_bytes b };
+}
+
+/// The UTF-8 bytes of the text.
+impl HashBytes for String {
+    ghost fed_bytes = { string_bytes };
+
+    ghost fed_bytes_respect_eq = { λ a b equal. same_text (string_bytes a) (string_bytes b) (sym equal) };
+
+    fn feed(&self, sip: &mut Sip24) {
+        sip.write(self.as_bytes());
+    }
+}
+
+/// The UTF-8 bytes of the text.
+impl HashBytes for &str {
+    ghost fed_bytes = { λ text. text.now };
+
+    ghost fed_bytes_respect_eq = { λ a b equal. same_text a.now b.now (sym equal) };
+
+    fn feed(&self, sip: &mut Sip24) {
+        sip.write(self.as_bytes());
+    }
+}
+
+/// The bytes themselves.
+impl HashBytes for Vec<u8> {
+    ghost fed_bytes = { λ bytes. bytes.items };
+
+    ghost fed_bytes_respect_eq = { λ a b equal. same_text a.items b.items (sym equal) };
+
+    fn feed(&self, sip: &mut Sip24) {
+        sip.write(self.as_slice());
+    }
+}
+
+/// The bytes themselves.
+impl<const M: usize> HashBytes for [u8; M] {
+    ghost fed_bytes = { λ bytes. bytes };
+
+    ghost fed_bytes_respect_eq = { λ a b equal. same_text a b (sym equal) };
+
+    fn feed(&self, sip: &mut Sip24) {
+        sip.write(self);
+    }
+}
+
+/// The byte itself.
+impl HashBytes for u8 {
+    ghost fed_bytes = { λ n. n ∷ [] };
+
+    ghost fed_bytes_respect_eq = { λ a b equal. ap (λ n. n ∷ []) (eqb-true a b equal) };
+
+    fn feed(&self, sip: &mut Sip24) {
+        sip.write(&[*self]);
+    }
+}
+
+/// The two bytes of the number, the lowest first.
+impl HashBytes for u16 {
+    ghost fed_bytes = { to_le_bytes w16 };
+
+    ghost fed_bytes_respect_eq = { λ a b equal. ap (to_le_bytes w16) (eqb-true a b equal) };
+
+    fn feed(&self, sip: &mut Sip24) {
+        sip.write(&u16::to_le_bytes(*self));
+    }
+}
+
+/// The four bytes of the number, the lowest first.
+impl HashBytes for u32 {
+    ghost fed_bytes = { to_le_bytes w32 };
+
+    ghost fed_bytes_respect_eq = { λ a b equal. ap (to_le_bytes w32) (eqb-true a b equal) };
+
+    fn feed(&self, sip: &mut Sip24) {
+        sip.write(&u32::to_le_bytes(*self));
+    }
+}
+
+/// The eight bytes of the number, the lowest first.
+impl HashBytes for u64 {
+    ghost fed_bytes = { to_le_bytes w64 };
+
+    ghost fed_bytes_respect_eq = { λ a b equal. ap (to_le_bytes w64) (eqb-true a b equal) };
+
+    fn feed(&self, sip: &mut Sip24) {
+        sip.write(&u64::to_le_bytes(*self));
+    }
+}
+
+/// The sixteen bytes of the number, the lowest first.
+impl HashBytes for u128 {
+    ghost fed_bytes = { to_le_bytes w128 };
+
+    ghost fed_bytes_respect_eq = { λ a b equal. ap (to_le_bytes w128) (eqb-true a b equal) };
+
+    fn feed(&self, sip: &mut Sip24) {
+        sip.write(&u128::to_le_bytes(*self));
+    }
+}
+
+/// No bytes.
+impl HashBytes for () {
+    ghost fed_bytes = { λ _. [] };
+
+    ghost fed_bytes_respect_eq = { λ a b equal. refl };
+
+    fn feed(&self, _sip: &mut Sip24) {}
+}

@@ -1,0 +1,5 @@
+mod digests;
+mod fed_bytes;
+mod key_bytes;
+mod levels;
+mod siphash;

@@ -1,0 +1,65 @@
+use crate::{Digest, default_level_base, level};
+use std::num::NonZeroU8;
+
+#[test]
+fn levels_in_base_16(rt: HostRuntime) {
+    let base = default_level_base();
+    let four_bytes = [
+        ([0x00, 0x00, 0x00, 0x11], 6),
+        ([0x00, 0x10, 0x00, 0x11], 3),
+        ([0x11, 0x00, 0x00, 0x00], 0),
+    ];
+    for (bytes, want) in four_bytes {
+        assert_eq!(rt; level(&Digest::new(bytes), base), want, "{bytes:?}");
+    }
+    for (bytes, want) in [([0x00, 0x10], 3), ([0x00, 0x11], 2)] {
+        assert_eq!(rt; level(&Digest::new(bytes), base), want, "{bytes:?}");
+    }
+    for (first, second, want) in [
+        (0x00, 0x00, 32),
+        (0x01, 0x00, 0),
+        (0x10, 0x00, 1),
+        (0x00, 0x10, 3),
+    ] {
+        let mut bytes = [0; 16];
+        bytes[0] = first;
+        bytes[1] = second;
+        assert_eq!(rt; level(&Digest::new(bytes), base), want, "{bytes:?}");
+    }
+    assert_eq!(rt; level(&Digest::new([]), base), 0);
+}
+
+#[test]
+fn levels_of_one_byte_in_base_16(rt: HostRuntime) {
+    assert_eq!(rt; level(&Digest::new([0]), default_level_base()), 2);
+    for byte in 1..=255 {
+        let want = if byte % 16 == 0 { 1 } else { 0 };
+        assert_eq!(rt;
+            level(&Digest::new([byte]), default_level_base()),
+            want,
+            "{byte}"
+        );
+    }
+}
+
+#[test]
+fn levels_stop_at_255(rt: HostRuntime) {
+    for (last, want) in [(0x00, 255), (0x10, 255), (0x11, 254)] {
+        let mut bytes = [0; 128];
+        bytes[127] = last;
+        assert_eq!(rt;
+            level(&Digest::new(bytes), default_level_base()),
+            want,
+            "{last}"
+        );
+    }
+}
+
+#[test]
+fn levels_in_the_least_and_the_greatest_base(rt: HostRuntime) {
+    let least = NonZeroU8::MIN;
+    let greatest = NonZeroU8::MAX;
+    assert_eq!(rt; level(&Digest::new([0x00, 0x05, 0x00]), least), 3);
+    assert_eq!(rt; level(&Digest::new([0xff]), greatest), 1);
+    assert_eq!(rt; level(&Digest::new([0x10]), greatest), 0);
+}
