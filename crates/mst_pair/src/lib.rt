@@ -16,3 +16,5 @@ pub mod run;
 mod session;
 pub mod sink;
 pub mod source;
+#[cfg(test)]
+mod tests;

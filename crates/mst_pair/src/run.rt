@@ -1,5 +1,5 @@
 //! A run, from a source to a sink.
-ghost use Rattle.std.specs.Prelude.{◌≡◌, ◌↔◌, false, true, IsErrOf};
+ghost use Rattle.std.specs.Prelude.{◌≡◌, ◌↔◌, false, true, OnOk, IsErrOf};
 ghost use Rattle.mst_pair.specs.Run.{Ends, fault_text};
 
 use crate::session::Session;
@@ -51,6 +51,7 @@ pub fn run<S: Source, W: Sink>(
     ensures bytes { Ends result (S.left reader.old) (S.left reader.new) (W.taken writer.old) (W.taken writer.new) }
     ensures read_fault { IsErrOf result RunFault.Read ↔ (S.has_failed reader.new ≡ true) }
     ensures write_fault { IsErrOf result RunFault.Write ↔ (W.has_failed writer.new ≡ true) }
+    ensures flushed { OnOk result (W.is_flushed writer.new ≡ true) }
 {
     let mut session = Session::new(alloc);
     let mut chunk = [0; CHUNK];

@@ -1,5 +1,5 @@
 //! An engine and the line that it is being given.
-ghost use Rattle.std.specs.Prelude.{ℕ, List, [], ◌++◌};
+ghost use Rattle.std.specs.Prelude.{◌≡◌, ℕ, List, [], ◌++◌, OnOk, true};
 ghost use Rattle.mst_pair.specs.Devices.{Marks};
 ghost use Rattle.mst_pair.specs.Session.{Reached, GoesOn, Finishes};
 
@@ -47,6 +47,7 @@ impl Session {
     pub fn finish<W: Sink>(&mut self, writer: &mut W) -> Result<(), Failed>
         ensures bytes { (input written : List ℕ) → Reached input written self.old.engine self.old.line →
             Finishes result input written (W.taken writer.old) (W.taken writer.new) }
+        ensures flushed { OnOk result (W.is_flushed writer.new ≡ true) }
         ensures failed { Marks result (W.has_failed writer.old) (W.has_failed writer.new) }
     {
         if !self.line.as_slice().is_empty() {

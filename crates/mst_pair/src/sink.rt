@@ -14,6 +14,9 @@ pub trait Sink {
     /// Whether a call ever answered an error.
     ghost has_failed: { Self → Bool };
 
+    /// Whether what was taken is handed on.
+    ghost is_flushed: { Self → Bool };
+
     /// Takes some bytes from the front of `bytes`, and answers how many: at most their count, and 0 only
     /// where there are none.
     ///
@@ -26,9 +29,10 @@ pub trait Sink {
         ensures error { OnErr result (KeepsOrHides (taken self.old) (taken self.new)) }
         ensures failed { Marks result (has_failed self.old) (has_failed self.new) };
 
-    /// Hands on what was taken. Errors are as at `write`.
+    /// Hands on all that was taken. Errors are as at `write`.
     fn flush(&mut self) -> Result<(), Failed>
         ensures ok { OnOk result (Keeps (taken self.old) (taken self.new)) }
+        ensures flushed { OnOk result (is_flushed self.new ≡ true) }
         ensures error { OnErr result (KeepsOrHides (taken self.old) (taken self.new)) }
         ensures failed { Marks result (has_failed self.old) (has_failed self.new) };
 
@@ -44,6 +48,7 @@ pub trait Sink {
 #[derive(Drop)]
 pub struct ToWrite<W> {
     inner: W,
+    flushed: bool,
     failed: bool,
 }
 
@@ -55,6 +60,7 @@ impl<W: Write> ToWrite<W> {
     {
         ToWrite {
             inner,
+            flushed: false,
             failed: false,
         }
     }
@@ -65,10 +71,13 @@ impl<W: Write> Sink for ToWrite<W> {
 
     ghost has_failed = { λ s. s.failed };
 
+    ghost is_flushed = { λ s. s.flushed };
+
     fn write(&mut self, bytes: &[u8]) -> Result<usize, Failed> {
         if self.failed {
             return Err(Failed);
         }
+        self.flushed = false;
         match self.inner.write(bytes) {
             Ok(count) if count > 0 || bytes.is_empty() => Ok(count),
             _ => {
@@ -83,7 +92,10 @@ impl<W: Write> Sink for ToWrite<W> {
             return Err(Failed);
         }
         match self.inner.flush() {
-            Ok(()) => Ok(()),
+            Ok(()) => {
+                self.flushed = true;
+                Ok(())
+            }
             Err(_) => {
                 self.failed = true;
                 Err(Failed)

@@ -90,3 +90,24 @@ impl<R: Read> Source for FromRead<R> {
         self.failed
     }
 }
+
+#[cfg(test)]
+mod tests {
+    use super::*;
+
+    #[test]
+    fn fails_after_its_reads(rt: HostRuntime) {
+        let mut reader = FromRead {
+            inner: b"abc".as_slice(),
+            reads_left: 2,
+            failed: false,
+        };
+        let mut buf = [0];
+        for byte in [b'a', b'b'] {
+            assert_eq!(rt; reader.read(&mut buf), Ok(1));
+            assert_eq!(rt; buf, [byte]);
+        }
+        assert_eq!(rt; reader.read(&mut buf), Err(Failed));
+        assert!(rt; reader.failed());
+    }
+}
