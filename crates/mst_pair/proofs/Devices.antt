@@ -1,7 +1,7 @@
 -- How what was written or read in steps adds up.
-use Rattle.std.proofs.Common.{subst, ◌≡◌, ℕ, List, [], ◌++◌, Option, None, Some, refl, sym, ap, append_assoc, Result, Ok, Err, ◌∙◌, length, take, drop, take-append-drop, ◌-◌, append-nil, IsErr}
+use Rattle.std.proofs.Common.{subst, ◌≡◌, ℕ, List, [], ◌++◌, Option, None, Some, sym, ap, append_assoc, Result, Ok, Err, ◌∙◌, length, take, drop, take-append-drop, ◌-◌, append-nil, IsErr}
 use Rattle.std.proofs.lemmas.List.{take_rest}
-use Rattle.std.proofs.KnownBytes.{Appends-trans, Consumes-trans, Appends-nil, Consumes-nil}
+use Rattle.std.proofs.KnownBytes.{Appends-trans}
 use Rattle.std.specs.Io.KnownBytes.{Consumes, Appends, Keeps}
 use Rattle.mst_pair.specs.Devices.{KeepsOrHides, ConsumesOrHides, AppendsOrHides, Writes, WritesPart, Passes}
 

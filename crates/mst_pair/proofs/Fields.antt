@@ -1,11 +1,9 @@
 -- Fields with a space between them.
-use Rattle.std.proofs.Common.{◌≡◌, ◌≢◌, ◌==◌, ℕ, ◌<◌, List, [], ◌∷◌, ◌++◌, length, get_or, refl, sym, ap, ◌∙◌, subst, true, false, nat_eq, ◌||◌, arith, inl, inr, codes, take}
-use Rattle.std.specs.List.{list_any, All}
+use Rattle.std.proofs.Common.{◌≡◌, ◌≢◌, ℕ, ◌<◌, List, [], ◌∷◌, ◌++◌, refl, sym, ap, ◌∙◌, false, nat_eq, arith, codes}
 use Rattle.std.proofs.lemmas.List.Folds.{list_any_none}
 use Rattle.std.proofs.lemmas.List.Elements.{All-weaker}
 use Rattle.std.proofs.lemmas.Bool.Decides.{nat_tests}
-use Rattle.std.proofs.lemmas.Grind.{common_steps}
-use Rattle.mst_pair.specs.Requests.{space, IsKey, IsKeyByte, Request, put, keys, IsSpelled, IsBad, name_text, IsNumber}
+use Rattle.mst_pair.specs.Requests.{space, IsKey, IsKeyByte, put, keys, IsBad, name_text}
 use Rattle.mst_pair.specs.Parsing.{HasNoSpace, IsRowText}
 use Rattle.mst_pair.specs.declared.engine.ReplicaName.{ReplicaName}
 use Rattle.mst_pair.specs.declared.engine.ReplicaName.TheVariants.{A, B}

@@ -8,7 +8,7 @@ use Rattle.mst_pair.specs.State.{State, start}
 use Rattle.mst_pair.specs.Engine.{Step}
 use Rattle.mst_pair.specs.Run.{Run, RepliesCut}
 use Rattle.mst_pair.specs.Session.{Reached, GoesOn, Finishes}
-use Rattle.mst_pair.proofs.Lines.{joined_parts, parts-newline, with_byte, parts-byte}
+use Rattle.mst_pair.proofs.Lines.{parts-newline, parts-byte}
 use Rattle.mst_pair.proofs.Steps.{step_of_kept}
 use Rattle.mst_pair.proofs.Kept.{cut_more}
 

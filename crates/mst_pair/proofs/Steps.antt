@@ -1,12 +1,10 @@
 -- What the first bytes of a line show.
-use Rattle.std.proofs.Common.{◌≡◌, ◌≢◌, ◌<◌, ◌≤◌, ◌+◌, ℕ, List, [], ◌∷◌, ◌++◌, take, length, length-append, arith, subst, sym, ap, ◌∙◌, inl, inr, codes, refl}
+use Rattle.std.proofs.Common.{◌≡◌, ◌≤◌, ℕ, List, ◌∷◌, ◌++◌, take, length, length-append, arith, subst, sym, inl, inr, codes, refl}
 use Rattle.std.proofs.lemmas.Bool.{cases_lt}
-use Rattle.std.proofs.lemmas.List.{take_all}
 use Rattle.std.proofs.Math.ListN.{length-take}
-use Rattle.std.proofs.lemmas.Grind.{common_steps}
 use Rattle.mst_pair.specs.State.{State}
 use Rattle.mst_pair.specs.Engine.{Step}
-use Rattle.mst_pair.specs.Requests.{Request, put, keys, IsSpelled, IsBad, name_text, space}
+use Rattle.mst_pair.specs.Requests.{Request, put, keys, IsSpelled, name_text, space}
 use Rattle.mst_pair.specs.declared.engine.ReplicaName.{ReplicaName}
 use Rattle.mst_pair.proofs.Kept.{take_short}
 use Rattle.mst_pair.specs.declared.engine.ReplicaName.TheVariants.{A, B}

@@ -201,3 +201,14 @@ fn names_its_faults(rt: HostRuntime) {
     assert_eq!(rt; RunFault::Read.text(), "mst_pair: read failed");
     assert_eq!(rt; RunFault::Write.text(), "mst_pair: write failed");
 }
+
+/// `rt try --test --fail-alloc N -- answers_where_memory_is_refused` refuses the Nth growth: the key's text, then the row's
+/// place. Where none is refused, the row is stored.
+#[test]
+fn answers_where_memory_is_refused(rt: HostRuntime) {
+    let (input, stored) = ROWS[0];
+    let (result, taken) = serve(rt.alloc(), input, 100, false, 1024, false);
+    assert_eq!(rt; result, Ok(()));
+    let refused = b"no memory\nend\nend\nbad line\n".as_slice();
+    assert!(rt; taken.as_slice() == stored || taken.as_slice() == refused);
+}

@@ -1,8 +1,6 @@
-use Rattle.std.proofs.Common.{◌≡◌, ℕ, List, ap, ◌∙◌, set, sym}
+use Rattle.std.proofs.Common.{ap, set}
 use Rattle.mst_pair.specs.State.{JoinsRow}
 use Rattle.mst_pair.specs.Rows.{rows_of, IsPlaceOf, IsGapFor}
-use Rattle.std.specs.declared.string.String.{String}
-use Rattle.std.specs.declared.alloc.Global.{Global}
 use Rattle.mst_pair.proofs.Places.{joins_there, joins_new, same_item}
 use Rattle.mst_pair.proofs.rows.join_row.Goals as goal
 

@@ -1,8 +1,8 @@
 -- A row is added in four texts: the key, a space, the number and a newline.
-use Rattle.std.proofs.Common.{subst, ap, ◌++◌, ◌∷◌, [], List, ℕ, codes, string_bytes, decimal}
-use Rattle.mst_pair.specs.Devices.{WritesPart, Passes}
+use Rattle.std.proofs.Common.{subst, ap, ◌++◌, ◌∷◌, [], codes, string_bytes, decimal}
+use Rattle.mst_pair.specs.Devices.{WritesPart}
 use Rattle.mst_pair.specs.Lines.{newline}
-use Rattle.mst_pair.proofs.Devices.{Passed, passes_err, part_less, passed_part, passed_more, passes_after, passed_as}
+use Rattle.mst_pair.proofs.Devices.{passes_err, part_less, passed_part, passed_more, passes_after, passed_as}
 use Rattle.mst_pair.proofs.rows.write_row.Goals as goal
 
 pub returns-in_err-write-clause-bytes : goal.returns-in_err-write-clause-bytes

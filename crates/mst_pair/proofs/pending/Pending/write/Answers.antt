@@ -1,4 +1,4 @@
-use Rattle.std.proofs.Common.{◌≡◌, List, ℕ, subst, sym, ap, ◌∙◌, ◌++◌}
+use Rattle.std.proofs.Common.{subst, ap, ◌∙◌}
 use Rattle.arrayvec.specs.ArrayString.{ArrayString}
 use Rattle.std.specs.Io.KnownBytes.{Appends}
 use Rattle.mst_pair.specs.Devices.{Writes, WritesPart}

@@ -1,13 +1,10 @@
-use Rattle.std.proofs.Common.{rules, ◌≡◌, ◌≢◌, ◌<◌, length, ℕ, List, [], ◌++◌, ◌+◌, ◌∷◌, take, drop, sym, ap, ◌∙◌, subst, append_assoc, get_or, refl}
+use Rattle.std.proofs.Common.{rules, ◌≡◌, ◌<◌, length, ℕ, List, [], ◌++◌, ◌+◌, ◌∷◌, take, drop, sym, ap, ◌∙◌, subst, append_assoc, get_or, refl}
 use Rattle.std.proofs.lemmas.List.{take_more}
 use Rattle.std.proofs.lemmas.Bool.Decides.{nat_tests}
-use Rattle.std.specs.Io.KnownBytes.{Appends}
 use Rattle.std.proofs.KnownBytes.{Appends-trans}
 use Rattle.mst_pair.specs.Engine.{Step}
 use Rattle.mst_pair.specs.Lines.{newline, lines_of}
 use Rattle.mst_pair.specs.Run.{RepliesCut}
-use Rattle.mst_pair.specs.Session.{Reached, GoesOn}
-use Rattle.mst_pair.specs.Devices.{Marks}
 use Rattle.mst_pair.proofs.Devices.{appends_or_hides_after}
 use Rattle.mst_pair.proofs.Runs.{reached_line, reached_byte, cut_line, at_place, goes_on_err}
 use Rattle.mst_pair.proofs.session.Session.feed.Goals as goal

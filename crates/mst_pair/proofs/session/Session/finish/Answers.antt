@@ -1,11 +1,9 @@
-use Rattle.std.proofs.Common.{rules, ◌≡◌, ◌<◌, ℕ, List, [], ◌++◌, subst, sym, ap, ◌∙◌, append_assoc, append-nil, length, arith}
+use Rattle.std.proofs.Common.{◌≡◌, ◌<◌, ℕ, List, [], ◌++◌, subst, ap, append-nil, length, arith}
 use Rattle.std.proofs.lemmas.Bool.Decides.{nat_tests}
 use Rattle.std.proofs.KnownBytes.{Appends-nil}
 use Rattle.std.proofs.lemmas.List.{nil_from_length}
 use Rattle.mst_pair.proofs.Runs.{cut_last, finishes_err, finishes_flush, reached_last, reached_end}
 use Rattle.mst_pair.specs.Engine.{Step}
-use Rattle.mst_pair.specs.Lines.{lines_of}
-use Rattle.mst_pair.specs.Run.{Run}
 use Rattle.mst_pair.proofs.session.Session.finish.Goals as goal
 use Rattle.mst_pair.proofs.session.Session.finish.Goals.{then-not-is_empty+in_ok-answer, else-not-is_empty}
 
