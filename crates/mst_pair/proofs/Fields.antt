@@ -40,15 +40,15 @@ pub bad_word : (word rest line : List ℕ) → HasNoSpace word → line ≡ word
 bad_word word rest line none e not_put not_keys (put name key n) (digits, k, num, f) = not_put (first_unique word (codes "put") rest _ none refl (sym e ∙ f)).0
 bad_word word rest line none e not_put not_keys (keys name) f = not_keys (first_unique word (codes "keys") rest _ none refl (sym e ∙ f)).0
 
+put_is_not_keys : codes "put" ≡ codes "keys" → ⊥
+put_is_not_keys same = cc
+
 -- a line that begins as put and names no replica
 pub bad_name : (name rest line : List ℕ) → HasNoSpace name → line ≡ codes "put" ++ space ∷ (name ++ space ∷ rest) → ((n : ReplicaName) → name ≢ name_text n) → IsBad line
 bad_name name rest line none e no_name (put other key n) (digits, k, num, f) =
     let words = first_unique (codes "put") (codes "put") _ _ refl refl (sym e ∙ f) in
     no_name other (first_unique name (name_text other) _ _ none (no_space_name other) words.1).0
 bad_name name rest line none e no_name (keys other) f = absurd (put_is_not_keys (first_unique (codes "put") (codes "keys") _ _ refl refl (sym e ∙ f)).0)
-  where
-    put_is_not_keys : codes "put" ≡ codes "keys" → ⊥
-    put_is_not_keys same = cc
 
 -- a line that begins as put and has no row
 pub bad_row : (name : ReplicaName) (rest line : List ℕ) → line ≡ codes "put" ++ space ∷ (name_text name ++ space ∷ rest) → ((key : List ℕ) (n : ℕ) → IsRowText rest key n → ⊥) → IsBad line
@@ -57,6 +57,3 @@ bad_row name rest line e no_row (put other key n) (digits, k, num, f) =
     let names = first_unique (name_text name) (name_text other) _ _ (no_space_name name) (no_space_name other) words.1 in
     no_row key n (digits, k, num, names.1)
 bad_row name rest line e no_row (keys other) f = absurd (put_is_not_keys (first_unique (codes "put") (codes "keys") _ _ refl refl (sym e ∙ f)).0)
-  where
-    put_is_not_keys : codes "put" ≡ codes "keys" → ⊥
-    put_is_not_keys same = cc

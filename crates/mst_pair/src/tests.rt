@@ -138,7 +138,12 @@ const OUTPUT: &[u8] = b"ok\nx 1\nend\n";
 
 #[test]
 fn stops_where_the_source_fails(rt: HostRuntime) {
-    for (count, wanted) in [(0, 0), (9, 0), (10, 3), (16, 3), (17, 11)] {
+    for count in 0..INPUT.len() + 1 {
+        let wanted = match count {
+            0..=9 => 0,
+            10..=16 => 3,
+            _ => 11,
+        };
         for piece in [1, 5, 100] {
             let (result, taken) = serve(rt.alloc(), &INPUT[..count], piece, true, 1024, false);
             assert_eq!(rt; result, Err(RunFault::Read));
