@@ -71,10 +71,6 @@ pub on_err : {A E : Type 0} (r : Result A E) (P : Type 0) → P → OnErr r P
 on_err (Ok a) P p = tt
 on_err (Err e) P p = p
 
-pub err_weaker : {A E : Type 0} (r : Result A E) (P Q : Type 0) → (P → Q) → OnErr r P → OnErr r Q
-err_weaker (Ok a) P Q f h = tt
-err_weaker (Err e) P Q f h = f h
-
 -- where the test of the heads passes, a range may be answered
 pub heads-may_answer : {K : Type 0} {o e p : _} (cmp : K → K → Ordering) (t : IsTotalOrder cmp) (local peer : Option (PageRange K o e p)) (first : PageRange K o e p) (s : Span K)
     → peer ≡ Some first → s ≡ span_of (entry first) → head_may_answer cmp local s ≡ true → HeadsMayAnswer cmp local peer

@@ -13,7 +13,7 @@ use crate::diff_range::DiffRange;
 use crate::lookahead::{Lookahead, drain, look_ahead};
 use crate::merge::merged;
 use crate::page_range::PageRange;
-use crate::reduce::reduce_sync_range;
+use crate::reduce::cut_apart;
 use crate::walk::{may_answer, walked};
 use std::alloc::{AllocError, Global};
 
@@ -89,5 +89,7 @@ where
         return Ok(Vec::new(alloc));
     }
     let marks = walked(alloc, outer, locals, peers)?;
-    reduce_sync_range(alloc, merged(marks.bad), merged(marks.good))
+    let bad = merged(marks.bad);
+    let good = merged(marks.good);
+    cut_apart(alloc, bad, &good)
 }

@@ -93,11 +93,19 @@ fn answers_or_wants_memory(rt: HostRuntime) {
     }
 }
 
+fn page<'a>(start: &'a u64, end: &'a u64) -> Option<PageRange<'a, u64>> {
+    PageRange::try_new(start, end, PageDigest::new([1; 16]))
+}
+
 // So it does with every request for memory refused.
 #[test]
 fn nothing_to_ask_for_takes_no_memory(rt: HostRuntime) -> Result<(), Fail> {
-    let page = |start: &'static u64, end: &'static u64| PageRange::try_new(start, end, PageDigest::new([1; 16]));
-    for (local, peer) in [(page(&1, &5), None), (page(&1, &5), page(&3, &7)), (page(&2, &8), page(&3, &7)), (page(&2, &8), page(&2, &7))] {
+    for (local, peer) in [
+        (page(&1, &5), None),
+        (page(&1, &5), page(&3, &7)),
+        (page(&2, &8), page(&3, &7)),
+        (page(&2, &8), page(&2, &7)),
+    ] {
         assert!(rt; diff(rt.alloc(), local, peer)?.is_empty());
     }
     Ok(())

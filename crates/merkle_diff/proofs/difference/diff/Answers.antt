@@ -1,9 +1,9 @@
-use Rattle.std.proofs.lemmas.Result.{IfOk-weaker}
+use Rattle.std.proofs.lemmas.Result.{IfOk-weaker, on_err_weaker}
 use Rattle.merkle_diff.specs.DiffRange.{spans}
 use Rattle.merkle_diff.specs.PageRange.{entries}
 use Rattle.merkle_diff.proofs.FromWalk.{entries-ordered}
 use Rattle.merkle_diff.proofs.IntervalLaws.{difference}
-use Rattle.merkle_diff.proofs.NoAnswer.{cause, err_weaker}
+use Rattle.merkle_diff.proofs.NoAnswer.{cause}
 use Rattle.merkle_diff.proofs.Queues.{Drains-from}
 use Rattle.merkle_diff.proofs.TreeLaws.{spares}
 use Rattle.merkle_diff.proofs.difference.diff.Goals as goal
@@ -34,7 +34,7 @@ returns-clause-laws_on_trees g c =
 
 pub returns-clause-memory : goal.returns-clause-memory
 returns-clause-memory g c =
-    err_weaker c.differences.result _ _
+    on_err_weaker c.differences.result
     (cause g.K.Ord.cmp g.U.IntoIterator.into_iter_gives g.U.IntoIter.Iterator.next_gives c.args.peer c.into_iter-2.result c.look_ahead-2.result
     g.T.IntoIterator.into_iter_gives g.T.IntoIter.Iterator.next_gives c.args.local c.into_iter.result c.look_ahead.result
     c.into_iter-2.ensures.into_iter_gives c.look_ahead-2.ensures.steps c.into_iter.ensures.into_iter_gives c.look_ahead.ensures.steps)
