@@ -19,4 +19,6 @@ pub mod IntervalLaws
 pub mod TreeLaws
 pub mod FromWalk
 pub mod NoAnswer
+pub mod CutByMerge
+pub mod OnePass
 pub mod Snapshots

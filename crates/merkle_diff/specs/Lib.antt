@@ -17,3 +17,5 @@ pub mod Lookahead
 pub mod Sweep
 pub mod Stack
 pub mod Turn
+pub mod OnePass
+pub mod DiffListBuilder

@@ -1,6 +1,7 @@
 //! Page ranges and their differences.
 #![tactic(auto)]
 
+mod diff_builder;
 mod diff_range;
 mod difference;
 mod lookahead;
@@ -23,6 +24,7 @@ pub use page_range::PageRange;
 pub use page_range_snapshot::{PageRangeSnapshot, SnapshotIter};
 
 pub mod parts {
+    pub use crate::diff_builder::DiffListBuilder;
     pub use crate::merge::merge_overlapping;
     pub use crate::range_list::RangeList;
     pub use crate::reduce::reduce_sync_range;

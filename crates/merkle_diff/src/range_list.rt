@@ -1,5 +1,5 @@
 //! Ranges in any order.
-ghost use Rattle.std.specs.Prelude.{◌≡◌, [], ◌∷◌, ◌++◌, OnOk, OnErr, IfOk};
+ghost use Rattle.std.specs.Prelude.{◌≡◌, [], ◌∷◌, ◌++◌, OnOk, OnErr, IsOkAnd};
 ghost use Rattle.key_order.specs.Order.{Upto};
 
 use crate::diff_range::DiffRange;
@@ -36,9 +36,9 @@ impl<'a, K: Ord> RangeList<'a, K> {
         Ok(())
     }
 
-    /// The merge of the ranges: ascending, those that meet as one. Where memory is refused, the list is given up.
+    /// The merge of the ranges: ascending, those that meet as one. It takes no memory, and always succeeds.
     pub fn into_vec(self) -> Result<Vec<DiffRange<'a, K>>, AllocError>
-        ensures merged { IfOk result (λ ranges. IsMerge K.cmp (inserted self.entry) (spans ranges.items)) }
+        ensures merged { IsOkAnd result (λ ranges. IsMerge K.cmp (inserted self.entry) (spans ranges.items)) }
     {
         Ok(merged(self.ranges))
     }

@@ -1,1 +1,6 @@
+mod differences;
+mod page_ranges;
+mod range_lists;
+mod rust_answers;
 mod snapshots;
+mod texts;

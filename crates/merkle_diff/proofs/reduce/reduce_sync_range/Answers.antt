@@ -1,35 +1,43 @@
-use Rattle.std.proofs.Common.{◌≡◌, rules, refl, sym, ◌∙◌, ap, subst, drop, [], arith, ◌<◌, length, ◌+◌, ◌≤◌}
-use Rattle.std.specs.List.{flat_map}
-use Rattle.merkle_diff.specs.Cut.{cut_one, pieces_left}
-use Rattle.merkle_diff.specs.Merge.{IsMerge}
-use Rattle.merkle_diff.specs.DiffRange.{span, spans}
+use Rattle.std.proofs.Common.{◌≡◌, ◌<◌, length, sym, ap, subst, arith}
+use Rattle.std.proofs.lemmas.List.{length-map}
+use Rattle.std.proofs.lemmas.Result.{IfOk-weaker, on_err_weaker}
+use Rattle.key_order.specs.Interval.{IsApart}
+use Rattle.merkle_diff.proofs.CutByMerge.{cut-by_merge}
 use Rattle.merkle_diff.proofs.Cuts.{cut-out}
+use Rattle.merkle_diff.proofs.Merged.{merge-is_apart}
+use Rattle.merkle_diff.proofs.OnePass.{merge-some}
 use Rattle.merkle_diff.proofs.Ranges.{spans-ordered}
-use Rattle.merkle_diff.proofs.Touching.{Touches, apart-touches, touches-ascends, flat-touches}
-use Rattle.merkle_diff.proofs.Slices.{drop-past, drop-view}
+use Rattle.merkle_diff.specs.Cut.{IsExactCut}
+use Rattle.merkle_diff.specs.DiffRange.{span, spans}
 use Rattle.merkle_diff.proofs.reduce.reduce_sync_range.Goals as goal
 
-pub cuts-init : goal.cuts-init
-cuts-init g c = record { touches = apart-touches g.K.Ord.cmp g.met.K.Ord.total (spans c.args.bad.items) c.requires; is = refl }
+pub cut_apart-requires-clause-good : goal.cut_apart-requires-clause-good
+cut_apart-requires-clause-good g c =
+    subst (λ xs. IsApart g.K.Ord.cmp (spans xs)) (sym c.deref.ensures.value)
+    (merge-is_apart g.K.Ord.cmp g.met.K.Ord.total (spans c.args.good.items) (spans c.merged-apart.result.items) (spans-ordered c.args.good.items) c.merged-apart.ensures)
 
-pub cuts-preserved : goal.cuts-preserved
-cuts-preserved g c =
-    let x = c.index.result.now in
-    let cmp = g.K.Ord.cmp in
-    let e : spans c.in_ok-left.left.items ≡ flat_map (cut_one cmp (span x)) (spans c.cuts.left.items) = c.in_ok-left.ensures ∙ ap (λ xs. flat_map (cut_one cmp (span x)) (spans xs)) c.deref.ensures.value in
-    let l : c.cuts.i < length c.args.good.items = omega arith in
-    let v = drop-view span c.cuts.i x c.args.good.items (search rules) l in
-    record {
-      touches = subst (Touches cmp) (sym e) (flat-touches cmp g.met.K.Ord.total (span x) (spans c.cuts.left.items) x.ordered c.cuts.invariant.touches);
-      is = ap (λ xs. pieces_left cmp xs (spans (drop (c.cuts.i + 1) c.args.good.items))) e ∙ (sym (ap (λ xs. pieces_left cmp (spans c.cuts.left.items) xs) v) ∙ c.cuts.invariant.is);
-    }
-
-pub merge_overlapping-requires : goal.merge_overlapping-requires
-merge_overlapping-requires g c = touches-ascends g.K.Ord.cmp g.met.K.Ord.total (spans c.cuts.left.items) (spans-ordered c.cuts.left.items) c.cuts.invariant.touches
+pub returns-clause-exact : goal.returns-clause-exact
+returns-clause-exact g c =
+    IfOk-weaker c.cut_apart.result _ _
+    (λ found h. cut-by_merge g.K.Ord.cmp g.met.K.Ord.total (spans c.args.bad.items) (spans c.args.good.items) (spans c.merged-apart.result.items) (spans found.items)
+    (spans-ordered c.args.bad.items) (spans-ordered c.args.good.items) c.merged-apart.ensures
+    (subst (λ xs. IsExactCut g.K.Ord.cmp (spans c.args.bad.items) (spans xs) (spans found.items)) c.deref.ensures.value h))
+    c.cut_apart.ensures.exact
 
 pub returns-clause-laws : goal.returns-clause-laws
 returns-clause-laws g c =
-    let e : drop c.cuts.i c.args.good.items ≡ [] = let h : length c.args.good.items ≤ c.cuts.i = omega arith in drop-past c.cuts.i c.args.good.items h in
-    let q : spans c.cuts.left.items ≡ pieces_left g.K.Ord.cmp (spans c.args.bad.items) (spans c.args.good.items) = sym (ap (λ xs. pieces_left g.K.Ord.cmp (spans c.cuts.left.items) (spans xs)) e) ∙ c.cuts.invariant.is in
-    cut-out g.K.Ord.cmp g.met.K.Ord.total (spans c.args.bad.items) (spans c.args.good.items) (spans c.merge_overlapping.new.ranges.items) (spans-ordered c.args.bad.items)
-    (subst (λ xs. IsMerge g.K.Ord.cmp xs (spans c.merge_overlapping.new.ranges.items)) q c.merge_overlapping.ensures)
+    IfOk-weaker c.cut_apart.result _ _
+    (λ found h. cut-out g.K.Ord.cmp g.met.K.Ord.total (spans c.args.bad.items) (spans c.args.good.items) (spans found.items) (spans-ordered c.args.bad.items)
+    (cut-by_merge g.K.Ord.cmp g.met.K.Ord.total (spans c.args.bad.items) (spans c.args.good.items) (spans c.merged-apart.result.items) (spans found.items)
+    (spans-ordered c.args.bad.items) (spans-ordered c.args.good.items) c.merged-apart.ensures
+    (subst (λ xs. IsExactCut g.K.Ord.cmp (spans c.args.bad.items) (spans xs) (spans found.items)) c.deref.ensures.value h)))
+    c.cut_apart.ensures.exact
+
+pub returns-clause-memory : goal.returns-clause-memory
+returns-clause-memory g c =
+    on_err_weaker c.cut_apart.result
+    (λ h.
+    let n : 0 < length (spans c.merged-apart.result.items) = omega (arith, h.1, length-map c.merged-apart.result.items span, ap length c.deref.ensures.value) in
+    let m = merge-some g.K.Ord.cmp (spans c.args.good.items) (spans c.merged-apart.result.items) c.merged-apart.ensures n in
+    (h.0, omega (arith, m, length-map c.args.good.items span)))
+    c.cut_apart.ensures.memory
