@@ -56,7 +56,9 @@ impl<K: Ord + Drop> PageRangeSnapshot<K> {
         ensures { IfOk result (λ snapshot. (ranges : _) × Gives T.into_iter_gives T.IntoIter.next_gives iter ranges
             × (snapshot_entries snapshot ≡ owned_entries ranges)) }
     {
-        PageRangeSnapshot::from_owned(alloc, iter.into_iter().collect(alloc)?)
+        Ok(PageRangeSnapshot {
+            ranges: iter.into_iter().collect(alloc)?,
+        })
     }
 }
 
