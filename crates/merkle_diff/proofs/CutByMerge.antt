@@ -9,7 +9,7 @@ use Rattle.key_order.specs.Order.{Upto, Below, Same, AnyByRecursion, below}
 use Rattle.merkle_diff.proofs.Cuts.{left-ordered}
 use Rattle.merkle_diff.proofs.Each.{any-map, any-with, each-with, each-mapped, any-get, any-left, any-right, any-split, any-unmapped}
 use Rattle.merkle_diff.proofs.Merged.{merge-to, merge-from, merge-is_apart, merge-is_ordered, merge-holds}
-use Rattle.merkle_diff.proofs.Tests.{same_trans, meets_by, not_meets}
+use Rattle.merkle_diff.proofs.OrderTests.{same_trans, meets_by, not_meets}
 use Rattle.merkle_diff.specs.Cut.{IsExactCut, piece, cut_one, pieces_left}
 use Rattle.merkle_diff.specs.Merge.{AreThose, IsMerge}
 

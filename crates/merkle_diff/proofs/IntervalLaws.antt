@@ -18,7 +18,7 @@ use Rattle.merkle_diff.proofs.Cuts.{Bounds, cut-out, cut-ordered, left-bounds, m
 use Rattle.merkle_diff.proofs.Walks.{span_marked, walk_marks}
 use Rattle.merkle_diff.proofs.EachMark.{walk-each, each-bad, each-good}
 use Rattle.merkle_diff.proofs.Each.{any-map, each-with, each-both, any-get, each-before, each-behind, every-in}
-use Rattle.merkle_diff.proofs.Tests.{by_upto, by_above, same_trans, same-self, to_upto, not_upto, to_within, not_within, within_self}
+use Rattle.merkle_diff.proofs.OrderTests.{by_upto, by_above, same_trans, same-self, to_upto, not_upto, to_within, not_within, within_self}
 
 module _ {K : Type 0} (cmp : K → K → Ordering) (o : IsTotalOrder cmp) where
   pub none-merge : (m : List (Span K)) → IsMerge cmp [] m → m ≡ []

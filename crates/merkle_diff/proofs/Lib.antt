@@ -1,6 +1,6 @@
 pub mod Each
 pub mod Slices
-pub mod Tests
+pub mod OrderTests
 pub mod Queues
 pub mod Merges
 pub mod Ranges

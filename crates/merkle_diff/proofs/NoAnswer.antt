@@ -16,7 +16,7 @@ use Rattle.merkle_diff.specs.Turn.{may_answer, head_may_answer, HeadsMayAnswer}
 use Rattle.merkle_diff.specs.Difference.{IsByWalk, MayAnswer}
 use Rattle.key_order.proofs.Orders.{either, low_up, low_is_up}
 use Rattle.merkle_diff.proofs.Queues.{front_of, Drains-from}
-use Rattle.merkle_diff.proofs.Tests.{both, or-left, or-right, or-either, not_upto, to_within, within_self, within_by}
+use Rattle.merkle_diff.proofs.OrderTests.{both, or-left, or-right, or-either, not_upto, to_within, within_self, within_by}
 
 none-merged : {K : Type 0} (cmp : K → K → Ordering) → IsMerge cmp [] []
 none-merged cmp = record { starts = record { ascends = tt; sound = tt; complete = tt }; ends = record { ascends = tt; sound = tt; complete = tt } }

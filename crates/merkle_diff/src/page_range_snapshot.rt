@@ -56,8 +56,9 @@ impl<K: Ord + Drop> PageRangeSnapshot<K> {
         ensures { IfOk result (λ snapshot. (ranges : _) × Gives T.into_iter_gives T.IntoIter.next_gives iter ranges
             × (snapshot_entries snapshot ≡ owned_entries ranges)) }
     {
-        let ranges = iter.into_iter().collect(alloc)?;
-        Ok(PageRangeSnapshot { ranges })
+        Ok(PageRangeSnapshot {
+            ranges: iter.into_iter().collect(alloc)?,
+        })
     }
 }
 
@@ -89,7 +90,7 @@ impl<K: Ord + Clone> PageRangeSnapshot<K> {
         'clones: for range in iter {
             ranges.push(OwnedPageRange::from_range(alloc, range)?)?;
         }
-        Ok(PageRangeSnapshot { ranges })
+        PageRangeSnapshot::from_owned(alloc, ranges)
     }
 
     /// An equal snapshot, with clones of the keys. The answer is `AllocError` where memory is refused.
@@ -136,7 +137,7 @@ impl<'a, K: Ord> Iterator for SnapshotIter<'a, K> {
     }
 
     fn size_hint(&self) -> (usize, Option<usize>) {
-        let len = self.rest.len();
+        let len = self.len();
         (len, Some(len))
     }
 }
