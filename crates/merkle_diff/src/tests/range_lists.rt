@@ -1,7 +1,7 @@
 //! Range lists and cuts, by answers that were worked out by hand.
-use super::texts::{bounds_of, ranges, Bounds};
-use crate::parts::{reduce_sync_range, DiffListBuilder, RangeList};
+use super::texts::{Bounds, bounds_of, ranges};
 use crate::DiffRange;
+use crate::parts::{DiffListBuilder, RangeList, reduce_sync_range};
 use std::alloc::{AllocError, Global};
 use std::test::Fail;
 
@@ -40,7 +40,11 @@ fn merges_as_worked_out(rt: HostRuntime) -> Result<(), Fail> {
         let (list, merge) = line.split_once('|').ok_or("no merge")?;
         let list = ranges(rt.alloc(), list)?;
         let merged = inserted(rt.alloc(), &list)?.into_vec()?;
-        assert_eq!(rt; bounds_of(rt.alloc(), &merged)?, ranges(rt.alloc(), merge)?, "at {line}");
+        assert_eq!(rt;
+            bounds_of(rt.alloc(), &merged)?,
+            ranges(rt.alloc(), merge)?,
+            "at {line}"
+        );
     }
     Ok(())
 }
@@ -97,6 +101,22 @@ fn built(alloc: Global, bad: &[Bounds], good: &[Bounds]) -> Result<Vec<Bounds>, 
     bounds_of(alloc, &builder.into_diff_vec()?)
 }
 
+fn reduced<'a>(
+    alloc: Global,
+    bad: &'a Bounds,
+    good: &'a [Bounds],
+) -> Result<Vec<Bounds>, AllocError> {
+    let mut one = Vec::new(alloc);
+    if bad.0 <= bad.1 {
+        one.push(DiffRange::new(&bad.0, &bad.1))?;
+        return bounds_of(
+            alloc,
+            &reduce_sync_range(alloc, one, diff_ranges(alloc, good)?)?,
+        );
+    }
+    Ok(Vec::new(alloc))
+}
+
 #[test]
 fn cuts_as_worked_out(rt: HostRuntime) -> Result<(), Fail> {
     for line in CUTS.lines() {
@@ -106,11 +126,12 @@ fn cuts_as_worked_out(rt: HostRuntime) -> Result<(), Fail> {
         let good = ranges(rt.alloc(), good)?;
         let left = ranges(rt.alloc(), left)?;
         assert_eq!(rt; built(rt.alloc(), &bad, &good)?, left, "built at {line}");
-        assert!(rt; bad.len() == 1 && bad[0].0 <= bad[0].1);
-        let mut one = Vec::new(rt.alloc());
-        one.push(DiffRange::new(&bad[0].0, &bad[0].1))?;
-        let reduced = reduce_sync_range(rt.alloc(), one, diff_ranges(rt.alloc(), &good)?)?;
-        assert_eq!(rt; bounds_of(rt.alloc(), &reduced)?, left, "reduced at {line}");
+        assert!(rt; bad.len() == 1);
+        assert_eq!(rt;
+            reduced(rt.alloc(), &bad[0], &good)?,
+            left,
+            "reduced at {line}"
+        );
     }
     Ok(())
 }
@@ -119,9 +140,9 @@ fn cuts_as_worked_out(rt: HostRuntime) -> Result<(), Fail> {
 fn cuts_100_000_good_ranges_out_of_one(rt: HostRuntime) -> Result<(), Fail> {
     let mut good = Vec::with_capacity(rt.alloc(), 100_000)?;
     for i in 0..100_000u64 {
-        good.push((3 * i + 1, 3 * i + 2))?;
+        good.push((2 * i + 1, 2 * i + 2))?;
     }
-    let left = built(rt.alloc(), &[(0, 300_000)], &good)?;
+    let left = built(rt.alloc(), &[(0, 200_001)], &good)?;
     assert_eq!(rt; left.len(), 100_001);
     for (i, range) in left.iter().enumerate() {
         assert_eq!(rt; range.1.checked_sub(range.0), Some(1), "at {i}");
@@ -131,7 +152,18 @@ fn cuts_100_000_good_ranges_out_of_one(rt: HostRuntime) -> Result<(), Fail> {
 
 /// Ranges no two of which meet, in ascending order.
 const APART: [Bounds; 12] = [
-    (0, 1), (3, 4), (6, 7), (9, 10), (12, 13), (15, 16), (18, 19), (21, 22), (24, 25), (27, 28), (30, 31), (33, 34),
+    (0, 1),
+    (3, 4),
+    (6, 7),
+    (9, 10),
+    (12, 13),
+    (15, 16),
+    (18, 19),
+    (21, 22),
+    (24, 25),
+    (27, 28),
+    (30, 31),
+    (33, 34),
 ];
 
 /// Whether `merged` is the ranges of `APART` that were accepted.
@@ -140,7 +172,8 @@ fn is_accepted(merged: &[DiffRange<'_, u64>], accepted: &[bool; 12]) -> bool {
     let mut is_same = true;
     for (range, is_accepted) in APART.iter().zip(accepted) {
         if *is_accepted {
-            is_same = is_same && left.next().map(|found| (*found.start(), *found.end())) == Some(*range);
+            is_same = is_same
+                && left.next().map(|found| (*found.start(), *found.end())) == Some(*range);
         }
     }
     is_same && left.next().is_none()
