@@ -32,7 +32,7 @@ module _ {K : Type 0} (cmp : K → K → Ordering) (o : IsTotalOrder cmp) where
   pub no-found : (bad good found : List (Span K)) → IsMerge cmp [] bad → IsExactCut cmp bad good found → found ≡ []
   no-found bad good found m c = none-merge found (subst (λ xs. IsMerge cmp xs found) (ap (λ xs. pieces_left cmp xs good) (none-merge bad m) ∙ no-pieces good) c)
 
-  spans-trans : (xs ys zs : List (Span K)) → SameSpans cmp xs ys → SameSpans cmp ys zs → SameSpans cmp xs zs
+  pub spans-trans : (xs ys zs : List (Span K)) → SameSpans cmp xs ys → SameSpans cmp ys zs → SameSpans cmp xs zs
   spans-trans [] [] zs h k = k
   spans-trans [] (y ∷ ys) zs h k = absurd h
   spans-trans (x ∷ xs) [] zs h k = absurd h
@@ -128,7 +128,7 @@ module _ {K D : Type 0} (cmp : K → K → Ordering) (o : IsTotalOrder cmp) wher
     each-with (λ x. IsBoundOfEntry cmp es x.first × IsBoundOfEntry cmp es x.last) (λ x. IsBoundOfEntry cmp (e ∷ es) x.first × IsBoundOfEntry cmp (e ∷ es) x.last) es (λ x b. (inr b.0, inr b.1)) (entry-bounds es),
   )
 
-  bound-of_same : (es : List (Entry K D)) (k j : K) → Same cmp k j → IsBoundOfEntry cmp es j → IsBoundOfEntry cmp es k
+  pub bound-of_same : (es : List (Entry K D)) (k j : K) → Same cmp k j → IsBoundOfEntry cmp es j → IsBoundOfEntry cmp es k
   bound-of_same es k j e h = any-map (λ x. Same cmp j x.first ⊎ Same cmp j x.last) (λ x. Same cmp k x.first ⊎ Same cmp k x.last) es one h
     where
       one : (x : Entry K D) → Same cmp j x.first ⊎ Same cmp j x.last → Same cmp k x.first ⊎ Same cmp k x.last

@@ -17,6 +17,7 @@ pub mod Turns
 pub mod Loops
 pub mod IntervalLaws
 pub mod TreeLaws
+pub mod SameAnswers
 pub mod FromWalk
 pub mod NoAnswer
 pub mod CutByMerge
