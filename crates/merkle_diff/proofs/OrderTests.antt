@@ -5,8 +5,8 @@ use Rattle.std.specs.Ordering.{is_gt, is_eq}
 use Rattle.std.specs.declared.cmp.Ordering.{Ordering}
 use Rattle.std.specs.declared.cmp.Ordering.TheVariants.{Less, Equal, Greater}
 use Rattle.key_order.specs.Interval.{Span, Meets, IsWithin, SameSpan, meets, is_within, same_span}
-use Rattle.key_order.specs.Order.{Upto, Below, Same, upto, below}
-use Rattle.key_order.proofs.Orders.{turned, either, same_from, up_self}
+use Rattle.key_order.specs.Order.{Upto, Below, Same, upto}
+use Rattle.key_order.proofs.Orders.{turned, same_from, up_self}
 
 pub both : (a b : Bool) → (a && b) ≡ true → (a ≡ true) × (b ≡ true)
 both true b h = (refl, h)

@@ -1,15 +1,21 @@
-//! Cuts out of several ranges, by answers that were worked out by hand, and on long lists.
+//! Cuts, by answers that were worked out by hand, and on long lists.
 ghost use Rattle.std.specs.Prelude.{◌≤◌};
 
-use super::texts::{bounds_of, ranges, Bounds};
-use crate::parts::{reduce_sync_range, DiffListBuilder, RangeList};
+use super::texts::{Bounds, bounds_of, ranges};
 use crate::DiffRange;
+use crate::parts::{DiffListBuilder, RangeList, reduce_sync_range};
 use std::alloc::{AllocError, Global};
 use std::process::Abort;
 use std::test::Fail;
 
 /// A line for each: the bad ranges, the good ones, and what is left.
 const CUTS: &str = "\
+4-10 | 5-8 | 4-5 8-10
+4-10 | 4-6 6-10 |
+4-10 | 4-6 6-8 | 8-10
+4-10 | 5-10 | 4-5
+4-10 | 4-8 | 8-10
+2-15 | 2-2 5-5 15-15 | 2-15
 0-3 5-9 12-20 | 2-6 | 0-2 6-9 12-20
 0-3 5-9 12-20 | 8-13 6-7 1-1 | 0-3 5-6 7-8 13-20
 5-5 7-7 | 5-5 | 7-7
@@ -28,7 +34,11 @@ const CUTS: &str = "\
 const MANY: u64 = 100_000;
 
 /// The good ranges, cut out of the merge of the bad ones.
-fn cut<'a>(alloc: Global, bad: &'a [Bounds], good: &'a [Bounds]) -> Result<Vec<DiffRange<'a, u64>>, AllocError> {
+fn cut<'a>(
+    alloc: Global,
+    bad: &'a [Bounds],
+    good: &'a [Bounds],
+) -> Result<Vec<DiffRange<'a, u64>>, AllocError> {
     let mut merged = RangeList::new(alloc);
     for range in bad {
         if range.0 <= range.1 {
@@ -45,7 +55,11 @@ fn cut<'a>(alloc: Global, bad: &'a [Bounds], good: &'a [Bounds]) -> Result<Vec<D
 }
 
 /// What a builder with these marks answers.
-fn built<'a>(alloc: Global, bad: &'a [Bounds], good: &'a [Bounds]) -> Result<Vec<DiffRange<'a, u64>>, AllocError> {
+fn built<'a>(
+    alloc: Global,
+    bad: &'a [Bounds],
+    good: &'a [Bounds],
+) -> Result<Vec<DiffRange<'a, u64>>, AllocError> {
     let mut builder = DiffListBuilder::new(alloc);
     for range in bad {
         if range.0 <= range.1 {
@@ -61,7 +75,7 @@ fn built<'a>(alloc: Global, bad: &'a [Bounds], good: &'a [Bounds]) -> Result<Vec
 }
 
 #[test]
-fn cuts_several_as_worked_out(rt: HostRuntime) -> Result<(), Fail> {
+fn cuts_as_worked_out(rt: HostRuntime) -> Result<(), Fail> {
     for line in CUTS.lines() {
         let (bad, rest) = line.split_once('|').ok_or("no good ranges")?;
         let (good, left) = rest.split_once('|').ok_or("nothing left")?;
@@ -69,9 +83,17 @@ fn cuts_several_as_worked_out(rt: HostRuntime) -> Result<(), Fail> {
         let good = ranges(rt.alloc(), good)?;
         let left = ranges(rt.alloc(), left)?;
         let found = cut(rt.alloc(), &bad, &good)?;
-        assert_eq!(rt; bounds_of(rt.alloc(), &found)?.as_slice(), left.as_slice(), "at {line}");
+        assert_eq!(rt;
+            bounds_of(rt.alloc(), &found)?.as_slice(),
+            left.as_slice(),
+            "at {line}"
+        );
         let found = built(rt.alloc(), &bad, &good)?;
-        assert_eq!(rt; bounds_of(rt.alloc(), &found)?.as_slice(), left.as_slice(), "built, at {line}");
+        assert_eq!(rt;
+            bounds_of(rt.alloc(), &found)?.as_slice(),
+            left.as_slice(),
+            "built, at {line}"
+        );
     }
     Ok(())
 }
@@ -111,6 +133,25 @@ fn cuts_long_lists(rt: HostRuntime) -> Result<(), Fail> {
     check_spaced(&rt, &built(rt.alloc(), &whole, &good)?, 2, 2);
     check_spaced(&rt, &cut(rt.alloc(), &bad, &good)?, 2, 1);
     check_spaced(&rt, &built(rt.alloc(), &bad, &good)?, 2, 1);
-    assert_eq!(rt; bounds_of(rt.alloc(), &cut(rt.alloc(), &bad, &whole)?)?.len(), 0);
+    assert_eq!(rt;
+        bounds_of(rt.alloc(), &cut(rt.alloc(), &bad, &whole)?)?.len(),
+        0
+    );
     Ok(())
+}
+
+// Under `rt try --test --fail-alloc N` the Nth request for memory is refused: the cut is right, or it is want of memory.
+#[test]
+fn cuts_or_wants_memory(rt: HostRuntime) {
+    let bad = [(4, 10), (20, 30)];
+    let good = [(5, 8), (20, 22)];
+    for found in [cut(rt.alloc(), &bad, &good), built(rt.alloc(), &bad, &good)] {
+        if let Ok(found) = found {
+            let left = [(4, 5), (8, 10), (22, 30)];
+            assert_eq!(rt; found.len(), left.len());
+            for (range, want) in found.iter().zip(left.iter()) {
+                assert_eq!(rt; (*range.start(), *range.end()), *want);
+            }
+        }
+    }
 }
