@@ -1,0 +1,19 @@
+use Rattle.std.proofs.Common.{◌≡◌, ◌≤◌, length, drop, subst, sym, ap, ◌∙◌, arith}
+use Rattle.merkle_diff.specs.Merge.{IsMerge}
+use Rattle.merkle_diff.specs.DiffRange.{spans}
+use Rattle.merkle_diff.specs.Sweep.{swept}
+use Rattle.merkle_diff.proofs.Merges.{swept-merge}
+use Rattle.merkle_diff.proofs.Ranges.{spans-ordered}
+use Rattle.merkle_diff.proofs.Slices.{take-filled}
+use Rattle.merkle_diff.proofs.merge.merge_overlapping.Goals as goal
+
+pub returns : goal.returns
+returns g c =
+    let new = c.merge_to_front-kept.new.ranges in
+    let kept = c.merge_to_front-kept.result in
+    let items = c.args.ranges.now.items in
+    let m = swept-merge g.K.Ord.cmp g.met.K.Ord.total (spans items) c.requires (spans-ordered items) in
+    let short : kept ≤ length new = omega arith in
+    let long : length new ≡ c.args.ranges.now.len = omega arith in
+    let e = c.truncate.ensures.items ∙ take-filled kept c.args.ranges.now.len new (drop (length new) items) short long in
+    subst (IsMerge g.K.Ord.cmp (spans items)) (ap (λ xs. swept g.K.Ord.cmp (spans xs)) (sym c.as_mut_slice.ensures.value) ∙ (sym c.merge_to_front-kept.ensures.merged ∙ sym (ap spans e))) m

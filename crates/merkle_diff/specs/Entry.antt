@@ -1,0 +1,17 @@
+-- Entries of a list of page ranges.
+use Rattle.std.specs.declared.cmp.Ordering.{Ordering}
+use Rattle.key_order.specs.Interval.{Span, IsWithin}
+
+-- the span of a page, and its digest
+pub record Entry (K D : Type 0) : Type 0 where
+  pub first : K
+  pub last : K
+  pub digest : D
+
+-- the span of an entry
+abbrev pub span_of : {K D : Type 0} → Entry K D → Span K
+span_of e = record { first = e.first; last = e.last }
+
+-- the span of a is within that of b, and b holds a
+abbrev pub EntryWithin : {K D : Type 0} → (K → K → Ordering) → Entry K D → Entry K D → Type 0
+EntryWithin cmp a b = IsWithin cmp (span_of a) (span_of b)

@@ -1,0 +1,21 @@
+-- An iterator with its next item.
+use Rattle.std.specs.Prelude.{◌≡◌, List, [], ◌∷◌, ◌+◌, ℕ, IfSome, Option, Some, None}
+use Rattle.std.specs.Iterator.{Count, IsFinite, size}
+use Rattle.merkle_diff.specs.declared.lookahead.Lookahead.{Lookahead}
+
+-- where an item stands ahead, the iterator may be called on, and ends
+abbrev pub CanGoOn : {I X : Type 0} → (I → Type 0) → (I → Count) → Lookahead I X → Type 0
+CanGoOn can left q = IfSome q.head (λ _. can q.rest × IsFinite (left q.rest))
+
+abbrev left_by : {X : Type 0} → Option X → ℕ → ℕ
+left_by None n = 0
+left_by (Some _) n = n + 1
+
+-- no more items than this are left
+abbrev pub left_of : {I X : Type 0} → (I → Count) → Lookahead I X → ℕ
+left_of left q = left_by q.head (size (left q.rest))
+
+-- the items `xs` come, the head first, and then the end
+abbrev pub Leaves : {I X : Type 0} → (I → Option X → I → Type 0) → Lookahead I X → List X → Type 0
+Leaves steps q [] = q.head ≡ None
+Leaves {I} {X} steps q (x ∷ xs) = (q.head ≡ Some x) × (next : Lookahead I X) × steps q.rest next.head next.rest × Leaves steps next xs

@@ -1,0 +1,65 @@
+//! Ranges of keys that are known to differ or to agree become the list of ranges to ask for.
+ghost use Rattle.std.specs.Prelude.{◌≡◌, ◌≢◌, [], ◌∷◌, ◌++◌, OnOk, OnErr, IfOk};
+ghost use Rattle.key_order.specs.Order.{Upto};
+
+use crate::diff_range::DiffRange;
+use crate::range_list::RangeList;
+use crate::reduce::cut_apart;
+use std::alloc::{AllocError, Global};
+
+/// Ranges of keys that are known to be inconsistent, and ranges that are known to be consistent. A key strictly inside a consistent
+/// range is not asked for, whatever else is known of it.
+#[derive(Drop)]
+pub struct DiffListBuilder<'a, K: Ord> {
+    inconsistent: RangeList<'a, K>,
+    consistent: RangeList<'a, K>,
+    alloc: Global,
+}
+
+impl<'a, K: Ord> DiffListBuilder<'a, K> {
+    ghost use Rattle.merkle_diff.specs.DiffListBuilder.{inconsistent_spans, consistent_spans, IsDiffList};
+    ghost use Rattle.merkle_diff.specs.DiffRange.{spans};
+
+    /// A builder with no ranges, which will take its memory from `alloc`.
+    pub fn new(alloc: Global) -> DiffListBuilder<'a, K>
+        ensures inconsistent { inconsistent_spans result ≡ [] }
+        ensures consistent { consistent_spans result ≡ [] }
+    {
+        DiffListBuilder {
+            inconsistent: RangeList::new(alloc),
+            consistent: RangeList::new(alloc),
+            alloc,
+        }
+    }
+
+    /// Marks the range from `start` to `end` inconsistent. Where memory is refused, the builder stays as it was.
+    pub fn inconsistent(&mut self, start: &'a K, end: &'a K) -> Result<(), AllocError>
+        requires { Upto K.cmp start.now end.now }
+        ensures ok { OnOk result (inconsistent_spans self.new ≡ inconsistent_spans self.old ++ record { first = start.now; last = end.now } ∷ []) }
+        ensures err { OnErr result (inconsistent_spans self.new ≡ inconsistent_spans self.old) }
+        ensures same { consistent_spans self.new ≡ consistent_spans self.old }
+    {
+        self.inconsistent.insert(start, end)
+    }
+
+    /// Marks the range from `start` to `end` consistent. Where memory is refused, the builder stays as it was.
+    pub fn consistent(&mut self, start: &'a K, end: &'a K) -> Result<(), AllocError>
+        requires { Upto K.cmp start.now end.now }
+        ensures ok { OnOk result (consistent_spans self.new ≡ consistent_spans self.old ++ record { first = start.now; last = end.now } ∷ []) }
+        ensures err { OnErr result (consistent_spans self.new ≡ consistent_spans self.old) }
+        ensures same { inconsistent_spans self.new ≡ inconsistent_spans self.old }
+    {
+        self.consistent.insert(start, end)
+    }
+
+    /// The ranges to ask for: the merge of the consistent ranges cut out of the merge of the inconsistent ones. They ascend, and no
+    /// two meet. Memory is taken only where ranges of both kinds were marked. Where it is refused, the builder is given up.
+    pub fn into_diff_vec(self) -> Result<Vec<DiffRange<'a, K>>, AllocError>
+        ensures cut { IfOk result (λ found. IsDiffList K.cmp (inconsistent_spans self.entry) (consistent_spans self.entry) (spans found.items)) }
+        ensures memory { OnErr result ((inconsistent_spans self.entry ≢ []) × (consistent_spans self.entry ≢ [])) }
+    {
+        let bad = self.inconsistent.into_vec()?;
+        let good = self.consistent.into_vec()?;
+        cut_apart(self.alloc, bad, &good)
+    }
+}

@@ -1,0 +1,95 @@
+//! The ranges in which a local and a peer list of page ranges differ.
+ghost use Rattle.std.specs.Iterator.{IsFiniteIterable};
+ghost use Rattle.std.specs.Prelude.{[], ◌∷◌, ◌⊎◌, IfOk, OnErr};
+ghost use Rattle.merkle_diff.specs.DiffRange.{spans};
+ghost use Rattle.merkle_diff.specs.Difference.{IsDifference, SparesAgreed, IsByWalk, MayAnswer};
+ghost use Rattle.merkle_diff.specs.Iterable.{Gives, Begins};
+ghost use Rattle.merkle_diff.specs.Lookahead.{CanGoOn, Leaves};
+ghost use Rattle.merkle_diff.specs.PageRange.{entry, entries};
+ghost use Rattle.merkle_diff.specs.TreeShape.{IsTreeShaped};
+ghost use Rattle.merkle_diff.specs.Turn.{HeadsMayAnswer};
+
+use crate::diff_range::DiffRange;
+use crate::lookahead::{Lookahead, drain, look_ahead};
+use crate::merge::merged;
+use crate::page_range::PageRange;
+use crate::reduce::cut_apart;
+use crate::walk::{may_answer, walked};
+use std::alloc::{AllocError, Global};
+
+/// The ranges of keys that `local` may ask of `peer`, so that its keys become the peer's too. Both are taken to their end, unless
+/// memory is refused.
+///
+/// The page ranges may be any, nested, equal, crossing or unordered. No memory is taken where the peer has no page range, or
+/// where its first begins and ends behind local's first, or is within it and not equal to it: then there is nothing to ask for.
+pub fn diff<'p, T, U, K>(
+    alloc: Global,
+    local: T,
+    peer: U,
+) -> Result<Vec<DiffRange<'p, K>>, AllocError>
+where
+    K: Ord + 'p,
+    T: IntoIterator<Item = PageRange<'p, K>>,
+    U: IntoIterator<Item = PageRange<'p, K>>,
+    requires local_ends { IsFiniteIterable T.into_iter_gives T.IntoIter.can_next T.IntoIter.remaining local }
+    requires peer_ends { IsFiniteIterable U.into_iter_gives U.IntoIter.can_next U.IntoIter.remaining peer }
+
+    // On any two lists.
+    ensures interval_laws { IfOk result (λ found. (ls : _) × (ps : _)
+        × Gives T.into_iter_gives T.IntoIter.next_gives local ls × Gives U.into_iter_gives U.IntoIter.next_gives peer ps
+        × IsDifference K.cmp (entries ls) (entries ps) (spans found.items)) }
+
+    // On two lists in the shape of trees.
+    ensures laws_on_trees { IfOk result (λ found. (ls : _) × (ps : _)
+        × Gives T.into_iter_gives T.IntoIter.next_gives local ls × Gives U.into_iter_gives U.IntoIter.next_gives peer ps
+        × (IsTreeShaped K.cmp (entries ls) → IsTreeShaped K.cmp (entries ps) → SparesAgreed K.cmp (entries ls) (entries ps) (spans found.items))) }
+
+    // On any two lists, which fixes the answer up to equality of keys.
+    ensures exact_walk { IfOk result (λ found. (ls : _) × (ps : _)
+        × Gives T.into_iter_gives T.IntoIter.next_gives local ls × Gives U.into_iter_gives U.IntoIter.next_gives peer ps
+        × IsByWalk K.cmp (entries ls) (entries ps) (spans found.items)) }
+
+    // It is refused only where local is empty, or the first entries are such that a range may be answered.
+    ensures memory { OnErr result ((b : _) × Begins U.into_iter_gives U.IntoIter.next_gives peer (b ∷ [])
+        × (Gives T.into_iter_gives T.IntoIter.next_gives local []
+        ⊎ ((a : _) × Begins T.into_iter_gives T.IntoIter.next_gives local (a ∷ []) × MayAnswer K.cmp (entry a) (entry b)))) }
+{
+    differences(
+        alloc,
+        look_ahead(local.into_iter()),
+        look_ahead(peer.into_iter()),
+    )
+}
+
+/// `diff` of what two queues leave.
+fn differences<'p, I, J, K>(
+    alloc: Global,
+    locals: Lookahead<I, PageRange<'p, K>>,
+    peers: Lookahead<J, PageRange<'p, K>>,
+) -> Result<Vec<DiffRange<'p, K>>, AllocError>
+where
+    K: Ord + 'p,
+    I: Iterator<Item = PageRange<'p, K>>,
+    J: Iterator<Item = PageRange<'p, K>>,
+    requires locals { CanGoOn I.can_next I.remaining locals }
+    requires peers { CanGoOn J.can_next J.remaining peers }
+    ensures ok { IfOk result (λ found. (ls : _) × (ps : _) × Leaves I.next_gives locals.entry ls × Leaves J.next_gives peers.entry ps
+        × IsByWalk K.cmp (entries ls) (entries ps) (spans found.items)) }
+    ensures err { OnErr result (HeadsMayAnswer K.cmp locals.entry.head peers.entry.head) }
+{
+    let Some(first) = &peers.head else {
+        drain(locals);
+        drain(peers);
+        return Ok(Vec::new(alloc));
+    };
+    let outer = first.range();
+    if !may_answer(&locals, &outer) {
+        drain(locals);
+        drain(peers);
+        return Ok(Vec::new(alloc));
+    }
+    let marks = walked(alloc, outer, locals, peers)?;
+    let bad = merged(marks.bad);
+    let good = merged(marks.good);
+    cut_apart(alloc, bad, &good)
+}

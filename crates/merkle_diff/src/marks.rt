@@ -1,0 +1,30 @@
+//! The ranges that the walk marks.
+ghost use Rattle.std.specs.Prelude.{◌≡◌, ◌++◌, OnOk};
+ghost use Rattle.merkle_diff.specs.DiffRange.{spans};
+ghost use Rattle.merkle_diff.specs.Walk.{bad_of, good_of, gap_mark};
+
+use crate::diff_range::DiffRange;
+use crate::order::is_upto;
+use std::alloc::AllocError;
+
+/// The ranges that the walk marked bad, and those that it marked good, in this order each.
+#[derive(Drop)]
+pub struct Marks<'p, K: Ord> {
+    pub bad: Vec<DiffRange<'p, K>>,
+    pub good: Vec<DiffRange<'p, K>>,
+}
+
+/// Marks the gap from `from` to `end` bad, if there is one.
+pub fn mark_gap<'p, K: Ord>(
+    from: &'p K,
+    end: &'p K,
+    marks: &mut Marks<'p, K>,
+) -> Result<(), AllocError>
+    ensures bad { OnOk result (spans marks.new.bad.items ≡ spans marks.old.bad.items ++ bad_of (gap_mark K.cmp from.entry.now end.entry.now)) }
+    ensures good { OnOk result (spans marks.new.good.items ≡ spans marks.old.good.items ++ good_of (gap_mark K.cmp from.entry.now end.entry.now)) }
+{
+    if is_upto(from, end) {
+        marks.bad.push(DiffRange::new(from, end))?;
+    }
+    Ok(())
+}

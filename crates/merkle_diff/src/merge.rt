@@ -1,0 +1,59 @@
+//! Ranges that meet become one.
+ghost use Rattle.std.specs.Prelude.{◌≡◌, ◌≤◌, length, take, IsPermutation};
+ghost use Rattle.merkle_diff.specs.DiffRange.{spans};
+ghost use Rattle.merkle_diff.specs.Merge.{IsMerge, IsAscendingByStart};
+ghost use Rattle.merkle_diff.specs.Sweep.{swept};
+
+use crate::diff_range::DiffRange;
+use crate::order::{greater_of, is_upto};
+
+/// Merges the ranges to the front, and answers how many there are then.
+fn merge_to_front<'a, K: Ord>(ranges: &mut [DiffRange<'a, K>]) -> usize
+    ensures in_range { result ≤ length ranges.old }
+    ensures merged { spans (take result ranges.new) ≡ swept K.cmp (spans ranges.old) }
+{
+    if ranges.is_empty() {
+        return 0;
+    }
+    let mut last = ranges[0];
+    let mut kept = 0;
+    'sweep: for i in 1..ranges.len() {
+        let range = ranges[i];
+        if is_upto(range.start(), last.end()) {
+            last = DiffRange::new(last.start(), greater_of(last.end(), range.end()));
+        } else {
+            ranges[kept] = last;
+            kept += 1;
+            last = range;
+        }
+    }
+    ranges[kept] = last;
+    kept + 1
+}
+
+/// Merges ranges that ascend by their starts, in place: those that meet become one. It takes no memory.
+pub fn merge_overlapping<'a, K: Ord>(ranges: &mut Vec<DiffRange<'a, K>>)
+    requires { IsAscendingByStart K.cmp (spans ranges.old.items) }
+    ensures { IsMerge K.cmp (spans ranges.old.items) (spans ranges.new.items) }
+{
+    let kept = merge_to_front(ranges.as_mut_slice());
+    ranges.truncate(kept);
+}
+
+/// Sorts the ranges by their starts. It takes no memory.
+fn sort_by_start<'a, K: Ord>(ranges: &mut Vec<DiffRange<'a, K>>)
+    ensures same { IsPermutation ranges.old.items ranges.new.items }
+    ensures sorted { IsAscendingByStart K.cmp (spans ranges.new.items) }
+{
+    ranges.sort_unstable_by_key(|range| range.start);
+}
+
+/// The merge of ranges in any order. It takes no memory.
+pub fn merged<'a, K: Ord>(ranges: Vec<DiffRange<'a, K>>) -> Vec<DiffRange<'a, K>>
+    ensures { IsMerge K.cmp (spans ranges.entry.items) (spans result.items) }
+{
+    let mut sorted = ranges;
+    sort_by_start(&mut sorted);
+    merge_overlapping(&mut sorted);
+    sorted
+}

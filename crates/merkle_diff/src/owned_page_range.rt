@@ -1,0 +1,134 @@
+//! The key ranges of pages, with keys of their own.
+ghost use Rattle.std.proofs.Common.{rules};
+ghost use Rattle.std.specs.Cmp.Rules.{comparing};
+ghost use Rattle.std.specs.Ordering.{on};
+ghost use Rattle.std.specs.Prelude.{◌≡◌, ◌↔◌, IfOk, IfSome, IsOk, IsSome};
+ghost use Rattle.key_order.specs.Order.{Same, Upto};
+
+use crate::page_range::PageRange;
+use merkle_digest::PageDigest;
+use std::alloc::{AllocError, Global};
+
+/// A [`PageRange`] that owns its keys: the span of a page, from the least to the greatest key of its subtree, both in it, and
+/// the page's digest. The least key is at most the greatest, always.
+///
+/// A [`PageRangeSnapshot`](crate::PageRangeSnapshot) is made of such ranges without a clone of any key.
+#[derive(Drop)]
+pub struct OwnedPageRange<K: Ord> {
+    start: K,
+    end: K,
+    hash: PageDigest,
+    ghost ordered: { Upto K.cmp start end },
+}
+
+impl<K: Ord> OwnedPageRange<K> {
+    ghost use Rattle.merkle_diff.specs.OwnedPageRange.{owned_entry};
+    ghost use Rattle.merkle_diff.specs.PageRange.{entry};
+
+    /// The range from `start` to `end` of a page with the digest `hash`.
+    pub fn new(start: K, end: K, hash: PageDigest) -> OwnedPageRange<K>
+        requires { Upto K.cmp start end }
+        ensures { owned_entry result ≡ record { first = start; last = end; digest = hash } }
+    {
+        OwnedPageRange { start, end, hash }
+    }
+
+    /// The least key of the page's subtree.
+    pub fn start(&self) -> &K
+        ensures { result.now ≡ (owned_entry self.now).first }
+    {
+        &self.start
+    }
+
+    /// The greatest key of the page's subtree.
+    pub fn end(&self) -> &K
+        ensures { result.now ≡ (owned_entry self.now).last }
+    {
+        &self.end
+    }
+
+    /// The digest of the page.
+    pub fn hash(&self) -> &PageDigest
+        ensures { result.now ≡ (owned_entry self.now).digest }
+    {
+        &self.hash
+    }
+
+    /// The same range, with the keys borrowed.
+    pub fn as_page_range(&self) -> PageRange<'_, K>
+        ensures { entry result ≡ owned_entry self.now }
+    {
+        PageRange::new(self.start(), self.end(), self.hash.clone().unwrap())
+    }
+}
+
+impl<K: Ord + Drop> OwnedPageRange<K> {
+    ghost use Rattle.merkle_diff.specs.OwnedPageRange.{owned_entry};
+
+    /// The range from `start` to `end` of a page with the digest `hash`, or `None` where `start` is above `end`.
+    pub fn try_new(start: K, end: K, hash: PageDigest) -> Option<OwnedPageRange<K>>
+        ensures in_order { IsSome result ↔ Upto K.cmp start end }
+        ensures range { IfSome result (λ r. owned_entry r ≡ record { first = start; last = end; digest = hash }) }
+    {
+        if start <= end {
+            Some(OwnedPageRange::new(start, end, hash))
+        } else {
+            None
+        }
+    }
+}
+
+impl<K: Ord + Clone> OwnedPageRange<K> {
+    ghost use Rattle.merkle_diff.specs.OwnedPageRange.{owned_entry};
+    ghost use Rattle.merkle_diff.specs.PageRange.{entry};
+    ghost use Rattle.merkle_diff.specs.SameEntries.{SameEntry};
+
+    /// The range with clones of its keys. The answer is `AllocError` where the clone of a key is refused, and only there.
+    ///
+    /// The allocator is not used: a key is cloned on its own.
+    pub fn from_range(
+        _alloc: Global,
+        range: PageRange<'_, K>,
+    ) -> Result<OwnedPageRange<K>, AllocError>
+        requires clones { (a b : K) → K.is_clone a b → Same K.cmp a b }
+        ensures same { IfOk result (λ owned. SameEntry K.cmp (entry range.entry) (owned_entry owned)) }
+        ensures succeeds { K.is_infallible (entry range.entry).first → K.is_infallible (entry range.entry).last → IsOk result }
+    {
+        let start = range.start().clone()?;
+        let end = range.end().clone()?;
+        Ok(OwnedPageRange {
+            start,
+            end,
+            hash: range.into_hash(),
+        })
+    }
+
+    /// An equal range, with clones of the keys. The answer is `AllocError` where the clone of a key is refused, and only there.
+    ///
+    /// The allocator is not used: a key is cloned on its own.
+    pub fn try_clone(&self, alloc: Global) -> Result<OwnedPageRange<K>, AllocError>
+        requires clones { (a b : K) → K.is_clone a b → Same K.cmp a b }
+        ensures same { IfOk result (λ copy. SameEntry K.cmp (owned_entry self.now) (owned_entry copy)) }
+        ensures succeeds { K.is_infallible (owned_entry self.now).first → K.is_infallible (owned_entry self.now).last → IsOk result }
+    {
+        OwnedPageRange::from_range(alloc, self.as_page_range())
+    }
+}
+
+// Ranges are equal where their bounds and digests are.
+impl<K: Ord> PartialEq for OwnedPageRange<K> {
+    ghost use Rattle.merkle_diff.specs.OwnedPageRange.{owned_entry};
+    ghost use Rattle.merkle_diff.specs.SameEntries.{same_entry};
+
+    ghost eq = { on owned_entry (same_entry K.eq ⟦<PageDigest as PartialEq>⟧.eq) };
+
+    ghost laws = { Prim.search (comparing, rules) };
+
+    fn eq(&self, other: &Self) -> bool {
+        self.start == other.start && self.end == other.end && self.hash == other.hash
+    }
+}
+
+impl<K: Ord> Eq for OwnedPageRange<K> {
+    ghost laws = { Prim.search (comparing, rules) };
+}

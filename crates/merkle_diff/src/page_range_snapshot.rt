@@ -1,0 +1,151 @@
+//! Snapshots of page ranges.
+ghost use Rattle.std.proofs.Common.{rules};
+ghost use Rattle.std.specs.Cmp.{on_equiv, on_per};
+ghost use Rattle.std.specs.Cmp.Lexicographic.{lists_equiv, lists_per};
+ghost use Rattle.std.specs.Cmp.Rules.{comparing};
+ghost use Rattle.std.specs.Iterator.{IsFiniteIterable, YieldsFirstBy, item_count};
+ghost use Rattle.std.specs.Ordering.{on};
+ghost use Rattle.std.specs.Prelude.{◌≡◌, IfOk, IsOkAnd};
+ghost use Rattle.key_order.specs.Order.{Same};
+ghost use Rattle.merkle_diff.specs.Iterable.{Gives};
+ghost use Rattle.merkle_diff.specs.OwnedPageRange.{owned_entries};
+ghost use Rattle.merkle_diff.specs.PageRange.{entries, entry};
+ghost use Rattle.merkle_diff.specs.PageRangeSnapshot.{entries_left, snapshot_entries};
+ghost use Rattle.merkle_diff.specs.SameEntries.{SameEntries, same_entries};
+
+use crate::owned_page_range::OwnedPageRange;
+use crate::page_range::PageRange;
+use merkle_digest::PageDigest;
+use std::alloc::{AllocError, Global};
+use std::iter::FusedIterator;
+
+/// The page ranges of a tree at one point in time, with keys of their own: the tree can change while a snapshot of it is kept,
+/// sent to a peer, or compared with another by [`diff`](crate::diff).
+#[derive(Drop)]
+pub struct PageRangeSnapshot<K: Ord> {
+    ranges: Vec<OwnedPageRange<K>>,
+}
+
+impl<K: Ord> PageRangeSnapshot<K> {
+    /// The snapshot of `ranges`, in their order. It moves the keys and takes over the vector, so it never fails and does not use
+    /// the allocator.
+    pub fn from_owned(
+        _alloc: Global,
+        ranges: Vec<OwnedPageRange<K>>,
+    ) -> Result<PageRangeSnapshot<K>, AllocError>
+        ensures { IsOkAnd result (λ snapshot. snapshot_entries snapshot ≡ owned_entries ranges.items) }
+    {
+        Ok(PageRangeSnapshot { ranges })
+    }
+
+    /// The ranges that the snapshot was made from, in order, with their keys borrowed.
+    pub fn iter(&self) -> SnapshotIter<'_, K>
+        ensures { entries_left result ≡ snapshot_entries self.now }
+    {
+        SnapshotIter { rest: &self.ranges }
+    }
+}
+
+impl<K: Ord + Drop> PageRangeSnapshot<K> {
+    /// The snapshot of the ranges that `iter` gives, in their order. The iterator has to end, and is taken to its end unless
+    /// memory is refused: then the answer is `AllocError`. The keys are moved.
+    pub fn collect_owned<T>(alloc: Global, iter: T) -> Result<PageRangeSnapshot<K>, AllocError>
+    where
+        T: IntoIterator<Item = OwnedPageRange<K>>,
+        requires ends { IsFiniteIterable T.into_iter_gives T.IntoIter.can_next T.IntoIter.remaining iter }
+        ensures { IfOk result (λ snapshot. (ranges : _) × Gives T.into_iter_gives T.IntoIter.next_gives iter ranges
+            × (snapshot_entries snapshot ≡ owned_entries ranges)) }
+    {
+        Ok(PageRangeSnapshot {
+            ranges: iter.into_iter().collect(alloc)?,
+        })
+    }
+}
+
+impl<K: Ord + Clone> PageRangeSnapshot<K> {
+    /// The snapshot of `ranges`, in their order, with clones of the keys. The answer is `AllocError` where memory is refused.
+    pub fn from_ranges(
+        alloc: Global,
+        ranges: Vec<PageRange<'_, K>>,
+    ) -> Result<PageRangeSnapshot<K>, AllocError>
+        requires clones { (a b : K) → K.is_clone a b → Same K.cmp a b }
+        ensures { IfOk result (λ snapshot. SameEntries K.cmp (entries ranges.entry.items) (snapshot_entries snapshot)) }
+    {
+        PageRangeSnapshot::collect_ranges(alloc, ranges)
+    }
+
+    /// The snapshot of the ranges that `iter` gives, in their order, with clones of the keys. The iterator has to end, and is
+    /// taken to its end unless memory is refused: then the answer is `AllocError`.
+    pub fn collect_ranges<'a, T>(alloc: Global, iter: T) -> Result<PageRangeSnapshot<K>, AllocError>
+    where
+        K: 'a,
+        T: IntoIterator<Item = PageRange<'a, K>>,
+        requires clones { (a b : K) → K.is_clone a b → Same K.cmp a b }
+        requires ends { IsFiniteIterable T.into_iter_gives T.IntoIter.can_next T.IntoIter.remaining iter }
+        ensures { IfOk result (λ snapshot. (ranges : _) × Gives T.into_iter_gives T.IntoIter.next_gives iter ranges
+            × SameEntries K.cmp (entries ranges) (snapshot_entries snapshot)) }
+    {
+        let iter = iter.into_iter();
+        let mut ranges = Vec::with_capacity(alloc, iter.size_hint().0)?;
+        'clones: for range in iter {
+            ranges.push(OwnedPageRange::from_range(alloc, range)?)?;
+        }
+        PageRangeSnapshot::from_owned(alloc, ranges)
+    }
+
+    /// An equal snapshot, with clones of the keys. The answer is `AllocError` where memory is refused.
+    pub fn try_clone(&self, alloc: Global) -> Result<PageRangeSnapshot<K>, AllocError>
+        requires clones { (a b : K) → K.is_clone a b → Same K.cmp a b }
+        ensures { IfOk result (λ copy. SameEntries K.cmp (snapshot_entries self.now) (snapshot_entries copy)) }
+    {
+        PageRangeSnapshot::collect_ranges(alloc, self.iter())
+    }
+}
+
+// Snapshots are equal where they have as many ranges, and these are equal place by place.
+impl<K: Ord> PartialEq for PageRangeSnapshot<K> {
+    ghost eq = { on snapshot_entries (same_entries K.eq ⟦<PageDigest as PartialEq>⟧.eq) };
+
+    ghost laws = { on_per snapshot_entries (lists_per (Prim.search (comparing, rules))) };
+
+    fn eq(&self, other: &Self) -> bool {
+        self.ranges == other.ranges
+    }
+}
+
+impl<K: Ord> Eq for PageRangeSnapshot<K> {
+    ghost laws = { on_equiv snapshot_entries (lists_equiv (Prim.search (comparing, rules))) };
+}
+
+/// The ranges of a [`PageRangeSnapshot`] that are still to come, in order. It takes no memory.
+#[derive(Drop)]
+pub struct SnapshotIter<'a, K: Ord> {
+    rest: &'a [OwnedPageRange<K>],
+}
+
+impl<'a, K: Ord> Iterator for SnapshotIter<'a, K> {
+    type Item = PageRange<'a, K>;
+
+    ghost next_gives = { YieldsFirstBy entry entries_left };
+
+    ghost remaining = { item_count entries_left };
+
+    fn next(&mut self) -> Option<PageRange<'a, K>> {
+        let (first, rest) = self.rest.split_first()?;
+        self.rest = rest;
+        Some(first.as_page_range())
+    }
+
+    fn size_hint(&self) -> (usize, Option<usize>) {
+        let len = self.len();
+        (len, Some(len))
+    }
+}
+
+impl<'a, K: Ord> ExactSizeIterator for SnapshotIter<'a, K> {
+    fn len(&self) -> usize {
+        self.rest.len()
+    }
+}
+
+impl<'a, K: Ord> FusedIterator for SnapshotIter<'a, K> {}

@@ -1,0 +1,48 @@
+//! Ranges in any order.
+ghost use Rattle.std.specs.Prelude.{◌≡◌, [], ◌∷◌, ◌++◌, OnOk, OnErr, IsOkAnd};
+ghost use Rattle.key_order.specs.Interval.{IsApart};
+ghost use Rattle.key_order.specs.Order.{Upto};
+
+use crate::diff_range::DiffRange;
+use crate::merge::merged;
+use std::alloc::{AllocError, Global};
+
+/// Ranges in any order, which become one list of ranges that don't meet.
+#[derive(Drop)]
+pub struct RangeList<'a, K: Ord> {
+    ranges: Vec<DiffRange<'a, K>>,
+}
+
+impl<'a, K: Ord> RangeList<'a, K> {
+    ghost use Rattle.merkle_diff.specs.DiffRange.{spans};
+    ghost use Rattle.merkle_diff.specs.Merge.{IsMerge};
+    ghost use Rattle.merkle_diff.specs.RangeList.{inserted};
+
+    /// The empty list, which will take its memory from `alloc`.
+    pub fn new(alloc: Global) -> RangeList<'a, K>
+        ensures { inserted result ≡ [] }
+    {
+        RangeList {
+            ranges: Vec::new(alloc),
+        }
+    }
+
+    /// Inserts the range from `start` to `end`. Where memory is refused, the list stays as it was.
+    pub fn insert(&mut self, start: &'a K, end: &'a K) -> Result<(), AllocError>
+        requires { Upto K.cmp start.now end.now }
+        ensures ok { OnOk result (inserted self.new ≡ inserted self.old ++ record { first = start.now; last = end.now } ∷ []) }
+        ensures err { OnErr result (inserted self.new ≡ inserted self.old) }
+    {
+        self.ranges.push(DiffRange::new(start, end))?;
+        Ok(())
+    }
+
+    /// The merge of the ranges: ascending, those that meet as one, so that no two of the answer meet. It takes no memory, and always
+    /// succeeds.
+    pub fn into_vec(self) -> Result<Vec<DiffRange<'a, K>>, AllocError>
+        ensures merged { IsOkAnd result (λ ranges. IsMerge K.cmp (inserted self.entry) (spans ranges.items)) }
+        ensures apart { IsOkAnd result (λ ranges. IsApart K.cmp (spans ranges.items)) }
+    {
+        Ok(merged(self.ranges))
+    }
+}

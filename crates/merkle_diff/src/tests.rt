@@ -1,0 +1,7 @@
+mod cuts;
+mod differences;
+mod page_ranges;
+mod range_lists;
+mod rust_answers;
+mod snapshots;
+mod texts;

@@ -1,0 +1,130 @@
+//! `diff`, by answers that were worked out by hand and by those of the Rust crate.
+use super::rust_answers::RUST_ANSWERS;
+use super::texts::{Row, difference, ranges, rows};
+use crate::{PageRange, diff};
+use merkle_digest::PageDigest;
+use std::alloc::{AllocError, Global};
+use std::process::Abort;
+use std::test::Fail;
+
+/// A line for each: the local list, the peer's list, and the ranges.
+const WORKED_ANSWERS: &str = "\
+3-7:1 | 1-5:2 | 1-3
+5-9:1 | 1-3:2 | 1-3
+5-9:1 | 1-5:2 | 1-5
+1-5:1 | 3-7:2 |
+5-5:1 | 5-5:1 |
+5-5:1 | 5-5:2 | 5-5
+1-4:1 1-2:2 4-4:3 | 1-5:4 1-2:2 5-5:5 | 2-5
+2-15:1 2-6:2 2-2:3 5-5:4 15-15:5 | 2-15:1 2-6:2 2-2:3 5-5:4 15-15:5 |
+2-15:1 2-6:2 2-2:3 5-5:4 15-15:5 | 2-11:42 2-6:2 2-2:3 5-5:4 |
+0-10:9 2-6:2 4-8:3 | 0-10:1 2-6:2 4-8:3 | 0-2 8-10
+0-10:3 2-6:4 | 0-10:1 4-12:2 | 0-10
+0-10:8 1-3:3 7-9:2 | 0-10:1 7-9:2 1-3:3 | 0-10
+0-10:7 5-6:2 3-4:4 | 0-10:1 5-6:2 8-9:3 | 0-5 6-10
+";
+
+fn answers_as_told(rt: &impl Abort, alloc: Global, text: &str) -> Result<(), Fail> {
+    for line in text.lines() {
+        let (local, rest) = line.split_once('|').ok_or("no peer")?;
+        let (peer, answer) = rest.split_once('|').ok_or("no answer")?;
+        let local = rows(alloc, local)?;
+        let peer = rows(alloc, peer)?;
+        let answer = ranges(alloc, answer)?;
+        let found = difference(alloc, &local, &peer)?;
+        assert_eq!(rt; found.as_slice(), answer.as_slice(), "at {line}");
+    }
+    Ok(())
+}
+
+#[test]
+fn answers_as_worked_out(rt: HostRuntime) -> Result<(), Fail> {
+    assert_eq!(rt; WORKED_ANSWERS.lines().count(), 13);
+    answers_as_told(&rt, rt.alloc(), WORKED_ANSWERS)
+}
+
+#[test]
+fn answers_as_the_rust_crate(rt: HostRuntime) -> Result<(), Fail> {
+    assert_eq!(rt; RUST_ANSWERS.lines().count(), 120);
+    answers_as_told(&rt, rt.alloc(), RUST_ANSWERS)
+}
+
+/// The page ranges from `i` to `200000 - i` for `i` from 0 to 99,999, all with this digest.
+fn nested(alloc: Global, digest: u8) -> Result<Vec<Row>, AllocError> {
+    let mut rows = Vec::with_capacity(alloc, 100_000)?;
+    for i in 0..100_000u64 {
+        rows.push((i, 200_000 - i, digest))?;
+    }
+    Ok(rows)
+}
+
+#[test]
+fn answers_on_100_000_nested_ranges(rt: HostRuntime) -> Result<(), Fail> {
+    let peer = nested(rt.alloc(), 1)?;
+    let other = difference(rt.alloc(), &nested(rt.alloc(), 2)?, &peer)?;
+    assert_eq!(rt; other.as_slice(), [(0, 200_000)].as_slice());
+    assert!(rt; difference(rt.alloc(), &peer, &peer)?.is_empty());
+    Ok(())
+}
+
+/// As many times the page range from 0 to 9, with this digest.
+fn equal(alloc: Global, digest: u8, count: usize) -> Result<Vec<Row>, AllocError> {
+    let mut rows = Vec::with_capacity(alloc, count)?;
+    for _ in 0..count {
+        rows.push((0, 9, digest))?;
+    }
+    Ok(rows)
+}
+
+#[test]
+fn answers_on_100_000_equal_ranges(rt: HostRuntime) -> Result<(), Fail> {
+    let peer = equal(rt.alloc(), 1, 100_000)?;
+    for count in [1, 100_000] {
+        let found = difference(rt.alloc(), &equal(rt.alloc(), 2, count)?, &peer)?;
+        assert_eq!(rt;
+            found.as_slice(),
+            [(0, 9)].as_slice(),
+            "{count} local ranges"
+        );
+    }
+    Ok(())
+}
+
+// Under `rt try --test --fail-alloc N` the Nth request for memory is refused: the answer is right, or it is want of memory.
+#[test]
+fn answers_or_wants_memory(rt: HostRuntime) {
+    for (local, peer, answer) in [
+        (
+            &[(1, 4, 1), (1, 2, 2), (4, 4, 3)],
+            &[(1, 5, 4), (1, 2, 2), (5, 5, 5)],
+            &[(2, 5)][..],
+        ),
+        (
+            &[(0, 10, 9), (2, 6, 2), (4, 8, 3)],
+            &[(0, 10, 1), (2, 6, 2), (4, 8, 3)],
+            &[(0, 2), (8, 10)][..],
+        ),
+    ] {
+        if let Ok(found) = difference(rt.alloc(), local, peer) {
+            assert_eq!(rt; found.as_slice(), answer);
+        }
+    }
+}
+
+fn page<'a>(start: &'a u64, end: &'a u64) -> Option<PageRange<'a, u64>> {
+    PageRange::try_new(start, end, PageDigest::new([1; 16]))
+}
+
+// So it does with every request for memory refused.
+#[test]
+fn nothing_to_ask_for_takes_no_memory(rt: HostRuntime) -> Result<(), Fail> {
+    for (local, peer) in [
+        (page(&1, &5), None),
+        (page(&1, &5), page(&3, &7)),
+        (page(&2, &8), page(&3, &7)),
+        (page(&2, &8), page(&2, &7)),
+    ] {
+        assert!(rt; diff(rt.alloc(), local, peer)?.is_empty());
+    }
+    Ok(())
+}

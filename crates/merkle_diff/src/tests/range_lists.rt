@@ -1,0 +1,126 @@
+//! Range lists, by answers that were worked out by hand.
+use super::texts::{Bounds, bounds_of, ranges};
+use crate::DiffRange;
+use crate::parts::{DiffListBuilder, RangeList};
+use std::alloc::{AllocError, Global};
+use std::test::Fail;
+
+/// A line for each: the ranges that are inserted, and what they become.
+const MERGES: &str = "\
+0-0 4-4 1-4 | 0-0 1-4
+0-2 2-42 | 0-42
+2-8 3-9 | 2-9
+1-5 2-5 | 1-5
+2-5 1-5 | 1-5
+2-5 2-8 | 2-8
+2-8 2-5 | 2-8
+2-8 1-10 | 1-10
+2-8 3-4 | 2-8
+2-8 1-7 | 1-8
+0-1 2-4 0-3 | 0-4
+0-1 2-4 0-2 | 0-4
+1-2 15-42 | 1-2 15-42
+2-15 2-6 2-6 | 2-15
+0-2011493307964271930 3767576750200716450-3767576750200719913 3767576750200716450-3767576750200719913 2011500329124980022-3767576750200716450 | 0-2011493307964271930 2011500329124980022-3767576750200719913
+";
+
+fn inserted<'a>(alloc: Global, ranges: &'a [Bounds]) -> Result<RangeList<'a, u64>, AllocError> {
+    let mut list = RangeList::new(alloc);
+    for range in ranges {
+        if range.0 <= range.1 {
+            list.insert(&range.0, &range.1)?;
+        }
+    }
+    Ok(list)
+}
+
+#[test]
+fn merges_as_worked_out(rt: HostRuntime) -> Result<(), Fail> {
+    for line in MERGES.lines() {
+        let (list, merge) = line.split_once('|').ok_or("no merge")?;
+        let list = ranges(rt.alloc(), list)?;
+        let merged = inserted(rt.alloc(), &list)?.into_vec()?;
+        assert_eq!(rt;
+            bounds_of(rt.alloc(), &merged)?,
+            ranges(rt.alloc(), merge)?,
+            "at {line}"
+        );
+    }
+    Ok(())
+}
+
+#[test]
+fn leaves_no_two_that_meet(rt: HostRuntime) -> Result<(), Fail> {
+    let mut pairs = Vec::new(rt.alloc());
+    for i in 0..100u64 {
+        let a = 37 * i % 101;
+        let b = 53 * i % 101;
+        pairs.push((a.min(b), a.max(b)))?;
+    }
+    let merged = inserted(rt.alloc(), &pairs)?.into_vec()?;
+    assert!(rt; !merged.is_empty());
+    for pair in merged.windows(2) {
+        assert!(rt; pair.len() == 2);
+        assert!(rt; pair[0].end() < pair[1].start());
+    }
+    Ok(())
+}
+
+/// Ranges no two of which meet, in ascending order.
+const APART: [Bounds; 12] = [
+    (0, 1),
+    (3, 4),
+    (6, 7),
+    (9, 10),
+    (12, 13),
+    (15, 16),
+    (18, 19),
+    (21, 22),
+    (24, 25),
+    (27, 28),
+    (30, 31),
+    (33, 34),
+];
+
+/// Whether `merged` is the ranges of `APART` that were accepted.
+fn is_accepted(merged: &[DiffRange<'_, u64>], accepted: &[bool; 12]) -> bool {
+    let mut left = merged.iter();
+    let mut is_same = true;
+    for (range, is_accepted) in APART.iter().zip(accepted) {
+        if *is_accepted {
+            is_same = is_same
+                && left.next().map(|found| (*found.start(), *found.end())) == Some(*range);
+        }
+    }
+    is_same && left.next().is_none()
+}
+
+// Under `rt try --test --fail-alloc N` the Nth request for memory is refused: then an insert leaves the list as it was.
+#[test]
+fn a_refused_insert_leaves_the_list(rt: HostRuntime) -> Result<(), Fail> {
+    let mut list = RangeList::new(rt.alloc());
+    let mut accepted = [false; 12];
+    for i in 0..12 {
+        let range = &APART[i];
+        if range.0 <= range.1 {
+            accepted[i] = list.insert(&range.0, &range.1).is_ok();
+        }
+    }
+    assert!(rt; is_accepted(&list.into_vec()?, &accepted));
+    Ok(())
+}
+
+// So do the marks of a builder. Without a consistent range its list takes no memory.
+#[test]
+fn a_refused_mark_leaves_the_builder(rt: HostRuntime) -> Result<(), Fail> {
+    let mut builder = DiffListBuilder::new(rt.alloc());
+    let mut accepted = [false; 12];
+    for i in 0..12 {
+        let range = &APART[i];
+        if range.0 <= range.1 {
+            accepted[i] = builder.inconsistent(&range.0, &range.1).is_ok();
+        }
+    }
+    assert!(rt; is_accepted(&builder.into_diff_vec()?, &accepted));
+    Ok(())
+}

@@ -1,0 +1,62 @@
+//! Lists of page ranges, and of ranges, as texts: `3-7:1` is the page range from 3 to 7 whose digest has 16 bytes 1.
+use crate::{DiffRange, PageRange, diff};
+use merkle_digest::PageDigest;
+use std::alloc::{AllocError, Global};
+use std::test::Fail;
+
+/// A page range: its bounds, and the byte of its digest.
+pub type Row = (u64, u64, u8);
+
+/// The bounds of a range.
+pub type Bounds = (u64, u64);
+
+fn bounds(word: &str) -> Result<Bounds, Fail> {
+    let (start, end) = word.split_once('-').ok_or("no range")?;
+    Ok((start.parse::<u64>()?, end.parse::<u64>()?))
+}
+
+/// The page ranges of a text.
+pub fn rows(alloc: Global, text: &str) -> Result<Vec<Row>, Fail> {
+    let mut rows = Vec::new(alloc);
+    for word in text.split_whitespace() {
+        let (range, digest) = word.split_once(':').ok_or("no digest")?;
+        let (start, end) = bounds(range)?;
+        rows.push((start, end, digest.parse::<u8>()?))?;
+    }
+    Ok(rows)
+}
+
+/// The ranges of a text.
+pub fn ranges(alloc: Global, text: &str) -> Result<Vec<Bounds>, Fail> {
+    let mut ranges = Vec::new(alloc);
+    for word in text.split_whitespace() {
+        ranges.push(bounds(word)?)?;
+    }
+    Ok(ranges)
+}
+
+/// The page ranges of rows. A row whose bounds are not in order is left out.
+pub fn page_ranges(alloc: Global, rows: &[Row]) -> Result<Vec<PageRange<'_, u64>>, AllocError> {
+    let mut ranges = Vec::with_capacity(alloc, rows.len())?;
+    for row in rows {
+        if let Some(range) = PageRange::try_new(&row.0, &row.1, PageDigest::new([row.2; 16])) {
+            ranges.push(range)?;
+        }
+    }
+    Ok(ranges)
+}
+
+/// The bounds of each range.
+pub fn bounds_of(alloc: Global, ranges: &[DiffRange<'_, u64>]) -> Result<Vec<Bounds>, AllocError> {
+    let mut bounds = Vec::with_capacity(alloc, ranges.len())?;
+    for range in ranges {
+        bounds.push((*range.start(), *range.end()))?;
+    }
+    Ok(bounds)
+}
+
+/// What `diff` answers.
+pub fn difference(alloc: Global, local: &[Row], peer: &[Row]) -> Result<Vec<Bounds>, AllocError> {
+    let found = diff(alloc, page_ranges(alloc, local)?, page_ranges(alloc, peer)?)?;
+    bounds_of(alloc, &found)
+}
