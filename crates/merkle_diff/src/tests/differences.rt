@@ -1,7 +1,7 @@
 //! `diff`, by answers that were worked out by hand and by those of the Rust crate.
 use super::rust_answers::RUST_ANSWERS;
-use super::texts::{difference, ranges, rows, Row};
-use crate::{diff, PageRange};
+use super::texts::{Row, difference, ranges, rows};
+use crate::{PageRange, diff};
 use merkle_digest::PageDigest;
 use std::alloc::{AllocError, Global};
 use std::process::Abort;
@@ -84,8 +84,16 @@ fn answers_on_100_000_equal_ranges(rt: HostRuntime) -> Result<(), Fail> {
 #[test]
 fn answers_or_wants_memory(rt: HostRuntime) {
     for (local, peer, answer) in [
-        (&[(1, 4, 1), (1, 2, 2), (4, 4, 3)], &[(1, 5, 4), (1, 2, 2), (5, 5, 5)], &[(2, 5)][..]),
-        (&[(0, 10, 9), (2, 6, 2), (4, 8, 3)], &[(0, 10, 1), (2, 6, 2), (4, 8, 3)], &[(0, 2), (8, 10)][..]),
+        (
+            &[(1, 4, 1), (1, 2, 2), (4, 4, 3)],
+            &[(1, 5, 4), (1, 2, 2), (5, 5, 5)],
+            &[(2, 5)][..],
+        ),
+        (
+            &[(0, 10, 9), (2, 6, 2), (4, 8, 3)],
+            &[(0, 10, 1), (2, 6, 2), (4, 8, 3)],
+            &[(0, 2), (8, 10)][..],
+        ),
     ] {
         if let Ok(found) = difference(rt.alloc(), local, peer) {
             assert_eq!(rt; found.as_slice(), answer);

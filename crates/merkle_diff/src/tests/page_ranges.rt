@@ -30,7 +30,9 @@ fn holds_what_is_within(rt: HostRuntime) {
         ((1, 8), (2, 9), false),
     ] {
         assert!(rt; outer.0 <= outer.1 && inner.0 <= inner.1);
-        let holds = DiffRange::new(&inner.0, &inner.1).is_within(&DiffRange::new(&outer.0, &outer.1));
+        let holds = DiffRange::new(&inner.0, &inner.1).is_within(&DiffRange::new(
+            &outer.0, &outer.1,
+        ));
         assert_eq!(rt; holds, want, "{inner:?} in {outer:?}");
     }
 }

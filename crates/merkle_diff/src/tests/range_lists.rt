@@ -1,7 +1,7 @@
 //! Range lists and cuts, by answers that were worked out by hand.
-use super::texts::{bounds_of, ranges, Bounds};
-use crate::parts::{reduce_sync_range, DiffListBuilder, RangeList};
+use super::texts::{Bounds, bounds_of, ranges};
 use crate::DiffRange;
+use crate::parts::{DiffListBuilder, RangeList, reduce_sync_range};
 use std::alloc::{AllocError, Global};
 use std::test::Fail;
 
@@ -40,7 +40,11 @@ fn merges_as_worked_out(rt: HostRuntime) -> Result<(), Fail> {
         let (list, merge) = line.split_once('|').ok_or("no merge")?;
         let list = ranges(rt.alloc(), list)?;
         let merged = inserted(rt.alloc(), &list)?.into_vec()?;
-        assert_eq!(rt; bounds_of(rt.alloc(), &merged)?, ranges(rt.alloc(), merge)?, "at {line}");
+        assert_eq!(rt;
+            bounds_of(rt.alloc(), &merged)?,
+            ranges(rt.alloc(), merge)?,
+            "at {line}"
+        );
     }
     Ok(())
 }
@@ -131,7 +135,18 @@ fn cuts_100_000_good_ranges_out_of_one(rt: HostRuntime) -> Result<(), Fail> {
 
 /// Ranges no two of which meet, in ascending order.
 const APART: [Bounds; 12] = [
-    (0, 1), (3, 4), (6, 7), (9, 10), (12, 13), (15, 16), (18, 19), (21, 22), (24, 25), (27, 28), (30, 31), (33, 34),
+    (0, 1),
+    (3, 4),
+    (6, 7),
+    (9, 10),
+    (12, 13),
+    (15, 16),
+    (18, 19),
+    (21, 22),
+    (24, 25),
+    (27, 28),
+    (30, 31),
+    (33, 34),
 ];
 
 /// Whether `merged` is the ranges of `APART` that were accepted.
@@ -140,7 +155,8 @@ fn is_accepted(merged: &[DiffRange<'_, u64>], accepted: &[bool; 12]) -> bool {
     let mut is_same = true;
     for (range, is_accepted) in APART.iter().zip(accepted) {
         if *is_accepted {
-            is_same = is_same && left.next().map(|found| (*found.start(), *found.end())) == Some(*range);
+            is_same = is_same
+                && left.next().map(|found| (*found.start(), *found.end())) == Some(*range);
         }
     }
     is_same && left.next().is_none()
