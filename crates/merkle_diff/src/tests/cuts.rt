@@ -1,9 +1,9 @@
 //! Cuts out of several ranges, by answers that were worked out by hand, and on long lists.
 ghost use Rattle.std.specs.Prelude.{◌≤◌};
 
-use super::texts::{bounds_of, ranges, Bounds};
-use crate::parts::{reduce_sync_range, DiffListBuilder, RangeList};
+use super::texts::{Bounds, bounds_of, ranges};
 use crate::DiffRange;
+use crate::parts::{DiffListBuilder, RangeList, reduce_sync_range};
 use std::alloc::{AllocError, Global};
 use std::process::Abort;
 use std::test::Fail;
@@ -28,7 +28,11 @@ const CUTS: &str = "\
 const MANY: u64 = 100_000;
 
 /// The good ranges, cut out of the merge of the bad ones.
-fn cut<'a>(alloc: Global, bad: &'a [Bounds], good: &'a [Bounds]) -> Result<Vec<DiffRange<'a, u64>>, AllocError> {
+fn cut<'a>(
+    alloc: Global,
+    bad: &'a [Bounds],
+    good: &'a [Bounds],
+) -> Result<Vec<DiffRange<'a, u64>>, AllocError> {
     let mut merged = RangeList::new(alloc);
     for range in bad {
         if range.0 <= range.1 {
@@ -45,7 +49,11 @@ fn cut<'a>(alloc: Global, bad: &'a [Bounds], good: &'a [Bounds]) -> Result<Vec<D
 }
 
 /// What a builder with these marks answers.
-fn built<'a>(alloc: Global, bad: &'a [Bounds], good: &'a [Bounds]) -> Result<Vec<DiffRange<'a, u64>>, AllocError> {
+fn built<'a>(
+    alloc: Global,
+    bad: &'a [Bounds],
+    good: &'a [Bounds],
+) -> Result<Vec<DiffRange<'a, u64>>, AllocError> {
     let mut builder = DiffListBuilder::new(alloc);
     for range in bad {
         if range.0 <= range.1 {
@@ -69,9 +77,17 @@ fn cuts_several_as_worked_out(rt: HostRuntime) -> Result<(), Fail> {
         let good = ranges(rt.alloc(), good)?;
         let left = ranges(rt.alloc(), left)?;
         let found = cut(rt.alloc(), &bad, &good)?;
-        assert_eq!(rt; bounds_of(rt.alloc(), &found)?.as_slice(), left.as_slice(), "at {line}");
+        assert_eq!(rt;
+            bounds_of(rt.alloc(), &found)?.as_slice(),
+            left.as_slice(),
+            "at {line}"
+        );
         let found = built(rt.alloc(), &bad, &good)?;
-        assert_eq!(rt; bounds_of(rt.alloc(), &found)?.as_slice(), left.as_slice(), "built, at {line}");
+        assert_eq!(rt;
+            bounds_of(rt.alloc(), &found)?.as_slice(),
+            left.as_slice(),
+            "built, at {line}"
+        );
     }
     Ok(())
 }
@@ -111,6 +127,9 @@ fn cuts_long_lists(rt: HostRuntime) -> Result<(), Fail> {
     check_spaced(&rt, &built(rt.alloc(), &whole, &good)?, 2, 2);
     check_spaced(&rt, &cut(rt.alloc(), &bad, &good)?, 2, 1);
     check_spaced(&rt, &built(rt.alloc(), &bad, &good)?, 2, 1);
-    assert_eq!(rt; bounds_of(rt.alloc(), &cut(rt.alloc(), &bad, &whole)?)?.len(), 0);
+    assert_eq!(rt;
+        bounds_of(rt.alloc(), &cut(rt.alloc(), &bad, &whole)?)?.len(),
+        0
+    );
     Ok(())
 }
