@@ -1,0 +1,166 @@
+-- Where a key goes in a page, by its place among the nodes.
+use Rattle.std.proofs.Common.{◌≡◌, ◌≢◌, ℕ, zero, suc, ◌<◌, List, [], ◌∷◌, ◌++◌, length, get_or, slice_set, Bool, true, false, if◌then◌else◌, Option, None, refl, ap, arith}
+use Rattle.std.specs.List.{insert}
+use Rattle.std.specs.declared.cmp.Ordering.{Ordering}
+use Rattle.std.specs.declared.cmp.Ordering.TheVariants.{Less, Equal, Greater}
+use Rattle.std.specs.Ordering.{is_gt, match_ordering, nat_cmp}
+use Rattle.merkle_search_tree.specs.Tree.{page, node, Held, Node, row}
+use Rattle.merkle_search_tree.specs.Upsert.{place, held_lower, held_upper, row_put, row_sink, held_set, row_finds, held_finds, tree_set, tree_finds, lifted}
+use Rattle.merkle_search_tree.proofs.Parts.{with_lt}
+
+module _ {K D : Type 0} where
+  abbrev pub with_digest : Node K D → D → Node K D
+  with_digest e d = record { lt = e.lt; key = e.key; digest = d }
+
+pub get_or_same : {X : Type 0} (xs : List X) (i : ℕ) (x y : X) → i < length xs → get_or xs i x ≡ get_or xs i y
+get_or_same [] i x y r = absurd (omega arith)
+get_or_same (z ∷ zs) zero x y r = refl
+get_or_same (z ∷ zs) (suc i) x y r = get_or_same zs i x y (omega arith)
+
+module _ {K D : Type 0} (cmp : K → K → Ordering) (k : K) (d : D) where
+  abbrev pub new_node : Held K D → Node K D
+  new_node h = record { lt = h; key = k; digest = d }
+
+  pub put_at : (es : List (Node K D)) (h : Held K D) (i : ℕ) (x : Node K D) → i ≡ place cmp k es → i < length es → cmp k (get_or es i x).key ≢ Equal
+      → row_put cmp k d (row es h) ≡ row (insert (slice_set es i (with_lt (get_or es i x) (held_upper cmp k (get_or es i x).lt))) i (new_node (held_lower cmp k (get_or es i x).lt))) h
+  put_at [] h i x p r ne = absurd (omega arith)
+  put_at (e ∷ es) h zero x p r ne = by (cmp k e.key) p ne
+    where
+      by : (o : Ordering) → 0 ≡ (if (is_gt o) then (suc (place cmp k es)) else 0) → o ≢ Equal
+          → match_ordering o (node (held_lower cmp k e.lt) k d (node (held_upper cmp k e.lt) e.key e.digest (row es h))) (node e.lt e.key d (row es h)) (node e.lt e.key e.digest (row_put cmp k d (row es h)))
+          ≡ row (insert (slice_set (e ∷ es) 0 (with_lt e (held_upper cmp k e.lt))) 0 (new_node (held_lower cmp k e.lt))) h
+      by Less p ne = refl
+      by Equal p ne = absurd (ne refl)
+      by Greater p ne = absurd (omega arith)
+  put_at (e ∷ es) h (suc j) x p r ne = by (cmp k e.key) p (λ q. put_at es h j x q (omega arith) ne)
+    where
+      by : (o : Ordering) → suc j ≡ (if (is_gt o) then (suc (place cmp k es)) else 0)
+          → (j ≡ place cmp k es → row_put cmp k d (row es h) ≡ row (insert (slice_set es j (with_lt (get_or es j x) (held_upper cmp k (get_or es j x).lt))) j (new_node (held_lower cmp k (get_or es j x).lt))) h)
+          → match_ordering o (node (held_lower cmp k e.lt) k d (node (held_upper cmp k e.lt) e.key e.digest (row es h))) (node e.lt e.key d (row es h)) (node e.lt e.key e.digest (row_put cmp k d (row es h)))
+          ≡ row (insert (slice_set (e ∷ es) (suc j) (with_lt (get_or es j x) (held_upper cmp k (get_or es j x).lt))) (suc j) (new_node (held_lower cmp k (get_or es j x).lt))) h
+      by Less p f = absurd (omega arith)
+      by Equal p f = absurd (omega arith)
+      by Greater p f = ap (node e.lt e.key e.digest) (f (omega arith))
+
+  pub put_equal : (es : List (Node K D)) (h : Held K D) (i : ℕ) (x : Node K D) → i ≡ place cmp k es → i < length es → cmp k (get_or es i x).key ≡ Equal
+      → row_put cmp k d (row es h) ≡ row (slice_set es i (with_digest (get_or es i x) d)) h
+  put_equal [] h i x p r q = absurd (omega arith)
+  put_equal (e ∷ es) h zero x p r q = ap (λ o. match_ordering o (node (held_lower cmp k e.lt) k d (node (held_upper cmp k e.lt) e.key e.digest (row es h))) (node e.lt e.key d (row es h)) (node e.lt e.key e.digest (row_put cmp k d (row es h)))) q
+  put_equal (e ∷ es) h (suc j) x p r q = by (cmp k e.key) p (λ m. put_equal es h j x m (omega arith) q)
+    where
+      by : (o : Ordering) → suc j ≡ (if (is_gt o) then (suc (place cmp k es)) else 0)
+          → (j ≡ place cmp k es → row_put cmp k d (row es h) ≡ row (slice_set es j (with_digest (get_or es j x) d)) h)
+          → match_ordering o (node (held_lower cmp k e.lt) k d (node (held_upper cmp k e.lt) e.key e.digest (row es h))) (node e.lt e.key d (row es h)) (node e.lt e.key e.digest (row_put cmp k d (row es h)))
+          ≡ row (slice_set (e ∷ es) (suc j) (with_digest (get_or es j x) d)) h
+      by Less p f = absurd (omega arith)
+      by Equal p f = absurd (omega arith)
+      by Greater p f = ap (node e.lt e.key e.digest) (f (omega arith))
+
+  pub put_high : (es : List (Node K D)) (h : Held K D) → place cmp k es ≡ length es → row_put cmp k d (row es h) ≡ row (es ++ new_node (held_lower cmp k h) ∷ []) (held_upper cmp k h)
+  put_high [] h p = refl
+  put_high (e ∷ es) h p = by (cmp k e.key) p (λ q. put_high es h q)
+    where
+      by : (o : Ordering) → (if (is_gt o) then (suc (place cmp k es)) else 0) ≡ length (e ∷ es)
+          → (place cmp k es ≡ length es → row_put cmp k d (row es h) ≡ row (es ++ new_node (held_lower cmp k h) ∷ []) (held_upper cmp k h))
+          → match_ordering o (node (held_lower cmp k e.lt) k d (node (held_upper cmp k e.lt) e.key e.digest (row es h))) (node e.lt e.key d (row es h)) (node e.lt e.key e.digest (row_put cmp k d (row es h)))
+          ≡ row ((e ∷ es) ++ new_node (held_lower cmp k h) ∷ []) (held_upper cmp k h)
+      by Less p f = absurd (omega arith)
+      by Equal p f = absurd (omega arith)
+      by Greater p f = ap (node e.lt e.key e.digest) (f (omega arith))
+
+module _ {K D : Type 0} (cmp : K → K → Ordering) (n : ℕ) (k : K) (d : D) where
+  pub sink_at : (es : List (Node K D)) (h : Held K D) (i : ℕ) (x : Node K D) → i ≡ place cmp k es → i < length es → cmp k (get_or es i x).key ≢ Equal
+      → row_sink cmp n k d (row es h) ≡ row (slice_set es i (with_lt (get_or es i x) (held_set cmp n k d (get_or es i x).lt))) h
+  sink_at [] h i x p r ne = absurd (omega arith)
+  sink_at (e ∷ es) h zero x p r ne = by (cmp k e.key) p ne
+    where
+      by : (o : Ordering) → 0 ≡ (if (is_gt o) then (suc (place cmp k es)) else 0) → o ≢ Equal
+          → match_ordering o (node (held_set cmp n k d e.lt) e.key e.digest (row es h)) (node e.lt e.key d (row es h)) (node e.lt e.key e.digest (row_sink cmp n k d (row es h)))
+          ≡ row (slice_set (e ∷ es) 0 (with_lt e (held_set cmp n k d e.lt))) h
+      by Less p ne = refl
+      by Equal p ne = absurd (ne refl)
+      by Greater p ne = absurd (omega arith)
+  sink_at (e ∷ es) h (suc j) x p r ne = by (cmp k e.key) p (λ q. sink_at es h j x q (omega arith) ne)
+    where
+      by : (o : Ordering) → suc j ≡ (if (is_gt o) then (suc (place cmp k es)) else 0)
+          → (j ≡ place cmp k es → row_sink cmp n k d (row es h) ≡ row (slice_set es j (with_lt (get_or es j x) (held_set cmp n k d (get_or es j x).lt))) h)
+          → match_ordering o (node (held_set cmp n k d e.lt) e.key e.digest (row es h)) (node e.lt e.key d (row es h)) (node e.lt e.key e.digest (row_sink cmp n k d (row es h)))
+          ≡ row (slice_set (e ∷ es) (suc j) (with_lt (get_or es j x) (held_set cmp n k d (get_or es j x).lt))) h
+      by Less p f = absurd (omega arith)
+      by Equal p f = absurd (omega arith)
+      by Greater p f = ap (node e.lt e.key e.digest) (f (omega arith))
+
+  pub sink_equal : (es : List (Node K D)) (h : Held K D) (i : ℕ) (x : Node K D) → i ≡ place cmp k es → i < length es → cmp k (get_or es i x).key ≡ Equal
+      → row_sink cmp n k d (row es h) ≡ row (slice_set es i (with_digest (get_or es i x) d)) h
+  sink_equal [] h i x p r q = absurd (omega arith)
+  sink_equal (e ∷ es) h zero x p r q = ap (λ o. match_ordering o (node (held_set cmp n k d e.lt) e.key e.digest (row es h)) (node e.lt e.key d (row es h)) (node e.lt e.key e.digest (row_sink cmp n k d (row es h)))) q
+  sink_equal (e ∷ es) h (suc j) x p r q = by (cmp k e.key) p (λ m. sink_equal es h j x m (omega arith) q)
+    where
+      by : (o : Ordering) → suc j ≡ (if (is_gt o) then (suc (place cmp k es)) else 0)
+          → (j ≡ place cmp k es → row_sink cmp n k d (row es h) ≡ row (slice_set es j (with_digest (get_or es j x) d)) h)
+          → match_ordering o (node (held_set cmp n k d e.lt) e.key e.digest (row es h)) (node e.lt e.key d (row es h)) (node e.lt e.key e.digest (row_sink cmp n k d (row es h)))
+          ≡ row (slice_set (e ∷ es) (suc j) (with_digest (get_or es j x) d)) h
+      by Less p f = absurd (omega arith)
+      by Equal p f = absurd (omega arith)
+      by Greater p f = ap (node e.lt e.key e.digest) (f (omega arith))
+
+  pub sink_high : (es : List (Node K D)) (h : Held K D) → place cmp k es ≡ length es → row_sink cmp n k d (row es h) ≡ row es (held_set cmp n k d h)
+  sink_high [] h p = refl
+  sink_high (e ∷ es) h p = by (cmp k e.key) p (λ q. sink_high es h q)
+    where
+      by : (o : Ordering) → (if (is_gt o) then (suc (place cmp k es)) else 0) ≡ length (e ∷ es)
+          → (place cmp k es ≡ length es → row_sink cmp n k d (row es h) ≡ row es (held_set cmp n k d h))
+          → match_ordering o (node (held_set cmp n k d e.lt) e.key e.digest (row es h)) (node e.lt e.key d (row es h)) (node e.lt e.key e.digest (row_sink cmp n k d (row es h)))
+          ≡ row (e ∷ es) (held_set cmp n k d h)
+      by Less p f = absurd (omega arith)
+      by Equal p f = absurd (omega arith)
+      by Greater p f = ap (node e.lt e.key e.digest) (f (omega arith))
+
+  pub finds_at : (b : Bool) (es : List (Node K D)) (h : Held K D) (i : ℕ) (x : Node K D) → i ≡ place cmp k es → i < length es → cmp k (get_or es i x).key ≢ Equal
+      → row_finds cmp n k d b (row es h) ≡ (if b then (held_finds cmp n k d (get_or es i x).lt) else false)
+  finds_at b [] h i x p r ne = absurd (omega arith)
+  finds_at b (e ∷ es) h zero x p r ne = by (cmp k e.key) p ne
+    where
+      by : (o : Ordering) → 0 ≡ (if (is_gt o) then (suc (place cmp k es)) else 0) → o ≢ Equal
+          → match_ordering o (if b then (held_finds cmp n k d e.lt) else false) true (row_finds cmp n k d b (row es h)) ≡ (if b then (held_finds cmp n k d e.lt) else false)
+      by Less p ne = refl
+      by Equal p ne = absurd (ne refl)
+      by Greater p ne = absurd (omega arith)
+  finds_at b (e ∷ es) h (suc j) x p r ne = by (cmp k e.key) p (λ q. finds_at b es h j x q (omega arith) ne)
+    where
+      by : (o : Ordering) → suc j ≡ (if (is_gt o) then (suc (place cmp k es)) else 0)
+          → (j ≡ place cmp k es → row_finds cmp n k d b (row es h) ≡ (if b then (held_finds cmp n k d (get_or es j x).lt) else false))
+          → match_ordering o (if b then (held_finds cmp n k d e.lt) else false) true (row_finds cmp n k d b (row es h)) ≡ (if b then (held_finds cmp n k d (get_or es j x).lt) else false)
+      by Less p f = absurd (omega arith)
+      by Equal p f = absurd (omega arith)
+      by Greater p f = f (omega arith)
+
+  pub finds_high : (b : Bool) (es : List (Node K D)) (h : Held K D) → place cmp k es ≡ length es → row_finds cmp n k d b (row es h) ≡ (if b then (held_finds cmp n k d h) else false)
+  finds_high b [] h p = refl
+  finds_high b (e ∷ es) h p = by (cmp k e.key) p (λ q. finds_high b es h q)
+    where
+      by : (o : Ordering) → (if (is_gt o) then (suc (place cmp k es)) else 0) ≡ length (e ∷ es)
+          → (place cmp k es ≡ length es → row_finds cmp n k d b (row es h) ≡ (if b then (held_finds cmp n k d h) else false))
+          → match_ordering o (if b then (held_finds cmp n k d e.lt) else false) true (row_finds cmp n k d b (row es h)) ≡ (if b then (held_finds cmp n k d h) else false)
+      by Less p f = absurd (omega arith)
+      by Equal p f = absurd (omega arith)
+      by Greater p f = f (omega arith)
+
+module _ {K D : Type 0} (cmp : K → K → Ordering) (n : ℕ) (k : K) (d : D) where
+  pub set_less : (m : ℕ) (c : Option (List ℕ)) (es : List (Node K D)) (h : Held K D) → 0 < length es → nat_cmp n m ≡ Less
+      → tree_set cmp n k d (page m c (row es h)) ≡ page m None (row_sink cmp n k d (row es h))
+  set_less m c [] h r q = absurd (omega arith)
+  set_less m c (e ∷ es) h r q =
+      ap (λ o. match_ordering o (page m None (row_sink cmp n k d (row (e ∷ es) h))) (page m None (row_put cmp k d (row (e ∷ es) h))) (lifted cmp n k d (page m c (row (e ∷ es) h)))) q
+
+  pub set_greater : (m : ℕ) (c : Option (List ℕ)) (es : List (Node K D)) (h : Held K D) → 0 < length es → nat_cmp n m ≡ Greater
+      → tree_set cmp n k d (page m c (row es h)) ≡ lifted cmp n k d (page m c (row es h))
+  set_greater m c [] h r q = absurd (omega arith)
+  set_greater m c (e ∷ es) h r q =
+      ap (λ o. match_ordering o (page m None (row_sink cmp n k d (row (e ∷ es) h))) (page m None (row_put cmp k d (row (e ∷ es) h))) (lifted cmp n k d (page m c (row (e ∷ es) h)))) q
+
+  pub finds_less : (m : ℕ) (c : Option (List ℕ)) (es : List (Node K D)) (h : Held K D) → 0 < length es → nat_cmp n m ≡ Less
+      → tree_finds cmp n k d (page m c (row es h)) ≡ row_finds cmp n k d true (row es h)
+  finds_less m c [] h r q = absurd (omega arith)
+  finds_less m c (e ∷ es) h r q =
+      ap (λ o. match_ordering o (row_finds cmp n k d true (row (e ∷ es) h)) (row_finds cmp n k d false (row (e ∷ es) h)) false) q

@@ -1,0 +1,265 @@
+-- What an upsert keeps: the form, the caches, and how few digests are dropped.
+use Rattle.std.proofs.Common.{◌≡◌, ℕ, suc, ◌+◌, ◌<◌, ◌≤◌, List, Bool, true, false, if◌then◌else◌, Option, Some, None, refl, sym, subst, arith}
+use Rattle.std.specs.declared.cmp.Ordering.{Ordering}
+use Rattle.std.specs.declared.cmp.Ordering.TheVariants.{Less, Equal, Greater}
+use Rattle.std.specs.Ordering.{is_gt, match_ordering, nat_cmp, MatchOrdering}
+use Rattle.std.specs.Cmp.{ranks}
+use Rattle.merkle_search_tree.specs.Tree.{Tree, page, Row, high, node, Held, nothing, below}
+use Rattle.merkle_search_tree.specs.Page.{level, cache}
+use Rattle.merkle_search_tree.specs.Cache.{missing, row_missing, held_missing, CachesHold, RowCachesHold, HeldCachesHold, EachHasCache, HasCache}
+use Rattle.merkle_search_tree.specs.Canonical.{HasNode, IsCanonical, IsRow, IsGap, IsCanonicalRoot}
+use Rattle.merkle_search_tree.specs.Upsert.{as_held, lower, upper, held_lower, held_upper, tree_lower, tree_upper, row_put, row_sink, held_set, tree_set, lifted}
+
+module _ {K D : Type 0} (lev : K → ℕ) where
+  gap-more : (l m : ℕ) (h : Held K D) → l < m → IsGap lev l h → IsGap lev m h
+  gap-more l m nothing s g = tt
+  gap-more l m (below t) s g = (omega (arith, g.0), g.1, g.2)
+
+  as_held-gap : (l m : ℕ) (r : Row K D) → l < m → IsRow lev l r → IsGap lev m (as_held l r)
+  as_held-gap l m (high h) s g = gap-more l m h s g
+  as_held-gap l m (node h k d r) s g = (s, tt, g)
+
+-- the form
+module _ {K D : Type 0} (cmp : K → K → Ordering) (lev : K → ℕ) (at : K) where
+  mutual
+    pub split-row : (l : ℕ) (r : Row K D) → IsRow lev l r → IsRow lev l (lower cmp at r) × IsRow lev l (upper cmp at r)
+    split-row l (high h) p = split-gap l h p
+    split-row l (node h k d r) p = by (is_gt (cmp at k)) (split-row l r p.2) (split-gap l h p.0)
+      where
+        by : (b : Bool) → IsRow lev l (lower cmp at r) × IsRow lev l (upper cmp at r) → IsGap lev l (held_lower cmp at h) × IsGap lev l (held_upper cmp at h)
+            → IsRow lev l (if b then (node h k d (lower cmp at r)) else (high (held_lower cmp at h))) × IsRow lev l (if b then (upper cmp at r) else (node (held_upper cmp at h) k d r))
+        by true s u = ((p.0, p.1, s.0), s.1)
+        by false s u = (u.0, (u.1, p.1, p.2))
+
+    pub split-gap : (l : ℕ) (h : Held K D) → IsGap lev l h → IsGap lev l (held_lower cmp at h) × IsGap lev l (held_upper cmp at h)
+    split-gap l nothing p = (tt, tt)
+    split-gap l (below (page m c (high h))) p = absurd p.1
+    split-gap l (below (page m c (node h k d r))) p =
+        let s = split-row m (node h k d r) p.2 in (as_held-gap lev m l (lower cmp at (node h k d r)) p.0 s.0, as_held-gap lev m l (upper cmp at (node h k d r)) p.0 s.1)
+
+module _ {K D : Type 0} (cmp : K → K → Ordering) (lev : K → ℕ) (n : ℕ) (k : K) (d : D) (at : lev k ≡ n) where
+  pub put-row : (r : Row K D) → IsRow lev n r → IsRow lev n (row_put cmp k d r)
+  put-row (high h) p = let s = split-gap cmp lev k n h p in (s.0, at, s.1)
+  put-row (node h x e r) p = by (cmp k x) (put-row r p.2)
+    where
+      by : (q : Ordering) → IsRow lev n (row_put cmp k d r)
+          → IsRow lev n (match_ordering q (node (held_lower cmp k h) k d (node (held_upper cmp k h) x e r)) (node h x d r) (node h x e (row_put cmp k d r)))
+      by Less f = let s = split-gap cmp lev k n h p.0 in (s.0, at, (s.1, p.1, p.2))
+      by Equal f = (p.0, p.1, p.2)
+      by Greater f = (p.0, p.1, f)
+
+  mutual
+    -- the page that a page becomes is in the same gap, where the key's level is
+    pub set-gap : (m : ℕ) (h : Held K D) → n < m → IsGap lev m h → IsGap lev m (held_set cmp n k d h)
+    set-gap m nothing s p = (s, tt, (tt, at, tt))
+    set-gap m (below t) s p = set-tree m t s p.0 p.1 p.2
+
+    pub set-tree : (m : ℕ) (t : Tree K D) → n < m → level t < m → HasNode t → IsCanonical lev t → IsGap lev m (below (tree_set cmp n k d t))
+    set-tree m (page l c (high h)) s u w p = absurd w
+    set-tree m (page l c (node h x e r)) s u w p =
+        by (nat_cmp n l) (ranks n l) (λ q. (sink-node l (cmp k x), sink-rest l (node h x e r) q p)) (λ q. put-row (node h x e r) (subst (λ j. IsRow lev j (node h x e r)) (sym q) p))
+      where
+        sink-node : (l : ℕ) (q : Ordering) → HasNode (page l None (match_ordering q (node (held_set cmp n k d h) x e r) (node h x d r) (node h x e (row_sink cmp n k d r))))
+        sink-node l Less = tt
+        sink-node l Equal = tt
+        sink-node l Greater = tt
+
+        put-node : (q : Ordering) → HasNode (page l None (match_ordering q (node (held_lower cmp k h) k d (node (held_upper cmp k h) x e r)) (node h x d r) (node h x e (row_put cmp k d r))))
+        put-node Less = tt
+        put-node Equal = tt
+        put-node Greater = tt
+
+        by : (q : Ordering) → MatchOrdering q (n < l) (n ≡ l) (l < n)
+            → (n < l → HasNode (page l None (row_sink cmp n k d (node h x e r))) × IsRow lev l (row_sink cmp n k d (node h x e r)))
+            → (n ≡ l → IsRow lev n (row_put cmp k d (node h x e r)))
+            → IsGap lev m (below (match_ordering q (page l None (row_sink cmp n k d (node h x e r))) (page l None (row_put cmp k d (node h x e r))) (lifted cmp n k d (page l c (node h x e r)))))
+        by Less q f g = (u, (f q).0, (f q).1)
+        by Equal q f g = (u, put-node (cmp k x), subst (λ j. IsRow lev j (row_put cmp k d (node h x e r))) q (g q))
+        by Greater q f g =
+            let t = split-row cmp lev k l (node h x e r) p in
+            (s, tt, (as_held-gap lev l n (lower cmp k (node h x e r)) q t.0, at, as_held-gap lev l n (upper cmp k (node h x e r)) q t.1))
+
+    sink-rest : (l : ℕ) (r : Row K D) → n < l → IsRow lev l r → IsRow lev l (row_sink cmp n k d r)
+    sink-rest l (high h) s p = set-gap l h s p
+    sink-rest l (node h x e r) s p = by (cmp k x) (sink-rest l r s p.2) (set-gap l h s p.0)
+      where
+        by : (q : Ordering) → IsRow lev l (row_sink cmp n k d r) → IsGap lev l (held_set cmp n k d h)
+            → IsRow lev l (match_ordering q (node (held_set cmp n k d h) x e r) (node h x d r) (node h x e (row_sink cmp n k d r)))
+        by Less f g = (g, p.1, p.2)
+        by Equal f g = (p.0, p.1, p.2)
+        by Greater f g = (p.0, p.1, f)
+
+  root_from : (t : Tree K D) → HasNode t → IsCanonical lev t → IsCanonicalRoot lev t
+  root_from (page l c (high h)) w p = absurd w
+  root_from (page l c (node h x e r)) w p = p
+
+  pub set-root : (t : Tree K D) → IsCanonicalRoot lev t → IsCanonicalRoot lev (tree_set cmp n k d t)
+  set-root (page m c (high nothing)) p = (tt, at, tt)
+  set-root (page m c (high (below t))) p = absurd p
+  set-root (page m c (node h x e r)) p =
+      let g = set-tree (suc (m + n)) (page m c (node h x e r)) (omega arith) (omega arith) tt p in root_from (tree_set cmp n k d (page m c (node h x e r))) g.1 g.2
+
+-- the caches
+module _ {K : Type 0} (b : K → List ℕ) where
+  pub rows_hold : (l : ℕ) (c : Option (List ℕ)) (r : Row K (List ℕ)) → CachesHold b (page l c r) → RowCachesHold b r
+  rows_hold l None r p = p
+  rows_hold l (Some d) r p = p.2
+
+  as_held-hold : (l : ℕ) (r : Row K (List ℕ)) → RowCachesHold b r → HeldCachesHold b (as_held l r)
+  as_held-hold l (high h) p = p
+  as_held-hold l (node h k d r) p = p
+
+  module _ (cmp : K → K → Ordering) (at : K) where
+    mutual
+      pub split-hold : (r : Row K (List ℕ)) → RowCachesHold b r → RowCachesHold b (lower cmp at r) × RowCachesHold b (upper cmp at r)
+      split-hold (high h) p = held_split-hold h p
+      split-hold (node h k d r) p = by (is_gt (cmp at k)) (split-hold r p.1) (held_split-hold h p.0)
+        where
+          by : (c : Bool) → RowCachesHold b (lower cmp at r) × RowCachesHold b (upper cmp at r) → HeldCachesHold b (held_lower cmp at h) × HeldCachesHold b (held_upper cmp at h)
+              → RowCachesHold b (if c then (node h k d (lower cmp at r)) else (high (held_lower cmp at h))) × RowCachesHold b (if c then (upper cmp at r) else (node (held_upper cmp at h) k d r))
+          by true s u = ((p.0, s.0), s.1)
+          by false s u = (u.0, (u.1, p.1))
+
+      pub held_split-hold : (h : Held K (List ℕ)) → HeldCachesHold b h → HeldCachesHold b (held_lower cmp at h) × HeldCachesHold b (held_upper cmp at h)
+      held_split-hold nothing p = (tt, tt)
+      held_split-hold (below t) p = tree_split-hold t p
+
+      pub tree_split-hold : (t : Tree K (List ℕ)) → CachesHold b t → HeldCachesHold b (tree_lower cmp at t) × HeldCachesHold b (tree_upper cmp at t)
+      tree_split-hold (page l c (high h)) p = held_split-hold h (rows_hold l c (high h) p)
+      tree_split-hold (page l c (node h k d r)) p =
+          let s = split-hold (node h k d r) (rows_hold l c (node h k d r) p) in (as_held-hold l (lower cmp at (node h k d r)) s.0, as_held-hold l (upper cmp at (node h k d r)) s.1)
+
+  module _ (cmp : K → K → Ordering) (n : ℕ) (k : K) (d : List ℕ) where
+    put-hold : (r : Row K (List ℕ)) → RowCachesHold b r → RowCachesHold b (row_put cmp k d r)
+    put-hold (high h) p = held_split-hold cmp k h p
+    put-hold (node h x e r) p = by (cmp k x) (put-hold r p.1)
+      where
+        by : (q : Ordering) → RowCachesHold b (row_put cmp k d r)
+            → RowCachesHold b (match_ordering q (node (held_lower cmp k h) k d (node (held_upper cmp k h) x e r)) (node h x d r) (node h x e (row_put cmp k d r)))
+        by Less f = let s = held_split-hold cmp k h p.0 in (s.0, (s.1, p.1))
+        by Equal f = (p.0, p.1)
+        by Greater f = (p.0, f)
+
+    mutual
+      pub set-hold : (t : Tree K (List ℕ)) → CachesHold b t → CachesHold b (tree_set cmp n k d t)
+      set-hold (page m c (high h)) p = put-hold (high h) (rows_hold m c (high h) p)
+      set-hold (page m c (node h x e r)) p = by (nat_cmp n m) (sink-hold (node h x e r) rows) (put-hold (node h x e r) rows) (tree_split-hold cmp k (page m c (node h x e r)) p)
+        where
+          rows : RowCachesHold b (node h x e r)
+          rows = rows_hold m c (node h x e r) p
+
+          by : (q : Ordering) → RowCachesHold b (row_sink cmp n k d (node h x e r)) → RowCachesHold b (row_put cmp k d (node h x e r))
+              → HeldCachesHold b (tree_lower cmp k (page m c (node h x e r))) × HeldCachesHold b (tree_upper cmp k (page m c (node h x e r)))
+              → CachesHold b (match_ordering q (page m None (row_sink cmp n k d (node h x e r))) (page m None (row_put cmp k d (node h x e r))) (lifted cmp n k d (page m c (node h x e r))))
+          by Less f g i = f
+          by Equal f g i = g
+          by Greater f g i = i
+
+      sink-hold : (r : Row K (List ℕ)) → RowCachesHold b r → RowCachesHold b (row_sink cmp n k d r)
+      sink-hold (high h) p = gap-hold h p
+      sink-hold (node h x e r) p = by (cmp k x) (sink-hold r p.1) (gap-hold h p.0)
+        where
+          by : (q : Ordering) → RowCachesHold b (row_sink cmp n k d r) → HeldCachesHold b (held_set cmp n k d h)
+              → RowCachesHold b (match_ordering q (node (held_set cmp n k d h) x e r) (node h x d r) (node h x e (row_sink cmp n k d r)))
+          by Less f g = (g, p.1)
+          by Equal f g = (p.0, p.1)
+          by Greater f g = (p.0, f)
+
+      gap-hold : (h : Held K (List ℕ)) → HeldCachesHold b h → HeldCachesHold b (held_set cmp n k d h)
+      gap-hold nothing p = (tt, tt)
+      gap-hold (below t) p = set-hold t p
+
+  -- below a page with a cached digest no digest is missing
+  mutual
+    pub none_missing : (t : Tree K (List ℕ)) (c : List ℕ) → cache t ≡ Some c → CachesHold b t → missing t ≡ 0
+    none_missing (page l None r) c e p = absurd (cc)
+    none_missing (page l (Some d) r) c e p = omega (arith, row_none_missing r p.1 p.2)
+
+    row_none_missing : (r : Row K (List ℕ)) → EachHasCache r → RowCachesHold b r → row_missing r ≡ 0
+    row_none_missing (high h) e p = held_none_missing h e p
+    row_none_missing (node h k d r) e p = omega (arith, held_none_missing h e.0 p.0, row_none_missing r e.1 p.1)
+
+    held_none_missing : (h : Held K (List ℕ)) → HasCache h → HeldCachesHold b h → held_missing h ≡ 0
+    held_none_missing nothing e p = refl
+    held_none_missing (below (page l None r)) e p = absurd e
+    held_none_missing (below (page l (Some d) r)) e p = omega (arith, row_none_missing r p.1 p.2)
+
+-- how many digests are dropped, where none was missing
+module _ {K D : Type 0} (cmp : K → K → Ordering) (lev : K → ℕ) (at : K) where
+  as_held-few : (l m : ℕ) (r : Row K D) → l < m → row_missing r ≤ l → held_missing (as_held l r) ≤ m
+  as_held-few l m (high h) s p = omega arith
+  as_held-few l m (node h k d r) s p = omega arith
+
+  mutual
+    pub split-few : (l : ℕ) (r : Row K D) → IsRow lev l r → row_missing r ≡ 0 → (row_missing (lower cmp at r) ≤ l) × (row_missing (upper cmp at r) ≤ l)
+    split-few l (high h) p z = held_split-few l h p z
+    split-few l (node h k d r) p z = by (is_gt (cmp at k)) (split-few l r p.2 (omega arith)) (held_split-few l h p.0 (omega arith))
+      where
+        by : (b : Bool) → (row_missing (lower cmp at r) ≤ l) × (row_missing (upper cmp at r) ≤ l) → (held_missing (held_lower cmp at h) ≤ l) × (held_missing (held_upper cmp at h) ≤ l)
+            → (row_missing (if b then (node h k d (lower cmp at r)) else (high (held_lower cmp at h))) ≤ l) × (row_missing (if b then (upper cmp at r) else (node (held_upper cmp at h) k d r)) ≤ l)
+        by true s u = (omega (arith, s.0), s.1)
+        by false s u = (u.0, omega (arith, u.1))
+
+    pub held_split-few : (l : ℕ) (h : Held K D) → IsGap lev l h → held_missing h ≡ 0 → (held_missing (held_lower cmp at h) ≤ l) × (held_missing (held_upper cmp at h) ≤ l)
+    held_split-few l nothing p z = (omega arith, omega arith)
+    held_split-few l (below (page m c (high h))) p z = absurd p.1
+    held_split-few l (below (page m c (node h k d r))) p z =
+        let s = split-few m (node h k d r) p.2 (omega arith) in
+        (as_held-few m l (lower cmp at (node h k d r)) p.0 s.0, as_held-few m l (upper cmp at (node h k d r)) p.0 s.1)
+
+module _ {K D : Type 0} (cmp : K → K → Ordering) (lev : K → ℕ) (n : ℕ) (k : K) (d : D) where
+  put-few : (r : Row K D) → IsRow lev n r → row_missing r ≡ 0 → row_missing (row_put cmp k d r) ≤ n + n
+  put-few (high h) p z = let s = held_split-few cmp lev k n h p z in omega (arith, s.0, s.1)
+  put-few (node h x e r) p z = by (cmp k x) (put-few r p.2 (omega arith)) (held_split-few cmp lev k n h p.0 (omega arith))
+    where
+      by : (q : Ordering) → row_missing (row_put cmp k d r) ≤ n + n → (held_missing (held_lower cmp k h) ≤ n) × (held_missing (held_upper cmp k h) ≤ n)
+          → row_missing (match_ordering q (node (held_lower cmp k h) k d (node (held_upper cmp k h) x e r)) (node h x d r) (node h x e (row_put cmp k d r))) ≤ n + n
+      by Less f s = omega (arith, s.0, s.1)
+      by Equal f s = omega arith
+      by Greater f s = omega arith
+
+  mutual
+    pub set-few : (t : Tree K D) → HasNode t → IsCanonical lev t → missing t ≡ 0 → missing (tree_set cmp n k d t) ≤ level (tree_set cmp n k d t) + n + 1
+    set-few (page m c (high h)) w p z = absurd w
+    set-few (page m c (node h x e r)) w p z =
+        by (nat_cmp n m) (ranks n m) (λ q. sink-few m (node h x e r) q p (omega arith)) (λ q. put-few (node h x e r) (subst (λ j. IsRow lev j (node h x e r)) (sym q) p) (omega arith))
+        (split-few cmp lev k m (node h x e r) p (omega arith))
+      where
+        by : (q : Ordering) → MatchOrdering q (n < m) (n ≡ m) (m < n)
+            → (n < m → row_missing (row_sink cmp n k d (node h x e r)) ≤ m + n) → (n ≡ m → row_missing (row_put cmp k d (node h x e r)) ≤ n + n)
+            → (row_missing (lower cmp k (node h x e r)) ≤ m) × (row_missing (upper cmp k (node h x e r)) ≤ m)
+            → missing (match_ordering q (page m None (row_sink cmp n k d (node h x e r))) (page m None (row_put cmp k d (node h x e r))) (lifted cmp n k d (page m c (node h x e r))))
+            ≤ level (match_ordering q (page m None (row_sink cmp n k d (node h x e r))) (page m None (row_put cmp k d (node h x e r))) (lifted cmp n k d (page m c (node h x e r)))) + n + 1
+        by Less q f g s = omega (arith, f q)
+        by Equal q f g s = omega (arith, g q)
+        by Greater q f g s = omega (arith, as_held-few cmp lev k m n (lower cmp k (node h x e r)) q s.0, as_held-few cmp lev k m n (upper cmp k (node h x e r)) q s.1)
+
+    sink-few : (m : ℕ) (r : Row K D) → n < m → IsRow lev m r → row_missing r ≡ 0 → row_missing (row_sink cmp n k d r) ≤ m + n
+    sink-few m (high h) s p z = gap-few m h s p z
+    sink-few m (node h x e r) s p z = by (cmp k x) (sink-few m r s p.2 (omega arith)) (gap-few m h s p.0 (omega arith))
+      where
+        by : (q : Ordering) → row_missing (row_sink cmp n k d r) ≤ m + n → held_missing (held_set cmp n k d h) ≤ m + n
+            → row_missing (match_ordering q (node (held_set cmp n k d h) x e r) (node h x d r) (node h x e (row_sink cmp n k d r))) ≤ m + n
+        by Less f g = omega arith
+        by Equal f g = omega arith
+        by Greater f g = omega arith
+
+    gap-few : (m : ℕ) (h : Held K D) → n < m → IsGap lev m h → held_missing h ≡ 0 → held_missing (held_set cmp n k d h) ≤ m + n
+    gap-few m nothing s p z = omega arith
+    gap-few m (below (page l c (high h))) s p z = absurd p.1
+    gap-few m (below (page l c (node h x e r))) s p z =
+        by (nat_cmp n l) (ranks n l) (λ q. sink-few l (node h x e r) q p.2 (omega arith)) (λ q. put-few (node h x e r) (subst (λ j. IsRow lev j (node h x e r)) (sym q) p.2) (omega arith))
+        (split-few cmp lev k l (node h x e r) p.2 (omega arith))
+      where
+        by : (q : Ordering) → MatchOrdering q (n < l) (n ≡ l) (l < n)
+            → (n < l → row_missing (row_sink cmp n k d (node h x e r)) ≤ l + n) → (n ≡ l → row_missing (row_put cmp k d (node h x e r)) ≤ n + n)
+            → (row_missing (lower cmp k (node h x e r)) ≤ l) × (row_missing (upper cmp k (node h x e r)) ≤ l)
+            → missing (match_ordering q (page l None (row_sink cmp n k d (node h x e r))) (page l None (row_put cmp k d (node h x e r))) (lifted cmp n k d (page l c (node h x e r)))) ≤ m + n
+        by Less q f g t = omega (arith, f q, p.0)
+        by Equal q f g t = omega (arith, g q, p.0)
+        by Greater q f g t = omega (arith, as_held-few cmp lev k l n (lower cmp k (node h x e r)) q t.0, as_held-few cmp lev k l n (upper cmp k (node h x e r)) q t.1)
+
+  pub set-few_root : (t : Tree K D) → IsCanonicalRoot lev t → missing t ≡ 0 → missing (tree_set cmp n k d t) ≤ level (tree_set cmp n k d t) + n + 1
+  set-few_root (page m c (high nothing)) p z = omega arith
+  set-few_root (page m c (high (below t))) p z = absurd p
+  set-few_root (page m c (node h x e r)) p z = set-few (page m c (node h x e r)) tt p z

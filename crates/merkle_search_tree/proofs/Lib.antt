@@ -1,0 +1,16 @@
+pub mod Rows
+pub mod Parts
+pub mod Gaps
+pub mod Unique
+pub mod TreeOf
+pub mod Sides
+pub mod Set
+pub mod Keeps
+pub mod Drops
+pub mod Same
+pub mod Sound
+pub mod Upserts
+pub mod Equals
+pub mod Copies
+pub mod Paths
+pub mod Fill

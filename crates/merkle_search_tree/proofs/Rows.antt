@@ -1,0 +1,19 @@
+-- A page's row, read off its list of nodes.
+use Rattle.std.proofs.Common.{◌≡◌, ℕ, zero, suc, ◌<◌, ◌≤◌, List, [], ◌∷◌, length, get_or, refl, ap, arith}
+use Rattle.merkle_search_tree.specs.Tree.{Held, Node, row, row_size, held_size, node_size}
+use Rattle.merkle_search_tree.specs.Page.{row_nodes}
+
+module _ {K D : Type 0} where
+  pub row_nodes-row : (es : List (Node K D)) (h : Held K D) → row_nodes (row es h) ≡ es
+  row_nodes-row [] h = refl
+  row_nodes-row (e ∷ es) h = ap (λ xs. e ∷ xs) (row_nodes-row es h)
+
+  -- a node, and what is above them all, is no larger than the row
+  pub size_at : (es : List (Node K D)) (h : Held K D) (i : ℕ) (d : Node K D) → i < length es → node_size (get_or es i d) ≤ row_size (row es h)
+  size_at [] h i d r = absurd (omega arith)
+  size_at (e ∷ es) h zero d r = omega arith
+  size_at (e ∷ es) h (suc i) d r = let r' : i < length es = omega arith in omega (arith, size_at es h i d r')
+
+  pub size_high : (es : List (Node K D)) (h : Held K D) → held_size h ≤ row_size (row es h)
+  size_high [] h = omega arith
+  size_high (e ∷ es) h = omega (arith, size_high es h)

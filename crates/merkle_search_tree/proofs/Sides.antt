@@ -1,0 +1,159 @@
+-- The pairs of a map on both sides of a key.
+use Rattle.std.proofs.Common.{◌≡◌, ◌≢◌, ℕ, List, [], ◌∷◌, ◌++◌, Bool, true, false, ◌||◌, refl, ap, sym, ◌∙◌, arith}
+use Rattle.std.specs.declared.cmp.Ordering.{Ordering}
+use Rattle.std.specs.declared.cmp.Ordering.TheVariants.{Less, Equal, Greater}
+use Rattle.std.specs.Ordering.{is_eq, is_gt, is_lt, match_ordering}
+use Rattle.std.specs.Cmp.{IsTotalOrder}
+use Rattle.std.specs.List.{AllByRecursion}
+use Rattle.key_order.specs.Order.{Upto, Below}
+use Rattle.key_order.specs.Map.{IsMap, set, has_key}
+use Rattle.key_order.proofs.Orders.{turned, low_up, up_low, low_is_up}
+use Rattle.merkle_search_tree.proofs.Unique.{Under}
+
+all-append : {X : Type 0} (P : X → Type 0) (xs ys : List X) → AllByRecursion P xs → AllByRecursion P ys → AllByRecursion P (xs ++ ys)
+all-append P [] ys a b = b
+all-append P (x ∷ xs) ys a b = (a.0, all-append P xs ys a.1 b)
+
+all-first : {X : Type 0} (P : X → Type 0) (xs ys : List X) → AllByRecursion P (xs ++ ys) → AllByRecursion P xs
+all-first P [] ys a = tt
+all-first P (x ∷ xs) ys a = (a.0, all-first P xs ys a.1)
+
+all-rest : {X : Type 0} (P : X → Type 0) (xs ys : List X) → AllByRecursion P (xs ++ ys) → AllByRecursion P ys
+all-rest P [] ys a = a
+all-rest P (x ∷ xs) ys a = all-rest P xs ys a.1
+
+is_less : (r : Ordering) → is_lt r ≡ true → r ≡ Less
+is_less Less h = refl
+is_less Equal h = cc
+is_less Greater h = cc
+
+is_greater : (r : Ordering) → is_gt r ≡ true → r ≡ Greater
+is_greater Less h = cc
+is_greater Equal h = cc
+is_greater Greater h = refl
+
+-- what is neither above nor equal is below
+pub not_above : (r : Ordering) → r ≢ Equal → is_gt r ≡ false → is_lt r ≡ true
+not_above Less ne e = refl
+not_above Equal ne e = absurd (ne refl)
+not_above Greater ne e = cc
+
+by_equal : (o : Ordering) (b : Bool) → o ≢ Equal → b ≡ false → is_eq o || b ≡ false
+by_equal Less b ne e = e
+by_equal Equal b ne e = absurd (ne refl)
+by_equal Greater b ne e = e
+
+module _ {K : Type 0} (cmp : K → K → Ordering) where
+  pub less-below : (k x : K) → cmp k x ≡ Less → Below cmp k x
+  less-below k x e = ap is_lt e
+
+  pub less-upto : (k x : K) → cmp k x ≡ Less → Upto cmp k x
+  less-upto k x e = ap is_gt e
+
+  below≢ : (k x : K) → Below cmp k x → cmp k x ≢ Equal
+  below≢ k x h e = let g = sym h ∙ ap is_lt e in cc
+
+module _ {K : Type 0} (cmp : K → K → Ordering) (o : IsTotalOrder cmp) where
+  above≢ : (k x : K) → Below cmp x k → cmp k x ≢ Equal
+  above≢ k x h e = let g = sym h ∙ turned cmp o k x ∙ ap is_gt e in cc
+
+  pub greater-upto : (k x : K) → cmp k x ≡ Greater → Upto cmp x k
+  greater-upto k x e = low_is_up cmp o x k (turned cmp o k x ∙ ap is_gt e)
+
+module _ {K D : Type 0} (cmp : K → K → Ordering) where
+  -- every key is above k
+  abbrev pub AllAbove : K → List (K × D) → Type 0
+  AllAbove k = AllByRecursion (λ p. Below cmp k p.0)
+
+  -- every key is below k
+  abbrev pub AllBelow : K → List (K × D) → Type 0
+  AllBelow k = AllByRecursion (λ p. Below cmp p.0 k)
+
+  -- no key is equal to k
+  abbrev pub NoEqual : K → List (K × D) → Type 0
+  NoEqual k = AllByRecursion (λ p. cmp k p.0 ≢ Equal)
+
+  pub above-append : (k : K) (xs ys : List (K × D)) → AllAbove k xs → AllAbove k ys → AllAbove k (xs ++ ys)
+  above-append k = all-append (λ p. Below cmp k p.0)
+
+  pub below-append : (k : K) (xs ys : List (K × D)) → AllBelow k xs → AllBelow k ys → AllBelow k (xs ++ ys)
+  below-append k = all-append (λ p. Below cmp p.0 k)
+
+  pub no_equal-first : (k : K) (xs ys : List (K × D)) → NoEqual k (xs ++ ys) → NoEqual k xs
+  no_equal-first k = all-first (λ p. cmp k p.0 ≢ Equal)
+
+  pub no_equal-rest : (k : K) (xs ys : List (K × D)) → NoEqual k (xs ++ ys) → NoEqual k ys
+  no_equal-rest k = all-rest (λ p. cmp k p.0 ≢ Equal)
+
+  -- parts of a map are maps
+  pub map-first : (xs ys : List (K × D)) → IsMap cmp (xs ++ ys) → IsMap cmp xs
+  map-first [] ys a = tt
+  map-first (x ∷ xs) ys a = (all-first (λ p. Below cmp x.0 p.0) xs ys a.0, map-first xs ys a.1)
+
+  pub map-rest : (xs ys : List (K × D)) → IsMap cmp (xs ++ ys) → IsMap cmp ys
+  map-rest [] ys a = a
+  map-rest (x ∷ xs) ys a = map-rest xs ys a.1
+
+  -- what stands before a key is below it
+  pub map-before : (xs : List (K × D)) (p : K × D) (ys : List (K × D)) → IsMap cmp (xs ++ p ∷ ys) → AllBelow p.0 xs
+  map-before [] p ys a = tt
+  map-before (x ∷ xs) p ys a = ((all-rest (λ q. Below cmp x.0 q.0) xs (p ∷ ys) a.0).0, map-before xs p ys a.1)
+
+  pub no_equal-above : (k : K) (ps : List (K × D)) → AllAbove k ps → NoEqual k ps
+  no_equal-above k [] a = tt
+  no_equal-above k (p ∷ ps) a = (below≢ cmp k p.0 a.0, no_equal-above k ps a.1)
+
+  -- keys of lower levels are not equal to one of this level
+  pub no_equal-under : (lev : K → ℕ) (respects : (a b : K) → cmp a b ≡ Equal → lev a ≡ lev b) (k : K) (n : ℕ) → lev k ≡ n → (ps : List (K × D)) → Under lev n ps → NoEqual k ps
+  no_equal-under lev respects k n e [] u = tt
+  no_equal-under lev respects k n e (p ∷ ps) u = (λ q. let r = respects k p.0 q in absurd (omega (arith, u.0)), no_equal-under lev respects k n e ps u.1)
+
+  pub has_key-none : (k : K) (ps : List (K × D)) → NoEqual k ps → has_key cmp ps k ≡ false
+  has_key-none k [] a = refl
+  has_key-none k (p ∷ ps) a = by_equal (cmp k p.0) (has_key cmp ps k) a.0 (has_key-none k ps a.1)
+
+  pub has_key-append : (k : K) (xs ys : List (K × D)) → has_key cmp (xs ++ ys) k ≡ has_key cmp xs k || has_key cmp ys k
+  has_key-append k [] ys = refl
+  has_key-append k (x ∷ xs) ys = by (is_eq (cmp k x.0)) (has_key-append k xs ys)
+    where
+      by : (b : Bool) → has_key cmp (xs ++ ys) k ≡ has_key cmp xs k || has_key cmp ys k → b || has_key cmp (xs ++ ys) k ≡ (b || has_key cmp xs k) || has_key cmp ys k
+      by true e = refl
+      by false e = e
+
+  -- setting a key stops at those above it
+  pub set-stop : (k : K) (d : D) (ys : List (K × D)) → AllAbove k ys → set cmp ys k d ≡ (k, d) ∷ ys
+  set-stop k d [] a = refl
+  set-stop k d (y ∷ ys) a = ap (λ o. match_ordering o ((k, d) ∷ y ∷ ys) ((y.0, d) ∷ ys) (y ∷ set cmp ys k d)) (is_less (cmp k y.0) a.0)
+
+  -- and leaves them where it is set before them
+  pub set-front : (k : K) (d : D) (xs ys : List (K × D)) → AllAbove k ys → set cmp (xs ++ ys) k d ≡ set cmp xs k d ++ ys
+  set-front k d [] ys a = set-stop k d ys a
+  set-front k d (x ∷ xs) ys a = by (cmp k x.0) (set-front k d xs ys a)
+    where
+      by : (o : Ordering) → set cmp (xs ++ ys) k d ≡ set cmp xs k d ++ ys
+          → match_ordering o ((k, d) ∷ x ∷ (xs ++ ys)) ((x.0, d) ∷ (xs ++ ys)) (x ∷ set cmp (xs ++ ys) k d) ≡ match_ordering o ((k, d) ∷ x ∷ xs) ((x.0, d) ∷ xs) (x ∷ set cmp xs k d) ++ ys
+      by Less e = refl
+      by Equal e = refl
+      by Greater e = ap (λ zs. x ∷ zs) e
+
+  module _ (o : IsTotalOrder cmp) where
+    pub no_equal-below : (k : K) (ps : List (K × D)) → AllBelow k ps → NoEqual k ps
+    no_equal-below k [] a = tt
+    no_equal-below k (p ∷ ps) a = (above≢ cmp o k p.0 a.0, no_equal-below k ps a.1)
+
+    -- setting a key passes over those below it
+    pub set-pass : (k : K) (d : D) (xs ys : List (K × D)) → AllBelow k xs → set cmp (xs ++ ys) k d ≡ xs ++ set cmp ys k d
+    set-pass k d [] ys a = refl
+    set-pass k d (x ∷ xs) ys a =
+        ap (λ o. match_ordering o ((k, d) ∷ x ∷ (xs ++ ys)) ((x.0, d) ∷ (xs ++ ys)) (x ∷ set cmp (xs ++ ys) k d)) (is_greater (cmp k x.0) (sym (turned cmp o k x.0) ∙ a.0))
+        ∙ ap (λ zs. x ∷ zs) (set-pass k d xs ys a.1)
+
+    -- what is below a key that is at most k is below k
+    pub below-more : (k x : K) (ps : List (K × D)) → Upto cmp x k → AllBelow x ps → AllBelow k ps
+    below-more k x [] e a = tt
+    below-more k x (p ∷ ps) e a = (low_up cmp o p.0 x k a.0 e, below-more k x ps e a.1)
+
+    -- what is above a key that is at least k is above k
+    pub above-more : (k x : K) (ps : List (K × D)) → Upto cmp k x → AllAbove x ps → AllAbove k ps
+    above-more k x [] e a = tt
+    above-more k x (p ∷ ps) e a = (up_low cmp o k x p.0 e a.0, above-more k x ps e a.1)

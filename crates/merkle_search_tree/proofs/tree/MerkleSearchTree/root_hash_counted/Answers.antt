@@ -1,0 +1,21 @@
+use Rattle.std.proofs.Common.{rules, ap, sym, subst, ◌∙◌, Some}
+use Rattle.std.specs.Int.NonZero.{non_zero_u8_get}
+use Rattle.key_order.specs.Map.{IsMap}
+use Rattle.merkle_digest.specs.Level.{level_of}
+use Rattle.merkle_search_tree.proofs.Fill.{pairs-filled, IsCanonicalRoot-filled, CachesHold-filled, cache-filled}
+use Rattle.merkle_search_tree.proofs.tree.MerkleSearchTree.root_hash_counted.Goals as goal
+
+pub fill-digest-requires : goal.fill-digest-requires
+fill-digest-requires g c = let fits = g.met.H.Hasher.fits in let holds = c.self.invariant.caches in search rules
+
+pub invariant_of-self : goal.invariant_of-self
+invariant_of-self g c =
+    let s = c.self.inside in
+    let h = c.self.invariant in
+    let b = g.K.KeyBytes.bytes_of in
+    rw (c.fill-digest.ensures.pages, c.new.ensures, c.fill-digest.ensures.digest) (record {
+      ascending = rw (pairs-filled b s.root) h.ascending;
+      canonical = IsCanonicalRoot-filled (λ k. level_of (g.H.Hasher.digest_of s.hasher k) (non_zero_u8_get s.level_base)) b s.root h.canonical;
+      caches = CachesHold-filled b s.root;
+      root_hash_holds = cache-filled b s.root;
+    })

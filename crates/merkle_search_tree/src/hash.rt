@@ -1,0 +1,81 @@
+//! The digests that pages lack: how many there are, and filling them in.
+
+ghost use Rattle.std.specs.Prelude.{◌≡◌, ◌++◌, ◌-◌, ◌^◌, ℕ, List, min};
+ghost use Rattle.merkle_digest.specs.Sip24.{Holds};
+ghost use Rattle.merkle_search_tree.specs.Tree.{held_of};
+ghost use Rattle.merkle_search_tree.specs.Stream.{page_digest, held_digest};
+ghost use Rattle.merkle_search_tree.specs.Cache.{CachesHold, HeldCachesHold, missing, held_missing, filled, held_filled};
+
+use crate::page::{Page, PageOf};
+use merkle_digest::{KeyBytes, PageDigest, Sip24};
+
+impl<K, D> PageOf<K, D> {
+    /// How many pages lack a digest, this one and those below it, but at most `usize::MAX`.
+    #[cycle(missing)]
+    pub(crate) fn missing(&self) -> usize
+        ensures { result ≡ min (missing self.now) (2 ^ 64 - 1) }
+    {
+        let mut count: usize = if self.tree_hash.is_none() { 1 } else { 0 };
+        'nodes: for node in &self.nodes {
+            count = count.saturating_add(missing_below(&node.lt_pointer));
+        }
+        count.saturating_add(missing_below(&self.high_page))
+    }
+}
+
+/// How many pages lack a digest in what a pointer holds.
+#[cycle(missing)]
+fn missing_below<K, D>(held: &Option<Box<PageOf<K, D>>>) -> usize
+    ensures { result ≡ min (held_missing (held_of held.now)) (2 ^ 64 - 1) }
+{
+    match held {
+        None => 0,
+        Some(page) => page.missing(),
+    }
+}
+
+impl<const N: usize, K: KeyBytes> Page<N, K> {
+    /// Fills in every missing digest of this page and those below it, and gives this page's digest, and how many pages got one.
+    /// Below a page with a digest it does not look.
+    #[cycle(fill)]
+    pub(crate) fn fill(&mut self) -> (PageDigest, usize)
+        requires { CachesHold K.bytes_of self.old }
+        ensures pages { self.new ≡ filled K.bytes_of self.old }
+        ensures digest { result.0 ≡ page_digest K.bytes_of self.old }
+        ensures count { result.1 ≡ min (missing self.old) (2 ^ 64 - 1) }
+    {
+        if let Some(digest) = &self.tree_hash {
+            return (PageDigest::new(*digest.as_bytes()), 0);
+        }
+        let mut sip = Sip24::new();
+        let mut hashed: usize = 1;
+        'nodes: for i in 0..self.nodes.len() {
+            let node = &mut self.nodes[i];
+            hashed = hashed.saturating_add(fill_below(&mut node.lt_pointer, &mut sip));
+            sip.write(node.key.key_bytes());
+            sip.write(node.value_hash.as_bytes());
+        }
+        hashed = hashed.saturating_add(fill_below(&mut self.high_page, &mut sip));
+        let bytes = sip.finish128();
+        self.tree_hash = Some(PageDigest::new(bytes));
+        (PageDigest::new(bytes), hashed)
+    }
+}
+
+/// Fills in the digests of what a pointer holds, writes the digest of the page there to `sip`, and answers how many pages got one.
+#[cycle(fill)]
+fn fill_below<const N: usize, K: KeyBytes>(held: &mut Option<Box<Page<N, K>>>, sip: &mut Sip24) -> usize
+    requires { HeldCachesHold K.bytes_of (held_of held.old) }
+    ensures pages { held_of held.new ≡ held_filled K.bytes_of (held_of held.old) }
+    ensures bytes { (key written : List ℕ) → Holds sip.old key written → Holds sip.new key (written ++ held_digest K.bytes_of (held_of held.old)) }
+    ensures count { result ≡ min (held_missing (held_of held.old)) (2 ^ 64 - 1) }
+{
+    match held {
+        None => 0,
+        Some(page) => {
+            let (digest, hashed) = page.fill();
+            sip.write(digest.as_bytes());
+            hashed
+        }
+    }
+}

@@ -1,0 +1,26 @@
+//! A Merkle search tree: a map from keys to digests of values, kept as a tree of pages whose shape and digests depend on the map
+//! alone (Auvolat and Taïani, "Merkle Search Trees: Efficient State-Based CRDTs in Open Networks"). Peers that hold the same map
+//! have the same root hash, in whatever order their keys came.
+//!
+//! The level of a key, from 0 to 255, is read off its digest. The keys of the greatest level are the nodes of the root page, and
+//! the keys between two nodes stand in a page below, by the same rule.
+#![tactic(auto)]
+
+pub mod builder;
+mod copy;
+mod equality;
+mod hash;
+pub mod laws;
+mod node_iter;
+mod page;
+mod spare;
+mod split;
+mod tree;
+mod upsert;
+
+pub use merkle_diff as diff;
+pub use merkle_digest as digest;
+pub use node_iter::{NodeIter, NodeIterOf};
+pub use page::{Node, NodeOf, Page, PageOf};
+pub use tree::MerkleSearchTree;
+pub use upsert::UpsertRefused;

@@ -1,0 +1,238 @@
+//! The tree.
+
+ghost use Rattle.std.specs.Prelude.{◌≡◌, ◌≢◌, ◌+◌, ◌≤◌, None, OnOk, OnErr, IfOk, IfErr, IsOk, true, map};
+ghost use Rattle.std.specs.Option.{option_map};
+ghost use Rattle.std.specs.Int.NonZero.{non_zero_u8_get};
+ghost use Rattle.key_order.specs.Order.{Same};
+ghost use Rattle.key_order.specs.Map.{set, has_key};
+ghost use Rattle.merkle_digest.specs.Level.{level_of};
+ghost use Rattle.merkle_digest.specs.SipHash.{zero_key};
+ghost use Rattle.merkle_search_tree.specs.Tree.{page, high, nothing};
+ghost use Rattle.merkle_search_tree.specs.Page.{level, pair_of, nodes_in_order};
+ghost use Rattle.merkle_search_tree.specs.Cache.{missing, KeyUncached};
+ghost use Rattle.merkle_search_tree.specs.Copy.{IsCopy};
+ghost use Rattle.merkle_search_tree.specs.State.{map_of, IsNew};
+
+use crate::builder::Builder;
+use crate::node_iter::NodeIter;
+use crate::page::Page;
+use crate::upsert::UpsertRefused;
+use merkle_digest::{Hasher, KeyBytes, PageDigest, RootHash, SipHasher, ValueDigest, level};
+use std::alloc::{AllocError, Global};
+use std::marker::{Model, PhantomData};
+use std::num::NonZeroU8;
+
+/// A Merkle search tree (Auvolat and Taïani, "Merkle Search Trees: Efficient State-Based CRDTs in Open Networks"): an ordered map
+/// from keys to digests of values, whose pages and root hash depend on the map, the hasher and the level base alone, and not on
+/// the order in which keys came.
+///
+/// A contract sees the tree as its hasher, its level base, its root page with all caches, and its cached root hash. Of every
+/// tree it holds that the keys ascend, that the pages are the tree of the map, that each cached digest is that of its page with
+/// every page below it cached too, and that a cached root hash is the digest of the root page.
+///
+/// The tree keeps the allocator that it was made with.
+#[derive(Drop)]
+pub struct MerkleSearchTree<K: Ord + KeyBytes, V, H: Hasher<N, K>, const N: usize> {
+    alloc: Global,
+    hasher: H,
+    level_base: NonZeroU8,
+    pub(crate) root: Page<N, K>,
+    root_hash: Option<RootHash>,
+    value_type: PhantomData<V>,
+}
+
+impl<K: Ord + KeyBytes, V, H: Hasher<N, K>, const N: usize> Model for MerkleSearchTree<K, V, H, N> {
+    ghost use Rattle.std.specs.Int.NonZero.{non_zero_u8_get};
+    ghost use Rattle.merkle_search_tree.specs.State.{State, state_code};
+
+    ghost Value = { State K H };
+
+    ghost coded = { state_code K.code H.code };
+
+    ghost view = { λ a. record { hasher = a.hasher; base = non_zero_u8_get a.level_base; root = a.root; root_hash = a.root_hash } };
+
+    ghost use Rattle.merkle_search_tree.specs.Sound.{IsSound};
+
+    ghost invariant = { λ a. IsSound K.cmp H.digest_of K.bytes_of (record { hasher = a.hasher; base = non_zero_u8_get a.level_base; root = a.root; root_hash = a.root_hash }) };
+}
+
+impl<K: Ord + KeyBytes, V, const N: usize> MerkleSearchTree<K, V, SipHasher, N>
+where
+    SipHasher: Hasher<N, K>,
+{
+    /// The empty tree with the default hasher, SipHash under the zero key, and level base 16. It takes no memory.
+    pub fn with_defaults(alloc: Global) -> Self
+        ensures { IsNew zero_key 16 result }
+    {
+        Builder::default().build(alloc)
+    }
+}
+
+impl<K: Ord + KeyBytes, V, H: Hasher<N, K>, const N: usize> MerkleSearchTree<K, V, H, N> {
+    /// The empty tree with this hasher and level base 16. It takes no memory.
+    ///
+    /// Deprecated: use [`Builder`](crate::builder::Builder).
+    pub fn new_with_hasher(alloc: Global, hasher: H) -> Self
+        ensures { IsNew hasher 16 result }
+    {
+        MerkleSearchTree::new(alloc, hasher, merkle_digest::default_level_base())
+    }
+
+    /// The empty tree with this hasher and level base.
+    pub(crate) fn new(alloc: Global, hasher: H, level_base: NonZeroU8) -> Self
+        ensures { IsNew hasher (non_zero_u8_get level_base) result }
+    {
+        MerkleSearchTree {
+            alloc,
+            hasher,
+            level_base,
+            root: Page::empty(alloc),
+            root_hash: None,
+            value_type: PhantomData,
+        }
+    }
+
+    /// The digest of the root page, where it is cached: `None` for a new tree, and after every accepted upsert until the tree is
+    /// hashed again.
+    pub fn root_hash_cached(&self) -> Option<&RootHash>
+        ensures { option_map (λ digest. digest.now) result ≡ self.now.root_hash }
+    {
+        self.root_hash.as_ref()
+    }
+
+    /// The nodes of all pages, in ascending key order: as many items as the tree has keys. The memory that the iteration takes,
+    /// room for one page more than the level of the root, is taken here.
+    pub fn node_iter(&self) -> Result<NodeIter<'_, N, K>, AllocError>
+        ensures nodes { IfOk result (λ rest. rest ≡ nodes_in_order self.now.root) }
+        ensures map { IfOk result (λ rest. map pair_of rest ≡ map_of self.now) }
+    {
+        NodeIter::new(self.alloc, &self.root)
+    }
+}
+
+impl<K: Ord + KeyBytes, V, H: Hasher<N, K>, const N: usize> MerkleSearchTree<K, V, H, N> {
+    ghost use Rattle.std.specs.Prelude.{◌≡◌, ◌-◌, ◌^◌, min, Some, ⊤};
+    ghost use Rattle.merkle_search_tree.specs.Stream.{page_digest};
+    ghost use Rattle.merkle_search_tree.specs.Cache.{missing, filled};
+    ghost use Rattle.merkle_search_tree.specs.contracts.tree.MerkleSearchTree.{the_row};
+    ghost use Rattle.std.specs.Borrow.{sem};
+    ghost use mathlib.Core.Option.{none};
+    ghost use denote.Follow.{follows_so};
+    ghost use denote.Param.{number};
+
+    /// How many pages lack a digest, but at most `usize::MAX`: none of a hashed tree.
+    pub fn pages_to_hash(&self) -> usize
+        ensures { result ≡ min (missing self.now.root) (2 ^ 64 - 1) }
+    {
+        self.root.missing()
+    }
+
+    /// The digest of the root page: SipHash-2-4-128 of its stream under the zero key, whatever the tree's own hasher is. It
+    /// fills in the digests that pages lack, and takes no memory. Trees of equal maps have equal root hashes; the converse holds
+    /// only as far as no digests collide.
+    pub fn root_hash(&mut self) -> &RootHash
+        ensures* tree { sem 𝓛 (follows_so (the_row K.row V.row H.row (number N) K.Ord.own K.PartialEq K.PartialOrd.own K.KeyBytes.own H.Hasher) (the_row K.row V.row H.row (number N) K.Ord.own K.PartialEq K.PartialOrd.own K.KeyBytes.own H.Hasher) self.entry.ghost_name none (λ _ _. ⊤)
+            (λ t. t ≡ record self.old { root = filled K.bytes_of self.old.root; root_hash = Some (page_digest K.bytes_of self.old.root) })) }
+        ensures digest { result.now ≡ page_digest K.bytes_of self.old.root }
+    {
+        let _ = self.root_hash_counted();
+        match &self.root_hash {
+            Some(digest) => digest,
+            None => unreachable!(),
+        }
+    }
+
+    /// The root hash, as [`root_hash`](Self::root_hash) gives it, and how many pages were hashed in this call: one for each page
+    /// that lacked a digest, but at most `usize::MAX`.
+    pub fn root_hash_counted(&mut self) -> (RootHash, usize)
+        ensures tree { self.new ≡ record self.old { root = filled K.bytes_of self.old.root; root_hash = Some (page_digest K.bytes_of self.old.root) } }
+        ensures digest { result.0 ≡ page_digest K.bytes_of self.old.root }
+        ensures count { result.1 ≡ min (missing self.old.root) (2 ^ 64 - 1) }
+    {
+        let (digest, hashed) = self.root.fill();
+        let bytes = *digest.as_bytes();
+        self.root_hash = Some(RootHash::new(digest));
+        (RootHash::new(PageDigest::new(bytes)), hashed)
+    }
+}
+
+impl<K: Ord + KeyBytes + Clone, V, H: Hasher<N, K> + Clone, const N: usize> MerkleSearchTree<
+    K,
+    V,
+    H,
+    N,
+> {
+    /// A tree with equal pages, all cached digests included, and the same hasher, level base and cached root hash.
+    pub fn try_clone(&self) -> Result<Self, AllocError>
+        // A clone equals its original.
+        requires keys { (a b : K) → K.is_clone a b → Same K.cmp a b }
+        requires hashers { (a b : H) → H.is_clone a b → b ≡ a }
+
+        ensures pages { IfOk result (λ copy. IsCopy (Same K.cmp) (λ d e. d ≡ e) self.now.root copy.root) }
+        ensures hasher { IfOk result (λ copy. copy.hasher ≡ self.now.hasher) }
+        ensures base { IfOk result (λ copy. copy.base ≡ self.now.base) }
+        ensures root_hash { IfOk result (λ copy. copy.root_hash ≡ self.now.root_hash) }
+    {
+        let hasher = self.hasher.clone()?;
+        let root = self.root.try_clone(self.alloc)?;
+        let root_hash = copy_root_hash(&self.root_hash)?;
+        Ok(MerkleSearchTree {
+            alloc: self.alloc,
+            hasher,
+            level_base: self.level_base,
+            root,
+            root_hash,
+            value_type: PhantomData,
+        })
+    }
+}
+
+impl<
+    K: Ord + KeyBytes + Drop,
+    V: Eq,
+    H: Hasher<N, K> + Hasher<N, V>,
+    const N: usize,
+> MerkleSearchTree<K, V, H, N> {
+    /// Sets `key` to the digest of `value`. Where an equal key is there, it stays, and gets the new digest; no memory is taken
+    /// then, and the upsert is accepted.
+    ///
+    /// Accepted, it drops the cached root hash and the cached digest of each page whose subtree then holds the key, even where
+    /// the digest stays the same. It is refused only for want of memory: the key is handed back, and the pages, all cached
+    /// digests and the cached root hash are as before.
+    pub fn upsert(&mut self, key: K, value: &V) -> Result<(), UpsertRefused<K>>
+        // The map has the key with the digest of the value.
+        ensures set { OnOk result (map_of self.new ≡ set K.cmp (map_of self.old) key (⟦<H as Hasher<N, V>>⟧.digest_of self.old.hasher value.now)) }
+
+        // No digest over the key is left, and into a hashed tree few others are dropped.
+        ensures forgotten { OnOk result (self.new.root_hash ≡ None) }
+        ensures dropped { OnOk result (KeyUncached K.cmp key self.new.root) }
+        ensures few { OnOk result (self.old.root_hash ≢ None → missing self.new.root ≤ level self.new.root + level_of (⟦<H as Hasher<N, K>>⟧.digest_of self.old.hasher key) self.old.base + 1) }
+
+        ensures hasher { self.new.hasher ≡ self.old.hasher }
+        ensures base { self.new.base ≡ self.old.base }
+
+        // Refused, it leaves the tree and hands the key back.
+        ensures unchanged { OnErr result (self.new ≡ self.old) }
+        ensures returned { IfErr result (λ refused. refused ≡ key) }
+        ensures succeeds { has_key K.cmp (map_of self.old) key ≡ true → IsOk result }
+    {
+        let digest = ValueDigest::new(<H as Hasher<N, V>>::hash(&self.hasher, value));
+        let key_level = level(
+            &<H as Hasher<N, K>>::hash(&self.hasher, &key),
+            self.level_base,
+        );
+        self.root.set(self.alloc, key, key_level, digest)?;
+        self.root_hash = None;
+        Ok(())
+    }
+}
+
+/// A copy of a cached root hash, where there is one. It never fails.
+fn copy_root_hash(digest: &Option<RootHash>) -> Result<Option<RootHash>, AllocError>
+    ensures { IfOk result (λ copy. copy ≡ digest.now) }
+{
+    match digest {
+        None => Ok(None),
+        Some(digest) => Ok(Some(digest.clone()?)),
+    }
+}

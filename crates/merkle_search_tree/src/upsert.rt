@@ -1,0 +1,225 @@
+//! Setting a key in a subtree.
+
+ghost use Rattle.std.specs.Prelude.{◌≡◌, ℕ, false, OnOk, OnErr, IfErr};
+ghost use Rattle.merkle_search_tree.specs.Tree.{row, held_of};
+ghost use Rattle.merkle_search_tree.specs.Upsert.{lifted, row_put, row_finds, tree_set, tree_finds, held_set, held_finds};
+
+use crate::page::{NodeOf, PageOf};
+use crate::spare::Spare;
+use crate::split::{Part, find_idx, split_off_lt};
+use std::alloc::Global;
+use std::cmp::Ordering;
+use std::marker::Model;
+use std::mem;
+
+/// An upsert that was refused for want of memory. It holds the key, and nothing in the tree has changed.
+#[derive(Drop)]
+pub struct UpsertRefused<K> {
+    pub(crate) key: K,
+}
+
+impl<K> Model for UpsertRefused<K> {
+    ghost Value = { K };
+
+    ghost view = { λ refused. refused.key };
+}
+
+impl<K> UpsertRefused<K> {
+    /// The key that was not set.
+    pub fn into_key(self) -> K
+        ensures { result ≡ self }
+    {
+        self.key
+    }
+}
+
+impl<K: Ord + Drop, D: Drop> PageOf<K, D> {
+    /// Puts a page with the key over this one, which is parted at the key.
+    fn lift(&mut self, alloc: Global, key: K, level: u8, digest: D) -> Result<(), UpsertRefused<K>>
+        ensures done { OnOk result (self.new ≡ lifted K.cmp level key digest self.old) }
+        ensures unchanged { OnErr result (self.new ≡ self.old) }
+        ensures returned { IfErr result (λ refused. refused ≡ key) }
+    {
+        let spare = match Spare::new(alloc, 1) {
+            Ok(spare) => spare,
+            Err(_) => return Err(UpsertRefused { key }),
+        };
+        let parted = match self.split(alloc, &key) {
+            Ok(parted) => parted,
+            Err(_) => return Err(UpsertRefused { key }),
+        };
+        let Spare {
+            page: mut home,
+            nodes: mut nodes,
+        } = spare;
+        *home = mem::replace(self, PageOf::empty(alloc));
+        let (below, above) = match parted {
+            Part::Below(above) => (Some(home), above),
+            Part::Rest(low) => (low, Some(home)),
+        };
+        let node = NodeOf {
+            key,
+            value_hash: digest,
+            lt_pointer: below,
+        };
+        match nodes.push(node) {
+            Ok(()) => {}
+            Err(_) => unreachable!(),
+        }
+        *self = PageOf {
+            level,
+            tree_hash: None,
+            nodes,
+            high_page: above,
+        };
+        Ok(())
+    }
+}
+
+/// Puts a key among the nodes of a page, or its digest where the key is there; what stands in its gap is parted at it.
+fn put<K: Ord + Drop, D: Drop>(
+    alloc: Global,
+    nodes: &mut Vec<NodeOf<K, D>>,
+    high_page: &mut Option<Box<PageOf<K, D>>>,
+    key: K,
+    digest: D,
+) -> Result<(), UpsertRefused<K>>
+    ensures done { OnOk result (row nodes.new.items (held_of high_page.new) ≡ row_put K.cmp key digest (row nodes.old.items (held_of high_page.old))) }
+    ensures unchanged { OnErr result (row nodes.new.items (held_of high_page.new) ≡ row nodes.old.items (held_of high_page.old)) }
+    ensures returned { IfErr result (λ refused. refused ≡ key) }
+    ensures absent { (level : ℕ) → OnErr result (row_finds K.cmp level key digest false (row nodes.old.items (held_of high_page.old)) ≡ false) }
+{
+    let at = find_idx(nodes, &key);
+    if at == nodes.len() {
+        if nodes.reserve(1).is_err() {
+            return Err(UpsertRefused { key });
+        }
+        let low = match split_off_lt(alloc, high_page, &key) {
+            Ok(low) => low,
+            Err(_) => return Err(UpsertRefused { key }),
+        };
+        let node = NodeOf {
+            key,
+            value_hash: digest,
+            lt_pointer: low,
+        };
+        return match nodes.push(node) {
+            Ok(()) => Ok(()),
+            Err(_) => unreachable!(),
+        };
+    }
+    let found = &mut nodes[at];
+    if let Ordering::Equal = key.cmp(&found.key) {
+        found.value_hash = digest;
+        return Ok(());
+    }
+    if nodes.reserve(1).is_err() {
+        return Err(UpsertRefused { key });
+    }
+    let low = match split_off_lt(alloc, &mut nodes[at].lt_pointer, &key) {
+        Ok(low) => low,
+        Err(_) => return Err(UpsertRefused { key }),
+    };
+    let node = NodeOf {
+        key,
+        value_hash: digest,
+        lt_pointer: low,
+    };
+    match nodes.insert(at, node) {
+        Ok(()) => Ok(()),
+        Err(_) => unreachable!(),
+    }
+}
+
+impl<K: Ord + Drop, D: Drop> PageOf<K, D> {
+    /// Puts a key of the level into the subtree.
+    #[cycle(set)]
+    pub(crate) fn set(
+        &mut self,
+        alloc: Global,
+        key: K,
+        level: u8,
+        digest: D,
+    ) -> Result<(), UpsertRefused<K>>
+        ensures done { OnOk result (self.new ≡ tree_set K.cmp level key digest self.old) }
+        ensures unchanged { OnErr result (self.new ≡ self.old) }
+        ensures returned { IfErr result (λ refused. refused ≡ key) }
+        ensures absent { OnErr result (tree_finds K.cmp level key digest self.old ≡ false) }
+    {
+        if self.nodes.is_empty() {
+            put(alloc, &mut self.nodes, &mut self.high_page, key, digest)?;
+            self.level = level;
+            self.tree_hash = None;
+            return Ok(());
+        }
+        match level.cmp(&self.level) {
+            Ordering::Equal => {
+                put(alloc, &mut self.nodes, &mut self.high_page, key, digest)?;
+                self.tree_hash = None;
+                Ok(())
+            }
+            Ordering::Greater => self.lift(alloc, key, level, digest),
+            Ordering::Less => {
+                let at = find_idx(&self.nodes, &key);
+                if at == self.nodes.len() {
+                    set_below(alloc, &mut self.high_page, key, level, digest)?;
+                    self.tree_hash = None;
+                    return Ok(());
+                }
+                let found = &mut self.nodes[at];
+                if let Ordering::Equal = key.cmp(&found.key) {
+                    found.value_hash = digest;
+                    self.tree_hash = None;
+                    return Ok(());
+                }
+                set_below(alloc, &mut self.nodes[at].lt_pointer, key, level, digest)?;
+                self.tree_hash = None;
+                Ok(())
+            }
+        }
+    }
+}
+
+/// Puts a key of the level into what stands in a gap.
+#[cycle(set)]
+fn set_below<K: Ord + Drop, D: Drop>(
+    alloc: Global,
+    held: &mut Option<Box<PageOf<K, D>>>,
+    key: K,
+    level: u8,
+    digest: D,
+) -> Result<(), UpsertRefused<K>>
+    ensures done { OnOk result (held_of held.new ≡ held_set K.cmp level key digest (held_of held.old)) }
+    ensures unchanged { OnErr result (held_of held.new ≡ held_of held.old) }
+    ensures returned { IfErr result (λ refused. refused ≡ key) }
+    ensures absent { OnErr result (held_finds K.cmp level key digest (held_of held.old) ≡ false) }
+{
+    if let Some(page) = held {
+        return page.set(alloc, key, level, digest);
+    }
+    let spare = match Spare::new(alloc, 1) {
+        Ok(spare) => spare,
+        Err(_) => return Err(UpsertRefused { key }),
+    };
+    let Spare {
+        page: mut home,
+        nodes: mut nodes,
+    } = spare;
+    let node = NodeOf {
+        key,
+        value_hash: digest,
+        lt_pointer: None,
+    };
+    match nodes.push(node) {
+        Ok(()) => {}
+        Err(_) => unreachable!(),
+    }
+    *home = PageOf {
+        level,
+        tree_hash: None,
+        nodes,
+        high_page: None,
+    };
+    *held = Some(home);
+    Ok(())
+}
