@@ -5,8 +5,8 @@ use Rattle.std.specs.Ordering.{is_gt, is_eq}
 use Rattle.std.specs.declared.cmp.Ordering.{Ordering}
 use Rattle.std.specs.declared.cmp.Ordering.TheVariants.{Less, Equal, Greater}
 use Rattle.key_order.specs.Interval.{Span, Meets, IsWithin, SameSpan, meets, is_within, same_span}
-use Rattle.key_order.specs.Order.{Upto, Below, Same, upto, below}
-use Rattle.key_order.proofs.Orders.{turned, either, same_from, up_self}
+use Rattle.key_order.specs.Order.{Upto, Below, Same, upto}
+use Rattle.key_order.proofs.Orders.{turned, same_from, up_self}
 
 pub both : (a b : Bool) → (a && b) ≡ true → (a ≡ true) × (b ≡ true)
 both true b h = (refl, h)
@@ -50,13 +50,6 @@ module _ {K : Type 0} (cmp : K → K → Ordering) (o : IsTotalOrder cmp) where
 
   pub same_trans : (a b c : K) → Same cmp a b → Same cmp b c → Same cmp a c
   same_trans a b c h k = o.congr a b c h ∙ k
-
-  pub not_below : (a b : K) → below cmp a b ≡ false → Upto cmp b a
-  not_below a b h = go (either cmp o b a)
-    where
-      go : Upto cmp b a ⊎ Below cmp a b → Upto cmp b a
-      go (inl k) = k
-      go (inr k) = let e = sym k ∙ h in cc
 
   pub meets_by : (s t : Span K) → meets cmp s t ≡ true → Meets cmp s t
   meets_by s t h = let p = both (upto cmp s.first t.last) (upto cmp t.first s.last) h in (by_upto s.first t.last p.0, by_upto t.first s.last p.1)

@@ -1,7 +1,7 @@
-//! Range lists and cuts, by answers that were worked out by hand.
+//! Range lists, by answers that were worked out by hand.
 use super::texts::{Bounds, bounds_of, ranges};
 use crate::DiffRange;
-use crate::parts::{DiffListBuilder, RangeList, reduce_sync_range};
+use crate::parts::{DiffListBuilder, RangeList};
 use std::alloc::{AllocError, Global};
 use std::test::Fail;
 
@@ -66,73 +66,6 @@ fn leaves_no_two_that_meet(rt: HostRuntime) -> Result<(), Fail> {
     Ok(())
 }
 
-/// A line for each: a bad range, good ranges, and what is left of the bad one.
-const CUTS: &str = "\
-4-10 | 5-8 | 4-5 8-10
-4-10 | 4-6 6-10 |
-4-10 | 4-6 6-8 | 8-10
-4-10 | 5-10 | 4-5
-4-10 | 4-8 | 8-10
-2-15 | 2-2 5-5 15-15 | 2-15
-";
-
-fn diff_ranges(alloc: Global, ranges: &[Bounds]) -> Result<Vec<DiffRange<'_, u64>>, AllocError> {
-    let mut list = Vec::new(alloc);
-    for range in ranges {
-        if range.0 <= range.1 {
-            list.push(DiffRange::new(&range.0, &range.1))?;
-        }
-    }
-    Ok(list)
-}
-
-fn built(alloc: Global, bad: &[Bounds], good: &[Bounds]) -> Result<Vec<Bounds>, AllocError> {
-    let mut builder = DiffListBuilder::new(alloc);
-    for range in bad {
-        if range.0 <= range.1 {
-            builder.inconsistent(&range.0, &range.1)?;
-        }
-    }
-    for range in good {
-        if range.0 <= range.1 {
-            builder.consistent(&range.0, &range.1)?;
-        }
-    }
-    bounds_of(alloc, &builder.into_diff_vec()?)
-}
-
-#[test]
-fn cuts_as_worked_out(rt: HostRuntime) -> Result<(), Fail> {
-    for line in CUTS.lines() {
-        let (bad, rest) = line.split_once('|').ok_or("no good ranges")?;
-        let (good, left) = rest.split_once('|').ok_or("no answer")?;
-        let bad = ranges(rt.alloc(), bad)?;
-        let good = ranges(rt.alloc(), good)?;
-        let left = ranges(rt.alloc(), left)?;
-        assert_eq!(rt; built(rt.alloc(), &bad, &good)?, left, "built at {line}");
-        assert!(rt; bad.len() == 1 && bad[0].0 <= bad[0].1);
-        let mut one = Vec::new(rt.alloc());
-        one.push(DiffRange::new(&bad[0].0, &bad[0].1))?;
-        let reduced = reduce_sync_range(rt.alloc(), one, diff_ranges(rt.alloc(), &good)?)?;
-        assert_eq!(rt; bounds_of(rt.alloc(), &reduced)?, left, "reduced at {line}");
-    }
-    Ok(())
-}
-
-#[test]
-fn cuts_100_000_good_ranges_out_of_one(rt: HostRuntime) -> Result<(), Fail> {
-    let mut good = Vec::with_capacity(rt.alloc(), 100_000)?;
-    for i in 0..100_000u64 {
-        good.push((3 * i + 1, 3 * i + 2))?;
-    }
-    let left = built(rt.alloc(), &[(0, 300_000)], &good)?;
-    assert_eq!(rt; left.len(), 100_001);
-    for (i, range) in left.iter().enumerate() {
-        assert_eq!(rt; range.1.checked_sub(range.0), Some(1), "at {i}");
-    }
-    Ok(())
-}
-
 /// Ranges no two of which meet, in ascending order.
 const APART: [Bounds; 12] = [
     (0, 1),
@@ -190,12 +123,4 @@ fn a_refused_mark_leaves_the_builder(rt: HostRuntime) -> Result<(), Fail> {
     }
     assert!(rt; is_accepted(&builder.into_diff_vec()?, &accepted));
     Ok(())
-}
-
-// And a cut is right, or it is want of memory.
-#[test]
-fn cuts_or_wants_memory(rt: HostRuntime) {
-    if let Ok(left) = built(rt.alloc(), &[(4, 10), (20, 30)], &[(5, 8), (20, 22)]) {
-        assert_eq!(rt; left.as_slice(), [(4, 5), (8, 10), (22, 30)].as_slice());
-    }
 }

@@ -49,10 +49,15 @@ returns-clause-ok g c =
     let bad = spans c.merged-bad.result.items in
     let good = spans c.merged-good.result.items in
     IfOk-weaker c.cut_apart.result _ _
-    (λ found h. (ls, ps, c.in_ok-marks.ensures.2, c.in_ok-marks.ensures.3,
+    (λ found h. (
+      ls,
+      ps,
+      c.in_ok-marks.ensures.2,
+      c.in_ok-marks.ensures.3,
       by-walk g.K.Ord.cmp ls ps c.in-Some.first (span c.range-outer.result) (spans c.in_ok-marks.marks.bad.items) (spans c.in_ok-marks.marks.good.items) bad good (spans found.items)
-      (sym c.in-Some.is ∙ front-is g.J.Iterator.next_gives c.args.peers ps c.in_ok-marks.ensures.3) c.range-outer.ensures c.in_ok-marks.ensures.4 c.merged-bad.ensures c.merged-good.ensures
-      (subst (λ rs. IsExactCut g.K.Ord.cmp bad (spans rs) (spans found.items)) c.deref.ensures.value h)))
+          (sym c.in-Some.is ∙ front-is g.J.Iterator.next_gives c.args.peers ps c.in_ok-marks.ensures.3) c.range-outer.ensures c.in_ok-marks.ensures.4 c.merged-bad.ensures c.merged-good.ensures
+          (subst (λ rs. IsExactCut g.K.Ord.cmp bad (spans rs) (spans found.items)) c.deref.ensures.value h),
+    ))
     c.cut_apart.ensures.exact
 
 pub returns-in_err-marks-clause-err : goal.returns-in_err-marks-clause-err
