@@ -5,3 +5,5 @@ pub mod Maps
 pub mod Values
 pub mod Sets
 pub mod Joins
+pub mod Places
+pub mod Numbers

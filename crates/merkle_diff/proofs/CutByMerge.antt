@@ -3,13 +3,13 @@ use Rattle.std.proofs.Common.{◌≡◌, Bool, true, false, List, [], ◌∷◌,
 use Rattle.std.specs.Cmp.{IsTotalOrder}
 use Rattle.std.specs.List.{AllByRecursion, flat_map}
 use Rattle.std.specs.declared.cmp.Ordering.{Ordering}
-use Rattle.key_order.proofs.Orders.{chains, either, up_up, up_low, low_up, low_is_up, not_both, not_low_self, up_self, same_up, same_down, same_from}
+use Rattle.key_order.proofs.Orders.{either, up_up, up_low, low_up, low_is_up, not_both, not_low_self, up_self, same_up, same_down, same_from}
 use Rattle.key_order.specs.Interval.{Span, IsOrdered, IsIn, IsCovered, Meets, IsWithin, IsApart, meets}
 use Rattle.key_order.specs.Order.{Upto, Below, Same, AnyByRecursion, below}
 use Rattle.merkle_diff.proofs.Cuts.{left-ordered}
-use Rattle.merkle_diff.proofs.Each.{any-map, any-with, each-with, each-mapped, any-get, any-left, any-right, any-split, any-unmapped}
+use Rattle.merkle_diff.proofs.Each.{any-map, each-with, any-get, any-left, any-right, any-split, any-unmapped}
 use Rattle.merkle_diff.proofs.Merged.{merge-to, merge-from, merge-is_apart, merge-is_ordered, merge-holds}
-use Rattle.merkle_diff.proofs.Tests.{same_trans, meets_by, not_meets}
+use Rattle.merkle_diff.proofs.OrderTests.{same_trans, meets_by, not_meets}
 use Rattle.merkle_diff.specs.Cut.{IsExactCut, piece, cut_one, pieces_left}
 use Rattle.merkle_diff.specs.Merge.{AreThose, IsMerge}
 

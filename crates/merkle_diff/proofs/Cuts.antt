@@ -10,7 +10,7 @@ use Rattle.merkle_diff.specs.Cut.{IsCut, IsExactCut, IsBoundOf, piece, cut_one, 
 use Rattle.key_order.proofs.Orders.{up_up, up_low, low_up, low_is_up, not_both, either}
 use Rattle.merkle_diff.proofs.Merged.{merge-to, merge-from, merge-is_apart, merge-is_ordered}
 use Rattle.merkle_diff.proofs.Each.{any-map, each-with, each-both, any-get, any-left, any-right, any-split, any-unmapped, each-unmapped, each-append}
-use Rattle.merkle_diff.proofs.Tests.{same_trans, meets_by, not_meets, same-self}
+use Rattle.merkle_diff.proofs.OrderTests.{same_trans, meets_by, not_meets, same-self}
 
 module _ {K : Type 0} (cmp : K → K → Ordering) (o : IsTotalOrder cmp) where
   piece-in : (k a b : K) → IsCovered cmp k (piece cmp a b) → Upto cmp a k × Upto cmp k b

@@ -9,7 +9,7 @@ use Rattle.key_order.specs.Order.{Upto, upto}
 use Rattle.merkle_diff.specs.Walk.{Walk, Mark, no_peer, outside, held, no_local, between, agrees, differs, bad_of, good_of, gap_mark, gap_start, gap_end, front_within, after_within, bad_marks, last_holder, after_holders}
 use Rattle.merkle_diff.specs.Walk.Mark.{Bad, Good}
 use Rattle.merkle_diff.proofs.Each.{each-append}
-use Rattle.merkle_diff.proofs.Tests.{by_upto}
+use Rattle.merkle_diff.proofs.OrderTests.{by_upto}
 
 module _ {K D : Type 0} (cmp : K → K → Ordering) (o : IsTotalOrder cmp)
     (PE : Entry K D → Type 0) (LE : Entry K D → Type 0) (KB : K → Type 0) (MK : Mark K → Type 0)

@@ -18,7 +18,7 @@ use Rattle.merkle_diff.proofs.Cuts.{Bounds, cut-out, cut-ordered, left-bounds, m
 use Rattle.merkle_diff.proofs.Walks.{span_marked, walk_marks}
 use Rattle.merkle_diff.proofs.EachMark.{walk-each, each-bad, each-good}
 use Rattle.merkle_diff.proofs.Each.{any-map, each-with, each-both, any-get, each-before, each-behind, every-in}
-use Rattle.merkle_diff.proofs.Tests.{by_upto, by_above, same_trans, same-self, to_upto, not_upto, to_within, not_within, within_self}
+use Rattle.merkle_diff.proofs.OrderTests.{by_upto, by_above, same_trans, same-self, to_upto, not_upto, to_within, not_within, within_self}
 
 module _ {K : Type 0} (cmp : K → K → Ordering) (o : IsTotalOrder cmp) where
   pub none-merge : (m : List (Span K)) → IsMerge cmp [] m → m ≡ []
@@ -32,7 +32,7 @@ module _ {K : Type 0} (cmp : K → K → Ordering) (o : IsTotalOrder cmp) where
   pub no-found : (bad good found : List (Span K)) → IsMerge cmp [] bad → IsExactCut cmp bad good found → found ≡ []
   no-found bad good found m c = none-merge found (subst (λ xs. IsMerge cmp xs found) (ap (λ xs. pieces_left cmp xs good) (none-merge bad m) ∙ no-pieces good) c)
 
-  spans-trans : (xs ys zs : List (Span K)) → SameSpans cmp xs ys → SameSpans cmp ys zs → SameSpans cmp xs zs
+  pub spans-trans : (xs ys zs : List (Span K)) → SameSpans cmp xs ys → SameSpans cmp ys zs → SameSpans cmp xs zs
   spans-trans [] [] zs h k = k
   spans-trans [] (y ∷ ys) zs h k = absurd h
   spans-trans (x ∷ xs) [] zs h k = absurd h
@@ -128,7 +128,7 @@ module _ {K D : Type 0} (cmp : K → K → Ordering) (o : IsTotalOrder cmp) wher
     each-with (λ x. IsBoundOfEntry cmp es x.first × IsBoundOfEntry cmp es x.last) (λ x. IsBoundOfEntry cmp (e ∷ es) x.first × IsBoundOfEntry cmp (e ∷ es) x.last) es (λ x b. (inr b.0, inr b.1)) (entry-bounds es),
   )
 
-  bound-of_same : (es : List (Entry K D)) (k j : K) → Same cmp k j → IsBoundOfEntry cmp es j → IsBoundOfEntry cmp es k
+  pub bound-of_same : (es : List (Entry K D)) (k j : K) → Same cmp k j → IsBoundOfEntry cmp es j → IsBoundOfEntry cmp es k
   bound-of_same es k j e h = any-map (λ x. Same cmp j x.first ⊎ Same cmp j x.last) (λ x. Same cmp k x.first ⊎ Same cmp k x.last) es one h
     where
       one : (x : Entry K D) → Same cmp j x.first ⊎ Same cmp j x.last → Same cmp k x.first ⊎ Same cmp k x.last

@@ -95,9 +95,6 @@ added {K} {o} {e} {p} old new r ys h = rw h (go old)
     go [] = refl
     go (x ∷ xs) = ap (λ t. span x ∷ t) (go xs)
 
-pub range-is : {K : Type 0} {o e p : _} (r : DiffRange K o e p) (x : PageRange K o e p) → r.start ≡ x.start → r.end ≡ x.end → span r ≡ span_of (entry x)
-range-is r x s t = cc
-
 module _ {K D : Type 0} (cmp : K → K → Ordering) (s : Span K) (B0 G0 : List (Span K)) where
   -- how far the marking has come
   abbrev pub Marking : List (Span K) → List (Span K) → List (Entry K D) → List (Entry K D) → Type 0

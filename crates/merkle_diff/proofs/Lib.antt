@@ -1,6 +1,6 @@
 pub mod Each
 pub mod Slices
-pub mod Tests
+pub mod OrderTests
 pub mod Queues
 pub mod Merges
 pub mod Ranges
@@ -17,6 +17,7 @@ pub mod Turns
 pub mod Loops
 pub mod IntervalLaws
 pub mod TreeLaws
+pub mod SameAnswers
 pub mod FromWalk
 pub mod NoAnswer
 pub mod CutByMerge

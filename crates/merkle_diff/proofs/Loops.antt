@@ -51,9 +51,6 @@ module _ {I J K : Type 0} {o e p : _} (cmp : K → K → Ordering) (steps : I �
   abbrev Done : Span K → K → Marks K o e p → Marks K o e p → Lookahead I (PageRange K o e p) → Lookahead J (PageRange K o e p) → Lookahead I (PageRange K o e p) → Lookahead J (PageRange K o e p) → Type 0
   Done R from M M' l q l' q' = LeadsBoth steps peer_steps l q l' q' (Ends cmp R from (λ m. Marked M m M'))
 
-  pub goes-first : Goes [] outer None M0 l0 p0
-  goes-first ls ps hl hp = (ls, ps, hl, hp, λ m P2 L2 w. (m, refl, refl, w))
-
   more : (X X' : List (Span K)) (b m : List (Span K)) → X' ≡ X ++ b → X' ++ m ≡ X ++ (b ++ m)
   more X X' b m h = ap (λ t. t ++ m) h ∙ append_assoc X b m
 

@@ -14,7 +14,7 @@ use Rattle.merkle_diff.proofs.Merges.{swept-merge, up-greater, up-greater_2, low
 use Rattle.merkle_diff.proofs.Ranges.{merge-permuted}
 use Rattle.merkle_diff.proofs.Unique.{merge-unique, in-same, apart-same, ordered-same}
 use Rattle.merkle_diff.proofs.Each.{each-with, each-permuted, any-permuted}
-use Rattle.merkle_diff.proofs.Tests.{by_upto, by_above}
+use Rattle.merkle_diff.proofs.OrderTests.{by_upto, by_above}
 
 module _ {K : Type 0} (cmp : K → K → Ordering) (o : IsTotalOrder cmp) where
   -- ---- sorting

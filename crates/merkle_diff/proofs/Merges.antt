@@ -9,7 +9,7 @@ use Rattle.merkle_diff.specs.Merge.{Opens, Closes, IsMerge, IsAscendingByStart}
 use Rattle.merkle_diff.specs.Sweep.{greater, sweep, swept}
 use Rattle.key_order.proofs.Orders.{either, same_up, same_down, same_from, up_self, up_up, low_up, up_low, not_both, not_low_self, low_is_up}
 use Rattle.merkle_diff.proofs.Each.{any-map, any-with, each-with, each-both, each-any, each-mapped}
-use Rattle.merkle_diff.proofs.Tests.{by_upto, by_above, same_trans}
+use Rattle.merkle_diff.proofs.OrderTests.{by_upto, by_above, same_trans}
 
 module _ {K : Type 0} (cmp : K → K → Ordering) (o : IsTotalOrder cmp) where
   -- what closes at a key closes at an equal one

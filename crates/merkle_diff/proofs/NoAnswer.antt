@@ -16,7 +16,7 @@ use Rattle.merkle_diff.specs.Turn.{may_answer, head_may_answer, HeadsMayAnswer}
 use Rattle.merkle_diff.specs.Difference.{IsByWalk, MayAnswer}
 use Rattle.key_order.proofs.Orders.{either, low_up, low_is_up}
 use Rattle.merkle_diff.proofs.Queues.{front_of, Drains-from}
-use Rattle.merkle_diff.proofs.Tests.{both, or-left, or-right, or-either, not_upto, to_within, within_self, within_by}
+use Rattle.merkle_diff.proofs.OrderTests.{both, or-left, or-right, or-either, not_upto, to_within, within_self, within_by}
 
 none-merged : {K : Type 0} (cmp : K → K → Ordering) → IsMerge cmp [] []
 none-merged cmp = record { starts = record { ascends = tt; sound = tt; complete = tt }; ends = record { ascends = tt; sound = tt; complete = tt } }
@@ -70,10 +70,6 @@ begun becomes steps v it q x b s h = (it, q.rest, b, (q.rest, subst (λ z. steps
 pub on_err : {A E : Type 0} (r : Result A E) (P : Type 0) → P → OnErr r P
 on_err (Ok a) P p = tt
 on_err (Err e) P p = p
-
-pub err_weaker : {A E : Type 0} (r : Result A E) (P Q : Type 0) → (P → Q) → OnErr r P → OnErr r Q
-err_weaker (Ok a) P Q f h = tt
-err_weaker (Err e) P Q f h = f h
 
 -- where the test of the heads passes, a range may be answered
 pub heads-may_answer : {K : Type 0} {o e p : _} (cmp : K → K → Ordering) (t : IsTotalOrder cmp) (local peer : Option (PageRange K o e p)) (first : PageRange K o e p) (s : Span K)

@@ -10,7 +10,7 @@ use Rattle.key_order.specs.Interval.{Span, IsOrdered, Meets, IsApart, meets}
 use Rattle.key_order.specs.Order.{Upto, Below}
 use Rattle.merkle_diff.proofs.Cuts.{each-cut, each-piece}
 use Rattle.merkle_diff.proofs.Each.{each-with}
-use Rattle.merkle_diff.proofs.Tests.{meets_by, to_meets}
+use Rattle.merkle_diff.proofs.OrderTests.{meets_by, to_meets}
 use Rattle.merkle_diff.proofs.Touching.{Touches, flat-touches}
 use Rattle.merkle_diff.specs.Cut.{piece, cut_one, pieces_left}
 use Rattle.merkle_diff.specs.Merge.{IsMerge}

@@ -3,7 +3,13 @@ use Rattle.std.proofs.Common.{◌≡◌, List, [], ◌∷◌, ◌++◌, map, sym
 use Rattle.std.proofs.lemmas.List.{map-append}
 use Rattle.std.specs.declared.cmp.Ordering.{Ordering}
 use Rattle.std.specs.Iterator.{Drains, YieldsFirstBy}
+use Rattle.merkle_diff.specs.declared.page_range.PageRange.{PageRange}
+use Rattle.merkle_diff.specs.declared.page_range_snapshot.PageRangeSnapshot.{PageRangeSnapshot}
+use Rattle.merkle_diff.specs.declared.page_range_snapshot.SnapshotIter.{SnapshotIter}
 use Rattle.merkle_diff.specs.Entry.{Entry}
+use Rattle.merkle_diff.specs.Iterable.{Gives}
+use Rattle.merkle_diff.specs.PageRange.{entry, entries}
+use Rattle.merkle_diff.specs.PageRangeSnapshot.{entries_left, snapshot_entries}
 use Rattle.merkle_diff.specs.SameEntries.{SameEntry, SameEntries}
 
 module _ {K D : Type 0} (cmp : K → K → Ordering) where
@@ -25,3 +31,8 @@ pub drained : {S A B : Type 0} (view : A → B) (rest : S → List B) (s : S) (x
 drained view rest s [] d = sym (ap rest d.1.1 ∙ d.1.2.0)
 drained view rest s (x ∷ xs) d =
     ap (λ ys. view x ∷ ys) (drained view rest d.1.1.0 xs (d.0, (d.1.0, d.1.1.2, d.1.2))) ∙ sym d.1.1.1
+
+-- the ranges that the iterator of a snapshot gives are those of the snapshot
+pub given-by_snapshot : {K o e p : _} (s : PageRangeSnapshot K o e p) (it : SnapshotIter K o e p) (xs : List (PageRange K o e p)) → entries_left it ≡ snapshot_entries s
+    → Gives (λ from made. made ≡ from) (YieldsFirstBy entry entries_left) it xs → entries xs ≡ snapshot_entries s
+given-by_snapshot s it xs e h = drained entry entries_left h.0 xs h.2 ∙ ap entries_left h.1 ∙ e

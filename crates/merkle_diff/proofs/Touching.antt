@@ -10,7 +10,7 @@ use Rattle.merkle_diff.specs.Merge.{IsAscendingByStart}
 use Rattle.key_order.proofs.Orders.{up_up, low_is_up, up_self}
 use Rattle.merkle_diff.proofs.Cuts.{each-piece}
 use Rattle.merkle_diff.proofs.Each.{each-with, each-append}
-use Rattle.merkle_diff.proofs.Tests.{meets_by}
+use Rattle.merkle_diff.proofs.OrderTests.{meets_by}
 
 module _ {K : Type 0} (cmp : K → K → Ordering) where
   -- no range ends above a later start

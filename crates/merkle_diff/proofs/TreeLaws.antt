@@ -18,7 +18,7 @@ use Rattle.merkle_diff.proofs.Merged.{merge-holds}
 use Rattle.merkle_diff.proofs.Stacks.{Agree}
 use Rattle.merkle_diff.proofs.IntervalLaws.{no-found, by-table, law, good-ordered}
 use Rattle.merkle_diff.proofs.Each.{each-with, any-get, any-left, any-right, each-all}
-use Rattle.merkle_diff.proofs.Tests.{both, not-or, by_above, to_meets, to_within, not_within, within_self, same_by}
+use Rattle.merkle_diff.proofs.OrderTests.{both, not-or, by_above, to_meets, to_within, not_within, within_self, same_by}
 
 agree-by : {D : Type 0} {d e : D} (agree : Bool) → Agree agree d e → d ≡ e → agree ≡ true
 agree-by true h f = refl

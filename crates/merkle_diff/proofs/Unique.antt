@@ -8,7 +8,7 @@ use Rattle.key_order.specs.Order.{Below, Same, IsAscending, AnyByRecursion}
 use Rattle.merkle_diff.specs.Merge.{AreThose, IsMerge, Opens, Closes, SameSpans}
 use Rattle.key_order.proofs.Orders.{same_up, same_down, up_up, low_up, up_low, not_both, low_is_up}
 use Rattle.merkle_diff.proofs.Each.{any-map, each-with, each-both, any-get}
-use Rattle.merkle_diff.proofs.Tests.{same_trans, same_back}
+use Rattle.merkle_diff.proofs.OrderTests.{same_trans, same_back}
 
 module _ {K : Type 0} (cmp : K → K → Ordering) (o : IsTotalOrder cmp) where
   -- the same keys, place by place

@@ -10,7 +10,7 @@ use Rattle.merkle_diff.specs.Walk.{Walk, Mark, no_peer, outside, held, no_local,
 use Rattle.merkle_diff.specs.Walk.Mark.{Bad, Good}
 use Rattle.key_order.proofs.Orders.{up_up, up_self, low_is_up}
 use Rattle.merkle_diff.proofs.Each.{each-with, each-append}
-use Rattle.merkle_diff.proofs.Tests.{by_above, within_by, within_trans}
+use Rattle.merkle_diff.proofs.OrderTests.{by_above, within_by, within_trans}
 
 abbrev pub span_marked : {K : Type 0} → Mark K → Span K
 span_marked (Bad s) = s

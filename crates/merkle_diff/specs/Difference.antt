@@ -7,7 +7,7 @@ use Rattle.key_order.specs.Interval.{Span, IsOrdered, IsIn, IsInside, IsWithin, 
 use Rattle.merkle_diff.specs.Cut.{IsExactCut}
 use Rattle.merkle_diff.specs.Entry.{Entry, span_of, EntryWithin}
 use Rattle.merkle_diff.specs.Merge.{IsMerge, SameSpans}
-use Rattle.merkle_diff.specs.TreeShape.{leading_run}
+use Rattle.merkle_diff.specs.TreeShape.{IsTreeShaped, leading_run}
 use Rattle.merkle_diff.specs.Walk.{Walk, Mark, bad_of, good_of}
 
 module _ {K : Type 0} (cmp : K → K → Ordering) where
@@ -83,6 +83,15 @@ module _ {K D : Type 0} (cmp : K → K → Ordering) where
   IsByWalk ls (b ∷ ps) found =
       (ms : List (Mark K)) × (P : List (Entry K D)) × (L : List (Entry K D)) × (bad : List (Span K)) × (good : List (Span K))
       × Walk cmp (span_of b) None (b ∷ ps) ls ms P L × IsMerge cmp (bad_of ms) bad × IsMerge cmp (good_of ms) good × IsExactCut cmp bad good found
+
+  -- the answer on a local and a peer list
+  pub record IsAnswer (ls ps : List (Entry K D)) (found : List (Span K)) : Type 0 where
+    -- on any two lists
+    pub interval_laws : IsDifference ls ps found
+    -- on two lists in the shape of trees
+    pub laws_on_trees : IsTreeShaped cmp ls → IsTreeShaped cmp ps → SparesAgreed ls ps found
+    -- on any two lists, which fixes the answer up to equality of keys
+    pub exact_walk : IsByWalk ls ps found
 
   -- the first entries are such that a range may be answered: the peer's begins and ends before local's, or holds it
   abbrev pub MayAnswer : Entry K D → Entry K D → Type 0

@@ -1,21 +1,24 @@
 pub use Rattle.key_order.specs.Order
 pub use Rattle.key_order.specs.Interval
+-- ranges and lists of them, as entries and spans
 pub mod Entry
 pub mod SameEntries
 pub mod PageRange
 pub mod OwnedPageRange
 pub mod PageRangeSnapshot
 pub mod DiffRange
+pub mod RangeList
+pub mod DiffListBuilder
+pub mod Iterable
+-- what is promised of them
 pub mod Merge
 pub mod Cut
 pub mod TreeShape
-pub mod Iterable
 pub mod Walk
 pub mod Difference
-pub mod RangeList
+-- what the clauses of private functions cite alone: the code's steps
 pub mod Lookahead
 pub mod Sweep
+pub mod OnePass
 pub mod Stack
 pub mod Turn
-pub mod OnePass
-pub mod DiffListBuilder

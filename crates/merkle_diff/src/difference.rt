@@ -2,18 +2,17 @@
 ghost use Rattle.std.specs.Iterator.{IsFiniteIterable};
 ghost use Rattle.std.specs.Prelude.{[], ◌∷◌, ◌⊎◌, IfOk, OnErr};
 ghost use Rattle.merkle_diff.specs.DiffRange.{spans};
-ghost use Rattle.merkle_diff.specs.Difference.{IsDifference, SparesAgreed, IsByWalk, MayAnswer};
+ghost use Rattle.merkle_diff.specs.Difference.{IsAnswer, IsByWalk, MayAnswer};
 ghost use Rattle.merkle_diff.specs.Iterable.{Gives, Begins};
 ghost use Rattle.merkle_diff.specs.Lookahead.{CanGoOn, Leaves};
 ghost use Rattle.merkle_diff.specs.PageRange.{entry, entries};
-ghost use Rattle.merkle_diff.specs.TreeShape.{IsTreeShaped};
 ghost use Rattle.merkle_diff.specs.Turn.{HeadsMayAnswer};
 
 use crate::diff_range::DiffRange;
 use crate::lookahead::{Lookahead, drain, look_ahead};
 use crate::merge::merged;
 use crate::page_range::PageRange;
-use crate::reduce::reduce_sync_range;
+use crate::reduce::cut_apart;
 use crate::walk::{may_answer, walked};
 use std::alloc::{AllocError, Global};
 
@@ -34,20 +33,10 @@ where
     requires local_ends { IsFiniteIterable T.into_iter_gives T.IntoIter.can_next T.IntoIter.remaining local }
     requires peer_ends { IsFiniteIterable U.into_iter_gives U.IntoIter.can_next U.IntoIter.remaining peer }
 
-    // On any two lists.
-    ensures interval_laws { IfOk result (λ found. (ls : _) × (ps : _)
+    // The interval laws, the laws on trees and the exact walk hold of the two lists that were given.
+    ensures answer { IfOk result (λ found. (ls : _) × (ps : _)
         × Gives T.into_iter_gives T.IntoIter.next_gives local ls × Gives U.into_iter_gives U.IntoIter.next_gives peer ps
-        × IsDifference K.cmp (entries ls) (entries ps) (spans found.items)) }
-
-    // On two lists in the shape of trees.
-    ensures laws_on_trees { IfOk result (λ found. (ls : _) × (ps : _)
-        × Gives T.into_iter_gives T.IntoIter.next_gives local ls × Gives U.into_iter_gives U.IntoIter.next_gives peer ps
-        × (IsTreeShaped K.cmp (entries ls) → IsTreeShaped K.cmp (entries ps) → SparesAgreed K.cmp (entries ls) (entries ps) (spans found.items))) }
-
-    // On any two lists, which fixes the answer up to equality of keys.
-    ensures exact_walk { IfOk result (λ found. (ls : _) × (ps : _)
-        × Gives T.into_iter_gives T.IntoIter.next_gives local ls × Gives U.into_iter_gives U.IntoIter.next_gives peer ps
-        × IsByWalk K.cmp (entries ls) (entries ps) (spans found.items)) }
+        × IsAnswer K.cmp (entries ls) (entries ps) (spans found.items)) }
 
     // It is refused only where local is empty, or the first entries are such that a range may be answered.
     ensures memory { OnErr result ((b : _) × Begins U.into_iter_gives U.IntoIter.next_gives peer (b ∷ [])
@@ -89,5 +78,7 @@ where
         return Ok(Vec::new(alloc));
     }
     let marks = walked(alloc, outer, locals, peers)?;
-    reduce_sync_range(alloc, merged(marks.bad), merged(marks.good))
+    let bad = merged(marks.bad);
+    let good = merged(marks.good);
+    cut_apart(alloc, bad, &good)
 }

@@ -1,4 +1,11 @@
-//! Page ranges and their differences.
+//! Page ranges of Merkle search trees, and the ranges of keys in which two lists of them differ.
+//!
+//! A tree's list of page ranges is a summary that a replica sends to a peer: the span and the digest of each page, a page before
+//! those below it (Auvolat and Taïani, "Merkle Search Trees: Efficient State-Based CRDTs in Open Networks"). [`diff`] compares a
+//! local list with a peer's, and answers the ranges of keys that the local side can ask for. Both lists may be any lists: nothing
+//! that a peer sends makes it fail, and all that it promises of any list is in its contract.
+//!
+//! Keys are compared by their order alone, and borrowed, never cloned, but where a snapshot is made of borrowed ranges.
 #![tactic(auto)]
 
 mod diff_builder;
@@ -23,6 +30,7 @@ pub use owned_page_range::OwnedPageRange;
 pub use page_range::PageRange;
 pub use page_range_snapshot::{PageRangeSnapshot, SnapshotIter};
 
+/// What `diff` is made of: lists of ranges, their merge, and the cut of good ranges out of bad ones.
 pub mod parts {
     pub use crate::diff_builder::DiffListBuilder;
     pub use crate::merge::merge_overlapping;

@@ -58,7 +58,7 @@ impl<K: Ord> OwnedPageRange<K> {
     pub fn as_page_range(&self) -> PageRange<'_, K>
         ensures { entry result ≡ owned_entry self.now }
     {
-        PageRange::new(&self.start, &self.end, self.hash.clone().unwrap())
+        PageRange::new(self.start(), self.end(), self.hash.clone().unwrap())
     }
 }
 
@@ -71,7 +71,7 @@ impl<K: Ord + Drop> OwnedPageRange<K> {
         ensures range { IfSome result (λ r. owned_entry r ≡ record { first = start; last = end; digest = hash }) }
     {
         if start <= end {
-            Some(OwnedPageRange { start, end, hash })
+            Some(OwnedPageRange::new(start, end, hash))
         } else {
             None
         }

@@ -3,9 +3,10 @@ ghost use Rattle.std.proofs.Common.{rules};
 ghost use Rattle.std.specs.Cmp.{on_equiv, on_per};
 ghost use Rattle.std.specs.Cmp.Lexicographic.{lists_equiv, lists_per};
 ghost use Rattle.std.specs.Cmp.Rules.{comparing};
-ghost use Rattle.std.specs.Iterator.{IsFiniteIterable, YieldsFirstBy, item_count};
+ghost use Rattle.std.specs.Iterator.{IsFiniteIterable, UpTo, YieldsFirstBy, item_count};
+ghost use Rattle.std.specs.Iterator.SizeHint.{IsWithinCount};
 ghost use Rattle.std.specs.Ordering.{on};
-ghost use Rattle.std.specs.Prelude.{◌≡◌, IfOk, IsOkAnd};
+ghost use Rattle.std.specs.Prelude.{◌≡◌, IfOk, IfSome, IsOkAnd, length};
 ghost use Rattle.key_order.specs.Order.{Same};
 ghost use Rattle.merkle_diff.specs.Iterable.{Gives};
 ghost use Rattle.merkle_diff.specs.OwnedPageRange.{owned_entries};
@@ -56,8 +57,9 @@ impl<K: Ord + Drop> PageRangeSnapshot<K> {
         ensures { IfOk result (λ snapshot. (ranges : _) × Gives T.into_iter_gives T.IntoIter.next_gives iter ranges
             × (snapshot_entries snapshot ≡ owned_entries ranges)) }
     {
-        let ranges = iter.into_iter().collect(alloc)?;
-        Ok(PageRangeSnapshot { ranges })
+        Ok(PageRangeSnapshot {
+            ranges: iter.into_iter().collect(alloc)?,
+        })
     }
 }
 
@@ -89,7 +91,7 @@ impl<K: Ord + Clone> PageRangeSnapshot<K> {
         'clones: for range in iter {
             ranges.push(OwnedPageRange::from_range(alloc, range)?)?;
         }
-        Ok(PageRangeSnapshot { ranges })
+        PageRangeSnapshot::from_owned(alloc, ranges)
     }
 
     /// An equal snapshot, with clones of the keys. The answer is `AllocError` where memory is refused.
@@ -135,8 +137,12 @@ impl<'a, K: Ord> Iterator for SnapshotIter<'a, K> {
         Some(first.as_page_range())
     }
 
-    fn size_hint(&self) -> (usize, Option<usize>) {
-        let len = self.rest.len();
+    fn size_hint(&self) -> (usize, Option<usize>)
+        ensures lower { IsWithinCount result.0 (item_count entries_left self.now) }
+        ensures upper { IfSome result.1 (UpTo (item_count entries_left self.now)) }
+        ensures exact { result ≡ (length (entries_left self.now), Some (length (entries_left self.now))) }
+    {
+        let len = self.len();
         (len, Some(len))
     }
 }

@@ -1,3 +1,4 @@
+mod cuts;
 mod differences;
 mod page_ranges;
 mod range_lists;

@@ -1,4 +1,5 @@
-//! The walk.
+//! The walk over a peer's and a local list of page ranges, which marks ranges bad and good: a loop over the open ranges, the
+//! innermost last.
 ghost use Rattle.std.specs.Prelude.{◌≡◌, ◌↔◌, ◌≤◌, ◌<◌, ◌+◌, ◌∷◌, [], ◌++◌, if◌then◌else◌, IfSome, OnOk, IfOk, MatchOption, ◌*◌, vec_len, Some, None, IsTrue, IsSome, List};
 ghost use Rattle.key_order.specs.Interval.{is_within, Span};
 ghost use Rattle.merkle_diff.specs.Entry.{span_of};
@@ -233,7 +234,7 @@ where
     Ok(Some(range))
 }
 
-/// The walk of `outer`.
+/// The walk of `outer` from its start on.
 fn walk<'p, I, J, K>(
     alloc: Global,
     outer: DiffRange<'p, K>,
@@ -274,7 +275,7 @@ where
     }
 }
 
-/// Walks.
+/// The marks of the walk of `outer`. Both queues are then taken to their end.
 pub fn walked<'p, I, J, K>(
     alloc: Global,
     outer: DiffRange<'p, K>,

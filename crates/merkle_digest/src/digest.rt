@@ -5,8 +5,7 @@ ghost use Rattle.std.specs.Cmp.Lexicographic.{pointwise, slice_cmp};
 ghost use Rattle.std.specs.Cmp.Rules.{comparing};
 ghost use Rattle.std.specs.Ordering.{nat_cmp, as_partial_cmp};
 ghost use Rattle.std.proofs.Common.{rules};
-ghost use Rattle.base64.specs.Engines.{standard};
-ghost use Rattle.base64.specs.GeneralPurpose.{encode_of};
+ghost use Rattle.merkle_digest.specs.Digest.{base64_of};
 
 use base64::display::Base64Display;
 use base64::engine::general_purpose::STANDARD;
@@ -98,7 +97,7 @@ impl<const N: usize> PartialOrd for Digest<N> {
 }
 
 impl<const N: usize> fmt::Display for Digest<N> {
-    ghost output = { λ digest. Some (encode_of standard digest) };
+    ghost output = { λ digest. Some (base64_of digest) };
 
     fn fmt<W: fmt::Write>(&self, f: &mut fmt::Formatter<W>) -> fmt::Result {
         fmt::Display::fmt(&Base64Display::new(&self.bytes, &STANDARD), f)

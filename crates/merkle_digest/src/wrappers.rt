@@ -4,8 +4,7 @@ ghost use Rattle.std.specs.Prelude.{◌≡◌, ◌↔◌, ⊤, ℕ, List, Some, 
 ghost use Rattle.std.specs.Cmp.Lexicographic.{pointwise};
 ghost use Rattle.std.specs.Cmp.Rules.{comparing};
 ghost use Rattle.std.proofs.Common.{rules};
-ghost use Rattle.base64.specs.Engines.{standard};
-ghost use Rattle.base64.specs.GeneralPurpose.{encode_of};
+ghost use Rattle.merkle_digest.specs.Digest.{base64_of};
 
 use crate::digest::Digest;
 use std::alloc::AllocError;
@@ -79,7 +78,7 @@ impl PartialEq for RootHash {
 }
 
 impl fmt::Display for RootHash {
-    ghost output = { λ root_hash. Some (encode_of standard root_hash) };
+    ghost output = { λ root_hash. Some (base64_of root_hash) };
 
     fn fmt<W: fmt::Write>(&self, f: &mut fmt::Formatter<W>) -> fmt::Result {
         fmt::Display::fmt(&self.digest, f)
@@ -160,7 +159,7 @@ impl PartialEq for PageDigest {
 }
 
 impl fmt::Display for PageDigest {
-    ghost output = { λ page. Some (encode_of standard page) };
+    ghost output = { λ page. Some (base64_of page) };
 
     fn fmt<W: fmt::Write>(&self, f: &mut fmt::Formatter<W>) -> fmt::Result {
         fmt::Display::fmt(&self.digest, f)
@@ -231,7 +230,7 @@ impl<const N: usize> PartialEq for ValueDigest<N> {
 }
 
 impl<const N: usize> fmt::Display for ValueDigest<N> {
-    ghost output = { λ value. Some (encode_of standard value) };
+    ghost output = { λ value. Some (base64_of value) };
 
     fn fmt<W: fmt::Write>(&self, f: &mut fmt::Formatter<W>) -> fmt::Result {
         fmt::Display::fmt(&self.digest, f)

@@ -1,7 +1,7 @@
 //! `diff`, by answers that were worked out by hand and by those of the Rust crate.
 use super::rust_answers::RUST_ANSWERS;
-use super::texts::{difference, ranges, rows, Row};
-use crate::{diff, PageRange};
+use super::texts::{Row, difference, ranges, rows};
+use crate::{PageRange, diff};
 use merkle_digest::PageDigest;
 use std::alloc::{AllocError, Global};
 use std::process::Abort;
@@ -24,8 +24,7 @@ const WORKED_ANSWERS: &str = "\
 0-10:7 5-6:2 3-4:4 | 0-10:1 5-6:2 8-9:3 | 0-5 6-10
 ";
 
-fn answers_as_told(rt: &impl Abort, alloc: Global, text: &str) -> Result<usize, Fail> {
-    let mut told = 0;
+fn answers_as_told(rt: &impl Abort, alloc: Global, text: &str) -> Result<(), Fail> {
     for line in text.lines() {
         let (local, rest) = line.split_once('|').ok_or("no peer")?;
         let (peer, answer) = rest.split_once('|').ok_or("no answer")?;
@@ -34,21 +33,20 @@ fn answers_as_told(rt: &impl Abort, alloc: Global, text: &str) -> Result<usize, 
         let answer = ranges(alloc, answer)?;
         let found = difference(alloc, &local, &peer)?;
         assert_eq!(rt; found.as_slice(), answer.as_slice(), "at {line}");
-        told += 1;
     }
-    Ok(told)
+    Ok(())
 }
 
 #[test]
 fn answers_as_worked_out(rt: HostRuntime) -> Result<(), Fail> {
-    assert_eq!(rt; answers_as_told(&rt, rt.alloc(), WORKED_ANSWERS)?, 13);
-    Ok(())
+    assert_eq!(rt; WORKED_ANSWERS.lines().count(), 13);
+    answers_as_told(&rt, rt.alloc(), WORKED_ANSWERS)
 }
 
 #[test]
 fn answers_as_the_rust_crate(rt: HostRuntime) -> Result<(), Fail> {
-    assert_eq!(rt; answers_as_told(&rt, rt.alloc(), RUST_ANSWERS)?, 120);
-    Ok(())
+    assert_eq!(rt; RUST_ANSWERS.lines().count(), 120);
+    answers_as_told(&rt, rt.alloc(), RUST_ANSWERS)
 }
 
 /// The page ranges from `i` to `200000 - i` for `i` from 0 to 99,999, all with this digest.
@@ -69,13 +67,25 @@ fn answers_on_100_000_nested_ranges(rt: HostRuntime) -> Result<(), Fail> {
     Ok(())
 }
 
+/// As many times the page range from 0 to 9, with this digest.
+fn equal(alloc: Global, digest: u8, count: usize) -> Result<Vec<Row>, AllocError> {
+    let mut rows = Vec::with_capacity(alloc, count)?;
+    for _ in 0..count {
+        rows.push((0, 9, digest))?;
+    }
+    Ok(rows)
+}
+
 #[test]
 fn answers_on_100_000_equal_ranges(rt: HostRuntime) -> Result<(), Fail> {
-    let peer: Vec<Row> = vec![in rt.alloc(); (0, 9, 1); 100_000]?;
-    let local: Vec<Row> = vec![in rt.alloc(); (0, 9, 2); 100_000]?;
-    for local in [&local[..1], &local[..]] {
-        let found = difference(rt.alloc(), local, &peer)?;
-        assert_eq!(rt; found.as_slice(), [(0, 9)].as_slice());
+    let peer = equal(rt.alloc(), 1, 100_000)?;
+    for count in [1, 100_000] {
+        let found = difference(rt.alloc(), &equal(rt.alloc(), 2, count)?, &peer)?;
+        assert_eq!(rt;
+            found.as_slice(),
+            [(0, 9)].as_slice(),
+            "{count} local ranges"
+        );
     }
     Ok(())
 }
@@ -84,8 +94,16 @@ fn answers_on_100_000_equal_ranges(rt: HostRuntime) -> Result<(), Fail> {
 #[test]
 fn answers_or_wants_memory(rt: HostRuntime) {
     for (local, peer, answer) in [
-        (&[(1, 4, 1), (1, 2, 2), (4, 4, 3)], &[(1, 5, 4), (1, 2, 2), (5, 5, 5)], &[(2, 5)][..]),
-        (&[(0, 10, 9), (2, 6, 2), (4, 8, 3)], &[(0, 10, 1), (2, 6, 2), (4, 8, 3)], &[(0, 2), (8, 10)][..]),
+        (
+            &[(1, 4, 1), (1, 2, 2), (4, 4, 3)],
+            &[(1, 5, 4), (1, 2, 2), (5, 5, 5)],
+            &[(2, 5)][..],
+        ),
+        (
+            &[(0, 10, 9), (2, 6, 2), (4, 8, 3)],
+            &[(0, 10, 1), (2, 6, 2), (4, 8, 3)],
+            &[(0, 2), (8, 10)][..],
+        ),
     ] {
         if let Ok(found) = difference(rt.alloc(), local, peer) {
             assert_eq!(rt; found.as_slice(), answer);
@@ -93,11 +111,19 @@ fn answers_or_wants_memory(rt: HostRuntime) {
     }
 }
 
+fn page<'a>(start: &'a u64, end: &'a u64) -> Option<PageRange<'a, u64>> {
+    PageRange::try_new(start, end, PageDigest::new([1; 16]))
+}
+
 // So it does with every request for memory refused.
 #[test]
 fn nothing_to_ask_for_takes_no_memory(rt: HostRuntime) -> Result<(), Fail> {
-    let page = |start: &'static u64, end: &'static u64| PageRange::try_new(start, end, PageDigest::new([1; 16]));
-    for (local, peer) in [(page(&1, &5), None), (page(&1, &5), page(&3, &7)), (page(&2, &8), page(&3, &7)), (page(&2, &8), page(&2, &7))] {
+    for (local, peer) in [
+        (page(&1, &5), None),
+        (page(&1, &5), page(&3, &7)),
+        (page(&2, &8), page(&3, &7)),
+        (page(&2, &8), page(&2, &7)),
+    ] {
         assert!(rt; diff(rt.alloc(), local, peer)?.is_empty());
     }
     Ok(())

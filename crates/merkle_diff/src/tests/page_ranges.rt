@@ -6,11 +6,10 @@ use std::test::Fail;
 
 #[test]
 fn takes_bounds_in_order(rt: HostRuntime) {
-    let digest = PageDigest::new([0; 16]);
-    assert!(rt; PageRange::try_new(&42, &24, digest).is_none());
-    assert!(rt; PageRange::try_new(&24, &24, digest).is_some());
-    assert!(rt; PageRange::try_new(&Reverse(1), &Reverse(3), digest).is_none());
-    assert!(rt; PageRange::try_new(&Reverse(3), &Reverse(1), digest).is_some());
+    assert!(rt; PageRange::try_new(&42, &24, PageDigest::new([0; 16])).is_none());
+    assert!(rt; PageRange::try_new(&24, &24, PageDigest::new([0; 16])).is_some());
+    assert!(rt; PageRange::try_new(&Reverse(1), &Reverse(3), PageDigest::new([0; 16])).is_none());
+    assert!(rt; PageRange::try_new(&Reverse(3), &Reverse(1), PageDigest::new([0; 16])).is_some());
 }
 
 #[test]
@@ -31,7 +30,9 @@ fn holds_what_is_within(rt: HostRuntime) {
         ((1, 8), (2, 9), false),
     ] {
         assert!(rt; outer.0 <= outer.1 && inner.0 <= inner.1);
-        let holds = DiffRange::new(&inner.0, &inner.1).is_within(&DiffRange::new(&outer.0, &outer.1));
+        let holds = DiffRange::new(&inner.0, &inner.1).is_within(&DiffRange::new(
+            &outer.0, &outer.1,
+        ));
         assert_eq!(rt; holds, want, "{inner:?} in {outer:?}");
     }
 }

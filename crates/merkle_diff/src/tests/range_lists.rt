@@ -1,7 +1,7 @@
-//! Range lists and cuts, by answers that were worked out by hand.
-use super::texts::{bounds_of, ranges, Bounds};
-use crate::parts::RangeList;
+//! Range lists, by answers that were worked out by hand.
+use super::texts::{Bounds, bounds_of, ranges};
 use crate::DiffRange;
+use crate::parts::{DiffListBuilder, RangeList};
 use std::alloc::{AllocError, Global};
 use std::test::Fail;
 
@@ -40,7 +40,11 @@ fn merges_as_worked_out(rt: HostRuntime) -> Result<(), Fail> {
         let (list, merge) = line.split_once('|').ok_or("no merge")?;
         let list = ranges(rt.alloc(), list)?;
         let merged = inserted(rt.alloc(), &list)?.into_vec()?;
-        assert_eq!(rt; bounds_of(rt.alloc(), &merged)?, ranges(rt.alloc(), merge)?, "at {line}");
+        assert_eq!(rt;
+            bounds_of(rt.alloc(), &merged)?,
+            ranges(rt.alloc(), merge)?,
+            "at {line}"
+        );
     }
     Ok(())
 }
@@ -59,5 +63,64 @@ fn leaves_no_two_that_meet(rt: HostRuntime) -> Result<(), Fail> {
         assert!(rt; pair.len() == 2);
         assert!(rt; pair[0].end() < pair[1].start());
     }
+    Ok(())
+}
+
+/// Ranges no two of which meet, in ascending order.
+const APART: [Bounds; 12] = [
+    (0, 1),
+    (3, 4),
+    (6, 7),
+    (9, 10),
+    (12, 13),
+    (15, 16),
+    (18, 19),
+    (21, 22),
+    (24, 25),
+    (27, 28),
+    (30, 31),
+    (33, 34),
+];
+
+/// Whether `merged` is the ranges of `APART` that were accepted.
+fn is_accepted(merged: &[DiffRange<'_, u64>], accepted: &[bool; 12]) -> bool {
+    let mut left = merged.iter();
+    let mut is_same = true;
+    for (range, is_accepted) in APART.iter().zip(accepted) {
+        if *is_accepted {
+            is_same = is_same
+                && left.next().map(|found| (*found.start(), *found.end())) == Some(*range);
+        }
+    }
+    is_same && left.next().is_none()
+}
+
+// Under `rt try --test --fail-alloc N` the Nth request for memory is refused: then an insert leaves the list as it was.
+#[test]
+fn a_refused_insert_leaves_the_list(rt: HostRuntime) -> Result<(), Fail> {
+    let mut list = RangeList::new(rt.alloc());
+    let mut accepted = [false; 12];
+    for i in 0..12 {
+        let range = &APART[i];
+        if range.0 <= range.1 {
+            accepted[i] = list.insert(&range.0, &range.1).is_ok();
+        }
+    }
+    assert!(rt; is_accepted(&list.into_vec()?, &accepted));
+    Ok(())
+}
+
+// So do the marks of a builder. Without a consistent range its list takes no memory.
+#[test]
+fn a_refused_mark_leaves_the_builder(rt: HostRuntime) -> Result<(), Fail> {
+    let mut builder = DiffListBuilder::new(rt.alloc());
+    let mut accepted = [false; 12];
+    for i in 0..12 {
+        let range = &APART[i];
+        if range.0 <= range.1 {
+            accepted[i] = builder.inconsistent(&range.0, &range.1).is_ok();
+        }
+    }
+    assert!(rt; is_accepted(&builder.into_diff_vec()?, &accepted));
     Ok(())
 }

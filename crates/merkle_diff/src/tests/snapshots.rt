@@ -1,6 +1,9 @@
-ghost use Rattle.std.specs.Prelude.{◌≡◌};
+ghost use Rattle.std.specs.Prelude.{◌≡◌, IfOk};
+ghost use Rattle.merkle_diff.specs.DiffRange.{spans};
+ghost use Rattle.merkle_diff.specs.Difference.{IsDifference};
+ghost use Rattle.merkle_diff.specs.PageRangeSnapshot.{snapshot_entries};
 
-use crate::{OwnedPageRange, PageRange, PageRangeSnapshot};
+use crate::{DiffRange, OwnedPageRange, PageRange, PageRangeSnapshot, diff};
 use merkle_digest::PageDigest;
 use std::alloc::{AllocError, Global};
 use std::cell::Cell;
@@ -170,6 +173,29 @@ fn other_ranges_make_an_unequal_snapshot(rt: HostRuntime) -> Result<(), Fail> {
         let other = PageRangeSnapshot::from_ranges(alloc, borrowed(alloc, other)?)?;
         assert!(rt; other != snapshot);
     }
+    Ok(())
+}
+
+/// What `diff` answers on two snapshots has the interval laws on the lists that they were made from.
+fn diff_of_snapshots<'p, K: Ord>(
+    alloc: Global,
+    local: &'p PageRangeSnapshot<K>,
+    peer: &'p PageRangeSnapshot<K>,
+) -> Result<Vec<DiffRange<'p, K>>, AllocError>
+    ensures { IfOk result (λ found. IsDifference K.cmp (snapshot_entries local.now) (snapshot_entries peer.now) (spans found.items)) }
+{
+    diff(alloc, local.iter(), peer.iter())
+}
+
+#[test]
+fn snapshots_differ_where_their_digests_do(rt: HostRuntime) -> Result<(), Fail> {
+    let alloc = rt.alloc();
+    let local = PageRangeSnapshot::from_ranges(alloc, borrowed(alloc, &[(5u8, 5, 1)])?)?;
+    let peer = PageRangeSnapshot::from_ranges(alloc, borrowed(alloc, &[(5u8, 5, 2)])?)?;
+    let found = diff_of_snapshots(alloc, &local, &peer)?;
+    assert_eq!(rt; found.len(), 1);
+    assert_eq!(rt; (*found[0].start(), *found[0].end()), (5, 5));
+    assert!(rt; diff_of_snapshots(alloc, &local, &local)?.is_empty());
     Ok(())
 }
 

@@ -1,5 +1,5 @@
 //! Lists of page ranges, and of ranges, as texts: `3-7:1` is the page range from 3 to 7 whose digest has 16 bytes 1.
-use crate::{diff, DiffRange, PageRange};
+use crate::{DiffRange, PageRange, diff};
 use merkle_digest::PageDigest;
 use std::alloc::{AllocError, Global};
 use std::test::Fail;

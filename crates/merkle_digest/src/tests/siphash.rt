@@ -7,7 +7,8 @@ use crate::{Digest, HashBytes, Hasher, Sip24, SipHasher};
 /// The key of the published vectors: the bytes 0, 1, 2 and so on.
 const KEY: [u8; 16] = [0, 1, 2, 3, 4, 5, 6, 7, 8, 9, 10, 11, 12, 13, 14, 15];
 
-/// The published vectors: the hash under that key of the bytes 0, 1, 2 and so on, for each number of bytes from 0 to 64.
+/// The published vectors, of the reference implementation: the hash under that key of the bytes 0, 1, 2 and so on, for each
+/// number of bytes from 0 to 63, and after them that of 64 bytes by an independent implementation.
 const VECTORS: [u128; 65] = [
     0xa3817f04ba25a8e66df67214c7550293,
     0xda87c1d86b99af44347659119b22fc45,

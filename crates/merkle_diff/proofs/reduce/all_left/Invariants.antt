@@ -1,6 +1,6 @@
 use Rattle.std.proofs.Common.{◌≡◌, ◌++◌, drop}
 use Rattle.merkle_diff.specs.Cut.{pieces_left}
-use Rattle.merkle_diff.specs.DiffRange.{span, spans}
+use Rattle.merkle_diff.specs.DiffRange.{spans}
 use Rattle.merkle_diff.proofs.reduce.all_left.Given as goal
 
 abbrev pub invariant-bad : goal.invariant-bad

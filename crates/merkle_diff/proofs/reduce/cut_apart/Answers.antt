@@ -1,4 +1,4 @@
-use Rattle.std.proofs.Common.{◌≡◌, [], length, sym, ◌∙◌, ap, subst, rules}
+use Rattle.std.proofs.Common.{◌≡◌, length, sym, ◌∙◌, ap, subst, rules}
 use Rattle.std.proofs.lemmas.List.{nil_from_length}
 use Rattle.merkle_diff.proofs.Cuts.{left-ordered}
 use Rattle.merkle_diff.proofs.Merged.{merge-alone}
@@ -6,7 +6,7 @@ use Rattle.merkle_diff.proofs.OnePass.{left-touches}
 use Rattle.merkle_diff.proofs.Ranges.{spans-ordered}
 use Rattle.merkle_diff.proofs.Touching.{apart-touches, touches-ascends}
 use Rattle.merkle_diff.specs.Cut.{pieces_left}
-use Rattle.merkle_diff.specs.DiffRange.{span, spans}
+use Rattle.merkle_diff.specs.DiffRange.{spans}
 use Rattle.merkle_diff.specs.Merge.{IsMerge, IsAscendingByStart}
 use Rattle.merkle_diff.proofs.reduce.cut_apart.Goals as goal
 

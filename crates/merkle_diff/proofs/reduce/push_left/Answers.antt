@@ -1,10 +1,8 @@
 use Rattle.std.proofs.Common.{◌≡◌, ◌++◌, [], ◌∷◌, ◌+◌, ◌<◌, true, false, drop, length, rules, sym, ◌∙◌, ap, arith, subst}
-use Rattle.std.proofs.lemmas.Grind.{common_steps}
-use Rattle.key_order.specs.Interval.{IsApart}
 use Rattle.key_order.specs.Order.{upto}
 use Rattle.merkle_diff.proofs.OnePass.{apart-drop, step-behind, step-within, step-over, step-later}
 use Rattle.merkle_diff.proofs.Slices.{drop-view}
-use Rattle.merkle_diff.proofs.Tests.{by_upto, by_above}
+use Rattle.merkle_diff.proofs.OrderTests.{by_upto, by_above}
 use Rattle.merkle_diff.specs.Cut.{pieces_left, cut_one, piece}
 use Rattle.merkle_diff.specs.DiffRange.{span, spans}
 use Rattle.merkle_diff.specs.OnePass.{LeavesAlike}

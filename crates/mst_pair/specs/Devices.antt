@@ -1,0 +1,45 @@
+-- What a device tells of its bytes before and after a call. `None`: it tells nothing.
+use Rattle.std.specs.Prelude.{◌≡◌, ℕ, List, ◌++◌, Option, None, Some, Bool, true, false, ⊤, Result, Ok, Err}
+use Rattle.std.specs.Io.KnownBytes.{Appends}
+
+-- the bytes stay as they were, or are told no more
+abbrev pub KeepsOrHides : Option (List ℕ) → Option (List ℕ) → Type 0
+KeepsOrHides old None = ⊤
+KeepsOrHides None (Some ys) = ⊤
+KeepsOrHides (Some xs) (Some ys) = ys ≡ xs
+
+-- the bytes begin with bs and lose them, or are told no more
+abbrev pub ConsumesOrHides : Option (List ℕ) → Option (List ℕ) → List ℕ → Type 0
+ConsumesOrHides old None bs = ⊤
+ConsumesOrHides None (Some ys) bs = ⊤
+ConsumesOrHides (Some xs) (Some ys) bs = xs ≡ bs ++ ys
+
+-- the bytes grow by bs, or are told no more
+abbrev pub AppendsOrHides : Option (List ℕ) → Option (List ℕ) → List ℕ → Type 0
+AppendsOrHides old None bs = ⊤
+AppendsOrHides None (Some ys) bs = ⊤
+AppendsOrHides (Some xs) (Some ys) bs = ys ≡ xs ++ bs
+
+-- what a reader or writer of std tells, until it has failed
+abbrev pub told_unless : Bool → Option (List ℕ) → Option (List ℕ)
+told_unless true told = None
+told_unless false told = told
+
+-- an error marks a device as failed, and nothing else does
+abbrev pub Marks : {A E : Type 0} → Result A E → Bool → Bool → Type 0
+Marks (Ok x) old new = new ≡ old
+Marks (Err e) old new = new ≡ true
+
+-- a beginning of bs was written
+abbrev pub WritesPart : Option (List ℕ) → Option (List ℕ) → List ℕ → Type 0
+WritesPart old new bs = (front : List ℕ) × (rest : List ℕ) × (bs ≡ front ++ rest) × AppendsOrHides old new front
+
+-- a call that writes bs wrote all of it, or at an error a beginning of it
+abbrev pub Writes : {A E : Type 0} → Result A E → Option (List ℕ) → Option (List ℕ) → List ℕ → Type 0
+Writes (Ok x) old new bs = Appends old new bs
+Writes (Err e) old new bs = WritesPart old new bs
+
+-- Text that was pending, and bs behind it, was written but for what is pending now; at an error a beginning of it was.
+abbrev pub Passes : {A E : Type 0} → Result A E → Option (List ℕ) → Option (List ℕ) → List ℕ → List ℕ → List ℕ → Type 0
+Passes (Ok x) old new pending bs pending' = (written : List ℕ) × Appends old new written × (pending ++ bs ≡ written ++ pending')
+Passes (Err e) old new pending bs pending' = WritesPart old new (pending ++ bs)

@@ -1,0 +1,13 @@
+pub mod Devices
+pub mod Lines
+pub mod State
+pub mod Requests
+pub mod Parsing
+pub mod Rows
+pub mod Engine
+pub mod Reply
+pub mod Run
+pub mod Session
+pub use Rattle.key_order.specs.Order
+pub use Rattle.key_order.specs.Map
+pub use Rattle.key_order.specs.Join

@@ -1,0 +1,20 @@
+//! Two replicas of a map from texts to numbers, and the engine that serves them: from the bytes of an input
+//! to the bytes of the replies.
+//!
+//! [`run::run`] reads lines from a [`source::Source`] and writes the reply to each line to a [`sink::Sink`].
+//! `specs/` says what the lines of an input are (`Lines`), what each line asks for (`Requests`), what it is
+//! answered (`Engine`), and what a whole run reads and writes (`Run`).
+#![tactic(auto)]
+
+mod engine;
+mod line;
+mod number;
+mod parse;
+mod pending;
+mod rows;
+pub mod run;
+mod session;
+pub mod sink;
+pub mod source;
+#[cfg(test)]
+mod tests;

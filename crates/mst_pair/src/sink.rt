@@ -1,0 +1,122 @@
+//! What a run writes to.
+ghost use Rattle.std.specs.Prelude.{◌≡◌, ℕ, ◌<◌, ◌≤◌, List, Option, Bool, true, false, OnOk, OnErr, IfOk, length, take};
+ghost use Rattle.std.specs.Io.KnownBytes.{Appends, Keeps};
+ghost use Rattle.mst_pair.specs.Devices.{KeepsOrHides, told_unless, Writes, Marks};
+
+use crate::source::Failed;
+use std::io::Write;
+
+/// Takes bytes.
+pub trait Sink {
+    /// The bytes taken so far, where the sink tells them.
+    ghost taken: { Self → Option (List ℕ) };
+
+    /// Whether a call ever answered an error.
+    ghost has_failed: { Self → Bool };
+
+    /// Whether what was taken is handed on.
+    ghost is_flushed: { Self → Bool };
+
+    /// Takes some bytes from the front of `bytes`, and answers how many: at most their count, and 0 only
+    /// where there are none.
+    ///
+    /// An error leaves the bytes taken as they were, or the sink tells them no more. It marks the sink as failed,
+    /// and nothing else does.
+    fn write(&mut self, bytes: &[u8]) -> Result<usize, Failed>
+        ensures bound { IfOk result (λ n. n ≤ length bytes.now) }
+        ensures some { IfOk result (λ n. 0 < length bytes.now → 0 < n) }
+        ensures bytes { IfOk result (λ n. Appends (taken self.old) (taken self.new) (take n bytes.now)) }
+        ensures error { OnErr result (KeepsOrHides (taken self.old) (taken self.new)) }
+        ensures failed { Marks result (has_failed self.old) (has_failed self.new) };
+
+    /// Hands on all that was taken. Errors are as at `write`.
+    fn flush(&mut self) -> Result<(), Failed>
+        ensures ok { OnOk result (Keeps (taken self.old) (taken self.new)) }
+        ensures flushed { OnOk result (is_flushed self.new ≡ true) }
+        ensures error { OnErr result (KeepsOrHides (taken self.old) (taken self.new)) }
+        ensures failed { Marks result (has_failed self.old) (has_failed self.new) };
+
+    /// Whether a call ever answered an error.
+    fn failed(&self) -> bool
+        ensures { result ≡ has_failed self.now };
+}
+
+/// A sink over a writer of std.
+///
+/// It tells the bytes that the writer tells, and none once it has failed. Where the writer takes none of some
+/// bytes, that is a failure. Once a call has failed, so does each later one.
+#[derive(Drop)]
+pub struct ToWrite<W> {
+    inner: W,
+    flushed: bool,
+    failed: bool,
+}
+
+impl<W: Write> ToWrite<W> {
+    /// A sink that has not failed.
+    pub fn new(inner: W) -> Self
+        ensures not_failed { ⟦<ToWrite<W> as Sink>⟧.has_failed result ≡ false }
+        ensures told { ⟦<ToWrite<W> as Sink>⟧.taken result ≡ W.contents inner }
+    {
+        ToWrite {
+            inner,
+            flushed: false,
+            failed: false,
+        }
+    }
+}
+
+impl<W: Write> Sink for ToWrite<W> {
+    ghost taken = { λ s. told_unless s.failed (W.contents s.inner) };
+
+    ghost has_failed = { λ s. s.failed };
+
+    ghost is_flushed = { λ s. s.flushed };
+
+    fn write(&mut self, bytes: &[u8]) -> Result<usize, Failed> {
+        if self.failed {
+            return Err(Failed);
+        }
+        self.flushed = false;
+        match self.inner.write(bytes) {
+            Ok(count) if count > 0 || bytes.is_empty() => Ok(count),
+            _ => {
+                self.failed = true;
+                Err(Failed)
+            }
+        }
+    }
+
+    fn flush(&mut self) -> Result<(), Failed> {
+        if self.failed {
+            return Err(Failed);
+        }
+        match self.inner.flush() {
+            Ok(()) => {
+                self.flushed = true;
+                Ok(())
+            }
+            Err(_) => {
+                self.failed = true;
+                Err(Failed)
+            }
+        }
+    }
+
+    fn failed(&self) -> bool {
+        self.failed
+    }
+}
+
+/// Writes all the bytes, or at an error a beginning of them.
+pub(crate) fn write_all<W: Sink>(writer: &mut W, bytes: &[u8]) -> Result<(), Failed>
+    ensures bytes { Writes result (W.taken writer.old) (W.taken writer.new) bytes.now }
+    ensures failed { Marks result (W.has_failed writer.old) (W.has_failed writer.new) }
+{
+    let mut rest = bytes;
+    'writing: while !rest.is_empty() {
+        let count = writer.write(rest)?;
+        rest = &rest[count..];
+    }
+    Ok(())
+}

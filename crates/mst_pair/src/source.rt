@@ -1,0 +1,113 @@
+//! What a run reads from.
+ghost use Rattle.std.specs.Prelude.{◌≡◌, ℕ, ◌<◌, ◌≤◌, List, Option, Bool, true, false, OnErr, IfOk, length, take};
+ghost use Rattle.std.specs.Io.KnownBytes.{Consumes, IsAtEnd};
+ghost use Rattle.mst_pair.specs.Devices.{KeepsOrHides, told_unless, Marks};
+
+use std::io::Read;
+
+/// A device has failed: a source that can no longer be read, or a sink that can no longer be written to.
+#[derive(Clone, Copy, Debug, PartialEq, Eq)]
+pub struct Failed;
+
+/// Gives bytes until its end.
+pub trait Source {
+    /// The bytes left, where the source tells them.
+    ghost left: { Self → Option (List ℕ) };
+
+    /// A number that falls at each read that gives bytes, so that a run ends.
+    ghost reads_left: { Self → ℕ };
+
+    /// Whether a read ever answered an error.
+    ghost has_failed: { Self → Bool };
+
+    /// Moves some bytes from the front of the bytes left to the front of `buf`, and answers how many: at most
+    /// the length of `buf`, and 0 for a `buf` with room only at the end.
+    ///
+    /// An error leaves the bytes as they were, or the source tells them no more. It marks the source as failed,
+    /// and nothing else does.
+    fn read(&mut self, buf: &mut [u8]) -> Result<usize, Failed>
+        ensures bound { IfOk result (λ n. n ≤ length buf.new) }
+        ensures bytes { IfOk result (λ n. Consumes (left self.old) (left self.new) (take n buf.new)) }
+        ensures end { IfOk result (λ n. n ≡ 0 → 0 < length buf.new → IsAtEnd (left self.new)) }
+        ensures falls { IfOk result (λ n. 0 < n → reads_left self.new < reads_left self.old) }
+        ensures error { OnErr result (KeepsOrHides (left self.old) (left self.new)) }
+        ensures failed { Marks result (has_failed self.old) (has_failed self.new) };
+
+    /// Whether a read ever answered an error.
+    fn failed(&self) -> bool
+        ensures { result ≡ has_failed self.now };
+}
+
+/// A source over a reader of std.
+///
+/// It tells the bytes that the reader tells, and none once it has failed. Each call of `read` takes one of
+/// 18446744073709551615 reads, and after these it fails; so it does at each read once a read has failed.
+#[derive(Drop)]
+pub struct FromRead<R> {
+    inner: R,
+    reads_left: u64,
+    failed: bool,
+}
+
+impl<R: Read> FromRead<R> {
+    /// A source that has not failed and has all its reads left.
+    pub fn new(inner: R) -> Self
+        ensures not_failed { ⟦<FromRead<R> as Source>⟧.has_failed result ≡ false }
+        ensures told { ⟦<FromRead<R> as Source>⟧.left result ≡ R.remaining inner }
+        ensures reads { ⟦<FromRead<R> as Source>⟧.reads_left result ≡ u64.MAX }
+    {
+        FromRead {
+            inner,
+            reads_left: u64::MAX,
+            failed: false,
+        }
+    }
+}
+
+impl<R: Read> Source for FromRead<R> {
+    ghost left = { λ s. told_unless s.failed (R.remaining s.inner) };
+
+    ghost reads_left = { λ s. s.reads_left };
+
+    ghost has_failed = { λ s. s.failed };
+
+    fn read(&mut self, buf: &mut [u8]) -> Result<usize, Failed> {
+        if self.failed || self.reads_left == 0 {
+            self.failed = true;
+            return Err(Failed);
+        }
+        self.reads_left -= 1;
+        match self.inner.read(buf) {
+            Ok(count) => Ok(count),
+            Err(_) => {
+                self.failed = true;
+                Err(Failed)
+            }
+        }
+    }
+
+    fn failed(&self) -> bool {
+        self.failed
+    }
+}
+
+#[cfg(test)]
+mod tests {
+    use super::*;
+
+    #[test]
+    fn fails_after_its_reads(rt: HostRuntime) {
+        let mut reader = FromRead {
+            inner: b"abc".as_slice(),
+            reads_left: 2,
+            failed: false,
+        };
+        let mut buf = [0];
+        for byte in [b'a', b'b'] {
+            assert_eq!(rt; reader.read(&mut buf), Ok(1));
+            assert_eq!(rt; buf, [byte]);
+        }
+        assert_eq!(rt; reader.read(&mut buf), Err(Failed));
+        assert!(rt; reader.failed());
+    }
+}

@@ -1,0 +1,219 @@
+//! Whole runs over devices in memory.
+mod devices;
+
+use crate::run::{RunFault, run};
+use crate::sink::{Sink, ToWrite};
+use crate::source::{Failed, FromRead, Source};
+use arrayvec::ArrayVec;
+use devices::{CannotFlush, FailsOnce, NarrowSink, ScriptedSource};
+use std::alloc::Global;
+use std::fmt::Write;
+use std::io::Cursor;
+use std::test::Fail;
+
+/// What a run over these devices answers and writes.
+fn serve(
+    alloc: Global,
+    input: &[u8],
+    piece: usize,
+    read_fails: bool,
+    room: usize,
+    flush_fails: bool,
+) -> (Result<(), RunFault>, ArrayVec<u8, 1024>) {
+    let mut reader = ScriptedSource {
+        left: input,
+        piece,
+        fails: read_fails,
+        failed: false,
+    };
+    let mut writer = NarrowSink {
+        taken: ArrayVec::new(),
+        room,
+        refuses_flush: flush_fails,
+        flushed: false,
+        failed: false,
+    };
+    let result = run(alloc, &mut reader, &mut writer);
+    (result, writer.taken)
+}
+
+const ROWS: [(&[u8], &[u8]); 9] = [
+    (
+        b"put a k 1\nkeys a\nkeys b\nhello\n",
+        b"ok\nk 1\nend\nend\nbad line\n",
+    ),
+    // no input, and a last line without a newline
+    (b"", b""),
+    (b"keys a", b"end\n"),
+    // wrong lines
+    (
+        b"put c x 1\nput a x\n\nput a  1\nturns 10\nput a x 18446744073709551616\nput a \xff 1\n",
+        b"bad line\nbad line\nbad line\nbad line\nbad line\nbad line\nbad line\n",
+    ),
+    (
+        b"put a x 1 \nput a x -1\nput a x +1\nput a x\t1\nput a \x7f 1\nkeys\nkeys c\nkeys a \nPUT a x 1\n",
+        b"bad line\nbad line\nbad line\nbad line\nbad line\nbad line\nbad line\nbad line\nbad line\n",
+    ),
+    // a key that is there keeps the greater number
+    (
+        b"put a x 18446744073709551615\nput a x 5\nput a x 007\nkeys a\n",
+        b"ok\nok\nok\nx 18446744073709551615\nend\n",
+    ),
+    (
+        b"put a x 5\nput a x 7\nkeys a\nkeys b\n",
+        b"ok\nok\nx 7\nend\nend\n",
+    ),
+    // at most twenty digits
+    (
+        b"put a x 00000000000000000007\nkeys a\nput a x 000000000000000000007\n",
+        b"ok\nx 7\nend\nbad line\n",
+    ),
+    // the order of the keys' bytes
+    (
+        b"put b b 1\nput b \xc3\xa9 2\nput b ab 3\nput b a 4\nput b Z 5\nkeys b\n",
+        b"ok\nok\nok\nok\nok\nZ 5\na 4\nab 3\nb 1\n\xc3\xa9 2\nend\n",
+    ),
+];
+
+#[test]
+fn answers_each_line(rt: HostRuntime) {
+    for (input, output) in ROWS {
+        for piece in [1, 7, 10_000] {
+            let (result, taken) = serve(rt.alloc(), input, piece, false, 1024, false);
+            assert_eq!(rt; result, Ok(()));
+            assert_eq!(rt; taken.as_slice(), output, "in pieces of {piece}");
+        }
+    }
+}
+
+/// The line `put a KEY 18446744073709551615` with a key of `count` bytes.
+fn long_line(alloc: Global, count: usize) -> Result<Vec<u8>, Fail> {
+    let mut line = Vec::from_slice(alloc, b"put a ")?;
+    line.extend_from_slice(&vec![in alloc; b'k'; count]?)?;
+    line.extend_from_slice(b" 18446744073709551615\n")?;
+    Ok(line)
+}
+
+#[test]
+fn tells_long_lines(rt: HostRuntime) -> Result<(), Fail> {
+    for (count, output) in [(255, b"ok\n".as_slice()), (256, b"bad line\n".as_slice())] {
+        let line = long_line(rt.alloc(), count)?;
+        assert_eq!(rt; line.len(), count + 28);
+        let (result, taken) = serve(rt.alloc(), &line, 1000, false, 1024, false);
+        assert_eq!(rt; result, Ok(()));
+        assert_eq!(rt; taken.as_slice(), output, "a key of {count} bytes");
+    }
+    let line = vec![in rt.alloc(); b'z'; 100_000]?;
+    let (result, taken) = serve(rt.alloc(), &line, 4096, false, 1024, false);
+    assert_eq!(rt; result, Ok(()));
+    assert_eq!(rt; taken.as_slice(), b"bad line\n".as_slice());
+    Ok(())
+}
+
+#[test]
+fn shows_many_rows_in_order(rt: HostRuntime) -> Result<(), Fail> {
+    let mut input = String::new(rt.alloc());
+    let mut wanted = String::new(rt.alloc());
+    for number in (0..1000).rev() {
+        writeln!(input, "put b {number:04} {number}")?;
+        wanted.push_str("ok\n")?;
+    }
+    for number in 0..1000 {
+        writeln!(wanted, "{number:04} {number}")?;
+    }
+    input.push_str("keys b\n")?;
+    wanted.push_str("end\n")?;
+    let mut output = Vec::new(rt.alloc());
+    let mut reader = FromRead::new(input.as_bytes());
+    let mut writer = ToWrite::new(&mut output);
+    assert_eq!(rt; run(rt.alloc(), &mut reader, &mut writer), Ok(()));
+    assert!(rt; !reader.failed() && !writer.failed());
+    assert_eq!(rt; output.as_slice(), wanted.as_bytes());
+    Ok(())
+}
+
+const INPUT: &[u8] = b"put a x 1\nkeys a\n";
+
+const OUTPUT: &[u8] = b"ok\nx 1\nend\n";
+
+#[test]
+fn stops_where_the_source_fails(rt: HostRuntime) {
+    for count in 0..INPUT.len() + 1 {
+        let wanted = match count {
+            0..=9 => 0,
+            10..=16 => 3,
+            _ => 11,
+        };
+        for piece in [1, 5, 100] {
+            let (result, taken) = serve(rt.alloc(), &INPUT[..count], piece, true, 1024, false);
+            assert_eq!(rt; result, Err(RunFault::Read));
+            assert_eq!(rt; taken.as_slice(), &OUTPUT[..wanted], "after {count} bytes");
+        }
+    }
+}
+
+#[test]
+fn stops_where_the_sink_fails(rt: HostRuntime) {
+    for room in 0..OUTPUT.len() {
+        let (result, taken) = serve(rt.alloc(), INPUT, 100, false, room, false);
+        assert_eq!(rt; result, Err(RunFault::Write));
+        assert_eq!(rt;
+            taken.as_slice(),
+            &OUTPUT[..room],
+            "with room for {room} bytes"
+        );
+    }
+    let (result, taken) = serve(rt.alloc(), INPUT, 100, false, OUTPUT.len(), true);
+    assert_eq!(rt; result, Err(RunFault::Write), "at the flush");
+    assert_eq!(rt; taken.as_slice(), OUTPUT);
+    let (result, _) = serve(rt.alloc(), INPUT, 100, false, OUTPUT.len(), false);
+    assert_eq!(rt; result, Ok(()));
+}
+
+#[test]
+fn takes_a_write_of_no_byte_as_a_fault(rt: HostRuntime) {
+    for room in 0..OUTPUT.len() {
+        let mut output = [0; 16];
+        let mut reader = FromRead::new(INPUT);
+        let mut writer = ToWrite::new(Cursor::new(&mut output[..room]));
+        assert_eq!(rt;
+            run(rt.alloc(), &mut reader, &mut writer),
+            Err(RunFault::Write)
+        );
+        assert!(rt; writer.failed());
+        assert_eq!(rt; &output[..room], &OUTPUT[..room]);
+    }
+}
+
+#[test]
+fn stays_failed(rt: HostRuntime) {
+    let mut reader = FromRead::new(FailsOnce { has_failed: false });
+    let mut buf = [0; 4];
+    assert!(rt; !reader.failed());
+    assert_eq!(rt; reader.read(&mut buf), Err(Failed));
+    assert_eq!(rt; reader.read(&mut buf), Err(Failed));
+    assert!(rt; reader.failed());
+    let mut writer = ToWrite::new(CannotFlush);
+    assert_eq!(rt; writer.write(b"x"), Ok(1));
+    assert_eq!(rt; writer.flush(), Err(Failed));
+    assert_eq!(rt; writer.write(b"x"), Err(Failed));
+    assert_eq!(rt; writer.flush(), Err(Failed));
+    assert!(rt; writer.failed());
+}
+
+#[test]
+fn names_its_faults(rt: HostRuntime) {
+    assert_eq!(rt; RunFault::Read.text(), "mst_pair: read failed");
+    assert_eq!(rt; RunFault::Write.text(), "mst_pair: write failed");
+}
+
+/// `rt try --test --fail-alloc N -- answers_where_memory_is_refused` refuses the Nth growth: the key's text, then the row's
+/// place. Where none is refused, the row is stored.
+#[test]
+fn answers_where_memory_is_refused(rt: HostRuntime) {
+    let (input, stored) = ROWS[0];
+    let (result, taken) = serve(rt.alloc(), input, 100, false, 1024, false);
+    assert_eq!(rt; result, Ok(()));
+    let refused = b"no memory\nend\nend\nbad line\n".as_slice();
+    assert!(rt; taken.as_slice() == stored || taken.as_slice() == refused);
+}
