@@ -10,6 +10,7 @@ pub mod Drops
 pub mod Same
 pub mod Sound
 pub mod Upserts
+pub mod Replays
 pub mod Equals
 pub mod Copies
 pub mod Paths

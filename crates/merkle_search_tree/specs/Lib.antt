@@ -18,4 +18,5 @@ pub mod State
 pub mod Sound
 pub mod Upsert
 pub mod Parted
+pub mod Updates
 pub mod Listing

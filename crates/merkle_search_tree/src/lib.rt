@@ -17,6 +17,7 @@ mod page_ranges;
 mod spare;
 mod split;
 mod tree;
+pub mod updates;
 mod upsert;
 
 pub use merkle_diff as diff;

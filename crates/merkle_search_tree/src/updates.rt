@@ -1,0 +1,87 @@
+//! A tree's whole life: updates carried out one after the other, from the empty tree on.
+
+ghost use Rattle.std.specs.Prelude.{◌≡◌, IfOk, length, is_some, Some, None, false, [], if◌then◌else◌};
+ghost use Rattle.merkle_digest.specs.Level.{level_of};
+ghost use Rattle.merkle_diff.specs.SameEntries.{SameEntries};
+ghost use Rattle.merkle_search_tree.specs.Canonical.{SamePages};
+ghost use Rattle.merkle_search_tree.specs.Ranges.{ranges_of};
+ghost use Rattle.merkle_search_tree.specs.State.{map_of};
+ghost use Rattle.merkle_search_tree.specs.Stream.{page_digest};
+ghost use Rattle.merkle_search_tree.specs.TreeOf.{tree_of};
+ghost use Rattle.merkle_search_tree.specs.Updates.{map_after, map_after_one, hashed_after, hashed_after_one};
+
+use crate::builder::Builder;
+use crate::laws::{a_hashed_tree_has_every_digest, every_tree_is_sound};
+use crate::tree::MerkleSearchTree;
+use merkle_digest::{Hasher, KeyBytes};
+use std::alloc::{AllocError, Global};
+
+/// An update of a tree.
+#[derive(Drop)]
+pub enum Update<K, V> {
+    /// Sets the key to the digest of the value.
+    Upsert(K, V),
+    /// Fills in the digests that pages lack.
+    RootHash,
+}
+
+/// Carries out an update, and answers whether it was accepted.
+fn carry_out<K, V, H, const N: usize>(
+    tree: &mut MerkleSearchTree<K, V, H, N>,
+    update: Update<K, V>,
+) -> bool
+where
+    K: Ord + KeyBytes + Drop,
+    V: Eq + Drop,
+    H: Hasher<N, K> + Hasher<N, V>,
+    ensures map { map_of tree.new ≡ map_after_one K.cmp (⟦<H as Hasher<N, V>>⟧.digest_of tree.old.hasher) (map_of tree.old) update result }
+    ensures hashed { is_some tree.new.root_hash ≡ hashed_after_one (is_some tree.old.root_hash) update result }
+    ensures hasher { tree.new.hasher ≡ tree.old.hasher }
+    ensures base { tree.new.base ≡ tree.old.base }
+{
+    match update {
+        Update::Upsert(key, value) => tree.upsert(key, &value).is_ok(),
+        Update::RootHash => {
+            let _ = tree.root_hash_counted();
+            true
+        }
+    }
+}
+
+/// The tree that the updates lead to, in order, from the empty tree of the builder on, and for each update whether it was accepted.
+/// An upsert is refused only for want of memory; its key and value are given up then, and it changes nothing. Where the
+/// room for the answers is refused, no update is carried out.
+///
+/// Whatever the updates, the pages of the tree are the one tree of the map of the accepted upserts, apart from cached digests. So are its
+/// page ranges; and where no accepted upsert comes after the last `RootHash`, the tree is hashed, and its root hash is the digest of
+/// that one tree.
+pub fn replay<K, V, H, const N: usize>(
+    alloc: Global,
+    builder: Builder<H>,
+    updates: Vec<Update<K, V>>,
+) -> Result<(MerkleSearchTree<K, V, H, N>, Vec<bool>), AllocError>
+where
+    K: Ord + KeyBytes + Drop,
+    V: Eq + Drop,
+    H: Hasher<N, K> + Hasher<N, V> + Drop,
+    ensures answers { IfOk result (λ r. length r.1.items ≡ length updates.items) }
+    ensures map { IfOk result (λ r. map_of r.0 ≡ map_after K.cmp (⟦<H as Hasher<N, V>>⟧.digest_of builder.hasher) [] updates.items r.1.items) }
+    ensures pages { IfOk result (λ r. SamePages K.cmp r.0.root (tree_of (λ k. level_of (⟦<H as Hasher<N, K>>⟧.digest_of builder.hasher k) builder.base)
+        (map_after K.cmp (⟦<H as Hasher<N, V>>⟧.digest_of builder.hasher) [] updates.items r.1.items))) }
+    ensures ranges { IfOk result (λ r. SameEntries K.cmp (ranges_of K.bytes_of r.0.root) (ranges_of K.bytes_of (tree_of (λ k. level_of (⟦<H as Hasher<N, K>>⟧.digest_of builder.hasher k) builder.base)
+        (map_after K.cmp (⟦<H as Hasher<N, V>>⟧.digest_of builder.hasher) [] updates.items r.1.items)))) }
+    ensures root_hash { IfOk result (λ r. r.0.root_hash ≡ (if hashed_after false updates.items r.1.items
+        then Some (page_digest K.bytes_of (tree_of (λ k. level_of (⟦<H as Hasher<N, K>>⟧.digest_of builder.hasher k) builder.base)
+        (map_after K.cmp (⟦<H as Hasher<N, V>>⟧.digest_of builder.hasher) [] updates.items r.1.items))) else None)) }
+    ensures hasher { IfOk result (λ r. r.0.hasher ≡ builder.hasher) }
+    ensures base { IfOk result (λ r. r.0.base ≡ builder.base) }
+{
+    let mut accepted = Vec::with_capacity(alloc, updates.len())?;
+    let mut tree = builder.build(alloc);
+    'updates: for update in updates {
+        accepted.push(carry_out(&mut tree, update))?;
+    }
+    every_tree_is_sound(&tree);
+    a_hashed_tree_has_every_digest(&tree);
+    Ok((tree, accepted))
+}
