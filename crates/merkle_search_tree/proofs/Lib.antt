@@ -22,3 +22,4 @@ pub mod Listed
 pub mod RangeEnds
 pub mod Listing
 pub mod NoDifference
+mod Visiting

@@ -7,6 +7,7 @@ pub mod TreeOf
 pub mod Stream
 pub mod Cache
 pub mod Events
+pub mod Traversal
 pub mod Equal
 pub mod EqualLaws
 pub mod Copy

@@ -16,9 +16,12 @@ mod page;
 mod page_ranges;
 mod spare;
 mod split;
+#[cfg(test)]
+mod tests;
 mod tree;
 pub mod updates;
 mod upsert;
+pub mod visitor;
 
 pub use merkle_diff as diff;
 pub use merkle_digest as digest;

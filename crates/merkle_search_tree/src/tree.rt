@@ -17,6 +17,7 @@ use crate::builder::Builder;
 use crate::node_iter::NodeIter;
 use crate::page::Page;
 use crate::upsert::UpsertRefused;
+use crate::visitor::{Visitor, traverse_page};
 use merkle_diff::PageRange;
 use merkle_digest::{Hasher, KeyBytes, PageDigest, RootHash, SipHasher, ValueDigest, level};
 use std::alloc::{AllocError, Global};
@@ -182,6 +183,23 @@ impl<K: Ord + KeyBytes, V, H: Hasher<N, K>, const N: usize> MerkleSearchTree<K, 
         }
         self.root.list_ranges(&mut list)?;
         Ok(Some(list))
+    }
+}
+
+impl<K: Ord + KeyBytes, V, H: Hasher<N, K>, const N: usize> MerkleSearchTree<K, V, H, N> {
+    ghost use Rattle.std.specs.Prelude.{Bool, false};
+    ghost use Rattle.merkle_search_tree.specs.Events.{events_of};
+    ghost use Rattle.merkle_search_tree.specs.Traversal.{Visits};
+
+    /// Calls a visitor at each page and node, the root page first. At a page it calls `visit_page`; for each node in order
+    /// `pre_visit_node`, then all calls at the page below the node, then `visit_node` and `post_visit_node`; then
+    /// `post_visit_page`, and then all calls at the high page. The first call that answers false is the last one.
+    ///
+    /// It takes no memory of its own.
+    pub fn in_order_traversal<T: Visitor<K, ValueDigest<N>>>(&self, visitor: &mut T)
+        ensures visited { (all : Bool) × Visits T.step visitor.old (events_of false self.now.root) all visitor.new }
+    {
+        let _ = traverse_page(&self.root, false, visitor);
     }
 }
 
