@@ -1,0 +1,59 @@
+//! Times of the operations that peers of a Merkle search tree make: inserting keys, the root hash, the list of page ranges, the
+//! differences of two lists, and the cut of good ranges out of a bad one.
+//!
+//! Without arguments it prints what the trees of the sample keys answer, which is the same on every machine:
+//! `n ROOT_LOCAL ROOT_PEER RANGES_LOCAL RANGES_PEER DIFF_PEER DIFF_THIRD`, for 100, 1,000 and 10,000 keys. `--time N..` prints a
+//! table of times for each number of keys, and `--time-cut N..` one for each number of ranges to cut out. It ends with status 2 and a
+//! usage line on standard error where the arguments are none of these, and with status 1 and one line there where memory is refused,
+//! or the clock or the output fails.
+#![tactic(auto)]
+
+mod answers;
+mod arguments;
+mod clock;
+mod cut;
+mod fault;
+mod keys;
+mod sample;
+mod times;
+
+use arguments::Task;
+use fault::Fault;
+use std::io::{BufWriter, Write};
+use std::process::ExitCode;
+use std::rt::{Clock, Env};
+use std::{env, io};
+
+/// What the program is called with.
+const USAGE: &str = "usage: mst_bench [--time N.. | --time-cut N..]";
+
+/// Does what the arguments ask for, and prints it.
+fn run<R: AllocGlobal + Clock + Env + Print>(rt: &R) -> Result<(), Fault> {
+    let alloc = rt.alloc();
+    let words: Vec<String> = env::args(rt)
+        .map_err(|_| Fault::Usage)?
+        .skip(1)
+        .collect(alloc)?;
+    let task = arguments::task_of(alloc, &words)?;
+    let mut out = BufWriter::new(alloc, io::writer(rt)).map_err(|_| Fault::Memory)?;
+    match task {
+        Task::Answers => answers::write_lines(alloc, &mut out)?,
+        Task::Times(counts) => times::write_table(rt, alloc, &counts, &mut out)?,
+        Task::CutTimes(counts) => cut::write_table(rt, alloc, &counts, &mut out)?,
+    }
+    out.flush().map_err(|_| Fault::Output)
+}
+
+fn main(rt: HostRuntime) -> ExitCode {
+    match run(&rt) {
+        Ok(()) => ExitCode::SUCCESS,
+        Err(Fault::Usage) => {
+            let _ = rt.eprintln(USAGE);
+            ExitCode::from(2)
+        }
+        Err(fault) => {
+            let _ = eprintln!(rt; "mst_bench: {fault}");
+            ExitCode::FAILURE
+        }
+    }
+}

@@ -1,0 +1,121 @@
+//! The times of the operations on trees.
+
+ghost use Rattle.std.specs.Prelude.{◌≢◌, None};
+
+use crate::clock::{Best, now, rounds};
+use crate::fault::Fault;
+use crate::keys::copies;
+use crate::sample::{Sample, Tree, ranges, tree_of};
+use merkle_diff::diff;
+use std::alloc::Global;
+use std::io::Write;
+use std::rt::Clock;
+
+/// The best time of each operation.
+#[derive(Drop)]
+struct Times {
+    insert: Best,
+    root: Best,
+    serialise: Best,
+    diff_same: Best,
+    diff_other: Best,
+    diff_some: Best,
+}
+
+/// Times the differences of the local tree and `peer`.
+fn time_diff<R: Clock>(
+    rt: &R,
+    alloc: Global,
+    local: &Tree,
+    peer: &Tree,
+    best: &mut Best,
+) -> Result<(), Fault>
+    requires local_hashed { local.now.root_hash ≢ None }
+    requires peer_hashed { peer.now.root_hash ≢ None }
+{
+    let local_ranges = ranges(local)?;
+    let peer_ranges = ranges(peer)?;
+    let start = now(rt)?;
+    let _found = diff(alloc, local_ranges, peer_ranges)?;
+    best.note_since(rt, start)
+}
+
+impl Times {
+    /// The best times of no rounds.
+    fn new() -> Self {
+        Times {
+            insert: Best::new(),
+            root: Best::new(),
+            serialise: Best::new(),
+            diff_same: Best::new(),
+            diff_other: Best::new(),
+            diff_some: Best::new(),
+        }
+    }
+
+    /// Makes one round of all operations.
+    fn note_round<R: Clock>(
+        &mut self,
+        rt: &R,
+        alloc: Global,
+        sample: &Sample,
+    ) -> Result<(), Fault> {
+        let keys = copies(alloc, &sample.keys)?;
+        let start = now(rt)?;
+        let mut local = tree_of(alloc, keys, 1)?;
+        self.insert.note_since(rt, start)?;
+        let start = now(rt)?;
+        let _ = local.root_hash_counted();
+        self.root.note_since(rt, start)?;
+        let start = now(rt)?;
+        let _listed = ranges(&local)?;
+        self.serialise.note_since(rt, start)?;
+        time_diff(rt, alloc, &local, &sample.local, &mut self.diff_same)?;
+        time_diff(rt, alloc, &local, &sample.peer, &mut self.diff_other)?;
+        time_diff(rt, alloc, &local, &sample.third, &mut self.diff_some)
+    }
+}
+
+/// The best times of the operations on `count` keys.
+fn measured<R: Clock>(rt: &R, alloc: Global, count: usize) -> Result<Times, Fault> {
+    let sample = Sample::new(alloc, count)?;
+    let mut times = Times::new();
+    for _ in 0..rounds(count) {
+        times.note_round(rt, alloc, &sample)?;
+    }
+    Ok(times)
+}
+
+/// Writes the line of `count` keys.
+fn write_line<W: Write>(count: usize, times: &Times, out: &mut W) -> Result<(), Fault> {
+    let insert = times.insert.each(count);
+    let root = times.root.each(count);
+    let serialise = times.serialise.each(count);
+    let same = times.diff_same.each(count);
+    let other = times.diff_other.each(count);
+    let some = times.diff_some.each(count);
+    writeln!(
+        out,
+        "{count} {insert} {root} {serialise} {same} {other} {some}"
+    )
+    .map_err(|_| Fault::Output)
+}
+
+/// Writes the table of the operations: a line of names, and one for each number of keys, in nanoseconds a key.
+pub fn write_table<R: Clock, W: Write>(
+    rt: &R,
+    alloc: Global,
+    counts: &[usize],
+    out: &mut W,
+) -> Result<(), Fault> {
+    writeln!(
+        out,
+        "keys insert_ns root_ns serialise_ns diff_same_ns diff_other_ns diff_some_ns"
+    )
+    .map_err(|_| Fault::Output)?;
+    for count in counts {
+        let times = measured(rt, alloc, *count)?;
+        write_line(*count, &times, out)?;
+    }
+    Ok(())
+}
