@@ -1,8 +1,6 @@
 -- The list of the page ranges of a tree of a map lists pages of the map.
-use Rattle.std.proofs.Common.{◌≡◌, ℕ, Bool, true, false, cond, List, [], ◌∷◌, ◌++◌, refl, sym, ◌∙◌, ap, subst, ◌⊎◌, inl, inr, append_assoc, append-nil, not, ◌&&◌}
-use Rattle.std.specs.Prelude.{⊤}
-use Rattle.std.specs.Cmp.{IsTotalOrder, IsEquivalence, tied_back}
-use Rattle.std.specs.Ordering.{is_gt}
+use Rattle.std.proofs.Common.{◌≡◌, ℕ, Bool, true, false, cond, List, [], ◌∷◌, ◌++◌, refl, sym, ◌∙◌, ap, subst, ◌⊎◌, inl, inr, append_assoc, append-nil}
+use Rattle.std.specs.Cmp.{IsTotalOrder}
 use Rattle.std.specs.List.{AllByRecursion}
 use Rattle.std.specs.declared.cmp.Ordering.{Ordering}
 use Rattle.merkle_digest.specs.SipHash.{siphash128, zero_key}
@@ -16,7 +14,7 @@ use Rattle.merkle_search_tree.specs.Canonical.{IsTreeOf}
 use Rattle.key_order.specs.Interval.{Span, IsIn, is_in}
 use Rattle.merkle_diff.specs.Entry.{Entry, span_of}
 use Rattle.key_order.specs.Order.{Upto, Below, Same}
-use Rattle.key_order.proofs.Orders.{up_up, up_low, low_up, low_low, low_is_up, up_self, same_up, same_down, not_both}
+use Rattle.key_order.proofs.Orders.{up_up, up_low, low_up, low_is_up, up_self, same_up, same_down, not_both}
 use Rattle.key_order.specs.Map.{last_key, IsMap, SameMap, rows_at}
 use Rattle.merkle_search_tree.specs.Listing.{IsListing, IsWhole, entry_rows}
 use Rattle.key_order.proofs.Bools.{which}

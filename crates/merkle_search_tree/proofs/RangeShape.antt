@@ -1,10 +1,9 @@
 -- The page ranges of a tree are tree-shaped.
 use Rattle.std.proofs.Common.{◌≡◌, ℕ, List, [], ◌∷◌, ◌++◌, ◌⊎◌, inl, inr, refl}
-use Rattle.std.specs.Prelude.{⊤}
 use Rattle.std.specs.Cmp.{IsTotalOrder}
 use Rattle.std.specs.List.{AllByRecursion}
 use Rattle.std.specs.declared.cmp.Ordering.{Ordering}
-use Rattle.key_order.specs.Order.{Upto, Below}
+use Rattle.key_order.specs.Order.{Below}
 use Rattle.key_order.specs.Map.{IsMap, last_key}
 use Rattle.key_order.proofs.Orders.{up_up, up_low, low_low, not_both}
 use Rattle.merkle_digest.specs.SipHash.{siphash128, zero_key}

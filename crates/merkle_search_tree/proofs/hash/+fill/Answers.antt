@@ -1,4 +1,4 @@
-use Rattle.std.proofs.Common.{rules, ◌≡◌, ℕ, ◌+◌, ◌-◌, ◌*◌, ◌^◌, ◌<◌, ◌≤◌, ◌++◌, ◌∷◌, [], List, min, length, map, take, drop, get_or, slice_set, sum_by, Option, Some, None, arith, ap, sym, subst, ◌∙◌, refl, append-nil, append_assoc}
+use Rattle.std.proofs.Common.{rules, ◌≡◌, ℕ, ◌+◌, ◌<◌, ◌≤◌, ◌++◌, ◌∷◌, [], List, length, map, take, get_or, slice_set, sum_by, Option, Some, None, arith, ap, sym, subst, ◌∙◌, refl, append-nil, append_assoc}
 use Rattle.std.specs.List.{flat_map}
 use Rattle.std.proofs.lemmas.List.{take_all, drop_all, take_more, flat_map_more}
 use Rattle.std.proofs.lemmas.List.Edits.{map_over_more}
@@ -8,10 +8,10 @@ use Rattle.std.specs.declared.alloc.Global.{Global}
 use Rattle.merkle_digest.specs.SipHash.{siphash128, zero_key}
 use Rattle.merkle_digest.specs.Sip24.{Holds}
 use Rattle.merkle_digest.specs.declared.siphash.Sip24.{Sip24}
-use Rattle.merkle_search_tree.specs.Tree.{Tree, page, row, high, nothing, Held, Node, held_of, tree_size, held_size, row_size}
+use Rattle.merkle_search_tree.specs.Tree.{Tree, page, row, Held, Node, held_of, tree_size, held_size, row_size}
 use Rattle.merkle_search_tree.specs.Page.{cache}
 use Rattle.merkle_search_tree.specs.Stream.{page_digest, held_digest, row_stream}
-use Rattle.merkle_search_tree.specs.Cache.{CachesHold, HeldCachesHold, RowCachesHold, missing, held_missing, row_missing, one_without, filled, held_filled, row_filled}
+use Rattle.merkle_search_tree.specs.Cache.{HeldCachesHold, missing, held_missing, one_without, filled, held_filled}
 use Rattle.merkle_search_tree.proofs.Rows.{size_at, size_high}
 use Rattle.merkle_search_tree.proofs.Keeps.{none_missing}
 use Rattle.merkle_search_tree.proofs.Fill.{node_filled, node_stream, node_missing, row_missing-row, row_filled-row, row_stream-row, caches_at, caches_high, row_of_caches, filled_of_caches, reads_old}

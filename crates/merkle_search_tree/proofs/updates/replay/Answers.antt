@@ -1,9 +1,8 @@
-use Rattle.std.proofs.Common.{rules, ◌≡◌, ℕ, ◌+◌, length, length-append, append_assoc, append-nil, arith, List, Bool, false, Option, Some, None, is_some, if◌then◌else◌, ap, sym, subst, ◌∙◌, ◌++◌, [], ◌∷◌}
+use Rattle.std.proofs.Common.{◌≡◌, ℕ, ◌+◌, length, length-append, append_assoc, append-nil, arith, List, false, is_some, ap, sym, subst, ◌∙◌, ◌++◌, [], ◌∷◌}
 use Rattle.std.specs.Vec.Iter.{into_iter_items}
 use Rattle.merkle_digest.specs.Level.{level_of}
 use Rattle.merkle_search_tree.specs.Canonical.{SamePages}
-use Rattle.merkle_search_tree.specs.State.{State, map_of}
-use Rattle.merkle_search_tree.specs.Stream.{page_digest}
+use Rattle.merkle_search_tree.specs.State.{map_of}
 use Rattle.merkle_search_tree.specs.TreeOf.{tree_of}
 use Rattle.merkle_search_tree.specs.Updates.{map_after, map_after_one, hashed_after, hashed_after_one}
 use Rattle.merkle_search_tree.proofs.Replays.{map_after-more, hashed_after-more, hashed_is}

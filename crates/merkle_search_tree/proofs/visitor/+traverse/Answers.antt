@@ -1,6 +1,6 @@
 use Rattle.std.proofs.Common.{true, ap, subst, sym, ◌∙◌}
-use Rattle.merkle_search_tree.specs.Tree.{Tree, Node, page, row, held_of}
-use Rattle.merkle_search_tree.specs.Events.{events_of, held_events}
+use Rattle.merkle_search_tree.specs.Tree.{Node, page, row, held_of}
+use Rattle.merkle_search_tree.specs.Events.{held_events}
 use Rattle.merkle_search_tree.specs.Traversal.{Visits, over}
 use Rattle.merkle_search_tree.proofs.Visiting.{refused, answered, one, page-refused, page-answered, row-refused, row-answered, row-over, below-refused, below-answered}
 use Rattle.merkle_search_tree.proofs.visitor.+traverse.Goals as goal

@@ -1,6 +1,5 @@
-use Rattle.std.proofs.Common.{rules, ap, sym, subst, ◌∙◌, Some}
+use Rattle.std.proofs.Common.{rules, ap, ◌∙◌}
 use Rattle.std.specs.Int.NonZero.{non_zero_u8_get}
-use Rattle.key_order.specs.Map.{IsMap}
 use Rattle.merkle_digest.specs.Level.{level_of}
 use Rattle.merkle_search_tree.specs.Cache.{missing}
 use Rattle.merkle_search_tree.proofs.Fill.{pairs-filled, IsCanonicalRoot-filled, CachesHold-filled, cache-filled, missing-filled}
