@@ -2,7 +2,7 @@
 use Rattle.std.specs.Prelude.{◌≡◌, ℕ, zero, suc, ◌/◌, ◌%◌, ◌==◌, ◌&&◌, Bool, true, nat_lt, List, [], ◌∷◌, slice_index_or, if◌then◌else◌, refl}
 use Rattle.std.specs.Int.{w64, to_le_bytes}
 use Rattle.std.specs.Cmp.{IsEquivalence}
-use Rattle.std.proofs.Common.{ap, sym, ◌∙◌}
+use Rattle.std.proofs.Common.{ap, ◌∙◌}
 
 -- the level at a key: that of the first pair whose key is equal, or 0
 abbrev pub level_at : {K : Type 0} → (K → K → Bool) → List (K × ℕ) → K → ℕ

@@ -2,14 +2,17 @@
 
 ghost use Rattle.std.specs.Prelude.{◌≡◌};
 
+use crate::builder::Builder;
 use crate::visitor::Visitor;
 use crate::{MerkleSearchTree, Node, Page};
 use merkle_digest::{SipHasher, ValueDigest};
 use std::alloc::Global;
+use std::num::NonZeroU8;
 use std::test::Fail;
 
-/// A tree with the default hasher. Under SipHash of their two bytes, the highest first, the keys 0, 7, 30 and 525 are on level 0,
-/// the keys 6, 29, 34 and 524 on level 1, and the keys 107 and 461 on level 2.
+/// A tree with the default hasher. Under SipHash of their two bytes, the highest first, and base 16, the keys 0, 30 and 525 are on
+/// level 0, the keys 6, 29, 34 and 524 on level 1, and the keys 107 and 461 on level 2. Under base 4 the key 1 is on level 0, and 0 on
+/// level 1.
 type Tree = MerkleSearchTree<[u8; 2], u64, SipHasher, 16>;
 
 /// A call, with the key of the node or the first key of the page.
@@ -74,9 +77,17 @@ fn first_number(page: &Page<16, [u8; 2]>) -> Option<u16> {
     }
 }
 
-/// The calls of a traversal of the tree of these keys, upserted in this order.
-fn calls_of(alloc: Global, keys: &[u16], last: Option<Call>) -> Result<Vec<Call>, Fail> {
-    let mut tree: Tree = MerkleSearchTree::with_defaults(alloc);
+/// The calls of a traversal of the tree of these keys with this level base, upserted in this order.
+fn calls_of(
+    alloc: Global,
+    level_base: u8,
+    keys: &[u16],
+    last: Option<Call>,
+) -> Result<Vec<Call>, Fail> {
+    let Some(base) = NonZeroU8::new(level_base) else {
+        return Err(Fail::from("a level base of 0"));
+    };
+    let mut tree: Tree = Builder::default().with_level_base(base).build(alloc);
     for number in keys {
         if tree.upsert(number.to_be_bytes(), &1).is_err() {
             return Err(Fail::from("no memory"));
@@ -90,18 +101,18 @@ fn calls_of(alloc: Global, keys: &[u16], last: Option<Call>) -> Result<Vec<Call>
     Ok(recorder.calls)
 }
 
-/// The calls at the tree of the keys 7 and 6: the key 6 is on the root page, and 7 on its high page.
+/// The calls at the tree of the keys 1 and 0 with base 4: the key 0 is on the root page, and 1 on its high page.
 const TWO_PAGES: [Call; 10] = [
-    Call::VisitPage(Some(6), false),
-    Call::PreVisitNode(6),
-    Call::VisitNode(6),
-    Call::PostVisitNode(6),
-    Call::PostVisitPage(Some(6)),
-    Call::VisitPage(Some(7), true),
-    Call::PreVisitNode(7),
-    Call::VisitNode(7),
-    Call::PostVisitNode(7),
-    Call::PostVisitPage(Some(7)),
+    Call::VisitPage(Some(0), false),
+    Call::PreVisitNode(0),
+    Call::VisitNode(0),
+    Call::PostVisitNode(0),
+    Call::PostVisitPage(Some(0)),
+    Call::VisitPage(Some(1), true),
+    Call::PreVisitNode(1),
+    Call::VisitNode(1),
+    Call::PostVisitNode(1),
+    Call::PostVisitPage(Some(1)),
 ];
 
 /// The calls at a tree of nine keys: 107 and 461 on the root page, 6, 29 and 34 on the page below 107, the page of 0 below 6 and
@@ -151,17 +162,17 @@ const SIX_PAGES: [Call; 39] = [
 #[test]
 fn calls_come_in_order(rt: HostRuntime) -> Result<(), Fail> {
     let keys = [107, 461, 6, 29, 34, 0, 30, 524, 525];
-    assert!(rt; calls_of(rt.alloc(), &keys, None)?.as_slice() == SIX_PAGES.as_slice());
-    assert!(rt; calls_of(rt.alloc(), &[7, 6], None)?.as_slice() == TWO_PAGES.as_slice());
+    assert!(rt; calls_of(rt.alloc(), 16, &keys, None)?.as_slice() == SIX_PAGES.as_slice());
+    assert!(rt; calls_of(rt.alloc(), 4, &[1, 0], None)?.as_slice() == TWO_PAGES.as_slice());
     let empty = [Call::VisitPage(None, false), Call::PostVisitPage(None)];
-    assert!(rt; calls_of(rt.alloc(), &[], None)?.as_slice() == empty.as_slice());
+    assert!(rt; calls_of(rt.alloc(), 16, &[], None)?.as_slice() == empty.as_slice());
     Ok(())
 }
 
 #[test]
 fn a_false_answer_ends_the_traversal(rt: HostRuntime) -> Result<(), Fail> {
     for i in 0..TWO_PAGES.len() {
-        let calls = calls_of(rt.alloc(), &[7, 6], Some(TWO_PAGES[i]))?;
+        let calls = calls_of(rt.alloc(), 4, &[1, 0], Some(TWO_PAGES[i]))?;
         assert!(rt; calls.as_slice() == &TWO_PAGES[..i + 1]);
     }
     Ok(())

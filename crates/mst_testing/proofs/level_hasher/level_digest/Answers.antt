@@ -1,5 +1,4 @@
-use Rattle.std.proofs.Common.{◌≡◌, ◌<◌, ap, ◌∙◌, length, slice_set, arith}
-use Rattle.std.specs.Prelude.{slice_index_or}
+use Rattle.std.proofs.Common.{◌<◌, ◌∙◌, length, arith}
 use Rattle.mst_testing.specs.LevelBytes.{level_byte}
 use Rattle.mst_testing.proofs.Bytes.{write_more, set_length}
 use Rattle.mst_testing.proofs.level_hasher.level_digest.Goals as goal

@@ -1,4 +1,4 @@
-use Rattle.std.proofs.Common.{◌≡◌, ◌<◌, ap, ◌∙◌, length, slice_set, arith}
+use Rattle.std.proofs.Common.{◌<◌, ap, ◌∙◌, length, arith}
 use Rattle.std.specs.Prelude.{slice_index_or}
 use Rattle.mst_testing.specs.LevelBytes.{value_byte}
 use Rattle.mst_testing.proofs.Bytes.{write_more, set_length}
