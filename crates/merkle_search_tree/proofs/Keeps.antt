@@ -1,5 +1,5 @@
 -- What an upsert keeps: the form, the caches, and how few digests are dropped.
-use Rattle.std.proofs.Common.{◌≡◌, ℕ, suc, ◌+◌, ◌<◌, ◌≤◌, List, Bool, true, false, if◌then◌else◌, Option, Some, None, refl, sym, subst, arith}
+use Rattle.std.proofs.Common.{◌≡◌, ℕ, suc, ◌+◌, ◌<◌, ◌≤◌, List, Bool, true, false, if◌then◌else◌, Option, Some, None, refl, ap, sym, subst, arith}
 use Rattle.std.specs.declared.cmp.Ordering.{Ordering}
 use Rattle.std.specs.declared.cmp.Ordering.TheVariants.{Less, Equal, Greater}
 use Rattle.std.specs.Ordering.{is_gt, match_ordering, nat_cmp, MatchOrdering}
@@ -8,16 +8,21 @@ use Rattle.merkle_search_tree.specs.Tree.{Tree, page, Row, high, node, Held, not
 use Rattle.merkle_search_tree.specs.Page.{level, cache}
 use Rattle.merkle_search_tree.specs.Cache.{missing, row_missing, held_missing, CachesHold, RowCachesHold, HeldCachesHold, EachHasCache, HasCache}
 use Rattle.merkle_search_tree.specs.Canonical.{HasNode, IsCanonical, IsRow, IsGap, IsCanonicalRoot}
-use Rattle.merkle_search_tree.specs.Upsert.{as_held, lower, upper, held_lower, held_upper, tree_lower, tree_upper, row_put, row_sink, held_set, tree_set, lifted}
+use Rattle.merkle_search_tree.specs.Upsert.{as_held, kept, kept_beside, lower, upper, held_lower, held_upper, tree_lower, tree_upper, row_put, row_sink, held_set, tree_set, lifted}
+
+-- a row without a node and a page above it gives nothing
+as_held-nothing : {K D : Type 0} (l : ℕ) (c : Option (List ℕ)) (r : Row K D) → as_held l c r ≡ nothing → r ≡ high nothing
+as_held-nothing l c (high h) e = ap high e
+as_held-nothing l c (node h k d r) e = absurd (cc)
 
 module _ {K D : Type 0} (lev : K → ℕ) where
   gap-more : (l m : ℕ) (h : Held K D) → l < m → IsGap lev l h → IsGap lev m h
   gap-more l m nothing s g = tt
   gap-more l m (below t) s g = (omega (arith, g.0), g.1, g.2)
 
-  as_held-gap : (l m : ℕ) (r : Row K D) → l < m → IsRow lev l r → IsGap lev m (as_held l r)
-  as_held-gap l m (high h) s g = gap-more l m h s g
-  as_held-gap l m (node h k d r) s g = (s, tt, g)
+  as_held-gap : (l m : ℕ) (c : Option (List ℕ)) (r : Row K D) → l < m → IsRow lev l r → IsGap lev m (as_held l c r)
+  as_held-gap l m c (high h) s g = gap-more l m h s g
+  as_held-gap l m c (node h k d r) s g = (s, tt, g)
 
 -- the form
 module _ {K D : Type 0} (cmp : K → K → Ordering) (lev : K → ℕ) (at : K) where
@@ -35,7 +40,10 @@ module _ {K D : Type 0} (cmp : K → K → Ordering) (lev : K → ℕ) (at : K) 
     split-gap l nothing p = (tt, tt)
     split-gap l (below (page m c (high h))) p = absurd p.1
     split-gap l (below (page m c (node h k d r))) p =
-        let s = split-row m (node h k d r) p.2 in (as_held-gap lev m l (lower cmp at (node h k d r)) p.0 s.0, as_held-gap lev m l (upper cmp at (node h k d r)) p.0 s.1)
+        let s = split-row m (node h k d r) p.2 in (
+          as_held-gap lev m l (kept (upper cmp at (node h k d r)) c) (lower cmp at (node h k d r)) p.0 s.0,
+          as_held-gap lev m l (kept (lower cmp at (node h k d r)) c) (upper cmp at (node h k d r)) p.0 s.1,
+        )
 
 module _ {K D : Type 0} (cmp : K → K → Ordering) (lev : K → ℕ) (n : ℕ) (k : K) (d : D) (at : lev k ≡ n) where
   pub put-row : (r : Row K D) → IsRow lev n r → IsRow lev n (row_put cmp k d r)
@@ -76,8 +84,15 @@ module _ {K D : Type 0} (cmp : K → K → Ordering) (lev : K → ℕ) (n : ℕ)
         by Less q f g = (u, (f q).0, (f q).1)
         by Equal q f g = (u, put-node (cmp k x), subst (λ j. IsRow lev j (row_put cmp k d (node h x e r))) q (g q))
         by Greater q f g =
-            let t = split-row cmp lev k l (node h x e r) p in
-            (s, tt, (as_held-gap lev l n (lower cmp k (node h x e r)) q t.0, at, as_held-gap lev l n (upper cmp k (node h x e r)) q t.1))
+            let t = split-row cmp lev k l (node h x e r) p in (
+              s,
+              tt,
+              (
+                as_held-gap lev l n (kept (upper cmp k (node h x e r)) c) (lower cmp k (node h x e r)) q t.0,
+                at,
+                as_held-gap lev l n (kept (lower cmp k (node h x e r)) c) (upper cmp k (node h x e r)) q t.1,
+              ),
+            )
 
     sink-rest : (l : ℕ) (r : Row K D) → n < l → IsRow lev l r → IsRow lev l (row_sink cmp n k d r)
     sink-rest l (high h) s p = set-gap l h s p
@@ -99,15 +114,64 @@ module _ {K D : Type 0} (cmp : K → K → Ordering) (lev : K → ℕ) (n : ℕ)
   set-root (page m c (node h x e r)) p =
       let g = set-tree (suc (m + n)) (page m c (node h x e r)) (omega arith) (omega arith) tt p in root_from (tree_set cmp n k d (page m c (node h x e r))) g.1 g.2
 
+-- what is wholly on one side stays as it is, with its digests
+module _ {K D : Type 0} (cmp : K → K → Ordering) (at : K) where
+  row_of_high : (g h : Held K D) → high g ≡ high h → g ≡ h
+  row_of_high g h e = ap in_high e
+    where
+      in_high : Row K D → Held K D
+      in_high (high h) = h
+      in_high (node h k d r) = h
+
+  mutual
+    whole_lower : (r : Row K D) → upper cmp at r ≡ high nothing → lower cmp at r ≡ r
+    whole_lower (high h) e = ap high (held_whole_lower h (row_of_high (held_upper cmp at h) nothing e))
+    whole_lower (node h k d r) e = by (is_gt (cmp at k)) e (whole_lower r)
+      where
+        by : (c : Bool) → (if c then (upper cmp at r) else (node (held_upper cmp at h) k d r)) ≡ high nothing → (upper cmp at r ≡ high nothing → lower cmp at r ≡ r)
+            → (if c then (node h k d (lower cmp at r)) else (high (held_lower cmp at h))) ≡ node h k d r
+        by true e f = ap (node h k d) (f e)
+        by false e f = absurd (cc)
+
+    held_whole_lower : (h : Held K D) → held_upper cmp at h ≡ nothing → held_lower cmp at h ≡ h
+    held_whole_lower nothing e = refl
+    held_whole_lower (below (page l c (high h))) e =
+        (λ j. below (page l (kept_beside (e j) c) (high (held_whole_lower h e j))))
+    held_whole_lower (below (page l c (node h k d r))) e =
+        let u = as_held-nothing l (kept (lower cmp at (node h k d r)) c) (upper cmp at (node h k d r)) e in
+        (λ j. as_held l (kept (u j) c) (whole_lower (node h k d r) u j))
+
+    whole_upper : (r : Row K D) → lower cmp at r ≡ high nothing → upper cmp at r ≡ r
+    whole_upper (high h) e = ap high (held_whole_upper h (row_of_high (held_lower cmp at h) nothing e))
+    whole_upper (node h k d r) e = by (is_gt (cmp at k)) e (held_whole_upper h)
+      where
+        by : (c : Bool) → (if c then (node h k d (lower cmp at r)) else (high (held_lower cmp at h))) ≡ high nothing → (held_lower cmp at h ≡ nothing → held_upper cmp at h ≡ h)
+            → (if c then (upper cmp at r) else (node (held_upper cmp at h) k d r)) ≡ node h k d r
+        by true e f = absurd (cc)
+        by false e f = ap (λ g. node g k d r) (f (row_of_high (held_lower cmp at h) nothing e))
+
+    held_whole_upper : (h : Held K D) → held_lower cmp at h ≡ nothing → held_upper cmp at h ≡ h
+    held_whole_upper nothing e = refl
+    held_whole_upper (below (page l c (high h))) e = absurd (cc)
+    held_whole_upper (below (page l c (node h k d r))) e =
+        let u = as_held-nothing l (kept (upper cmp at (node h k d r)) c) (lower cmp at (node h k d r)) e in
+        (λ j. as_held l (kept (u j) c) (whole_upper (node h k d r) u j))
+
 -- the caches
 module _ {K : Type 0} (b : K → List ℕ) where
   pub rows_hold : (l : ℕ) (c : Option (List ℕ)) (r : Row K (List ℕ)) → CachesHold b (page l c r) → RowCachesHold b r
   rows_hold l None r p = p
   rows_hold l (Some d) r p = p.2
 
-  as_held-hold : (l : ℕ) (r : Row K (List ℕ)) → RowCachesHold b r → HeldCachesHold b (as_held l r)
-  as_held-hold l (high h) p = p
-  as_held-hold l (node h k d r) p = p
+  -- a part s of the row r of a page with a true digest, where o is the other part
+  kept-hold : (l : ℕ) (c : Option (List ℕ)) (o r s : Row K (List ℕ)) → CachesHold b (page l c r) → RowCachesHold b s → (o ≡ high nothing → s ≡ r) → CachesHold b (page l (kept o c) s)
+  kept-hold l c (high nothing) r s p q w = subst (λ t. CachesHold b (page l c t)) (sym (w refl)) p
+  kept-hold l c (high (below t)) r s p q w = q
+  kept-hold l c (node h k d o) r s p q w = q
+
+  as_held-hold : (l : ℕ) (c : Option (List ℕ)) (o r s : Row K (List ℕ)) → CachesHold b (page l c r) → RowCachesHold b s → (o ≡ high nothing → s ≡ r) → HeldCachesHold b (as_held l (kept o c) s)
+  as_held-hold l c o r (high h) p q w = q
+  as_held-hold l c o r (node h k d s) p q w = kept-hold l c o r (node h k d s) p q w
 
   module _ (cmp : K → K → Ordering) (at : K) where
     mutual
@@ -125,9 +189,13 @@ module _ {K : Type 0} (b : K → List ℕ) where
       held_split-hold (below t) p = tree_split-hold t p
 
       pub tree_split-hold : (t : Tree K (List ℕ)) → CachesHold b t → HeldCachesHold b (tree_lower cmp at t) × HeldCachesHold b (tree_upper cmp at t)
-      tree_split-hold (page l c (high h)) p = held_split-hold h (rows_hold l c (high h) p)
+      tree_split-hold (page l c (high h)) p =
+          let s = held_split-hold h (rows_hold l c (high h) p) in (kept-hold l c (high (held_upper cmp at h)) (high h) (high (held_lower cmp at h)) p s.0 (whole_lower cmp at (high h)), s.1)
       tree_split-hold (page l c (node h k d r)) p =
-          let s = split-hold (node h k d r) (rows_hold l c (node h k d r) p) in (as_held-hold l (lower cmp at (node h k d r)) s.0, as_held-hold l (upper cmp at (node h k d r)) s.1)
+          let s = split-hold (node h k d r) (rows_hold l c (node h k d r) p) in (
+            as_held-hold l c (upper cmp at (node h k d r)) (node h k d r) (lower cmp at (node h k d r)) p s.0 (whole_lower cmp at (node h k d r)),
+            as_held-hold l c (lower cmp at (node h k d r)) (node h k d r) (upper cmp at (node h k d r)) p s.1 (whole_upper cmp at (node h k d r)),
+          )
 
   module _ (cmp : K → K → Ordering) (n : ℕ) (k : K) (d : List ℕ) where
     put-hold : (r : Row K (List ℕ)) → RowCachesHold b r → RowCachesHold b (row_put cmp k d r)
@@ -186,9 +254,10 @@ module _ {K : Type 0} (b : K → List ℕ) where
 
 -- how many digests are dropped, where none was missing
 module _ {K D : Type 0} (cmp : K → K → Ordering) (lev : K → ℕ) (at : K) where
-  as_held-few : (l m : ℕ) (r : Row K D) → l < m → row_missing r ≤ l → held_missing (as_held l r) ≤ m
-  as_held-few l m (high h) s p = omega arith
-  as_held-few l m (node h k d r) s p = omega arith
+  as_held-few : (l m : ℕ) (c : Option (List ℕ)) (r : Row K D) → l < m → row_missing r ≤ l → held_missing (as_held l c r) ≤ m
+  as_held-few l m c (high h) s p = omega arith
+  as_held-few l m None (node h k d r) s p = omega arith
+  as_held-few l m (Some c) (node h k d r) s p = omega arith
 
   mutual
     pub split-few : (l : ℕ) (r : Row K D) → IsRow lev l r → row_missing r ≡ 0 → (row_missing (lower cmp at r) ≤ l) × (row_missing (upper cmp at r) ≤ l)
@@ -204,8 +273,10 @@ module _ {K D : Type 0} (cmp : K → K → Ordering) (lev : K → ℕ) (at : K) 
     held_split-few l nothing p z = (omega arith, omega arith)
     held_split-few l (below (page m c (high h))) p z = absurd p.1
     held_split-few l (below (page m c (node h k d r))) p z =
-        let s = split-few m (node h k d r) p.2 (omega arith) in
-        (as_held-few m l (lower cmp at (node h k d r)) p.0 s.0, as_held-few m l (upper cmp at (node h k d r)) p.0 s.1)
+        let s = split-few m (node h k d r) p.2 (omega arith) in (
+          as_held-few m l (kept (upper cmp at (node h k d r)) c) (lower cmp at (node h k d r)) p.0 s.0,
+          as_held-few m l (kept (lower cmp at (node h k d r)) c) (upper cmp at (node h k d r)) p.0 s.1,
+        )
 
 module _ {K D : Type 0} (cmp : K → K → Ordering) (lev : K → ℕ) (n : ℕ) (k : K) (d : D) where
   put-few : (r : Row K D) → IsRow lev n r → row_missing r ≡ 0 → row_missing (row_put cmp k d r) ≤ n + n
@@ -232,7 +303,7 @@ module _ {K D : Type 0} (cmp : K → K → Ordering) (lev : K → ℕ) (n : ℕ)
             ≤ level (match_ordering q (page m None (row_sink cmp n k d (node h x e r))) (page m None (row_put cmp k d (node h x e r))) (lifted cmp n k d (page m c (node h x e r)))) + n + 1
         by Less q f g s = omega (arith, f q)
         by Equal q f g s = omega (arith, g q)
-        by Greater q f g s = omega (arith, as_held-few cmp lev k m n (lower cmp k (node h x e r)) q s.0, as_held-few cmp lev k m n (upper cmp k (node h x e r)) q s.1)
+        by Greater q f g s = omega (arith, as_held-few cmp lev k m n (kept (upper cmp k (node h x e r)) c) (lower cmp k (node h x e r)) q s.0, as_held-few cmp lev k m n (kept (lower cmp k (node h x e r)) c) (upper cmp k (node h x e r)) q s.1)
 
     sink-few : (m : ℕ) (r : Row K D) → n < m → IsRow lev m r → row_missing r ≡ 0 → row_missing (row_sink cmp n k d r) ≤ m + n
     sink-few m (high h) s p z = gap-few m h s p z
@@ -257,7 +328,7 @@ module _ {K D : Type 0} (cmp : K → K → Ordering) (lev : K → ℕ) (n : ℕ)
             → missing (match_ordering q (page l None (row_sink cmp n k d (node h x e r))) (page l None (row_put cmp k d (node h x e r))) (lifted cmp n k d (page l c (node h x e r)))) ≤ m + n
         by Less q f g t = omega (arith, f q, p.0)
         by Equal q f g t = omega (arith, g q, p.0)
-        by Greater q f g t = omega (arith, as_held-few cmp lev k l n (lower cmp k (node h x e r)) q t.0, as_held-few cmp lev k l n (upper cmp k (node h x e r)) q t.1)
+        by Greater q f g t = omega (arith, as_held-few cmp lev k l n (kept (upper cmp k (node h x e r)) c) (lower cmp k (node h x e r)) q t.0, as_held-few cmp lev k l n (kept (lower cmp k (node h x e r)) c) (upper cmp k (node h x e r)) q t.1)
 
   pub set-few_root : (t : Tree K D) → IsCanonicalRoot lev t → missing t ≡ 0 → missing (tree_set cmp n k d t) ≤ level (tree_set cmp n k d t) + n + 1
   set-few_root (page m c (high nothing)) p z = omega arith

@@ -1,5 +1,5 @@
 -- What an upsert does to the map.
-use Rattle.std.proofs.Common.{◌≡◌, ℕ, ◌+◌, ◌<◌, List, [], ◌∷◌, ◌++◌, Bool, true, false, if◌then◌else◌, None, refl, ap, sym, subst, ◌∙◌, append_assoc, append-nil, arith}
+use Rattle.std.proofs.Common.{◌≡◌, ℕ, ◌+◌, ◌<◌, List, [], ◌∷◌, ◌++◌, Bool, true, false, if◌then◌else◌, Option, None, refl, ap, sym, subst, ◌∙◌, append_assoc, append-nil, arith}
 use Rattle.std.specs.declared.cmp.Ordering.{Ordering}
 use Rattle.std.specs.declared.cmp.Ordering.TheVariants.{Less, Equal, Greater}
 use Rattle.std.specs.Ordering.{is_gt, match_ordering, nat_cmp, MatchOrdering}
@@ -8,15 +8,15 @@ use Rattle.merkle_search_tree.specs.Tree.{Tree, page, Row, high, node, Held, not
 use Rattle.merkle_search_tree.specs.Page.{pairs, row_pairs, held_pairs}
 use Rattle.merkle_search_tree.specs.Canonical.{HasNode, IsCanonical, IsRow, IsGap, IsCanonicalRoot}
 use Rattle.key_order.specs.Map.{IsMap, set}
-use Rattle.merkle_search_tree.specs.Upsert.{as_held, lower, upper, held_lower, held_upper, tree_lower, tree_upper, row_put, row_sink, held_set, tree_set, lifted}
+use Rattle.merkle_search_tree.specs.Upsert.{as_held, kept, lower, upper, held_lower, held_upper, tree_lower, tree_upper, row_put, row_sink, held_set, tree_set, lifted}
 use Rattle.merkle_search_tree.proofs.Unique.{Under, Under-more, Under-row, Under-gap}
 use Rattle.key_order.proofs.Orders.{same_down, low_is_up, turned}
 use Rattle.merkle_search_tree.proofs.Sides.{AllAbove, AllBelow, NoEqual, above-append, below-append, no_equal-first, no_equal-rest, map-first, map-rest, map-before, no_equal-under, set-stop, set-front, set-pass, below-more, above-more, less-below, less-upto, greater-upto, not_above}
 
 module _ {K D : Type 0} where
-  as_held-pairs : (l : ℕ) (r : Row K D) → held_pairs (as_held l r) ≡ row_pairs r
-  as_held-pairs l (high h) = refl
-  as_held-pairs l (node h k d r) = refl
+  as_held-pairs : (l : ℕ) (c : Option (List ℕ)) (r : Row K D) → held_pairs (as_held l c r) ≡ row_pairs r
+  as_held-pairs l c (high h) = refl
+  as_held-pairs l c (node h k d r) = refl
 
 module _ {K D : Type 0} (cmp : K → K → Ordering) (at : K) where
   -- no pair is lost
@@ -37,7 +37,9 @@ module _ {K D : Type 0} (cmp : K → K → Ordering) (at : K) where
     pub tree_split-pairs : (t : Tree K D) → held_pairs (tree_lower cmp at t) ++ held_pairs (tree_upper cmp at t) ≡ pairs t
     tree_split-pairs (page l c (high h)) = held_split-pairs h
     tree_split-pairs (page l c (node h k d r)) =
-        (λ i. as_held-pairs l (lower cmp at (node h k d r)) i ++ as_held-pairs l (upper cmp at (node h k d r)) i) ∙ split-pairs (node h k d r)
+        (λ i. as_held-pairs l (kept (upper cmp at (node h k d r)) c) (lower cmp at (node h k d r)) i
+        ++ as_held-pairs l (kept (lower cmp at (node h k d r)) c) (upper cmp at (node h k d r)) i)
+        ∙ split-pairs (node h k d r)
 
 module _ {K D : Type 0} (cmp : K → K → Ordering) (o : IsTotalOrder cmp) (at : K) where
   -- the two parts of what has no key equal to this one stand below and above it
@@ -69,8 +71,10 @@ module _ {K D : Type 0} (cmp : K → K → Ordering) (o : IsTotalOrder cmp) (at 
     pub tree_split-sides : (t : Tree K D) → IsMap cmp (pairs t) → NoEqual cmp at (pairs t) → AllBelow cmp at (held_pairs (tree_lower cmp at t)) × AllAbove cmp at (held_pairs (tree_upper cmp at t))
     tree_split-sides (page l c (high h)) a ne = held_split-sides h a ne
     tree_split-sides (page l c (node h k d r)) a ne =
-        let s = split-sides (node h k d r) a ne in
-        (subst (AllBelow cmp at) (sym (as_held-pairs l (lower cmp at (node h k d r)))) s.0, subst (AllAbove cmp at) (sym (as_held-pairs l (upper cmp at (node h k d r)))) s.1)
+        let s = split-sides (node h k d r) a ne in (
+          subst (AllBelow cmp at) (sym (as_held-pairs l (kept (upper cmp at (node h k d r)) c) (lower cmp at (node h k d r)))) s.0,
+          subst (AllAbove cmp at) (sym (as_held-pairs l (kept (lower cmp at (node h k d r)) c) (upper cmp at (node h k d r)))) s.1,
+        )
 
 module _ {K D : Type 0} (cmp : K → K → Ordering) (o : IsTotalOrder cmp) (lev : K → ℕ) (respects : (a b : K) → cmp a b ≡ Equal → lev a ≡ lev b) (n : ℕ) (k : K) (d : D) (at : lev k ≡ n) where
   -- a part below the key, it, and a part above it, in front of what is above it

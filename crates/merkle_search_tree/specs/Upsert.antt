@@ -1,14 +1,23 @@
 -- What an upsert does to a page.
-use Rattle.std.specs.Prelude.{ℕ, suc, List, [], ◌∷◌, Bool, true, false, if◌then◌else◌, None}
+use Rattle.std.specs.Prelude.{ℕ, suc, List, [], ◌∷◌, Bool, true, false, if◌then◌else◌, Option, None}
 use Rattle.std.specs.declared.cmp.Ordering.{Ordering}
 use Rattle.std.specs.Ordering.{is_gt, match_ordering, nat_cmp}
 use Rattle.merkle_search_tree.specs.Tree.{Tree, page, Row, high, node, Held, nothing, below, Node}
 
 module _ {K D : Type 0} where
-  -- a row as what stands in a gap: without a node it gives way to its high page
-  abbrev pub as_held : ℕ → Row K D → Held K D
-  as_held l (high h) = h
-  as_held l (node h k d r) = below (page l None (node h k d r))
+  -- a row as what stands in a gap: a page of the level with this digest, but without a node it gives way to its high page
+  abbrev pub as_held : ℕ → Option (List ℕ) → Row K D → Held K D
+  as_held l c (high h) = h
+  as_held l c (node h k d r) = below (page l c (node h k d r))
+
+  -- the digest that one part of a page keeps: the page's own, where there is nothing in the other part
+  abbrev pub kept_beside : Held K D → Option (List ℕ) → Option (List ℕ)
+  kept_beside nothing c = c
+  kept_beside (below t) c = None
+
+  abbrev pub kept : Row K D → Option (List ℕ) → Option (List ℕ)
+  kept (high h) c = kept_beside h c
+  kept (node h k d r) c = None
 
 module _ {K D : Type 0} (cmp : K → K → Ordering) (at : K) where
   -- the place of the first node whose key is at least the key, or the number of nodes
@@ -27,10 +36,9 @@ module _ {K D : Type 0} (cmp : K → K → Ordering) (at : K) where
     held_lower (below t) = tree_lower t
 
     pub tree_lower : Tree K D → Held K D
-    tree_lower (page l c (high h)) = below (page l None (high (held_lower h)))
-    tree_lower (page l c (node h k d r)) = as_held l (lower (node h k d r))
+    tree_lower (page l c (high h)) = below (page l (kept_beside (held_upper h) c) (high (held_lower h)))
+    tree_lower (page l c (node h k d r)) = as_held l (kept (upper (node h k d r)) c) (lower (node h k d r))
 
-  abbrev mutual
     -- the rest
     pub upper : Row K D → Row K D
     upper (high h) = high (held_upper h)
@@ -41,7 +49,7 @@ module _ {K D : Type 0} (cmp : K → K → Ordering) (at : K) where
     held_upper (below t) = tree_upper t
 
     pub tree_upper : Tree K D → Held K D
-    tree_upper (page l c r) = as_held l (upper r)
+    tree_upper (page l c r) = as_held l (kept (lower r) c) (upper r)
 
 module _ {K D : Type 0} (cmp : K → K → Ordering) (k : K) (d : D) where
   -- the key put among the nodes of a row, and what stands in its gap parted at it

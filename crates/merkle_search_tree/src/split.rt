@@ -68,7 +68,7 @@ pub(crate) enum Part<K, D> {
 }
 
 impl<K: Ord + Drop, D: Drop> PageOf<K, D> {
-    /// Parts a subtree at a key. Refused, it changes no page: all room is made on the way down, and pages are written on the way back.
+    /// Parts a subtree at a key. A page keeps its cached digest where its whole subtree is in one part. Refused, it changes no page: all room is made on the way down, and pages are written on the way back.
     #[cycle(split)]
     pub(crate) fn split(&mut self, alloc: Global, key: &K) -> Result<Part<K, D>, AllocError>
         ensures parted { IfOk result (λ part. IsParted K.cmp key.now self.old self.new part) }
@@ -77,13 +77,17 @@ impl<K: Ord + Drop, D: Drop> PageOf<K, D> {
         let at = find_idx(&self.nodes, key);
         if at == self.nodes.len() {
             let low = split_off_lt(alloc, &mut self.high_page, key)?;
-            self.tree_hash = None;
+            if self.high_page.is_some() {
+                self.tree_hash = None;
+            }
             let above = mem::replace(&mut self.high_page, low);
             return Ok(Part::Below(above));
         }
         if at == 0 {
             let low = split_off_lt(alloc, &mut self.nodes[0].lt_pointer, key)?;
-            self.tree_hash = None;
+            if low.is_some() {
+                self.tree_hash = None;
+            }
             return Ok(Part::Rest(low));
         }
         let spare = Spare::new(alloc, self.nodes.len() - at)?;
