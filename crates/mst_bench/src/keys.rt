@@ -1,7 +1,7 @@
 //! The keys of the sample: texts that spell the states of a generator of numbers.
 
-ghost use Rattle.std.specs.Prelude.{◌≡◌};
-ghost use Rattle.mst_bench.specs.Keys.{next_state};
+ghost use Rattle.std.specs.Prelude.{◌≡◌, IfOk, map, string_bytes};
+ghost use Rattle.mst_bench.specs.Keys.{next_state, key_text, key_texts};
 
 use std::alloc::{AllocError, Global};
 
@@ -21,15 +21,19 @@ fn next_state(state: u64) -> u64
 }
 
 /// The key of a state: `k` and its 16 hex digits.
-fn key_of(alloc: Global, state: u64) -> Result<String, AllocError> {
+fn key_of(alloc: Global, state: u64) -> Result<String, AllocError>
+    ensures { IfOk result (λ key. string_bytes key ≡ key_text state) }
+{
     format!(in alloc; "k{state:016x}")
 }
 
 /// The keys of the first `count` states after the seed.
-pub fn keys(alloc: Global, seed: u64, count: usize) -> Result<Vec<String>, AllocError> {
+pub fn keys(alloc: Global, seed: u64, count: usize) -> Result<Vec<String>, AllocError>
+    ensures { IfOk result (λ keys. map string_bytes keys.items ≡ key_texts count seed) }
+{
     let mut keys = Vec::with_capacity(alloc, count)?;
     let mut state = seed;
-    'making: for _ in 0..count {
+    'making: for made in 0..count {
         state = next_state(state);
         keys.push(key_of(alloc, state)?)?;
     }
@@ -37,7 +41,9 @@ pub fn keys(alloc: Global, seed: u64, count: usize) -> Result<Vec<String>, Alloc
 }
 
 /// The same keys once more.
-pub fn copies(alloc: Global, keys: &[String]) -> Result<Vec<String>, AllocError> {
+pub fn copies(alloc: Global, keys: &[String]) -> Result<Vec<String>, AllocError>
+    ensures { IfOk result (λ copies. map string_bytes copies.items ≡ map string_bytes keys.now) }
+{
     let mut copies = Vec::with_capacity(alloc, keys.len())?;
     'copying: for key in keys {
         copies.push(key.clone()?)?;
