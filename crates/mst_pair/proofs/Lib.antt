@@ -5,3 +5,15 @@ pub mod Lines
 pub mod Steps
 pub mod Places
 pub mod Runs
+pub mod Searches
+pub mod Sweeps
+pub mod Follows
+pub mod Joined
+pub mod Taken
+pub mod Bounds
+pub mod Cover
+pub mod Converging
+pub mod Turning
+pub mod Asks
+pub mod Within
+pub mod Pulling
