@@ -6,12 +6,11 @@ use Rattle.std.specs.declared.cmp.Ordering.{Ordering}
 use Rattle.key_order.specs.Order.{Same}
 use Rattle.key_order.specs.Interval.{Span, SameSpan}
 use Rattle.key_order.specs.Map.{SameMap}
-use Rattle.merkle_diff.specs.Difference.{IsDifference, SparesAgreed, IsAnswer}
+use Rattle.merkle_diff.specs.Difference.{IsAnswer}
 use Rattle.merkle_diff.specs.Entry.{Entry}
 use Rattle.merkle_diff.specs.Merge.{SameSpans}
 use Rattle.merkle_diff.specs.TreeShape.{IsTreeShaped}
 use Rattle.merkle_diff.proofs.SameAnswers.{difference-same, spares-same}
-use Rattle.merkle_digest.specs.Level.{level_of}
 use Rattle.merkle_search_tree.specs.Ranges.{ranges_of}
 use Rattle.merkle_search_tree.specs.Sound.{IsSound}
 use Rattle.merkle_search_tree.specs.State.{map_of}

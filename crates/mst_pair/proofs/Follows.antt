@@ -1,5 +1,5 @@
 -- The tree's map follows the rows.
-use Rattle.std.proofs.Common.{◌≡◌, ℕ, List, [], ◌∷◌, Option, refl, sym, ◌∙◌, ap, subst}
+use Rattle.std.proofs.Common.{◌≡◌, ℕ, List, [], ◌∷◌, Option, refl, sym, ◌∙◌, subst}
 use Rattle.std.specs.Cmp.{IsTotalOrder, alike_right}
 use Rattle.std.specs.declared.cmp.Ordering.{Ordering}
 use Rattle.std.specs.declared.cmp.Ordering.TheVariants.{Less, Equal, Greater}
@@ -9,7 +9,7 @@ use Rattle.key_order.proofs.Sets.{ascending_set}
 use Rattle.merkle_search_tree.specs.Cache.{filled}
 use Rattle.merkle_search_tree.specs.State.{State, map_of}
 use Rattle.merkle_search_tree.proofs.Fill.{pairs-filled}
-use Rattle.mst_pair.specs.Contents.{Contents, IsKept, digests}
+use Rattle.mst_pair.specs.Contents.{IsKept, digests}
 
 module _ {K V D : Type 0} (cmp : K → K → Ordering) (o : IsTotalOrder cmp) (hash : V → D) where
   -- a key and an equal one set on both sides

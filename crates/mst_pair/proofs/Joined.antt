@@ -1,5 +1,5 @@
 -- One row more of a pull.
-use Rattle.std.proofs.Common.{◌≡◌, ℕ, Bool, true, false, cond, List, [], ◌∷◌, ◌++◌, Option, Some, None, ◌⊎◌, inl, inr}
+use Rattle.std.proofs.Common.{◌≡◌, Bool, true, false, cond, List, [], ◌∷◌, ◌++◌, Some, None, ◌⊎◌, inl, inr}
 use Rattle.std.specs.List.{AllByRecursion}
 use Rattle.std.specs.Cmp.{IsTotalOrder, IsEquivalence}
 use Rattle.std.specs.Ordering.{is_eq}
@@ -10,7 +10,7 @@ use Rattle.key_order.specs.Join.{joined, IsJoin, IsJoining}
 use Rattle.key_order.proofs.Bools.{which}
 use Rattle.key_order.proofs.Orders.{up_low, same_down}
 use Rattle.key_order.proofs.Maps.{is_equal, absent}
-use Rattle.key_order.proofs.Values.{Eq, J, same, back, on, assoc, cong, to_none}
+use Rattle.key_order.proofs.Values.{Eq, same, back, on, assoc, cong, to_none}
 
 module _ {K V : Type 0} (cmp : K → K → Ordering) (o : IsTotalOrder cmp) (eq : V → V → Bool) (e : IsEquivalence eq) (join : V → V → V) (j : IsJoining eq join) where
   get_more : (front : List (K × V)) (r : K × V) (k : K) → AllByRecursion (λ s. Below cmp s.0 r.0) front → Eq eq e join j (joined join (get cmp front k) (get cmp (r ∷ []) k)) (get cmp (front ++ r ∷ []) k)

@@ -5,7 +5,7 @@ use Rattle.std.specs.Result.{is_err, OnOk, OnErr}
 use Rattle.std.specs.List.Sorted.{IsSearchInRange, IsBinarySearchResult}
 use Rattle.std.specs.Cmp.{IsTotalOrder, IsEquivalence}
 use Rattle.std.specs.declared.cmp.Ordering.{Ordering}
-use Rattle.key_order.specs.Map.{IsMap, get, set}
+use Rattle.key_order.specs.Map.{IsMap, set}
 use Rattle.key_order.specs.Join.{IsJoining, IsJoin, joined}
 use Rattle.key_order.proofs.Joins.{put_joins}
 use Rattle.key_order.proofs.Places.{comparisons_rise, get_at_place, set_at_place, get_in_gap, set_in_gap}

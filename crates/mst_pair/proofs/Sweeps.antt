@@ -1,15 +1,12 @@
 -- A sweep over ascending ranges by ascending rows finds the rows within the ranges.
 use Rattle.std.proofs.Common.{◌≡◌, ℕ, zero, suc, ◌+◌, ◌<◌, Bool, true, false, not, ◌&&◌, ◌||◌, cond, List, [], ◌∷◌, ◌++◌, length, get_or, drop, add-one, refl, sym, ◌∙◌, ap, arith}
-use Rattle.std.proofs.lemmas.Grind.{common_steps}
 use Rattle.std.specs.List.{AllByRecursion}
 use Rattle.std.specs.Cmp.{IsTotalOrder}
-use Rattle.std.specs.Ordering.{is_gt, is_lt}
 use Rattle.std.specs.declared.cmp.Ordering.{Ordering}
 use Rattle.key_order.specs.Order.{Upto, Below, upto, below}
 use Rattle.key_order.specs.Interval.{Span, IsApart, is_in, is_covered}
 use Rattle.key_order.specs.Map.{IsMap, rows_at, rows_in}
-use Rattle.key_order.proofs.Bools.{which}
-use Rattle.key_order.proofs.Orders.{turned, turned', not_both, up_low, low_up, low_is_up, up_self, either}
+use Rattle.key_order.proofs.Orders.{turned, turned', up_low, low_up, low_is_up, up_self}
 use Rattle.mst_pair.specs.Answers.{spans_of}
 use Rattle.mst_pair.specs.Sweep.{ranges_from, begins_upto}
 

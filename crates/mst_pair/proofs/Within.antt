@@ -4,7 +4,7 @@ use Rattle.std.proofs.lemmas.List.{drop_all}
 use Rattle.std.specs.List.{AllByRecursion}
 use Rattle.std.specs.Cmp.{IsTotalOrder, IsEquivalence}
 use Rattle.std.specs.declared.cmp.Ordering.{Ordering}
-use Rattle.key_order.specs.Order.{Below, below}
+use Rattle.key_order.specs.Order.{Below}
 use Rattle.key_order.specs.Interval.{Span, IsApart, is_covered}
 use Rattle.key_order.specs.Map.{IsMap, rows_in}
 use Rattle.key_order.specs.Join.{IsJoin, IsJoining}

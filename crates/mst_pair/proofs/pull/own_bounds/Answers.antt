@@ -1,4 +1,4 @@
-use Rattle.std.proofs.Common.{rules, ◌≡◌, subst}
+use Rattle.std.proofs.Common.{rules}
 use Rattle.merkle_diff.specs.DiffRange.{span}
 use Rattle.mst_pair.proofs.Asks.{step_same}
 use Rattle.mst_pair.proofs.pull.own_bounds.Goals as goal

@@ -1,4 +1,4 @@
-use Rattle.std.proofs.Common.{◌≡◌, ◌≤◌, drop, length, true, false, sym, ◌∙◌, arith}
+use Rattle.std.proofs.Common.{drop, true, false, sym, ◌∙◌, arith}
 use Rattle.mst_pair.specs.Answers.{spans_of}
 use Rattle.mst_pair.proofs.Within.{counts_none, counts_more, counts_all}
 use Rattle.mst_pair.proofs.sweep.count_within.Goals as goal

@@ -1,8 +1,8 @@
-use Rattle.std.proofs.Common.{rules, ◌≡◌, ◌≤◌, OnOk, IfOk, IfErr, List, [], ◌∷◌, ◌++◌, true, not, map, length, length-append, ℕ, ◌+◌, arith, refl, sym, ◌∙◌, ap, subst}
+use Rattle.std.proofs.Common.{IfOk, IfErr, [], ◌∷◌, not, length, length-append, arith, refl, sym, ◌∙◌, ap, subst}
 use Rattle.std.proofs.lemmas.List.{length-map}
 use Rattle.mst_pair.specs.Answers.{answer_of, IsRefused}
 use Rattle.mst_pair.specs.Pulls.{IsPull}
-use Rattle.mst_pair.proofs.Turning.{starts, goes_a, goes_b, stops_a, stops_b, ends_converged, further, Of}
+use Rattle.mst_pair.proofs.Turning.{starts, goes_a, goes_b, stops_a, stops_b, ends_converged, Of}
 use Rattle.mst_pair.proofs.turns.pull_by_turns.Goals as goal
 use Rattle.mst_pair.proofs.turns.pull_by_turns.Goals.{then-a_pulls, else-a_pulls}
 

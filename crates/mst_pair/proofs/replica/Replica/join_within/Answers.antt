@@ -1,4 +1,4 @@
-use Rattle.std.proofs.Common.{◌≡◌, ◌<◌, ◌≤◌, drop, length, true, false, refl, sym, ◌∙◌, subst, arith}
+use Rattle.std.proofs.Common.{drop, refl, sym, ◌∙◌, subst, arith}
 use Rattle.key_order.specs.Map.{IsMap, rows_in}
 use Rattle.mst_pair.specs.Answers.{spans_of, IsDone, IsCut}
 use Rattle.mst_pair.proofs.Searches.{went, refused}

@@ -1,4 +1,4 @@
-use Rattle.std.proofs.Common.{◌≡◌, ◌≤◌, ap, arith}
+use Rattle.std.proofs.Common.{ap, arith}
 use Rattle.mst_pair.specs.Answers.{spans_of}
 use Rattle.mst_pair.proofs.Pulling.{answered_before, covers_pull, pull_from, part_from}
 use Rattle.mst_pair.proofs.replica.Replica.pull.Goals as goal
