@@ -3,7 +3,10 @@
 ghost use Rattle.std.specs.Prelude.{◌≡◌, slice_index_or};
 ghost use Rattle.mst_testing.specs.LevelBytes.{level_at, level_byte, value_byte, bytes_from};
 
-use merkle_digest::{Digest, Hasher};
+mod lengths;
+
+use merkle_digest::Digest;
+use std::alloc::AllocError;
 use std::marker::Model;
 
 /// A hasher that puts keys on given levels in base 16. The digest of a key on level n is n / 2 zero bytes, then `f0` if n is odd,
@@ -32,6 +35,21 @@ impl<K> LevelHasher<K> {
         ensures { result ≡ levels.items }
     {
         LevelHasher { levels }
+    }
+}
+
+/// The hasher with the same levels.
+impl Clone for LevelHasher<[u8; 2]> {
+    ghost use Rattle.std.specs.Prelude.{◌≡◌};
+
+    ghost is_clone = { λ hasher copy. copy ≡ hasher };
+
+    ghost is_infallible = { λ _. ⊥ };
+
+    fn clone(&self) -> Result<Self, AllocError> {
+        Ok(LevelHasher {
+            levels: self.levels.clone()?,
+        })
     }
 }
 
@@ -97,38 +115,4 @@ fn value_digest<const N: usize>(value: u64) -> Digest<N>
         bytes[i] = byte_or_one(&own, i);
     }
     Digest::new(bytes)
-}
-
-impl Hasher<32, [u8; 2]> for LevelHasher<[u8; 2]> {
-    ghost use Rattle.std.specs.Prelude.{◌≡◌};
-    ghost use Rattle.std.proofs.Common.{ap, lit<, rules};
-    ghost use Rattle.std.specs.Cmp.Rules.{comparing};
-    ghost use Rattle.mst_testing.specs.LevelBytes.{level_at, level_byte, bytes_from, level_at-same};
-
-    ghost digest_of = { λ hasher key. bytes_from (level_byte (level_at ⟦<[u8; 2] as PartialEq>⟧.eq hasher key)) 32 0 };
-
-    ghost respects_eq = { λ hasher a b equal. ap (λ level. bytes_from (level_byte level) 32 0) (level_at-same ⟦<[u8; 2] as PartialEq>⟧.eq (Prim.search (comparing, rules)) hasher a b equal) };
-
-    ghost fits = { lit< tt };
-
-    fn hash(&self, key: &[u8; 2]) -> Digest<32> {
-        level_digest(level_of(&self.levels, key))
-    }
-}
-
-impl<K> Hasher<32, Value> for LevelHasher<K> {
-    ghost use Rattle.std.specs.Prelude.{◌≡◌};
-    ghost use Rattle.std.proofs.Common.{ap, lit<};
-    ghost use Rattle.std.proofs.lemmas.Bool.{eqb-true};
-    ghost use Rattle.mst_testing.specs.LevelBytes.{value_byte, bytes_from};
-
-    ghost digest_of = { λ hasher value. bytes_from (value_byte value.number) 32 0 };
-
-    ghost respects_eq = { λ hasher a b equal. ap (λ number. bytes_from (value_byte number) 32 0) (eqb-true a.number b.number equal) };
-
-    ghost fits = { lit< tt };
-
-    fn hash(&self, value: &Value) -> Digest<32> {
-        value_digest(value.number)
-    }
 }

@@ -1,0 +1,5 @@
+use Rattle.mst_rows.proofs.Clones.{tied_clones}
+use Rattle.mst_rows.proofs.refusals.seen.Goals as goal
+
+pub from_ranges-requires : goal.from_ranges-requires
+from_ranges-requires c = λ a b h. tied_clones a b h.whole

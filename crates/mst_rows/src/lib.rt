@@ -1,0 +1,22 @@
+//! Tests that cross the crates: worked rows with answers from outside, each tree compared with the defined one, and refused growths.
+#![tactic(auto)]
+
+#[cfg(test)]
+mod build_orders;
+pub mod defined;
+#[cfg(test)]
+mod lengths;
+#[cfg(test)]
+mod orders;
+#[cfg(test)]
+mod page_ranges;
+#[cfg(test)]
+mod refusals;
+#[cfg(test)]
+mod rust_roots;
+#[cfg(test)]
+mod snapshots;
+#[cfg(test)]
+mod trees;
+#[cfg(test)]
+mod upserts;

@@ -1,0 +1,79 @@
+//! Root hashes and page ranges against answers of the Rust crate merkle-search-tree 0.8.0.
+
+use merkle_digest::SipHasher;
+use merkle_search_tree::MerkleSearchTree;
+use std::alloc::Global;
+use std::test::Fail;
+
+/// A line for each size of a default tree: the root hash, the number of page ranges, and the spans of the first of them. The keys
+/// are the texts k0000, k0001 and so on, and the value of the key of i is i * i.
+const RUST_ROOTS: &str = "\
+0 UEnXR4Cj4H1CAqtH1M7y9A== 0\n\
+1 yHnxQb2UAvJQMlq9TWK/Cw== 1 k0000..k0000\n\
+2 UcQ5h58fM5IX92I63UOgsg== 1 k0000..k0001\n\
+3 pLZyCR/wNV0QBAMaJty16w== 1 k0000..k0002\n\
+5 zAihizUd5O/Nd/cyN+jwGw== 1 k0000..k0004\n\
+10 HVI1Mk1vJf+tDE1tYEwpJg== 1 k0000..k0009\n\
+16 aI4QytrOks1BxM2/es04iA== 1 k0000..k0015\n\
+17 boyKS+QoEkBW4fSMhdqTXQ== 1 k0000..k0016\n\
+50 bmkSJ1ODSkrpVzq2osfpLA== 3 k0000..k0049 k0000..k0035 k0037..k0049\n\
+100 +R+izyBIErciCldqlvg9XA== 5 k0000..k0099 k0000..k0035 k0037..k0073 k0075..k0082 k0084..k0099\n\
+256 rDUqEnfVpt1fJvmN1DHrZw== 15 k0000..k0255 k0000..k0150 k0000..k0035 k0037..k0073 k0075..k0082 k0084..k0147\n\
+257 cscU0iiFxD7TH8M0gdN/Dg== 15 k0000..k0256 k0000..k0150 k0000..k0035 k0037..k0073 k0075..k0082 k0084..k0147\n\
+500 4PdVJBx9NcNCRN9bUI9aAA== 31 k0000..k0499 k0000..k0323 k0000..k0150 k0000..k0035 k0037..k0073 k0075..k0082\n\
+1000 FuxO+wPeHVvuPBPmhAUZFg== 65 k0000..k0999 k0000..k0323 k0000..k0150 k0000..k0035 k0037..k0073 k0075..k0082\n\
+2000 dANiWnICsGau1PiWojttvA== 124 k0000..k1999 k0000..k0323 k0000..k0150 k0000..k0035 k0037..k0073 k0075..k0082\n\
+";
+
+/// The default tree of the tests.
+type Squares = MerkleSearchTree<String, u64, SipHasher, 16>;
+
+/// Sets the key of a number to its square.
+fn put(alloc: Global, tree: &mut Squares, i: u64) -> Result<(), Fail> {
+    let key = format!(in alloc; "k{i:04}")?;
+    match tree.upsert(key, &i.wrapping_mul(i)) {
+        Ok(()) => Ok(()),
+        Err(_) => Err(Fail::from("no memory")),
+    }
+}
+
+/// The default tree of that many keys.
+fn squares(alloc: Global, size: u64) -> Result<Squares, Fail> {
+    let mut tree = MerkleSearchTree::with_defaults(alloc);
+    for i in 0..size {
+        put(alloc, &mut tree, i)?;
+    }
+    Ok(tree)
+}
+
+/// The number of page ranges of a hashed tree, and the spans of the first six, each after a space.
+fn ranges(alloc: Global, tree: &Squares) -> Result<String, Fail> {
+    let ranges = tree.serialise_page_ranges()?.ok_or("not hashed")?;
+    let mut text = format!(in alloc; " {}", ranges.len())?;
+    for range in ranges.iter().take(6) {
+        text.push_str(format!(in alloc; " {}..{}", range.start(), range.end())?.as_str())?;
+    }
+    Ok(text)
+}
+
+/// The line of the default tree of that many keys.
+fn line_of(alloc: Global, size: u64) -> Result<String, Fail> {
+    let mut tree = squares(alloc, size)?;
+    let mut line = format!(in alloc; "{size} {}", tree.root_hash())?;
+    line.push_str(ranges(alloc, &tree)?.as_str())?;
+    Ok(line)
+}
+
+/// The number that a line begins with.
+fn size_of(line: &str) -> Result<u64, Fail> {
+    let (size, _) = line.split_once(' ').ok_or("no size")?;
+    Ok(size.parse::<u64>()?)
+}
+
+#[test]
+fn roots_and_ranges_are_those_of_the_rust_crate(rt: HostRuntime) -> Result<(), Fail> {
+    for line in RUST_ROOTS.lines() {
+        assert_eq!(rt; line_of(rt.alloc(), size_of(line)?)?.as_str(), line);
+    }
+    Ok(())
+}
