@@ -68,7 +68,8 @@ pub(crate) enum Part<K, D> {
 }
 
 impl<K: Ord + Drop, D: Drop> PageOf<K, D> {
-    /// Parts a subtree at a key. A page keeps its cached digest where its whole subtree is in one part. Refused, it changes no page: all room is made on the way down, and pages are written on the way back.
+    /// Parts a subtree at a key. A page keeps its cached digest where its whole subtree is in one part. Refused, it changes no page:
+    /// all room is made on the way down, and pages are written on the way back.
     #[cycle(split)]
     pub(crate) fn split(&mut self, alloc: Global, key: &K) -> Result<Part<K, D>, AllocError>
         ensures parted { IfOk result (λ part. IsParted K.cmp key.now self.old self.new part) }
