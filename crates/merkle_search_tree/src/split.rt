@@ -27,7 +27,8 @@ pub(crate) fn find_idx<K: Ord, D>(nodes: &[NodeOf<K, D>], key: &K) -> usize
     nodes.len()
 }
 
-/// Parts the nodes of a page of the level: those from `at` on, and what is above them, go to a page beside the tree, and `low` comes above those that stay.
+/// Parts the nodes of a page of the level: those from `at` on, and what is above them, go to a page beside the tree, and `low`
+/// comes above those that stay.
 fn part_nodes<K: Drop, D: Drop>(
     level: u8,
     nodes: &mut Vec<NodeOf<K, D>>,
@@ -68,7 +69,8 @@ pub(crate) enum Part<K, D> {
 }
 
 impl<K: Ord + Drop, D: Drop> PageOf<K, D> {
-    /// Parts a subtree at a key. A page keeps its cached digest where its whole subtree is in one part. Refused, it changes no page:
+    /// Parts a subtree at a key. A page keeps its cached digest where its whole subtree is in one part. Refused, it changes no
+    /// page:
     /// all room is made on the way down, and pages are written on the way back.
     #[cycle(split)]
     pub(crate) fn split(&mut self, alloc: Global, key: &K) -> Result<Part<K, D>, AllocError>
