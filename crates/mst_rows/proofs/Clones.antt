@@ -1,7 +1,7 @@
 -- Clones of keys are equal to their originals.
-use Rattle.std.proofs.Common.{◌≡◌, ℕ, List, ap, ◌∙◌, sym, rules}
+use Rattle.std.proofs.Common.{◌≡◌, ℕ, List, ap, ◌∙◌, Equal, rules}
 use Rattle.std.specs.List.{AllZip, each_same}
-use Rattle.std.specs.Ordering.{nat_cmp, Equal}
+use Rattle.std.specs.Ordering.{nat_cmp}
 use Rattle.std.specs.Cmp.{IsTotalOrder}
 use Rattle.std.specs.Cmp.Rules.{comparing}
 use Rattle.std.specs.Cmp.Lexicographic.{slice_cmp}

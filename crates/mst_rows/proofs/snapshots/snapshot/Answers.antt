@@ -3,4 +3,4 @@ use Rattle.mst_rows.proofs.Clones.{tied_bytes}
 use Rattle.mst_rows.proofs.snapshots.snapshot.Goals as goal
 
 pub from_ranges-requires : goal.from_ranges-requires
-from_ranges-requires c = λ a b h. tied_bytes (string_bytes a) (string_bytes b) h
+from_ranges-requires c = record { clones = λ a b h. tied_bytes (string_bytes a) (string_bytes b) h }
