@@ -14,12 +14,11 @@ mod engine;
 mod join;
 mod line;
 mod number;
-mod pair;
 mod parse;
 mod pending;
 mod pull;
 mod replica;
-mod reply;
+mod rows;
 pub mod run;
 mod session;
 pub mod sink;
@@ -27,7 +26,6 @@ pub mod source;
 mod sweep;
 #[cfg(test)]
 mod tests;
-mod text_replica;
 mod turns;
 mod value_hasher;
 

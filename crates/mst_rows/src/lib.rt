@@ -15,8 +15,6 @@ mod refusals;
 #[cfg(test)]
 mod rust_roots;
 #[cfg(test)]
-mod shapes;
-#[cfg(test)]
 mod snapshots;
 #[cfg(test)]
 mod trees;
