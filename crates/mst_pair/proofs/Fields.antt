@@ -1,12 +1,12 @@
 -- Fields with a space between them.
-use Rattle.std.proofs.Common.{◌≡◌, ◌≢◌, ℕ, ◌<◌, List, [], ◌∷◌, ◌++◌, refl, sym, ap, ◌∙◌, false, nat_eq, arith, codes}
+use Rattle.std.proofs.Common.{◌≡◌, ◌≢◌, ℕ, ◌<◌, List, [], ◌∷◌, ◌++◌, length, refl, sym, ap, ◌∙◌, false, nat_eq, arith, codes, Option, None, Some, IfNone, MatchOption}
 use Rattle.std.proofs.lemmas.List.Folds.{list_any_none}
 use Rattle.std.proofs.lemmas.List.Elements.{All-weaker}
 use Rattle.std.proofs.lemmas.Bool.Decides.{nat_tests}
-use Rattle.mst_pair.specs.Requests.{space, IsKey, IsKeyByte, put, keys, IsBad, name_text}
-use Rattle.mst_pair.specs.Parsing.{HasNoSpace, IsRowText}
-use Rattle.mst_pair.specs.declared.engine.ReplicaName.{ReplicaName}
-use Rattle.mst_pair.specs.declared.engine.ReplicaName.TheVariants.{A, B}
+use Rattle.mst_pair.specs.Requests.{Request, put, keys, root, pages, diff, pull, same, turns, IsSpelled, IsBad, space, fields, IsKey, IsKeyByte, IsNumber, name_text}
+use Rattle.mst_pair.specs.Parsing.{HasNoSpace, IsRowText, IsSpelledBy}
+use Rattle.mst_pair.specs.declared.pair.ReplicaName.{ReplicaName}
+use Rattle.mst_pair.specs.declared.pair.ReplicaName.TheVariants.{A, B}
 
 no_space_head : (b : ℕ) (xs : List ℕ) → HasNoSpace (b ∷ xs) → b ≢ space
 no_space_head b xs none = grind (arith, nat_tests)
@@ -25,6 +25,13 @@ first_unique (b ∷ f) (c ∷ g) x y nf ng e =
     let heads : b ≡ c = cc in
     (ap (λ h. h ∷ f) heads ∙ ap (λ t. c ∷ t) same.0, same.1)
 
+-- a text without a space is none with one
+has_space : {X : Type 0} (front rest text : List ℕ) → HasNoSpace text → text ≡ front ++ space ∷ rest → X
+has_space [] rest [] none e = absurd (cc)
+has_space [] rest (b ∷ bs) none e = let here : b ≡ space = cc in absurd (no_space_head b bs none here)
+has_space (c ∷ front) rest [] none e = absurd (cc)
+has_space (c ∷ front) rest (b ∷ bs) none e = let tails : bs ≡ front ++ space ∷ rest = cc in has_space front rest bs (no_space_tail b bs none) tails
+
 pub no_space_key : (key : List ℕ) → IsKey key → HasNoSpace key
 no_space_key key k = list_any_none (λ c. nat_eq c space) key (All-weaker IsKeyByte (λ c. nat_eq c space ≡ false) (λ c byte. not_space c byte) key k.visible)
   where
@@ -35,25 +42,41 @@ pub no_space_name : (name : ReplicaName) → HasNoSpace (name_text name)
 no_space_name A = refl
 no_space_name B = refl
 
--- a line whose first word is no command
-pub bad_word : (word rest line : List ℕ) → HasNoSpace word → line ≡ word ++ space ∷ rest → word ≢ codes "put" → word ≢ codes "keys" → IsBad line
-bad_word word rest line none e not_put not_keys (put name key n) (digits, k, num, f) = not_put (first_unique word (codes "put") rest _ none refl (sym e ∙ f)).0
-bad_word word rest line none e not_put not_keys (keys name) f = not_keys (first_unique word (codes "keys") rest _ none refl (sym e ∙ f)).0
+-- a line of two fields or more is spelled by its first field and what follows it
+by_fields : (first rest word arguments line : List ℕ) → HasNoSpace word → HasNoSpace first → line ≡ word ++ space ∷ arguments → line ≡ first ++ space ∷ rest → (word ≡ first) × (arguments ≡ rest)
+by_fields first rest word arguments line w f e g = first_unique word first arguments rest w f (sym e ∙ g)
 
-put_is_not_keys : codes "put" ≡ codes "keys" → ⊥
-put_is_not_keys same = cc
+-- what spells a request at the first space of a line
+pub spelled_by : (q : Request) (word arguments line : List ℕ) → HasNoSpace word → line ≡ word ++ space ∷ arguments → IsSpelled q line → IsSpelledBy q word arguments
+spelled_by (put name key n) word arguments line w e (digits, k, number, g) = let at = by_fields (codes "put") _ word arguments line w refl e g in (at.0, (digits, k, number, at.1))
+spelled_by (keys name) word arguments line w e g = by_fields (codes "keys") _ word arguments line w refl e g
+spelled_by (root name) word arguments line w e g = by_fields (codes "root") _ word arguments line w refl e g
+spelled_by (pages name) word arguments line w e g = by_fields (codes "pages") _ word arguments line w refl e g
+spelled_by (diff name) word arguments line w e g = by_fields (codes "diff") _ word arguments line w refl e g
+spelled_by (pull name) word arguments line w e g = by_fields (codes "pull") _ word arguments line w refl e g
+spelled_by same word arguments line w e g = has_space word arguments (codes "same") refl (sym g ∙ e)
+spelled_by (turns d) word arguments line w e (small, g) = let at = by_fields (codes "turns") _ word arguments line w refl e g in (at.0, small, at.1)
 
--- a line that begins as put and names no replica
-pub bad_name : (name rest line : List ℕ) → HasNoSpace name → line ≡ codes "put" ++ space ∷ (name ++ space ∷ rest) → ((n : ReplicaName) → name ≢ name_text n) → IsBad line
-bad_name name rest line none e no_name (put other key n) (digits, k, num, f) =
-    let words = first_unique (codes "put") (codes "put") _ _ refl refl (sym e ∙ f) in
-    no_name other (first_unique name (name_text other) _ _ none (no_space_name other) words.1).0
-bad_name name rest line none e no_name (keys other) f = absurd (put_is_not_keys (first_unique (codes "put") (codes "keys") _ _ refl refl (sym e ∙ f)).0)
+-- what is no request by its word and arguments is none by its line
+pub bad_command : {C : Type 0} (Found : C → Type 0) (r : Option C) (word arguments line : List ℕ) → HasNoSpace word → line ≡ word ++ space ∷ arguments → MatchOption r ((q : Request) → IsSpelledBy q word arguments → ⊥) Found → IfNone r (IsBad line)
+bad_command Found None word arguments line w e refuted = λ q spelled. refuted q (spelled_by q word arguments line w e spelled)
+bad_command Found (Some c) word arguments line w e found = tt
 
--- a line that begins as put and has no row
-pub bad_row : (name : ReplicaName) (rest line : List ℕ) → line ≡ codes "put" ++ space ∷ (name_text name ++ space ∷ rest) → ((key : List ℕ) (n : ℕ) → IsRowText rest key n → ⊥) → IsBad line
-bad_row name rest line e no_row (put other key n) (digits, k, num, f) =
-    let words = first_unique (codes "put") (codes "put") _ _ refl refl (sym e ∙ f) in
-    let names = first_unique (name_text name) (name_text other) _ _ (no_space_name name) (no_space_name other) words.1 in
-    no_row key n (digits, k, num, names.1)
-bad_row name rest line e no_row (keys other) f = absurd (put_is_not_keys (first_unique (codes "put") (codes "keys") _ _ refl refl (sym e ∙ f)).0)
+-- the arguments of `put` are a name and a row
+only_put : (arguments : List ℕ) → ((name : ReplicaName) (key : List ℕ) (n : ℕ) (digits : List ℕ) → IsKey key → IsNumber digits n → arguments ≡ fields (name_text name ∷ key ∷ digits ∷ []) → ⊥) → (q : Request) → IsSpelledBy q (codes "put") arguments → ⊥
+only_put arguments refuted (put name key n) (w, (digits, k, number, a)) = refuted name key n digits k number a
+only_put arguments refuted (keys name) (w, a) = absurd (omega (arith, ap length w))
+only_put arguments refuted (root name) (w, a) = absurd (omega (arith, ap length w))
+only_put arguments refuted (pages name) (w, a) = absurd (omega (arith, ap length w))
+only_put arguments refuted (diff name) (w, a) = absurd (omega (arith, ap length w))
+only_put arguments refuted (pull name) (w, a) = absurd (omega (arith, ap length w))
+only_put arguments refuted same spelled = absurd spelled
+only_put arguments refuted (turns d) (w, small, a) = absurd (omega (arith, ap length w))
+
+-- arguments of `put` whose first field names no replica
+pub bad_name : (name rest arguments : List ℕ) → HasNoSpace name → arguments ≡ name ++ space ∷ rest → ((n : ReplicaName) → name ≢ name_text n) → (q : Request) → IsSpelledBy q (codes "put") arguments → ⊥
+bad_name name rest arguments none e no_name = only_put arguments (λ other key n digits k number a. no_name other (first_unique name (name_text other) rest _ none (no_space_name other) (sym e ∙ a)).0)
+
+-- arguments of `put` that name a replica and have no row
+pub bad_row : (name : ReplicaName) (rest arguments : List ℕ) → arguments ≡ name_text name ++ space ∷ rest → ((key : List ℕ) (n : ℕ) → IsRowText rest key n → ⊥) → (q : Request) → IsSpelledBy q (codes "put") arguments → ⊥
+bad_row name rest arguments e no_row = only_put arguments (λ other key n digits k number a. no_row key n (digits, k, number, (first_unique (name_text name) (name_text other) rest _ (no_space_name name) (no_space_name other) (sym e ∙ a)).1))

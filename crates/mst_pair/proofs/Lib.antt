@@ -3,8 +3,10 @@ pub mod Kept
 pub mod Fields
 pub mod Lines
 pub mod Steps
-pub mod Places
 pub mod Runs
+pub mod Replies
+pub mod Pages
+pub mod Stops
 pub mod Searches
 pub mod Sweeps
 pub mod Follows

@@ -1,31 +1,62 @@
 -- The engine: what a line is answered, and the state that it leaves.
-use Rattle.std.specs.Prelude.{◌≡◌, ℕ, List, [], ◌∷◌, ◌++◌, ◌⊎◌, codes}
-use Rattle.std.specs.List.{flat_map}
-use Rattle.std.specs.Fmt.{decimal}
-use Rattle.mst_pair.specs.Lines.{newline}
-use Rattle.mst_pair.specs.State.{Row, State, rows, other_rows, JoinsRow}
-use Rattle.mst_pair.specs.Requests.{Request, put, keys, IsSpelled, IsBad}
+use Rattle.std.specs.Prelude.{◌≡◌, ◌≢◌, ℕ, List, [], ◌∷◌, ◌⊎◌, map, max, length, nat_eq, codes}
+use Rattle.key_order.specs.Interval.{Span}
+use Rattle.merkle_digest.specs.Digest.{base64_of}
+use Rattle.merkle_diff.specs.Entry.{span_of}
+use Rattle.mst_pair.specs.Pages.{page_ranges, root_digest, HasPageRanges}
+use Rattle.mst_pair.specs.Pulls.{Answer, IsAnswerFor, IsPull, IsPartOfPull, IsByTurns}
+use Rattle.mst_pair.specs.Replies.{text_line, rows_text, ranges_text, pull_text, turns_text}
+use Rattle.mst_pair.specs.Requests.{Request, put, keys, root, pages, diff, pull, same, turns, IsSpelled, IsBad}
+use Rattle.mst_pair.specs.State.{Text, Row, State, text_order, rows, other_rows, JoinsRow}
 
--- a text as a line of a reply
-abbrev pub text_line : List ℕ → List ℕ
-text_line text = text ++ newline ∷ []
+-- ranges that local may ask of the peer: any that meet the interval laws of `diff` and its laws on trees, on the page ranges of both
+abbrev pub MayAsk : List Row → List Row → List (Span Text) → Type 0
+MayAsk = IsAnswerFor text_order nat_eq max HasPageRanges HasPageRanges
 
--- a row as a line of a reply: the key, and the number in decimal without leading zeros
-abbrev pub row_text : Row → List ℕ
-row_text row = text_line (row.0 ++ codes " " ++ decimal row.1)
+-- local pulled from the peer, with this answer
+abbrev pub Pulls : List Row → List Row → Answer Text → List Row → Type 0
+Pulls = IsPull text_order nat_eq max HasPageRanges HasPageRanges
 
--- the rows as lines of a reply, and a last line
-abbrev pub rows_text : List Row → List ℕ
-rows_text rows = flat_map row_text rows ++ text_line (codes "end")
+-- memory was refused to a pull: nothing changed, or the first rows in the ranges were joined
+abbrev pub StopsPulling : List Row → List Row → List Row → Type 0
+StopsPulling local peer after = (after ≡ local) ⊎ ((answer : Answer Text) × (done : ℕ) × IsPartOfPull text_order nat_eq max HasPageRanges HasPageRanges local peer answer done after)
+
+-- pulls by turns, local first, with these answers
+abbrev pub TakesTurns : List (Answer Text) → List Row → List Row → List Row → List Row → Type 0
+TakesTurns answers local peer local' peer' = (met : List (List Row × List Row)) × IsByTurns text_order nat_eq max HasPageRanges HasPageRanges answers local peer local' peer' met
+
+-- pulls by turns, local first, of which those with these answers were made, and memory was refused to the next
+abbrev pub StopsAfter : List (Answer Text) → List Row → List Row → List Row → List Row → Type 0
+StopsAfter [] local peer local' peer' = StopsPulling local peer local' × (peer' ≡ peer)
+StopsAfter (answer ∷ answers) local peer local' peer' = (after : List Row) × Pulls local peer answer after × StopsAfter answers peer after peer' local'
+
+-- memory was refused to pulls by turns, local first: some whole pulls were made, and then one stopped
+abbrev pub StopsInTurns : List Row → List Row → List Row → List Row → Type 0
+StopsInTurns local peer local' peer' = (answers : List (Answer Text)) × StopsAfter answers local peer local' peer'
+
+-- the reply where memory was refused
+abbrev pub no_memory : List ℕ
+no_memory = text_line (codes "no memory")
 
 -- memory was refused, and nothing changed
 abbrev pub LacksMemory : State → List ℕ → State → Type 0
-LacksMemory old reply new = (reply ≡ text_line (codes "no memory")) × (new ≡ old)
+LacksMemory old reply new = (reply ≡ no_memory) × (new ≡ old)
 
 -- from old, a request may get this reply and leave new
 abbrev pub Answers : State → Request → List ℕ → State → Type 0
 Answers old (put name key n) reply new = ((reply ≡ text_line (codes "ok")) × JoinsRow (rows old name) (rows new name) key n × (other_rows new name ≡ other_rows old name)) ⊎ LacksMemory old reply new
 Answers old (keys name) reply new = (reply ≡ rows_text (rows old name)) × (new ≡ old)
+Answers old (root name) reply new = (reply ≡ text_line (base64_of (root_digest (rows old name)))) × (new ≡ old)
+Answers old (pages name) reply new = ((reply ≡ ranges_text (map span_of (page_ranges (rows old name)))) × (new ≡ old)) ⊎ LacksMemory old reply new
+Answers old (diff name) reply new = ((found : List (Span Text)) × MayAsk (rows old name) (other_rows old name) found × (reply ≡ ranges_text found) × (new ≡ old)) ⊎ LacksMemory old reply new
+Answers old (pull name) reply new =
+    (other_rows new name ≡ other_rows old name)
+    × (((answer : Answer Text) × Pulls (rows old name) (other_rows old name) answer (rows new name) × (reply ≡ pull_text answer))
+    ⊎ ((reply ≡ no_memory) × StopsPulling (rows old name) (other_rows old name) (rows new name)))
+Answers old same reply new = (((root_digest old.a ≡ root_digest old.b) × (reply ≡ text_line (codes "same"))) ⊎ ((root_digest old.a ≢ root_digest old.b) × (reply ≡ text_line (codes "differ")))) × (new ≡ old)
+Answers old (turns d) reply new =
+    ((answers : List (Answer Text)) × (length answers ≡ d) × TakesTurns answers old.a old.b new.a new.b × (reply ≡ turns_text answers))
+    ⊎ ((reply ≡ no_memory) × StopsInTurns old.a old.b new.a new.b)
 
 -- from old, a line may get this reply and leave new
 abbrev pub Step : State → List ℕ → List ℕ → State → Type 0

@@ -3,9 +3,9 @@ pub mod Lines
 pub mod State
 pub mod Requests
 pub mod Parsing
-pub mod Rows
+pub mod Pages
+pub mod Replies
 pub mod Engine
-pub mod Reply
 pub mod Run
 pub mod Session
 pub mod Contents

@@ -1,7 +1,7 @@
 -- What the parser's functions tell of a line.
-use Rattle.std.specs.Prelude.{◌≡◌, ◌==◌, ℕ, List, [], ◌∷◌, false}
+use Rattle.std.specs.Prelude.{◌≡◌, ◌≤◌, ◌==◌, ℕ, List, [], ◌∷◌, codes, false}
 use Rattle.std.specs.List.{list_any}
-use Rattle.mst_pair.specs.Requests.{Request, put, keys, IsKey, IsNumber, space, fields}
+use Rattle.mst_pair.specs.Requests.{Request, put, keys, root, pages, diff, pull, same, turns, IsKey, IsNumber, name_text, digit, space, fields}
 use Rattle.mst_pair.specs.declared.parse.Command.{Command}
 use Rattle.mst_pair.specs.declared.parse.Command.TheVariants as commands
 
@@ -9,6 +9,12 @@ use Rattle.mst_pair.specs.declared.parse.Command.TheVariants as commands
 abbrev pub request_of : Command → Request
 request_of (commands.Put name key n) = put name key.now n
 request_of (commands.Keys name) = keys name
+request_of (commands.Root name) = root name
+request_of (commands.Pages name) = pages name
+request_of (commands.Diff name) = diff name
+request_of (commands.Pull name) = pull name
+request_of commands.Same = same
+request_of (commands.Turns d) = turns d
 
 -- no byte is a space
 abbrev pub HasNoSpace : List ℕ → Type 0
@@ -17,3 +23,14 @@ HasNoSpace text = list_any (λ c. c == space) text ≡ false
 -- the text is a key and a number as fields
 abbrev pub IsRowText : List ℕ → List ℕ → ℕ → Type 0
 IsRowText text key n = (digits : List ℕ) × IsKey key × IsNumber digits n × (text ≡ fields (key ∷ digits ∷ []))
+
+-- the request is spelled by this word, a space and these arguments
+abbrev pub IsSpelledBy : Request → List ℕ → List ℕ → Type 0
+IsSpelledBy (put name key n) word arguments = (word ≡ codes "put") × ((digits : List ℕ) × IsKey key × IsNumber digits n × (arguments ≡ fields (name_text name ∷ key ∷ digits ∷ [])))
+IsSpelledBy (keys name) word arguments = (word ≡ codes "keys") × (arguments ≡ name_text name)
+IsSpelledBy (root name) word arguments = (word ≡ codes "root") × (arguments ≡ name_text name)
+IsSpelledBy (pages name) word arguments = (word ≡ codes "pages") × (arguments ≡ name_text name)
+IsSpelledBy (diff name) word arguments = (word ≡ codes "diff") × (arguments ≡ name_text name)
+IsSpelledBy (pull name) word arguments = (word ≡ codes "pull") × (arguments ≡ name_text name)
+IsSpelledBy same word arguments = ⊥
+IsSpelledBy (turns d) word arguments = (word ≡ codes "turns") × (d ≤ 9) × (arguments ≡ digit d ∷ [])

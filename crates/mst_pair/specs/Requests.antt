@@ -1,14 +1,20 @@
 -- What a line asks for, and how that is spelled.
-use Rattle.std.specs.Prelude.{◌≡◌, ◌≢◌, ◌<◌, ◌≤◌, ◌^◌, ℕ, List, [], ◌∷◌, length, codes, All, IsUtf8}
+use Rattle.std.specs.Prelude.{◌≡◌, ◌≢◌, ◌<◌, ◌≤◌, ◌+◌, ◌^◌, ℕ, List, [], ◌∷◌, length, codes, All, IsUtf8}
 use Rattle.std.specs.List.{join_with_byte}
 use Rattle.std.specs.Str.Parse.{IsNumeral, digits_value}
-use Rattle.mst_pair.specs.declared.engine.ReplicaName.{ReplicaName}
-use Rattle.mst_pair.specs.declared.engine.ReplicaName.TheVariants.{A, B}
+use Rattle.mst_pair.specs.declared.pair.ReplicaName.{ReplicaName}
+use Rattle.mst_pair.specs.declared.pair.ReplicaName.TheVariants.{A, B}
 
 -- a request for each command
 pub data Request : Type 0 where
   put : ReplicaName → List ℕ → ℕ → Request
   keys : ReplicaName → Request
+  root : ReplicaName → Request
+  pages : ReplicaName → Request
+  diff : ReplicaName → Request
+  pull : ReplicaName → Request
+  same : Request
+  turns : ℕ → Request
 
 -- the name of a replica as it is spelled
 abbrev pub name_text : ReplicaName → List ℕ
@@ -33,6 +39,10 @@ pub record IsNumber (digits : List ℕ) (n : ℕ) : Type 0 where
   pub value : n ≡ digits_value 10 digits
   pub fits : n < 2 ^ 64
 
+-- the character of a number below 10
+abbrev pub digit : ℕ → ℕ
+digit d = 48 + d
+
 -- the byte that parts fields
 abbrev pub space : ℕ
 space = 32
@@ -45,6 +55,12 @@ fields texts = join_with_byte space texts
 abbrev pub IsSpelled : Request → List ℕ → Type 0
 IsSpelled (put name key n) line = (digits : List ℕ) × IsKey key × IsNumber digits n × (line ≡ fields (codes "put" ∷ name_text name ∷ key ∷ digits ∷ []))
 IsSpelled (keys name) line = line ≡ fields (codes "keys" ∷ name_text name ∷ [])
+IsSpelled (root name) line = line ≡ fields (codes "root" ∷ name_text name ∷ [])
+IsSpelled (pages name) line = line ≡ fields (codes "pages" ∷ name_text name ∷ [])
+IsSpelled (diff name) line = line ≡ fields (codes "diff" ∷ name_text name ∷ [])
+IsSpelled (pull name) line = line ≡ fields (codes "pull" ∷ name_text name ∷ [])
+IsSpelled same line = line ≡ codes "same"
+IsSpelled (turns d) line = (d ≤ 9) × (line ≡ fields (codes "turns" ∷ (digit d ∷ []) ∷ []))
 
 -- the line spells no request
 abbrev pub IsBad : List ℕ → Type 0

@@ -1,19 +1,23 @@
--- The state of the engine: two replicas.
-use Rattle.std.specs.Prelude.{ℕ, List, [], ◌∷◌, max, nat_eq}
-use Rattle.std.specs.Ordering.{nat_cmp}
-use Rattle.std.specs.Cmp.Lexicographic.{slice_cmp}
+-- The state of the engine: two replicas, as maps from texts to numbers.
+use Rattle.std.specs.Prelude.{◌≡◌, ℕ, List, [], ◌∷◌, max, nat_eq, string_bytes, string_cmp}
+use Rattle.std.specs.declared.string.String.{String}
+use Rattle.std.specs.declared.alloc.Global.{Global}
 use Rattle.std.specs.declared.cmp.Ordering.{Ordering}
 use Rattle.key_order.specs.Join.{IsJoin}
-use Rattle.mst_pair.specs.declared.engine.ReplicaName.{ReplicaName}
-use Rattle.mst_pair.specs.declared.engine.ReplicaName.TheVariants.{A, B}
+use Rattle.mst_pair.specs.declared.pair.ReplicaName.{ReplicaName}
+use Rattle.mst_pair.specs.declared.pair.ReplicaName.TheVariants.{A, B}
 
--- a key's bytes, and its number
+-- a text, as a replica keeps it
+abbrev pub Text : Type 0
+Text = String Global
+
+-- texts are in the order of their bytes
+abbrev pub text_order : Text → Text → Ordering
+text_order = string_cmp
+
+-- a key, and its number
 abbrev pub Row : Type 0
-Row = List ℕ × ℕ
-
--- keys are in the order of their bytes
-abbrev pub byte_order : List ℕ → List ℕ → Ordering
-byte_order = slice_cmp nat_cmp
+Row = Text × ℕ
 
 -- the rows of each replica, ascending by key
 pub record State : Type 0 where
@@ -34,6 +38,6 @@ abbrev pub other_rows : State → ReplicaName → List Row
 other_rows s A = s.b
 other_rows s B = s.a
 
--- new is the join of old with the one row (key, n): where the key is there, the greater number stays
+-- new is the join of old with the one row of the key with these bytes and the number n: where the key is there, the greater number stays
 abbrev pub JoinsRow : List Row → List Row → List ℕ → ℕ → Type 0
-JoinsRow old new key n = IsJoin byte_order nat_eq max old ((key, n) ∷ []) new
+JoinsRow old new key n = (text : Text) × (string_bytes text ≡ key) × IsJoin text_order nat_eq max old ((text, n) ∷ []) new

@@ -1,49 +1,29 @@
-//! Two replicas, and what they answer to a line.
-ghost use Rattle.std.specs.Prelude.{◌≡◌, ℕ, List, OnOk, OnErr};
+//! What the two replicas answer to a line.
+ghost use Rattle.std.specs.Prelude.{◌≡◌, ℕ, List};
 ghost use Rattle.mst_pair.specs.Devices.{Writes, Marks};
-ghost use Rattle.mst_pair.specs.State.{State, start, rows, other_rows, JoinsRow};
-ghost use Rattle.mst_pair.specs.Engine.{Step};
-ghost use Rattle.mst_pair.specs.Reply.{reply_text};
+ghost use Rattle.mst_pair.specs.Engine.{Answers, Step};
+ghost use Rattle.mst_pair.specs.Parsing.{request_of};
+ghost use Rattle.mst_pair.specs.Requests.{put, root, pages, diff, pull, same, turns};
+ghost use Rattle.mst_pair.specs.State.{State, start};
 
+use crate::pair::{Pair, ReplicaName};
 use crate::parse::{Command, parse};
-use crate::rows::Rows;
+use crate::reply::{write_list, write_no_memory, write_pull, write_root};
 use crate::sink::{Sink, write_all};
 use crate::source::Failed;
-use std::alloc::{AllocError, Global};
+use std::alloc::Global;
 use std::marker::Model;
 
-/// The name of a replica: `a` or `b`.
-#[derive(Clone, Copy, Debug, PartialEq, Eq)]
-pub enum ReplicaName {
-    A,
-    B,
-}
-
-/// What a line is answered.
-#[derive(Clone, Copy, Debug, PartialEq, Eq)]
-pub enum Reply {
-    /// The row is joined into its replica.
-    Done,
-    /// Memory was refused, and the rows are unchanged.
-    NoMemory,
-    /// The line spells no request.
-    BadLine,
-    /// The rows of a replica.
-    Rows(ReplicaName),
-}
-
-/// The two replicas, and what makes room for their rows.
+/// The two replicas that lines are carried out on.
 #[derive(Drop)]
 pub struct Engine {
-    alloc: Global,
-    a: Rows,
-    b: Rows,
+    pair: Pair,
 }
 
 impl Model for Engine {
     ghost Value = { State };
 
-    ghost view = { λ e. record { a = e.a; b = e.b } };
+    ghost view = { λ e. e.pair };
 }
 
 impl Engine {
@@ -52,65 +32,91 @@ impl Engine {
         ensures { result ≡ start }
     {
         Engine {
-            alloc,
-            a: Rows::new(alloc),
-            b: Rows::new(alloc),
+            pair: Pair::new(alloc),
         }
     }
 
-    /// Carries out a line, and writes the reply.
+    /// Carries out a line, and writes the reply. What the reply needs is made before its first byte is written.
     pub fn answer<W: Sink>(&mut self, line: &[u8], writer: &mut W) -> Result<(), Failed>
         ensures bytes { (reply : List ℕ) × Step self.old line.now reply self.new × Writes result (W.taken writer.old) (W.taken writer.new) reply }
         ensures failed { Marks result (W.has_failed writer.old) (W.has_failed writer.new) }
     {
-        let reply = self.step(line);
-        self.write_reply(reply, writer)
-    }
-
-    /// Carries out a line.
-    fn step(&mut self, line: &[u8]) -> Reply
-        ensures { Step self.old line.now (reply_text self.new result) self.new }
-    {
         match parse(line) {
-            None => Reply::BadLine,
-            Some(Command::Keys(name)) => Reply::Rows(name),
-            Some(Command::Put(name, key, number)) => match self.put(name, key, number) {
-                Ok(()) => Reply::Done,
-                Err(_) => Reply::NoMemory,
-            },
+            Some(command) => self.carry_out(command, writer),
+            None => write_all(writer, b"bad line\n"),
         }
     }
 
-    /// Joins a row into a replica. Where memory is refused, nothing changes.
-    fn put(&mut self, name: ReplicaName, key: &str, number: u64) -> Result<(), AllocError>
-        ensures ok { OnOk result (JoinsRow (rows self.old name) (rows self.new name) key.now number) }
-        ensures other { other_rows self.new name ≡ other_rows self.old name }
-        ensures err { OnErr result (self.new ≡ self.old) }
-    {
-        match name {
-            ReplicaName::A => self.a.put(self.alloc, key, number),
-            ReplicaName::B => self.b.put(self.alloc, key, number),
-        }
-    }
-
-    fn rows(&self, name: ReplicaName) -> &Rows
-        ensures { result.now ≡ rows self.now name }
-    {
-        match name {
-            ReplicaName::A => &self.a,
-            ReplicaName::B => &self.b,
-        }
-    }
-
-    fn write_reply<W: Sink>(&self, reply: Reply, writer: &mut W) -> Result<(), Failed>
-        ensures bytes { Writes result (W.taken writer.old) (W.taken writer.new) (reply_text self.now reply) }
+    fn carry_out<W: Sink>(&mut self, command: Command<'_>, writer: &mut W) -> Result<(), Failed>
+        ensures bytes { (reply : List ℕ) × Answers self.old (request_of command.entry) reply self.new × Writes result (W.taken writer.old) (W.taken writer.new) reply }
         ensures failed { Marks result (W.has_failed writer.old) (W.has_failed writer.new) }
     {
-        match reply {
-            Reply::Done => write_all(writer, b"ok\n"),
-            Reply::NoMemory => write_all(writer, b"no memory\n"),
-            Reply::BadLine => write_all(writer, b"bad line\n"),
-            Reply::Rows(name) => self.rows(name).write(writer),
+        match command {
+            Command::Put(name, key, number) => self.put(name, key, number, writer),
+            Command::Keys(name) => write_list(self.pair.rows(name), writer),
+            Command::Root(name) => write_root(&self.pair.root_hash(name), writer),
+            Command::Pages(name) => self.pair.write_pages(name, writer),
+            Command::Diff(name) => self.diff(name, writer),
+            Command::Pull(name) => self.pull(name, writer),
+            Command::Same => self.same(writer),
+            Command::Turns(count) => self.turns(count, writer),
+        }
+    }
+
+    fn put<W: Sink>(
+        &mut self,
+        name: ReplicaName,
+        key: &str,
+        number: u64,
+        writer: &mut W,
+    ) -> Result<(), Failed>
+        ensures bytes { (reply : List ℕ) × Answers self.old (put name key.now number) reply self.new × Writes result (W.taken writer.old) (W.taken writer.new) reply }
+        ensures failed { Marks result (W.has_failed writer.old) (W.has_failed writer.new) }
+    {
+        match self.pair.put(name, key, number) {
+            Ok(()) => write_all(writer, b"ok\n"),
+            Err(_) => write_no_memory(writer),
+        }
+    }
+
+    fn diff<W: Sink>(&mut self, name: ReplicaName, writer: &mut W) -> Result<(), Failed>
+        ensures bytes { (reply : List ℕ) × Answers self.old (diff name) reply self.new × Writes result (W.taken writer.old) (W.taken writer.new) reply }
+        ensures failed { Marks result (W.has_failed writer.old) (W.has_failed writer.new) }
+    {
+        match self.pair.ask(name) {
+            Ok(ranges) => write_list(&ranges, writer),
+            Err(_) => write_no_memory(writer),
+        }
+    }
+
+    fn pull<W: Sink>(&mut self, name: ReplicaName, writer: &mut W) -> Result<(), Failed>
+        ensures bytes { (reply : List ℕ) × Answers self.old (pull name) reply self.new × Writes result (W.taken writer.old) (W.taken writer.new) reply }
+        ensures failed { Marks result (W.has_failed writer.old) (W.has_failed writer.new) }
+    {
+        match self.pair.pull(name) {
+            Ok(pulled) => write_pull(&pulled, writer),
+            Err(_) => write_no_memory(writer),
+        }
+    }
+
+    fn same<W: Sink>(&mut self, writer: &mut W) -> Result<(), Failed>
+        ensures bytes { (reply : List ℕ) × Answers self.old same reply self.new × Writes result (W.taken writer.old) (W.taken writer.new) reply }
+        ensures failed { Marks result (W.has_failed writer.old) (W.has_failed writer.new) }
+    {
+        if self.pair.is_same() {
+            write_all(writer, b"same\n")
+        } else {
+            write_all(writer, b"differ\n")
+        }
+    }
+
+    fn turns<W: Sink>(&mut self, count: u8, writer: &mut W) -> Result<(), Failed>
+        ensures bytes { (reply : List ℕ) × Answers self.old (turns count) reply self.new × Writes result (W.taken writer.old) (W.taken writer.new) reply }
+        ensures failed { Marks result (W.has_failed writer.old) (W.has_failed writer.new) }
+    {
+        match self.pair.take_turns(count) {
+            Ok(all) => write_list(&all, writer),
+            Err(_) => write_no_memory(writer),
         }
     }
 }

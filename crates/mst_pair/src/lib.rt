@@ -14,11 +14,12 @@ mod engine;
 mod join;
 mod line;
 mod number;
+mod pair;
 mod parse;
 mod pending;
 mod pull;
 mod replica;
-mod rows;
+mod reply;
 pub mod run;
 mod session;
 pub mod sink;
@@ -26,6 +27,7 @@ pub mod source;
 mod sweep;
 #[cfg(test)]
 mod tests;
+mod text_replica;
 mod turns;
 mod value_hasher;
 

@@ -1,11 +1,12 @@
 //! What a line asks for.
 ghost use Rattle.std.specs.Prelude.{◌≡◌, ◌≢◌, ◌++◌, ◌∷◌, ℕ, List, IfSome, IfNone, MatchOption, IsTrue, ◌↔◌};
-ghost use Rattle.mst_pair.specs.Requests.{IsSpelled, IsBad, name_text, IsKey, space};
-ghost use Rattle.mst_pair.specs.Parsing.{request_of, IsRowText, HasNoSpace};
-ghost use Rattle.mst_pair.specs.declared.engine.ReplicaName.{ReplicaName as NameOf};
+ghost use Rattle.std.specs.Prelude.{◌≤◌, [], codes};
+ghost use Rattle.mst_pair.specs.Requests.{Request, IsSpelled, IsBad, name_text, digit, IsKey, space};
+ghost use Rattle.mst_pair.specs.Parsing.{request_of, IsSpelledBy, IsRowText, HasNoSpace};
+ghost use Rattle.mst_pair.specs.declared.pair.ReplicaName.{ReplicaName as NameOf};
 
-use crate::engine::ReplicaName;
 use crate::number::number_of;
+use crate::pair::ReplicaName;
 
 /// The most bytes that a key has.
 const KEY_BYTES: usize = 255;
@@ -17,6 +18,18 @@ pub enum Command<'a> {
     Put(ReplicaName, &'a str, u64),
     /// Show the rows of a replica.
     Keys(ReplicaName),
+    /// Show the root hash of a replica.
+    Root(ReplicaName),
+    /// Show the page ranges of a replica.
+    Pages(ReplicaName),
+    /// Show the ranges that a replica would ask the other for.
+    Diff(ReplicaName),
+    /// Have a replica pull from the other.
+    Pull(ReplicaName),
+    /// Tell whether the replicas have the same root hash.
+    Same,
+    /// Have the replicas pull from each other by turns, so many times.
+    Turns(u8),
 }
 
 /// What the line asks for, or nothing where it spells no request.
@@ -24,17 +37,57 @@ pub fn parse(line: &[u8]) -> Option<Command<'_>>
     ensures found { IfSome result (λ c. IsSpelled (request_of c) line.now) }
     ensures none { IfNone result (IsBad line.now) }
 {
-    let (word, rest) = first_field(line)?;
+    match first_field(line) {
+        Some((word, arguments)) => command_of(word, arguments),
+        None if is_word(line, b"same") => Some(Command::Same),
+        None => None,
+    }
+}
+
+/// What a word with arguments asks for.
+fn command_of<'a>(word: &[u8], arguments: &'a [u8]) -> Option<Command<'a>>
+    ensures { MatchOption result ((q : Request) → IsSpelledBy q word.now arguments.now → ⊥) (λ c. IsSpelledBy (request_of c) word.now arguments.now) }
+{
+    if is_word(word, b"put") {
+        return put_of(arguments);
+    }
+    if is_word(word, b"turns") {
+        return Some(Command::Turns(digit_of(arguments)?));
+    }
+    let name = name_of(arguments)?;
     if is_word(word, b"keys") {
-        return Some(Command::Keys(name_of(rest)?));
+        Some(Command::Keys(name))
+    } else if is_word(word, b"root") {
+        Some(Command::Root(name))
+    } else if is_word(word, b"pages") {
+        Some(Command::Pages(name))
+    } else if is_word(word, b"diff") {
+        Some(Command::Diff(name))
+    } else if is_word(word, b"pull") {
+        Some(Command::Pull(name))
+    } else {
+        None
     }
-    if !is_word(word, b"put") {
-        return None;
-    }
-    let (name, rest) = first_field(rest)?;
+}
+
+/// The row that is to be joined, and its replica.
+fn put_of(arguments: &[u8]) -> Option<Command<'_>>
+    ensures { MatchOption result ((q : Request) → IsSpelledBy q (codes "put") arguments.now → ⊥) (λ c. IsSpelledBy (request_of c) (codes "put") arguments.now) }
+{
+    let (name, rest) = first_field(arguments)?;
     let name = name_of(name)?;
     let (key, number) = row_of(rest)?;
     Some(Command::Put(name, key, number))
+}
+
+/// The number below 10 that one digit spells.
+fn digit_of(text: &[u8]) -> Option<u8>
+    ensures { MatchOption result ((d : ℕ) → d ≤ 9 → text.now ≢ digit d ∷ []) (λ d. (d ≤ 9) × (text.now ≡ digit d ∷ [])) }
+{
+    if text.len() != 1 || !text[0].is_ascii_digit() {
+        return None;
+    }
+    Some(text[0] - b'0')
 }
 
 fn is_word(text: &[u8], word: &[u8]) -> bool

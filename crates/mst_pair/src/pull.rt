@@ -155,7 +155,7 @@ struct Cut {
 }
 
 /// The ranges that `local` may ask of `peer`, where both are hashed, with bounds of their own.
-fn ask<
+pub(crate) fn ask<
     K: Ord + KeyBytes + Clone + Drop,
     V: Join + Drop,
     H: Hasher<N, K> + Hasher<N, V>,

@@ -37,7 +37,7 @@ fn serve(
     (result, writer.taken)
 }
 
-const ROWS: [(&[u8], &[u8]); 9] = [
+const ROWS: [(&[u8], &[u8]); 17] = [
     (
         b"put a k 1\nkeys a\nkeys b\nhello\n",
         b"ok\nk 1\nend\nend\nbad line\n",
@@ -56,8 +56,8 @@ const ROWS: [(&[u8], &[u8]); 9] = [
     ),
     // a key that is there keeps the greater number
     (
-        b"put a x 18446744073709551615\nput a x 5\nput a x 007\nkeys a\n",
-        b"ok\nok\nok\nx 18446744073709551615\nend\n",
+        b"put a x 18446744073709551615\nput a x 5\nput a x 007\nkeys a\npages a\n",
+        b"ok\nok\nok\nx 18446744073709551615\nend\nx x\nend\n",
     ),
     (
         b"put a x 5\nput a x 7\nkeys a\nkeys b\n",
@@ -72,6 +72,45 @@ const ROWS: [(&[u8], &[u8]); 9] = [
     (
         b"put b b 1\nput b \xc3\xa9 2\nput b ab 3\nput b a 4\nput b Z 5\nkeys b\n",
         b"ok\nok\nok\nok\nok\nZ 5\na 4\nab 3\nb 1\n\xc3\xa9 2\nend\n",
+    ),
+    // a pulls from b, then b from a
+    (
+        b"put a donkey 1\nput b bananas 1\nput b pl\xc3\xa1tanos 1\ndiff a\npull a\nkeys a\nsame\npull b\nsame\n",
+        b"ok\nok\nok\nbananas pl\xc3\xa1tanos\nend\nbananas pl\xc3\xa1tanos\nend\njoined 2\nbananas 1\ndonkey 1\npl\xc3\xa1tanos 1\nend\ndiffer\nbananas pl\xc3\xa1tanos\nend\njoined 3\nsame\n",
+    ),
+    // the same rows, whatever order they came in
+    (
+        b"same\nput a k 1\nsame\nput b k 1\nsame\n",
+        b"same\nok\ndiffer\nok\nsame\n",
+    ),
+    // the page of one key, and no page
+    (
+        b"pages a\nput a x 7\npages a\npages b\ndiff a\ndiff b\n",
+        b"end\nok\nx x\nend\nend\nend\nx x\nend\n",
+    ),
+    // turns of empty replicas
+    (
+        b"turns 2\nturns 0\nturns 10\n",
+        b"joined 0\njoined 0\nend\nend\nbad line\n",
+    ),
+    // four turns are needed
+    (
+        b"put a k0001 1\nput a k0004 1\nput a k0005 1\nput b k0003 1\nput b k0007 1\nturns 4\nsame\nkeys b\n",
+        b"ok\nok\nok\nok\nok\njoined 0\njoined 1\njoined 3\njoined 5\nend\nsame\nk0001 1\nk0003 1\nk0004 1\nk0005 1\nk0007 1\nend\n",
+    ),
+    // the root hash of no row, and a last line without a newline
+    (
+        b"root a\nroot b\nsame",
+        b"UEnXR4Cj4H1CAqtH1M7y9A==\nUEnXR4Cj4H1CAqtH1M7y9A==\nsame\n",
+    ),
+    // words with wrong arguments
+    (
+        b"root\nroot \nroot c\nroot ab\nroot a \nroot  a\npages\npages x\ndiff a b\npull\npull A\nsame \nsame a\nsames\n",
+        b"bad line\nbad line\nbad line\nbad line\nbad line\nbad line\nbad line\nbad line\nbad line\nbad line\nbad line\nbad line\nbad line\nbad line\n",
+    ),
+    (
+        b"turns\nturns \nturns x\nturns -1\nturns 1 \nturns /\nturns :\nTurns 1\nput\nput a\nput k 1\n",
+        b"bad line\nbad line\nbad line\nbad line\nbad line\nbad line\nbad line\nbad line\nbad line\nbad line\nbad line\n",
     ),
 ];
 
@@ -129,6 +168,48 @@ fn shows_many_rows_in_order(rt: HostRuntime) -> Result<(), Fail> {
     assert_eq!(rt; run(rt.alloc(), &mut reader, &mut writer), Ok(()));
     assert!(rt; !reader.failed() && !writer.failed());
     assert_eq!(rt; output.as_slice(), wanted.as_bytes());
+    Ok(())
+}
+
+/// Numbers of rows, and the root hash that the Rust crate merkle-search-tree 0.8.0 gives them: the keys are the texts k0000, k0001
+/// and so on, and each has the square of its number.
+const ROOTS: [(u64, &str); 15] = [
+    (0, "UEnXR4Cj4H1CAqtH1M7y9A=="),
+    (1, "yHnxQb2UAvJQMlq9TWK/Cw=="),
+    (2, "UcQ5h58fM5IX92I63UOgsg=="),
+    (3, "pLZyCR/wNV0QBAMaJty16w=="),
+    (5, "zAihizUd5O/Nd/cyN+jwGw=="),
+    (10, "HVI1Mk1vJf+tDE1tYEwpJg=="),
+    (16, "aI4QytrOks1BxM2/es04iA=="),
+    (17, "boyKS+QoEkBW4fSMhdqTXQ=="),
+    (50, "bmkSJ1ODSkrpVzq2osfpLA=="),
+    (100, "+R+izyBIErciCldqlvg9XA=="),
+    (256, "rDUqEnfVpt1fJvmN1DHrZw=="),
+    (257, "cscU0iiFxD7TH8M0gdN/Dg=="),
+    (500, "4PdVJBx9NcNCRN9bUI9aAA=="),
+    (1000, "FuxO+wPeHVvuPBPmhAUZFg=="),
+    (2000, "dANiWnICsGau1PiWojttvA=="),
+];
+
+#[test]
+fn shows_the_root_hashes_of_the_rust_crate(rt: HostRuntime) -> Result<(), Fail> {
+    for (count, root) in ROOTS {
+        let mut input = String::new(rt.alloc());
+        for number in (0..count).rev() {
+            writeln!(input, "put a k{number:04} {}", number.wrapping_mul(number))?;
+        }
+        input.push_str("root a\n")?;
+        let mut output = Vec::new(rt.alloc());
+        let mut reader = FromRead::new(input.as_bytes());
+        let mut writer = ToWrite::new(&mut output);
+        assert_eq!(rt; run(rt.alloc(), &mut reader, &mut writer), Ok(()));
+        let last = output.len().saturating_sub(root.len() + 1);
+        assert_eq!(rt;
+            &output[last..output.len().saturating_sub(1)],
+            root.as_bytes(),
+            "{count} rows"
+        );
+    }
     Ok(())
 }
 
@@ -207,13 +288,29 @@ fn names_its_faults(rt: HostRuntime) {
     assert_eq!(rt; RunFault::Write.text(), "mst_pair: write failed");
 }
 
-/// `rt try --test --fail-alloc N -- answers_where_memory_is_refused` refuses the Nth growth: the key's text, then the row's
-/// place. Where none is refused, the row is stored.
+/// Which of `ROWS` has a pull from each replica.
+const PULLS: usize = 9;
+
+/// The replies to `ROWS[PULLS]` where one of its lines was refused memory: a put, the line `diff a`, the first pull before it
+/// joined a row and after it did, and the second pull.
+const REFUSED: [&[u8]; 7] = [
+    b"no memory\nok\nok\nbananas pl\xc3\xa1tanos\nend\nbananas pl\xc3\xa1tanos\nend\njoined 2\nbananas 1\npl\xc3\xa1tanos 1\nend\nsame\nend\njoined 0\nsame\n",
+    b"ok\nno memory\nok\nend\nend\njoined 0\ndonkey 1\nend\ndiffer\ndonkey donkey\nend\njoined 1\ndiffer\n",
+    b"ok\nok\nno memory\nbananas bananas\nend\nbananas bananas\nend\njoined 1\nbananas 1\ndonkey 1\nend\ndiffer\nbananas donkey\nend\njoined 2\nsame\n",
+    b"ok\nok\nok\nno memory\nbananas pl\xc3\xa1tanos\nend\njoined 2\nbananas 1\ndonkey 1\npl\xc3\xa1tanos 1\nend\ndiffer\nbananas pl\xc3\xa1tanos\nend\njoined 3\nsame\n",
+    b"ok\nok\nok\nbananas pl\xc3\xa1tanos\nend\nno memory\ndonkey 1\nend\ndiffer\nend\njoined 0\ndiffer\n",
+    b"ok\nok\nok\nbananas pl\xc3\xa1tanos\nend\nno memory\nbananas 1\ndonkey 1\nend\ndiffer\nend\njoined 0\ndiffer\n",
+    b"ok\nok\nok\nbananas pl\xc3\xa1tanos\nend\nbananas pl\xc3\xa1tanos\nend\njoined 2\nbananas 1\ndonkey 1\npl\xc3\xa1tanos 1\nend\ndiffer\nno memory\ndiffer\n",
+];
+
+/// `rt try --test --fail-alloc N -- answers_where_memory_is_refused` refuses the Nth allocation. A line that needed it
+/// answers `no memory`, and the replies are those that the rows then give.
 #[test]
 fn answers_where_memory_is_refused(rt: HostRuntime) {
-    let (input, stored) = ROWS[0];
+    let (input, stored) = ROWS[PULLS];
     let (result, taken) = serve(rt.alloc(), input, 100, false, 1024, false);
     assert_eq!(rt; result, Ok(()));
-    let refused = b"no memory\nend\nend\nbad line\n".as_slice();
-    assert!(rt; taken.as_slice() == stored || taken.as_slice() == refused);
+    assert!(rt;
+        taken.as_slice() == stored || REFUSED.iter().any(|refused| taken.as_slice() == *refused)
+    );
 }

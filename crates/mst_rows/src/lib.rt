@@ -15,6 +15,8 @@ mod refusals;
 #[cfg(test)]
 mod rust_roots;
 #[cfg(test)]
+mod shapes;
+#[cfg(test)]
 mod snapshots;
 #[cfg(test)]
 mod trees;

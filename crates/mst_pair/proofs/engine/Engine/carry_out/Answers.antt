@@ -1,0 +1,4 @@
+use Rattle.mst_pair.proofs.engine.Engine.carry_out.Goals as goal
+
+pub returns-in-Put-clause-bytes : goal.returns-in-Put-clause-bytes
+returns-in-Put-clause-bytes g c = rw c.in-Put.is c.put.ensures.bytes

@@ -1,0 +1,24 @@
+use Rattle.std.proofs.Common.{max, nat_eq, map}
+use Rattle.std.proofs.lemmas.Result.{IfOk-weaker}
+use Rattle.mst_pair.specs.Answers.{answer_of, StopsByTurns}
+use Rattle.mst_pair.specs.Pulls.{IsByTurns}
+use Rattle.mst_pair.specs.State.{text_order}
+use Rattle.mst_pair.proofs.Stops.{under_defaults, on_err_from, stops_after}
+use Rattle.mst_pair.proofs.pair.Pair.take_turns.Goals as goal
+
+pub returns-clause-ok : goal.returns-clause-ok
+returns-clause-ok c = rw (← c.self.view_is) (IfOk-weaker c.pull_by_turns.result _ _
+    (λ all (met, turns, converging). (
+      met,
+      under_defaults (λ R S. IsByTurns text_order nat_eq max R S (map answer_of all.items) c.self.inside.a.rows c.self.inside.b.rows c.pull_by_turns.new.a.rows c.pull_by_turns.new.b.rows met)
+          c.self.inside.a c.self.inside.b c.self.invariant.0 c.self.invariant.1 turns,
+    )) c.pull_by_turns.ensures.turns)
+
+pub returns-clause-err : goal.returns-clause-err
+returns-clause-err c = rw (← c.self.view_is) (on_err_from _ _ c.pull_by_turns.result
+    (λ e stopped. (
+      map answer_of e.finished.items,
+      stops_after e.finished.items e.fault c.self.inside.a.rows c.self.inside.b.rows c.pull_by_turns.new.a.rows c.pull_by_turns.new.b.rows
+          (under_defaults (λ R S. StopsByTurns text_order nat_eq max R S e.finished.items e.fault c.self.inside.a.rows c.self.inside.b.rows c.pull_by_turns.new.a.rows c.pull_by_turns.new.b.rows)
+          c.self.inside.a c.self.inside.b c.self.invariant.0 c.self.invariant.1 stopped),
+    )) c.pull_by_turns.ensures.stopped)

@@ -1,0 +1,18 @@
+use Rattle.std.proofs.Common.{◌∙◌, ◌++◌, map, ap, inl, refl, subst}
+use Rattle.std.specs.List.{flat_map}
+use Rattle.merkle_diff.specs.Entry.{span_of}
+use Rattle.merkle_diff.specs.PageRange.{entry, entries}
+use Rattle.mst_pair.specs.Devices.{Writes}
+use Rattle.mst_pair.specs.Pages.{page_ranges}
+use Rattle.mst_pair.specs.Replies.{range_text, ranges_text, end_line}
+use Rattle.mst_pair.proofs.Replies.{lines_as_twice}
+use Rattle.mst_pair.proofs.text_replica.write_pages.Goals as goal
+
+-- src/text_replica.rt:37:1
+pub returns-in-Ok-Some-clause-bytes : goal.returns-in-Ok-Some-clause-bytes
+returns-in-Ok-Some-clause-bytes g c =
+    let items = c.in-Ok-Some.ranges.items in
+    let lines = ap (λ rs. flat_map (λ r. range_text (span_of (entry r))) rs ++ end_line) c.deref.ensures.value ∙ ap (λ t. t ++ end_line) (lines_as_twice range_text span_of entry items) in
+    let tree = ap (λ es. ranges_text (map span_of es)) (rw (c.in-Ok-Some.field-0-is, c.tree.ensures.tree) at c.in-Ok-Some.ensures.ranges) in
+    let rows = c.shows_its_rows.ensures.ranges ∙ ap (λ rs. ranges_text (map span_of (page_ranges rs))) c.hash.ensures.rows in
+    (ranges_text (map span_of (page_ranges c.args.replica.now.rows)), inl refl, subst (Writes _ _ _) (lines ∙ tree ∙ rows) c.write_list.ensures.bytes)

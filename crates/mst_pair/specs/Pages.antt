@@ -1,0 +1,44 @@
+-- The tree that shows what a replica holds, with the default builder: SipHash under the zero key, and level base 16.
+use Rattle.std.specs.Prelude.{◌≡◌, ℕ, List, string_bytes}
+use Rattle.std.specs.Int.{w64, to_le_bytes}
+use Rattle.merkle_digest.specs.Level.{level_of}
+use Rattle.merkle_digest.specs.SipHash.{siphash128, zero_key}
+use Rattle.merkle_diff.specs.Entry.{Entry}
+use Rattle.merkle_search_tree.specs.Ranges.{IsRangesOf, ranges_of}
+use Rattle.merkle_search_tree.specs.Stream.{page_digest}
+use Rattle.merkle_search_tree.specs.Tree.{Tree}
+use Rattle.merkle_search_tree.specs.TreeOf.{tree_of}
+use Rattle.mst_pair.specs.Contents.{Contents, digests}
+use Rattle.mst_pair.specs.State.{Text, Row, text_order}
+
+-- the digest of a key: that of its bytes
+abbrev pub key_digest : Text → List ℕ
+key_digest key = siphash128 zero_key (string_bytes key)
+
+-- the digest of a number: that of its eight bytes, the lowest first
+abbrev pub number_digest : ℕ → List ℕ
+number_digest n = siphash128 zero_key (to_le_bytes w64 n)
+
+-- the level of a key: that of its digest in base 16
+abbrev pub key_level : Text → ℕ
+key_level key = level_of (key_digest key) 16
+
+-- the tree of the keys and the digests of their numbers
+abbrev pub tree : List Row → Tree Text (List ℕ)
+tree rows = tree_of key_level (digests number_digest rows)
+
+-- its page ranges
+abbrev pub page_ranges : List Row → List (Entry Text (List ℕ))
+page_ranges rows = ranges_of string_bytes (tree rows)
+
+-- the digest of its root page
+abbrev pub root_digest : List Row → List ℕ
+root_digest rows = page_digest string_bytes (tree rows)
+
+-- these entries are the page ranges, up to equal keys
+abbrev pub HasPageRanges : List Row → List (Entry Text (List ℕ)) → Type 0
+HasPageRanges rows entries = IsRangesOf text_order key_digest 16 string_bytes (digests number_digest rows) entries
+
+-- the replica has the default hasher and level base
+abbrev pub HasDefaults : Contents Text ℕ (List ℕ) → Type 0
+HasDefaults c = (c.tree.hasher ≡ zero_key) × (c.tree.base ≡ 16)

@@ -1,0 +1,151 @@
+//! Two replicas, and what the lines do to them.
+ghost use Rattle.std.specs.Prelude.{◌≡◌, ◌↔◌, map, length, OnOk, OnErr, IfOk, IfErr, IsTrue, ℕ, List, ◌⊎◌};
+ghost use Rattle.merkle_diff.specs.Entry.{span_of};
+ghost use Rattle.mst_pair.specs.Answers.{spans_of, answer_of};
+ghost use Rattle.mst_pair.specs.Devices.{Writes, Marks};
+ghost use Rattle.mst_pair.specs.Engine.{MayAsk, Pulls, StopsPulling, TakesTurns, StopsInTurns, no_memory};
+ghost use Rattle.mst_pair.specs.Pages.{root_digest, page_ranges};
+ghost use Rattle.mst_pair.specs.Replies.{ranges_text};
+ghost use Rattle.mst_pair.specs.State.{State, start, rows, other_rows, JoinsRow};
+
+use crate::pull::{PullError, Pulled, ask};
+use crate::replica::Replica;
+use crate::sink::Sink;
+use crate::source::Failed;
+use crate::text_replica::{TextReplica, root_hash_of, write_pages};
+use crate::turns::{TurnsError, pull_by_turns};
+use merkle_digest::RootHash;
+use merkle_search_tree::builder::Builder;
+use std::alloc::{AllocError, Global};
+use std::marker::Model;
+
+/// The name of a replica: `a` or `b`.
+#[derive(Clone, Copy, Debug, PartialEq, Eq)]
+pub enum ReplicaName {
+    A,
+    B,
+}
+
+/// The two replicas, and what makes room for what they hold. A contract sees their rows.
+#[derive(Drop)]
+pub struct Pair {
+    alloc: Global,
+    a: TextReplica,
+    b: TextReplica,
+}
+
+impl Model for Pair {
+    ghost use Rattle.mst_pair.specs.Pages.{HasDefaults};
+    ghost use Rattle.mst_pair.specs.State.{State};
+
+    ghost Value = { State };
+
+    ghost view = { λ pair. record { a = pair.a.rows; b = pair.b.rows } };
+
+    ghost invariant = { λ pair. HasDefaults pair.a × HasDefaults pair.b };
+}
+
+impl Pair {
+    /// Two empty replicas. It takes no memory.
+    pub fn new(alloc: Global) -> Self
+        ensures { result ≡ start }
+    {
+        Pair {
+            alloc,
+            a: Replica::new(alloc, Builder::default()),
+            b: Replica::new(alloc, Builder::default()),
+        }
+    }
+
+    /// The rows of a replica, ascending by key.
+    pub fn rows(&self, name: ReplicaName) -> &[(String, u64)]
+        ensures { result.now ≡ rows self.now name }
+    {
+        match name {
+            ReplicaName::A => self.a.rows(),
+            ReplicaName::B => self.b.rows(),
+        }
+    }
+
+    /// Joins a row into a replica. Where memory is refused, nothing changes.
+    #[tactic(auto, using(crate::proofs::Pages::same_clone))]
+    pub fn put(&mut self, name: ReplicaName, key: &str, number: u64) -> Result<(), AllocError>
+        ensures ok { OnOk result (JoinsRow (rows self.old name) (rows self.new name) key.now number) }
+        ensures other { other_rows self.new name ≡ other_rows self.old name }
+        ensures err { OnErr result (self.new ≡ self.old) }
+    {
+        let key = String::from_str(self.alloc, key)?;
+        match name {
+            ReplicaName::A => self.a.put(key, number),
+            ReplicaName::B => self.b.put(key, number),
+        }
+    }
+
+    /// The root hash of a replica.
+    pub fn root_hash(&mut self, name: ReplicaName) -> RootHash
+        ensures digest { result ≡ root_digest (rows self.old name) }
+        ensures same { self.new ≡ self.old }
+    {
+        match name {
+            ReplicaName::A => root_hash_of(&mut self.a),
+            ReplicaName::B => root_hash_of(&mut self.b),
+        }
+    }
+
+    /// Writes the range of each page of a replica.
+    pub fn write_pages<W: Sink>(&mut self, name: ReplicaName, writer: &mut W) -> Result<(), Failed>
+        ensures bytes { (reply : List ℕ) × ((reply ≡ ranges_text (map span_of (page_ranges (rows self.old name)))) ⊎ (reply ≡ no_memory)) × Writes result (W.taken writer.old) (W.taken writer.new) reply }
+        ensures failed { Marks result (W.has_failed writer.old) (W.has_failed writer.new) }
+        ensures same { self.new ≡ self.old }
+    {
+        match name {
+            ReplicaName::A => write_pages(&mut self.a, writer),
+            ReplicaName::B => write_pages(&mut self.b, writer),
+        }
+    }
+
+    /// The ranges of keys that a replica may ask the other for.
+    #[tactic(auto, using(crate::proofs::Pages::same_clone))]
+    pub fn ask(&mut self, name: ReplicaName) -> Result<Vec<(String, String)>, AllocError>
+        ensures ranges { IfOk result (λ found. MayAsk (rows self.old name) (other_rows self.old name) (spans_of found.items)) }
+        ensures same { self.new ≡ self.old }
+    {
+        self.a.hash();
+        self.b.hash();
+        match name {
+            ReplicaName::A => ask(self.alloc, &self.a, &self.b),
+            ReplicaName::B => ask(self.alloc, &self.b, &self.a),
+        }
+    }
+
+    /// Has a replica pull from the other.
+    #[tactic(auto, using(crate::proofs::Pages::same_clone))]
+    pub fn pull(&mut self, name: ReplicaName) -> Result<Pulled<String>, PullError<String>>
+        ensures ok { IfOk result (λ pulled. Pulls (rows self.old name) (other_rows self.old name) (answer_of pulled) (rows self.new name)) }
+        ensures err { OnErr result (StopsPulling (rows self.old name) (other_rows self.old name) (rows self.new name)) }
+        ensures other { other_rows self.new name ≡ other_rows self.old name }
+    {
+        match name {
+            ReplicaName::A => self.a.pull(&mut self.b),
+            ReplicaName::B => self.b.pull(&mut self.a),
+        }
+    }
+
+    /// Whether the root hashes are equal.
+    pub fn is_same(&mut self) -> bool
+        ensures value { IsTrue result ↔ (root_digest self.old.a ≡ root_digest self.old.b) }
+        ensures same { self.new ≡ self.old }
+    {
+        root_hash_of(&mut self.a) == root_hash_of(&mut self.b)
+    }
+
+    /// Has the replicas pull from each other by turns, `a` first.
+    #[tactic(auto, using(crate::proofs::Pages::same_clone))]
+    pub fn take_turns(&mut self, count: u8) -> Result<Vec<Pulled<String>>, TurnsError<String>>
+        ensures length { IfOk result (λ all. length all.items ≡ count) }
+        ensures ok { IfOk result (λ all. TakesTurns (map answer_of all.items) self.old.a self.old.b self.new.a self.new.b) }
+        ensures err { OnErr result (StopsInTurns self.old.a self.old.b self.new.a self.new.b) }
+    {
+        pull_by_turns(self.alloc, &mut self.a, &mut self.b, usize::from(count))
+    }
+}

@@ -1,0 +1,60 @@
+//! A replica of the program: a map from texts to numbers, with the default builder.
+ghost use Rattle.std.specs.Prelude.{◌≡◌, ◌⊎◌, ℕ, List, map, string_bytes};
+ghost use Rattle.merkle_diff.specs.Entry.{span_of};
+ghost use Rattle.merkle_search_tree.specs.Ranges.{ranges_of};
+ghost use Rattle.merkle_search_tree.specs.Stream.{page_digest};
+ghost use Rattle.mst_pair.specs.Devices.{Writes, Marks};
+ghost use Rattle.mst_pair.specs.Engine.{no_memory};
+ghost use Rattle.mst_pair.specs.Pages.{HasDefaults, root_digest, page_ranges};
+ghost use Rattle.mst_pair.specs.Replies.{ranges_text};
+
+use crate::replica::Replica;
+use crate::reply::{write_list, write_no_memory};
+use crate::sink::Sink;
+use crate::source::Failed;
+use merkle_digest::{PageDigest, RootHash, SipHasher};
+use merkle_search_tree::laws::every_tree_is_sound;
+
+/// A replica of the program.
+pub type TextReplica = Replica<String, u64, SipHasher, 16>;
+
+/// The root hash of a replica. Pages that lack a digest get it.
+pub fn root_hash_of(replica: &mut TextReplica) -> RootHash
+    requires { HasDefaults replica.old }
+    ensures digest { result ≡ root_digest replica.old.rows }
+    ensures rows { replica.new.rows ≡ replica.old.rows }
+    ensures defaults { HasDefaults replica.new }
+{
+    shows_its_rows(replica);
+    replica.hash();
+    match replica.tree().root_hash_cached() {
+        Some(hash) => RootHash::new(PageDigest::new(*hash.as_bytes())),
+        None => unreachable!(),
+    }
+}
+
+/// Writes the range of each page of a replica, and the line `end`. Pages that lack a digest get it.
+pub fn write_pages<W: Sink>(replica: &mut TextReplica, writer: &mut W) -> Result<(), Failed>
+    requires { HasDefaults replica.old }
+    ensures bytes { (reply : List ℕ) × ((reply ≡ ranges_text (map span_of (page_ranges replica.old.rows))) ⊎ (reply ≡ no_memory)) × Writes result (W.taken writer.old) (W.taken writer.new) reply }
+    ensures failed { Marks result (W.has_failed writer.old) (W.has_failed writer.new) }
+    ensures rows { replica.new.rows ≡ replica.old.rows }
+    ensures defaults { HasDefaults replica.new }
+{
+    replica.hash();
+    shows_its_rows(replica);
+    match replica.tree().serialise_page_ranges() {
+        Ok(Some(ranges)) => write_list(&ranges, writer),
+        Ok(None) => unreachable!(),
+        Err(_) => write_no_memory(writer),
+    }
+}
+
+/// The pages of a replica are those of the tree of its rows.
+fn shows_its_rows(replica: &TextReplica)
+    requires { HasDefaults replica.now }
+    ensures root { page_digest string_bytes replica.now.tree.root ≡ root_digest replica.now.rows }
+    ensures ranges { ranges_text (map span_of (ranges_of string_bytes replica.now.tree.root)) ≡ ranges_text (map span_of (page_ranges replica.now.rows)) }
+{
+    every_tree_is_sound(replica.tree());
+}

@@ -1,0 +1,5 @@
+use Rattle.mst_pair_rows.proofs.Clones.{tied_clones}
+use Rattle.mst_pair_rows.proofs.turns.put.Goals as goal
+
+pub put-requires : goal.put-requires
+put-requires c = λ a b h. tied_clones a b h.whole

@@ -1,0 +1,13 @@
+//! Tests that cross the crates: replicas that pull from each other, with answers from outside, and refused memory.
+#![tactic(auto)]
+
+#[cfg(test)]
+mod hasher;
+#[cfg(test)]
+mod random_pairs;
+#[cfg(test)]
+mod refusals;
+#[cfg(test)]
+mod text;
+#[cfg(test)]
+mod turns;

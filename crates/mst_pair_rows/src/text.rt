@@ -1,0 +1,41 @@
+//! A key whose clones can be refused.
+ghost use Rattle.std.specs.Prelude.{◌≡◌};
+ghost use Rattle.std.specs.Cmp.Lexicographic.{same_text};
+ghost use Rattle.std.proofs.Common.{sym};
+
+use merkle_digest::KeyBytes;
+use std::alloc::AllocError;
+use std::cell::Cell;
+
+/// A text that counts its clones down, and refuses to be cloned where none is left.
+#[derive(Drop)]
+#[derive_where(PartialEq, Eq, PartialOrd, Ord)]
+pub struct Text<'a> {
+    pub text: &'a str,
+    #[derive_where(skip)]
+    pub clones_left: &'a Cell<u8>,
+}
+
+impl Clone for Text<'_> {
+    ghost is_clone = { λ key clone. clone.text ≡ key.text };
+
+    fn clone(&self) -> Result<Self, AllocError> {
+        let left = self.clones_left.get().checked_sub(1).ok_or(AllocError)?;
+        self.clones_left.set(left);
+        Ok(Text {
+            text: self.text,
+            clones_left: self.clones_left,
+        })
+    }
+}
+
+/// The UTF-8 bytes of the text.
+impl KeyBytes for Text<'_> {
+    ghost bytes_of = { λ key. key.text.now };
+
+    ghost bytes_respect_eq = { λ a b equal. same_text a.text.now b.text.now (sym equal) };
+
+    fn key_bytes(&self) -> &[u8] {
+        self.text.as_bytes()
+    }
+}
