@@ -50,6 +50,11 @@ pub on_err_from : {T E : Type 0} (Q : E → Type 0) (P : Type 0) (r : Result T E
 on_err_from Q P (Ok x) f h = tt
 on_err_from Q P (Err e) f h = f e h
 
+-- what two facts say of an error, of the call
+pub on_err_from_both : {T E : Type 0} (Q R : E → Type 0) (P : Type 0) (r : Result T E) → ((e : E) → Q e → R e → P) → IfErr r Q → IfErr r R → OnErr r P
+on_err_from_both Q R P (Ok x) f h i = tt
+on_err_from_both Q R P (Err e) f h i = f e h i
+
 -- a refused pull
 pub stops_pulling : (local peer : List Row) (fault : PullError Text) (after : List Row) → IsRefused text_order nat_eq max HasPageRanges HasPageRanges local peer fault after → StopsPulling local peer after
 stops_pulling local peer Memory after same = inl same

@@ -1,5 +1,5 @@
 -- The engine: what a line is answered, and the state that it leaves.
-use Rattle.std.specs.Prelude.{◌≡◌, ◌≢◌, ℕ, List, [], ◌∷◌, ◌⊎◌, map, max, length, nat_eq, codes}
+use Rattle.std.specs.Prelude.{◌≡◌, ◌≢◌, ℕ, ◌<◌, List, [], ◌∷◌, ◌⊎◌, map, max, length, nat_eq, codes}
 use Rattle.key_order.specs.Interval.{Span}
 use Rattle.merkle_digest.specs.Digest.{base64_of}
 use Rattle.merkle_diff.specs.Entry.{span_of}
@@ -30,9 +30,9 @@ abbrev pub StopsAfter : List (Answer Text) → List Row → List Row → List Ro
 StopsAfter [] local peer local' peer' = StopsPulling local peer local' × (peer' ≡ peer)
 StopsAfter (answer ∷ answers) local peer local' peer' = (after : List Row) × Pulls local peer answer after × StopsAfter answers peer after peer' local'
 
--- memory was refused to pulls by turns, local first: some whole pulls were made, and then one stopped
-abbrev pub StopsInTurns : List Row → List Row → List Row → List Row → Type 0
-StopsInTurns local peer local' peer' = (answers : List (Answer Text)) × StopsAfter answers local peer local' peer'
+-- memory was refused to d pulls by turns, local first: fewer whole pulls were made, and then one stopped
+abbrev pub StopsInTurns : ℕ → List Row → List Row → List Row → List Row → Type 0
+StopsInTurns d local peer local' peer' = (answers : List (Answer Text)) × (length answers < d) × StopsAfter answers local peer local' peer'
 
 -- the reply where memory was refused
 abbrev pub no_memory : List ℕ
@@ -56,7 +56,7 @@ Answers old (pull name) reply new =
 Answers old same reply new = (((root_digest old.a ≡ root_digest old.b) × (reply ≡ text_line (codes "same"))) ⊎ ((root_digest old.a ≢ root_digest old.b) × (reply ≡ text_line (codes "differ")))) × (new ≡ old)
 Answers old (turns d) reply new =
     ((answers : List (Answer Text)) × (length answers ≡ d) × TakesTurns answers old.a old.b new.a new.b × (reply ≡ turns_text answers))
-    ⊎ ((reply ≡ no_memory) × StopsInTurns old.a old.b new.a new.b)
+    ⊎ ((reply ≡ no_memory) × StopsInTurns d old.a old.b new.a new.b)
 
 -- from old, a line may get this reply and leave new
 abbrev pub Step : State → List ℕ → List ℕ → State → Type 0

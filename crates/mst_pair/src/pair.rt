@@ -144,7 +144,7 @@ impl Pair {
     pub fn take_turns(&mut self, count: u8) -> Result<Vec<Pulled<String>>, TurnsError<String>>
         ensures length { IfOk result (λ all. length all.items ≡ count) }
         ensures ok { IfOk result (λ all. TakesTurns (map answer_of all.items) self.old.a self.old.b self.new.a self.new.b) }
-        ensures err { OnErr result (StopsInTurns self.old.a self.old.b self.new.a self.new.b) }
+        ensures err { OnErr result (StopsInTurns count self.old.a self.old.b self.new.a self.new.b) }
     {
         pull_by_turns(self.alloc, &mut self.a, &mut self.b, usize::from(count))
     }

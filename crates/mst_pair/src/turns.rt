@@ -1,5 +1,5 @@
 //! Pulls by turns, by which two replicas come to hold the join of their maps.
-ghost use Rattle.std.specs.Prelude.{◌≡◌, ◌≤◌, List, IfOk, IfErr, map, length};
+ghost use Rattle.std.specs.Prelude.{◌≡◌, ◌<◌, ◌≤◌, List, IfOk, IfErr, map, length};
 ghost use Rattle.std.specs.List.{AllByRecursion};
 ghost use Rattle.key_order.specs.Order.{Same};
 ghost use Rattle.key_order.specs.Join.{IsJoin};
@@ -60,6 +60,7 @@ pub fn pull_by_turns<
         (HasRanges K.cmp ⟦<H as Hasher<N, K>>⟧.digest_of ⟦<H as Hasher<N, V>>⟧.digest_of K.bytes_of a.old.tree.hasher a.old.tree.base)
         (HasRanges K.cmp ⟦<H as Hasher<N, K>>⟧.digest_of ⟦<H as Hasher<N, V>>⟧.digest_of K.bytes_of b.old.tree.hasher b.old.tree.base)
         error.finished.items error.fault a.old.rows b.old.rows a.new.rows b.new.rows) }
+    ensures fewer { IfErr result (λ error. length error.finished.items < n) }
 
     ensures a_setup { SameSetup a.old a.new }
     ensures b_setup { SameSetup b.old b.new }

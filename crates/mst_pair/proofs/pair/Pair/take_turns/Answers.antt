@@ -1,9 +1,10 @@
-use Rattle.std.proofs.Common.{max, nat_eq, map}
+use Rattle.std.proofs.Common.{◌<◌, max, nat_eq, map, subst, sym}
 use Rattle.std.proofs.lemmas.Result.{IfOk-weaker}
+use Rattle.std.proofs.lemmas.List.{length-map}
 use Rattle.mst_pair.specs.Answers.{answer_of, StopsByTurns}
 use Rattle.mst_pair.specs.Pulls.{IsByTurns}
 use Rattle.mst_pair.specs.State.{text_order}
-use Rattle.mst_pair.proofs.Stops.{under_defaults, on_err_from, stops_after}
+use Rattle.mst_pair.proofs.Stops.{under_defaults, on_err_from_both, stops_after}
 use Rattle.mst_pair.proofs.pair.Pair.take_turns.Goals as goal
 
 pub returns-clause-ok : goal.returns-clause-ok
@@ -15,10 +16,11 @@ returns-clause-ok c = rw (← c.self.view_is) (IfOk-weaker c.pull_by_turns.resul
     )) c.pull_by_turns.ensures.turns)
 
 pub returns-clause-err : goal.returns-clause-err
-returns-clause-err c = rw (← c.self.view_is) (on_err_from _ _ c.pull_by_turns.result
-    (λ e stopped. (
+returns-clause-err c = rw (← c.self.view_is) (on_err_from_both _ _ _ c.pull_by_turns.result
+    (λ e stopped fewer. (
       map answer_of e.finished.items,
+      subst (λ n. n < c.args.count) (sym (length-map e.finished.items answer_of)) fewer,
       stops_after e.finished.items e.fault c.self.inside.a.rows c.self.inside.b.rows c.pull_by_turns.new.a.rows c.pull_by_turns.new.b.rows
           (under_defaults (λ R S. StopsByTurns text_order nat_eq max R S e.finished.items e.fault c.self.inside.a.rows c.self.inside.b.rows c.pull_by_turns.new.a.rows c.pull_by_turns.new.b.rows)
           c.self.inside.a c.self.inside.b c.self.invariant.0 c.self.invariant.1 stopped),
-    )) c.pull_by_turns.ensures.stopped)
+    )) c.pull_by_turns.ensures.stopped c.pull_by_turns.ensures.fewer)
