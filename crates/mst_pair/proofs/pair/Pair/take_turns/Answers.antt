@@ -1,4 +1,4 @@
-use Rattle.std.proofs.Common.{◌<◌, max, nat_eq, map, subst, sym}
+use Rattle.std.proofs.Common.{◌<◌, max, nat_eq, map, length, subst, sym}
 use Rattle.std.proofs.lemmas.Result.{IfOk-weaker}
 use Rattle.std.proofs.lemmas.List.{length-map}
 use Rattle.mst_pair.specs.Answers.{answer_of, StopsByTurns}
@@ -19,7 +19,7 @@ pub returns-clause-err : goal.returns-clause-err
 returns-clause-err c = rw (← c.self.view_is) (on_err_from_both _ _ _ c.pull_by_turns.result
     (λ e stopped fewer. (
       map answer_of e.finished.items,
-      subst (λ n. n < c.args.count) (sym (length-map e.finished.items answer_of)) fewer,
+      subst (λ n. n < c.args.count) (sym (length-map e.finished.items answer_of)) (subst (λ n. length e.finished.items < n) c.from.ensures fewer),
       stops_after e.finished.items e.fault c.self.inside.a.rows c.self.inside.b.rows c.pull_by_turns.new.a.rows c.pull_by_turns.new.b.rows
           (under_defaults (λ R S. StopsByTurns text_order nat_eq max R S e.finished.items e.fault c.self.inside.a.rows c.self.inside.b.rows c.pull_by_turns.new.a.rows c.pull_by_turns.new.b.rows)
           c.self.inside.a c.self.inside.b c.self.invariant.0 c.self.invariant.1 stopped),
