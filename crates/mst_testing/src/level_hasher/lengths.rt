@@ -2,7 +2,7 @@
 
 ghost use Rattle.std.specs.Prelude.{◌≡◌};
 ghost use Rattle.std.specs.Cmp.Rules.{comparing};
-ghost use Rattle.std.proofs.Common.{ap, lit<, rules};
+ghost use Rattle.std.proofs.Common.{ap, lit<, refl, rules};
 ghost use Rattle.std.proofs.lemmas.Bool.{eqb-true};
 ghost use Rattle.mst_testing.specs.LevelBytes.{level_at, level_byte, value_byte, bytes_from, level_at-same};
 
@@ -103,6 +103,30 @@ impl<K> Hasher<32, Value> for LevelHasher<K> {
 
     fn hash(&self, value: &Value) -> Digest<32> {
         value_digest(value.number)
+    }
+}
+
+impl<K> Hasher<32, u64> for LevelHasher<K> {
+    ghost digest_of = { λ hasher number. bytes_from (value_byte number) 32 0 };
+
+    ghost respects_eq = { λ hasher a b equal. ap (λ number. bytes_from (value_byte number) 32 0) (eqb-true a b equal) };
+
+    ghost fits = { lit< tt };
+
+    fn hash(&self, number: &u64) -> Digest<32> {
+        value_digest(*number)
+    }
+}
+
+impl<K> Hasher<32, ()> for LevelHasher<K> {
+    ghost digest_of = { λ hasher value. bytes_from (level_byte 0) 32 0 };
+
+    ghost respects_eq = { λ hasher a b equal. refl };
+
+    ghost fits = { lit< tt };
+
+    fn hash(&self, _value: &()) -> Digest<32> {
+        level_digest(0)
     }
 }
 
