@@ -2,7 +2,7 @@
 #![tactic(auto)]
 
 #[cfg(test)]
-mod hasher;
+mod memory;
 #[cfg(test)]
 mod random_pairs;
 #[cfg(test)]

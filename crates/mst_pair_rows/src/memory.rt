@@ -1,4 +1,5 @@
-//! Pulls of texts for which memory is refused.
+//! Pulls for which memory is refused. Under `rt try --test --fail-alloc N -- a_refused` the Nth request for memory is refused: then
+//! the rows that the answer names were joined, and no others.
 
 use merkle_digest::SipHasher;
 use merkle_search_tree::builder::Builder;
@@ -19,30 +20,32 @@ fn pull(local: &mut Texts, peer: &mut Texts) -> Result<Pulled<String>, PullError
     local.pull(peer)
 }
 
-/// The replica of three rows.
+/// Three rows.
+const THREE: [(&str, u64); 3] = [("a", 1), ("b", 2), ("c", 3)];
+
+/// The map of the three rows.
 fn three(alloc: Global) -> Result<Texts, AllocError> {
     let mut replica = Texts::new(alloc, Builder::default());
-    put(alloc, &mut replica, "a", 1)?;
-    put(alloc, &mut replica, "b", 2)?;
-    put(alloc, &mut replica, "c", 3)?;
+    for (text, value) in THREE {
+        put(alloc, &mut replica, text, value)?;
+    }
     Ok(replica)
 }
 
 /// Whether the map has the first `count` of the three rows and no others.
 fn has_first(replica: &Texts, count: usize) -> bool {
-    let wanted = [("a", 1), ("b", 2), ("c", 3)];
     let rows = replica.rows();
     let mut is_right = rows.len() == count;
     for (at, row) in rows.iter().enumerate() {
-        is_right = is_right && match wanted.get(at) {
-            Some((text, number)) => row.0.as_str() == *text && row.1 == *number,
-            None => false,
-        };
+        is_right = is_right
+            && match THREE.get(at) {
+                Some((text, number)) => row.0.as_str() == *text && row.1 == *number,
+                None => false,
+            };
     }
     is_right
 }
 
-// Under `rt try --test --fail-alloc N` the Nth request for memory is refused.
 #[test]
 fn a_refused_pull_has_joined_the_first_rows(rt: HostRuntime) {
     let mut local = Texts::new(rt.alloc(), Builder::default());

@@ -1,19 +1,22 @@
 //! Four pulls by turns between random small maps, whose keys are on random levels.
 
-use crate::hasher::ByteHasher;
 use merkle_search_tree::builder::Builder;
 use mst_pair::{Replica, pull_by_turns};
+use mst_testing::{LevelHasher, number_key};
 use std::alloc::{AllocError, Global};
 use std::test::Fail;
 
-/// A map of number keys, each with the digest of its level behind its number.
-type Numbers = Replica<[u8; 2], u64, ByteHasher, 1>;
+/// A map of number keys on given levels.
+type Numbers = Replica<[u8; 2], u64, LevelHasher<[u8; 2]>, 32>;
 
 /// How many keys there are.
-const KEYS: usize = 8;
+const COUNT: usize = 8;
 
-/// The digests of keys on the levels 0, 1 and 2, more of them low.
-const LEVELS: [u8; 4] = [0x01, 0x01, 0x10, 0x00];
+/// The numbers of the keys.
+const NUMBERS: [u16; COUNT] = [0, 1, 2, 3, 4, 5, 6, 7];
+
+/// The levels that a key can be on, level 0 twice as often as the others.
+const LEVELS: [u8; 4] = [0, 0, 1, 2];
 
 /// A generator of numbers, which it takes from the highest bits of a product sum.
 #[derive(Clone, Copy)]
@@ -31,9 +34,18 @@ impl Random {
         (self.state >> 33).checked_rem(bound).unwrap_or(0)
     }
 
+    /// A level for each key.
+    fn levels(&mut self) -> [u8; COUNT] {
+        let mut levels = [0; COUNT];
+        for level in &mut levels {
+            *level = LEVELS.get(self.below(4) as usize).copied().unwrap_or(0);
+        }
+        levels
+    }
+
     /// A value for each key; 0 where the map lacks the key.
-    fn values(&mut self) -> [u64; KEYS] {
-        let mut values = [0; KEYS];
+    fn values(&mut self) -> [u64; COUNT] {
+        let mut values = [0; COUNT];
         for value in &mut values {
             *value = self.below(4);
         }
@@ -42,8 +54,8 @@ impl Random {
 }
 
 /// Puts a row.
-fn put(replica: &mut Numbers, key: [u8; 2], value: u64) -> Result<(), AllocError> {
-    replica.put(key, value)
+fn put(replica: &mut Numbers, number: u16, value: u64) -> Result<(), AllocError> {
+    replica.put(number_key(number), value)
 }
 
 /// Makes four pulls by turns, and tells whether memory was there.
@@ -51,32 +63,39 @@ fn four_turns(alloc: Global, a: &mut Numbers, b: &mut Numbers) -> bool {
     pull_by_turns(alloc, a, b, 4).is_ok()
 }
 
-/// The key of each place, on its level.
-fn key_at(place: usize, levels: &[u8; KEYS]) -> [u8; 2] {
-    [place as u8, levels.get(place).copied().unwrap_or(1)]
+/// The hasher that puts each key on its level.
+fn hasher(alloc: Global, levels: &[u8; COUNT]) -> Result<LevelHasher<[u8; 2]>, AllocError> {
+    let mut keys = Vec::with_capacity(alloc, COUNT)?;
+    for (number, level) in NUMBERS.iter().zip(levels.iter()) {
+        keys.push((number_key(*number), *level))?;
+    }
+    Ok(LevelHasher::new(keys))
 }
 
 /// The map of these values.
-fn numbers(alloc: Global, values: &[u64; KEYS], levels: &[u8; KEYS]) -> Result<Numbers, Fail> {
-    let mut replica = Numbers::new(alloc, Builder::default().with_hasher(ByteHasher));
-    for (place, value) in values.iter().enumerate().rev() {
+fn numbers(
+    alloc: Global,
+    values: &[u64; COUNT],
+    hasher: LevelHasher<[u8; 2]>,
+) -> Result<Numbers, AllocError> {
+    let mut replica = Numbers::new(alloc, Builder::default().with_hasher(hasher));
+    for (number, value) in NUMBERS.iter().zip(values.iter()) {
         if *value > 0 {
-            put(&mut replica, key_at(place, levels), *value)?;
+            put(&mut replica, *number, *value)?;
         }
     }
     Ok(replica)
 }
 
 /// Whether the map has these values and no other rows.
-fn holds(replica: &Numbers, values: &[u64; KEYS], levels: &[u8; KEYS]) -> bool {
+fn holds(replica: &Numbers, values: &[u64; COUNT]) -> bool {
     let mut rows = replica.rows().iter();
-    for (place, value) in values.iter().enumerate() {
+    for (number, value) in NUMBERS.iter().zip(values.iter()) {
         if *value > 0 {
             match rows.next() {
                 None => return false,
                 Some(row) => {
-                    let key = row.0;
-                    if key != key_at(place, levels) || row.1 != *value {
+                    if row.0 != number_key(*number) || row.1 != *value {
                         return false;
                     }
                 }
@@ -86,27 +105,37 @@ fn holds(replica: &Numbers, values: &[u64; KEYS], levels: &[u8; KEYS]) -> bool {
     rows.next().is_none()
 }
 
+/// The greater value of each key.
+fn greatest(a: &[u64; COUNT], b: &[u64; COUNT]) -> [u64; COUNT] {
+    let mut joined = *a;
+    for (value, other) in joined.iter_mut().zip(b.iter()) {
+        *value = (*value).max(*other);
+    }
+    joined
+}
+
+/// Whether four pulls by turns leave two maps of random values, whose keys are on the same random levels, with the join of both.
+fn join_in_four_turns(alloc: Global, random: &mut Random) -> Result<bool, AllocError> {
+    let hasher = hasher(alloc, &random.levels())?;
+    let a_values = random.values();
+    let b_values = random.values();
+    let joined = greatest(&a_values, &b_values);
+    let mut a = numbers(alloc, &a_values, hasher.clone()?)?;
+    let mut b = numbers(alloc, &b_values, hasher)?;
+    let are_built = holds(&a, &a_values) && holds(&b, &b_values);
+    let are_pulled = four_turns(alloc, &mut a, &mut b);
+    let are_joined = holds(&a, &joined) && holds(&b, &joined);
+    Ok(are_built && are_pulled && are_joined && a.root_hash() == b.root_hash())
+}
+
 #[test]
 fn four_turns_join_random_maps(rt: HostRuntime) -> Result<(), Fail> {
     let mut random = Random { state: 2019 };
     for round in 0..200 {
-        let mut levels = [1; KEYS];
-        for level in &mut levels {
-            *level = LEVELS.get(random.below(4) as usize).copied().unwrap_or(1);
-        }
-        let a_values = random.values();
-        let b_values = random.values();
-        let mut joined = a_values;
-        for (value, other) in joined.iter_mut().zip(b_values.iter()) {
-            *value = (*value).max(*other);
-        }
-        let mut a = numbers(rt.alloc(), &a_values, &levels)?;
-        let mut b = numbers(rt.alloc(), &b_values, &levels)?;
-        assert!(rt; holds(&a, &a_values, &levels), "a in round {round}");
-        assert!(rt; four_turns(rt.alloc(), &mut a, &mut b), "round {round}");
-        assert!(rt; holds(&a, &joined, &levels), "a in round {round}");
-        assert!(rt; holds(&b, &joined, &levels), "b in round {round}");
-        assert!(rt; a.root_hash() == b.root_hash(), "round {round}");
+        assert!(rt;
+            join_in_four_turns(rt.alloc(), &mut random)?,
+            "round {round}"
+        );
     }
     Ok(())
 }

@@ -1,16 +1,15 @@
-//! Pulls for which memory or a clone is refused.
+//! Pulls for which a clone of a key is refused.
 
-use crate::hasher::ByteHasher;
 use crate::text::Text;
-use crate::turns::{self, Numbers, pull};
+use merkle_digest::SipHasher;
 use merkle_search_tree::builder::Builder;
 use mst_pair::{PullError, Pulled, Replica};
 use std::alloc::{AllocError, Global};
 use std::cell::Cell;
 use std::test::Fail;
 
-/// A set of texts.
-type Texts<'a> = Replica<Text<'a>, u64, ByteHasher, 1>;
+/// A map of texts.
+type Texts<'a> = Replica<Text<'a>, u64, SipHasher, 16>;
 
 /// Puts a row.
 fn put<'a>(replica: &mut Texts<'a>, key: Text<'a>, value: u64) -> Result<(), AllocError> {
@@ -31,7 +30,7 @@ fn texts<'a>(
     rows: &[(&'a str, u64)],
     clones_left: &'a Cell<u8>,
 ) -> Result<Texts<'a>, AllocError> {
-    let mut replica = Texts::new(alloc, Builder::default().with_hasher(ByteHasher));
+    let mut replica = Texts::new(alloc, Builder::default());
     for (text, number) in rows {
         let key = Text {
             text: *text,
@@ -42,43 +41,47 @@ fn texts<'a>(
     Ok(replica)
 }
 
+/// How many rows a pull from a peer of two rows says that it joined; none where it says it wrongly.
+fn count_of(answer: Result<Pulled<Text<'_>>, PullError<Text<'_>>>) -> Option<usize> {
+    match answer {
+        Ok(pulled) => if pulled.joined == 2 { Some(2) } else { None },
+        Err(PullError::Memory) => Some(0),
+        Err(PullError::Partly { pulled, done }) => {
+            if pulled.joined == 2 && pulled.ranges.len() == 1 {
+                Some(done)
+            } else {
+                None
+            }
+        }
+    }
+}
+
+/// Whether a map has the first `count` rows of another one and no others.
+fn has_first_of(replica: &Texts<'_>, other: &Texts<'_>, count: usize) -> bool {
+    let rows = replica.rows();
+    let mut is_right = rows.len() == count && count <= other.rows().len();
+    for (row, wanted) in rows.iter().zip(other.rows().iter()) {
+        is_right = is_right && row.0.text == wanted.0.text && row.1 == wanted.1;
+    }
+    is_right
+}
+
 /// How many rows a pull of the texts a and b into an empty replica says that it joined, where this many clones are at hand; none
 /// where the rows there are not the first ones of the peer, or the answer doesn't fit them.
 fn rows_pulled(alloc: Global, clones: u8) -> Result<Option<usize>, AllocError> {
     let clones_left = Cell::new(2);
-    let wanted = [("a", 1), ("b", 2)];
     let mut local = texts(alloc, &[], &clones_left)?;
-    let mut peer = texts(alloc, &wanted, &clones_left)?;
+    let mut peer = texts(alloc, &[("a", 1), ("b", 2)], &clones_left)?;
     clones_left.set(clones);
-    let count = match pull_texts(&mut local, &mut peer) {
-        Ok(pulled) => if pulled.joined == 2 {
-            2
-        } else {
-            return Ok(None);
-        },
-        Err(PullError::Memory) => 0,
-        Err(PullError::Partly { pulled, done }) => {
-            if pulled.joined != 2 || pulled.ranges.len() != 1 {
-                return Ok(None);
-            }
-            done
-        }
-    };
-    let rows = local.rows();
-    let mut is_right = rows.len() == count && peer.rows().len() == 2;
-    for (at, row) in rows.iter().enumerate() {
-        is_right = is_right
-            && match wanted.get(at) {
-                Some((text, number)) => row.0.text == *text && row.1 == *number,
-                None => false,
-            };
+    match count_of(pull_texts(&mut local, &mut peer)) {
+        Some(count) if has_first_of(&local, &peer, count) => Ok(Some(count)),
+        _ => Ok(None),
     }
-    Ok(if is_right { Some(count) } else { None })
 }
 
 // Two clones are the bounds of the range, and each row takes two: for the rows and for the tree.
 #[test]
-fn a_refused_clone_leaves_the_first_rows(rt: HostRuntime) -> Result<(), Fail> {
+fn refused_clones_leave_the_first_rows(rt: HostRuntime) -> Result<(), Fail> {
     for (clones, count) in [
         (0, 0),
         (1, 0),
@@ -96,32 +99,4 @@ fn a_refused_clone_leaves_the_first_rows(rt: HostRuntime) -> Result<(), Fail> {
         );
     }
     Ok(())
-}
-
-/// Whether the set has the first `count` of the keys 1, 2, 3 and no others.
-fn has_first(replica: &Numbers, count: usize) -> bool {
-    let rows = replica.rows();
-    let keys: [[u8; 2]; 3] = [[1, 1], [2, 1], [3, 1]];
-    rows.len() == count && rows.iter().zip(keys.iter()).all(|(row, key)| row.0 == *key)
-}
-
-// Under `rt try --test --fail-alloc N` the Nth request for memory is refused.
-#[test]
-fn a_refused_pull_has_joined_the_first_rows(rt: HostRuntime) {
-    let mut local = Numbers::new(rt.alloc(), Builder::default().with_hasher(ByteHasher));
-    let mut peer = Numbers::new(rt.alloc(), Builder::default().with_hasher(ByteHasher));
-    if turns::put(&mut peer, 1).is_ok()
-        && turns::put(&mut peer, 2).is_ok()
-        && turns::put(&mut peer, 3).is_ok()
-    {
-        let is_right = match pull(&mut local, &mut peer) {
-            Ok(pulled) => pulled.joined == 3 && has_first(&local, 3),
-            Err(PullError::Memory) => has_first(&local, 0),
-            Err(PullError::Partly { pulled, done }) => {
-                (done == 1 || done == 2) && pulled.joined == 3 && has_first(&local, done)
-            }
-        };
-        assert!(rt; is_right);
-        assert!(rt; has_first(&peer, 3));
-    }
 }

@@ -1,9 +1,10 @@
 //! A key whose clones can be refused.
-ghost use Rattle.std.specs.Prelude.{◌≡◌};
+ghost use Rattle.std.specs.Prelude.{◌≡◌, List, ◌++◌};
 ghost use Rattle.std.specs.Cmp.Lexicographic.{same_text};
 ghost use Rattle.std.proofs.Common.{sym};
+ghost use Rattle.merkle_digest.specs.Sip24.{Holds};
 
-use merkle_digest::KeyBytes;
+use merkle_digest::{HashBytes, KeyBytes, Sip24};
 use std::alloc::AllocError;
 use std::cell::Cell;
 
@@ -37,5 +38,16 @@ impl KeyBytes for Text<'_> {
 
     fn key_bytes(&self) -> &[u8] {
         self.text.as_bytes()
+    }
+}
+
+/// The UTF-8 bytes of the text.
+impl HashBytes for Text<'_> {
+    ghost fed_bytes = { λ key. key.text.now };
+
+    ghost fed_bytes_respect_eq = { λ a b equal. same_text a.text.now b.text.now (sym equal) };
+
+    fn feed(&self, sip: &mut Sip24) {
+        sip.write(self.text.as_bytes());
     }
 }

@@ -1,13 +1,13 @@
 //! Four pulls by turns between two sets of keys that are all on level 0.
 
-use crate::hasher::ByteHasher;
 use merkle_search_tree::builder::Builder;
 use mst_pair::{PullError, Pulled, Replica, TurnsError, pull_by_turns};
+use mst_testing::{LevelHasher, number_key};
 use std::alloc::{AllocError, Global};
 use std::test::Fail;
 
-/// A set of number keys, each with the byte `01` behind its number.
-pub type Numbers = Replica<[u8; 2], (), ByteHasher, 1>;
+/// A set of number keys.
+type Numbers = Replica<[u8; 2], (), LevelHasher<[u8; 2]>, 32>;
 
 /// A line for each: the keys of a and of b, how many rows each of four pulls joined, and the keys of both afterwards.
 const TURNS: &str = "\
@@ -20,8 +20,8 @@ const TURNS: &str = "\
 ";
 
 /// Puts a key.
-pub fn put(replica: &mut Numbers, number: u8) -> Result<(), AllocError> {
-    replica.put([number, 1], ())
+fn put(replica: &mut Numbers, number: u16) -> Result<(), AllocError> {
+    replica.put(number_key(number), ())
 }
 
 /// Makes `n` pulls by turns.
@@ -34,22 +34,56 @@ fn turn(
     pull_by_turns(alloc, a, b, n)
 }
 
-/// The set of the keys of a text.
-pub fn numbers(alloc: Global, text: &str) -> Result<Numbers, Fail> {
-    let mut replica = Numbers::new(alloc, Builder::default().with_hasher(ByteHasher));
+/// The set of the keys of a text, all on level 0.
+fn numbers(alloc: Global, text: &str) -> Result<Numbers, Fail> {
+    let hasher = LevelHasher::new(Vec::new(alloc));
+    let mut replica = Numbers::new(alloc, Builder::default().with_hasher(hasher));
     for word in text.split_whitespace() {
-        put(&mut replica, word.parse::<u8>()?)?;
+        put(&mut replica, word.parse::<u16>()?)?;
     }
     Ok(replica)
 }
 
 /// The keys of a set, a blank before each.
-fn shown(alloc: Global, replica: &Numbers) -> Result<String, Fail> {
+fn shown(alloc: Global, replica: &Numbers) -> Result<String, AllocError> {
     let mut text = String::new(alloc);
     for (key, _) in replica.rows() {
-        text.push_str(format!(in alloc; " {}", key[0])?.as_str())?;
+        let number = u16::from_be_bytes(*key);
+        text.push_str(format!(in alloc; " {number}")?.as_str())?;
     }
     Ok(text)
+}
+
+/// How many rows each of these pulls joined, a blank before each.
+fn counts(alloc: Global, all: &[Pulled<[u8; 2]>]) -> Result<String, AllocError> {
+    let mut text = String::new(alloc);
+    for pulled in all {
+        let count = pulled.joined;
+        text.push_str(format!(in alloc; " {count}")?.as_str())?;
+    }
+    Ok(text)
+}
+
+/// Whether four pulls join as many rows as a text says.
+fn join_as_many(
+    alloc: Global,
+    a: &mut Numbers,
+    b: &mut Numbers,
+    wanted: &str,
+) -> Result<bool, AllocError> {
+    match turn(alloc, a, b, 4) {
+        Ok(all) => Ok(counts(alloc, &all)?.as_str() == wanted.trim_end()),
+        Err(_) => Err(AllocError),
+    }
+}
+
+/// Whether four pulls between sets of these keys go as the rest of a line says.
+fn go_as_said(alloc: Global, a_keys: &str, b_keys: &str, rest: &str) -> Result<bool, Fail> {
+    let (wanted, joined) = rest.split_once('|').ok_or("no join")?;
+    let mut a = numbers(alloc, a_keys)?;
+    let mut b = numbers(alloc, b_keys)?;
+    let are_counted = join_as_many(alloc, &mut a, &mut b, wanted)?;
+    Ok(are_counted && shown(alloc, &a)?.as_str() == joined && shown(alloc, &b)?.as_str() == joined)
 }
 
 #[test]
@@ -57,50 +91,51 @@ fn four_turns_join_both(rt: HostRuntime) -> Result<(), Fail> {
     for line in TURNS.lines() {
         let (a_keys, rest) = line.split_once('|').ok_or("no keys of b")?;
         let (b_keys, rest) = rest.split_once('|').ok_or("no counts")?;
-        let (counts, joined) = rest.split_once('|').ok_or("no join")?;
-        let mut a = numbers(rt.alloc(), a_keys)?;
-        let mut b = numbers(rt.alloc(), b_keys)?;
-        match turn(rt.alloc(), &mut a, &mut b, 4) {
-            Ok(all) => {
-                let mut found = String::new(rt.alloc());
-                for pulled in &all {
-                    found.push_str(format!(in rt.alloc(); " {}", pulled.joined)?.as_str())?;
-                }
-                assert_eq!(rt; found.as_str(), counts.trim_end(), "at {line}");
-            }
-            Err(_) => return Err(Fail::from("no memory")),
-        }
-        assert_eq!(rt; shown(rt.alloc(), &a)?.as_str(), joined, "a at {line}");
-        assert_eq!(rt; shown(rt.alloc(), &b)?.as_str(), joined, "b at {line}");
+        assert!(rt; go_as_said(rt.alloc(), a_keys, b_keys, rest)?, "at {line}");
     }
     Ok(())
 }
 
-/// The ranges of keys that four pulls ask for, where a holds 1, 4, 5 and b holds 3, 7.
-const RANGES: [&str; 4] = ["", " 1-3", " 1-7", " 1-7"];
+/// The ranges of keys that four pulls ask for, where a holds 1, 4, 5 and b holds 3, 7: a comma behind those of each.
+const RANGES: &str = ", 1-3, 1-7, 1-7,";
+
+/// The ranges that these pulls asked for.
+fn ranges(alloc: Global, all: &[Pulled<[u8; 2]>]) -> Result<String, AllocError> {
+    let mut text = String::new(alloc);
+    for pulled in all {
+        add_ranges(alloc, &mut text, &pulled.ranges)?;
+        text.push_str(",")?;
+    }
+    Ok(text)
+}
+
+/// Adds these ranges to a text, a blank before each.
+fn add_ranges(
+    alloc: Global,
+    text: &mut String,
+    ranges: &[([u8; 2], [u8; 2])],
+) -> Result<(), AllocError> {
+    for (first, last) in ranges {
+        let first = u16::from_be_bytes(*first);
+        let last = u16::from_be_bytes(*last);
+        text.push_str(format!(in alloc; " {first}-{last}")?.as_str())?;
+    }
+    Ok(())
+}
 
 #[test]
 fn turns_ask_for_growing_ranges(rt: HostRuntime) -> Result<(), Fail> {
     let mut a = numbers(rt.alloc(), "1 4 5")?;
     let mut b = numbers(rt.alloc(), "3 7")?;
     match turn(rt.alloc(), &mut a, &mut b, 4) {
-        Ok(all) => {
-            assert_eq!(rt; all.len(), 4);
-            for (pulled, wanted) in all.iter().zip(RANGES.iter()) {
-                let mut found = String::new(rt.alloc());
-                for (first, last) in &pulled.ranges {
-                    found.push_str(format!(in rt.alloc(); " {}-{}", first[0], last[0])?.as_str())?;
-                }
-                assert_eq!(rt; found.as_str(), *wanted);
-            }
-        }
+        Ok(all) => assert_eq!(rt; ranges(rt.alloc(), &all)?.as_str(), RANGES),
         Err(_) => return Err(Fail::from("no memory")),
     }
     Ok(())
 }
 
 /// Pulls from a peer.
-pub fn pull(a: &mut Numbers, b: &mut Numbers) -> Result<Pulled<[u8; 2]>, PullError<[u8; 2]>> {
+fn pull(a: &mut Numbers, b: &mut Numbers) -> Result<Pulled<[u8; 2]>, PullError<[u8; 2]>> {
     a.pull(b)
 }
 
