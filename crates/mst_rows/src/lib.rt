@@ -5,6 +5,8 @@
 mod build_orders;
 pub mod defined;
 #[cfg(test)]
+mod equal_pages;
+#[cfg(test)]
 mod lengths;
 #[cfg(test)]
 mod orders;
@@ -12,6 +14,8 @@ mod orders;
 mod page_ranges;
 #[cfg(test)]
 mod refusals;
+#[cfg(test)]
+mod root_pages;
 #[cfg(test)]
 mod rust_roots;
 #[cfg(test)]

@@ -1,6 +1,7 @@
 //! Refused memory. Under `rt try --test --fail-alloc N -- a_refused` the Nth request for memory of each of these tests is refused:
 //! then the answer is right, or it is want of memory with everything as before.
 
+use crate::root_pages::root_copy;
 use crate::trees::{Tree, copy, defined_root, hashed, nodes, put, tree, value_at};
 use merkle_diff::{PageRange, PageRangeSnapshot};
 use merkle_digest::RootHash;
@@ -169,6 +170,13 @@ fn copies_nodes(alloc: Global) -> Result<bool, AllocError> {
     Ok(is_right)
 }
 
+/// Whether a copy of the root page of the tree of the nine keys is equal to it, the pages below it and their digests included.
+fn copies_the_root_page(alloc: Global) -> Result<bool, AllocError> {
+    let tree = nine(alloc)?;
+    let copy = root_copy(alloc, &tree)?;
+    Ok(copy.is_equal && copy.page.hash().is_some())
+}
+
 /// Whether a copy of the tree of the nine keys has its pages and digests.
 fn copies_the_tree(alloc: Global) -> Result<bool, AllocError> {
     let tree = nine(alloc)?;
@@ -176,13 +184,27 @@ fn copies_the_tree(alloc: Global) -> Result<bool, AllocError> {
     is_as_before(alloc, &copy, &seen(alloc, &tree)?)
 }
 
+/// Whether each call gives what is right.
+fn answers(alloc: Global) -> [Result<bool, AllocError>; 5] {
+    [
+        lists_nodes(alloc),
+        lists_ranges(alloc),
+        copies_nodes(alloc),
+        copies_the_root_page(alloc),
+        copies_the_tree(alloc),
+    ]
+}
+
 #[test]
 fn a_refused_call_is_want_of_memory(rt: HostRuntime) {
-    let answers = [
-        lists_nodes(rt.alloc()),
-        lists_ranges(rt.alloc()),
-        copies_nodes(rt.alloc()),
-        copies_the_tree(rt.alloc()),
-    ];
-    assert!(rt; answers.iter().all(|answer| *answer != Ok(false)));
+    assert!(rt;
+        answers(rt.alloc())
+            .iter()
+            .all(|answer| *answer != Ok(false))
+    );
+}
+
+#[test]
+fn calls_succeed_where_memory_is_at_hand(rt: HostRuntime) {
+    assert!(rt; answers(rt.alloc()).iter().all(|answer| *answer == Ok(true)));
 }
