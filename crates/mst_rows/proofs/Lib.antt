@@ -1,2 +1,1 @@
-pub mod Clones
 pub mod Scan

@@ -1,4 +1,4 @@
-use Rattle.mst_rows.proofs.Clones.{tied_clones}
+use Rattle.mst_testing.proofs.Clones.{tied_clones}
 use Rattle.mst_rows.proofs.refusals.seen.Goals as goal
 
 pub from_ranges-requires : goal.from_ranges-requires

@@ -1,5 +1,5 @@
 use Rattle.std.specs.String.{string_bytes}
-use Rattle.mst_rows.proofs.Clones.{tied_bytes}
+use Rattle.mst_testing.proofs.Clones.{tied_bytes}
 use Rattle.mst_rows.proofs.snapshots.snapshot.Goals as goal
 
 pub from_ranges-requires : goal.from_ranges-requires

@@ -1,5 +1,5 @@
 use Rattle.std.proofs.Common.{arith}
-use Rattle.mst_rows.proofs.Clones.{tied_clones}
+use Rattle.mst_testing.proofs.Clones.{tied_clones}
 use Rattle.mst_rows.proofs.trees.copy.Goals as goal
 
 pub try_clone-requires : goal.try_clone-requires
