@@ -1,7 +1,7 @@
 //! The pages of default trees of equal maps.
 
 use crate::root_pages::root_copy;
-use merkle_digest::{SipHasher, ValueDigest};
+use merkle_digest::SipHasher;
 use merkle_search_tree::{MerkleSearchTree, Page};
 use mst_testing::number_key;
 use std::alloc::Global;
