@@ -1,5 +1,5 @@
 -- The lines of what is shown.
-use Rattle.std.proofs.Common.{◌≡◌, ℕ, List, [], ◌∷◌, ◌++◌, map, ap, ◌∙◌, refl}
+use Rattle.std.proofs.Common.{◌≡◌, List, [], ◌∷◌, ◌++◌, map, ap, ◌∙◌, refl}
 use Rattle.std.specs.List.{flat_map}
 use Rattle.mst_pair.specs.Answers.{spans_of, answer_of}
 use Rattle.mst_pair.specs.Pulls.{Answer}

@@ -1,5 +1,4 @@
 -- The lines of the items, then the last line.
-use Rattle.std.proofs.Common.{◌++◌}
 use Rattle.std.specs.List.{flat_map}
 use Rattle.mst_pair.specs.Replies.{end_line}
 use Rattle.mst_pair.proofs.Devices.{passes_err, part_less, passes_after}

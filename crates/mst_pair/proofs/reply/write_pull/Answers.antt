@@ -1,5 +1,5 @@
 -- The ranges and the last line, and then how many rows were joined.
-use Rattle.std.proofs.Common.{◌≡◌, ℕ, List, [], ◌∷◌, ◌++◌, map, ap, ◌∙◌, subst}
+use Rattle.std.proofs.Common.{◌≡◌, ℕ, List, [], ◌++◌, ap, ◌∙◌, subst}
 use Rattle.std.specs.List.{flat_map}
 use Rattle.mst_pair.specs.Answers.{spans_of}
 use Rattle.mst_pair.specs.Devices.{Writes, WritesPart}

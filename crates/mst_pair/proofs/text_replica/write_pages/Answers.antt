@@ -1,7 +1,7 @@
 use Rattle.std.proofs.Common.{◌∙◌, ◌++◌, map, ap, inl, refl, subst}
 use Rattle.std.specs.List.{flat_map}
 use Rattle.merkle_diff.specs.Entry.{span_of}
-use Rattle.merkle_diff.specs.PageRange.{entry, entries}
+use Rattle.merkle_diff.specs.PageRange.{entry}
 use Rattle.mst_pair.specs.Devices.{Writes}
 use Rattle.mst_pair.specs.Pages.{page_ranges}
 use Rattle.mst_pair.specs.Replies.{range_text, ranges_text, end_line}
