@@ -68,7 +68,7 @@ fn set(alloc: Global, tree: &mut Caseless, text: &str, value: u64) -> Result<(),
 fn texts(alloc: Global, tree: &Caseless) -> Result<String, Fail> {
     let mut texts = String::new(alloc);
     for node in tree.node_iter()? {
-        texts.push_str(format!(in alloc; " {}", node.key().shown())?.as_str())?;
+        texts.push_str(format!(in alloc; " {}", node.key().shown.as_str())?.as_str())?;
     }
     Ok(texts)
 }

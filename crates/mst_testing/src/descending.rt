@@ -1,6 +1,7 @@
 //! Numbers as keys in the reversed order.
 
 ghost use Rattle.std.specs.Prelude.{◌≡◌, true};
+ghost use Rattle.std.specs.Int.{w16, to_be_bytes, from_be_bytes};
 ghost use Rattle.std.specs.Cmp.Lexicographic.{same_text};
 ghost use Rattle.std.proofs.Common.{sym};
 
@@ -15,14 +16,18 @@ pub struct DescendingNumber {
 
 impl DescendingNumber {
     /// The key of this number.
-    pub fn new(number: u16) -> Self {
+    pub fn new(number: u16) -> Self
+        ensures { ⟦<DescendingNumber as KeyBytes>⟧.bytes_of result ≡ to_be_bytes w16 number }
+    {
         DescendingNumber {
             bytes: Reverse(number.to_be_bytes()),
         }
     }
 
     /// The number.
-    pub fn number(&self) -> u16 {
+    pub fn number(&self) -> u16
+        ensures { result ≡ from_be_bytes w16 (⟦<DescendingNumber as KeyBytes>⟧.bytes_of self.now) }
+    {
         u16::from_be_bytes(self.bytes.0)
     }
 }

@@ -1,6 +1,9 @@
 //! Kinds of keys.
 
-ghost use Rattle.std.specs.Prelude.{◌≡◌, List, ◌++◌, true, nat_eq};
+ghost use Rattle.std.specs.Prelude.{◌≡◌, List, ◌++◌, true, nat_eq, IfOk};
+ghost use Rattle.std.specs.Int.{w16, to_be_bytes};
+ghost use Rattle.std.specs.String.{string_bytes};
+ghost use Rattle.std.specs.Str.{str_to_ascii_lowercase};
 ghost use Rattle.std.specs.Ordering.{nat_cmp, as_partial_cmp, on};
 ghost use Rattle.std.specs.Cmp.Lexicographic.{pointwise, slice_cmp, same_text};
 ghost use Rattle.std.specs.Cmp.Rules.{comparing};
@@ -12,7 +15,9 @@ use std::alloc::{AllocError, Global};
 use std::cmp::Ordering;
 
 /// The number as a key of two bytes, the highest first, so that keys are in the order of the numbers.
-pub fn number_key(number: u16) -> [u8; 2] {
+pub fn number_key(number: u16) -> [u8; 2]
+    ensures { result ≡ to_be_bytes w16 number }
+{
     number.to_be_bytes()
 }
 
@@ -21,24 +26,24 @@ pub fn number_key(number: u16) -> [u8; 2] {
 #[derive(Drop)]
 pub struct CaselessText {
     lower: Vec<u8>,
-    shown: String,
+    /// The text as it was given.
+    pub shown: String,
 }
 
 impl CaselessText {
     /// The key with this text.
-    pub fn new(alloc: Global, text: &str) -> Result<Self, AllocError> {
-        let mut lower = Vec::new(alloc);
-        for byte in text.as_bytes() {
-            lower.push(byte.to_ascii_lowercase())?;
-        }
+    pub fn new(alloc: Global, text: &str) -> Result<Self, AllocError>
+        ensures bytes { IfOk result (λ key. ⟦<CaselessText as KeyBytes>⟧.bytes_of key ≡ str_to_ascii_lowercase text.now) }
+        ensures shown { IfOk result (λ key. string_bytes key.shown ≡ text.now) }
+    {
+        let lower: Vec<u8> = text
+            .as_bytes()
+            .iter()
+            .map(|byte| byte.to_ascii_lowercase())
+            .collect(alloc)?;
         let mut shown = String::new(alloc);
         shown.push_str(text)?;
         Ok(CaselessText { lower, shown })
-    }
-
-    /// The text as it was given.
-    pub fn shown(&self) -> &str {
-        self.shown.as_str()
     }
 }
 
