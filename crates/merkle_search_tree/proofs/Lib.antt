@@ -1,9 +1,11 @@
 pub mod Rows
 pub mod Parts
+pub mod Chain
 pub mod Gaps
 pub mod Unique
 pub mod TreeOf
 pub mod Sides
+pub mod Search
 pub mod Set
 pub mod Keeps
 pub mod Drops

@@ -17,7 +17,8 @@ pub mod CachedRanges
 pub mod Settings
 pub mod State
 pub mod Sound
+pub mod Search
 pub mod Upsert
-pub mod Parted
+pub mod Chain
 pub mod Updates
 pub mod Listing

@@ -1,6 +1,6 @@
 //! The tree.
 
-ghost use Rattle.std.specs.Prelude.{◌≡◌, ◌≢◌, ◌+◌, ◌≤◌, None, OnOk, OnErr, IfOk, IfErr, IsOk, true, map};
+ghost use Rattle.std.specs.Prelude.{◌≡◌, ◌≢◌, ℕ, ◌+◌, ◌^◌, ◌<◌, ◌≤◌, length, None, OnOk, OnErr, IfOk, IfErr, IsOk, true, map};
 ghost use Rattle.std.specs.Option.{option_map};
 ghost use Rattle.std.specs.Int.NonZero.{non_zero_u8_get};
 ghost use Rattle.key_order.specs.Order.{Same};
@@ -8,7 +8,8 @@ ghost use Rattle.key_order.specs.Map.{set, has_key};
 ghost use Rattle.merkle_digest.specs.Level.{level_of};
 ghost use Rattle.merkle_digest.specs.SipHash.{zero_key};
 ghost use Rattle.merkle_search_tree.specs.Tree.{page, high, nothing};
-ghost use Rattle.merkle_search_tree.specs.Page.{level, pair_of, nodes_in_order};
+ghost use Rattle.merkle_search_tree.specs.Page.{level, pair_of, nodes_of, nodes_in_order};
+ghost use Rattle.merkle_search_tree.specs.Upsert.{place};
 ghost use Rattle.merkle_search_tree.specs.Cache.{missing, KeyUncached};
 ghost use Rattle.merkle_search_tree.specs.Copy.{IsCopy};
 ghost use Rattle.merkle_search_tree.specs.State.{map_of, IsNew};
@@ -16,6 +17,7 @@ ghost use Rattle.merkle_search_tree.specs.State.{map_of, IsNew};
 use crate::builder::Builder;
 use crate::node_iter::NodeIter;
 use crate::page::Page;
+use crate::split::search;
 use crate::upsert::UpsertRefused;
 use crate::visitor::{Visitor, traverse_page};
 use merkle_diff::PageRange;
@@ -100,6 +102,16 @@ impl<K: Ord + KeyBytes, V, H: Hasher<N, K>, const N: usize> MerkleSearchTree<K, 
         ensures { option_map (λ digest. digest.now) result ≡ self.now.root_hash }
     {
         self.root_hash.as_ref()
+    }
+
+    /// For the root page, the place of the first node whose key is at least `key`, or the number of nodes; and how many nodes' keys
+    /// were compared, at most the number of binary digits of the number of nodes. It takes no memory.
+    pub fn find_counted(&self, key: &K) -> (usize, usize)
+        ensures place { result.0 ≡ place K.cmp key.now (nodes_of self.now.root) }
+        ensures few { (digits : ℕ) → length (nodes_of self.now.root) < 2 ^ digits → result.1 ≤ digits }
+    {
+        let spot = search(self.root.nodes(), key);
+        (spot.at, spot.compared)
     }
 
     /// The nodes of all pages, in ascending key order: as many items as the tree has keys. The memory that the iteration takes,

@@ -1,12 +1,14 @@
 //! Setting a key in a subtree.
 
 ghost use Rattle.std.specs.Prelude.{◌≡◌, ℕ, false, OnOk, OnErr, IfErr};
+ghost use Rattle.key_order.specs.Map.{IsMap};
+ghost use Rattle.merkle_search_tree.specs.Page.{pairs, row_pairs, held_pairs};
 ghost use Rattle.merkle_search_tree.specs.Tree.{row, held_of};
 ghost use Rattle.merkle_search_tree.specs.Upsert.{lifted, row_put, row_finds, tree_set, tree_finds, held_set, held_finds};
 
 use crate::page::{NodeOf, PageOf};
 use crate::spare::Spare;
-use crate::split::{Part, find_idx, split_off_lt};
+use crate::split::{search, split_off_lt};
 use std::alloc::Global;
 use std::cmp::Ordering;
 use std::marker::Model;
@@ -36,6 +38,7 @@ impl<K> UpsertRefused<K> {
 impl<K: Ord + Drop, D: Drop> PageOf<K, D> {
     /// Puts a page with the key over this one, which is parted at the key.
     fn lift(&mut self, alloc: Global, key: K, level: u8, digest: D) -> Result<(), UpsertRefused<K>>
+        requires ascending { IsMap K.cmp (pairs self.old) }
         ensures done { OnOk result (self.new ≡ lifted K.cmp level key digest self.old) }
         ensures unchanged { OnErr result (self.new ≡ self.old) }
         ensures returned { IfErr result (λ refused. refused ≡ key) }
@@ -44,18 +47,21 @@ impl<K: Ord + Drop, D: Drop> PageOf<K, D> {
             Ok(spare) => spare,
             Err(_) => return Err(UpsertRefused { key }),
         };
-        let parted = match self.split(alloc, &key) {
-            Ok(parted) => parted,
-            Err(_) => return Err(UpsertRefused { key }),
-        };
         let Spare {
             page: mut home,
             nodes: mut nodes,
         } = spare;
         *home = mem::replace(self, PageOf::empty(alloc));
-        let (below, above) = match parted {
-            Part::Below(above) => (Some(home), above),
-            Part::Rest(low) => (low, Some(home)),
+        let mut above = Some(home);
+        let below = match split_off_lt(alloc, &mut above, &key) {
+            Ok(below) => below,
+            Err(_) => {
+                match above {
+                    Some(home) => *self = Box::into_inner(home),
+                    None => unreachable!(),
+                }
+                return Err(UpsertRefused { key });
+            }
         };
         let node = NodeOf {
             key,
@@ -84,12 +90,14 @@ fn put<K: Ord + Drop, D: Drop>(
     key: K,
     digest: D,
 ) -> Result<(), UpsertRefused<K>>
+    requires ascending { IsMap K.cmp (row_pairs (row nodes.old.items (held_of high_page.old))) }
     ensures done { OnOk result (row nodes.new.items (held_of high_page.new) ≡ row_put K.cmp key digest (row nodes.old.items (held_of high_page.old))) }
     ensures unchanged { OnErr result (row nodes.new.items (held_of high_page.new) ≡ row nodes.old.items (held_of high_page.old)) }
     ensures returned { IfErr result (λ refused. refused ≡ key) }
     ensures absent { (level : ℕ) → OnErr result (row_finds K.cmp level key digest false (row nodes.old.items (held_of high_page.old)) ≡ false) }
 {
-    let at = find_idx(nodes, &key);
+    let spot = search(nodes, &key);
+    let at = spot.at;
     if at == nodes.len() {
         if nodes.reserve(1).is_err() {
             return Err(UpsertRefused { key });
@@ -108,8 +116,8 @@ fn put<K: Ord + Drop, D: Drop>(
             Err(_) => unreachable!(),
         };
     }
-    let found = &mut nodes[at];
-    if let Ordering::Equal = key.cmp(&found.key) {
+    if spot.is_there {
+        let found = &mut nodes[at];
         found.value_hash = digest;
         return Ok(());
     }
@@ -141,6 +149,7 @@ impl<K: Ord + Drop, D: Drop> PageOf<K, D> {
         level: u8,
         digest: D,
     ) -> Result<(), UpsertRefused<K>>
+        requires ascending { IsMap K.cmp (pairs self.old) }
         ensures done { OnOk result (self.new ≡ tree_set K.cmp level key digest self.old) }
         ensures unchanged { OnErr result (self.new ≡ self.old) }
         ensures returned { IfErr result (λ refused. refused ≡ key) }
@@ -160,14 +169,15 @@ impl<K: Ord + Drop, D: Drop> PageOf<K, D> {
             }
             Ordering::Greater => self.lift(alloc, key, level, digest),
             Ordering::Less => {
-                let at = find_idx(&self.nodes, &key);
+                let spot = search(&self.nodes, &key);
+                let at = spot.at;
                 if at == self.nodes.len() {
                     set_below(alloc, &mut self.high_page, key, level, digest)?;
                     self.tree_hash = None;
                     return Ok(());
                 }
-                let found = &mut self.nodes[at];
-                if let Ordering::Equal = key.cmp(&found.key) {
+                if spot.is_there {
+                    let found = &mut self.nodes[at];
                     found.value_hash = digest;
                     self.tree_hash = None;
                     return Ok(());
@@ -189,6 +199,7 @@ fn set_below<K: Ord + Drop, D: Drop>(
     level: u8,
     digest: D,
 ) -> Result<(), UpsertRefused<K>>
+    requires ascending { IsMap K.cmp (held_pairs (held_of held.old)) }
     ensures done { OnOk result (held_of held.new ≡ held_set K.cmp level key digest (held_of held.old)) }
     ensures unchanged { OnErr result (held_of held.new ≡ held_of held.old) }
     ensures returned { IfErr result (λ refused. refused ≡ key) }

@@ -13,6 +13,8 @@ mod orders;
 #[cfg(test)]
 mod page_ranges;
 #[cfg(test)]
+mod places;
+#[cfg(test)]
 mod refusals;
 #[cfg(test)]
 mod root_pages;
