@@ -1,8 +1,8 @@
 //! Setting a key in a subtree.
 
-ghost use Rattle.std.specs.Prelude.{◌≡◌, ℕ, false, OnOk, OnErr, IfErr};
+ghost use Rattle.std.specs.Prelude.{◌≡◌, ℕ, [], false, OnOk, OnErr, IfErr};
 ghost use Rattle.key_order.specs.Map.{IsMap};
-ghost use Rattle.merkle_search_tree.specs.Page.{pairs, row_pairs, held_pairs};
+ghost use Rattle.merkle_search_tree.specs.Page.{pairs, row_pairs, held_pairs, nodes_of};
 ghost use Rattle.merkle_search_tree.specs.Tree.{row, held_of};
 ghost use Rattle.merkle_search_tree.specs.Upsert.{lifted, row_put, row_finds, tree_set, tree_finds, held_set, held_finds};
 
@@ -37,6 +37,7 @@ impl<K> UpsertRefused<K> {
 
 impl<K: Ord + Drop, D: Drop> PageOf<K, D> {
     /// Puts a page with the key over this one, which is parted at the key.
+    #[inline(never)]
     fn lift(&mut self, alloc: Global, key: K, level: u8, digest: D) -> Result<(), UpsertRefused<K>>
         requires ascending { IsMap K.cmp (pairs self.old) }
         ensures done { OnOk result (self.new ≡ lifted K.cmp level key digest self.old) }
@@ -140,6 +141,30 @@ fn put<K: Ord + Drop, D: Drop>(
 }
 
 impl<K: Ord + Drop, D: Drop> PageOf<K, D> {
+    /// Puts a key of the level into a page without nodes, as [`set`](Self::set) does.
+    #[inline(never)]
+    fn set_first(
+        &mut self,
+        alloc: Global,
+        key: K,
+        level: u8,
+        digest: D,
+    ) -> Result<(), UpsertRefused<K>>
+        requires ascending { IsMap K.cmp (pairs self.old) }
+        requires empty { nodes_of self.old ≡ [] }
+        ensures done { OnOk result (self.new ≡ tree_set K.cmp level key digest self.old) }
+        ensures unchanged { OnErr result (self.new ≡ self.old) }
+        ensures returned { IfErr result (λ refused. refused ≡ key) }
+        ensures absent { OnErr result (tree_finds K.cmp level key digest self.old ≡ false) }
+    {
+        put(alloc, &mut self.nodes, &mut self.high_page, key, digest)?;
+        self.level = level;
+        self.tree_hash = None;
+        Ok(())
+    }
+}
+
+impl<K: Ord + Drop, D: Drop> PageOf<K, D> {
     /// Puts a key of the level into the subtree.
     #[cycle(set)]
     pub(crate) fn set(
@@ -156,10 +181,7 @@ impl<K: Ord + Drop, D: Drop> PageOf<K, D> {
         ensures absent { OnErr result (tree_finds K.cmp level key digest self.old ≡ false) }
     {
         if self.nodes.is_empty() {
-            put(alloc, &mut self.nodes, &mut self.high_page, key, digest)?;
-            self.level = level;
-            self.tree_hash = None;
-            return Ok(());
+            return self.set_first(alloc, key, level, digest);
         }
         match level.cmp(&self.level) {
             Ordering::Equal => {
@@ -192,6 +214,7 @@ impl<K: Ord + Drop, D: Drop> PageOf<K, D> {
 
 /// Puts a key of the level into what stands in a gap.
 #[cycle(set)]
+#[inline(always)]
 fn set_below<K: Ord + Drop, D: Drop>(
     alloc: Global,
     held: &mut Option<Box<PageOf<K, D>>>,

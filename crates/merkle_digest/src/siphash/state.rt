@@ -68,6 +68,7 @@ impl State {
     }
 
     /// The output, once the last word is taken in.
+    #[inline(always)]
     pub fn output(mut self) -> [u8; 16]
         ensures { result ≡ output self }
     {

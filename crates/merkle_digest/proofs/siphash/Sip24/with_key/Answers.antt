@@ -1,8 +1,6 @@
-use Rattle.std.proofs.Common.{rules}
-use Rattle.merkle_digest.specs.SipHash.{first_words}
-use Rattle.merkle_digest.specs.Sip24.{Holds}
+use Rattle.std.proofs.Common.{refl}
+use Rattle.merkle_digest.proofs.Absorbing.{Holds_none}
 use Rattle.merkle_digest.proofs.siphash.Sip24.with_key.Goals as goal
 
 pub returns : goal.returns
-unfolding Holds first_words
-returns c = search rules
+returns c = Holds_none _ c.args.key.now c.start.ensures refl refl
