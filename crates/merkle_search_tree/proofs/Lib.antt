@@ -12,6 +12,10 @@ pub mod Drops
 pub mod Same
 pub mod Sound
 pub mod Upserts
+pub mod Joins
+pub mod Seams
+pub mod Removes
+pub mod Removals
 pub mod Replays
 pub mod Equals
 pub mod Copies

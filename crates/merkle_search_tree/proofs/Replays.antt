@@ -1,7 +1,14 @@
 -- One update more at the end of a list of updates.
-use Rattle.std.proofs.Common.{◌≡◌, ℕ, List, [], ◌∷◌, ◌++◌, length, Bool, refl, arith, ap, subst, Option, Some, None, is_some, if◌then◌else◌, MatchOption, ◌∙◌}
+use Rattle.std.proofs.Common.{◌≡◌, ℕ, List, [], ◌∷◌, ◌++◌, length, Bool, true, false, ◌||◌, cond, ◌≢◌, refl, arith, ap, sym, subst, Option, Some, None, is_some, if◌then◌else◌, MatchOption, ◌∙◌}
 use Rattle.std.specs.Bool.{⊤}
 use Rattle.std.specs.declared.cmp.Ordering.{Ordering}
+use Rattle.std.specs.Prelude.{Result, Ok, Err, IfOk, OnErr, is_ok}
+use Rattle.std.specs.Ordering.{is_eq}
+use Rattle.merkle_search_tree.specs.State.{State}
+use Rattle.merkle_search_tree.specs.declared.updates.Update.TheVariants.{Remove}
+use Rattle.key_order.specs.Map.{has_key}
+use Rattle.merkle_search_tree.specs.Del.{entry}
+use Rattle.merkle_search_tree.proofs.Removes.{entry-absent}
 use Rattle.merkle_search_tree.specs.declared.updates.Update.{Update}
 use Rattle.merkle_search_tree.specs.Updates.{map_after, map_after_one, hashed_after, hashed_after_one}
 
@@ -13,12 +20,39 @@ module _ {K V : Type 0} where
   map_after-more cmp digest_of m (v ∷ us) u [] a e = absurd (omega (arith, e))
   map_after-more cmp digest_of m (v ∷ us) u (b ∷ bs) a e = map_after-more cmp digest_of (map_after_one cmp digest_of m v b) us u bs a (omega (arith, e))
 
-  pub hashed_after-more : (hashed : Bool) (us : List (Update K V)) (u : Update K V) (bs : List Bool) (a : Bool)
-      → length bs ≡ length us → hashed_after hashed (us ++ u ∷ []) (bs ++ a ∷ []) ≡ hashed_after_one (hashed_after hashed us bs) u a
-  hashed_after-more hashed [] u [] a e = refl
-  hashed_after-more hashed [] u (b ∷ bs) a e = absurd (omega (arith, e))
-  hashed_after-more hashed (v ∷ us) u [] a e = absurd (omega (arith, e))
-  hashed_after-more hashed (v ∷ us) u (b ∷ bs) a e = hashed_after-more (hashed_after_one hashed v b) us u bs a (omega (arith, e))
+  pub hashed_after-more : (cmp : K → K → Ordering) (digest_of : V → List ℕ) (m : List (K × List ℕ)) (hashed : Bool) (us : List (Update K V)) (u : Update K V) (bs : List Bool) (a : Bool)
+      → length bs ≡ length us → hashed_after cmp digest_of m hashed (us ++ u ∷ []) (bs ++ a ∷ []) ≡ hashed_after_one cmp digest_of (map_after cmp digest_of m us bs) (hashed_after cmp digest_of m hashed us bs) u a
+  hashed_after-more cmp digest_of m hashed [] u [] a e = refl
+  hashed_after-more cmp digest_of m hashed [] u (b ∷ bs) a e = absurd (omega (arith, e))
+  hashed_after-more cmp digest_of m hashed (v ∷ us) u [] a e = absurd (omega (arith, e))
+  hashed_after-more cmp digest_of m hashed (v ∷ us) u (b ∷ bs) a e =
+      hashed_after-more cmp digest_of (map_after_one cmp digest_of m v b) (hashed_after_one cmp digest_of m hashed v b) us u bs a (omega (arith, e))
+
+-- a removal forgets the root hash exactly where its key is there
+module _ {K D : Type 0} (cmp : K → K → Ordering) (k : K) where
+  entry-there : (m : List (K × D)) → has_key cmp m k ≡ true → entry cmp m k ≡ None → ⊥
+  entry-there [] e f = absurd (cc)
+  entry-there (p ∷ ps) e f = by (is_eq (cmp k p.0)) e f (entry-there ps)
+    where
+      by : (b : Bool) → b || has_key cmp ps k ≡ true → cond b (Some p) (entry cmp ps k) ≡ None → (has_key cmp ps k ≡ true → entry cmp ps k ≡ None → ⊥) → ⊥
+      by true e f h = absurd (cc)
+      by false e f h = h e f
+
+  pub removal_hashed : (m : List (K × D)) (found : Option (K × D)) (old new : Option (List ℕ)) → found ≡ entry cmp m k → (found ≡ None → new ≡ old) → (found ≢ None → new ≡ None)
+      → is_some new ≡ (if (has_key cmp m k) then false else (is_some old))
+  removal_hashed m found old new e f h = by (has_key cmp m k) refl
+    where
+      by : (b : Bool) → has_key cmp m k ≡ b → is_some new ≡ (if b then false else (is_some old))
+      by true q = ap is_some (h (λ z. entry-there m q (sym e ∙ z)))
+      by false q = ap is_some (f (e ∙ entry-absent cmp k m q))
+
+-- the same of a removal that may be refused
+module _ {K V H E : Type 0} (cmp : K → K → Ordering) (digest_of : V → List ℕ) (k : K) where
+  pub removal_result : (r : Result (Option (K × List ℕ)) E) (m : List (K × List ℕ)) (old new : State K H) → IfOk r (λ found. found ≡ entry cmp m k) → IfOk r (λ found. found ≡ None → new ≡ old)
+      → IfOk r (λ found. found ≢ None → new.root_hash ≡ None) → OnErr r (new ≡ old)
+      → is_some new.root_hash ≡ hashed_after_one cmp digest_of m (is_some old.root_hash) (Remove k) (is_ok r)
+  removal_result (Ok found) m old new e f h u = removal_hashed cmp k m found old.root_hash new.root_hash e (λ z. ap (λ (s : State K H). s.root_hash) (f z)) h
+  removal_result (Err x) m old new e f h u = ap (λ (s : State K H). is_some s.root_hash) u
 
 -- a root hash, where there is one, is the digest
 pub hashed_is : (X : Type 0) (o : Option (List ℕ)) (hashed : Bool) (c d : List ℕ) → is_some o ≡ hashed → MatchOption o ⊤ (λ e. (e ≡ c) × X) → c ≡ d

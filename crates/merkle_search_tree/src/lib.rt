@@ -14,6 +14,7 @@ pub mod laws;
 mod node_iter;
 mod page;
 mod page_ranges;
+mod remove;
 mod spare;
 mod split;
 #[cfg(test)]

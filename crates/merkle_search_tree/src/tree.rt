@@ -286,6 +286,45 @@ impl<
     }
 }
 
+impl<K: Ord + KeyBytes + Drop, V, H: Hasher<N, K>, const N: usize> MerkleSearchTree<K, V, H, N> {
+    ghost use Rattle.std.specs.Prelude.{false};
+    ghost use Rattle.merkle_search_tree.specs.Del.{del, entry};
+    ghost use Rattle.merkle_search_tree.specs.Remove.{HasFreeGap};
+
+    /// Takes `key` out, and hands out the stored key and its value digest; where no equal key is there, it answers `Ok(None)` and
+    /// changes nothing.
+    ///
+    /// What stood on both sides of the key is joined, so that the pages are again the tree of the map. It drops the cached root hash,
+    /// and no digests but those of the pages above the key and along the joint. It is refused only for want of memory: the pages, all
+    /// cached digests and the cached root hash are as before. No memory is taken where no equal key is there, or where the gap before
+    /// it or the gap after it is empty.
+    pub fn remove(&mut self, key: &K) -> Result<Option<(K, ValueDigest<N>)>, AllocError>
+        // The map no longer has the key, and what it had there is handed out.
+        ensures map { OnOk result (map_of self.new ≡ del K.cmp (map_of self.old) key.now) }
+        ensures found { IfOk result (λ found. found ≡ entry K.cmp (map_of self.old) key.now) }
+
+        // Nothing changes where it had no such key; else the root hash is forgotten, and of a hashed tree few digests are dropped.
+        ensures absent { IfOk result (λ found. found ≡ None → self.new ≡ self.old) }
+        ensures forgotten { IfOk result (λ found. found ≢ None → self.new.root_hash ≡ None) }
+        ensures few { OnOk result (self.old.root_hash ≢ None → missing self.new.root ≤ level self.old.root + 1) }
+
+        ensures hasher { self.new.hasher ≡ self.old.hasher }
+        ensures base { self.new.base ≡ self.old.base }
+
+        // Refused, it leaves the tree.
+        ensures unchanged { OnErr result (self.new ≡ self.old) }
+        ensures succeeds { HasFreeGap K.cmp key.now self.old.root → IsOk result }
+        ensures succeeds_absent { has_key K.cmp (map_of self.old) key.now ≡ false → IsOk result }
+    {
+        let entry = match self.root.remove_from_root(self.alloc, key)? {
+            None => return Ok(None),
+            Some(entry) => entry,
+        };
+        self.root_hash = None;
+        Ok(Some(entry))
+    }
+}
+
 /// A copy of a cached root hash, where there is one. It never fails.
 fn copy_root_hash(digest: &Option<RootHash>) -> Result<Option<RootHash>, AllocError>
     ensures { IfOk result (λ copy. copy ≡ digest.now) }

@@ -21,6 +21,8 @@ use std::alloc::{AllocError, Global};
 pub enum Update<K, V> {
     /// Sets the key to the digest of the value.
     Upsert(K, V),
+    /// Takes the key out.
+    Remove(K),
     /// Fills in the digests that pages lack.
     RootHash,
 }
@@ -35,12 +37,13 @@ where
     V: Eq + Drop,
     H: Hasher<N, K> + Hasher<N, V>,
     ensures map { map_of tree.new ≡ map_after_one K.cmp (⟦<H as Hasher<N, V>>⟧.digest_of tree.old.hasher) (map_of tree.old) update result }
-    ensures hashed { is_some tree.new.root_hash ≡ hashed_after_one (is_some tree.old.root_hash) update result }
+    ensures hashed { is_some tree.new.root_hash ≡ hashed_after_one K.cmp (⟦<H as Hasher<N, V>>⟧.digest_of tree.old.hasher) (map_of tree.old) (is_some tree.old.root_hash) update result }
     ensures hasher { tree.new.hasher ≡ tree.old.hasher }
     ensures base { tree.new.base ≡ tree.old.base }
 {
     match update {
         Update::Upsert(key, value) => tree.upsert(key, &value).is_ok(),
+        Update::Remove(key) => tree.remove(&key).is_ok(),
         Update::RootHash => {
             let _ = tree.root_hash_counted();
             true
@@ -49,11 +52,11 @@ where
 }
 
 /// The tree that the updates lead to, in order, from the empty tree of the builder on, and for each update whether it was accepted.
-/// An upsert is refused only for want of memory; its key and value are given up then, and it changes nothing. Where the
+/// An upsert or a removal is refused only for want of memory; its key and value are given up then, and it changes nothing. Where the
 /// room for the answers is refused, no update is carried out.
 ///
-/// Whatever the updates, the pages of the tree are the one tree of the map of the accepted upserts, apart from cached digests. So are its
-/// page ranges; and where no accepted upsert comes after the last `RootHash`, the tree is hashed, and its root hash is the digest of
+/// Whatever the updates, the pages of the tree are the one tree of the map of the accepted updates, apart from cached digests. So are its
+/// page ranges; and where no accepted upsert, and no removal of a key that was there, comes after the last `RootHash`, the tree is hashed, and its root hash is the digest of
 /// that one tree.
 pub fn replay<K, V, H, const N: usize>(
     alloc: Global,
@@ -70,7 +73,7 @@ where
         (map_after K.cmp (⟦<H as Hasher<N, V>>⟧.digest_of builder.hasher) [] updates.items r.1.items))) }
     ensures ranges { IfOk result (λ r. SameEntries K.cmp (ranges_of K.bytes_of r.0.root) (ranges_of K.bytes_of (tree_of (λ k. level_of (⟦<H as Hasher<N, K>>⟧.digest_of builder.hasher k) builder.base)
         (map_after K.cmp (⟦<H as Hasher<N, V>>⟧.digest_of builder.hasher) [] updates.items r.1.items)))) }
-    ensures root_hash { IfOk result (λ r. r.0.root_hash ≡ (if hashed_after false updates.items r.1.items
+    ensures root_hash { IfOk result (λ r. r.0.root_hash ≡ (if hashed_after K.cmp (⟦<H as Hasher<N, V>>⟧.digest_of builder.hasher) [] false updates.items r.1.items
         then Some (page_digest K.bytes_of (tree_of (λ k. level_of (⟦<H as Hasher<N, K>>⟧.digest_of builder.hasher k) builder.base)
         (map_after K.cmp (⟦<H as Hasher<N, V>>⟧.digest_of builder.hasher) [] updates.items r.1.items))) else None)) }
     ensures hasher { IfOk result (λ r. r.0.hasher ≡ builder.hasher) }

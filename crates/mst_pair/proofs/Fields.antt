@@ -1,9 +1,9 @@
 -- Fields with a space between them.
-use Rattle.std.proofs.Common.{◌≡◌, ◌≢◌, ℕ, ◌<◌, List, [], ◌∷◌, ◌++◌, length, refl, sym, ap, ◌∙◌, false, nat_eq, arith, codes, Option, None, Some, IfNone, MatchOption}
+use Rattle.std.proofs.Common.{◌≡◌, ◌≢◌, ℕ, ◌<◌, List, [], ◌∷◌, ◌++◌, length, get_or, refl, sym, ap, subst, ◌∙◌, false, nat_eq, arith, codes, Option, None, Some, IfNone, MatchOption}
 use Rattle.std.proofs.lemmas.List.Folds.{list_any_none}
 use Rattle.std.proofs.lemmas.List.Elements.{All-weaker}
 use Rattle.std.proofs.lemmas.Bool.Decides.{nat_tests}
-use Rattle.mst_pair.specs.Requests.{Request, put, keys, root, pages, diff, pull, same, turns, IsSpelled, IsBad, space, fields, IsKey, IsKeyByte, IsNumber, name_text}
+use Rattle.mst_pair.specs.Requests.{Request, put, del, keys, root, pages, diff, pull, same, turns, IsSpelled, IsBad, space, fields, IsKey, IsKeyByte, IsNumber, name_text}
 use Rattle.mst_pair.specs.Parsing.{HasNoSpace, IsRowText, IsSpelledBy}
 use Rattle.mst_pair.specs.declared.pair.ReplicaName.{ReplicaName}
 use Rattle.mst_pair.specs.declared.pair.ReplicaName.TheVariants.{A, B}
@@ -49,6 +49,7 @@ by_fields first rest word arguments line w f e g = first_unique word first argum
 -- what spells a request at the first space of a line
 pub spelled_by : (q : Request) (word arguments line : List ℕ) → HasNoSpace word → line ≡ word ++ space ∷ arguments → IsSpelled q line → IsSpelledBy q word arguments
 spelled_by (put name key n) word arguments line w e (digits, k, number, g) = let at = by_fields (codes "put") _ word arguments line w refl e g in (at.0, (digits, k, number, at.1))
+spelled_by (del name key) word arguments line w e (k, g) = let at = by_fields (codes "del") _ word arguments line w refl e g in (at.0, (k, at.1))
 spelled_by (keys name) word arguments line w e g = by_fields (codes "keys") _ word arguments line w refl e g
 spelled_by (root name) word arguments line w e g = by_fields (codes "root") _ word arguments line w refl e g
 spelled_by (pages name) word arguments line w e g = by_fields (codes "pages") _ word arguments line w refl e g
@@ -65,6 +66,7 @@ bad_command Found (Some c) word arguments line w e found = tt
 -- the arguments of `put` are a name and a row
 only_put : (arguments : List ℕ) → ((name : ReplicaName) (key : List ℕ) (n : ℕ) (digits : List ℕ) → IsKey key → IsNumber digits n → arguments ≡ fields (name_text name ∷ key ∷ digits ∷ []) → ⊥) → (q : Request) → IsSpelledBy q (codes "put") arguments → ⊥
 only_put arguments refuted (put name key n) (w, (digits, k, number, a)) = refuted name key n digits k number a
+only_put arguments refuted (del name key) (w, (k, a)) = absurd (omega (arith, ap (λ xs. get_or xs 0 0) w))
 only_put arguments refuted (keys name) (w, a) = absurd (omega (arith, ap length w))
 only_put arguments refuted (root name) (w, a) = absurd (omega (arith, ap length w))
 only_put arguments refuted (pages name) (w, a) = absurd (omega (arith, ap length w))
@@ -80,3 +82,28 @@ bad_name name rest arguments none e no_name = only_put arguments (λ other key n
 -- arguments of `put` that name a replica and have no row
 pub bad_row : (name : ReplicaName) (rest arguments : List ℕ) → arguments ≡ name_text name ++ space ∷ rest → ((key : List ℕ) (n : ℕ) → IsRowText rest key n → ⊥) → (q : Request) → IsSpelledBy q (codes "put") arguments → ⊥
 bad_row name rest arguments e no_row = only_put arguments (λ other key n digits k number a. no_row key n (digits, k, number, (first_unique (name_text name) (name_text other) rest _ (no_space_name name) (no_space_name other) (sym e ∙ a)).1))
+
+-- the arguments of `del` are a name and a key
+only_del : (arguments : List ℕ) → ((name : ReplicaName) (key : List ℕ) → IsKey key → arguments ≡ fields (name_text name ∷ key ∷ []) → ⊥) → (q : Request) → IsSpelledBy q (codes "del") arguments → ⊥
+only_del arguments refuted (put name key n) (w, (digits, k, number, a)) = absurd (omega (arith, ap (λ xs. get_or xs 0 0) w))
+only_del arguments refuted (del name key) (w, (k, a)) = refuted name key k a
+only_del arguments refuted (keys name) (w, a) = absurd (omega (arith, ap length w))
+only_del arguments refuted (root name) (w, a) = absurd (omega (arith, ap length w))
+only_del arguments refuted (pages name) (w, a) = absurd (omega (arith, ap length w))
+only_del arguments refuted (diff name) (w, a) = absurd (omega (arith, ap length w))
+only_del arguments refuted (pull name) (w, a) = absurd (omega (arith, ap length w))
+only_del arguments refuted same spelled = absurd spelled
+only_del arguments refuted (turns d) (w, small, a) = absurd (omega (arith, ap length w))
+
+-- arguments of `del` whose first field names no replica
+pub bad_del_name : (name rest arguments : List ℕ) → HasNoSpace name → arguments ≡ name ++ space ∷ rest → ((n : ReplicaName) → name ≢ name_text n) → (q : Request) → IsSpelledBy q (codes "del") arguments → ⊥
+bad_del_name name rest arguments none e no_name = only_del arguments (λ other key k a. no_name other (first_unique name (name_text other) rest _ none (no_space_name other) (sym e ∙ a)).0)
+
+-- arguments of `del` that name a replica and have no key
+pub bad_del_key : (name : ReplicaName) (rest arguments : List ℕ) → arguments ≡ name_text name ++ space ∷ rest → (IsKey rest → ⊥) → (q : Request) → IsSpelledBy q (codes "del") arguments → ⊥
+bad_del_key name rest arguments e no_key =
+    only_del arguments (λ other key k a. no_key (subst IsKey (sym (first_unique (name_text name) (name_text other) rest key (no_space_name name) (no_space_name other) (sym e ∙ a)).1) k))
+
+-- arguments of `del` in one field
+pub bad_del_field : (arguments : List ℕ) → HasNoSpace arguments → (q : Request) → IsSpelledBy q (codes "del") arguments → ⊥
+bad_del_field arguments none = only_del arguments (λ other key k a. has_space (name_text other) key arguments none a)

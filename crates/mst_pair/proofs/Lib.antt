@@ -10,6 +10,7 @@ pub mod Stops
 pub mod Searches
 pub mod Sweeps
 pub mod Follows
+pub mod Removed
 pub mod Joined
 pub mod Taken
 pub mod Bounds

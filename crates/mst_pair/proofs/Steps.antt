@@ -4,7 +4,7 @@ use Rattle.std.proofs.lemmas.Bool.{cases_lt}
 use Rattle.std.proofs.Math.ListN.{length-take}
 use Rattle.mst_pair.specs.State.{State}
 use Rattle.mst_pair.specs.Engine.{Step}
-use Rattle.mst_pair.specs.Requests.{Request, put, keys, root, pages, diff, pull, same, turns, IsSpelled, name_text, space}
+use Rattle.mst_pair.specs.Requests.{Request, put, del, keys, root, pages, diff, pull, same, turns, IsSpelled, name_text, space}
 use Rattle.mst_pair.specs.declared.pair.ReplicaName.{ReplicaName}
 use Rattle.mst_pair.proofs.Kept.{take_short}
 use Rattle.mst_pair.specs.declared.pair.ReplicaName.TheVariants.{A, B}
@@ -24,6 +24,9 @@ pub spelled_is_short : (q : Request) (line : List ℕ) → IsSpelled q line → 
 spelled_is_short (put name key n) line (digits, k, number, e) =
     let tail : length (key ++ space ∷ digits) ≤ 276 = omega (arith, length-append key (space ∷ digits), k.short, number.short) in
     let whole : length (codes "put" ++ space ∷ (name_text name ++ space ∷ (key ++ space ∷ digits))) ≤ 282 = omega (arith, length-append (name_text name) (space ∷ (key ++ space ∷ digits)), name_is_short name) in
+    subst (λ l. length l ≤ 282) (sym e) whole
+spelled_is_short (del name key) line (k, e) =
+    let whole : length (codes "del" ++ space ∷ (name_text name ++ space ∷ key)) ≤ 282 = omega (arith, length-append (name_text name) (space ∷ key), name_is_short name, k.short) in
     subst (λ l. length l ≤ 282) (sym e) whole
 spelled_is_short (keys name) line e = named_is_short (codes "keys") name line (omega arith) e
 spelled_is_short (root name) line e = named_is_short (codes "root") name line (omega arith) e

@@ -1,13 +1,13 @@
 -- The engine: what a line is answered, and the state that it leaves.
-use Rattle.std.specs.Prelude.{◌≡◌, ◌≢◌, ℕ, ◌<◌, List, [], ◌∷◌, ◌⊎◌, map, max, length, nat_eq, codes}
+use Rattle.std.specs.Prelude.{◌≡◌, ◌≢◌, ℕ, Bool, if◌then◌else◌, ◌<◌, List, [], ◌∷◌, ◌⊎◌, map, max, length, nat_eq, codes}
 use Rattle.key_order.specs.Interval.{Span}
 use Rattle.merkle_digest.specs.Digest.{base64_of}
 use Rattle.merkle_diff.specs.Entry.{span_of}
 use Rattle.mst_pair.specs.Pages.{page_ranges, root_digest, HasPageRanges}
 use Rattle.mst_pair.specs.Pulls.{Answer, IsAnswerFor, IsPull, IsPartOfPull, IsByTurns}
 use Rattle.mst_pair.specs.Replies.{text_line, rows_text, ranges_text, pull_text, turns_text}
-use Rattle.mst_pair.specs.Requests.{Request, put, keys, root, pages, diff, pull, same, turns, IsSpelled, IsBad}
-use Rattle.mst_pair.specs.State.{Text, Row, State, text_order, rows, other_rows, JoinsRow}
+use Rattle.mst_pair.specs.Requests.{Request, put, del, keys, root, pages, diff, pull, same, turns, IsSpelled, IsBad}
+use Rattle.mst_pair.specs.State.{Text, Row, State, text_order, rows, other_rows, JoinsRow, DeletesRow}
 
 -- ranges that local may ask of the peer: any that meet the interval laws of `diff` and its laws on trees, on the page ranges of both
 abbrev pub MayAsk : List Row → List Row → List (Span Text) → Type 0
@@ -42,9 +42,14 @@ no_memory = text_line (codes "no memory")
 abbrev pub LacksMemory : State → List ℕ → State → Type 0
 LacksMemory old reply new = (reply ≡ no_memory) × (new ≡ old)
 
+-- the reply to `del`: whether a row was taken out
+abbrev pub deleted_text : Bool → List ℕ
+deleted_text found = text_line (if found then (codes "ok") else (codes "absent"))
+
 -- from old, a request may get this reply and leave new
 abbrev pub Answers : State → Request → List ℕ → State → Type 0
 Answers old (put name key n) reply new = ((reply ≡ text_line (codes "ok")) × JoinsRow (rows old name) (rows new name) key n × (other_rows new name ≡ other_rows old name)) ⊎ LacksMemory old reply new
+Answers old (del name key) reply new = ((found : Bool) × (reply ≡ deleted_text found) × DeletesRow (rows old name) (rows new name) key found × (other_rows new name ≡ other_rows old name)) ⊎ LacksMemory old reply new
 Answers old (keys name) reply new = (reply ≡ rows_text (rows old name)) × (new ≡ old)
 Answers old (root name) reply new = (reply ≡ text_line (base64_of (root_digest (rows old name)))) × (new ≡ old)
 Answers old (pages name) reply new = ((reply ≡ ranges_text (map span_of (page_ranges (rows old name)))) × (new ≡ old)) ⊎ LacksMemory old reply new

@@ -1,13 +1,14 @@
 -- What the parser's functions tell of a line.
 use Rattle.std.specs.Prelude.{◌≡◌, ◌≤◌, ◌==◌, ℕ, List, [], ◌∷◌, codes, false}
 use Rattle.std.specs.List.{list_any}
-use Rattle.mst_pair.specs.Requests.{Request, put, keys, root, pages, diff, pull, same, turns, IsKey, IsNumber, name_text, digit, space, fields}
+use Rattle.mst_pair.specs.Requests.{Request, put, del, keys, root, pages, diff, pull, same, turns, IsKey, IsNumber, name_text, digit, space, fields}
 use Rattle.mst_pair.specs.declared.parse.Command.{Command}
 use Rattle.mst_pair.specs.declared.parse.Command.TheVariants as commands
 
 -- what a command asks for
 abbrev pub request_of : Command → Request
 request_of (commands.Put name key n) = put name key.now n
+request_of (commands.Del name key) = del name key.now
 request_of (commands.Keys name) = keys name
 request_of (commands.Root name) = root name
 request_of (commands.Pages name) = pages name
@@ -27,6 +28,7 @@ IsRowText text key n = (digits : List ℕ) × IsKey key × IsNumber digits n × 
 -- the request is spelled by this word, a space and these arguments
 abbrev pub IsSpelledBy : Request → List ℕ → List ℕ → Type 0
 IsSpelledBy (put name key n) word arguments = (word ≡ codes "put") × ((digits : List ℕ) × IsKey key × IsNumber digits n × (arguments ≡ fields (name_text name ∷ key ∷ digits ∷ [])))
+IsSpelledBy (del name key) word arguments = (word ≡ codes "del") × (IsKey key × (arguments ≡ fields (name_text name ∷ key ∷ [])))
 IsSpelledBy (keys name) word arguments = (word ≡ codes "keys") × (arguments ≡ name_text name)
 IsSpelledBy (root name) word arguments = (word ≡ codes "root") × (arguments ≡ name_text name)
 IsSpelledBy (pages name) word arguments = (word ≡ codes "pages") × (arguments ≡ name_text name)

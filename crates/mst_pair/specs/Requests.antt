@@ -8,6 +8,7 @@ use Rattle.mst_pair.specs.declared.pair.ReplicaName.TheVariants.{A, B}
 -- a request for each command
 pub data Request : Type 0 where
   put : ReplicaName → List ℕ → ℕ → Request
+  del : ReplicaName → List ℕ → Request
   keys : ReplicaName → Request
   root : ReplicaName → Request
   pages : ReplicaName → Request
@@ -54,6 +55,7 @@ fields texts = join_with_byte space texts
 -- the line spells the request
 abbrev pub IsSpelled : Request → List ℕ → Type 0
 IsSpelled (put name key n) line = (digits : List ℕ) × IsKey key × IsNumber digits n × (line ≡ fields (codes "put" ∷ name_text name ∷ key ∷ digits ∷ []))
+IsSpelled (del name key) line = IsKey key × (line ≡ fields (codes "del" ∷ name_text name ∷ key ∷ []))
 IsSpelled (keys name) line = line ≡ fields (codes "keys" ∷ name_text name ∷ [])
 IsSpelled (root name) line = line ≡ fields (codes "root" ∷ name_text name ∷ [])
 IsSpelled (pages name) line = line ≡ fields (codes "pages" ∷ name_text name ∷ [])

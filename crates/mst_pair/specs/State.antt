@@ -1,9 +1,11 @@
 -- The state of the engine: two replicas, as maps from texts to numbers.
-use Rattle.std.specs.Prelude.{◌≡◌, ℕ, List, [], ◌∷◌, max, nat_eq, string_bytes, string_cmp}
+use Rattle.std.specs.Prelude.{◌≡◌, ℕ, Bool, List, [], ◌∷◌, max, nat_eq, string_bytes, string_cmp}
 use Rattle.std.specs.declared.string.String.{String}
 use Rattle.std.specs.declared.alloc.Global.{Global}
 use Rattle.std.specs.declared.cmp.Ordering.{Ordering}
 use Rattle.key_order.specs.Join.{IsJoin}
+use Rattle.key_order.specs.Map.{has_key}
+use Rattle.merkle_search_tree.specs.Del.{del}
 use Rattle.mst_pair.specs.declared.pair.ReplicaName.{ReplicaName}
 use Rattle.mst_pair.specs.declared.pair.ReplicaName.TheVariants.{A, B}
 
@@ -41,3 +43,7 @@ other_rows s B = s.a
 -- new is the join of old with the one row of the key with these bytes and the number n: where the key is there, the greater number stays
 abbrev pub JoinsRow : List Row → List Row → List ℕ → ℕ → Type 0
 JoinsRow old new key n = (text : Text) × (string_bytes text ≡ key) × IsJoin text_order nat_eq max old ((text, n) ∷ []) new
+
+-- new is old without the row of the key with these bytes, and found tells whether there was one
+abbrev pub DeletesRow : List Row → List Row → List ℕ → Bool → Type 0
+DeletesRow old new key found = (text : Text) × (string_bytes text ≡ key) × (new ≡ del text_order old text) × (found ≡ has_key text_order old text)

@@ -3,7 +3,7 @@ ghost use Rattle.std.specs.Prelude.{◌≡◌, ℕ, List};
 ghost use Rattle.mst_pair.specs.Devices.{Writes, Marks};
 ghost use Rattle.mst_pair.specs.Engine.{Answers, Step};
 ghost use Rattle.mst_pair.specs.Parsing.{request_of};
-ghost use Rattle.mst_pair.specs.Requests.{put, root, pages, diff, pull, same, turns};
+ghost use Rattle.mst_pair.specs.Requests.{put, del, root, pages, diff, pull, same, turns};
 ghost use Rattle.mst_pair.specs.State.{State, start};
 
 use crate::pair::{Pair, ReplicaName};
@@ -53,6 +53,7 @@ impl Engine {
     {
         match command {
             Command::Put(name, key, number) => self.put(name, key, number, writer),
+            Command::Del(name, key) => self.del(name, key, writer),
             Command::Keys(name) => write_list(self.pair.rows(name), writer),
             Command::Root(name) => write_root(&self.pair.root_hash(name), writer),
             Command::Pages(name) => self.pair.write_pages(name, writer),
@@ -75,6 +76,17 @@ impl Engine {
     {
         match self.pair.put(name, key, number) {
             Ok(()) => write_all(writer, b"ok\n"),
+            Err(_) => write_no_memory(writer),
+        }
+    }
+
+    fn del<W: Sink>(&mut self, name: ReplicaName, key: &str, writer: &mut W) -> Result<(), Failed>
+        ensures bytes { (reply : List ℕ) × Answers self.old (del name key.now) reply self.new × Writes result (W.taken writer.old) (W.taken writer.new) reply }
+        ensures failed { Marks result (W.has_failed writer.old) (W.has_failed writer.new) }
+    {
+        match self.pair.del(name, key) {
+            Ok(true) => write_all(writer, b"ok\n"),
+            Ok(false) => write_all(writer, b"absent\n"),
             Err(_) => write_no_memory(writer),
         }
     }

@@ -6,7 +6,7 @@ ghost use Rattle.mst_pair.specs.Devices.{Writes, Marks};
 ghost use Rattle.mst_pair.specs.Engine.{MayAsk, Pulls, StopsPulling, TakesTurns, StopsInTurns, no_memory};
 ghost use Rattle.mst_pair.specs.Pages.{root_digest, page_ranges};
 ghost use Rattle.mst_pair.specs.Replies.{ranges_text};
-ghost use Rattle.mst_pair.specs.State.{State, start, rows, other_rows, JoinsRow};
+ghost use Rattle.mst_pair.specs.State.{State, start, rows, other_rows, JoinsRow, DeletesRow};
 
 use crate::pull::{PullError, Pulled, ask};
 use crate::replica::Replica;
@@ -78,6 +78,19 @@ impl Pair {
         match name {
             ReplicaName::A => self.a.put(key, number),
             ReplicaName::B => self.b.put(key, number),
+        }
+    }
+
+    /// Takes the row of a key out of a replica, and answers whether there was one. Where memory is refused, nothing changes.
+    pub fn del(&mut self, name: ReplicaName, key: &str) -> Result<bool, AllocError>
+        ensures ok { IfOk result (λ found. DeletesRow (rows self.old name) (rows self.new name) key.now found) }
+        ensures other { other_rows self.new name ≡ other_rows self.old name }
+        ensures err { OnErr result (self.new ≡ self.old) }
+    {
+        let text = String::from_str(self.alloc, key)?;
+        match name {
+            ReplicaName::A => self.a.del(&text),
+            ReplicaName::B => self.b.del(&text),
         }
     }
 

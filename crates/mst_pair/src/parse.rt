@@ -16,6 +16,8 @@ const KEY_BYTES: usize = 255;
 pub enum Command<'a> {
     /// Join a row, a key and its number, into a replica.
     Put(ReplicaName, &'a str, u64),
+    /// Take the row of a key out of a replica.
+    Del(ReplicaName, &'a str),
     /// Show the rows of a replica.
     Keys(ReplicaName),
     /// Show the root hash of a replica.
@@ -51,6 +53,9 @@ fn command_of<'a>(word: &[u8], arguments: &'a [u8]) -> Option<Command<'a>>
     if is_word(word, b"put") {
         return put_of(arguments);
     }
+    if is_word(word, b"del") {
+        return del_of(arguments);
+    }
     if is_word(word, b"turns") {
         return Some(Command::Turns(digit_of(arguments)?));
     }
@@ -78,6 +83,16 @@ fn put_of(arguments: &[u8]) -> Option<Command<'_>>
     let name = name_of(name)?;
     let (key, number) = row_of(rest)?;
     Some(Command::Put(name, key, number))
+}
+
+/// The key whose row is to be taken out, and its replica.
+fn del_of(arguments: &[u8]) -> Option<Command<'_>>
+    ensures { MatchOption result ((q : Request) → IsSpelledBy q (codes "del") arguments.now → ⊥) (λ c. IsSpelledBy (request_of c) (codes "del") arguments.now) }
+{
+    let (name, rest) = first_field(arguments)?;
+    let name = name_of(name)?;
+    let key = key_of(rest)?;
+    Some(Command::Del(name, key))
 }
 
 /// The number below 10 that one digit spells.

@@ -164,6 +164,38 @@ impl<
     }
 }
 
+impl<
+    K: Ord + KeyBytes + Clone + Drop,
+    V: Join + Drop,
+    H: Hasher<N, K> + ValueHasher<N, V>,
+    const N: usize,
+> Replica<K, V, H, N> {
+    ghost use Rattle.std.specs.Prelude.{IsOk, true, false};
+    ghost use Rattle.key_order.specs.Map.{has_key};
+    ghost use Rattle.merkle_search_tree.specs.Del.{del};
+    ghost use Rattle.merkle_search_tree.specs.Remove.{HasFreeGap};
+
+    /// Takes the row of a key out, and answers whether there was one. Where memory is refused, the replica is unchanged. No memory is
+    /// taken where there is no such row, or where in the tree the gap before its key or the gap after it is empty.
+    pub fn del(&mut self, key: &K) -> Result<bool, AllocError>
+        ensures rows { OnOk result (self.new.rows ≡ del K.cmp self.old.rows key.now) }
+        ensures found { IfOk result (λ found. found ≡ has_key K.cmp self.old.rows key.now) }
+        ensures absent { IfOk result (λ found. found ≡ false → self.new ≡ self.old) }
+        ensures unchanged { OnErr result (self.new ≡ self.old) }
+        ensures setup { SameSetup self.old self.new }
+        ensures succeeds { HasFreeGap K.cmp key.now self.old.tree.root → IsOk result }
+        ensures succeeds_absent { has_key K.cmp self.old.rows key.now ≡ false → IsOk result }
+    {
+        let at = match place(&self.rows, key) {
+            Ok(at) => at,
+            Err(_) => return Ok(false),
+        };
+        self.tree.remove(key)?;
+        self.rows.remove(at);
+        Ok(true)
+    }
+}
+
 /// Where the key is among ascending rows, or where it would go.
 fn place<K: Ord, V>(rows: &[(K, V)], key: &K) -> Result<usize, usize>
     requires { IsMap K.cmp rows.now }

@@ -37,10 +37,19 @@ fn serve(
     (result, writer.taken)
 }
 
-const ROWS: [(&[u8], &[u8]); 17] = [
+const ROWS: [(&[u8], &[u8]); 19] = [
     (
         b"put a k 1\nkeys a\nkeys b\nhello\n",
         b"ok\nk 1\nend\nend\nbad line\n",
+    ),
+    // a row is taken out, and a pull may bring it back
+    (
+        b"put a x 1\nput b x 5\ndel a x\ndel a x\nkeys a\npull a\nkeys a\n",
+        b"ok\nok\nok\nabsent\nend\nx x\nend\njoined 1\nx 5\nend\n",
+    ),
+    (
+        b"del a\ndel c x\ndel a \ndel a x y\ndel\ndel b x\n",
+        b"bad line\nbad line\nbad line\nbad line\nbad line\nabsent\n",
     ),
     // no input, and a last line without a newline
     (b"", b""),

@@ -17,6 +17,8 @@ mod places;
 #[cfg(test)]
 mod refusals;
 #[cfg(test)]
+mod removals;
+#[cfg(test)]
 mod root_pages;
 #[cfg(test)]
 mod rust_roots;

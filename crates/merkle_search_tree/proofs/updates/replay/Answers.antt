@@ -32,9 +32,10 @@ updates-preserved g c =
           ∙ sym (map_after-more cmp (d c.args.builder.hasher) [] c.updates.yielded u c.updates.accepted.items c.carry_out.result kept.answers)
           ∙ ap (map_after cmp (d c.args.builder.hasher) [] (c.updates.yielded ++ u ∷ [])) (sym c.in_ok-push.ensures.items);
       hashed = c.carry_out.ensures.hashed
-          ∙ ap (λ b. hashed_after_one b u c.carry_out.result) kept.hashed
-          ∙ sym (hashed_after-more false c.updates.yielded u c.updates.accepted.items c.carry_out.result kept.answers)
-          ∙ ap (hashed_after false (c.updates.yielded ++ u ∷ [])) (sym c.in_ok-push.ensures.items);
+          ∙ ap (λ h. hashed_after_one cmp (d h) (map_of c.updates.tree) (is_some c.updates.tree.root_hash) u c.carry_out.result) kept.hasher
+          ∙ (λ i. hashed_after_one cmp (d c.args.builder.hasher) (kept.map i) (kept.hashed i) u c.carry_out.result)
+          ∙ sym (hashed_after-more cmp (d c.args.builder.hasher) [] false c.updates.yielded u c.updates.accepted.items c.carry_out.result kept.answers)
+          ∙ ap (hashed_after cmp (d c.args.builder.hasher) [] false (c.updates.yielded ++ u ∷ [])) (sym c.in_ok-push.ensures.items);
       hasher = c.carry_out.ensures.hasher ∙ kept.hasher;
       base = c.carry_out.ensures.base ∙ kept.base;
     }
@@ -62,7 +63,7 @@ returns-clause-ranges g c =
 pub returns-clause-root_hash : goal.returns-clause-root_hash
 returns-clause-root_hash g c =
     let bytes_of = g.K.KeyBytes.bytes_of in
-    let e : is_some c.updates.tree.root_hash ≡ hashed_after false c.args.updates.items c.updates.accepted.items =
-    subst (λ (us : List _). is_some c.updates.tree.root_hash ≡ hashed_after false us c.updates.accepted.items) (all_done _ _ _ c.updates.invariant.left (sym c.updates.invariant.count ∙ c.in-None.ensures.steps.0)) c.updates.invariant.hashed in
+    let e : is_some c.updates.tree.root_hash ≡ hashed_after g.K.Ord.cmp (g.H.Hasher-2.digest_of c.args.builder.hasher) [] false c.args.updates.items c.updates.accepted.items =
+    subst (λ (us : List _). is_some c.updates.tree.root_hash ≡ hashed_after g.K.Ord.cmp (g.H.Hasher-2.digest_of c.args.builder.hasher) [] false us c.updates.accepted.items) (all_done _ _ _ c.updates.invariant.left (sym c.updates.invariant.count ∙ c.in-None.ensures.steps.0)) c.updates.invariant.hashed in
     hashed_is _ c.updates.tree.root_hash _ _ _ e c.a_hashed_tree_has_every_digest.ensures
     (same_digest g.K.Ord.cmp bytes_of (same_bytes g.K.Ord.cmp g.K.PartialEq.eq g.met.K.Ord.matches_eq bytes_of g.met.K.KeyBytes.bytes_respect_eq) _ _ (returns-clause-pages g c))

@@ -10,7 +10,7 @@ invariant-updates g l = record {
   count : into_iter_len l.update-iterator ≡ length (into_iter_items l.update-iterator);
   answers : length l.accepted.items ≡ length l.yielded;
   map : map_of l.tree ≡ map_after g.K.Ord.cmp (g.H.Hasher-2.digest_of l.fn.builder.hasher) [] l.yielded l.accepted.items;
-  hashed : is_some l.tree.root_hash ≡ hashed_after false l.yielded l.accepted.items;
+  hashed : is_some l.tree.root_hash ≡ hashed_after g.K.Ord.cmp (g.H.Hasher-2.digest_of l.fn.builder.hasher) [] false l.yielded l.accepted.items;
   hasher : l.tree.hasher ≡ l.fn.builder.hasher;
   base : l.tree.base ≡ l.fn.builder.base;
 }
