@@ -1,5 +1,5 @@
 -- Copies of pages.
-use Rattle.std.proofs.Common.{◌≡◌, ℕ, ◌<◌, List, [], ◌∷◌, ◌++◌, Option, Some, None, refl, ap, sym, subst, ◌∙◌}
+use Rattle.std.proofs.Common.{◌≡◌, ℕ, suc, ◌<◌, List, [], ◌∷◌, ◌++◌, length, Option, Some, None, refl, ap, sym, subst, ◌∙◌}
 use Rattle.std.specs.List.{AllByRecursion, AllZip}
 use Rattle.std.specs.Cmp.{IsTotalOrder}
 use Rattle.std.specs.declared.cmp.Ordering.{Ordering}
@@ -8,11 +8,12 @@ use Rattle.key_order.specs.Map.{IsMap, SameMap}
 use Rattle.key_order.proofs.Orders.{low_up, up_low, same_up, same_down}
 use Rattle.merkle_digest.specs.SipHash.{siphash128, zero_key}
 use Rattle.merkle_search_tree.specs.Tree.{Tree, page, Row, high, node, Held, nothing, below, Node, row}
-use Rattle.merkle_search_tree.specs.Page.{level, cache, pairs, row_pairs, held_pairs}
+use Rattle.merkle_search_tree.specs.Page.{level, cache, pairs, row_pairs, held_pairs, row_nodes}
 use Rattle.merkle_search_tree.specs.Canonical.{HasNode, IsCanonical, IsRow, IsGap, IsCanonicalRoot}
-use Rattle.merkle_search_tree.specs.Stream.{row_stream, held_digest}
+use Rattle.merkle_search_tree.specs.Stream.{stream_of, row_stream, held_stream, head_bytes, below_bytes, key_bytes}
 use Rattle.merkle_search_tree.specs.Cache.{CachesHold, RowCachesHold, HeldCachesHold, HasCache, EachHasCache}
 use Rattle.merkle_search_tree.specs.Copy.{IsCopy, RowIsCopy, HeldIsCopy, NodeIsCopy}
+use Rattle.merkle_search_tree.specs.declared.builder.PageFormat.{PageFormat}
 
 module _ {K D : Type 0} (R : K → K → Type 0) (S : D → D → Type 0) where
   -- copies of the nodes and of the high page make a copy of the row
@@ -115,19 +116,28 @@ module _ {K D : Type 0} (cmp : K → K → Ordering) where
 pub copy-cache : {K D : Type 0} (R : K → K → Type 0) (S : D → D → Type 0) (t u : Tree K D) → IsCopy R S t u → cache t ≡ cache u
 copy-cache R S (page l c r) (page l' c' r') a = a.1
 
-module _ {K : Type 0} (R : K → K → Type 0) (bytes_of : K → List ℕ) (respects : (a b : K) → R a b → bytes_of a ≡ bytes_of b) where
+module _ {K : Type 0} (R : K → K → Type 0) (format : PageFormat) (bytes_of : K → List ℕ) (respects : (a b : K) → R a b → bytes_of a ≡ bytes_of b) where
+  copy-count : (r s : Row K (List ℕ)) → RowIsCopy R (λ d e. d ≡ e) r s → length (row_nodes r) ≡ length (row_nodes s)
+  copy-count (high h) (high h') a = refl
+  copy-count (high h) (node h' k' d' r') a = absurd a
+  copy-count (node h k d r) (high h') a = absurd a
+  copy-count (node h k d r) (node h' k' d' r') a = ap (λ n. suc n) (copy-count r r' a.3)
+
   mutual
-    row_copy-stream : (r s : Row K (List ℕ)) → RowIsCopy R (λ d e. d ≡ e) r s → row_stream bytes_of r ≡ row_stream bytes_of s
+    copy-stream : (t u : Tree K (List ℕ)) → IsCopy R (λ d e. d ≡ e) t u → stream_of format bytes_of t ≡ stream_of format bytes_of u
+    copy-stream (page l c r) (page l' c' r') a = λ i. head_bytes format (a.0 i) (copy-count r r' a.2 i) ++ row_copy-stream r r' a.2 i
+
+    row_copy-stream : (r s : Row K (List ℕ)) → RowIsCopy R (λ d e. d ≡ e) r s → row_stream format bytes_of r ≡ row_stream format bytes_of s
     row_copy-stream (high h) (high h') a = held_copy-stream h h' a
     row_copy-stream (high h) (node h' k' d' r') a = absurd a
     row_copy-stream (node h k d r) (high h') a = absurd a
-    row_copy-stream (node h k d r) (node h' k' d' r') a = λ i. ((held_copy-stream h h' a.0 i ++ respects k k' a.1 i) ++ a.2 i) ++ row_copy-stream r r' a.3 i
+    row_copy-stream (node h k d r) (node h' k' d' r') a = λ i. ((held_copy-stream h h' a.0 i ++ key_bytes format (respects k k' a.1 i)) ++ a.2 i) ++ row_copy-stream r r' a.3 i
 
-    held_copy-stream : (h g : Held K (List ℕ)) → HeldIsCopy R (λ d e. d ≡ e) h g → held_digest bytes_of h ≡ held_digest bytes_of g
+    held_copy-stream : (h g : Held K (List ℕ)) → HeldIsCopy R (λ d e. d ≡ e) h g → held_stream format bytes_of h ≡ held_stream format bytes_of g
     held_copy-stream nothing nothing a = refl
     held_copy-stream nothing (below t') a = absurd a
     held_copy-stream (below t) nothing a = absurd a
-    held_copy-stream (below (page l c r)) (below (page l' c' r')) a = ap (siphash128 zero_key) (row_copy-stream r r' a.2)
+    held_copy-stream (below t) (below t') a = ap (λ stream. below_bytes format (siphash128 zero_key stream)) (copy-stream t t' a)
 
   copy-has : (h g : Held K (List ℕ)) → HeldIsCopy R (λ d e. d ≡ e) h g → HasCache h → HasCache g
   copy-has nothing nothing a p = tt
@@ -152,20 +162,20 @@ module _ {K : Type 0} (R : K → K → Type 0) (bytes_of : K → List ℕ) (resp
 
   mutual
     -- the caches of a copy hold
-    pub copy-caches : (t u : Tree K (List ℕ)) → IsCopy R (λ d e. d ≡ e) t u → CachesHold bytes_of t → CachesHold bytes_of u
+    pub copy-caches : (t u : Tree K (List ℕ)) → IsCopy R (λ d e. d ≡ e) t u → CachesHold format bytes_of t → CachesHold format bytes_of u
     copy-caches (page l None r) (page l' None r') a p = row_copy-caches r r' a.2 p
     copy-caches (page l None r) (page l' (Some d') r') a p = absurd (cc)
     copy-caches (page l (Some d) r) (page l' None r') a p = absurd (cc)
     copy-caches (page l (Some d) r) (page l' (Some d') r') a p =
-        (sym (some_is d d' a.1) ∙ p.0 ∙ ap (siphash128 zero_key) (row_copy-stream r r' a.2), copy-each r r' a.2 p.1, row_copy-caches r r' a.2 p.2)
+        (sym (some_is d d' a.1) ∙ p.0 ∙ ap (siphash128 zero_key) (copy-stream (page l (Some d) r) (page l' (Some d') r') a), copy-each r r' a.2 p.1, row_copy-caches r r' a.2 p.2)
 
-    row_copy-caches : (r s : Row K (List ℕ)) → RowIsCopy R (λ d e. d ≡ e) r s → RowCachesHold bytes_of r → RowCachesHold bytes_of s
+    row_copy-caches : (r s : Row K (List ℕ)) → RowIsCopy R (λ d e. d ≡ e) r s → RowCachesHold format bytes_of r → RowCachesHold format bytes_of s
     row_copy-caches (high h) (high h') a p = held_copy-caches h h' a p
     row_copy-caches (high h) (node h' k' d' r') a p = absurd a
     row_copy-caches (node h k d r) (high h') a p = absurd a
     row_copy-caches (node h k d r) (node h' k' d' r') a p = (held_copy-caches h h' a.0 p.0, row_copy-caches r r' a.3 p.1)
 
-    held_copy-caches : (h g : Held K (List ℕ)) → HeldIsCopy R (λ d e. d ≡ e) h g → HeldCachesHold bytes_of h → HeldCachesHold bytes_of g
+    held_copy-caches : (h g : Held K (List ℕ)) → HeldIsCopy R (λ d e. d ≡ e) h g → HeldCachesHold format bytes_of h → HeldCachesHold format bytes_of g
     held_copy-caches nothing nothing a p = tt
     held_copy-caches nothing (below t') a p = absurd a
     held_copy-caches (below t) nothing a p = absurd a

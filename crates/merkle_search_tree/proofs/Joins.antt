@@ -10,6 +10,7 @@ use Rattle.merkle_search_tree.specs.Cache.{missing, row_missing, held_missing, C
 use Rattle.merkle_search_tree.specs.Canonical.{HasNode, IsRow, IsGap}
 use Rattle.merkle_search_tree.specs.Remove.{under, tree_under, row_under, held_join, tree_join, row_append}
 use Rattle.merkle_search_tree.proofs.Keeps.{rows_hold}
+use Rattle.merkle_search_tree.specs.declared.builder.PageFormat.{PageFormat}
 
 -- no pair is lost
 module _ {K D : Type 0} where
@@ -76,35 +77,35 @@ module _ {K D : Type 0} (lev : K → ℕ) where
     append-row l (node h k d r) s p q = (p.0, p.1, append-row l r s p.2 q)
 
 -- the caches
-module _ {K : Type 0} (b : K → List ℕ) where
-  module _ (t : Tree K (List ℕ)) (l : ℕ) (on : Row K (List ℕ) → Row K (List ℕ)) (p : CachesHold b t) (f : (s : Row K (List ℕ)) → RowCachesHold b s → RowCachesHold b (on s)) where
+module _ {K : Type 0} (format : PageFormat) (b : K → List ℕ) where
+  module _ (t : Tree K (List ℕ)) (l : ℕ) (on : Row K (List ℕ) → Row K (List ℕ)) (p : CachesHold format b t) (f : (s : Row K (List ℕ)) → RowCachesHold format b s → RowCachesHold format b (on s)) where
     mutual
-      under-hold : (h : Held K (List ℕ)) → HeldCachesHold b h → HeldCachesHold b (under t l on h)
+      under-hold : (h : Held K (List ℕ)) → HeldCachesHold format b h → HeldCachesHold format b (under t l on h)
       under-hold nothing q = p
       under-hold (below u) q = tree_under-hold u q
 
-      tree_under-hold : (u : Tree K (List ℕ)) → CachesHold b u → CachesHold b (tree_under t l on u)
-      tree_under-hold (page m c s) q = by (nat_cmp l m) (row_under-hold s (rows_hold b m c s q))
+      tree_under-hold : (u : Tree K (List ℕ)) → CachesHold format b u → CachesHold format b (tree_under t l on u)
+      tree_under-hold (page m c s) q = by (nat_cmp l m) (row_under-hold s (rows_hold format b m c s q))
         where
-          by : (o : Ordering) → RowCachesHold b (row_under t l on s)
-              → CachesHold b (match_ordering o (page m None (row_under t l on s)) (page l None (on s)) (page l None (on (high (below (page m c s))))))
+          by : (o : Ordering) → RowCachesHold format b (row_under t l on s)
+              → CachesHold format b (match_ordering o (page m None (row_under t l on s)) (page l None (on s)) (page l None (on (high (below (page m c s))))))
           by Less g = g
-          by Equal g = f s (rows_hold b m c s q)
+          by Equal g = f s (rows_hold format b m c s q)
           by Greater g = f (high (below (page m c s))) q
 
-      row_under-hold : (s : Row K (List ℕ)) → RowCachesHold b s → RowCachesHold b (row_under t l on s)
+      row_under-hold : (s : Row K (List ℕ)) → RowCachesHold format b s → RowCachesHold format b (row_under t l on s)
       row_under-hold (high h) q = under-hold h q
       row_under-hold (node h k d s) q = (under-hold h q.0, q.1)
 
   mutual
-    pub join-hold : (g h : Held K (List ℕ)) → HeldCachesHold b g → HeldCachesHold b h → HeldCachesHold b (held_join g h)
+    pub join-hold : (g h : Held K (List ℕ)) → HeldCachesHold format b g → HeldCachesHold format b h → HeldCachesHold format b (held_join g h)
     join-hold nothing h p q = q
     join-hold (below t) h p q = tree_join-hold t h p q
 
-    tree_join-hold : (t : Tree K (List ℕ)) (h : Held K (List ℕ)) → CachesHold b t → HeldCachesHold b h → HeldCachesHold b (tree_join t h)
-    tree_join-hold (page l c r) h p q = under-hold (page l c r) l (row_append r) p (λ s i. append-hold r s (rows_hold b l c r p) i) h q
+    tree_join-hold : (t : Tree K (List ℕ)) (h : Held K (List ℕ)) → CachesHold format b t → HeldCachesHold format b h → HeldCachesHold format b (tree_join t h)
+    tree_join-hold (page l c r) h p q = under-hold (page l c r) l (row_append r) p (λ s i. append-hold r s (rows_hold format b l c r p) i) h q
 
-    pub append-hold : (r s : Row K (List ℕ)) → RowCachesHold b r → RowCachesHold b s → RowCachesHold b (row_append r s)
+    pub append-hold : (r s : Row K (List ℕ)) → RowCachesHold format b r → RowCachesHold format b s → RowCachesHold format b (row_append r s)
     append-hold (high g) (high h) p q = join-hold g h p q
     append-hold (high g) (node h k d s) p q = (join-hold g h p q.0, q.1)
     append-hold (node h k d r) s p q = (p.0, append-hold r s p.1 q)

@@ -9,6 +9,7 @@ use Rattle.merkle_search_tree.specs.Page.{level, cache}
 use Rattle.merkle_search_tree.specs.Cache.{missing, row_missing, held_missing, CachesHold, RowCachesHold, HeldCachesHold, EachHasCache, HasCache}
 use Rattle.merkle_search_tree.specs.Canonical.{HasNode, IsCanonical, IsRow, IsGap, IsCanonicalRoot}
 use Rattle.merkle_search_tree.specs.Upsert.{as_held, kept, kept_beside, lower, upper, held_lower, held_upper, tree_lower, tree_upper, row_put, row_sink, held_set, tree_set, lifted}
+use Rattle.merkle_search_tree.specs.declared.builder.PageFormat.{PageFormat}
 
 -- a row without a node and a page above it gives nothing
 as_held-nothing : {K D : Type 0} (l : ℕ) (c : Option (List ℕ)) (r : Row K D) → as_held l c r ≡ nothing → r ≡ high nothing
@@ -158,37 +159,37 @@ module _ {K D : Type 0} (cmp : K → K → Ordering) (at : K) where
         (λ j. as_held l (kept (u j) c) (whole_upper (node h k d r) u j))
 
 -- the caches
-module _ {K : Type 0} (b : K → List ℕ) where
-  pub rows_hold : (l : ℕ) (c : Option (List ℕ)) (r : Row K (List ℕ)) → CachesHold b (page l c r) → RowCachesHold b r
+module _ {K : Type 0} (format : PageFormat) (b : K → List ℕ) where
+  pub rows_hold : (l : ℕ) (c : Option (List ℕ)) (r : Row K (List ℕ)) → CachesHold format b (page l c r) → RowCachesHold format b r
   rows_hold l None r p = p
   rows_hold l (Some d) r p = p.2
 
   -- a part s of the row r of a page with a true digest, where o is the other part
-  kept-hold : (l : ℕ) (c : Option (List ℕ)) (o r s : Row K (List ℕ)) → CachesHold b (page l c r) → RowCachesHold b s → (o ≡ high nothing → s ≡ r) → CachesHold b (page l (kept o c) s)
-  kept-hold l c (high nothing) r s p q w = subst (λ t. CachesHold b (page l c t)) (sym (w refl)) p
+  kept-hold : (l : ℕ) (c : Option (List ℕ)) (o r s : Row K (List ℕ)) → CachesHold format b (page l c r) → RowCachesHold format b s → (o ≡ high nothing → s ≡ r) → CachesHold format b (page l (kept o c) s)
+  kept-hold l c (high nothing) r s p q w = subst (λ t. CachesHold format b (page l c t)) (sym (w refl)) p
   kept-hold l c (high (below t)) r s p q w = q
   kept-hold l c (node h k d o) r s p q w = q
 
-  as_held-hold : (l : ℕ) (c : Option (List ℕ)) (o r s : Row K (List ℕ)) → CachesHold b (page l c r) → RowCachesHold b s → (o ≡ high nothing → s ≡ r) → HeldCachesHold b (as_held l (kept o c) s)
+  as_held-hold : (l : ℕ) (c : Option (List ℕ)) (o r s : Row K (List ℕ)) → CachesHold format b (page l c r) → RowCachesHold format b s → (o ≡ high nothing → s ≡ r) → HeldCachesHold format b (as_held l (kept o c) s)
   as_held-hold l c o r (high h) p q w = q
   as_held-hold l c o r (node h k d s) p q w = kept-hold l c o r (node h k d s) p q w
 
   module _ (cmp : K → K → Ordering) (at : K) where
     mutual
-      pub split-hold : (r : Row K (List ℕ)) → RowCachesHold b r → RowCachesHold b (lower cmp at r) × RowCachesHold b (upper cmp at r)
+      pub split-hold : (r : Row K (List ℕ)) → RowCachesHold format b r → RowCachesHold format b (lower cmp at r) × RowCachesHold format b (upper cmp at r)
       split-hold (high h) p = held_split-hold h p
       split-hold (node h k d r) p = by (is_gt (cmp at k)) (split-hold r p.1) (held_split-hold h p.0)
         where
-          by : (c : Bool) → RowCachesHold b (lower cmp at r) × RowCachesHold b (upper cmp at r) → HeldCachesHold b (held_lower cmp at h) × HeldCachesHold b (held_upper cmp at h)
-              → RowCachesHold b (if c then (node h k d (lower cmp at r)) else (high (held_lower cmp at h))) × RowCachesHold b (if c then (upper cmp at r) else (node (held_upper cmp at h) k d r))
+          by : (c : Bool) → RowCachesHold format b (lower cmp at r) × RowCachesHold format b (upper cmp at r) → HeldCachesHold format b (held_lower cmp at h) × HeldCachesHold format b (held_upper cmp at h)
+              → RowCachesHold format b (if c then (node h k d (lower cmp at r)) else (high (held_lower cmp at h))) × RowCachesHold format b (if c then (upper cmp at r) else (node (held_upper cmp at h) k d r))
           by true s u = ((p.0, s.0), s.1)
           by false s u = (u.0, (u.1, p.1))
 
-      pub held_split-hold : (h : Held K (List ℕ)) → HeldCachesHold b h → HeldCachesHold b (held_lower cmp at h) × HeldCachesHold b (held_upper cmp at h)
+      pub held_split-hold : (h : Held K (List ℕ)) → HeldCachesHold format b h → HeldCachesHold format b (held_lower cmp at h) × HeldCachesHold format b (held_upper cmp at h)
       held_split-hold nothing p = (tt, tt)
       held_split-hold (below t) p = tree_split-hold t p
 
-      pub tree_split-hold : (t : Tree K (List ℕ)) → CachesHold b t → HeldCachesHold b (tree_lower cmp at t) × HeldCachesHold b (tree_upper cmp at t)
+      pub tree_split-hold : (t : Tree K (List ℕ)) → CachesHold format b t → HeldCachesHold format b (tree_lower cmp at t) × HeldCachesHold format b (tree_upper cmp at t)
       tree_split-hold (page l c (high h)) p =
           let s = held_split-hold h (rows_hold l c (high h) p) in (kept-hold l c (high (held_upper cmp at h)) (high h) (high (held_lower cmp at h)) p s.0 (whole_lower cmp at (high h)), s.1)
       tree_split-hold (page l c (node h k d r)) p =
@@ -198,56 +199,56 @@ module _ {K : Type 0} (b : K → List ℕ) where
           )
 
   module _ (cmp : K → K → Ordering) (n : ℕ) (k : K) (d : List ℕ) where
-    put-hold : (r : Row K (List ℕ)) → RowCachesHold b r → RowCachesHold b (row_put cmp k d r)
+    put-hold : (r : Row K (List ℕ)) → RowCachesHold format b r → RowCachesHold format b (row_put cmp k d r)
     put-hold (high h) p = held_split-hold cmp k h p
     put-hold (node h x e r) p = by (cmp k x) (put-hold r p.1)
       where
-        by : (q : Ordering) → RowCachesHold b (row_put cmp k d r)
-            → RowCachesHold b (match_ordering q (node (held_lower cmp k h) k d (node (held_upper cmp k h) x e r)) (node h x d r) (node h x e (row_put cmp k d r)))
+        by : (q : Ordering) → RowCachesHold format b (row_put cmp k d r)
+            → RowCachesHold format b (match_ordering q (node (held_lower cmp k h) k d (node (held_upper cmp k h) x e r)) (node h x d r) (node h x e (row_put cmp k d r)))
         by Less f = let s = held_split-hold cmp k h p.0 in (s.0, (s.1, p.1))
         by Equal f = (p.0, p.1)
         by Greater f = (p.0, f)
 
     mutual
-      pub set-hold : (t : Tree K (List ℕ)) → CachesHold b t → CachesHold b (tree_set cmp n k d t)
+      pub set-hold : (t : Tree K (List ℕ)) → CachesHold format b t → CachesHold format b (tree_set cmp n k d t)
       set-hold (page m c (high h)) p = put-hold (high h) (rows_hold m c (high h) p)
       set-hold (page m c (node h x e r)) p = by (nat_cmp n m) (sink-hold (node h x e r) rows) (put-hold (node h x e r) rows) (tree_split-hold cmp k (page m c (node h x e r)) p)
         where
-          rows : RowCachesHold b (node h x e r)
+          rows : RowCachesHold format b (node h x e r)
           rows = rows_hold m c (node h x e r) p
 
-          by : (q : Ordering) → RowCachesHold b (row_sink cmp n k d (node h x e r)) → RowCachesHold b (row_put cmp k d (node h x e r))
-              → HeldCachesHold b (tree_lower cmp k (page m c (node h x e r))) × HeldCachesHold b (tree_upper cmp k (page m c (node h x e r)))
-              → CachesHold b (match_ordering q (page m None (row_sink cmp n k d (node h x e r))) (page m None (row_put cmp k d (node h x e r))) (lifted cmp n k d (page m c (node h x e r))))
+          by : (q : Ordering) → RowCachesHold format b (row_sink cmp n k d (node h x e r)) → RowCachesHold format b (row_put cmp k d (node h x e r))
+              → HeldCachesHold format b (tree_lower cmp k (page m c (node h x e r))) × HeldCachesHold format b (tree_upper cmp k (page m c (node h x e r)))
+              → CachesHold format b (match_ordering q (page m None (row_sink cmp n k d (node h x e r))) (page m None (row_put cmp k d (node h x e r))) (lifted cmp n k d (page m c (node h x e r))))
           by Less f g i = f
           by Equal f g i = g
           by Greater f g i = i
 
-      sink-hold : (r : Row K (List ℕ)) → RowCachesHold b r → RowCachesHold b (row_sink cmp n k d r)
+      sink-hold : (r : Row K (List ℕ)) → RowCachesHold format b r → RowCachesHold format b (row_sink cmp n k d r)
       sink-hold (high h) p = gap-hold h p
       sink-hold (node h x e r) p = by (cmp k x) (sink-hold r p.1) (gap-hold h p.0)
         where
-          by : (q : Ordering) → RowCachesHold b (row_sink cmp n k d r) → HeldCachesHold b (held_set cmp n k d h)
-              → RowCachesHold b (match_ordering q (node (held_set cmp n k d h) x e r) (node h x d r) (node h x e (row_sink cmp n k d r)))
+          by : (q : Ordering) → RowCachesHold format b (row_sink cmp n k d r) → HeldCachesHold format b (held_set cmp n k d h)
+              → RowCachesHold format b (match_ordering q (node (held_set cmp n k d h) x e r) (node h x d r) (node h x e (row_sink cmp n k d r)))
           by Less f g = (g, p.1)
           by Equal f g = (p.0, p.1)
           by Greater f g = (p.0, f)
 
-      gap-hold : (h : Held K (List ℕ)) → HeldCachesHold b h → HeldCachesHold b (held_set cmp n k d h)
+      gap-hold : (h : Held K (List ℕ)) → HeldCachesHold format b h → HeldCachesHold format b (held_set cmp n k d h)
       gap-hold nothing p = (tt, tt)
       gap-hold (below t) p = set-hold t p
 
   -- below a page with a cached digest no digest is missing
   mutual
-    pub none_missing : (t : Tree K (List ℕ)) (c : List ℕ) → cache t ≡ Some c → CachesHold b t → missing t ≡ 0
+    pub none_missing : (t : Tree K (List ℕ)) (c : List ℕ) → cache t ≡ Some c → CachesHold format b t → missing t ≡ 0
     none_missing (page l None r) c e p = absurd (cc)
     none_missing (page l (Some d) r) c e p = omega (arith, row_none_missing r p.1 p.2)
 
-    row_none_missing : (r : Row K (List ℕ)) → EachHasCache r → RowCachesHold b r → row_missing r ≡ 0
+    row_none_missing : (r : Row K (List ℕ)) → EachHasCache r → RowCachesHold format b r → row_missing r ≡ 0
     row_none_missing (high h) e p = held_none_missing h e p
     row_none_missing (node h k d r) e p = omega (arith, held_none_missing h e.0 p.0, row_none_missing r e.1 p.1)
 
-    held_none_missing : (h : Held K (List ℕ)) → HasCache h → HeldCachesHold b h → held_missing h ≡ 0
+    held_none_missing : (h : Held K (List ℕ)) → HasCache h → HeldCachesHold format b h → held_missing h ≡ 0
     held_none_missing nothing e p = refl
     held_none_missing (below (page l None r)) e p = absurd e
     held_none_missing (below (page l (Some d) r)) e p = omega (arith, row_none_missing r p.1 p.2)

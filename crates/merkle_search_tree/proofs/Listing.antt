@@ -3,11 +3,10 @@ use Rattle.std.proofs.Common.{◌≡◌, ℕ, Bool, true, false, cond, List, [],
 use Rattle.std.specs.Cmp.{IsTotalOrder}
 use Rattle.std.specs.List.{AllByRecursion}
 use Rattle.std.specs.declared.cmp.Ordering.{Ordering}
-use Rattle.merkle_digest.specs.SipHash.{siphash128, zero_key}
 use Rattle.merkle_digest.specs.Level.{level_of}
 use Rattle.merkle_search_tree.specs.Tree.{Tree, page, Row, high, node, Held, nothing, below}
 use Rattle.merkle_search_tree.specs.Canonical.{IsCanonicalRoot}
-use Rattle.merkle_search_tree.specs.Stream.{page_digest, row_stream}
+use Rattle.merkle_search_tree.specs.Stream.{page_digest}
 use Rattle.merkle_search_tree.specs.Page.{pairs, row_pairs, held_pairs}
 use Rattle.merkle_search_tree.specs.Ranges.{IsRangesOf, IsPageOf, IsPageIn, IsPageInRow, IsPageInHeld, ranges_of, row_ranges, held_ranges, entry_of}
 use Rattle.merkle_search_tree.specs.Canonical.{IsTreeOf}
@@ -22,6 +21,7 @@ use Rattle.merkle_diff.proofs.Each.{each-append}
 use Rattle.merkle_search_tree.proofs.RangeKeys.{each-at, not-none}
 use Rattle.merkle_search_tree.proofs.SameRanges.{same_last}
 use Rattle.key_order.proofs.Spans.{test_from_in, in_from_test, is_in-same}
+use Rattle.merkle_search_tree.specs.declared.builder.PageFormat.{PageFormat}
 
 module _ {K : Type 0} (cmp : K → K → Ordering) (o : IsTotalOrder cmp) where
   fails : (k : K) (s : Span K) → (IsIn cmp k s → ⊥) → is_in cmp k s ≡ false
@@ -75,12 +75,12 @@ module _ {K X : Type 0} (cmp : K → K → Ordering) (o : IsTotalOrder cmp) wher
       go m true = (s.0, s.1, m)
       go m false = m
 
-module _ {K : Type 0} (cmp : K → K → Ordering) (o : IsTotalOrder cmp) (bytes_of : K → List ℕ) (whole : Tree K (List ℕ)) (m : List (K × List ℕ)) (a : IsMap cmp m) where
+module _ {K : Type 0} (cmp : K → K → Ordering) (o : IsTotalOrder cmp) (format : PageFormat) (bytes_of : K → List ℕ) (whole : Tree K (List ℕ)) (m : List (K × List ℕ)) (a : IsMap cmp m) where
   -- an entry of a page of the tree, which has the map's pairs within it
   abbrev Right : Entry K (List ℕ) → Type 0
-  Right e = (s : Tree K (List ℕ)) × IsPageIn s whole × (page_digest bytes_of s ≡ e.digest) × (pairs s ≡ entry_rows cmp e m)
+  Right e = (s : Tree K (List ℕ)) × IsPageIn s whole × (page_digest format bytes_of s ≡ e.digest) × (pairs s ≡ entry_rows cmp e m)
 
-  own : (t : Tree K (List ℕ)) (ps : List (K × List ℕ)) (d : List ℕ) (pre post : List (K × List ℕ)) → pairs t ≡ ps → page_digest bytes_of t ≡ d → m ≡ pre ++ (ps ++ post) → IsPageIn t whole → AllByRecursion Right (entry_of ps d)
+  own : (t : Tree K (List ℕ)) (ps : List (K × List ℕ)) (d : List ℕ) (pre post : List (K × List ℕ)) → pairs t ≡ ps → page_digest format bytes_of t ≡ d → m ≡ pre ++ (ps ++ post) → IsPageIn t whole → AllByRecursion Right (entry_of ps d)
   own t [] d pre post u v e i = tt
   own t (p ∷ ps) d pre post u v e i =
       ((t, i, v, u ∙ sym (ap (λ n. rows_at (λ k. is_in cmp k (record { first = p.0; last = last_key p.0 ps })) n) e ∙ after_front cmp o pre p ps post (subst (IsMap cmp) e a))), tt)
@@ -89,27 +89,27 @@ module _ {K : Type 0} (cmp : K → K → Ordering) (o : IsTotalOrder cmp) (bytes
   itself (page l c r) = inl refl
 
   mutual
-    of_tree : (t : Tree K (List ℕ)) (pre post : List (K × List ℕ)) → m ≡ pre ++ (pairs t ++ post) → ((s : Tree K (List ℕ)) → IsPageIn s t → IsPageIn s whole) → AllByRecursion Right (ranges_of bytes_of t)
+    of_tree : (t : Tree K (List ℕ)) (pre post : List (K × List ℕ)) → m ≡ pre ++ (pairs t ++ post) → ((s : Tree K (List ℕ)) → IsPageIn s t → IsPageIn s whole) → AllByRecursion Right (ranges_of format bytes_of t)
     of_tree (page l c r) pre post e i =
-        each-append Right (entry_of (row_pairs r) (siphash128 zero_key (row_stream bytes_of r))) (row_ranges bytes_of r) (own (page l c r) (row_pairs r) (siphash128 zero_key (row_stream bytes_of r)) pre post refl refl e (i (page l c r) (itself (page l c r))))
+        each-append Right (entry_of (row_pairs r) (page_digest format bytes_of (page l c r))) (row_ranges format bytes_of r) (own (page l c r) (row_pairs r) (page_digest format bytes_of (page l c r)) pre post refl refl e (i (page l c r) (itself (page l c r))))
         (of_row r pre post e (λ s h. i s (inr h)))
 
-    of_row : (r : Row K (List ℕ)) (pre post : List (K × List ℕ)) → m ≡ pre ++ (row_pairs r ++ post) → ((s : Tree K (List ℕ)) → IsPageInRow s r → IsPageIn s whole) → AllByRecursion Right (row_ranges bytes_of r)
+    of_row : (r : Row K (List ℕ)) (pre post : List (K × List ℕ)) → m ≡ pre ++ (row_pairs r ++ post) → ((s : Tree K (List ℕ)) → IsPageInRow s r → IsPageIn s whole) → AllByRecursion Right (row_ranges format bytes_of r)
     of_row (high h) pre post e i = of_held h pre post e i
     of_row (node h k d r) pre post e i =
-        each-append Right (held_ranges bytes_of h) (row_ranges bytes_of r)
+        each-append Right (held_ranges format bytes_of h) (row_ranges format bytes_of r)
         (of_held h pre (((k, d) ∷ row_pairs r) ++ post) (e ∙ ap (λ w. pre ++ w) (append_assoc (held_pairs h) ((k, d) ∷ row_pairs r) post)) (λ s j. i s (inl j)))
         (of_row r (pre ++ (held_pairs h ++ ((k, d) ∷ []))) post
         (e ∙ ap (λ w. pre ++ w) (append_assoc (held_pairs h) ((k, d) ∷ row_pairs r) post ∙ sym (append_assoc (held_pairs h) ((k, d) ∷ []) (row_pairs r ++ post))) ∙ sym (append_assoc pre (held_pairs h ++ ((k, d) ∷ [])) (row_pairs r ++ post)))
         (λ s j. i s (inr j)))
 
-    of_held : (h : Held K (List ℕ)) (pre post : List (K × List ℕ)) → m ≡ pre ++ (held_pairs h ++ post) → ((s : Tree K (List ℕ)) → IsPageInHeld s h → IsPageIn s whole) → AllByRecursion Right (held_ranges bytes_of h)
+    of_held : (h : Held K (List ℕ)) (pre post : List (K × List ℕ)) → m ≡ pre ++ (held_pairs h ++ post) → ((s : Tree K (List ℕ)) → IsPageInHeld s h → IsPageIn s whole) → AllByRecursion Right (held_ranges format bytes_of h)
     of_held nothing pre post e i = tt
     of_held (below t) pre post e i = of_tree t pre post e i
 
-module _ {K : Type 0} (cmp : K → K → Ordering) (o : IsTotalOrder cmp) (lev : K → ℕ) (bytes_of : K → List ℕ) where
+module _ {K : Type 0} (cmp : K → K → Ordering) (o : IsTotalOrder cmp) (lev : K → ℕ) (format : PageFormat) (bytes_of : K → List ℕ) where
   -- the first entry is that of the root
-  no_pairs : (l : ℕ) (c : _) (r : Row K (List ℕ)) → IsCanonicalRoot lev (page l c r) → row_pairs r ≡ [] → row_ranges bytes_of r ≡ []
+  no_pairs : (l : ℕ) (c : _) (r : Row K (List ℕ)) → IsCanonicalRoot lev (page l c r) → row_pairs r ≡ [] → row_ranges format bytes_of r ≡ []
   no_pairs l c (high nothing) h e = refl
   no_pairs l c (high (below t)) h e = absurd h
   no_pairs l c (node h k d r) g e = absurd (not-none (held_pairs h) (k, d) (row_pairs r) e)
@@ -120,20 +120,20 @@ module _ {K : Type 0} (cmp : K → K → Ordering) (o : IsTotalOrder cmp) (lev :
   none_none (p ∷ ps) d es f [] s = absurd s
   none_none (p ∷ ps) d es f (q ∷ qs) s = (s.0, same_last cmp p.0 q.0 ps qs s.0 s.2)
 
-  whole_root : (t : Tree K (List ℕ)) (m : List (K × List ℕ)) → IsCanonicalRoot lev t → SameMap cmp (λ x y. x ≡ y) (pairs t) m → IsWhole cmp m (ranges_of bytes_of t)
-  whole_root (page l c r) m h s = none_none (row_pairs r) (siphash128 zero_key (row_stream bytes_of r)) (row_ranges bytes_of r) (no_pairs l c r h) m s
+  whole_root : (t : Tree K (List ℕ)) (m : List (K × List ℕ)) → IsCanonicalRoot lev t → SameMap cmp (λ x y. x ≡ y) (pairs t) m → IsWhole cmp m (ranges_of format bytes_of t)
+  whole_root (page l c r) m h s = none_none (row_pairs r) (page_digest format bytes_of (page l c r)) (row_ranges format bytes_of r) (no_pairs l c r h) m s
 
-module _ {K : Type 0} (cmp : K → K → Ordering) (o : IsTotalOrder cmp) (digest_of : K → List ℕ) (base : ℕ) (bytes_of : K → List ℕ) where
-  to_map : (t : Tree K (List ℕ)) (m : List (K × List ℕ)) (a : IsMap cmp (pairs t)) (es : List (Entry K (List ℕ))) → IsTreeOf cmp digest_of base t m → AllByRecursion (Right cmp o bytes_of t (pairs t) a) es
-      → AllByRecursion (λ e. (s : Tree K (List ℕ)) × IsPageOf cmp digest_of base s m × (page_digest bytes_of s ≡ e.digest) × SameMap cmp (λ x y. x ≡ y) (pairs s) (entry_rows cmp e m)) es
+module _ {K : Type 0} (cmp : K → K → Ordering) (o : IsTotalOrder cmp) (digest_of : K → List ℕ) (base : ℕ) (format : PageFormat) (bytes_of : K → List ℕ) where
+  to_map : (t : Tree K (List ℕ)) (m : List (K × List ℕ)) (a : IsMap cmp (pairs t)) (es : List (Entry K (List ℕ))) → IsTreeOf cmp digest_of base t m → AllByRecursion (Right cmp o format bytes_of t (pairs t) a) es
+      → AllByRecursion (λ e. (s : Tree K (List ℕ)) × IsPageOf cmp digest_of base s m × (page_digest format bytes_of s ≡ e.digest) × SameMap cmp (λ x y. x ≡ y) (pairs s) (entry_rows cmp e m)) es
   to_map t m a [] h r = tt
   to_map t m a (e ∷ es) h ((s, i, d, p), rest) =
       ((s, (t, h, i), d, subst (λ n. SameMap cmp (λ x y. x ≡ y) n (entry_rows cmp e m)) (sym p) (same_part cmp o (λ x y. x ≡ y) (λ k. is_in cmp k (span_of e)) (is_in-same cmp o (span_of e)) (pairs t) m h.1)), to_map t m a es h rest)
 
-  pub lists : (m : List (K × List ℕ)) (es : List (Entry K (List ℕ))) → IsMap cmp m → IsRangesOf cmp digest_of base bytes_of m es → IsListing cmp (IsPageOf cmp digest_of base) (page_digest bytes_of) pairs m es
+  pub lists : (m : List (K × List ℕ)) (es : List (Entry K (List ℕ))) → IsMap cmp m → IsRangesOf cmp digest_of base format bytes_of m es → IsListing cmp (IsPageOf cmp digest_of base) (page_digest format bytes_of) pairs m es
   lists m es a (t, h, e) =
       let b = ascends cmp o (λ x y. x ≡ y) (pairs t) m h.1 a in
       record {
-        whole = subst (IsWhole cmp m) (sym e) (whole_root cmp o (λ k. level_of (digest_of k) base) bytes_of t m h.0 h.1);
-        pages = to_map t m b es h (subst (AllByRecursion (Right cmp o bytes_of t (pairs t) b)) (sym e) (of_tree cmp o bytes_of t (pairs t) b t [] [] (sym (append-nil (pairs t))) (λ s i. i)));
+        whole = subst (IsWhole cmp m) (sym e) (whole_root cmp o (λ k. level_of (digest_of k) base) format bytes_of t m h.0 h.1);
+        pages = to_map t m b es h (subst (AllByRecursion (Right cmp o format bytes_of t (pairs t) b)) (sym e) (of_tree cmp o format bytes_of t (pairs t) b t [] [] (sym (append-nil (pairs t))) (λ s i. i)));
       }

@@ -7,13 +7,13 @@ use Rattle.std.specs.declared.cmp.Ordering.{Ordering}
 use Rattle.key_order.specs.Order.{Upto, Below}
 use Rattle.key_order.specs.Map.{IsMap, last_key}
 use Rattle.key_order.proofs.Orders.{up_up, low_is_up, up_self}
-use Rattle.merkle_digest.specs.SipHash.{siphash128, zero_key}
 use Rattle.merkle_diff.specs.Entry.{Entry}
 use Rattle.merkle_diff.proofs.Each.{each-append, each-before, each-behind}
 use Rattle.merkle_search_tree.specs.Tree.{Tree, page, Row, high, node, Held, nothing, below}
 use Rattle.merkle_search_tree.specs.Page.{pairs, row_pairs, held_pairs}
-use Rattle.merkle_search_tree.specs.Stream.{row_stream}
+use Rattle.merkle_search_tree.specs.Stream.{page_digest}
 use Rattle.merkle_search_tree.specs.Ranges.{entry_of, ranges_of, row_ranges, held_ranges}
+use Rattle.merkle_search_tree.specs.declared.builder.PageFormat.{PageFormat}
 
 pub each-at : {X : Type 0} (P : X → Type 0) (xs : List X) (y : X) (ys : List X) → AllByRecursion P (xs ++ y ∷ ys) → P y
 each-at P xs y ys a = (each-behind P xs (y ∷ ys) a).0
@@ -39,22 +39,22 @@ module _ {K : Type 0} (P : K → Type 0) where
   of_entry [] d a = tt
   of_entry (p ∷ ps) d a = ((a.0, of_last p.0 ps a.0 a.1), tt)
 
-  module _ (bytes_of : K → List ℕ) where
+  module _ (format : PageFormat) (bytes_of : K → List ℕ) where
     mutual
       -- what holds of each key holds of the bounds of the ranges
-      pub of_tree : (t : Tree K (List ℕ)) → OfKeys (pairs t) → AllByRecursion OfBounds (ranges_of bytes_of t)
+      pub of_tree : (t : Tree K (List ℕ)) → OfKeys (pairs t) → AllByRecursion OfBounds (ranges_of format bytes_of t)
       of_tree (page l c r) a =
-          each-append OfBounds (entry_of (row_pairs r) (siphash128 zero_key (row_stream bytes_of r))) (row_ranges bytes_of r)
-          (of_entry (row_pairs r) (siphash128 zero_key (row_stream bytes_of r)) a) (of_row r a)
+          each-append OfBounds (entry_of (row_pairs r) (page_digest format bytes_of (page l c r))) (row_ranges format bytes_of r)
+          (of_entry (row_pairs r) (page_digest format bytes_of (page l c r)) a) (of_row r a)
 
-      pub of_row : (r : Row K (List ℕ)) → OfKeys (row_pairs r) → AllByRecursion OfBounds (row_ranges bytes_of r)
+      pub of_row : (r : Row K (List ℕ)) → OfKeys (row_pairs r) → AllByRecursion OfBounds (row_ranges format bytes_of r)
       of_row (high h) a = of_held h a
       of_row (node h k d r) a =
           let Q : K × List ℕ → Type 0 = λ p. P p.0 in
-          each-append OfBounds (held_ranges bytes_of h) (row_ranges bytes_of r)
+          each-append OfBounds (held_ranges format bytes_of h) (row_ranges format bytes_of r)
           (of_held h (each-before Q (held_pairs h) ((k, d) ∷ row_pairs r) a)) (of_row r (each-behind Q (held_pairs h) ((k, d) ∷ row_pairs r) a).1)
 
-      pub of_held : (h : Held K (List ℕ)) → OfKeys (held_pairs h) → AllByRecursion OfBounds (held_ranges bytes_of h)
+      pub of_held : (h : Held K (List ℕ)) → OfKeys (held_pairs h) → AllByRecursion OfBounds (held_ranges format bytes_of h)
       of_held nothing a = tt
       of_held (below t) a = of_tree t a
 

@@ -6,16 +6,16 @@ use Rattle.std.specs.declared.cmp.Ordering.{Ordering}
 use Rattle.key_order.specs.Order.{Below}
 use Rattle.key_order.specs.Map.{IsMap, last_key}
 use Rattle.key_order.proofs.Orders.{up_up, up_low, low_low, not_both}
-use Rattle.merkle_digest.specs.SipHash.{siphash128, zero_key}
 use Rattle.merkle_diff.specs.Entry.{Entry, EntryWithin}
 use Rattle.merkle_diff.specs.TreeShape.{HoldsNoneBefore, IsTreeShaped}
 use Rattle.merkle_diff.proofs.Each.{each-with, each-append}
 use Rattle.merkle_search_tree.specs.Tree.{Tree, page, Row, high, node, Held, nothing, below}
 use Rattle.merkle_search_tree.specs.Page.{pairs, row_pairs, held_pairs}
-use Rattle.merkle_search_tree.specs.Stream.{row_stream}
+use Rattle.merkle_search_tree.specs.Stream.{page_digest}
 use Rattle.merkle_search_tree.specs.Canonical.{HasNode, IsCanonical, IsRow, IsGap, IsCanonicalRoot}
 use Rattle.merkle_search_tree.specs.Ranges.{entry_of, ranges_of, row_ranges, held_ranges}
 use Rattle.merkle_search_tree.proofs.RangeKeys.{each-at, not-none, OfBounds, of_row, of_held, map-first, map-rest, map-before, InSpan, each_in_span}
+use Rattle.merkle_search_tree.specs.declared.builder.PageFormat.{PageFormat}
 
 module _ {K : Type 0} (cmp : K → K → Ordering) (o : IsTotalOrder cmp) where
   -- k is beside the entry
@@ -47,38 +47,38 @@ module _ {K : Type 0} (cmp : K → K → Ordering) (o : IsTotalOrder cmp) where
   shaped (p ∷ ps) d es n a h =
       (each-with (OfBounds (λ j. InSpan cmp j (p ∷ ps))) (λ x. EntryWithin cmp x (record { first = p.0; last = last_key p.0 ps; digest = d })) es (λ x i. (i.0.0, i.1.1)) a, h)
 
-  module _ (lev : K → ℕ) (bytes_of : K → List ℕ) where
+  module _ (lev : K → ℕ) (format : PageFormat) (bytes_of : K → List ℕ) where
     -- the entries of the pages below a page with a node are beside the node's key
-    beside : (h : Held K (List ℕ)) (k : K) (d : List ℕ) (r : Row K (List ℕ)) → IsMap cmp (row_pairs (node h k d r)) → AllByRecursion (Beside k) (row_ranges bytes_of (node h k d r))
+    beside : (h : Held K (List ℕ)) (k : K) (d : List ℕ) (r : Row K (List ℕ)) → IsMap cmp (row_pairs (node h k d r)) → AllByRecursion (Beside k) (row_ranges format bytes_of (node h k d r))
     beside h k d r m =
-        each-append (Beside k) (held_ranges bytes_of h) (row_ranges bytes_of r)
-        (each-with (OfBounds (λ j. Below cmp j k)) (Beside k) (held_ranges bytes_of h) (λ x u. inl u.1) (of_held (λ j. Below cmp j k) bytes_of h (map-before cmp (held_pairs h) (k, d) (row_pairs r) m)))
-        (each-with (OfBounds (λ j. Below cmp k j)) (Beside k) (row_ranges bytes_of r) (λ x u. inr u.0) (of_row (λ j. Below cmp k j) bytes_of r (map-rest cmp (held_pairs h) ((k, d) ∷ row_pairs r) m).0))
+        each-append (Beside k) (held_ranges format bytes_of h) (row_ranges format bytes_of r)
+        (each-with (OfBounds (λ j. Below cmp j k)) (Beside k) (held_ranges format bytes_of h) (λ x u. inl u.1) (of_held (λ j. Below cmp j k) format bytes_of h (map-before cmp (held_pairs h) (k, d) (row_pairs r) m)))
+        (each-with (OfBounds (λ j. Below cmp k j)) (Beside k) (row_ranges format bytes_of r) (λ x u. inr u.0) (of_row (λ j. Below cmp k j) format bytes_of r (map-rest cmp (held_pairs h) ((k, d) ∷ row_pairs r) m).0))
 
     mutual
-      tree_none : (t : Tree K (List ℕ)) → HasNode t → IsCanonical lev t → IsMap cmp (pairs t) → HoldsNoneBefore cmp (ranges_of bytes_of t)
+      tree_none : (t : Tree K (List ℕ)) → HasNode t → IsCanonical lev t → IsMap cmp (pairs t) → HoldsNoneBefore cmp (ranges_of format bytes_of t)
       tree_none (page l c (high h)) n g m = absurd n
       tree_none (page l c (node h k d r)) n g m =
-          spans_key (row_pairs (node h k d r)) (siphash128 zero_key (row_stream bytes_of (node h k d r))) (row_ranges bytes_of (node h k d r)) k
+          spans_key (row_pairs (node h k d r)) (page_digest format bytes_of (page l c (node h k d r))) (row_ranges format bytes_of (node h k d r)) k
           (each-at (λ q. InSpan cmp q.0 (row_pairs (node h k d r))) (held_pairs h) (k, d) (row_pairs r) (each_in_span cmp o (row_pairs (node h k d r)) m))
           (beside h k d r m) (row_none l (node h k d r) g m)
 
-      row_none : (l : ℕ) (r : Row K (List ℕ)) → IsRow lev l r → IsMap cmp (row_pairs r) → HoldsNoneBefore cmp (row_ranges bytes_of r)
+      row_none : (l : ℕ) (r : Row K (List ℕ)) → IsRow lev l r → IsMap cmp (row_pairs r) → HoldsNoneBefore cmp (row_ranges format bytes_of r)
       row_none l (high h) g m = held_none l h g m
       row_none l (node h k d r) g m =
           let rest = map-rest cmp (held_pairs h) ((k, d) ∷ row_pairs r) m in
-          none-join (held_ranges bytes_of h) (row_ranges bytes_of r) (held_none l h g.0 (map-first cmp (held_pairs h) ((k, d) ∷ row_pairs r) m)) (row_none l r g.2 rest.1)
-          (apart k (held_ranges bytes_of h) (row_ranges bytes_of r) (of_held (λ j. Below cmp j k) bytes_of h (map-before cmp (held_pairs h) (k, d) (row_pairs r) m)) (of_row (λ j. Below cmp k j) bytes_of r rest.0))
+          none-join (held_ranges format bytes_of h) (row_ranges format bytes_of r) (held_none l h g.0 (map-first cmp (held_pairs h) ((k, d) ∷ row_pairs r) m)) (row_none l r g.2 rest.1)
+          (apart k (held_ranges format bytes_of h) (row_ranges format bytes_of r) (of_held (λ j. Below cmp j k) format bytes_of h (map-before cmp (held_pairs h) (k, d) (row_pairs r) m)) (of_row (λ j. Below cmp k j) format bytes_of r rest.0))
 
-      held_none : (l : ℕ) (h : Held K (List ℕ)) → IsGap lev l h → IsMap cmp (held_pairs h) → HoldsNoneBefore cmp (held_ranges bytes_of h)
+      held_none : (l : ℕ) (h : Held K (List ℕ)) → IsGap lev l h → IsMap cmp (held_pairs h) → HoldsNoneBefore cmp (held_ranges format bytes_of h)
       held_none l nothing g m = tt
       held_none l (below t) g m = tree_none t g.1 g.2 m
 
     -- the page ranges of the canonical tree of a map are tree-shaped
-    pub tree_shaped : (t : Tree K (List ℕ)) → IsCanonicalRoot lev t → IsMap cmp (pairs t) → IsTreeShaped cmp (ranges_of bytes_of t)
+    pub tree_shaped : (t : Tree K (List ℕ)) → IsCanonicalRoot lev t → IsMap cmp (pairs t) → IsTreeShaped cmp (ranges_of format bytes_of t)
     tree_shaped (page l c (high nothing)) g m = tt
     tree_shaped (page l c (high (below t))) g m = absurd g
     tree_shaped (page l c (node h k d r)) g m =
         let ps = row_pairs (node h k d r) in
-        shaped ps (siphash128 zero_key (row_stream bytes_of (node h k d r))) (row_ranges bytes_of (node h k d r)) (not-none (held_pairs h) (k, d) (row_pairs r))
-        (of_row (λ j. InSpan cmp j ps) bytes_of (node h k d r) (each_in_span cmp o ps m)) (tree_none (page l c (node h k d r)) tt g m)
+        shaped ps (page_digest format bytes_of (page l c (node h k d r))) (row_ranges format bytes_of (node h k d r)) (not-none (held_pairs h) (k, d) (row_pairs r))
+        (of_row (λ j. InSpan cmp j ps) format bytes_of (node h k d r) (each_in_span cmp o ps m)) (tree_none (page l c (node h k d r)) tt g m)

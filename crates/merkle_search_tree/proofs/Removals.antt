@@ -14,10 +14,11 @@ use Rattle.merkle_search_tree.specs.Del.{del, entry}
 use Rattle.merkle_search_tree.specs.Remove.{root_del, tree_entry, HasFreeGap}
 use Rattle.merkle_search_tree.proofs.Keeps.{none_missing}
 use Rattle.merkle_search_tree.proofs.Removes.{root_del-pairs, root_del-root, root_del-hold, root_del-few, tree_entry-is, del-ascending, free-none}
+use Rattle.merkle_search_tree.specs.declared.builder.PageFormat.{PageFormat}
 
-none_of_hashed : {K : Type 0} (b : K → List ℕ) (t : Tree K (List ℕ)) (o : Option (List ℕ)) → RootHashHolds o (cache t) → CachesHold b t → o ≢ None → missing t ≡ 0
-none_of_hashed b t None r p ne = absurd (ne refl)
-none_of_hashed b t (Some d) r p ne = none_missing b t d r p
+none_of_hashed : {K : Type 0} (format : PageFormat) (b : K → List ℕ) (t : Tree K (List ℕ)) (o : Option (List ℕ)) → RootHashHolds o (cache t) → CachesHold format b t → o ≢ None → missing t ≡ 0
+none_of_hashed format b t None r p ne = absurd (ne refl)
+none_of_hashed format b t (Some d) r p ne = none_missing format b t d r p
 
 -- without an entry of the key the map stays
 module _ {K X : Type 0} (cmp : K → K → Ordering) (k : K) where
@@ -41,16 +42,16 @@ module _ {K H : Type 0} (cmp : K → K → Ordering) (o : IsTotalOrder cmp) (dig
   remove-sound = record {
     ascending = subst (IsMap cmp) (sym remove-pairs) (del-ascending cmp k (pairs s.root) sound.ascending);
     canonical = root_del-root cmp (λ x. level_of (digest_of s.hasher x) s.base) k s.root sound.canonical;
-    caches = root_del-hold cmp k bytes_of s.root sound.caches;
+    caches = root_del-hold cmp k s.format bytes_of s.root sound.caches;
     root_hash_holds = tt;
   }
 
   pub remove-few : s.root_hash ≢ None → missing (root_del cmp k s.root) ≤ level s.root + 1
-  remove-few ne = root_del-few cmp (λ x. level_of (digest_of s.hasher x) s.base) k s.root sound.canonical (none_of_hashed bytes_of s.root s.root_hash sound.root_hash_holds sound.caches ne)
+  remove-few ne = root_del-few cmp (λ x. level_of (digest_of s.hasher x) s.base) k s.root sound.canonical (none_of_hashed s.format bytes_of s.root s.root_hash sound.root_hash_holds sound.caches ne)
 
   -- where nothing is removed, none is dropped
   pub stay-few : s.root_hash ≢ None → missing s.root ≤ level s.root + 1
-  stay-few ne = omega (arith, none_of_hashed bytes_of s.root s.root_hash sound.root_hash_holds sound.caches ne)
+  stay-few ne = omega (arith, none_of_hashed s.format bytes_of s.root s.root_hash sound.root_hash_holds sound.caches ne)
 
   pub remove-free : has_key cmp (pairs s.root) k ≡ false → HasFreeGap cmp k s.root
   remove-free e = free-none cmp k s.root e

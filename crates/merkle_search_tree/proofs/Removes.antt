@@ -20,6 +20,7 @@ use Rattle.merkle_search_tree.specs.Remove.{row_append, row_del, held_del, tree_
 use Rattle.merkle_search_tree.proofs.Sides.{NoEqual, no_equal-above, no_equal-below, map-first, map-rest, map-before, has_key-append, below-more, above-more, less-upto, greater-upto}
 use Rattle.merkle_search_tree.proofs.Keeps.{rows_hold}
 use Rattle.merkle_search_tree.proofs.Joins.{append-pairs, append-row, append-hold, append-few}
+use Rattle.merkle_search_tree.specs.declared.builder.PageFormat.{PageFormat}
 
 -- maps without a key
 module _ {K X : Type 0} (cmp : K → K → Ordering) (k : K) where
@@ -220,34 +221,34 @@ module _ {K D : Type 0} (cmp : K → K → Ordering) (lev : K → ℕ) (k : K) w
   root_del-root (page l c (node h x e r)) p = root_of-root (suc l) (tree_del cmp k (page l c (node h x e r))) (tree_del-gap (suc l) (page l c (node h x e r)) (omega arith) p)
 
 -- the caches
-module _ {K : Type 0} (cmp : K → K → Ordering) (k : K) (b : K → List ℕ) where
-  as_held-hold : (l : ℕ) (r : Row K (List ℕ)) → RowCachesHold b r → HeldCachesHold b (as_held l None r)
+module _ {K : Type 0} (cmp : K → K → Ordering) (k : K) (format : PageFormat) (b : K → List ℕ) where
+  as_held-hold : (l : ℕ) (r : Row K (List ℕ)) → RowCachesHold format b r → HeldCachesHold format b (as_held l None r)
   as_held-hold l (high h) p = p
   as_held-hold l (node h x d r) p = p
 
   mutual
-    pub row_del-hold : (r : Row K (List ℕ)) → RowCachesHold b r → RowCachesHold b (row_del cmp k r)
+    pub row_del-hold : (r : Row K (List ℕ)) → RowCachesHold format b r → RowCachesHold format b (row_del cmp k r)
     row_del-hold (high h) p = held_del-hold h p
     row_del-hold (node h x e r) p = by (cmp k x) (row_del-hold r p.1) (held_del-hold h p.0)
       where
-        by : (q : Ordering) → RowCachesHold b (row_del cmp k r) → HeldCachesHold b (held_del cmp k h)
-            → RowCachesHold b (match_ordering q (node (held_del cmp k h) x e r) (row_append (high h) r) (node h x e (row_del cmp k r)))
+        by : (q : Ordering) → RowCachesHold format b (row_del cmp k r) → HeldCachesHold format b (held_del cmp k h)
+            → RowCachesHold format b (match_ordering q (node (held_del cmp k h) x e r) (row_append (high h) r) (node h x e (row_del cmp k r)))
         by Less f g = (g, p.1)
-        by Equal f g = append-hold b (high h) r p.0 p.1
+        by Equal f g = append-hold format b (high h) r p.0 p.1
         by Greater f g = (p.0, f)
 
-    held_del-hold : (h : Held K (List ℕ)) → HeldCachesHold b h → HeldCachesHold b (held_del cmp k h)
+    held_del-hold : (h : Held K (List ℕ)) → HeldCachesHold format b h → HeldCachesHold format b (held_del cmp k h)
     held_del-hold nothing p = tt
     held_del-hold (below t) p = tree_del-hold t p
 
-    tree_del-hold : (t : Tree K (List ℕ)) → CachesHold b t → HeldCachesHold b (tree_del cmp k t)
-    tree_del-hold (page l c r) p = as_held-hold l (row_del cmp k r) (row_del-hold r (rows_hold b l c r p))
+    tree_del-hold : (t : Tree K (List ℕ)) → CachesHold format b t → HeldCachesHold format b (tree_del cmp k t)
+    tree_del-hold (page l c r) p = as_held-hold l (row_del cmp k r) (row_del-hold r (rows_hold format b l c r p))
 
-  root_of-hold : (h : Held K (List ℕ)) → HeldCachesHold b h → CachesHold b (root_of h)
+  root_of-hold : (h : Held K (List ℕ)) → HeldCachesHold format b h → CachesHold format b (root_of h)
   root_of-hold nothing p = tt
   root_of-hold (below t) p = p
 
-  pub root_del-hold : (t : Tree K (List ℕ)) → CachesHold b t → CachesHold b (root_del cmp k t)
+  pub root_del-hold : (t : Tree K (List ℕ)) → CachesHold format b t → CachesHold format b (root_del cmp k t)
   root_del-hold t p = root_of-hold (tree_del cmp k t) (tree_del-hold t p)
 
 -- how many digests are dropped, where none was missing

@@ -1,18 +1,18 @@
 -- Pages that are the same, apart from the caches, have equal maps and the same page ranges.
-use Rattle.std.proofs.Common.{◌≡◌, ℕ, List, [], ◌∷◌, ◌++◌, ap}
+use Rattle.std.proofs.Common.{◌≡◌, ℕ, List, [], ◌∷◌, ◌++◌}
 use Rattle.std.specs.declared.cmp.Ordering.{Ordering}
 use Rattle.key_order.specs.Order.{Same}
 use Rattle.key_order.specs.Map.{SameMap, last_key}
-use Rattle.merkle_digest.specs.SipHash.{siphash128, zero_key}
 use Rattle.merkle_diff.specs.Entry.{Entry}
 use Rattle.merkle_diff.specs.SameEntries.{SameEntries}
 use Rattle.merkle_search_tree.specs.Tree.{Tree, page, Row, high, node, Held, nothing, below}
 use Rattle.merkle_search_tree.specs.Page.{pairs, row_pairs, held_pairs}
-use Rattle.merkle_search_tree.specs.Stream.{row_stream}
+use Rattle.merkle_search_tree.specs.Stream.{page_digest}
 use Rattle.merkle_search_tree.specs.Canonical.{SamePages, SameRow, SameHeld}
 use Rattle.merkle_search_tree.specs.Ranges.{entry_of, ranges_of, row_ranges, held_ranges}
 use Rattle.merkle_search_tree.proofs.Copies.{same-append}
-use Rattle.merkle_search_tree.proofs.Same.{same_row}
+use Rattle.merkle_search_tree.proofs.Same.{same_digest}
+use Rattle.merkle_search_tree.specs.declared.builder.PageFormat.{PageFormat}
 
 module _ {K : Type 0} (cmp : K → K → Ordering) where
   mutual
@@ -50,23 +50,23 @@ module _ {K : Type 0} (cmp : K → K → Ordering) where
   same_entry_of (p ∷ ps) [] d e s h = absurd s
   same_entry_of (p ∷ ps) (q ∷ qs) d e s h = (((s.0, same_last p.0 q.0 ps qs s.0 s.2), h), tt)
 
-  module _ (bytes_of : K → List ℕ) (respects : (x y : K) → Same cmp x y → bytes_of x ≡ bytes_of y) where
+  module _ (format : PageFormat) (bytes_of : K → List ℕ) (respects : (x y : K) → Same cmp x y → bytes_of x ≡ bytes_of y) where
     mutual
       -- the entries agree in span and digest, place by place
-      pub same_ranges : (t t' : Tree K (List ℕ)) → SamePages cmp t t' → SameEntries cmp (ranges_of bytes_of t) (ranges_of bytes_of t')
+      pub same_ranges : (t t' : Tree K (List ℕ)) → SamePages cmp t t' → SameEntries cmp (ranges_of format bytes_of t) (ranges_of format bytes_of t')
       same_ranges (page l c r) (page l' c' r') s =
-          let d = siphash128 zero_key (row_stream bytes_of r) in
-          let d' = siphash128 zero_key (row_stream bytes_of r') in
-          same-entries-append (entry_of (row_pairs r) d) (row_ranges bytes_of r) (entry_of (row_pairs r') d') (row_ranges bytes_of r')
-          (same_entry_of (row_pairs r) (row_pairs r') d d' (row_same-pairs r r' s.1) (ap (siphash128 zero_key) (same_row cmp bytes_of respects r r' s.1))) (row_same_ranges r r' s.1)
+          let d = page_digest format bytes_of (page l c r) in
+          let d' = page_digest format bytes_of (page l' c' r') in
+          same-entries-append (entry_of (row_pairs r) d) (row_ranges format bytes_of r) (entry_of (row_pairs r') d') (row_ranges format bytes_of r')
+          (same_entry_of (row_pairs r) (row_pairs r') d d' (row_same-pairs r r' s.1) (same_digest cmp format bytes_of respects (page l c r) (page l' c' r') s)) (row_same_ranges r r' s.1)
 
-      row_same_ranges : (r r' : Row K (List ℕ)) → SameRow cmp r r' → SameEntries cmp (row_ranges bytes_of r) (row_ranges bytes_of r')
+      row_same_ranges : (r r' : Row K (List ℕ)) → SameRow cmp r r' → SameEntries cmp (row_ranges format bytes_of r) (row_ranges format bytes_of r')
       row_same_ranges (high h) (high h') s = held_same_ranges h h' s
       row_same_ranges (high h) (node h' k' d' r') s = absurd s
       row_same_ranges (node h k d r) (high h') s = absurd s
-      row_same_ranges (node h k d r) (node h' k' d' r') s = same-entries-append (held_ranges bytes_of h) (row_ranges bytes_of r) (held_ranges bytes_of h') (row_ranges bytes_of r') (held_same_ranges h h' s.0) (row_same_ranges r r' s.3)
+      row_same_ranges (node h k d r) (node h' k' d' r') s = same-entries-append (held_ranges format bytes_of h) (row_ranges format bytes_of r) (held_ranges format bytes_of h') (row_ranges format bytes_of r') (held_same_ranges h h' s.0) (row_same_ranges r r' s.3)
 
-      held_same_ranges : (h h' : Held K (List ℕ)) → SameHeld cmp h h' → SameEntries cmp (held_ranges bytes_of h) (held_ranges bytes_of h')
+      held_same_ranges : (h h' : Held K (List ℕ)) → SameHeld cmp h h' → SameEntries cmp (held_ranges format bytes_of h) (held_ranges format bytes_of h')
       held_same_ranges nothing nothing s = tt
       held_same_ranges nothing (below t') s = absurd s
       held_same_ranges (below t) nothing s = absurd s

@@ -16,10 +16,11 @@ use Rattle.merkle_search_tree.proofs.Set.{set-pairs_root}
 use Rattle.merkle_search_tree.proofs.Keeps.{set-root, set-hold, none_missing, set-few_root}
 use Rattle.merkle_search_tree.proofs.Sound.{alike}
 use Rattle.merkle_search_tree.proofs.Drops.{set-dropped_root, set-finds_root}
+use Rattle.merkle_search_tree.specs.declared.builder.PageFormat.{PageFormat}
 
-none_of_hashed : {K : Type 0} (b : K → List ℕ) (t : Tree K (List ℕ)) (o : Option (List ℕ)) → RootHashHolds o (cache t) → CachesHold b t → o ≢ None → missing t ≡ 0
-none_of_hashed b t None r p ne = absurd (ne refl)
-none_of_hashed b t (Some d) r p ne = none_missing b t d r p
+none_of_hashed : {K : Type 0} (format : PageFormat) (b : K → List ℕ) (t : Tree K (List ℕ)) (o : Option (List ℕ)) → RootHashHolds o (cache t) → CachesHold format b t → o ≢ None → missing t ≡ 0
+none_of_hashed format b t None r p ne = absurd (ne refl)
+none_of_hashed format b t (Some d) r p ne = none_missing format b t d r p
 
 module _ {K H : Type 0} (cmp : K → K → Ordering) (o : IsTotalOrder cmp) (eq : K → K → Bool) (matches : (x y : K) → eq x y ≡ is_eq (cmp x y))
     (digest_of : H → K → List ℕ) (respects : (h : H) (x y : K) → eq x y ≡ true → digest_of h x ≡ digest_of h y) (bytes_of : K → List ℕ)
@@ -34,7 +35,7 @@ module _ {K H : Type 0} (cmp : K → K → Ordering) (o : IsTotalOrder cmp) (eq 
   upsert-sound = record {
     ascending = subst (IsMap cmp) (sym upsert-pairs) (ascending_set cmp o (pairs s.root) k d sound.ascending);
     canonical = set-root cmp lev n k d at s.root sound.canonical;
-    caches = set-hold bytes_of cmp n k d s.root sound.caches;
+    caches = set-hold s.format bytes_of cmp n k d s.root sound.caches;
     root_hash_holds = tt;
   }
 
@@ -42,7 +43,7 @@ module _ {K H : Type 0} (cmp : K → K → Ordering) (o : IsTotalOrder cmp) (eq 
   upsert-dropped = set-dropped_root cmp o lev (alike cmp o eq matches digest_of respects bytes_of s) n k d at s.root sound.canonical sound.ascending
 
   pub upsert-few : s.root_hash ≢ None → missing (tree_set cmp n k d s.root) ≤ level (tree_set cmp n k d s.root) + n + 1
-  upsert-few ne = set-few_root cmp lev n k d s.root sound.canonical (none_of_hashed bytes_of s.root s.root_hash sound.root_hash_holds sound.caches ne)
+  upsert-few ne = set-few_root cmp lev n k d s.root sound.canonical (none_of_hashed s.format bytes_of s.root s.root_hash sound.root_hash_holds sound.caches ne)
 
   pub upsert-finds : has_key cmp (pairs s.root) k ≡ true → tree_finds cmp n k d s.root ≡ true
   upsert-finds e = set-finds_root cmp o lev (alike cmp o eq matches digest_of respects bytes_of s) n k d at s.root sound.canonical sound.ascending e

@@ -2,10 +2,10 @@
 use Rattle.std.specs.Prelude.{◌≡◌, ℕ, ◌+◌, List, false, Option, Some, None, ⊤}
 use Rattle.std.specs.declared.cmp.Ordering.{Ordering}
 use Rattle.key_order.specs.Map.{has_key}
-use Rattle.merkle_digest.specs.SipHash.{siphash128, zero_key}
 use Rattle.merkle_search_tree.specs.Tree.{Tree, page, Row, high, node, Held, nothing, below}
 use Rattle.merkle_search_tree.specs.Page.{row_pairs}
-use Rattle.merkle_search_tree.specs.Stream.{row_stream}
+use Rattle.merkle_search_tree.specs.Stream.{page_digest}
+use Rattle.merkle_search_tree.specs.declared.builder.PageFormat.{PageFormat}
 
 -- one where there is no digest
 abbrev pub one_without : Option (List ℕ) → ℕ
@@ -53,12 +53,12 @@ module _ {K D : Type 0} where
   EachHasCache (high h) = HasCache h
   EachHasCache (node h k d r) = HasCache h × EachHasCache r
 
-module _ {K : Type 0} (bytes_of : K → List ℕ) where
+module _ {K : Type 0} (format : PageFormat) (bytes_of : K → List ℕ) where
   abbrev mutual
     -- each cached digest is that of its page, and below a page with a cached digest every page has one
     pub CachesHold : Tree K (List ℕ) → Type 0
     CachesHold (page l None r) = RowCachesHold r
-    CachesHold (page l (Some d) r) = (d ≡ siphash128 zero_key (row_stream bytes_of r)) × EachHasCache r × RowCachesHold r
+    CachesHold (page l (Some d) r) = (d ≡ page_digest format bytes_of (page l (Some d) r)) × EachHasCache r × RowCachesHold r
 
     pub RowCachesHold : Row K (List ℕ) → Type 0
     RowCachesHold (high h) = HeldCachesHold h
@@ -71,7 +71,7 @@ module _ {K : Type 0} (bytes_of : K → List ℕ) where
   abbrev mutual
     -- the page and those below it with every digest in place
     pub filled : Tree K (List ℕ) → Tree K (List ℕ)
-    filled (page l c r) = page l (Some (siphash128 zero_key (row_stream bytes_of r))) (row_filled r)
+    filled (page l c r) = page l (Some (page_digest format bytes_of (page l c r))) (row_filled r)
 
     pub row_filled : Row K (List ℕ) → Row K (List ℕ)
     row_filled (high h) = high (held_filled h)

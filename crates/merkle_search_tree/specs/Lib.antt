@@ -5,6 +5,7 @@ pub mod Page
 pub mod Canonical
 pub mod TreeOf
 pub mod Stream
+pub mod Faithful
 pub mod Cache
 pub mod Events
 pub mod Traversal

@@ -2,23 +2,23 @@
 use Rattle.std.specs.Prelude.{◌≡◌, ℕ, List, [], ◌∷◌, ◌++◌, ◌⊎◌}
 use Rattle.std.specs.declared.cmp.Ordering.{Ordering}
 use Rattle.key_order.specs.Map.{last_key}
-use Rattle.merkle_digest.specs.SipHash.{siphash128, zero_key}
 use Rattle.merkle_diff.specs.Entry.{Entry}
 use Rattle.merkle_search_tree.specs.Tree.{Tree, page, Row, high, node, Held, nothing, below}
 use Rattle.merkle_search_tree.specs.Page.{row_pairs}
-use Rattle.merkle_search_tree.specs.Stream.{row_stream}
+use Rattle.merkle_search_tree.specs.Stream.{page_digest}
 use Rattle.merkle_search_tree.specs.Canonical.{IsTreeOf}
+use Rattle.merkle_search_tree.specs.declared.builder.PageFormat.{PageFormat}
 
 -- the entry of a page with these pairs and this digest; none where there is no pair
 abbrev pub entry_of : {K : Type 0} → List (K × List ℕ) → List ℕ → List (Entry K (List ℕ))
 entry_of [] d = []
 entry_of (p ∷ ps) d = record { first = p.0; last = last_key p.0 ps; digest = d } ∷ []
 
-module _ {K : Type 0} (bytes_of : K → List ℕ) where
+module _ {K : Type 0} (format : PageFormat) (bytes_of : K → List ℕ) where
   abbrev mutual
     -- an entry for each page, which is before those of the pages below it: the first and the last key of its subtree, and its digest
     pub ranges_of : Tree K (List ℕ) → List (Entry K (List ℕ))
-    ranges_of (page l c r) = entry_of (row_pairs r) (siphash128 zero_key (row_stream bytes_of r)) ++ row_ranges r
+    ranges_of (page l c r) = entry_of (row_pairs r) (page_digest format bytes_of (page l c r)) ++ row_ranges r
 
     pub row_ranges : Row K (List ℕ) → List (Entry K (List ℕ))
     row_ranges (high h) = held_ranges h
@@ -47,6 +47,6 @@ module _ {K : Type 0} (cmp : K → K → Ordering) (digest_of : K → List ℕ) 
   abbrev pub IsPageOf : Tree K (List ℕ) → List (K × List ℕ) → Type 0
   IsPageOf s m = (t : Tree K (List ℕ)) × IsTreeOf cmp digest_of base t m × IsPageIn s t
 
-  -- the entries are the page ranges of the tree of the map m
-  abbrev pub IsRangesOf : (K → List ℕ) → List (K × List ℕ) → List (Entry K (List ℕ)) → Type 0
-  IsRangesOf bytes_of m es = (t : Tree K (List ℕ)) × IsTreeOf cmp digest_of base t m × (es ≡ ranges_of bytes_of t)
+  -- the entries are the page ranges of the tree of the map m, in the format
+  abbrev pub IsRangesOf : PageFormat → (K → List ℕ) → List (K × List ℕ) → List (Entry K (List ℕ)) → Type 0
+  IsRangesOf format bytes_of m es = (t : Tree K (List ℕ)) × IsTreeOf cmp digest_of base t m × (es ≡ ranges_of format bytes_of t)

@@ -18,5 +18,5 @@ RootHashHolds (Some d) c = c ≡ Some d
 pub record IsSound {K H : Type 0} (cmp : K → K → Ordering) (digest_of : H → K → List ℕ) (bytes_of : K → List ℕ) (s : State K H) : Type 0 where
   pub ascending : IsMap cmp (map_of s)
   pub canonical : IsCanonicalRoot (λ k. level_of (digest_of s.hasher k) s.base) s.root
-  pub caches : CachesHold bytes_of s.root
+  pub caches : CachesHold s.format bytes_of s.root
   pub root_hash_holds : RootHashHolds s.root_hash (cache s.root)

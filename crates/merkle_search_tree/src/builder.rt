@@ -1,9 +1,10 @@
-//! A tree's hasher and level base, chosen before the tree is made.
+//! A tree's hasher, level base and page format, chosen before the tree is made.
 
 ghost use Rattle.std.specs.Prelude.{◌≡◌, IfOk, IsOk};
 ghost use Rattle.std.specs.Int.NonZero.{non_zero_u8_get};
 ghost use Rattle.merkle_digest.specs.SipHash.{zero_key};
 ghost use Rattle.merkle_search_tree.specs.State.{IsNew};
+ghost use Rattle.merkle_search_tree.specs.declared.builder.PageFormat.TheVariants.{V1};
 
 use crate::tree::MerkleSearchTree;
 use merkle_digest::{Hasher, KeyBytes, SipHasher, default_level_base};
@@ -11,11 +12,23 @@ use std::alloc::{AllocError, Global};
 use std::marker::Model;
 use std::num::NonZeroU8;
 
-/// Makes trees with a hasher and a level base. A contract sees the two.
+/// How a page is written as the stream of bytes that its digest is made of. Trees in different formats have different digests.
+#[derive(Clone, Copy, Debug, PartialEq, Eq)]
+pub enum PageFormat {
+    /// For each node the digest of the page below it, the bytes of its key and its value digest, and at the end the digest of the
+    /// high page. It has no lengths and no level, so pages of unlike nodes can have one stream.
+    V1,
+    /// With a mark, the level and the number of nodes in front, the length of each key before its bytes, and a mark for each page
+    /// below, also where there is none. The stream tells all these parts apart.
+    V2,
+}
+
+/// Makes trees with a hasher, a level base and a page format. A contract sees the three.
 #[derive(Drop)]
 pub struct Builder<H> {
     hasher: H,
     level_base: NonZeroU8,
+    page_format: PageFormat,
 }
 
 impl<H> Model for Builder<H> {
@@ -26,31 +39,34 @@ impl<H> Model for Builder<H> {
 
     ghost coded = { settings_code H.code };
 
-    ghost view = { λ a. record { hasher = a.hasher; base = non_zero_u8_get a.level_base } };
+    ghost view = { λ a. record { hasher = a.hasher; base = non_zero_u8_get a.level_base; format = a.page_format } };
 }
 
-/// The default hasher, SipHash under the zero key, and level base 16.
+/// The default hasher, SipHash under the zero key, level base 16, and format 1.
 impl Default for Builder<SipHasher> {
-    ghost is_default = { λ builder. (builder.hasher ≡ zero_key) × (builder.base ≡ 16) };
+    ghost is_default = { λ builder. (builder.hasher ≡ zero_key) × (builder.base ≡ 16) × (builder.format ≡ V1) };
 
     fn default() -> Self {
         Builder {
             hasher: SipHasher::default(),
             level_base: default_level_base(),
+            page_format: PageFormat::V1,
         }
     }
 }
 
 impl<H: Clone> Builder<H> {
-    /// A builder with a clone of the hasher, and the same level base. It takes no memory but what the clone of the hasher takes.
+    /// A builder with a clone of the hasher, and the same level base and page format. It takes no memory but what the clone of the hasher takes.
     pub fn try_clone(&self) -> Result<Self, AllocError>
         ensures hasher { IfOk result (λ copy. H.is_clone self.now.hasher copy.hasher) }
         ensures base { IfOk result (λ copy. copy.base ≡ self.now.base) }
+        ensures format { IfOk result (λ copy. copy.format ≡ self.now.format) }
         ensures succeeds { H.is_infallible self.now.hasher → IsOk result }
     {
         Ok(Builder {
             hasher: self.hasher.clone()?,
             level_base: self.level_base,
+            page_format: self.page_format,
         })
     }
 }
@@ -60,34 +76,47 @@ impl<H> Builder<H> {
     pub fn with_hasher<T>(self, hasher: T) -> Builder<T>
     where
         H: Drop,
-        ensures { result ≡ record { hasher = hasher; base = self.base } }
+        ensures { result ≡ record { hasher = hasher; base = self.base; format = self.format } }
     {
         Builder {
             hasher,
             level_base: self.level_base,
+            page_format: self.page_format,
         }
     }
 
     /// The builder with this level base, from 1 to 255: the branching factor of its trees, roughly. A greater base makes fewer
     /// levels and larger pages.
     pub fn with_level_base(self, level_base: NonZeroU8) -> Self
-        ensures { result ≡ record { hasher = self.hasher; base = non_zero_u8_get level_base } }
+        ensures { result ≡ record { hasher = self.hasher; base = non_zero_u8_get level_base; format = self.format } }
     {
         Builder {
             hasher: self.hasher,
             level_base,
+            page_format: self.page_format,
         }
     }
 
-    /// The empty tree with this hasher and level base. It takes no memory.
+    /// The builder with this page format.
+    pub fn with_page_format(self, page_format: PageFormat) -> Self
+        ensures { result ≡ record { hasher = self.hasher; base = self.base; format = page_format } }
+    {
+        Builder {
+            hasher: self.hasher,
+            level_base: self.level_base,
+            page_format,
+        }
+    }
+
+    /// The empty tree with this hasher, level base and page format. It takes no memory.
     pub fn build<K: Ord + KeyBytes, V, const N: usize>(
         self,
         alloc: Global,
     ) -> MerkleSearchTree<K, V, H, N>
     where
         H: Hasher<N, K>,
-        ensures { IsNew self.hasher self.base result }
+        ensures { IsNew self.hasher self.base self.format result }
     {
-        MerkleSearchTree::new(alloc, self.hasher, self.level_base)
+        MerkleSearchTree::new(alloc, self.hasher, self.level_base, self.page_format)
     }
 }

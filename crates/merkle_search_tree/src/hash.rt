@@ -3,9 +3,10 @@
 ghost use Rattle.std.specs.Prelude.{◌≡◌, ◌++◌, ◌-◌, ◌^◌, ℕ, List, min};
 ghost use Rattle.merkle_digest.specs.Sip24.{Holds};
 ghost use Rattle.merkle_search_tree.specs.Tree.{held_of};
-ghost use Rattle.merkle_search_tree.specs.Stream.{page_digest, held_digest};
+ghost use Rattle.merkle_search_tree.specs.Stream.{page_digest, held_stream, head_bytes, none_bytes, below_bytes, key_bytes};
 ghost use Rattle.merkle_search_tree.specs.Cache.{CachesHold, HeldCachesHold, missing, held_missing, filled, held_filled};
 
+use crate::builder::PageFormat;
 use crate::page::{Page, PageOf};
 use merkle_digest::{KeyBytes, PageDigest, Sip24};
 
@@ -38,47 +39,97 @@ impl<const N: usize, K: KeyBytes> Page<N, K> {
     /// Fills in every missing digest of this page and those below it, and gives this page's digest, and how many pages got one.
     /// Below a page with a digest it does not look.
     #[cycle(fill)]
-    pub(crate) fn fill(&mut self) -> (PageDigest, usize)
-        requires { CachesHold K.bytes_of self.old }
-        ensures pages { self.new ≡ filled K.bytes_of self.old }
-        ensures digest { result.0 ≡ page_digest K.bytes_of self.old }
+    pub(crate) fn fill(&mut self, format: PageFormat) -> (PageDigest, usize)
+        requires { CachesHold format K.bytes_of self.old }
+        ensures pages { self.new ≡ filled format K.bytes_of self.old }
+        ensures digest { result.0 ≡ page_digest format K.bytes_of self.old }
         ensures count { result.1 ≡ min (missing self.old) (2 ^ 64 - 1) }
     {
         if let Some(digest) = &self.tree_hash {
             return (PageDigest::new(*digest.as_bytes()), 0);
         }
         let mut sip = Sip24::new();
+        write_head(format, self.level, self.nodes.len(), &mut sip);
         let mut hashed: usize = 1;
         'nodes: for i in 0..self.nodes.len() {
             let node = &mut self.nodes[i];
-            hashed = hashed.saturating_add(fill_below(&mut node.lt_pointer, &mut sip));
-            sip.write(node.key.key_bytes());
+            hashed = hashed.saturating_add(fill_below(&mut node.lt_pointer, format, &mut sip));
+            write_key(format, node.key.key_bytes(), &mut sip);
             sip.write(node.value_hash.as_bytes());
         }
-        hashed = hashed.saturating_add(fill_below(&mut self.high_page, &mut sip));
+        hashed = hashed.saturating_add(fill_below(&mut self.high_page, format, &mut sip));
         let bytes = sip.finish128();
         self.tree_hash = Some(PageDigest::new(bytes));
         (PageDigest::new(bytes), hashed)
     }
 }
 
-/// Fills in the digests of what a pointer holds, writes the digest of the page there to `sip`, and answers how many pages got one.
+/// Fills in the digests of what a pointer holds, writes what stands for the page there to `sip`, and answers how many pages got one.
 #[cycle(fill)]
 fn fill_below<const N: usize, K: KeyBytes>(
     held: &mut Option<Box<Page<N, K>>>,
+    format: PageFormat,
     sip: &mut Sip24,
 ) -> usize
-    requires { HeldCachesHold K.bytes_of (held_of held.old) }
-    ensures pages { held_of held.new ≡ held_filled K.bytes_of (held_of held.old) }
-    ensures bytes { (key written : List ℕ) → Holds sip.old key written → Holds sip.new key (written ++ held_digest K.bytes_of (held_of held.old)) }
+    requires { HeldCachesHold format K.bytes_of (held_of held.old) }
+    ensures pages { held_of held.new ≡ held_filled format K.bytes_of (held_of held.old) }
+    ensures bytes { (key written : List ℕ) → Holds sip.old key written → Holds sip.new key (written ++ held_stream format K.bytes_of (held_of held.old)) }
     ensures count { result ≡ min (held_missing (held_of held.old)) (2 ^ 64 - 1) }
 {
     match held {
-        None => 0,
+        None => {
+            write_none(format, sip);
+            0
+        }
         Some(page) => {
-            let (digest, hashed) = page.fill();
-            sip.write(digest.as_bytes());
+            let (digest, hashed) = page.fill(format);
+            write_below(format, &digest, sip);
             hashed
         }
     }
+}
+
+/// Writes what stands before the first node of a page.
+fn write_head(format: PageFormat, level: u8, node_count: usize, sip: &mut Sip24)
+    ensures { (key written : List ℕ) → Holds sip.old key written → Holds sip.new key (written ++ head_bytes format level node_count) }
+{
+    match format {
+        PageFormat::V1 => {}
+        PageFormat::V2 => {
+            sip.write(&[2, level]);
+            sip.write(&u64::to_le_bytes(node_count as u64));
+        }
+    }
+}
+
+/// Writes what stands for a page that is not there.
+fn write_none(format: PageFormat, sip: &mut Sip24)
+    ensures { (key written : List ℕ) → Holds sip.old key written → Holds sip.new key (written ++ none_bytes format) }
+{
+    match format {
+        PageFormat::V1 => {}
+        PageFormat::V2 => sip.write(&[0]),
+    }
+}
+
+/// Writes what stands for a page with this digest.
+fn write_below(format: PageFormat, digest: &PageDigest, sip: &mut Sip24)
+    ensures { (key written : List ℕ) → Holds sip.old key written → Holds sip.new key (written ++ below_bytes format digest.now) }
+{
+    match format {
+        PageFormat::V1 => {}
+        PageFormat::V2 => sip.write(&[1]),
+    }
+    sip.write(digest.as_bytes());
+}
+
+/// Writes what stands for a key with these bytes.
+fn write_key(format: PageFormat, bytes: &[u8], sip: &mut Sip24)
+    ensures { (key written : List ℕ) → Holds sip.old key written → Holds sip.new key (written ++ key_bytes format bytes.now) }
+{
+    match format {
+        PageFormat::V1 => {}
+        PageFormat::V2 => sip.write(&u64::to_le_bytes(bytes.len() as u64)),
+    }
+    sip.write(bytes);
 }

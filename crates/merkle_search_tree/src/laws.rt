@@ -31,7 +31,8 @@ pub fn every_tree_is_sound<K: Ord + KeyBytes, V, H: Hasher<N, K>, const N: usize
     let _ = &tree.root;
 }
 
-/// Trees of equal maps, under one hasher and level base, have equal pages apart from caches, and equal root digests.
+/// Trees of equal maps, under one hasher and level base, have equal pages apart from caches, and, in one page format, equal root
+/// digests.
 pub fn equal_maps_have_equal_pages<K: Ord + KeyBytes, V, H: Hasher<N, K>, const N: usize>(
     a: &MerkleSearchTree<K, V, H, N>,
     b: &MerkleSearchTree<K, V, H, N>,
@@ -40,7 +41,7 @@ pub fn equal_maps_have_equal_pages<K: Ord + KeyBytes, V, H: Hasher<N, K>, const 
     requires base { a.now.base ≡ b.now.base }
     requires maps { SameMap K.cmp (λ d e. d ≡ e) (map_of a.now) (map_of b.now) }
     ensures pages { SamePages K.cmp a.now.root b.now.root }
-    ensures digests { page_digest K.bytes_of a.now.root ≡ page_digest K.bytes_of b.now.root }
+    ensures digests { a.now.format ≡ b.now.format → page_digest a.now.format K.bytes_of a.now.root ≡ page_digest b.now.format K.bytes_of b.now.root }
 {
     let _ = &a.root;
     let _ = &b.root;
@@ -50,7 +51,7 @@ pub fn equal_maps_have_equal_pages<K: Ord + KeyBytes, V, H: Hasher<N, K>, const 
 pub fn a_hashed_tree_has_every_digest<K: Ord + KeyBytes, V, H: Hasher<N, K>, const N: usize>(
     tree: &MerkleSearchTree<K, V, H, N>,
 )
-    ensures { MatchOption tree.now.root_hash ⊤ (λ digest. (digest ≡ page_digest K.bytes_of tree.now.root) × (missing tree.now.root ≡ 0)) }
+    ensures { MatchOption tree.now.root_hash ⊤ (λ digest. (digest ≡ page_digest tree.now.format K.bytes_of tree.now.root) × (missing tree.now.root ≡ 0)) }
 {
     let _ = &tree.root;
 }
@@ -60,7 +61,7 @@ pub fn a_hashed_tree_has_every_digest<K: Ord + KeyBytes, V, H: Hasher<N, K>, con
 pub fn page_ranges_are_tree_shaped<K: Ord + KeyBytes, V, H: Hasher<N, K>, const N: usize>(
     tree: &MerkleSearchTree<K, V, H, N>,
 )
-    ensures { IsTreeShaped K.cmp (ranges_of K.bytes_of tree.now.root) }
+    ensures { IsTreeShaped K.cmp (ranges_of tree.now.format K.bytes_of tree.now.root) }
 {
     let _ = &tree.root;
 }
@@ -70,27 +71,28 @@ pub fn page_ranges_are_tree_shaped<K: Ord + KeyBytes, V, H: Hasher<N, K>, const 
 pub fn page_ranges_list_the_map<K: Ord + KeyBytes, V, H: Hasher<N, K>, const N: usize>(
     tree: &MerkleSearchTree<K, V, H, N>,
 )
-    ensures { IsListing K.cmp (IsPageOf K.cmp (H.digest_of tree.now.hasher) tree.now.base) (page_digest K.bytes_of) pairs (map_of tree.now) (ranges_of K.bytes_of tree.now.root) }
+    ensures { IsListing K.cmp (IsPageOf K.cmp (H.digest_of tree.now.hasher) tree.now.base) (page_digest tree.now.format K.bytes_of) pairs (map_of tree.now) (ranges_of tree.now.format K.bytes_of tree.now.root) }
 {
     let _ = &tree.root;
 }
 
-/// Trees of equal maps, under one hasher and level base, have page ranges that agree in span and digest, place by place, so that
-/// what [`diff`](merkle_diff::diff) answers on them is empty in both directions.
+/// Trees of equal maps, under one hasher, level base and page format, have page ranges that agree in span and digest, place by
+/// place, so that what [`diff`](merkle_diff::diff) answers on them is empty in both directions.
 pub fn equal_maps_have_equal_page_ranges<K: Ord + KeyBytes, V, H: Hasher<N, K>, const N: usize>(
     a: &MerkleSearchTree<K, V, H, N>,
     b: &MerkleSearchTree<K, V, H, N>,
 )
     requires hasher { a.now.hasher ≡ b.now.hasher }
     requires base { a.now.base ≡ b.now.base }
+    requires format { a.now.format ≡ b.now.format }
     requires maps { SameMap K.cmp (λ d e. d ≡ e) (map_of a.now) (map_of b.now) }
-    ensures ranges { SameEntries K.cmp (ranges_of K.bytes_of a.now.root) (ranges_of K.bytes_of b.now.root) }
+    ensures ranges { SameEntries K.cmp (ranges_of a.now.format K.bytes_of a.now.root) (ranges_of b.now.format K.bytes_of b.now.root) }
     ensures nothing_to_ask_b_for { (found : List (Span K))
-        → IsDifference K.cmp (ranges_of K.bytes_of a.now.root) (ranges_of K.bytes_of b.now.root) found
-        → SparesAgreed K.cmp (ranges_of K.bytes_of a.now.root) (ranges_of K.bytes_of b.now.root) found → found ≡ [] }
+        → IsDifference K.cmp (ranges_of a.now.format K.bytes_of a.now.root) (ranges_of b.now.format K.bytes_of b.now.root) found
+        → SparesAgreed K.cmp (ranges_of a.now.format K.bytes_of a.now.root) (ranges_of b.now.format K.bytes_of b.now.root) found → found ≡ [] }
     ensures nothing_to_ask_a_for { (found : List (Span K))
-        → IsDifference K.cmp (ranges_of K.bytes_of b.now.root) (ranges_of K.bytes_of a.now.root) found
-        → SparesAgreed K.cmp (ranges_of K.bytes_of b.now.root) (ranges_of K.bytes_of a.now.root) found → found ≡ [] }
+        → IsDifference K.cmp (ranges_of b.now.format K.bytes_of b.now.root) (ranges_of a.now.format K.bytes_of a.now.root) found
+        → SparesAgreed K.cmp (ranges_of b.now.format K.bytes_of b.now.root) (ranges_of a.now.format K.bytes_of a.now.root) found → found ≡ [] }
 {
     let _ = &a.root;
     let _ = &b.root;

@@ -13,8 +13,9 @@ ghost use Rattle.merkle_search_tree.specs.Upsert.{place};
 ghost use Rattle.merkle_search_tree.specs.Cache.{missing, KeyUncached};
 ghost use Rattle.merkle_search_tree.specs.Copy.{IsCopy};
 ghost use Rattle.merkle_search_tree.specs.State.{map_of, IsNew};
+ghost use Rattle.merkle_search_tree.specs.declared.builder.PageFormat.TheVariants.{V1};
 
-use crate::builder::Builder;
+use crate::builder::{Builder, PageFormat};
 use crate::node_iter::NodeIter;
 use crate::page::Page;
 use crate::split::search;
@@ -27,10 +28,10 @@ use std::marker::{Model, PhantomData};
 use std::num::NonZeroU8;
 
 /// A Merkle search tree (Auvolat and Taïani, "Merkle Search Trees: Efficient State-Based CRDTs in Open Networks"): an ordered map
-/// from keys to digests of values, whose pages and root hash depend on the map, the hasher and the level base alone, and not on
-/// the order in which keys came.
+/// from keys to digests of values, whose pages depend on the map, the hasher and the level base alone, and not on the order in
+/// which keys came. Its root hash depends on the page format too.
 ///
-/// A contract sees the tree as its hasher, its level base, its root page with all caches, and its cached root hash. Of every
+/// A contract sees the tree as its hasher, its level base, its page format, its root page with all caches, and its cached root hash. Of every
 /// tree it holds that the keys ascend, that the pages are the tree of the map, that each cached digest is that of its page with
 /// every page below it cached too, and that a cached root hash is the digest of the root page.
 ///
@@ -40,6 +41,7 @@ pub struct MerkleSearchTree<K: Ord + KeyBytes, V, H: Hasher<N, K>, const N: usiz
     alloc: Global,
     hasher: H,
     level_base: NonZeroU8,
+    page_format: PageFormat,
     pub(crate) root: Page<N, K>,
     root_hash: Option<RootHash>,
     value_type: PhantomData<V>,
@@ -53,47 +55,65 @@ impl<K: Ord + KeyBytes, V, H: Hasher<N, K>, const N: usize> Model for MerkleSear
 
     ghost coded = { state_code K.code H.code };
 
-    ghost view = { λ a. record { hasher = a.hasher; base = non_zero_u8_get a.level_base; root = a.root; root_hash = a.root_hash } };
+    ghost view = { λ a. record { hasher = a.hasher; base = non_zero_u8_get a.level_base; format = a.page_format; root = a.root; root_hash = a.root_hash } };
 
     ghost use Rattle.merkle_search_tree.specs.Sound.{IsSound};
 
-    ghost invariant = { λ a. IsSound K.cmp H.digest_of K.bytes_of (record { hasher = a.hasher; base = non_zero_u8_get a.level_base; root = a.root; root_hash = a.root_hash }) };
+    ghost invariant = { λ a. IsSound K.cmp H.digest_of K.bytes_of (record { hasher = a.hasher; base = non_zero_u8_get a.level_base; format = a.page_format; root = a.root; root_hash = a.root_hash }) };
 }
 
 impl<K: Ord + KeyBytes, V, const N: usize> MerkleSearchTree<K, V, SipHasher, N>
 where
     SipHasher: Hasher<N, K>,
 {
-    /// The empty tree with the default hasher, SipHash under the zero key, and level base 16. It takes no memory.
+    /// The empty tree with the default hasher, SipHash under the zero key, level base 16, and format 1. It takes no memory.
     pub fn with_defaults(alloc: Global) -> Self
-        ensures { IsNew zero_key 16 result }
+        ensures { IsNew zero_key 16 V1 result }
     {
         Builder::default().build(alloc)
     }
 }
 
 impl<K: Ord + KeyBytes, V, H: Hasher<N, K>, const N: usize> MerkleSearchTree<K, V, H, N> {
-    /// The empty tree with this hasher and level base 16. It takes no memory.
+    /// The empty tree with this hasher, level base 16, and format 1. It takes no memory.
     ///
     /// Deprecated: use [`Builder`](crate::builder::Builder).
     pub fn new_with_hasher(alloc: Global, hasher: H) -> Self
-        ensures { IsNew hasher 16 result }
+        ensures { IsNew hasher 16 V1 result }
     {
-        MerkleSearchTree::new(alloc, hasher, merkle_digest::default_level_base())
+        MerkleSearchTree::new(
+            alloc,
+            hasher,
+            merkle_digest::default_level_base(),
+            PageFormat::V1,
+        )
     }
 
-    /// The empty tree with this hasher and level base.
-    pub(crate) fn new(alloc: Global, hasher: H, level_base: NonZeroU8) -> Self
-        ensures { IsNew hasher (non_zero_u8_get level_base) result }
+    /// The empty tree with this hasher, level base and page format.
+    pub(crate) fn new(
+        alloc: Global,
+        hasher: H,
+        level_base: NonZeroU8,
+        page_format: PageFormat,
+    ) -> Self
+        ensures { IsNew hasher (non_zero_u8_get level_base) page_format result }
     {
         MerkleSearchTree {
             alloc,
             hasher,
             level_base,
+            page_format,
             root: Page::empty(alloc),
             root_hash: None,
             value_type: PhantomData,
         }
+    }
+
+    /// The page format, which is that of the builder that made the tree.
+    pub fn page_format(&self) -> PageFormat
+        ensures { result ≡ self.now.format }
+    {
+        self.page_format
     }
 
     /// The digest of the root page, where it is cached: `None` for a new tree, and after every accepted upsert until the tree is
@@ -146,8 +166,8 @@ impl<K: Ord + KeyBytes, V, H: Hasher<N, K>, const N: usize> MerkleSearchTree<K, 
     /// only as far as no digests collide.
     pub fn root_hash(&mut self) -> &RootHash
         ensures* tree { sem 𝓛 (follows_so (the_row K.row V.row H.row (number N) K.Ord.own K.PartialEq K.PartialOrd.own K.KeyBytes.own H.Hasher) (the_row K.row V.row H.row (number N) K.Ord.own K.PartialEq K.PartialOrd.own K.KeyBytes.own H.Hasher) self.entry.ghost_name none (λ _ _. ⊤)
-            (λ t. t ≡ record self.old { root = filled K.bytes_of self.old.root; root_hash = Some (page_digest K.bytes_of self.old.root) })) }
-        ensures digest { result.now ≡ page_digest K.bytes_of self.old.root }
+            (λ t. t ≡ record self.old { root = filled self.old.format K.bytes_of self.old.root; root_hash = Some (page_digest self.old.format K.bytes_of self.old.root) })) }
+        ensures digest { result.now ≡ page_digest self.old.format K.bytes_of self.old.root }
     {
         let _ = self.root_hash_counted();
         match &self.root_hash {
@@ -159,12 +179,12 @@ impl<K: Ord + KeyBytes, V, H: Hasher<N, K>, const N: usize> MerkleSearchTree<K, 
     /// The root hash, as [`root_hash`](Self::root_hash) gives it, and how many pages were hashed in this call: one for each page
     /// that lacked a digest, but at most `usize::MAX`.
     pub fn root_hash_counted(&mut self) -> (RootHash, usize)
-        ensures tree { self.new ≡ record self.old { root = filled K.bytes_of self.old.root; root_hash = Some (page_digest K.bytes_of self.old.root) } }
-        ensures digest { result.0 ≡ page_digest K.bytes_of self.old.root }
+        ensures tree { self.new ≡ record self.old { root = filled self.old.format K.bytes_of self.old.root; root_hash = Some (page_digest self.old.format K.bytes_of self.old.root) } }
+        ensures digest { result.0 ≡ page_digest self.old.format K.bytes_of self.old.root }
         ensures count { result.1 ≡ min (missing self.old.root) (2 ^ 64 - 1) }
         ensures hashed { missing self.new.root ≡ 0 }
     {
-        let (digest, hashed) = self.root.fill();
+        let (digest, hashed) = self.root.fill(self.page_format);
         let bytes = *digest.as_bytes();
         self.root_hash = Some(RootHash::new(digest));
         (RootHash::new(PageDigest::new(bytes)), hashed)
@@ -182,7 +202,7 @@ impl<K: Ord + KeyBytes, V, H: Hasher<N, K>, const N: usize> MerkleSearchTree<K, 
     /// [`diff`](merkle_diff::diff). Neither `None` nor the empty list of a tree without keys takes memory.
     pub fn serialise_page_ranges(&self) -> Result<Option<Vec<PageRange<'_, K>>>, AllocError>
         ensures hashed { IfOk result (λ found. IfSome found (λ list. self.now.root_hash ≢ None)) }
-        ensures ranges { IfOk result (λ found. MatchOption found (self.now.root_hash ≡ None) (λ list. entries list.items ≡ ranges_of K.bytes_of self.now.root)) }
+        ensures ranges { IfOk result (λ found. MatchOption found (self.now.root_hash ≡ None) (λ list. entries list.items ≡ ranges_of self.now.format K.bytes_of self.now.root)) }
         ensures not_hashed { self.now.root_hash ≡ None → IsOk result }
         ensures empty { map_of self.now ≡ [] → IsOk result }
     {
@@ -221,7 +241,7 @@ impl<K: Ord + KeyBytes + Clone, V, H: Hasher<N, K> + Clone, const N: usize> Merk
     H,
     N,
 > {
-    /// A tree with equal pages, all cached digests included, and the same hasher, level base and cached root hash.
+    /// A tree with equal pages, all cached digests included, and the same hasher, level base, page format and cached root hash.
     pub fn try_clone(&self) -> Result<Self, AllocError>
         // A clone equals its original.
         requires keys { (a b : K) → K.is_clone a b → Same K.cmp a b }
@@ -230,6 +250,7 @@ impl<K: Ord + KeyBytes + Clone, V, H: Hasher<N, K> + Clone, const N: usize> Merk
         ensures pages { IfOk result (λ copy. IsCopy (Same K.cmp) (λ d e. d ≡ e) self.now.root copy.root) }
         ensures hasher { IfOk result (λ copy. copy.hasher ≡ self.now.hasher) }
         ensures base { IfOk result (λ copy. copy.base ≡ self.now.base) }
+        ensures format { IfOk result (λ copy. copy.format ≡ self.now.format) }
         ensures root_hash { IfOk result (λ copy. copy.root_hash ≡ self.now.root_hash) }
     {
         let hasher = self.hasher.clone()?;
@@ -239,6 +260,7 @@ impl<K: Ord + KeyBytes + Clone, V, H: Hasher<N, K> + Clone, const N: usize> Merk
             alloc: self.alloc,
             hasher,
             level_base: self.level_base,
+            page_format: self.page_format,
             root,
             root_hash,
             value_type: PhantomData,
@@ -269,6 +291,7 @@ impl<
 
         ensures hasher { self.new.hasher ≡ self.old.hasher }
         ensures base { self.new.base ≡ self.old.base }
+        ensures format { self.new.format ≡ self.old.format }
 
         // Refused, it leaves the tree and hands the key back.
         ensures unchanged { OnErr result (self.new ≡ self.old) }
@@ -310,6 +333,7 @@ impl<K: Ord + KeyBytes + Drop, V, H: Hasher<N, K>, const N: usize> MerkleSearchT
 
         ensures hasher { self.new.hasher ≡ self.old.hasher }
         ensures base { self.new.base ≡ self.old.base }
+        ensures format { self.new.format ≡ self.old.format }
 
         // Refused, it leaves the tree.
         ensures unchanged { OnErr result (self.new ≡ self.old) }

@@ -40,6 +40,7 @@ where
     ensures hashed { is_some tree.new.root_hash ≡ hashed_after_one K.cmp (⟦<H as Hasher<N, V>>⟧.digest_of tree.old.hasher) (map_of tree.old) (is_some tree.old.root_hash) update result }
     ensures hasher { tree.new.hasher ≡ tree.old.hasher }
     ensures base { tree.new.base ≡ tree.old.base }
+    ensures format { tree.new.format ≡ tree.old.format }
 {
     match update {
         Update::Upsert(key, value) => tree.upsert(key, &value).is_ok(),
@@ -71,13 +72,14 @@ where
     ensures map { IfOk result (λ r. map_of r.0 ≡ map_after K.cmp (⟦<H as Hasher<N, V>>⟧.digest_of builder.hasher) [] updates.items r.1.items) }
     ensures pages { IfOk result (λ r. SamePages K.cmp r.0.root (tree_of (λ k. level_of (⟦<H as Hasher<N, K>>⟧.digest_of builder.hasher k) builder.base)
         (map_after K.cmp (⟦<H as Hasher<N, V>>⟧.digest_of builder.hasher) [] updates.items r.1.items))) }
-    ensures ranges { IfOk result (λ r. SameEntries K.cmp (ranges_of K.bytes_of r.0.root) (ranges_of K.bytes_of (tree_of (λ k. level_of (⟦<H as Hasher<N, K>>⟧.digest_of builder.hasher k) builder.base)
+    ensures ranges { IfOk result (λ r. SameEntries K.cmp (ranges_of builder.format K.bytes_of r.0.root) (ranges_of builder.format K.bytes_of (tree_of (λ k. level_of (⟦<H as Hasher<N, K>>⟧.digest_of builder.hasher k) builder.base)
         (map_after K.cmp (⟦<H as Hasher<N, V>>⟧.digest_of builder.hasher) [] updates.items r.1.items)))) }
     ensures root_hash { IfOk result (λ r. r.0.root_hash ≡ (if hashed_after K.cmp (⟦<H as Hasher<N, V>>⟧.digest_of builder.hasher) [] false updates.items r.1.items
-        then Some (page_digest K.bytes_of (tree_of (λ k. level_of (⟦<H as Hasher<N, K>>⟧.digest_of builder.hasher k) builder.base)
+        then Some (page_digest builder.format K.bytes_of (tree_of (λ k. level_of (⟦<H as Hasher<N, K>>⟧.digest_of builder.hasher k) builder.base)
         (map_after K.cmp (⟦<H as Hasher<N, V>>⟧.digest_of builder.hasher) [] updates.items r.1.items))) else None)) }
     ensures hasher { IfOk result (λ r. r.0.hasher ≡ builder.hasher) }
     ensures base { IfOk result (λ r. r.0.base ≡ builder.base) }
+    ensures format { IfOk result (λ r. r.0.format ≡ builder.format) }
 {
     let mut accepted = Vec::with_capacity(alloc, updates.len())?;
     let mut tree = builder.build(alloc);

@@ -37,7 +37,7 @@ module _ {K : Type 0} (cmp : K → K → Ordering) where
 
 module _ {K V H : Type 0} (cmp : K → K → Ordering) (eq : V → V → Bool) (join : V → V → V) (kd : H → K → List ℕ) (vd : H → V → List ℕ) (bo : K → List ℕ) (o : IsTotalOrder cmp) where
   pub answer_for : (local peer : Contents K V H) (ls ps : List (Entry K (List ℕ))) (found own : List (Span K)) → SameMap cmp (λ d e. d ≡ e) (map_of local.tree) (digests (vd local.tree.hasher) local.rows) → SameMap cmp (λ d e. d ≡ e) (map_of peer.tree) (digests (vd peer.tree.hasher) peer.rows) → IsSound cmp kd bo local.tree → IsSound cmp kd bo peer.tree
-      → IsTreeShaped cmp (ranges_of bo local.tree.root) → IsTreeShaped cmp (ranges_of bo peer.tree.root) → ls ≡ ranges_of bo local.tree.root → ps ≡ ranges_of bo peer.tree.root → IsAnswer cmp ls ps found → SameSpans cmp found own
+      → IsTreeShaped cmp (ranges_of local.tree.format bo local.tree.root) → IsTreeShaped cmp (ranges_of peer.tree.format bo peer.tree.root) → ls ≡ ranges_of local.tree.format bo local.tree.root → ps ≡ ranges_of peer.tree.format bo peer.tree.root → IsAnswer cmp ls ps found → SameSpans cmp found own
       → IsAnswerFor cmp eq join (Of cmp eq join kd vd bo local) (Of cmp eq join kd vd bo peer) local.rows peer.rows own
   answer_for local peer ls ps found own kl kp sl sp tl tp e f d same =
       record {

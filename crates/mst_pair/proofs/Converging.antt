@@ -106,7 +106,7 @@ module _ {K V D P T : Type 0} (cmp : K → K → Ordering) (o : IsTotalOrder cmp
           takes_all eq e join j (is_covered cmp k n.ranges) (get cmp x k) (get cmp y k) (get cmp x' k) (takes k)
           (absent_or_same k (get cmp x k) (get cmp y k) refl refl (λ p. subst (λ v. IsCovered cmp k n.ranges ⊎ SameValue (λ d c. d ≡ c) v (option_map hash (get cmp y k))) (get_digests cmp o hash x k)
           (subst (λ v. IsCovered cmp k n.ranges ⊎ SameValue (λ d c. d ≡ c) (get cmp (digests hash x) k) v) (get_digests cmp o hash y k)
-          (found_or_same cmp o IsPageOf IsPageOf dig pairs (digests hash x) (digests hash y) t.answered.local_list t.answered.peer_list n.ranges (ascending_digests cmp o hash x ax) (ascending_digests cmp o hash y ay)
+          (found_or_same cmp o IsPageOf IsPageOf dig dig pairs (digests hash x) (digests hash y) t.answered.local_list t.answered.peer_list n.ranges (ascending_digests cmp o hash x ax) (ascending_digests cmp o hash y ay)
           (lists (digests hash x) t.answered.local_list (ascending_digests cmp o hash x ax) t.answered.of_local) (lists (digests hash y) t.answered.peer_list (ascending_digests cmp o hash y ay) t.answered.of_peer)
           (lo_digests lo) (hi_digests hi) faith.same_pages t.answered.interval_laws k (present_to cmp o hash y k p)))))
 

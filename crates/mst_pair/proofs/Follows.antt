@@ -29,11 +29,11 @@ module _ {K V D : Type 0} (cmp : K → K → Ordering) (o : IsTotalOrder cmp) (h
 
 module _ {K V H : Type 0} (cmp : K → K → Ordering) (digest_of : H → V → List ℕ) where
   -- the caches are filled in
-  pub kept_filled : (bytes_of : K → List ℕ) (rows : List (K × V)) (old new : State K H) (h : Option (List ℕ)) → new ≡ record old { root = filled bytes_of old.root; root_hash = h }
+  pub kept_filled : (bytes_of : K → List ℕ) (rows : List (K × V)) (old new : State K H) (h : Option (List ℕ)) → new ≡ record old { root = filled old.format bytes_of old.root; root_hash = h }
       → IsKept cmp digest_of (record { rows = rows; tree = old }) → IsKept cmp digest_of (record { rows = rows; tree = new })
   kept_filled bytes_of rows old new h e k =
       subst (λ t. IsKept cmp digest_of (record { rows = rows; tree = t })) (sym e)
-      (record { ascending = k.ascending; digested = subst (λ m. SameMap cmp (λ d c. d ≡ c) m (digests (digest_of old.hasher) rows)) (sym (pairs-filled bytes_of old.root)) k.digested })
+      (record { ascending = k.ascending; digested = subst (λ m. SameMap cmp (λ d c. d ≡ c) m (digests (digest_of old.hasher) rows)) (sym (pairs-filled old.format bytes_of old.root)) k.digested })
 
   -- a row is set, and its digest in the tree at an equal key
   pub kept_set : IsTotalOrder cmp → (rows rows' : List (K × V)) (old new : State K H) (k key : K) (v : V) → rows' ≡ set cmp rows key v → map_of new ≡ set cmp (map_of old) k (digest_of old.hasher v) → new.hasher ≡ old.hasher → Same cmp k key

@@ -10,7 +10,8 @@ use Rattle.merkle_search_tree.specs.Stream.{page_digest}
 use Rattle.merkle_search_tree.proofs.Listing.{lists}
 use Rattle.mst_pair.specs.Contents.{Contents, SameSetup, digests}
 use Rattle.mst_pair.specs.Pulls.{IsAnswerFor, IsPull, IsPartOfPull}
-use Rattle.mst_pair.specs.Faithful.{HasFaithfulPages, SpanHolds}
+use Rattle.merkle_search_tree.specs.Faithful.{HasFaithfulPages}
+use Rattle.mst_pair.specs.Faithful.{SpanHolds}
 use Rattle.mst_pair.specs.Answers.{spans_of, IsDone, IsCut}
 use Rattle.mst_pair.proofs.Bounds.{ascending_digests}
 use Rattle.mst_pair.proofs.Cover.{covers}
@@ -44,15 +45,15 @@ module _ {K V H : Type 0} (cmp : K → K → Ordering) (eq : V → V → Bool) (
 
   -- coverage
   pub covers_pull : IsTotalOrder cmp → (local peer : Contents K V H) (found : List (Span K)) → IsMap cmp local.rows → IsMap cmp peer.rows → IsAnswerFor cmp eq join (Of cmp eq join kd vd bo local) (Of cmp eq join kd vd bo peer) local.rows peer.rows found
-      → HasFaithfulPages cmp (IsPageOf cmp (kd local.tree.hasher) local.tree.base) (IsPageOf cmp (kd peer.tree.hasher) peer.tree.base) (page_digest bo) pairs (digests (vd local.tree.hasher) local.rows) (digests (vd peer.tree.hasher) peer.rows)
+      → HasFaithfulPages cmp (IsPageOf cmp (kd local.tree.hasher) local.tree.base) (IsPageOf cmp (kd peer.tree.hasher) peer.tree.base) (page_digest local.tree.format bo) (page_digest peer.tree.format bo) pairs (digests (vd local.tree.hasher) local.rows) (digests (vd peer.tree.hasher) peer.rows)
       → SpanHolds cmp peer.rows local.rows → (k : K) (d : List ℕ) → get cmp (digests (vd peer.tree.hasher) peer.rows) k ≡ Some d → ¬ (get cmp (digests (vd local.tree.hasher) local.rows) k ≡ Some d) → IsCovered cmp k found
   covers_pull o local peer found al ap a faith holds k d there lacks =
       let dl = digests (vd local.tree.hasher) local.rows in
       let dp = digests (vd peer.tree.hasher) peer.rows in
       let ml = ascending_digests cmp o (vd local.tree.hasher) local.rows al in
       let mp = ascending_digests cmp o (vd peer.tree.hasher) peer.rows ap in
-      covers cmp o (IsPageOf cmp (kd local.tree.hasher) local.tree.base) (IsPageOf cmp (kd peer.tree.hasher) peer.tree.base) (page_digest bo) pairs dl dp a.local_list a.peer_list found ml mp
-      (lists cmp o (kd local.tree.hasher) local.tree.base bo dl a.local_list ml a.of_local) (lists cmp o (kd peer.tree.hasher) peer.tree.base bo dp a.peer_list mp a.of_peer)
+      covers cmp o (IsPageOf cmp (kd local.tree.hasher) local.tree.base) (IsPageOf cmp (kd peer.tree.hasher) peer.tree.base) (page_digest local.tree.format bo) (page_digest peer.tree.format bo) pairs dl dp a.local_list a.peer_list found ml mp
+      (lists cmp o (kd local.tree.hasher) local.tree.base local.tree.format bo dl a.local_list ml a.of_local) (lists cmp o (kd peer.tree.hasher) peer.tree.base peer.tree.format bo dp a.peer_list mp a.of_peer)
       (span_digests peer.rows local.rows holds) faith a.interval_laws k d there lacks
     where
       last_digests : {X Y : Type 0} (f : X → Y) (k : K) (rs : List (K × X)) → last_key k (digests f rs) ≡ last_key k rs

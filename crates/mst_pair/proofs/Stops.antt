@@ -1,11 +1,12 @@
 -- Pulls of replicas of the program, in the words of the engine.
 use Rattle.std.proofs.Common.{◌≡◌, ap, ℕ, List, [], ◌∷◌, max, nat_eq, inl, inr, subst, string_bytes, map, Some, Result, Ok, Err, IfErr, OnErr}
 use Rattle.std.specs.Int.{w64, to_le_bytes}
-use Rattle.merkle_digest.specs.SipHash.{siphash128, zero_key}
+use Rattle.merkle_digest.specs.SipHash.{siphash128}
 use Rattle.key_order.specs.Interval.{Span}
 use Rattle.merkle_diff.specs.Entry.{Entry}
 use Rattle.merkle_search_tree.specs.Cache.{filled}
 use Rattle.merkle_search_tree.specs.Stream.{page_digest}
+use Rattle.merkle_search_tree.specs.declared.builder.PageFormat.{PageFormat}
 use Rattle.mst_pair.specs.Answers.{answer_of, IsRefused, StopsByTurns}
 use Rattle.mst_pair.specs.Contents.{Contents, SameSetup}
 use Rattle.mst_pair.specs.Engine.{MayAsk, StopsPulling, StopsAfter}
@@ -17,32 +18,29 @@ use Rattle.mst_pair.specs.declared.pull.PullError.{PullError}
 use Rattle.mst_pair.specs.declared.pull.PullError.TheVariants.{Memory, Partly}
 use Rattle.mst_pair.proofs.Pulling.{answered_before}
 
--- the lists that are the page ranges of rows, under a key of SipHash and a level base
-abbrev pub Ranges : List ℕ → ℕ → List Row → List (Entry Text (List ℕ)) → Type 0
+-- the lists that are the page ranges of rows, under a key of SipHash, a level base and a page format
+abbrev pub Ranges : List ℕ → ℕ → PageFormat → List Row → List (Entry Text (List ℕ)) → Type 0
 Ranges = HasRanges text_order (λ h key. siphash128 h (string_bytes key)) (λ h n. siphash128 h (to_le_bytes w64 n)) string_bytes
 
--- those under the hasher and the level base of a replica
+-- those under the hasher, the level base and the page format of a replica
 abbrev pub RangesUnder : Contents Text ℕ (List ℕ) → List Row → List (Entry Text (List ℕ)) → Type 0
-RangesUnder c = Ranges c.tree.hasher c.tree.base
+RangesUnder c = Ranges c.tree.hasher c.tree.base c.tree.format
 
 -- what holds of the lists of two replicas with the defaults holds of those of the engine
-pub under_defaults : (P : (List Row → List (Entry Text (List ℕ)) → Type 0) → (List Row → List (Entry Text (List ℕ)) → Type 0) → Type 0) (a b : Contents Text ℕ (List ℕ))
-    → HasDefaults a → HasDefaults b → P (RangesUnder a) (RangesUnder b) → P HasPageRanges HasPageRanges
-under_defaults P a b da db p =
-    let first = subst (λ h. P (Ranges h a.tree.base) (RangesUnder b)) da.0 p in
-    let second = subst (λ n. P (Ranges zero_key n) (RangesUnder b)) da.1 first in
-    let third = subst (λ h. P HasPageRanges (Ranges h b.tree.base)) db.0 second in
-    subst (λ n. P HasPageRanges (Ranges zero_key n)) db.1 third
+pub under_defaults : (P : (List Row → List (Entry Text (List ℕ)) → Type 0) → (List Row → List (Entry Text (List ℕ)) → Type 0) → Type 0) (format : PageFormat) (a b : Contents Text ℕ (List ℕ))
+    → HasDefaults format a → HasDefaults format b → P (RangesUnder a) (RangesUnder b) → P (HasPageRanges format) (HasPageRanges format)
+under_defaults P format a b da db p =
+    subst (λ r. P (HasPageRanges format) r) (λ i. Ranges (db.0 i) (db.1 i) (db.2 i)) (subst (λ r. P r (RangesUnder b)) (λ i. Ranges (da.0 i) (da.1 i) (da.2 i)) p)
 
--- hashing leaves the hasher and the level base
-pub after_hash : (a a' : Contents Text ℕ (List ℕ)) → a'.tree ≡ record a.tree { root = filled string_bytes a.tree.root; root_hash = Some (page_digest string_bytes a.tree.root) } → SameSetup a a'
-after_hash a a' e = (ap (λ t. t.hasher) e, ap (λ t. t.base) e)
+-- hashing leaves the hasher, the level base and the page format
+pub after_hash : (a a' : Contents Text ℕ (List ℕ)) → a'.tree ≡ record a.tree { root = filled a.tree.format string_bytes a.tree.root; root_hash = Some (page_digest a.tree.format string_bytes a.tree.root) } → SameSetup a a'
+after_hash a a' e = (ap (λ t. t.hasher) e, ap (λ t. t.base) e, ap (λ t. t.format) e)
 
 -- ranges that were asked for once both replicas were hashed
-pub may_ask : (a b a' b' : Contents Text ℕ (List ℕ)) (found : List (Span Text)) → HasDefaults a → HasDefaults b → SameSetup a a' → SameSetup b b' → a'.rows ≡ a.rows → b'.rows ≡ b.rows
-    → IsAnswerFor text_order nat_eq max (RangesUnder a') (RangesUnder b') a'.rows b'.rows found → MayAsk a.rows b.rows found
-may_ask a b a' b' found da db sa sb ra rb answer =
-    under_defaults (λ R S. IsAnswerFor text_order nat_eq max R S a.rows b.rows found) a b da db
+pub may_ask : (format : PageFormat) (a b a' b' : Contents Text ℕ (List ℕ)) (found : List (Span Text)) → HasDefaults format a → HasDefaults format b → SameSetup a a' → SameSetup b b' → a'.rows ≡ a.rows → b'.rows ≡ b.rows
+    → IsAnswerFor text_order nat_eq max (RangesUnder a') (RangesUnder b') a'.rows b'.rows found → MayAsk format a.rows b.rows found
+may_ask format a b a' b' found da db sa sb ra rb answer =
+    under_defaults (λ R S. IsAnswerFor text_order nat_eq max R S a.rows b.rows found) format a b da db
     (answered_before text_order nat_eq max (λ h key. siphash128 h (string_bytes key)) (λ h n. siphash128 h (to_le_bytes w64 n)) string_bytes a b a' b' found ra rb sa sb answer)
 
 -- what an error says, of the call
@@ -56,11 +54,11 @@ on_err_from_both Q R P (Ok x) f h i = tt
 on_err_from_both Q R P (Err e) f h i = f e h i
 
 -- a refused pull
-pub stops_pulling : (local peer : List Row) (fault : PullError Text) (after : List Row) → IsRefused text_order nat_eq max HasPageRanges HasPageRanges local peer fault after → StopsPulling local peer after
-stops_pulling local peer Memory after same = inl same
-stops_pulling local peer (Partly pulled done) after part = inr (answer_of pulled, done, part)
+pub stops_pulling : (format : PageFormat) (local peer : List Row) (fault : PullError Text) (after : List Row) → IsRefused text_order nat_eq max (HasPageRanges format) (HasPageRanges format) local peer fault after → StopsPulling format local peer after
+stops_pulling format local peer Memory after same = inl same
+stops_pulling format local peer (Partly pulled done) after part = inr (answer_of pulled, done, part)
 
 -- refused pulls by turns
-pub stops_after : (finished : List (Pulled Text)) (fault : PullError Text) (local peer local' peer' : List Row) → StopsByTurns text_order nat_eq max HasPageRanges HasPageRanges finished fault local peer local' peer' → StopsAfter (map answer_of finished) local peer local' peer'
-stops_after [] fault local peer local' peer' (refused, same) = (stops_pulling local peer fault local' refused, same)
-stops_after (pulled ∷ finished) fault local peer local' peer' (after, made, rest) = (after, made, stops_after finished fault peer after peer' local' rest)
+pub stops_after : (format : PageFormat) (finished : List (Pulled Text)) (fault : PullError Text) (local peer local' peer' : List Row) → StopsByTurns text_order nat_eq max (HasPageRanges format) (HasPageRanges format) finished fault local peer local' peer' → StopsAfter format (map answer_of finished) local peer local' peer'
+stops_after format [] fault local peer local' peer' (refused, same) = (stops_pulling format local peer fault local' refused, same)
+stops_after format (pulled ∷ finished) fault local peer local' peer' (after, made, rest) = (after, made, stops_after format finished fault peer after peer' local' rest)

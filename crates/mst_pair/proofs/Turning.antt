@@ -25,7 +25,7 @@ one_more f (z ∷ zs) x ys = ap (λ w. f z ∷ w) (one_more f zs x ys)
 module _ {K V H : Type 0} (cmp : K → K → Ordering) (eq : V → V → Bool) (join : V → V → V) (kd : H → K → List ℕ) (vd : H → V → List ℕ) (bo : K → List ℕ) where
   -- which page ranges a replica's rows have
   abbrev pub Of : Contents K V H → List (K × V) → List (Entry K (List ℕ)) → Type 0
-  Of c = HasRanges cmp kd vd bo c.tree.hasher c.tree.base
+  Of c = HasRanges cmp kd vd bo c.tree.hasher c.tree.base c.tree.format
 
   -- what is to come, where a pulls next or b does
   abbrev pub Going : Bool → (List (K × V) → List (Entry K (List ℕ)) → Type 0) → (List (K × V) → List (Entry K (List ℕ)) → Type 0) → List (Answer K) → List (K × V) → List (K × V) → List (K × V) → List (K × V) → List (List (K × V) × List (K × V)) → Type 0
@@ -46,13 +46,13 @@ module _ {K V H : Type 0} (cmp : K → K → Ordering) (eq : V → V → Bool) (
     pub stops : (ps : List (Pulled K)) (fault : PullError K) (a' b' : List (K × V)) → Stopping next (Of a0) (Of b0) ps fault a.rows b.rows a' b' → StopsByTurns cmp eq join (Of a0) (Of b0) (done ++ ps) fault a0.rows b0.rows a' b'
 
   pub starts : (a b : Contents K V H) → Goes a b [] true a b
-  starts a b = record { setup_a = (refl, refl); setup_b = (refl, refl); follows = λ qs a' b' met t. (met, t); stops = λ ps fault a' b' t. t }
+  starts a b = record { setup_a = (refl, refl, refl); setup_b = (refl, refl, refl); follows = λ qs a' b' met t. (met, t); stops = λ ps fault a' b' t. t }
 
   pub same_of : (c d : Contents K V H) → SameSetup c d → Of d ≡ Of c
-  same_of c d s = λ i. HasRanges cmp kd vd bo (s.0 i) (s.1 i)
+  same_of c d s = λ i. HasRanges cmp kd vd bo (s.0 i) (s.1 i) (s.2 i)
 
   pub further : (a b c : Contents K V H) → SameSetup a b → SameSetup b c → SameSetup a c
-  further a b c s t = (t.0 ∙ s.0, t.1 ∙ s.1)
+  further a b c s t = (t.0 ∙ s.0, t.1 ∙ s.1, t.2 ∙ s.2)
 
   as_first : (a0 b0 a b : Contents K V H) (P : (List (K × V) → List (Entry K (List ℕ)) → Type 0) → (List (K × V) → List (Entry K (List ℕ)) → Type 0) → Type 0) → SameSetup a0 a → SameSetup b0 b → P (Of a) (Of b) → P (Of a0) (Of b0)
   as_first a0 b0 a b P s t p = subst (λ r. P r (Of b0)) (same_of a0 a s) (subst (λ r. P (Of a) r) (same_of b0 b t) p)
@@ -123,15 +123,15 @@ module _ {K V H : Type 0} (cmp : K → K → Ordering) (eq : V → V → Bool) (
     -- and with four turns or more, both hold the join
     pub ends_converged : (a0 b0 : Contents K V H) (done : List (Pulled K)) (next : Bool) (a b : Contents K V H) → IsMap cmp a0.rows → IsMap cmp b0.rows → Goes a0 b0 done next a b
         → (met : List (List (K × V) × List (K × V))) × IsByTurns cmp eq join (Of a0) (Of b0) (map answer_of done) a0.rows b0.rows a.rows b.rows met
-        × (a0.tree.hasher ≡ b0.tree.hasher → a0.tree.base ≡ b0.tree.base → AllByRecursion (λ maps. IsFaithful cmp kd vd bo eq a0.tree.hasher a0.tree.base maps.0 maps.1) met
+        × (a0.tree.hasher ≡ b0.tree.hasher → a0.tree.base ≡ b0.tree.base → a0.tree.format ≡ b0.tree.format → AllByRecursion (λ maps. IsFaithful cmp kd vd bo eq a0.tree.hasher a0.tree.base a0.tree.format maps.0 maps.1) met
         → 4 ≤ length (map answer_of done) → IsJoin cmp eq join a0.rows b0.rows a.rows × IsJoin cmp eq join a0.rows b0.rows b.rows)
     ends_converged a0 b0 done next a b aa ab g =
         let (met, turns) = ends a0 b0 done next a b g in (
           met,
           turns,
-          λ h base faith n.
-              converges cmp o (IsPageOf cmp (kd a0.tree.hasher) a0.tree.base) (page_digest bo) pairs (IsRangesOf cmp (kd a0.tree.hasher) a0.tree.base bo) (lists cmp o (kd a0.tree.hasher) a0.tree.base bo)
+          λ h base format faith n.
+              converges cmp o (IsPageOf cmp (kd a0.tree.hasher) a0.tree.base) (page_digest a0.tree.format bo) pairs (IsRangesOf cmp (kd a0.tree.hasher) a0.tree.base a0.tree.format bo) (lists cmp o (kd a0.tree.hasher) a0.tree.base a0.tree.format bo)
               eq e join j (vd a0.tree.hasher) (map answer_of done) a0.rows b0.rows a.rows b.rows met aa ab
-              (subst (λ r. IsByTurns cmp eq join (Of a0) r (map answer_of done) a0.rows b0.rows a.rows b.rows met) (same_of a0 b0 (sym h, sym base)) turns)
+              (subst (λ r. IsByTurns cmp eq join (Of a0) r (map answer_of done) a0.rows b0.rows a.rows b.rows met) (same_of a0 b0 (sym h, sym base, sym format)) turns)
               faith n,
         )

@@ -5,6 +5,7 @@ use Rattle.std.specs.declared.cmp.Ordering.{Ordering}
 use Rattle.std.proofs.Common.{refl}
 use Rattle.key_order.specs.Map.{IsMap, SameMap}
 use Rattle.merkle_search_tree.specs.State.{State, state_code, map_of, IsNew}
+use Rattle.merkle_search_tree.specs.declared.builder.PageFormat.{PageFormat}
 
 -- its rows, and its tree
 pub record Contents (K V H : Type 0) : Type 0 where
@@ -25,10 +26,10 @@ pub record IsKept {K V H : Type 0} (cmp : K → K → Ordering) (digest_of : H �
   pub ascending : IsMap cmp c.rows
   pub digested : SameMap cmp (λ d e. d ≡ e) (map_of c.tree) (digests (digest_of c.tree.hasher) c.rows)
 
--- no row, and the empty tree with this hasher and level base
-abbrev pub IsEmpty : {K V H : Type 0} → H → ℕ → Contents K V H → Type 0
-IsEmpty hasher base c = (c.rows ≡ []) × IsNew hasher base c.tree
+-- no row, and the empty tree with this hasher, level base and page format
+abbrev pub IsEmpty : {K V H : Type 0} → H → ℕ → PageFormat → Contents K V H → Type 0
+IsEmpty hasher base format c = (c.rows ≡ []) × IsNew hasher base format c.tree
 
--- the hasher and the level base stay
+-- the hasher, the level base and the page format stay
 abbrev pub SameSetup : {K V H : Type 0} → Contents K V H → Contents K V H → Type 0
-SameSetup a b = (b.tree.hasher ≡ a.tree.hasher) × (b.tree.base ≡ a.tree.base)
+SameSetup a b = (b.tree.hasher ≡ a.tree.hasher) × (b.tree.base ≡ a.tree.base) × (b.tree.format ≡ a.tree.format)

@@ -3,6 +3,7 @@ use Rattle.std.specs.Prelude.{◌≡◌, ◌≢◌, ℕ, Bool, if◌then◌else�
 use Rattle.key_order.specs.Interval.{Span}
 use Rattle.merkle_digest.specs.Digest.{base64_of}
 use Rattle.merkle_diff.specs.Entry.{span_of}
+use Rattle.merkle_search_tree.specs.declared.builder.PageFormat.{PageFormat}
 use Rattle.mst_pair.specs.Pages.{page_ranges, root_digest, HasPageRanges}
 use Rattle.mst_pair.specs.Pulls.{Answer, IsAnswerFor, IsPull, IsPartOfPull, IsByTurns}
 use Rattle.mst_pair.specs.Replies.{text_line, rows_text, ranges_text, pull_text, turns_text}
@@ -10,29 +11,29 @@ use Rattle.mst_pair.specs.Requests.{Request, put, del, keys, root, pages, diff, 
 use Rattle.mst_pair.specs.State.{Text, Row, State, text_order, rows, other_rows, JoinsRow, DeletesRow}
 
 -- ranges that local may ask of the peer: any that meet the interval laws of `diff` and its laws on trees, on the page ranges of both
-abbrev pub MayAsk : List Row → List Row → List (Span Text) → Type 0
-MayAsk = IsAnswerFor text_order nat_eq max HasPageRanges HasPageRanges
+abbrev pub MayAsk : PageFormat → List Row → List Row → List (Span Text) → Type 0
+MayAsk format = IsAnswerFor text_order nat_eq max (HasPageRanges format) (HasPageRanges format)
 
 -- local pulled from the peer, with this answer
-abbrev pub Pulls : List Row → List Row → Answer Text → List Row → Type 0
-Pulls = IsPull text_order nat_eq max HasPageRanges HasPageRanges
+abbrev pub Pulls : PageFormat → List Row → List Row → Answer Text → List Row → Type 0
+Pulls format = IsPull text_order nat_eq max (HasPageRanges format) (HasPageRanges format)
 
 -- memory was refused to a pull: nothing changed, or the first rows in the ranges were joined
-abbrev pub StopsPulling : List Row → List Row → List Row → Type 0
-StopsPulling local peer after = (after ≡ local) ⊎ ((answer : Answer Text) × (done : ℕ) × IsPartOfPull text_order nat_eq max HasPageRanges HasPageRanges local peer answer done after)
+abbrev pub StopsPulling : PageFormat → List Row → List Row → List Row → Type 0
+StopsPulling format local peer after = (after ≡ local) ⊎ ((answer : Answer Text) × (done : ℕ) × IsPartOfPull text_order nat_eq max (HasPageRanges format) (HasPageRanges format) local peer answer done after)
 
 -- pulls by turns, local first, with these answers
-abbrev pub TakesTurns : List (Answer Text) → List Row → List Row → List Row → List Row → Type 0
-TakesTurns answers local peer local' peer' = (met : List (List Row × List Row)) × IsByTurns text_order nat_eq max HasPageRanges HasPageRanges answers local peer local' peer' met
+abbrev pub TakesTurns : PageFormat → List (Answer Text) → List Row → List Row → List Row → List Row → Type 0
+TakesTurns format answers local peer local' peer' = (met : List (List Row × List Row)) × IsByTurns text_order nat_eq max (HasPageRanges format) (HasPageRanges format) answers local peer local' peer' met
 
 -- pulls by turns, local first, of which those with these answers were made, and memory was refused to the next
-abbrev pub StopsAfter : List (Answer Text) → List Row → List Row → List Row → List Row → Type 0
-StopsAfter [] local peer local' peer' = StopsPulling local peer local' × (peer' ≡ peer)
-StopsAfter (answer ∷ answers) local peer local' peer' = (after : List Row) × Pulls local peer answer after × StopsAfter answers peer after peer' local'
+abbrev pub StopsAfter : PageFormat → List (Answer Text) → List Row → List Row → List Row → List Row → Type 0
+StopsAfter format [] local peer local' peer' = StopsPulling format local peer local' × (peer' ≡ peer)
+StopsAfter format (answer ∷ answers) local peer local' peer' = (after : List Row) × Pulls format local peer answer after × StopsAfter format answers peer after peer' local'
 
 -- memory was refused to d pulls by turns, local first: fewer whole pulls were made, and then one stopped
-abbrev pub StopsInTurns : ℕ → List Row → List Row → List Row → List Row → Type 0
-StopsInTurns d local peer local' peer' = (answers : List (Answer Text)) × (length answers < d) × StopsAfter answers local peer local' peer'
+abbrev pub StopsInTurns : PageFormat → ℕ → List Row → List Row → List Row → List Row → Type 0
+StopsInTurns format d local peer local' peer' = (answers : List (Answer Text)) × (length answers < d) × StopsAfter format answers local peer local' peer'
 
 -- the reply where memory was refused
 abbrev pub no_memory : List ℕ
@@ -48,20 +49,21 @@ deleted_text found = text_line (if found then (codes "ok") else (codes "absent")
 
 -- from old, a request may get this reply and leave new
 abbrev pub Answers : State → Request → List ℕ → State → Type 0
-Answers old (put name key n) reply new = ((reply ≡ text_line (codes "ok")) × JoinsRow (rows old name) (rows new name) key n × (other_rows new name ≡ other_rows old name)) ⊎ LacksMemory old reply new
-Answers old (del name key) reply new = ((found : Bool) × (reply ≡ deleted_text found) × DeletesRow (rows old name) (rows new name) key found × (other_rows new name ≡ other_rows old name)) ⊎ LacksMemory old reply new
+Answers old (put name key n) reply new = ((reply ≡ text_line (codes "ok")) × JoinsRow (rows old name) (rows new name) key n × (other_rows new name ≡ other_rows old name) × (new.format ≡ old.format)) ⊎ LacksMemory old reply new
+Answers old (del name key) reply new = ((found : Bool) × (reply ≡ deleted_text found) × DeletesRow (rows old name) (rows new name) key found × (other_rows new name ≡ other_rows old name) × (new.format ≡ old.format)) ⊎ LacksMemory old reply new
 Answers old (keys name) reply new = (reply ≡ rows_text (rows old name)) × (new ≡ old)
-Answers old (root name) reply new = (reply ≡ text_line (base64_of (root_digest (rows old name)))) × (new ≡ old)
-Answers old (pages name) reply new = ((reply ≡ ranges_text (map span_of (page_ranges (rows old name)))) × (new ≡ old)) ⊎ LacksMemory old reply new
-Answers old (diff name) reply new = ((found : List (Span Text)) × MayAsk (rows old name) (other_rows old name) found × (reply ≡ ranges_text found) × (new ≡ old)) ⊎ LacksMemory old reply new
+Answers old (root name) reply new = (reply ≡ text_line (base64_of (root_digest old.format (rows old name)))) × (new ≡ old)
+Answers old (pages name) reply new = ((reply ≡ ranges_text (map span_of (page_ranges old.format (rows old name)))) × (new ≡ old)) ⊎ LacksMemory old reply new
+Answers old (diff name) reply new = ((found : List (Span Text)) × MayAsk old.format (rows old name) (other_rows old name) found × (reply ≡ ranges_text found) × (new ≡ old)) ⊎ LacksMemory old reply new
 Answers old (pull name) reply new =
-    (other_rows new name ≡ other_rows old name)
-    × (((answer : Answer Text) × Pulls (rows old name) (other_rows old name) answer (rows new name) × (reply ≡ pull_text answer))
-    ⊎ ((reply ≡ no_memory) × StopsPulling (rows old name) (other_rows old name) (rows new name)))
-Answers old same reply new = (((root_digest old.a ≡ root_digest old.b) × (reply ≡ text_line (codes "same"))) ⊎ ((root_digest old.a ≢ root_digest old.b) × (reply ≡ text_line (codes "differ")))) × (new ≡ old)
+    (other_rows new name ≡ other_rows old name) × (new.format ≡ old.format)
+    × (((answer : Answer Text) × Pulls old.format (rows old name) (other_rows old name) answer (rows new name) × (reply ≡ pull_text answer))
+    ⊎ ((reply ≡ no_memory) × StopsPulling old.format (rows old name) (other_rows old name) (rows new name)))
+Answers old same reply new = (((root_digest old.format old.a ≡ root_digest old.format old.b) × (reply ≡ text_line (codes "same"))) ⊎ ((root_digest old.format old.a ≢ root_digest old.format old.b) × (reply ≡ text_line (codes "differ")))) × (new ≡ old)
 Answers old (turns d) reply new =
-    ((answers : List (Answer Text)) × (length answers ≡ d) × TakesTurns answers old.a old.b new.a new.b × (reply ≡ turns_text answers))
-    ⊎ ((reply ≡ no_memory) × StopsInTurns d old.a old.b new.a new.b)
+    (new.format ≡ old.format)
+    × (((answers : List (Answer Text)) × (length answers ≡ d) × TakesTurns old.format answers old.a old.b new.a new.b × (reply ≡ turns_text answers))
+    ⊎ ((reply ≡ no_memory) × StopsInTurns old.format d old.a old.b new.a new.b))
 
 -- from old, a line may get this reply and leave new
 abbrev pub Step : State → List ℕ → List ℕ → State → Type 0

@@ -2,16 +2,13 @@
 use Rattle.std.specs.Prelude.{◌≡◌, ℕ, Bool, true, List, [], ◌∷◌, ⊤, Some}
 use Rattle.std.specs.declared.cmp.Ordering.{Ordering}
 use Rattle.key_order.specs.Order.{Upto}
-use Rattle.key_order.specs.Map.{get, SameMap, last_key}
+use Rattle.key_order.specs.Map.{get, last_key}
+use Rattle.merkle_search_tree.specs.Faithful.{HasFaithfulPages}
 use Rattle.merkle_search_tree.specs.Page.{pairs}
 use Rattle.merkle_search_tree.specs.Ranges.{IsPageOf}
 use Rattle.merkle_search_tree.specs.Stream.{page_digest}
+use Rattle.merkle_search_tree.specs.declared.builder.PageFormat.{PageFormat}
 use Rattle.mst_pair.specs.Contents.{digests}
-
-module _ {K D P T : Type 0} (cmp : K → K → Ordering) (IsPageOfLocal IsPageOfPeer : T → List (K × D) → Type 0) (dig : T → P) (pairs : T → List (K × D)) where
-  -- where a page of one tree and a page of the other have equal digests, the maps of their subtrees are equal
-  abbrev pub HasFaithfulPages : List (K × D) → List (K × D) → Type 0
-  HasFaithfulPages a b = (s t : T) → IsPageOfLocal s a → IsPageOfPeer t b → dig s ≡ dig t → SameMap cmp (λ d e. d ≡ e) (pairs s) (pairs t)
 
 module _ {K V D : Type 0} (cmp : K → K → Ordering) where
   -- where a key that both maps have has equal value digests, its two values are equal
@@ -27,9 +24,9 @@ module _ {K X : Type 0} (cmp : K → K → Ordering) where
 
 -- the two maps have faithful digests
 pub record Faithful {K V D P T : Type 0} (cmp : K → K → Ordering) (IsPageOf : T → List (K × D) → Type 0) (dig : T → P) (pairs : T → List (K × D)) (eq : V → V → Bool) (hash : V → D) (a b : List (K × V)) : Type 0 where
-  pub same_pages : HasFaithfulPages cmp IsPageOf IsPageOf dig pairs (digests hash a) (digests hash b)
+  pub same_pages : HasFaithfulPages cmp IsPageOf IsPageOf dig dig pairs (digests hash a) (digests hash b)
   pub same_values : HasFaithfulValues cmp eq hash a b
 
--- the two maps of rows have faithful digests under the hasher and the level base
-abbrev pub IsFaithful : {K V H : Type 0} → (K → K → Ordering) → (H → K → List ℕ) → (H → V → List ℕ) → (K → List ℕ) → (V → V → Bool) → H → ℕ → List (K × V) → List (K × V) → Type 0
-IsFaithful cmp key_digest value_digest bytes_of eq hasher base a b = Faithful cmp (IsPageOf cmp (key_digest hasher) base) (page_digest bytes_of) pairs eq (value_digest hasher) a b
+-- the two maps of rows have faithful digests under the hasher, the level base and the page format
+abbrev pub IsFaithful : {K V H : Type 0} → (K → K → Ordering) → (H → K → List ℕ) → (H → V → List ℕ) → (K → List ℕ) → (V → V → Bool) → H → ℕ → PageFormat → List (K × V) → List (K × V) → Type 0
+IsFaithful cmp key_digest value_digest bytes_of eq hasher base format a b = Faithful cmp (IsPageOf cmp (key_digest hasher) base) (page_digest format bytes_of) pairs eq (value_digest hasher) a b

@@ -1,4 +1,4 @@
--- The tree that shows what a replica holds, with the default builder: SipHash under the zero key, and level base 16.
+-- The tree that shows what a replica holds, with the default hasher and level base, SipHash under the zero key and 16, in a page format.
 use Rattle.std.specs.Prelude.{◌≡◌, ℕ, List, string_bytes}
 use Rattle.std.specs.Int.{w64, to_le_bytes}
 use Rattle.merkle_digest.specs.Level.{level_of}
@@ -8,6 +8,7 @@ use Rattle.merkle_search_tree.specs.Ranges.{IsRangesOf, ranges_of}
 use Rattle.merkle_search_tree.specs.Stream.{page_digest}
 use Rattle.merkle_search_tree.specs.Tree.{Tree}
 use Rattle.merkle_search_tree.specs.TreeOf.{tree_of}
+use Rattle.merkle_search_tree.specs.declared.builder.PageFormat.{PageFormat}
 use Rattle.mst_pair.specs.Contents.{Contents, digests}
 use Rattle.mst_pair.specs.State.{Text, Row, text_order}
 
@@ -28,17 +29,17 @@ abbrev pub tree : List Row → Tree Text (List ℕ)
 tree rows = tree_of key_level (digests number_digest rows)
 
 -- its page ranges
-abbrev pub page_ranges : List Row → List (Entry Text (List ℕ))
-page_ranges rows = ranges_of string_bytes (tree rows)
+abbrev pub page_ranges : PageFormat → List Row → List (Entry Text (List ℕ))
+page_ranges format rows = ranges_of format string_bytes (tree rows)
 
 -- the digest of its root page
-abbrev pub root_digest : List Row → List ℕ
-root_digest rows = page_digest string_bytes (tree rows)
+abbrev pub root_digest : PageFormat → List Row → List ℕ
+root_digest format rows = page_digest format string_bytes (tree rows)
 
 -- these entries are the page ranges, up to equal keys
-abbrev pub HasPageRanges : List Row → List (Entry Text (List ℕ)) → Type 0
-HasPageRanges rows entries = IsRangesOf text_order key_digest 16 string_bytes (digests number_digest rows) entries
+abbrev pub HasPageRanges : PageFormat → List Row → List (Entry Text (List ℕ)) → Type 0
+HasPageRanges format rows entries = IsRangesOf text_order key_digest 16 format string_bytes (digests number_digest rows) entries
 
--- the replica has the default hasher and level base
-abbrev pub HasDefaults : Contents Text ℕ (List ℕ) → Type 0
-HasDefaults c = (c.tree.hasher ≡ zero_key) × (c.tree.base ≡ 16)
+-- the replica has the default hasher and level base, and this page format
+abbrev pub HasDefaults : PageFormat → Contents Text ℕ (List ℕ) → Type 0
+HasDefaults format c = (c.tree.hasher ≡ zero_key) × (c.tree.base ≡ 16) × (c.tree.format ≡ format)

@@ -7,6 +7,7 @@ use Rattle.key_order.specs.Join.{IsJoin}
 use Rattle.merkle_diff.specs.Entry.{Entry}
 use Rattle.merkle_diff.specs.Difference.{IsDifference, SparesAgreed}
 use Rattle.merkle_search_tree.specs.Ranges.{IsRangesOf}
+use Rattle.merkle_search_tree.specs.declared.builder.PageFormat.{PageFormat}
 use Rattle.mst_pair.specs.Contents.{digests}
 
 -- a pull's answer: its ranges, and how many rows of the peer are in them
@@ -46,6 +47,6 @@ module _ {K V P : Type 0} (cmp : K → K → Ordering) (eq : V → V → Bool) (
       × IsPull LocalRanges PeerRanges local peer answer after × IsByTurns PeerRanges LocalRanges answers peer after peer' local' rest
 
 module _ {K V H : Type 0} (cmp : K → K → Ordering) (key_digest : H → K → List ℕ) (value_digest : H → V → List ℕ) (bytes_of : K → List ℕ) where
-  -- under the hasher and the level base, `es` are the page ranges of the tree of the digests of the rows
-  abbrev pub HasRanges : H → ℕ → List (K × V) → List (Entry K (List ℕ)) → Type 0
-  HasRanges hasher base rows es = IsRangesOf cmp (key_digest hasher) base bytes_of (digests (value_digest hasher) rows) es
+  -- under the hasher, the level base and the page format, `es` are the page ranges of the tree of the digests of the rows
+  abbrev pub HasRanges : H → ℕ → PageFormat → List (K × V) → List (Entry K (List ℕ)) → Type 0
+  HasRanges hasher base format rows es = IsRangesOf cmp (key_digest hasher) base format bytes_of (digests (value_digest hasher) rows) es

@@ -1,4 +1,4 @@
--- The state of the engine: two replicas, as maps from texts to numbers.
+-- The state of the engine: two replicas, as maps from texts to numbers, and the page format of their trees.
 use Rattle.std.specs.Prelude.{◌≡◌, ℕ, Bool, List, [], ◌∷◌, max, nat_eq, string_bytes, string_cmp}
 use Rattle.std.specs.declared.string.String.{String}
 use Rattle.std.specs.declared.alloc.Global.{Global}
@@ -6,6 +6,8 @@ use Rattle.std.specs.declared.cmp.Ordering.{Ordering}
 use Rattle.key_order.specs.Join.{IsJoin}
 use Rattle.key_order.specs.Map.{has_key}
 use Rattle.merkle_search_tree.specs.Del.{del}
+use Rattle.merkle_search_tree.specs.declared.builder.PageFormat.{PageFormat}
+use Rattle.merkle_search_tree.specs.declared.builder.PageFormat.TheVariants.{V1}
 use Rattle.mst_pair.specs.declared.pair.ReplicaName.{ReplicaName}
 use Rattle.mst_pair.specs.declared.pair.ReplicaName.TheVariants.{A, B}
 
@@ -21,14 +23,15 @@ text_order = string_cmp
 abbrev pub Row : Type 0
 Row = Text × ℕ
 
--- the rows of each replica, ascending by key
+-- the rows of each replica, ascending by key, and the page format of both
 pub record State : Type 0 where
   pub a : List Row
   pub b : List Row
+  pub format : PageFormat
 
--- both replicas are empty
+-- both replicas are empty, in format 1
 abbrev pub start : State
-start = record { a = []; b = [] }
+start = record { a = []; b = []; format = V1 }
 
 -- the rows of the replica of that name
 abbrev pub rows : State → ReplicaName → List Row

@@ -15,7 +15,7 @@ use crate::source::Failed;
 use crate::text_replica::{TextReplica, root_hash_of, write_pages};
 use crate::turns::{TurnsError, pull_by_turns};
 use merkle_digest::RootHash;
-use merkle_search_tree::builder::Builder;
+use merkle_search_tree::builder::{Builder, PageFormat};
 use std::alloc::{AllocError, Global};
 use std::marker::Model;
 
@@ -26,12 +26,13 @@ pub enum ReplicaName {
     B,
 }
 
-/// The two replicas, and what makes room for what they hold. A contract sees their rows.
+/// The two replicas, the page format of their trees, and what makes room for what they hold. A contract sees their rows and the format.
 #[derive(Drop)]
 pub struct Pair {
     alloc: Global,
     a: TextReplica,
     b: TextReplica,
+    format: PageFormat,
 }
 
 impl Model for Pair {
@@ -40,13 +41,13 @@ impl Model for Pair {
 
     ghost Value = { State };
 
-    ghost view = { λ pair. record { a = pair.a.rows; b = pair.b.rows } };
+    ghost view = { λ pair. record { a = pair.a.rows; b = pair.b.rows; format = pair.format } };
 
-    ghost invariant = { λ pair. HasDefaults pair.a × HasDefaults pair.b };
+    ghost invariant = { λ pair. HasDefaults pair.format pair.a × HasDefaults pair.format pair.b };
 }
 
 impl Pair {
-    /// Two empty replicas. It takes no memory.
+    /// Two empty replicas in format 1. It takes no memory.
     pub fn new(alloc: Global) -> Self
         ensures { result ≡ start }
     {
@@ -54,6 +55,7 @@ impl Pair {
             alloc,
             a: Replica::new(alloc, Builder::default()),
             b: Replica::new(alloc, Builder::default()),
+            format: PageFormat::V1,
         }
     }
 
@@ -72,6 +74,7 @@ impl Pair {
     pub fn put(&mut self, name: ReplicaName, key: &str, number: u64) -> Result<(), AllocError>
         ensures ok { OnOk result (JoinsRow (rows self.old name) (rows self.new name) key.now number) }
         ensures other { other_rows self.new name ≡ other_rows self.old name }
+        ensures format { self.new.format ≡ self.old.format }
         ensures err { OnErr result (self.new ≡ self.old) }
     {
         let key = String::from_str(self.alloc, key)?;
@@ -85,6 +88,7 @@ impl Pair {
     pub fn del(&mut self, name: ReplicaName, key: &str) -> Result<bool, AllocError>
         ensures ok { IfOk result (λ found. DeletesRow (rows self.old name) (rows self.new name) key.now found) }
         ensures other { other_rows self.new name ≡ other_rows self.old name }
+        ensures format { self.new.format ≡ self.old.format }
         ensures err { OnErr result (self.new ≡ self.old) }
     {
         let text = String::from_str(self.alloc, key)?;
@@ -96,7 +100,7 @@ impl Pair {
 
     /// The root hash of a replica.
     pub fn root_hash(&mut self, name: ReplicaName) -> RootHash
-        ensures digest { result ≡ root_digest (rows self.old name) }
+        ensures digest { result ≡ root_digest self.old.format (rows self.old name) }
         ensures same { self.new ≡ self.old }
     {
         match name {
@@ -107,7 +111,7 @@ impl Pair {
 
     /// Writes the range of each page of a replica.
     pub fn write_pages<W: Sink>(&mut self, name: ReplicaName, writer: &mut W) -> Result<(), Failed>
-        ensures bytes { (reply : List ℕ) × ((reply ≡ ranges_text (map span_of (page_ranges (rows self.old name)))) ⊎ (reply ≡ no_memory)) × Writes result (W.taken writer.old) (W.taken writer.new) reply }
+        ensures bytes { (reply : List ℕ) × ((reply ≡ ranges_text (map span_of (page_ranges self.old.format (rows self.old name)))) ⊎ (reply ≡ no_memory)) × Writes result (W.taken writer.old) (W.taken writer.new) reply }
         ensures failed { Marks result (W.has_failed writer.old) (W.has_failed writer.new) }
         ensures same { self.new ≡ self.old }
     {
@@ -120,7 +124,7 @@ impl Pair {
     /// The ranges of keys that a replica may ask the other for.
     #[tactic(auto, using(crate::proofs::Pages::same_clone))]
     pub fn ask(&mut self, name: ReplicaName) -> Result<Vec<(String, String)>, AllocError>
-        ensures ranges { IfOk result (λ found. MayAsk (rows self.old name) (other_rows self.old name) (spans_of found.items)) }
+        ensures ranges { IfOk result (λ found. MayAsk self.old.format (rows self.old name) (other_rows self.old name) (spans_of found.items)) }
         ensures same { self.new ≡ self.old }
     {
         self.a.hash();
@@ -134,9 +138,10 @@ impl Pair {
     /// Has a replica pull from the other.
     #[tactic(auto, using(crate::proofs::Pages::same_clone))]
     pub fn pull(&mut self, name: ReplicaName) -> Result<Pulled<String>, PullError<String>>
-        ensures ok { IfOk result (λ pulled. Pulls (rows self.old name) (other_rows self.old name) (answer_of pulled) (rows self.new name)) }
-        ensures err { OnErr result (StopsPulling (rows self.old name) (other_rows self.old name) (rows self.new name)) }
+        ensures ok { IfOk result (λ pulled. Pulls self.old.format (rows self.old name) (other_rows self.old name) (answer_of pulled) (rows self.new name)) }
+        ensures err { OnErr result (StopsPulling self.old.format (rows self.old name) (other_rows self.old name) (rows self.new name)) }
         ensures other { other_rows self.new name ≡ other_rows self.old name }
+        ensures format { self.new.format ≡ self.old.format }
     {
         match name {
             ReplicaName::A => self.a.pull(&mut self.b),
@@ -146,7 +151,7 @@ impl Pair {
 
     /// Whether the root hashes are equal.
     pub fn is_same(&mut self) -> bool
-        ensures value { IsTrue result ↔ (root_digest self.old.a ≡ root_digest self.old.b) }
+        ensures value { IsTrue result ↔ (root_digest self.old.format self.old.a ≡ root_digest self.old.format self.old.b) }
         ensures same { self.new ≡ self.old }
     {
         root_hash_of(&mut self.a) == root_hash_of(&mut self.b)
@@ -156,8 +161,9 @@ impl Pair {
     #[tactic(auto, using(crate::proofs::Pages::same_clone))]
     pub fn take_turns(&mut self, count: u8) -> Result<Vec<Pulled<String>>, TurnsError<String>>
         ensures length { IfOk result (λ all. length all.items ≡ count) }
-        ensures ok { IfOk result (λ all. TakesTurns (map answer_of all.items) self.old.a self.old.b self.new.a self.new.b) }
-        ensures err { OnErr result (StopsInTurns count self.old.a self.old.b self.new.a self.new.b) }
+        ensures format { self.new.format ≡ self.old.format }
+        ensures ok { IfOk result (λ all. TakesTurns self.old.format (map answer_of all.items) self.old.a self.old.b self.new.a self.new.b) }
+        ensures err { OnErr result (StopsInTurns self.old.format count self.old.a self.old.b self.new.a self.new.b) }
     {
         pull_by_turns(self.alloc, &mut self.a, &mut self.b, usize::from(count))
     }

@@ -6,12 +6,13 @@ ghost use Rattle.key_order.specs.Map.{get, rows_in};
 ghost use Rattle.key_order.specs.Join.{IsJoin};
 ghost use Rattle.merkle_diff.specs.DiffRange.{spans};
 ghost use Rattle.merkle_diff.specs.Merge.{SameSpans};
+ghost use Rattle.merkle_search_tree.specs.Faithful.{HasFaithfulPages};
 ghost use Rattle.merkle_search_tree.specs.Page.{pairs};
 ghost use Rattle.merkle_search_tree.specs.Ranges.{IsPageOf};
 ghost use Rattle.merkle_search_tree.specs.Stream.{page_digest};
 ghost use Rattle.mst_pair.specs.Contents.{SameSetup, digests};
 ghost use Rattle.mst_pair.specs.Pulls.{IsAnswerFor, IsPull, HasRanges};
-ghost use Rattle.mst_pair.specs.Faithful.{HasFaithfulPages, SpanHolds};
+ghost use Rattle.mst_pair.specs.Faithful.{SpanHolds};
 ghost use Rattle.mst_pair.specs.Answers.{spans_of, answer_of, IsRefused, IsDone, IsCut};
 
 use crate::join::Join;
@@ -61,13 +62,13 @@ impl<
 
         // The rows are the join with the peer's rows in the ranges.
         ensures done { IfOk result (λ pulled. IsPull K.cmp V.eq V.join_of
-            (HasRanges K.cmp ⟦<H as Hasher<N, K>>⟧.digest_of ⟦<H as Hasher<N, V>>⟧.digest_of K.bytes_of self.old.tree.hasher self.old.tree.base)
-            (HasRanges K.cmp ⟦<H as Hasher<N, K>>⟧.digest_of ⟦<H as Hasher<N, V>>⟧.digest_of K.bytes_of peer.old.tree.hasher peer.old.tree.base)
+            (HasRanges K.cmp ⟦<H as Hasher<N, K>>⟧.digest_of ⟦<H as Hasher<N, V>>⟧.digest_of K.bytes_of self.old.tree.hasher self.old.tree.base self.old.tree.format)
+            (HasRanges K.cmp ⟦<H as Hasher<N, K>>⟧.digest_of ⟦<H as Hasher<N, V>>⟧.digest_of K.bytes_of peer.old.tree.hasher peer.old.tree.base peer.old.tree.format)
             self.old.rows peer.old.rows (answer_of pulled) self.new.rows) }
 
         // Coverage: where pages with equal digests have equal maps, and the peer's keys span the replica's, no key is missed.
         ensures covers { IfOk result (λ pulled.
-            HasFaithfulPages K.cmp (IsPageOf K.cmp (⟦<H as Hasher<N, K>>⟧.digest_of self.old.tree.hasher) self.old.tree.base) (IsPageOf K.cmp (⟦<H as Hasher<N, K>>⟧.digest_of peer.old.tree.hasher) peer.old.tree.base) (page_digest K.bytes_of) pairs
+            HasFaithfulPages K.cmp (IsPageOf K.cmp (⟦<H as Hasher<N, K>>⟧.digest_of self.old.tree.hasher) self.old.tree.base) (IsPageOf K.cmp (⟦<H as Hasher<N, K>>⟧.digest_of peer.old.tree.hasher) peer.old.tree.base) (page_digest self.old.tree.format K.bytes_of) (page_digest peer.old.tree.format K.bytes_of) pairs
             (digests (⟦<H as Hasher<N, V>>⟧.digest_of self.old.tree.hasher) self.old.rows) (digests (⟦<H as Hasher<N, V>>⟧.digest_of peer.old.tree.hasher) peer.old.rows)
             → SpanHolds K.cmp peer.old.rows self.old.rows
             → (k : K) (d : List ℕ) → get K.cmp (digests (⟦<H as Hasher<N, V>>⟧.digest_of peer.old.tree.hasher) peer.old.rows) k ≡ Some d
@@ -76,8 +77,8 @@ impl<
 
         // Refused, it has joined no row, or the first ones.
         ensures refused { IfErr result (λ fault. IsRefused K.cmp V.eq V.join_of
-            (HasRanges K.cmp ⟦<H as Hasher<N, K>>⟧.digest_of ⟦<H as Hasher<N, V>>⟧.digest_of K.bytes_of self.old.tree.hasher self.old.tree.base)
-            (HasRanges K.cmp ⟦<H as Hasher<N, K>>⟧.digest_of ⟦<H as Hasher<N, V>>⟧.digest_of K.bytes_of peer.old.tree.hasher peer.old.tree.base)
+            (HasRanges K.cmp ⟦<H as Hasher<N, K>>⟧.digest_of ⟦<H as Hasher<N, V>>⟧.digest_of K.bytes_of self.old.tree.hasher self.old.tree.base self.old.tree.format)
+            (HasRanges K.cmp ⟦<H as Hasher<N, K>>⟧.digest_of ⟦<H as Hasher<N, V>>⟧.digest_of K.bytes_of peer.old.tree.hasher peer.old.tree.base peer.old.tree.format)
             self.old.rows peer.old.rows fault self.new.rows) }
 
         ensures peer_rows { peer.new.rows ≡ peer.old.rows }
@@ -169,8 +170,8 @@ pub(crate) fn ask<
     requires local_hashed { IsSome local.now.tree.root_hash }
     requires peer_hashed { IsSome peer.now.tree.root_hash }
     ensures { IfOk result (λ ranges. IsAnswerFor K.cmp V.eq V.join_of
-        (HasRanges K.cmp ⟦<H as Hasher<N, K>>⟧.digest_of ⟦<H as Hasher<N, V>>⟧.digest_of K.bytes_of local.now.tree.hasher local.now.tree.base)
-        (HasRanges K.cmp ⟦<H as Hasher<N, K>>⟧.digest_of ⟦<H as Hasher<N, V>>⟧.digest_of K.bytes_of peer.now.tree.hasher peer.now.tree.base)
+        (HasRanges K.cmp ⟦<H as Hasher<N, K>>⟧.digest_of ⟦<H as Hasher<N, V>>⟧.digest_of K.bytes_of local.now.tree.hasher local.now.tree.base local.now.tree.format)
+        (HasRanges K.cmp ⟦<H as Hasher<N, K>>⟧.digest_of ⟦<H as Hasher<N, V>>⟧.digest_of K.bytes_of peer.now.tree.hasher peer.now.tree.base peer.now.tree.format)
         local.now.rows peer.now.rows (spans_of ranges.items)) }
 {
     every_tree_is_sound(local.tree());

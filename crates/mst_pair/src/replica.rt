@@ -19,7 +19,7 @@ use std::marker::Model;
 /// A map from keys to values that can be joined, kept as rows in ascending key order, and the Merkle search tree of the digests of
 /// the values. Rows and tree never part, also where memory is refused.
 ///
-/// A contract sees the rows, and the tree as its hasher, its level base, its root page with all caches, and its cached root hash.
+/// A contract sees the rows, and the tree as its hasher, its level base, its page format, its root page with all caches, and its cached root hash.
 ///
 /// The replica keeps the allocator that it was made with.
 #[derive(Drop)]
@@ -53,9 +53,9 @@ impl<K: Ord + KeyBytes + Clone, V: Join, H: Hasher<N, K> + Hasher<N, V>, const N
     H,
     N,
 > {
-    /// A replica without rows, whose tree has the builder's hasher and level base. It takes no memory.
+    /// A replica without rows, whose tree has the builder's hasher, level base and page format. It takes no memory.
     pub fn new(alloc: Global, builder: Builder<H>) -> Self
-        ensures { IsEmpty builder.hasher builder.base result }
+        ensures { IsEmpty builder.hasher builder.base builder.format result }
     {
         Replica {
             alloc,
@@ -101,18 +101,18 @@ impl<
     /// Fills in the digests that pages of the tree lack.
     pub(crate) fn hash(&mut self)
         ensures rows { self.new.rows ≡ self.old.rows }
-        ensures tree { self.new.tree ≡ record self.old.tree { root = filled K.bytes_of self.old.tree.root; root_hash = Some (page_digest K.bytes_of self.old.tree.root) } }
+        ensures tree { self.new.tree ≡ record self.old.tree { root = filled self.old.tree.format K.bytes_of self.old.tree.root; root_hash = Some (page_digest self.old.tree.format K.bytes_of self.old.tree.root) } }
     {
         let _ = self.tree.root_hash_counted();
     }
 
     /// The digest of the root page of the tree. It fills in the digests that pages lack, so the tree is hashed then, and takes no
-    /// memory. Replicas whose rows have equal keys and equal digests have equal root hashes, under one hasher and level base; the
+    /// memory. Replicas whose rows have equal keys and equal digests have equal root hashes, under one hasher, level base and page format; the
     /// converse holds only as far as no digests collide.
     pub fn root_hash(&mut self) -> &RootHash
         ensures* hashed { sem 𝓛 (follows_so (the_row K.row V.row H.row (number N) K.Ord.own K.PartialEq K.PartialOrd.own K.KeyBytes.own K.Clone V.Join.own V.PartialEq H.Hasher H.ValueHasher) (the_row K.row V.row H.row (number N) K.Ord.own K.PartialEq K.PartialOrd.own K.KeyBytes.own K.Clone V.Join.own V.PartialEq H.Hasher H.ValueHasher) self.entry.ghost_name none (λ _ _. ⊤)
-            (λ t. (t.rows ≡ self.old.rows) × (t.tree ≡ record self.old.tree { root = filled K.bytes_of self.old.tree.root; root_hash = Some (page_digest K.bytes_of self.old.tree.root) }))) }
-        ensures digest { result.now ≡ page_digest K.bytes_of self.old.tree.root }
+            (λ t. (t.rows ≡ self.old.rows) × (t.tree ≡ record self.old.tree { root = filled self.old.tree.format K.bytes_of self.old.tree.root; root_hash = Some (page_digest self.old.tree.format K.bytes_of self.old.tree.root) }))) }
+        ensures digest { result.now ≡ page_digest self.old.tree.format K.bytes_of self.old.tree.root }
     {
         self.hash();
         match self.tree.root_hash_cached() {

@@ -1,8 +1,9 @@
-//! A replica of the program: a map from texts to numbers, with the default builder.
+//! A replica of the program: a map from texts to numbers, with the default hasher and level base.
 ghost use Rattle.std.specs.Prelude.{◌≡◌, ◌⊎◌, ℕ, List, map, string_bytes};
 ghost use Rattle.merkle_diff.specs.Entry.{span_of};
 ghost use Rattle.merkle_search_tree.specs.Ranges.{ranges_of};
 ghost use Rattle.merkle_search_tree.specs.Stream.{page_digest};
+ghost use Rattle.merkle_search_tree.specs.declared.builder.PageFormat.{PageFormat};
 ghost use Rattle.mst_pair.specs.Devices.{Writes, Marks};
 ghost use Rattle.mst_pair.specs.Engine.{no_memory};
 ghost use Rattle.mst_pair.specs.Pages.{HasDefaults, root_digest, page_ranges};
@@ -20,10 +21,9 @@ pub type TextReplica = Replica<String, u64, SipHasher, 16>;
 
 /// The root hash of a replica. Pages that lack a digest get it.
 pub fn root_hash_of(replica: &mut TextReplica) -> RootHash
-    requires { HasDefaults replica.old }
-    ensures digest { result ≡ root_digest replica.old.rows }
+    ensures digest { (format : PageFormat) → HasDefaults format replica.old → result ≡ root_digest format replica.old.rows }
     ensures rows { replica.new.rows ≡ replica.old.rows }
-    ensures defaults { HasDefaults replica.new }
+    ensures defaults { (format : PageFormat) → HasDefaults format replica.old → HasDefaults format replica.new }
 {
     shows_its_rows(replica);
     replica.hash();
@@ -35,11 +35,10 @@ pub fn root_hash_of(replica: &mut TextReplica) -> RootHash
 
 /// Writes the range of each page of a replica, and the line `end`. Pages that lack a digest get it.
 pub fn write_pages<W: Sink>(replica: &mut TextReplica, writer: &mut W) -> Result<(), Failed>
-    requires { HasDefaults replica.old }
-    ensures bytes { (reply : List ℕ) × ((reply ≡ ranges_text (map span_of (page_ranges replica.old.rows))) ⊎ (reply ≡ no_memory)) × Writes result (W.taken writer.old) (W.taken writer.new) reply }
+    ensures bytes { (format : PageFormat) → HasDefaults format replica.old → (reply : List ℕ) × ((reply ≡ ranges_text (map span_of (page_ranges format replica.old.rows))) ⊎ (reply ≡ no_memory)) × Writes result (W.taken writer.old) (W.taken writer.new) reply }
     ensures failed { Marks result (W.has_failed writer.old) (W.has_failed writer.new) }
     ensures rows { replica.new.rows ≡ replica.old.rows }
-    ensures defaults { HasDefaults replica.new }
+    ensures defaults { (format : PageFormat) → HasDefaults format replica.old → HasDefaults format replica.new }
 {
     replica.hash();
     shows_its_rows(replica);
@@ -52,9 +51,8 @@ pub fn write_pages<W: Sink>(replica: &mut TextReplica, writer: &mut W) -> Result
 
 /// The pages of a replica are those of the tree of its rows.
 fn shows_its_rows(replica: &TextReplica)
-    requires { HasDefaults replica.now }
-    ensures root { page_digest string_bytes replica.now.tree.root ≡ root_digest replica.now.rows }
-    ensures ranges { ranges_text (map span_of (ranges_of string_bytes replica.now.tree.root)) ≡ ranges_text (map span_of (page_ranges replica.now.rows)) }
+    ensures root { (format : PageFormat) → HasDefaults format replica.now → page_digest replica.now.tree.format string_bytes replica.now.tree.root ≡ root_digest format replica.now.rows }
+    ensures ranges { (format : PageFormat) → HasDefaults format replica.now → ranges_text (map span_of (ranges_of replica.now.tree.format string_bytes replica.now.tree.root)) ≡ ranges_text (map span_of (page_ranges format replica.now.rows)) }
 {
     every_tree_is_sound(replica.tree());
 }

@@ -44,21 +44,21 @@ pub fn pull_by_turns<
 
     ensures length { IfOk result (λ pulled. length pulled.items ≡ n) }
 
-    // The pulls by turns were made, and, convergence: where the replicas have one hasher and level base and digests are faithful
-    // in the maps that were met, four turns or more leave both with the join of their maps.
+    // The pulls by turns were made, and, convergence: where the replicas have one hasher, level base and page format and digests
+    // are faithful in the maps that were met, four turns or more leave both with the join of their maps.
     ensures turns { IfOk result (λ pulled. (met : List (List (K × V) × List (K × V))) × IsByTurns K.cmp V.eq V.join_of
-        (HasRanges K.cmp ⟦<H as Hasher<N, K>>⟧.digest_of ⟦<H as Hasher<N, V>>⟧.digest_of K.bytes_of a.old.tree.hasher a.old.tree.base)
-        (HasRanges K.cmp ⟦<H as Hasher<N, K>>⟧.digest_of ⟦<H as Hasher<N, V>>⟧.digest_of K.bytes_of b.old.tree.hasher b.old.tree.base)
+        (HasRanges K.cmp ⟦<H as Hasher<N, K>>⟧.digest_of ⟦<H as Hasher<N, V>>⟧.digest_of K.bytes_of a.old.tree.hasher a.old.tree.base a.old.tree.format)
+        (HasRanges K.cmp ⟦<H as Hasher<N, K>>⟧.digest_of ⟦<H as Hasher<N, V>>⟧.digest_of K.bytes_of b.old.tree.hasher b.old.tree.base b.old.tree.format)
         (map answer_of pulled.items) a.old.rows b.old.rows a.new.rows b.new.rows met
-        × (a.old.tree.hasher ≡ b.old.tree.hasher → a.old.tree.base ≡ b.old.tree.base
-        → AllByRecursion (λ maps. IsFaithful K.cmp ⟦<H as Hasher<N, K>>⟧.digest_of ⟦<H as Hasher<N, V>>⟧.digest_of K.bytes_of V.eq a.old.tree.hasher a.old.tree.base maps.0 maps.1) met
+        × (a.old.tree.hasher ≡ b.old.tree.hasher → a.old.tree.base ≡ b.old.tree.base → a.old.tree.format ≡ b.old.tree.format
+        → AllByRecursion (λ maps. IsFaithful K.cmp ⟦<H as Hasher<N, K>>⟧.digest_of ⟦<H as Hasher<N, V>>⟧.digest_of K.bytes_of V.eq a.old.tree.hasher a.old.tree.base a.old.tree.format maps.0 maps.1) met
         → 4 ≤ n
         → IsJoin K.cmp V.eq V.join_of a.old.rows b.old.rows a.new.rows × IsJoin K.cmp V.eq V.join_of a.old.rows b.old.rows b.new.rows)) }
 
     // Stopped, it has made the pulls of `finished`, and then stands what the fault says.
     ensures stopped { IfErr result (λ error. StopsByTurns K.cmp V.eq V.join_of
-        (HasRanges K.cmp ⟦<H as Hasher<N, K>>⟧.digest_of ⟦<H as Hasher<N, V>>⟧.digest_of K.bytes_of a.old.tree.hasher a.old.tree.base)
-        (HasRanges K.cmp ⟦<H as Hasher<N, K>>⟧.digest_of ⟦<H as Hasher<N, V>>⟧.digest_of K.bytes_of b.old.tree.hasher b.old.tree.base)
+        (HasRanges K.cmp ⟦<H as Hasher<N, K>>⟧.digest_of ⟦<H as Hasher<N, V>>⟧.digest_of K.bytes_of a.old.tree.hasher a.old.tree.base a.old.tree.format)
+        (HasRanges K.cmp ⟦<H as Hasher<N, K>>⟧.digest_of ⟦<H as Hasher<N, V>>⟧.digest_of K.bytes_of b.old.tree.hasher b.old.tree.base b.old.tree.format)
         error.finished.items error.fault a.old.rows b.old.rows a.new.rows b.new.rows) }
     ensures fewer { IfErr result (λ error. length error.finished.items < n) }
 

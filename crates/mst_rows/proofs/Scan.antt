@@ -4,7 +4,8 @@ use Rattle.std.proofs.lemmas.List.{get_or-drop, take_more, drop_more, drop_all, 
 use Rattle.std.proofs.lemmas.Option.{same_Some}
 use Rattle.merkle_digest.specs.SipHash.{siphash128, zero_key}
 use Rattle.merkle_search_tree.specs.Tree.{page, node, Held, nothing, below}
-use Rattle.merkle_search_tree.specs.Stream.{page_digest, row_stream, held_digest}
+use Rattle.merkle_search_tree.specs.Stream.{page_digest, row_stream, held_stream}
+use Rattle.merkle_search_tree.specs.declared.builder.PageFormat.TheVariants.{V1}
 use Rattle.merkle_search_tree.specs.TreeOf.{any_at, row_of, gap_of, root_of, tree_of}
 use Rattle.mst_rows.specs.Defined.{gap_digest, written}
 
@@ -25,22 +26,22 @@ rest_is : {A : Type 0} (xs : List A) (i : ℕ) (x : A) → i < length xs → x �
 rest_is xs i x r is = drop_more xs i x r ∙ ap (λ y. y ∷ drop (i + 1) xs) (sym is)
 
 -- what is written of a gap is its digest
-pub written-gap : {K : Type 0} (b : K → List ℕ) (h : Held K (List ℕ)) → written (gap_digest b h) ≡ held_digest b h
+pub written-gap : {K : Type 0} (b : K → List ℕ) (h : Held K (List ℕ)) → written (gap_digest b h) ≡ held_stream V1 b h
 written-gap b nothing = refl
 written-gap b (below t) = refl
 
 module _ {K : Type 0} (b : K → List ℕ) (lev : K → ℕ) (n : ℕ) where
   -- the stream of what is left of a page, after a run of pairs of lower levels
   abbrev pub left : List (K × List ℕ) → List (K × List ℕ) → List ℕ
-  left run ps = row_stream b (row_of lev (gap_of lev n) n run ps)
+  left run ps = row_stream V1 b (row_of lev (gap_of lev n) n run ps)
 
   -- a pair of the page's own level
-  left-node : (run ps : List (K × List ℕ)) (p : K × List ℕ) → (lev p.0 == n) ≡ true → left run (p ∷ ps) ≡ held_digest b (gap_of lev n run) ++ b p.0 ++ p.1 ++ left [] ps
-  left-node run ps p e = ap (λ c. row_stream b (if c then (node (gap_of lev n run) p.0 p.1 (row_of lev (gap_of lev n) n [] ps)) else (row_of lev (gap_of lev n) n (run ++ p ∷ []) ps))) e
+  left-node : (run ps : List (K × List ℕ)) (p : K × List ℕ) → (lev p.0 == n) ≡ true → left run (p ∷ ps) ≡ held_stream V1 b (gap_of lev n run) ++ b p.0 ++ p.1 ++ left [] ps
+  left-node run ps p e = ap (λ c. row_stream V1 b (if c then (node (gap_of lev n run) p.0 p.1 (row_of lev (gap_of lev n) n [] ps)) else (row_of lev (gap_of lev n) n (run ++ p ∷ []) ps))) e
 
   -- a pair of another level
   left-run : (run ps : List (K × List ℕ)) (p : K × List ℕ) → (lev p.0 == n) ≡ false → left run (p ∷ ps) ≡ left (run ++ p ∷ []) ps
-  left-run run ps p e = ap (λ c. row_stream b (if c then (node (gap_of lev n run) p.0 p.1 (row_of lev (gap_of lev n) n [] ps)) else (row_of lev (gap_of lev n) n (run ++ p ∷ []) ps))) e
+  left-run run ps p e = ap (λ c. row_stream V1 b (if c then (node (gap_of lev n run) p.0 p.1 (row_of lev (gap_of lev n) n [] ps)) else (row_of lev (gap_of lev n) n (run ++ p ∷ []) ps))) e
 
   -- the stream stays whole where a pair of the page's own level is written, with the gap before it
   pub node-step : (ps : List (K × List ℕ)) (start i next : ℕ) (p : K × List ℕ) (before : List ℕ) (gap : Option (List ℕ)) (whole : List ℕ) → i < length ps → p ≡ get_or ps i p → (lev p.0 == n) ≡ true → next ≡ i + 1
@@ -83,22 +84,22 @@ module _ {K : Type 0} (b : K → List ℕ) (lev : K → ℕ) (n : ℕ) where
   gap-here m ps e h = ap (λ k. gap_digest b (gap_of lev k ps)) e ∙ ap (λ c. gap_digest b (if c then (below (page n None (row_of lev (gap_of lev n) n [] ps))) else (gap_of lev n ps))) h
 
 -- the digest of the root page of a list with a page
-root-digest : {K : Type 0} (b : K → List ℕ) (h : Held K (List ℕ)) (d : List ℕ) → gap_digest b h ≡ Some d → d ≡ page_digest b (root_of h)
+root-digest : {K : Type 0} (b : K → List ℕ) (h : Held K (List ℕ)) (d : List ℕ) → gap_digest b h ≡ Some d → d ≡ page_digest V1 b (root_of h)
 root-digest b nothing d e = absurd (cc)
-root-digest b (below t) d e = sym (same_Some (page_digest b t) d e)
+root-digest b (below t) d e = sym (same_Some (page_digest V1 b t) d e)
 
 -- the root page of no key has the digest of the empty message
-root-empty : {K : Type 0} (b : K → List ℕ) (h : Held K (List ℕ)) → gap_digest b h ≡ None → siphash128 zero_key [] ≡ page_digest b (root_of h)
+root-empty : {K : Type 0} (b : K → List ℕ) (h : Held K (List ℕ)) → gap_digest b h ≡ None → siphash128 zero_key [] ≡ page_digest V1 b (root_of h)
 root-empty b nothing e = refl
 root-empty b (below t) e = absurd (cc)
 
 module _ {K : Type 0} (b : K → List ℕ) (lev : K → ℕ) (ps : List (K × List ℕ)) where
   -- the tree of a map with a page
-  pub tree-digest : (d : List ℕ) → gap_digest b (gap_of lev 256 ps) ≡ Some d → d ≡ page_digest b (tree_of lev ps)
+  pub tree-digest : (d : List ℕ) → gap_digest b (gap_of lev 256 ps) ≡ Some d → d ≡ page_digest V1 b (tree_of lev ps)
   unfolding tree_of
   tree-digest d e = root-digest b (gap_of lev 256 ps) d e
 
   -- the tree of a map with none
-  pub tree-empty : gap_digest b (gap_of lev 256 ps) ≡ None → siphash128 zero_key [] ≡ page_digest b (tree_of lev ps)
+  pub tree-empty : gap_digest b (gap_of lev 256 ps) ≡ None → siphash128 zero_key [] ≡ page_digest V1 b (tree_of lev ps)
   unfolding tree_of
   tree-empty e = root-empty b (gap_of lev 256 ps) e

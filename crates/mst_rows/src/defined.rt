@@ -1,22 +1,23 @@
-//! The digest of the tree of a map, by a plain and slow program that scans the sorted list of its pairs.
+//! The digest in format 1 of the tree of a map, by a plain and slow program that scans the sorted list of its pairs.
 
 ghost use Rattle.std.specs.Prelude.{◌≡◌, ℕ, List, ◌++◌};
 ghost use Rattle.merkle_digest.specs.Level.{level_of};
 ghost use Rattle.merkle_digest.specs.Sip24.{Holds};
 ghost use Rattle.merkle_search_tree.specs.TreeOf.{any_at, gap_of, tree_of};
 ghost use Rattle.merkle_search_tree.specs.Stream.{page_digest};
+ghost use Rattle.merkle_search_tree.specs.declared.builder.PageFormat.TheVariants.{V1};
 ghost use Rattle.mst_rows.specs.Defined.{gap_digest, written};
 
 use merkle_digest::{
     Hasher, KeyBytes, PageDigest, RootHash, Sip24, ValueDigest, default_level_base, level,
 };
 
-/// The root hash of the tree of a map, whose pairs of keys and value digests are in ascending order, with levels in base 16.
+/// The root hash in format 1 of the tree of a map, whose pairs of keys and value digests are in ascending order, with levels in base 16.
 pub fn defined_root_hash<K: Eq + KeyBytes, H: Hasher<N, K>, const N: usize>(
     hasher: &H,
     pairs: &[(K, ValueDigest<N>)],
 ) -> RootHash
-    ensures { result ≡ page_digest K.bytes_of (tree_of (λ key. level_of (H.digest_of hasher.now key) 16) pairs.now) }
+    ensures { result ≡ page_digest V1 K.bytes_of (tree_of (λ key. level_of (H.digest_of hasher.now key) 16) pairs.now) }
 {
     match defined_digest(hasher, pairs, 256) {
         Some(digest) => RootHash::new(digest),

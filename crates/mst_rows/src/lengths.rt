@@ -1,9 +1,9 @@
 //! Trees whose value digests have no byte, one byte or 200 bytes.
 
 use crate::trees::value_at;
-use merkle_digest::Hasher;
+use merkle_digest::{Hasher, PageDigest, RootHash, Sip24};
 use merkle_search_tree::MerkleSearchTree;
-use merkle_search_tree::builder::Builder;
+use merkle_search_tree::builder::{Builder, PageFormat};
 use mst_testing::{LevelHasher, Value, number_key};
 use std::alloc::{AllocError, Global};
 use std::test::Fail;
@@ -44,6 +44,25 @@ where
     }
     tree.root_hash();
     Ok(tree)
+}
+
+/// The root hash in a page format of the tree of these texts, each with the one byte of its number as value digest.
+fn root_in(alloc: Global, format: PageFormat, rows: &[(&str, u64)]) -> Result<RootHash, Fail> {
+    let mut tree: Texts<1> = Builder::default()
+        .with_page_format(format)
+        .with_hasher(LevelHasher::new(Vec::new(alloc)))
+        .build(alloc);
+    for (text, number) in rows {
+        set(alloc, &mut tree, text, *number)?;
+    }
+    Ok(tree.root_hash_counted().0)
+}
+
+/// The root hash of a tree whose root page has this stream.
+fn root_of_stream(stream: &[u8]) -> RootHash {
+    let mut sip = Sip24::new();
+    sip.write(stream);
+    RootHash::new(PageDigest::new(sip.finish128()))
 }
 
 /// The spans of the pages of a hashed tree.
@@ -140,5 +159,32 @@ fn drops(alloc: Global, key: u16, wanted: usize) -> Result<bool, Fail> {
 fn an_upsert_drops_the_digests_of_its_pages(rt: HostRuntime) -> Result<(), Fail> {
     assert!(rt; drops(rt.alloc(), 1, 256)?);
     assert!(rt; drops(rt.alloc(), 511, 2)?);
+    Ok(())
+}
+
+// In format 2 the maps a and c, and abc, have streams that tell them apart; in format 1 they have one.
+#[test]
+fn streams_of_format_2(rt: HostRuntime) -> Result<(), Fail> {
+    let two = [("a", 0x62), ("c", 0x64)];
+    let one = [("abc", 0x64)];
+    let stream_of_two = [
+        0x02, 0x00, 0x02, 0x00, 0x00, 0x00, 0x00, 0x00, 0x00, 0x00, 0x00, 0x01, 0x00, 0x00, 0x00,
+        0x00, 0x00, 0x00, 0x00, 0x61, 0x62, 0x00, 0x01, 0x00, 0x00, 0x00, 0x00, 0x00, 0x00, 0x00,
+        0x63, 0x64, 0x00,
+    ];
+    let stream_of_one = [
+        0x02, 0x00, 0x01, 0x00, 0x00, 0x00, 0x00, 0x00, 0x00, 0x00, 0x00, 0x03, 0x00, 0x00, 0x00,
+        0x00, 0x00, 0x00, 0x00, 0x61, 0x62, 0x63, 0x64, 0x00,
+    ];
+    assert_eq!(rt; stream_of_two.len(), 33);
+    assert_eq!(rt; stream_of_one.len(), 24);
+    assert!(rt; root_in(rt.alloc(), PageFormat::V2, &two)? == root_of_stream(&stream_of_two));
+    assert!(rt; root_in(rt.alloc(), PageFormat::V2, &one)? == root_of_stream(&stream_of_one));
+    assert!(rt;
+        root_in(rt.alloc(), PageFormat::V2, &[])?
+            == root_of_stream(&[2, 0, 0, 0, 0, 0, 0, 0, 0, 0, 0])
+    );
+    assert!(rt; root_in(rt.alloc(), PageFormat::V1, &two)? == root_of_stream(b"abcd"));
+    assert!(rt; root_in(rt.alloc(), PageFormat::V1, &one)? == root_of_stream(b"abcd"));
     Ok(())
 }

@@ -1,6 +1,7 @@
 //! Removals, by what they hand out, by the pages that then lack a digest, and by the root hash of the defined tree of the keys left.
 
-use crate::trees::{Tree, defined_root, keys_of, tree};
+use crate::trees::{Tree, defined_root, hasher, keys_of, put, tree};
+use merkle_search_tree::builder::{Builder, PageFormat};
 use mst_testing::number_key;
 use std::alloc::{AllocError, Global};
 use std::test::Fail;
@@ -45,6 +46,34 @@ fn lacks_without(alloc: Global, text: &str, key: u16) -> Result<Option<usize>, F
     }
 }
 
+/// The tree of these keys on these levels in a page format.
+fn tree_in(alloc: Global, format: PageFormat, keys: &[(u16, u8)]) -> Result<Tree, AllocError> {
+    let mut tree: Tree = Builder::default()
+        .with_page_format(format)
+        .with_hasher(hasher(alloc, keys)?)
+        .build(alloc);
+    for (number, _) in keys {
+        put(&mut tree, *number)?;
+    }
+    Ok(tree)
+}
+
+/// Whether in a page format the hashed tree of a text has, without any one of its keys, the root hash of the tree of the others.
+fn leaves_the_others(alloc: Global, format: PageFormat, text: &str) -> Result<bool, Fail> {
+    let keys = keys_of(alloc, text)?;
+    for (key, _) in &keys {
+        let mut left = tree_in(alloc, format, &keys)?;
+        left.root_hash();
+        let is_out = left.remove(&number_key(*key))?.is_some();
+        let mut others = tree_in(alloc, format, &without(alloc, &keys, *key)?)?;
+        let is_same = left.root_hash_counted().0 == others.root_hash_counted().0;
+        if !is_out || !is_same || left.page_format() != format {
+            return Ok(false);
+        }
+    }
+    Ok(true)
+}
+
 /// A line for each tree: its keys with their levels.
 const TREES: &str = "\
 65:0\n\
@@ -75,6 +104,21 @@ fn leaves_the_defined_tree(rt: HostRuntime) -> Result<(), Fail> {
                 "at {key} of {line}"
             );
         }
+    }
+    Ok(())
+}
+
+#[test]
+fn removes_in_both_formats(rt: HostRuntime) -> Result<(), Fail> {
+    for line in TREES.lines() {
+        assert!(rt;
+            leaves_the_others(rt.alloc(), PageFormat::V1, line)?,
+            "format 1: {line}"
+        );
+        assert!(rt;
+            leaves_the_others(rt.alloc(), PageFormat::V2, line)?,
+            "format 2: {line}"
+        );
     }
     Ok(())
 }

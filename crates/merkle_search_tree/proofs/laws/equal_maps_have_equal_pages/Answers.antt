@@ -1,5 +1,6 @@
-use Rattle.std.proofs.Common.{subst}
+use Rattle.std.proofs.Common.{ap, subst, ◌∙◌}
 use Rattle.merkle_search_tree.specs.Sound.{IsSound}
+use Rattle.merkle_search_tree.specs.Stream.{page_digest}
 use Rattle.merkle_search_tree.proofs.Same.{same_digest}
 use Rattle.merkle_search_tree.proofs.Sound.{same_pages, same_bytes}
 use Rattle.merkle_search_tree.proofs.laws.equal_maps_have_equal_pages.Goals as goal
@@ -12,5 +13,6 @@ returns-clause-pages g c =
     c.requires.hasher c.requires.base c.requires.maps
 
 pub returns-clause-digests : goal.returns-clause-digests
-returns-clause-digests g c =
-    same_digest g.K.Ord.cmp g.K.KeyBytes.bytes_of (same_bytes g.K.Ord.cmp g.K.PartialEq.eq g.met.K.Ord.matches_eq g.K.KeyBytes.bytes_of g.met.K.KeyBytes.bytes_respect_eq) c.args.a.now.root c.args.b.now.root (returns-clause-pages g c)
+returns-clause-digests g c = λ format.
+    same_digest g.K.Ord.cmp c.args.a.now.format g.K.KeyBytes.bytes_of (same_bytes g.K.Ord.cmp g.K.PartialEq.eq g.met.K.Ord.matches_eq g.K.KeyBytes.bytes_of g.met.K.KeyBytes.bytes_respect_eq) c.args.a.now.root c.args.b.now.root (returns-clause-pages g c)
+    ∙ ap (λ f. page_digest f g.K.KeyBytes.bytes_of c.args.b.now.root) format

@@ -8,4 +8,4 @@ pub returns : goal.returns
 returns g c =
     let s = c.args.tree.now in
     let sound = subst (IsSound g.K.Ord.cmp g.H.Hasher.digest_of g.K.KeyBytes.bytes_of) c.tree.view_is c.tree.invariant in
-    tree_shaped g.K.Ord.cmp g.met.K.Ord.total (λ k. level_of (g.H.Hasher.digest_of s.hasher k) s.base) g.K.KeyBytes.bytes_of s.root sound.canonical sound.ascending
+    tree_shaped g.K.Ord.cmp g.met.K.Ord.total (λ k. level_of (g.H.Hasher.digest_of s.hasher k) s.base) s.format g.K.KeyBytes.bytes_of s.root sound.canonical sound.ascending

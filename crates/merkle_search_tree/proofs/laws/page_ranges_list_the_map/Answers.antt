@@ -10,5 +10,5 @@ pub returns : goal.returns
 returns g c =
     let s = c.args.tree.now in
     let sound = subst (IsSound g.K.Ord.cmp g.H.Hasher.digest_of g.K.KeyBytes.bytes_of) c.tree.view_is c.tree.invariant in
-    lists g.K.Ord.cmp g.met.K.Ord.total (g.H.Hasher.digest_of s.hasher) s.base g.K.KeyBytes.bytes_of (map_of s) (ranges_of g.K.KeyBytes.bytes_of s.root) sound.ascending
+    lists g.K.Ord.cmp g.met.K.Ord.total (g.H.Hasher.digest_of s.hasher) s.base s.format g.K.KeyBytes.bytes_of (map_of s) (ranges_of s.format g.K.KeyBytes.bytes_of s.root) sound.ascending
     (s.root, (sound.canonical, same_map-own g.K.Ord.cmp g.met.K.Ord.total (map_of s)), refl)

@@ -7,7 +7,7 @@ use Rattle.merkle_search_tree.proofs.Replays.{removal_result}
 use Rattle.merkle_search_tree.proofs.updates.carry_out.Goals as goal
 
 pub returns-in-RootHash-clause-map : goal.returns-in-RootHash-clause-map
-returns-in-RootHash-clause-map g c = rw (c.root_hash_counted.ensures.tree, c.in-RootHash.is) (pairs-filled g.K.KeyBytes.bytes_of c.args.tree.now.root)
+returns-in-RootHash-clause-map g c = rw (c.root_hash_counted.ensures.tree, c.in-RootHash.is) (pairs-filled c.args.tree.now.format g.K.KeyBytes.bytes_of c.args.tree.now.root)
 
 pub returns-in-Remove-clause-hashed : goal.returns-in-Remove-clause-hashed
 returns-in-Remove-clause-hashed g c =

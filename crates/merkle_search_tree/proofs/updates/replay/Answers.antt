@@ -2,6 +2,9 @@ use Rattle.std.proofs.Common.{◌≡◌, ℕ, ◌+◌, length, length-append, ap
 use Rattle.std.specs.Vec.Iter.{into_iter_items}
 use Rattle.merkle_digest.specs.Level.{level_of}
 use Rattle.merkle_search_tree.specs.Canonical.{SamePages}
+use Rattle.std.specs.Prelude.{⊤, MatchOption}
+use Rattle.merkle_search_tree.specs.Cache.{missing}
+use Rattle.merkle_search_tree.specs.Stream.{page_digest}
 use Rattle.merkle_search_tree.specs.State.{map_of}
 use Rattle.merkle_search_tree.specs.TreeOf.{tree_of}
 use Rattle.merkle_search_tree.specs.Updates.{map_after, map_after_one, hashed_after, hashed_after_one}
@@ -38,6 +41,7 @@ updates-preserved g c =
           ∙ ap (hashed_after cmp (d c.args.builder.hasher) [] false (c.updates.yielded ++ u ∷ [])) (sym c.in_ok-push.ensures.items);
       hasher = c.carry_out.ensures.hasher ∙ kept.hasher;
       base = c.carry_out.ensures.base ∙ kept.base;
+      format = c.carry_out.ensures.format ∙ kept.format;
     }
 
 -- at the end all updates were carried out
@@ -58,12 +62,13 @@ returns-clause-pages g c =
 
 pub returns-clause-ranges : goal.returns-clause-ranges
 returns-clause-ranges g c =
-    same_ranges g.K.Ord.cmp g.K.KeyBytes.bytes_of (same_bytes g.K.Ord.cmp g.K.PartialEq.eq g.met.K.Ord.matches_eq g.K.KeyBytes.bytes_of g.met.K.KeyBytes.bytes_respect_eq) _ _ (returns-clause-pages g c)
+    same_ranges g.K.Ord.cmp c.args.builder.format g.K.KeyBytes.bytes_of (same_bytes g.K.Ord.cmp g.K.PartialEq.eq g.met.K.Ord.matches_eq g.K.KeyBytes.bytes_of g.met.K.KeyBytes.bytes_respect_eq) _ _ (returns-clause-pages g c)
 
 pub returns-clause-root_hash : goal.returns-clause-root_hash
 returns-clause-root_hash g c =
     let bytes_of = g.K.KeyBytes.bytes_of in
     let e : is_some c.updates.tree.root_hash ≡ hashed_after g.K.Ord.cmp (g.H.Hasher-2.digest_of c.args.builder.hasher) [] false c.args.updates.items c.updates.accepted.items =
     subst (λ (us : List _). is_some c.updates.tree.root_hash ≡ hashed_after g.K.Ord.cmp (g.H.Hasher-2.digest_of c.args.builder.hasher) [] false us c.updates.accepted.items) (all_done _ _ _ c.updates.invariant.left (sym c.updates.invariant.count ∙ c.in-None.ensures.steps.0)) c.updates.invariant.hashed in
-    hashed_is _ c.updates.tree.root_hash _ _ _ e c.a_hashed_tree_has_every_digest.ensures
-    (same_digest g.K.Ord.cmp bytes_of (same_bytes g.K.Ord.cmp g.K.PartialEq.eq g.met.K.Ord.matches_eq bytes_of g.met.K.KeyBytes.bytes_respect_eq) _ _ (returns-clause-pages g c))
+    hashed_is _ c.updates.tree.root_hash _ _ _ e
+    (subst (λ f. MatchOption c.updates.tree.root_hash ⊤ (λ digest. (digest ≡ page_digest f bytes_of c.updates.tree.root) × (missing c.updates.tree.root ≡ 0))) c.updates.invariant.format c.a_hashed_tree_has_every_digest.ensures)
+    (same_digest g.K.Ord.cmp c.args.builder.format bytes_of (same_bytes g.K.Ord.cmp g.K.PartialEq.eq g.met.K.Ord.matches_eq bytes_of g.met.K.KeyBytes.bytes_respect_eq) _ _ (returns-clause-pages g c))

@@ -13,4 +13,5 @@ invariant-updates g l = record {
   hashed : is_some l.tree.root_hash ≡ hashed_after g.K.Ord.cmp (g.H.Hasher-2.digest_of l.fn.builder.hasher) [] false l.yielded l.accepted.items;
   hasher : l.tree.hasher ≡ l.fn.builder.hasher;
   base : l.tree.base ≡ l.fn.builder.base;
+  format : l.tree.format ≡ l.fn.builder.format;
 }

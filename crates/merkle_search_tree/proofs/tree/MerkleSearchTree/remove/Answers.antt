@@ -17,7 +17,7 @@ returns-in_err-remove_from_root-clause-succeeds_absent g c =
     let s = c.self.inside in
     let cmp = g.K.Ord.cmp in
     let k = c.args.key.now in
-    let view : State g.row.K.Denot g.row.H.Denot = record { hasher = s.hasher; base = non_zero_u8_get s.level_base; root = s.root; root_hash = s.root_hash } in
+    let view : State g.row.K.Denot g.row.H.Denot = record { hasher = s.hasher; base = non_zero_u8_get s.level_base; format = s.page_format; root = s.root; root_hash = s.root_hash } in
     λ e.
     let never : false ≡ true = c.in_err-remove_from_root.ensures.succeeds (remove-free g.K.Ord.cmp g.met.K.Ord.total g.H.Hasher.digest_of g.K.KeyBytes.bytes_of view c.self.invariant k (ap (λ (v : State g.row.K.Denot g.row.H.Denot). has_key cmp (map_of v) k) c.self.view_is ∙ e)) in
     absurd (cc)
@@ -27,7 +27,7 @@ returns-in-None-clause-map g c =
     let s = c.self.inside in
     let cmp = g.K.Ord.cmp in
     let k = c.args.key.now in
-    let view : State g.row.K.Denot g.row.H.Denot = record { hasher = s.hasher; base = non_zero_u8_get s.level_base; root = s.root; root_hash = s.root_hash } in
+    let view : State g.row.K.Denot g.row.H.Denot = record { hasher = s.hasher; base = non_zero_u8_get s.level_base; format = s.page_format; root = s.root; root_hash = s.root_hash } in
     let same : c.remove_from_root.new.self ≡ s.root = at_none _ _ _ c.in-None.is c.in_ok-remove_from_root.ensures.done in
     let none = sym (remove-entry g.K.Ord.cmp g.met.K.Ord.total g.H.Hasher.digest_of g.K.KeyBytes.bytes_of view c.self.invariant k) ∙ sym c.in_ok-remove_from_root.ensures.found ∙ c.in-None.is in
     ap pairs same ∙ sym (del-absent cmp k (pairs s.root) none) ∙ ap (λ (v : State g.row.K.Denot g.row.H.Denot). del cmp (map_of v) k) c.self.view_is
@@ -37,7 +37,7 @@ returns-in-None-clause-found g c =
     let s = c.self.inside in
     let cmp = g.K.Ord.cmp in
     let k = c.args.key.now in
-    let view : State g.row.K.Denot g.row.H.Denot = record { hasher = s.hasher; base = non_zero_u8_get s.level_base; root = s.root; root_hash = s.root_hash } in
+    let view : State g.row.K.Denot g.row.H.Denot = record { hasher = s.hasher; base = non_zero_u8_get s.level_base; format = s.page_format; root = s.root; root_hash = s.root_hash } in
     sym c.in-None.is ∙ c.in_ok-remove_from_root.ensures.found ∙ remove-entry g.K.Ord.cmp g.met.K.Ord.total g.H.Hasher.digest_of g.K.KeyBytes.bytes_of view c.self.invariant k ∙ ap (λ (v : State g.row.K.Denot g.row.H.Denot). entry cmp (map_of v) k) c.self.view_is
 
 pub returns-in-None-clause-few : goal.returns-in-None-clause-few
@@ -45,7 +45,7 @@ returns-in-None-clause-few g c =
     let s = c.self.inside in
     let cmp = g.K.Ord.cmp in
     let k = c.args.key.now in
-    let view : State g.row.K.Denot g.row.H.Denot = record { hasher = s.hasher; base = non_zero_u8_get s.level_base; root = s.root; root_hash = s.root_hash } in
+    let view : State g.row.K.Denot g.row.H.Denot = record { hasher = s.hasher; base = non_zero_u8_get s.level_base; format = s.page_format; root = s.root; root_hash = s.root_hash } in
     let same : c.remove_from_root.new.self ≡ s.root = at_none _ _ _ c.in-None.is c.in_ok-remove_from_root.ensures.done in
     subst (λ (v : State g.row.K.Denot g.row.H.Denot). v.root_hash ≢ None → missing c.remove_from_root.new.self ≤ level v.root + 1) c.self.view_is
     (λ ne. subst (λ (t : Tree g.row.K.Denot (List ℕ)). missing t ≤ level s.root + 1) (sym same) (stay-few g.K.Ord.cmp g.met.K.Ord.total g.H.Hasher.digest_of g.K.KeyBytes.bytes_of view c.self.invariant k ne))
@@ -55,7 +55,7 @@ invariant_of-self-2 g c =
     let s = c.self.inside in
     let cmp = g.K.Ord.cmp in
     let k = c.args.key.now in
-    let view : State g.row.K.Denot g.row.H.Denot = record { hasher = s.hasher; base = non_zero_u8_get s.level_base; root = s.root; root_hash = s.root_hash } in
+    let view : State g.row.K.Denot g.row.H.Denot = record { hasher = s.hasher; base = non_zero_u8_get s.level_base; format = s.page_format; root = s.root; root_hash = s.root_hash } in
     let done : c.remove_from_root.new.self ≡ root_del cmp k s.root = at_some _ _ _ c.in-Some.entry c.in-Some.is c.in_ok-remove_from_root.ensures.done in
     subst (λ (t : Tree g.row.K.Denot (List ℕ)). IsSound cmp g.H.Hasher.digest_of g.K.KeyBytes.bytes_of (record view { root = t; root_hash = None })) (sym done) (remove-sound g.K.Ord.cmp g.met.K.Ord.total g.H.Hasher.digest_of g.K.KeyBytes.bytes_of view c.self.invariant k)
 
@@ -64,7 +64,7 @@ returns-clause-map g c =
     let s = c.self.inside in
     let cmp = g.K.Ord.cmp in
     let k = c.args.key.now in
-    let view : State g.row.K.Denot g.row.H.Denot = record { hasher = s.hasher; base = non_zero_u8_get s.level_base; root = s.root; root_hash = s.root_hash } in
+    let view : State g.row.K.Denot g.row.H.Denot = record { hasher = s.hasher; base = non_zero_u8_get s.level_base; format = s.page_format; root = s.root; root_hash = s.root_hash } in
     let done : c.remove_from_root.new.self ≡ root_del cmp k s.root = at_some _ _ _ c.in-Some.entry c.in-Some.is c.in_ok-remove_from_root.ensures.done in
     ap pairs done ∙ remove-pairs g.K.Ord.cmp g.met.K.Ord.total g.H.Hasher.digest_of g.K.KeyBytes.bytes_of view c.self.invariant k ∙ ap (λ (v : State g.row.K.Denot g.row.H.Denot). del cmp (map_of v) k) c.self.view_is
 
@@ -73,7 +73,7 @@ returns-clause-found g c =
     let s = c.self.inside in
     let cmp = g.K.Ord.cmp in
     let k = c.args.key.now in
-    let view : State g.row.K.Denot g.row.H.Denot = record { hasher = s.hasher; base = non_zero_u8_get s.level_base; root = s.root; root_hash = s.root_hash } in
+    let view : State g.row.K.Denot g.row.H.Denot = record { hasher = s.hasher; base = non_zero_u8_get s.level_base; format = s.page_format; root = s.root; root_hash = s.root_hash } in
     sym c.in-Some.is ∙ c.in_ok-remove_from_root.ensures.found ∙ remove-entry g.K.Ord.cmp g.met.K.Ord.total g.H.Hasher.digest_of g.K.KeyBytes.bytes_of view c.self.invariant k ∙ ap (λ (v : State g.row.K.Denot g.row.H.Denot). entry cmp (map_of v) k) c.self.view_is
 
 pub returns-clause-few : goal.returns-clause-few
@@ -81,7 +81,7 @@ returns-clause-few g c =
     let s = c.self.inside in
     let cmp = g.K.Ord.cmp in
     let k = c.args.key.now in
-    let view : State g.row.K.Denot g.row.H.Denot = record { hasher = s.hasher; base = non_zero_u8_get s.level_base; root = s.root; root_hash = s.root_hash } in
+    let view : State g.row.K.Denot g.row.H.Denot = record { hasher = s.hasher; base = non_zero_u8_get s.level_base; format = s.page_format; root = s.root; root_hash = s.root_hash } in
     let done : c.remove_from_root.new.self ≡ root_del cmp k s.root = at_some _ _ _ c.in-Some.entry c.in-Some.is c.in_ok-remove_from_root.ensures.done in
     subst (λ (v : State g.row.K.Denot g.row.H.Denot). v.root_hash ≢ None → missing c.remove_from_root.new.self ≤ level v.root + 1) c.self.view_is
     (λ ne. subst (λ (t : Tree g.row.K.Denot (List ℕ)). missing t ≤ level s.root + 1) (sym done) (remove-few g.K.Ord.cmp g.met.K.Ord.total g.H.Hasher.digest_of g.K.KeyBytes.bytes_of view c.self.invariant k ne))

@@ -14,11 +14,11 @@ invariant_of-self g c =
     let h = c.self.invariant in
     let b = g.K.KeyBytes.bytes_of in
     rw (c.fill-digest.ensures.pages, c.new.ensures, c.fill-digest.ensures.digest) (record {
-      ascending = rw (pairs-filled b s.root) h.ascending;
-      canonical = IsCanonicalRoot-filled (λ k. level_of (g.H.Hasher.digest_of s.hasher k) (non_zero_u8_get s.level_base)) b s.root h.canonical;
-      caches = CachesHold-filled b s.root;
-      root_hash_holds = cache-filled b s.root;
+      ascending = rw (pairs-filled s.page_format b s.root) h.ascending;
+      canonical = IsCanonicalRoot-filled (λ k. level_of (g.H.Hasher.digest_of s.hasher k) (non_zero_u8_get s.level_base)) s.page_format b s.root h.canonical;
+      caches = CachesHold-filled s.page_format b s.root;
+      root_hash_holds = cache-filled s.page_format b s.root;
     })
 
 pub returns-clause-hashed : goal.returns-clause-hashed
-returns-clause-hashed g c = ap missing c.fill-digest.ensures.pages ∙ missing-filled g.K.KeyBytes.bytes_of c.self.inside.root
+returns-clause-hashed g c = ap missing c.fill-digest.ensures.pages ∙ missing-filled c.self.inside.page_format g.K.KeyBytes.bytes_of c.self.inside.root

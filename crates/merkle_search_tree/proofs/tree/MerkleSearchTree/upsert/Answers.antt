@@ -14,7 +14,7 @@ use Rattle.merkle_search_tree.proofs.tree.MerkleSearchTree.upsert.Goals as goal
 pub returns-in_err-set-clause-succeeds : goal.returns-in_err-set-clause-succeeds
 returns-in_err-set-clause-succeeds g c =
     let s = c.self.inside in
-    let view : State g.row.K.Denot g.row.H.Denot = record { hasher = s.hasher; base = non_zero_u8_get s.level_base; root = s.root; root_hash = s.root_hash } in
+    let view : State g.row.K.Denot g.row.H.Denot = record { hasher = s.hasher; base = non_zero_u8_get s.level_base; format = s.page_format; root = s.root; root_hash = s.root_hash } in
     let at = sym (c.level-key_level.ensures ∙ ap (λ h. level_of h (non_zero_u8_get s.level_base)) c.hash-2.ensures) in
     λ e.
     let there : has_key g.K.Ord.cmp (pairs s.root) c.args.key ≡ true = ap (λ (v : State g.row.K.Denot g.row.H.Denot). has_key g.K.Ord.cmp (map_of v) c.args.key) c.self.view_is ∙ e in
@@ -25,7 +25,7 @@ returns-in_err-set-clause-succeeds g c =
 pub invariant_of-self-2 : goal.invariant_of-self-2
 invariant_of-self-2 g c =
     let s = c.self.inside in
-    let view : State g.row.K.Denot g.row.H.Denot = record { hasher = s.hasher; base = non_zero_u8_get s.level_base; root = s.root; root_hash = s.root_hash } in
+    let view : State g.row.K.Denot g.row.H.Denot = record { hasher = s.hasher; base = non_zero_u8_get s.level_base; format = s.page_format; root = s.root; root_hash = s.root_hash } in
     let at = sym (c.level-key_level.ensures ∙ ap (λ h. level_of h (non_zero_u8_get s.level_base)) c.hash-2.ensures) in
     subst (λ (t : Tree g.row.K.Denot (List ℕ)). IsSound g.K.Ord.cmp g.H.Hasher-1.digest_of g.K.KeyBytes.bytes_of (record view { root = t; root_hash = None })) (sym c.in_ok-set.ensures.done)
     (upsert-sound g.K.Ord.cmp g.met.K.Ord.total g.K.PartialEq.eq g.met.K.Ord.matches_eq g.H.Hasher-1.digest_of g.met.H.Hasher-1.respects_eq g.K.KeyBytes.bytes_of view c.self.invariant _ c.args.key c.new-digest.result at)
@@ -33,7 +33,7 @@ invariant_of-self-2 g c =
 pub returns-clause-set : goal.returns-clause-set
 returns-clause-set g c =
     let s = c.self.inside in
-    let view : State g.row.K.Denot g.row.H.Denot = record { hasher = s.hasher; base = non_zero_u8_get s.level_base; root = s.root; root_hash = s.root_hash } in
+    let view : State g.row.K.Denot g.row.H.Denot = record { hasher = s.hasher; base = non_zero_u8_get s.level_base; format = s.page_format; root = s.root; root_hash = s.root_hash } in
     let at = sym (c.level-key_level.ensures ∙ ap (λ h. level_of h (non_zero_u8_get s.level_base)) c.hash-2.ensures) in
     ap pairs c.in_ok-set.ensures.done
     ∙ upsert-pairs g.K.Ord.cmp g.met.K.Ord.total g.K.PartialEq.eq g.met.K.Ord.matches_eq g.H.Hasher-1.digest_of g.met.H.Hasher-1.respects_eq g.K.KeyBytes.bytes_of view c.self.invariant _ c.args.key c.new-digest.result at
@@ -43,7 +43,7 @@ returns-clause-set g c =
 pub returns-clause-dropped : goal.returns-clause-dropped
 returns-clause-dropped g c =
     let s = c.self.inside in
-    let view : State g.row.K.Denot g.row.H.Denot = record { hasher = s.hasher; base = non_zero_u8_get s.level_base; root = s.root; root_hash = s.root_hash } in
+    let view : State g.row.K.Denot g.row.H.Denot = record { hasher = s.hasher; base = non_zero_u8_get s.level_base; format = s.page_format; root = s.root; root_hash = s.root_hash } in
     let at = sym (c.level-key_level.ensures ∙ ap (λ h. level_of h (non_zero_u8_get s.level_base)) c.hash-2.ensures) in
     subst (KeyUncached g.K.Ord.cmp c.args.key) (sym c.in_ok-set.ensures.done)
     (upsert-dropped g.K.Ord.cmp g.met.K.Ord.total g.K.PartialEq.eq g.met.K.Ord.matches_eq g.H.Hasher-1.digest_of g.met.H.Hasher-1.respects_eq g.K.KeyBytes.bytes_of view c.self.invariant _ c.args.key c.new-digest.result at)
@@ -51,7 +51,7 @@ returns-clause-dropped g c =
 pub returns-clause-few : goal.returns-clause-few
 returns-clause-few g c =
     let s = c.self.inside in
-    let view : State g.row.K.Denot g.row.H.Denot = record { hasher = s.hasher; base = non_zero_u8_get s.level_base; root = s.root; root_hash = s.root_hash } in
+    let view : State g.row.K.Denot g.row.H.Denot = record { hasher = s.hasher; base = non_zero_u8_get s.level_base; format = s.page_format; root = s.root; root_hash = s.root_hash } in
     let lev = c.level-key_level.ensures ∙ ap (λ h. level_of h (non_zero_u8_get s.level_base)) c.hash-2.ensures in
     let few = upsert-few g.K.Ord.cmp g.met.K.Ord.total g.K.PartialEq.eq g.met.K.Ord.matches_eq g.H.Hasher-1.digest_of g.met.H.Hasher-1.respects_eq g.K.KeyBytes.bytes_of view c.self.invariant _ c.args.key c.new-digest.result (sym lev) in
     subst (λ (v : State g.row.K.Denot g.row.H.Denot). v.root_hash ≢ None → missing c.set.new.self ≤ level c.set.new.self + level_of (g.H.Hasher-1.digest_of v.hasher c.args.key) v.base + 1) c.self.view_is

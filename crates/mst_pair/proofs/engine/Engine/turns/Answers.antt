@@ -9,6 +9,6 @@ use Rattle.mst_pair.proofs.engine.Engine.turns.Goals as goal
 pub returns-in-Ok-clause-bytes : goal.returns-in-Ok-clause-bytes
 returns-in-Ok-clause-bytes g c = rw (← c.self.view_is) (
   turns_text (map answer_of c.in-Ok.all.items),
-  inl (map answer_of c.in-Ok.all.items, length-map c.in-Ok.all.items answer_of ∙ c.in-Ok.ensures.length, c.in-Ok.ensures.ok, refl),
+  (c.take_turns.ensures.format, inl (map answer_of c.in-Ok.all.items, length-map c.in-Ok.all.items answer_of ∙ c.in-Ok.ensures.length, c.in-Ok.ensures.ok, refl)),
   subst (Writes _ _ _) (turns_shown c.deref.result.now c.in-Ok.all.items c.deref.ensures.value) c.write_list.ensures.bytes,
 )

@@ -12,7 +12,7 @@ returns-clause-ok c = rw (← c.self.view_is) (IfOk-weaker c.pull_by_turns.resul
     (λ all (met, turns, converging). (
       met,
       under_defaults (λ R S. IsByTurns text_order nat_eq max R S (map answer_of all.items) c.self.inside.a.rows c.self.inside.b.rows c.pull_by_turns.new.a.rows c.pull_by_turns.new.b.rows met)
-          c.self.inside.a c.self.inside.b c.self.invariant.0 c.self.invariant.1 turns,
+          c.self.inside.format c.self.inside.a c.self.inside.b c.self.invariant.0 c.self.invariant.1 turns,
     )) c.pull_by_turns.ensures.turns)
 
 pub returns-clause-err : goal.returns-clause-err
@@ -20,7 +20,7 @@ returns-clause-err c = rw (← c.self.view_is) (on_err_from_both _ _ _ c.pull_by
     (λ e stopped fewer. (
       map answer_of e.finished.items,
       subst (λ n. n < c.args.count) (sym (length-map e.finished.items answer_of)) (subst (λ n. length e.finished.items < n) c.from.ensures fewer),
-      stops_after e.finished.items e.fault c.self.inside.a.rows c.self.inside.b.rows c.pull_by_turns.new.a.rows c.pull_by_turns.new.b.rows
+      stops_after c.self.inside.format e.finished.items e.fault c.self.inside.a.rows c.self.inside.b.rows c.pull_by_turns.new.a.rows c.pull_by_turns.new.b.rows
           (under_defaults (λ R S. StopsByTurns text_order nat_eq max R S e.finished.items e.fault c.self.inside.a.rows c.self.inside.b.rows c.pull_by_turns.new.a.rows c.pull_by_turns.new.b.rows)
-          c.self.inside.a c.self.inside.b c.self.invariant.0 c.self.invariant.1 stopped),
+          c.self.inside.format c.self.inside.a c.self.inside.b c.self.invariant.0 c.self.invariant.1 stopped),
     )) c.pull_by_turns.ensures.stopped c.pull_by_turns.ensures.fewer)

@@ -11,7 +11,7 @@ joining-init g c = record {
   inside = omega arith;
   joins = joins_none g.K.Ord.cmp g.met.K.Ord.total g.V.PartialEq.eq g.met.V.Eq.laws g.V.Join.join_of g.met.V.Join.joining (spans_of c.args.ranges.now) c.rows-rows.result.now c.args.self.now.rows c.requires.apart c.rows.ensures.ascending;
   few = omega arith;
-  setup = (refl, refl);
+  setup = (refl, refl, refl);
 }
 
 -- the row that is refused, and those behind it, are not joined
@@ -41,7 +41,7 @@ joining-preserved g c =
                 ascending c.joining-test.true c.row-item.is c.seek-next.ensures.place c.args.self.now.rows c.joining.self.rows c.joining.done c.joining.invariant.joins
                 (sym c.seek-next.ensures.found ∙ w.if-found.true) w.take_row.new.self.rows (went w.take_row.result (sym w.is_err.ensures.value ∙ w.if-is_err.false) w.take_row.ensures.joined);
             few = omega arith;
-            setup = (w.take_row.ensures.setup.0 ∙ c.joining.invariant.setup.0, w.take_row.ensures.setup.1 ∙ c.joining.invariant.setup.1);
+            setup = (w.take_row.ensures.setup.0 ∙ c.joining.invariant.setup.0, w.take_row.ensures.setup.1 ∙ c.joining.invariant.setup.1, w.take_row.ensures.setup.2 ∙ c.joining.invariant.setup.2);
           })
       | else-found w ↦
           rw (w.self-is, w.done-is)
