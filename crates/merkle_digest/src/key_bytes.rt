@@ -2,7 +2,7 @@
 
 ghost use Rattle.std.specs.Prelude.{◌≡◌, ℕ, List, true, string_bytes};
 ghost use Rattle.std.proofs.Common.{sym};
-ghost use Rattle.std.specs.Cmp.Lexicographic.{same_text};
+ghost use Rattle.std.specs.Cmp.Lexicographic.{same_text, bytes_decides};
 
 /// A key that has bytes. A page's digest is made of the bytes of its keys, so each implementation proves that equal keys have
 /// equal bytes.
@@ -60,4 +60,30 @@ impl<const M: usize> KeyBytes for [u8; M] {
     fn key_bytes(&self) -> &[u8] {
         self
     }
+}
+
+/// A key that its bytes tell apart from every other: each implementation proves that keys with equal bytes are equal.
+pub trait KeyBytesExact: KeyBytes {
+    /// Keys with equal bytes are equal.
+    ghost bytes_tell_keys: { (a b : Self) → Self.bytes_of a ≡ Self.bytes_of b → Self.eq a b ≡ true };
+}
+
+/// Texts with equal bytes are equal.
+impl KeyBytesExact for String {
+    ghost bytes_tell_keys = { λ a b same. (bytes_decides (string_bytes a) (string_bytes b)).1 same };
+}
+
+/// Texts with equal bytes are equal.
+impl KeyBytesExact for &str {
+    ghost bytes_tell_keys = { λ a b same. (bytes_decides a.now b.now).1 same };
+}
+
+/// The bytes are the key.
+impl KeyBytesExact for Vec<u8> {
+    ghost bytes_tell_keys = { λ a b same. (bytes_decides a.items b.items).1 same };
+}
+
+/// The bytes are the key.
+impl<const M: usize> KeyBytesExact for [u8; M] {
+    ghost bytes_tell_keys = { λ a b same. (bytes_decides a b).1 same };
 }

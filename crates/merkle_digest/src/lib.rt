@@ -17,7 +17,7 @@ mod wrappers;
 pub use digest::Digest;
 pub use hash_bytes::HashBytes;
 pub use hasher::Hasher;
-pub use key_bytes::KeyBytes;
+pub use key_bytes::{KeyBytes, KeyBytesExact};
 pub use levels::{default_level_base, level};
 pub use siphash::{Sip24, SipHasher};
 pub use wrappers::{PageDigest, RootHash, ValueDigest};

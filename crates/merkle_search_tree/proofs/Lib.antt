@@ -10,6 +10,9 @@ pub mod Set
 pub mod Keeps
 pub mod Drops
 pub mod Same
+pub mod SameParts
+pub mod Streams
+pub mod Faithful
 pub mod Sound
 pub mod Upserts
 pub mod Joins

@@ -1,6 +1,6 @@
 //! Laws over the definitions alone. Each function has no effect and takes no memory; what it ensures holds of every tree.
 
-ghost use Rattle.std.specs.Prelude.{◌≡◌, ⊤, List, [], MatchOption};
+ghost use Rattle.std.specs.Prelude.{◌≡◌, ⊤, ℕ, List, [], MatchOption};
 ghost use Rattle.key_order.specs.Interval.{Span};
 ghost use Rattle.key_order.specs.Map.{SameMap};
 ghost use Rattle.merkle_digest.specs.Level.{level_of};
@@ -11,14 +11,17 @@ ghost use Rattle.merkle_search_tree.specs.Cache.{missing};
 ghost use Rattle.merkle_search_tree.specs.Listing.{IsListing};
 ghost use Rattle.merkle_search_tree.specs.Page.{pairs};
 ghost use Rattle.merkle_search_tree.specs.Ranges.{IsPageOf, ranges_of};
-ghost use Rattle.merkle_search_tree.specs.Canonical.{SamePages};
+ghost use Rattle.merkle_search_tree.specs.Canonical.{SamePages, IsTreeOf};
+ghost use Rattle.merkle_search_tree.specs.Faithful.{IsSmall, NoCollision, HasFaithfulPages};
+ghost use Rattle.merkle_search_tree.specs.Tree.{Tree};
 ghost use Rattle.merkle_search_tree.specs.TreeOf.{tree_of};
+ghost use Rattle.merkle_search_tree.specs.declared.builder.PageFormat.TheVariants.{V2};
 ghost use Rattle.merkle_search_tree.specs.Stream.{page_digest};
 ghost use Rattle.merkle_search_tree.specs.State.{map_of};
 ghost use Rattle.merkle_search_tree.specs.Sound.{IsSound};
 
 use crate::tree::MerkleSearchTree;
-use merkle_digest::{Hasher, KeyBytes};
+use merkle_digest::{Hasher, KeyBytes, KeyBytesExact};
 
 /// What holds of every tree: its keys ascend, its pages are canonical and so the tree of its map, its cached digests are true,
 /// with every page below a cached one cached too, and a cached root hash is that of the root page.
@@ -97,3 +100,18 @@ pub fn equal_maps_have_equal_page_ranges<K: Ord + KeyBytes, V, H: Hasher<N, K>, 
     let _ = &a.root;
     let _ = &b.root;
 }
+
+/// In format 2, where the bytes of a key tell it from every other, page digests are as faithful as the hash of streams. For any two
+/// maps under one hasher and level base: where no page of one tree and page of the other have unequal streams of one digest, pages
+/// with equal digests have equal maps below them, and root pages with equal digests have equal maps.
+pub fn exact_keys_make_pages_faithful<K: Ord + KeyBytesExact, H: Hasher<N, K>, const N: usize>()
+    ensures pages { (hasher : H) (base : ℕ) (a b : List (K × List ℕ))
+        → IsSmall K.cmp (H.digest_of hasher) base K.bytes_of N a → IsSmall K.cmp (H.digest_of hasher) base K.bytes_of N b
+        → NoCollision K.cmp (H.digest_of hasher) base V2 K.bytes_of a b
+        → HasFaithfulPages K.cmp (IsPageOf K.cmp (H.digest_of hasher) base) (IsPageOf K.cmp (H.digest_of hasher) base) (page_digest V2 K.bytes_of) (page_digest V2 K.bytes_of) pairs a b }
+    ensures maps { (hasher : H) (base : ℕ) (a b : List (K × List ℕ)) (t u : Tree K (List ℕ))
+        → IsSmall K.cmp (H.digest_of hasher) base K.bytes_of N a → IsSmall K.cmp (H.digest_of hasher) base K.bytes_of N b
+        → NoCollision K.cmp (H.digest_of hasher) base V2 K.bytes_of a b
+        → IsTreeOf K.cmp (H.digest_of hasher) base t a → IsTreeOf K.cmp (H.digest_of hasher) base u b
+        → page_digest V2 K.bytes_of t ≡ page_digest V2 K.bytes_of u → SameMap K.cmp (λ d e. d ≡ e) a b }
+{}

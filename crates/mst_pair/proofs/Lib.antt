@@ -20,3 +20,4 @@ pub mod Turning
 pub mod Asks
 pub mod Within
 pub mod Pulling
+pub mod FromStreams
