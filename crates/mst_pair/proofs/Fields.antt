@@ -3,7 +3,7 @@ use Rattle.std.proofs.Common.{◌≡◌, ◌≢◌, ℕ, ◌<◌, List, [], ◌�
 use Rattle.std.proofs.lemmas.List.Folds.{list_any_none}
 use Rattle.std.proofs.lemmas.List.Elements.{All-weaker}
 use Rattle.std.proofs.lemmas.Bool.Decides.{nat_tests}
-use Rattle.mst_pair.specs.Requests.{Request, put, del, keys, root, pages, diff, pull, same, turns, IsSpelled, IsBad, space, fields, IsKey, IsKeyByte, IsNumber, name_text}
+use Rattle.mst_pair.specs.Requests.{Request, put, del, keys, root, pages, diff, pull, same, turns, set_format, IsSpelled, IsBad, space, fields, IsKey, IsKeyByte, IsNumber, name_text}
 use Rattle.mst_pair.specs.Parsing.{HasNoSpace, IsRowText, IsSpelledBy}
 use Rattle.mst_pair.specs.declared.pair.ReplicaName.{ReplicaName}
 use Rattle.mst_pair.specs.declared.pair.ReplicaName.TheVariants.{A, B}
@@ -57,6 +57,7 @@ spelled_by (diff name) word arguments line w e g = by_fields (codes "diff") _ wo
 spelled_by (pull name) word arguments line w e g = by_fields (codes "pull") _ word arguments line w refl e g
 spelled_by same word arguments line w e g = has_space word arguments (codes "same") refl (sym g ∙ e)
 spelled_by (turns d) word arguments line w e (small, g) = let at = by_fields (codes "turns") _ word arguments line w refl e g in (at.0, small, at.1)
+spelled_by (set_format format) word arguments line w e g = by_fields (codes "format") _ word arguments line w refl e g
 
 -- what is no request by its word and arguments is none by its line
 pub bad_command : {C : Type 0} (Found : C → Type 0) (r : Option C) (word arguments line : List ℕ) → HasNoSpace word → line ≡ word ++ space ∷ arguments → MatchOption r ((q : Request) → IsSpelledBy q word arguments → ⊥) Found → IfNone r (IsBad line)
@@ -74,6 +75,7 @@ only_put arguments refuted (diff name) (w, a) = absurd (omega (arith, ap length 
 only_put arguments refuted (pull name) (w, a) = absurd (omega (arith, ap length w))
 only_put arguments refuted same spelled = absurd spelled
 only_put arguments refuted (turns d) (w, small, a) = absurd (omega (arith, ap length w))
+only_put arguments refuted (set_format format) (w, a) = absurd (omega (arith, ap length w))
 
 -- arguments of `put` whose first field names no replica
 pub bad_name : (name rest arguments : List ℕ) → HasNoSpace name → arguments ≡ name ++ space ∷ rest → ((n : ReplicaName) → name ≢ name_text n) → (q : Request) → IsSpelledBy q (codes "put") arguments → ⊥
@@ -94,6 +96,7 @@ only_del arguments refuted (diff name) (w, a) = absurd (omega (arith, ap length 
 only_del arguments refuted (pull name) (w, a) = absurd (omega (arith, ap length w))
 only_del arguments refuted same spelled = absurd spelled
 only_del arguments refuted (turns d) (w, small, a) = absurd (omega (arith, ap length w))
+only_del arguments refuted (set_format format) (w, a) = absurd (omega (arith, ap length w))
 
 -- arguments of `del` whose first field names no replica
 pub bad_del_name : (name rest arguments : List ℕ) → HasNoSpace name → arguments ≡ name ++ space ∷ rest → ((n : ReplicaName) → name ≢ name_text n) → (q : Request) → IsSpelledBy q (codes "del") arguments → ⊥

@@ -4,8 +4,9 @@ use Rattle.std.proofs.lemmas.Bool.{cases_lt}
 use Rattle.std.proofs.Math.ListN.{length-take}
 use Rattle.mst_pair.specs.State.{State}
 use Rattle.mst_pair.specs.Engine.{Step}
-use Rattle.mst_pair.specs.Requests.{Request, put, del, keys, root, pages, diff, pull, same, turns, IsSpelled, name_text, space}
+use Rattle.mst_pair.specs.Requests.{Request, put, del, keys, root, pages, diff, pull, same, turns, set_format, IsSpelled, name_text, space}
 use Rattle.mst_pair.specs.declared.pair.ReplicaName.{ReplicaName}
+use Rattle.merkle_search_tree.specs.declared.builder.PageFormat.TheVariants.{V1, V2}
 use Rattle.mst_pair.proofs.Kept.{take_short}
 use Rattle.mst_pair.specs.declared.pair.ReplicaName.TheVariants.{A, B}
 
@@ -35,6 +36,8 @@ spelled_is_short (diff name) line e = named_is_short (codes "diff") name line (o
 spelled_is_short (pull name) line e = named_is_short (codes "pull") name line (omega arith) e
 spelled_is_short same line e = subst (λ l. length l ≤ 282) (sym e) (omega arith)
 spelled_is_short (turns d) line (small, e) = subst (λ l. length l ≤ 282) (sym e) (omega arith)
+spelled_is_short (set_format V1) line e = subst (λ l. length l ≤ 282) (sym e) (omega arith)
+spelled_is_short (set_format V2) line e = subst (λ l. length l ≤ 282) (sym e) (omega arith)
 
 -- a line gets the replies that its first 283 bytes get
 pub step_of_kept : (old : State) (line reply : List ℕ) (new : State) → Step old (take 283 line) reply new → Step old line reply new

@@ -7,8 +7,8 @@ use Rattle.merkle_search_tree.specs.declared.builder.PageFormat.{PageFormat}
 use Rattle.mst_pair.specs.Pages.{page_ranges, root_digest, HasPageRanges}
 use Rattle.mst_pair.specs.Pulls.{Answer, IsAnswerFor, IsPull, IsPartOfPull, IsByTurns}
 use Rattle.mst_pair.specs.Replies.{text_line, rows_text, ranges_text, pull_text, turns_text}
-use Rattle.mst_pair.specs.Requests.{Request, put, del, keys, root, pages, diff, pull, same, turns, IsSpelled, IsBad}
-use Rattle.mst_pair.specs.State.{Text, Row, State, text_order, rows, other_rows, JoinsRow, DeletesRow}
+use Rattle.mst_pair.specs.Requests.{Request, put, del, keys, root, pages, diff, pull, same, turns, set_format, IsSpelled, IsBad}
+use Rattle.mst_pair.specs.State.{Text, Row, State, HasNoRow, text_order, rows, other_rows, JoinsRow, DeletesRow}
 
 -- ranges that local may ask of the peer: any that meet the interval laws of `diff` and its laws on trees, on the page ranges of both
 abbrev pub MayAsk : PageFormat → List Row → List Row → List (Span Text) → Type 0
@@ -64,6 +64,9 @@ Answers old (turns d) reply new =
     (new.format ≡ old.format)
     × (((answers : List (Answer Text)) × (length answers ≡ d) × TakesTurns old.format answers old.a old.b new.a new.b × (reply ≡ turns_text answers))
     ⊎ ((reply ≡ no_memory) × StopsInTurns old.format d old.a old.b new.a new.b))
+Answers old (set_format format) reply new =
+    (HasNoRow old × (reply ≡ text_line (codes "ok")) × (new ≡ record { a = []; b = []; format = format }))
+    ⊎ ((HasNoRow old → ⊥) × (reply ≡ text_line (codes "not empty")) × (new ≡ old))
 
 -- from old, a line may get this reply and leave new
 abbrev pub Step : State → List ℕ → List ℕ → State → Type 0

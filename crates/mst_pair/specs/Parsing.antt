@@ -1,7 +1,7 @@
 -- What the parser's functions tell of a line.
 use Rattle.std.specs.Prelude.{◌≡◌, ◌≤◌, ◌==◌, ℕ, List, [], ◌∷◌, codes, false}
 use Rattle.std.specs.List.{list_any}
-use Rattle.mst_pair.specs.Requests.{Request, put, del, keys, root, pages, diff, pull, same, turns, IsKey, IsNumber, name_text, digit, space, fields}
+use Rattle.mst_pair.specs.Requests.{Request, put, del, keys, root, pages, diff, pull, same, turns, set_format, IsKey, IsNumber, name_text, format_text, digit, space, fields}
 use Rattle.mst_pair.specs.declared.parse.Command.{Command}
 use Rattle.mst_pair.specs.declared.parse.Command.TheVariants as commands
 
@@ -16,6 +16,7 @@ request_of (commands.Diff name) = diff name
 request_of (commands.Pull name) = pull name
 request_of commands.Same = same
 request_of (commands.Turns d) = turns d
+request_of (commands.Format format) = set_format format
 
 -- no byte is a space
 abbrev pub HasNoSpace : List ℕ → Type 0
@@ -36,3 +37,4 @@ IsSpelledBy (diff name) word arguments = (word ≡ codes "diff") × (arguments �
 IsSpelledBy (pull name) word arguments = (word ≡ codes "pull") × (arguments ≡ name_text name)
 IsSpelledBy same word arguments = ⊥
 IsSpelledBy (turns d) word arguments = (word ≡ codes "turns") × (d ≤ 9) × (arguments ≡ digit d ∷ [])
+IsSpelledBy (set_format format) word arguments = (word ≡ codes "format") × (arguments ≡ format_text format)

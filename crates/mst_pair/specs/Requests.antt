@@ -2,6 +2,8 @@
 use Rattle.std.specs.Prelude.{◌≡◌, ◌≢◌, ◌<◌, ◌≤◌, ◌+◌, ◌^◌, ℕ, List, [], ◌∷◌, length, codes, All, IsUtf8}
 use Rattle.std.specs.List.{join_with_byte}
 use Rattle.std.specs.Str.Parse.{IsNumeral, digits_value}
+use Rattle.merkle_search_tree.specs.declared.builder.PageFormat.{PageFormat}
+use Rattle.merkle_search_tree.specs.declared.builder.PageFormat.TheVariants.{V1, V2}
 use Rattle.mst_pair.specs.declared.pair.ReplicaName.{ReplicaName}
 use Rattle.mst_pair.specs.declared.pair.ReplicaName.TheVariants.{A, B}
 
@@ -16,11 +18,17 @@ pub data Request : Type 0 where
   pull : ReplicaName → Request
   same : Request
   turns : ℕ → Request
+  set_format : PageFormat → Request
 
 -- the name of a replica as it is spelled
 abbrev pub name_text : ReplicaName → List ℕ
 name_text A = codes "a"
 name_text B = codes "b"
+
+-- a page format as it is spelled
+abbrev pub format_text : PageFormat → List ℕ
+format_text V1 = codes "1"
+format_text V2 = codes "2"
 
 -- no control character, space or delete
 abbrev pub IsKeyByte : ℕ → Type 0
@@ -63,6 +71,7 @@ IsSpelled (diff name) line = line ≡ fields (codes "diff" ∷ name_text name �
 IsSpelled (pull name) line = line ≡ fields (codes "pull" ∷ name_text name ∷ [])
 IsSpelled same line = line ≡ codes "same"
 IsSpelled (turns d) line = (d ≤ 9) × (line ≡ fields (codes "turns" ∷ (digit d ∷ []) ∷ []))
+IsSpelled (set_format format) line = line ≡ fields (codes "format" ∷ format_text format ∷ [])
 
 -- the line spells no request
 abbrev pub IsBad : List ℕ → Type 0

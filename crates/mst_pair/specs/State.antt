@@ -33,6 +33,10 @@ pub record State : Type 0 where
 abbrev pub start : State
 start = record { a = []; b = []; format = V1 }
 
+-- neither replica has a row
+abbrev pub HasNoRow : State → Type 0
+HasNoRow s = (s.a ≡ []) × (s.b ≡ [])
+
 -- the rows of the replica of that name
 abbrev pub rows : State → ReplicaName → List Row
 rows s A = s.a

@@ -3,7 +3,7 @@ ghost use Rattle.std.specs.Prelude.{◌≡◌, ℕ, List};
 ghost use Rattle.mst_pair.specs.Devices.{Writes, Marks};
 ghost use Rattle.mst_pair.specs.Engine.{Answers, Step};
 ghost use Rattle.mst_pair.specs.Parsing.{request_of};
-ghost use Rattle.mst_pair.specs.Requests.{put, del, root, pages, diff, pull, same, turns};
+ghost use Rattle.mst_pair.specs.Requests.{put, del, root, pages, diff, pull, same, turns, set_format};
 ghost use Rattle.mst_pair.specs.State.{State, start};
 
 use crate::pair::{Pair, ReplicaName};
@@ -11,6 +11,7 @@ use crate::parse::{Command, parse};
 use crate::reply::{write_list, write_no_memory, write_pull, write_root};
 use crate::sink::{Sink, write_all};
 use crate::source::Failed;
+use merkle_search_tree::builder::PageFormat;
 use std::alloc::Global;
 use std::marker::Model;
 
@@ -61,6 +62,7 @@ impl Engine {
             Command::Pull(name) => self.pull(name, writer),
             Command::Same => self.same(writer),
             Command::Turns(count) => self.turns(count, writer),
+            Command::Format(format) => self.set_format(format, writer),
         }
     }
 
@@ -129,6 +131,17 @@ impl Engine {
         match self.pair.take_turns(count) {
             Ok(all) => write_list(&all, writer),
             Err(_) => write_no_memory(writer),
+        }
+    }
+
+    fn set_format<W: Sink>(&mut self, format: PageFormat, writer: &mut W) -> Result<(), Failed>
+        ensures bytes { (reply : List ℕ) × Answers self.old (set_format format) reply self.new × Writes result (W.taken writer.old) (W.taken writer.new) reply }
+        ensures failed { Marks result (W.has_failed writer.old) (W.has_failed writer.new) }
+    {
+        if self.pair.set_format(format) {
+            write_all(writer, b"ok\n")
+        } else {
+            write_all(writer, b"not empty\n")
         }
     }
 }

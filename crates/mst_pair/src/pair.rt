@@ -1,12 +1,12 @@
 //! Two replicas, and what the lines do to them.
-ghost use Rattle.std.specs.Prelude.{◌≡◌, ◌↔◌, map, length, OnOk, OnErr, IfOk, IfErr, IsTrue, ℕ, List, ◌⊎◌};
+ghost use Rattle.std.specs.Prelude.{◌≡◌, ◌↔◌, [], if◌then◌else◌, map, length, OnOk, OnErr, IfOk, IfErr, IsTrue, ℕ, List, ◌⊎◌};
 ghost use Rattle.merkle_diff.specs.Entry.{span_of};
 ghost use Rattle.mst_pair.specs.Answers.{spans_of, answer_of};
 ghost use Rattle.mst_pair.specs.Devices.{Writes, Marks};
 ghost use Rattle.mst_pair.specs.Engine.{MayAsk, Pulls, StopsPulling, TakesTurns, StopsInTurns, no_memory};
 ghost use Rattle.mst_pair.specs.Pages.{root_digest, page_ranges};
 ghost use Rattle.mst_pair.specs.Replies.{ranges_text};
-ghost use Rattle.mst_pair.specs.State.{State, start, rows, other_rows, JoinsRow, DeletesRow};
+ghost use Rattle.mst_pair.specs.State.{State, start, rows, other_rows, HasNoRow, JoinsRow, DeletesRow};
 
 use crate::pull::{PullError, Pulled, ask};
 use crate::replica::Replica;
@@ -57,6 +57,20 @@ impl Pair {
             b: Replica::new(alloc, Builder::default()),
             format: PageFormat::V1,
         }
+    }
+
+    /// Makes both replicas anew in a page format, where neither has a row, and answers whether it did. It takes no memory.
+    pub fn set_format(&mut self, format: PageFormat) -> bool
+        ensures empty { IsTrue result ↔ HasNoRow self.old }
+        ensures new { self.new ≡ (if result then record { a = []; b = []; format = format } else self.old) }
+    {
+        if !self.a.rows().is_empty() || !self.b.rows().is_empty() {
+            return false;
+        }
+        self.a = Replica::new(self.alloc, Builder::default().with_page_format(format));
+        self.b = Replica::new(self.alloc, Builder::default().with_page_format(format));
+        self.format = format;
+        true
     }
 
     /// The rows of a replica, ascending by key.

@@ -1,12 +1,14 @@
 //! What a line asks for.
 ghost use Rattle.std.specs.Prelude.{◌≡◌, ◌≢◌, ◌++◌, ◌∷◌, ℕ, List, IfSome, IfNone, MatchOption, IsTrue, ◌↔◌};
 ghost use Rattle.std.specs.Prelude.{◌≤◌, [], codes};
-ghost use Rattle.mst_pair.specs.Requests.{Request, IsSpelled, IsBad, name_text, digit, IsKey, space};
+ghost use Rattle.mst_pair.specs.Requests.{Request, IsSpelled, IsBad, name_text, format_text, digit, IsKey, space};
 ghost use Rattle.mst_pair.specs.Parsing.{request_of, IsSpelledBy, IsRowText, HasNoSpace};
 ghost use Rattle.mst_pair.specs.declared.pair.ReplicaName.{ReplicaName as NameOf};
+ghost use Rattle.merkle_search_tree.specs.declared.builder.PageFormat.{PageFormat as FormatOf};
 
 use crate::number::number_of;
 use crate::pair::ReplicaName;
+use merkle_search_tree::builder::PageFormat;
 
 /// The most bytes that a key has.
 const KEY_BYTES: usize = 255;
@@ -32,6 +34,8 @@ pub enum Command<'a> {
     Same,
     /// Have the replicas pull from each other by turns, so many times.
     Turns(u8),
+    /// Make both replicas anew in a page format, where neither has a row.
+    Format(PageFormat),
 }
 
 /// What the line asks for, or nothing where it spells no request.
@@ -58,6 +62,9 @@ fn command_of<'a>(word: &[u8], arguments: &'a [u8]) -> Option<Command<'a>>
     }
     if is_word(word, b"turns") {
         return Some(Command::Turns(digit_of(arguments)?));
+    }
+    if is_word(word, b"format") {
+        return Some(Command::Format(format_of(arguments)?));
     }
     let name = name_of(arguments)?;
     if is_word(word, b"keys") {
@@ -130,6 +137,18 @@ fn name_of(text: &[u8]) -> Option<ReplicaName>
         Some(ReplicaName::A)
     } else if is_word(text, b"b") {
         Some(ReplicaName::B)
+    } else {
+        None
+    }
+}
+
+fn format_of(text: &[u8]) -> Option<PageFormat>
+    ensures { MatchOption result ((format : FormatOf) → text.now ≢ format_text format) (λ format. text.now ≡ format_text format) }
+{
+    if is_word(text, b"1") {
+        Some(PageFormat::V1)
+    } else if is_word(text, b"2") {
+        Some(PageFormat::V2)
     } else {
         None
     }

@@ -37,7 +37,25 @@ fn serve(
     (result, writer.taken)
 }
 
-const ROWS: [(&[u8], &[u8]); 19] = [
+const ROWS: [(&[u8], &[u8]); 23] = [
+    // page formats
+    (
+        b"put a x 1\nformat 2\ndel a x\nformat 2\nput a x 1\nput b x 1\nsame\nformat 3\n",
+        b"ok\nnot empty\nok\nok\nok\nok\nsame\nbad line\n",
+    ),
+    (
+        b"format 2\nput a x 1\nput b x 1\nsame\nformat 3\nformat 1\nformat\nformat 1 \n",
+        b"ok\nok\nok\nsame\nbad line\nnot empty\nbad line\nbad line\n",
+    ),
+    // rows are taken out in format 2 as in format 1
+    (
+        b"format 2\nput a x 1\nput b x 5\ndel a x\ndel a x\nkeys a\npull a\nkeys a\n",
+        b"ok\nok\nok\nok\nabsent\nend\nx x\nend\njoined 1\nx 5\nend\n",
+    ),
+    (
+        b"format 2\nput a x 1\nput a y 2\ndel a x\nput b y 2\nsame\nformat 1\ndel a y\ndel b y\nformat 1\nsame\n",
+        b"ok\nok\nok\nok\nok\nsame\nnot empty\nok\nok\nok\nsame\n",
+    ),
     (
         b"put a k 1\nkeys a\nkeys b\nhello\n",
         b"ok\nk 1\nend\nend\nbad line\n",
