@@ -17,8 +17,6 @@ mod page_ranges;
 mod remove;
 mod spare;
 mod split;
-#[cfg(test)]
-mod tests;
 mod tree;
 pub mod updates;
 mod upsert;

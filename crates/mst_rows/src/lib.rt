@@ -27,6 +27,8 @@ mod shapes;
 #[cfg(test)]
 mod snapshots;
 #[cfg(test)]
+mod traversals;
+#[cfg(test)]
 mod trees;
 #[cfg(test)]
 mod upserts;

@@ -2,10 +2,10 @@
 
 ghost use Rattle.std.specs.Prelude.{◌≡◌};
 
-use crate::builder::Builder;
-use crate::visitor::Visitor;
-use crate::{MerkleSearchTree, Node, Page};
 use merkle_digest::{SipHasher, ValueDigest};
+use merkle_search_tree::builder::Builder;
+use merkle_search_tree::visitor::Visitor;
+use merkle_search_tree::{MerkleSearchTree, Node, Page};
 use std::alloc::Global;
 use std::num::NonZeroU8;
 use std::test::Fail;
