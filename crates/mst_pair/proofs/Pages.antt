@@ -24,7 +24,7 @@ use Rattle.merkle_search_tree.proofs.Same.{same_digest}
 use Rattle.merkle_search_tree.proofs.SameRanges.{same_ranges}
 use Rattle.merkle_search_tree.proofs.Sound.{level_low}
 use Rattle.merkle_search_tree.proofs.TreeOf.{is_tree_of}
-use Rattle.mst_pair.specs.Contents.{Contents, digests}
+use Rattle.merkle_replica.specs.Contents.{Contents, digests}
 use Rattle.mst_pair.specs.Pages.{key_digest, number_digest, key_level, tree, page_ranges, root_digest, HasDefaults}
 use Rattle.mst_pair.specs.Replies.{text_line, range_text, ranges_text, end_line}
 use Rattle.mst_pair.specs.State.{Text, Row, text_order}

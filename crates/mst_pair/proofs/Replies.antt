@@ -1,11 +1,11 @@
 -- The lines of what is shown.
 use Rattle.std.proofs.Common.{◌≡◌, List, [], ◌∷◌, ◌++◌, map, ap, ◌∙◌, refl}
 use Rattle.std.specs.List.{flat_map}
-use Rattle.mst_pair.specs.Answers.{spans_of, answer_of}
-use Rattle.mst_pair.specs.Pulls.{Answer}
+use Rattle.merkle_replica.specs.Answers.{spans_of, answer_of}
+use Rattle.merkle_replica.specs.Pulls.{Answer}
 use Rattle.mst_pair.specs.Replies.{range_text, ranges_text, joined_text, turns_text, end_line}
 use Rattle.mst_pair.specs.State.{Text}
-use Rattle.mst_pair.specs.declared.pull.Pulled.{Pulled}
+use Rattle.merkle_replica.specs.declared.pull.Pulled.{Pulled}
 
 -- the lines of items that are seen as others
 pub lines_as : {X Y A : Type 0} (f : Y → List A) (h : X → Y) (xs : List X) → flat_map (λ x. f (h x)) xs ≡ flat_map f (map h xs)

@@ -4,19 +4,16 @@ use Rattle.std.specs.Int.{w64, to_le_bytes}
 use Rattle.merkle_digest.specs.SipHash.{siphash128}
 use Rattle.key_order.specs.Interval.{Span}
 use Rattle.merkle_diff.specs.Entry.{Entry}
-use Rattle.merkle_search_tree.specs.Cache.{filled}
-use Rattle.merkle_search_tree.specs.Stream.{page_digest}
 use Rattle.merkle_search_tree.specs.declared.builder.PageFormat.{PageFormat}
-use Rattle.mst_pair.specs.Answers.{answer_of, IsRefused, StopsByTurns}
-use Rattle.mst_pair.specs.Contents.{Contents, SameSetup}
+use Rattle.merkle_replica.specs.Answers.{answer_of, IsRefused, StopsByTurns}
+use Rattle.merkle_replica.specs.Contents.{Contents}
 use Rattle.mst_pair.specs.Engine.{MayAsk, StopsPulling, StopsAfter}
 use Rattle.mst_pair.specs.Pages.{HasPageRanges, HasDefaults}
-use Rattle.mst_pair.specs.Pulls.{HasRanges, IsAnswerFor}
+use Rattle.merkle_replica.specs.Pulls.{HasRanges, IsAnswerFor}
 use Rattle.mst_pair.specs.State.{Text, Row, text_order}
-use Rattle.mst_pair.specs.declared.pull.Pulled.{Pulled}
-use Rattle.mst_pair.specs.declared.pull.PullError.{PullError}
-use Rattle.mst_pair.specs.declared.pull.PullError.TheVariants.{Memory, Partly}
-use Rattle.mst_pair.proofs.Pulling.{answered_before}
+use Rattle.merkle_replica.specs.declared.pull.Pulled.{Pulled}
+use Rattle.merkle_replica.specs.declared.pull.PullError.{PullError}
+use Rattle.merkle_replica.specs.declared.pull.PullError.TheVariants.{Memory, Partly}
 
 -- the lists that are the page ranges of rows, under a key of SipHash, a level base and a page format
 abbrev pub Ranges : List ℕ → ℕ → PageFormat → List Row → List (Entry Text (List ℕ)) → Type 0
@@ -32,16 +29,10 @@ pub under_defaults : (P : (List Row → List (Entry Text (List ℕ)) → Type 0)
 under_defaults P format a b da db p =
     subst (λ r. P (HasPageRanges format) r) (λ i. Ranges (db.0 i) (db.1 i) (db.2 i)) (subst (λ r. P r (RangesUnder b)) (λ i. Ranges (da.0 i) (da.1 i) (da.2 i)) p)
 
--- hashing leaves the hasher, the level base and the page format
-pub after_hash : (a a' : Contents Text ℕ (List ℕ)) → a'.tree ≡ record a.tree { root = filled a.tree.format string_bytes a.tree.root; root_hash = Some (page_digest a.tree.format string_bytes a.tree.root) } → SameSetup a a'
-after_hash a a' e = (ap (λ t. t.hasher) e, ap (λ t. t.base) e, ap (λ t. t.format) e)
-
--- ranges that were asked for once both replicas were hashed
-pub may_ask : (format : PageFormat) (a b a' b' : Contents Text ℕ (List ℕ)) (found : List (Span Text)) → HasDefaults format a → HasDefaults format b → SameSetup a a' → SameSetup b b' → a'.rows ≡ a.rows → b'.rows ≡ b.rows
-    → IsAnswerFor text_order nat_eq max (RangesUnder a') (RangesUnder b') a'.rows b'.rows found → MayAsk format a.rows b.rows found
-may_ask format a b a' b' found da db sa sb ra rb answer =
-    under_defaults (λ R S. IsAnswerFor text_order nat_eq max R S a.rows b.rows found) format a b da db
-    (answered_before text_order nat_eq max (λ h key. siphash128 h (string_bytes key)) (λ h n. siphash128 h (to_le_bytes w64 n)) string_bytes a b a' b' found ra rb sa sb answer)
+-- ranges that a replica may ask for, in the words of the engine
+pub may_ask : (format : PageFormat) (a b : Contents Text ℕ (List ℕ)) (found : List (Span Text)) → HasDefaults format a → HasDefaults format b
+    → IsAnswerFor text_order nat_eq max (RangesUnder a) (RangesUnder b) a.rows b.rows found → MayAsk format a.rows b.rows found
+may_ask format a b found da db answer = under_defaults (λ R S. IsAnswerFor text_order nat_eq max R S a.rows b.rows found) format a b da db answer
 
 -- what an error says, of the call
 pub on_err_from : {T E : Type 0} (Q : E → Type 0) (P : Type 0) (r : Result T E) → ((e : E) → Q e → P) → IfErr r Q → OnErr r P

@@ -5,7 +5,7 @@ use Rattle.merkle_digest.specs.Digest.{base64_of}
 use Rattle.merkle_diff.specs.Entry.{span_of}
 use Rattle.merkle_search_tree.specs.declared.builder.PageFormat.{PageFormat}
 use Rattle.mst_pair.specs.Pages.{page_ranges, root_digest, HasPageRanges}
-use Rattle.mst_pair.specs.Pulls.{Answer, IsAnswerFor, IsPull, IsPartOfPull, IsByTurns}
+use Rattle.merkle_replica.specs.Pulls.{Answer, IsAnswerFor, IsPull, IsPartOfPull, IsByTurns}
 use Rattle.mst_pair.specs.Replies.{text_line, rows_text, ranges_text, pull_text, turns_text}
 use Rattle.mst_pair.specs.Requests.{Request, put, del, keys, root, pages, diff, pull, same, turns, set_format, IsSpelled, IsBad}
 use Rattle.mst_pair.specs.State.{Text, Row, State, HasNoRow, text_order, rows, other_rows, JoinsRow, DeletesRow}

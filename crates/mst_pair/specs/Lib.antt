@@ -8,12 +8,6 @@ pub mod Replies
 pub mod Engine
 pub mod Run
 pub mod Session
-pub mod Contents
-pub mod Pulls
-pub mod Faithful
-pub mod Answers
-pub mod Places
-pub mod Sweep
 pub use Rattle.key_order.specs.Order
 pub use Rattle.key_order.specs.Interval
 pub use Rattle.key_order.specs.Map

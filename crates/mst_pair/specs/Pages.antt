@@ -9,7 +9,7 @@ use Rattle.merkle_search_tree.specs.Stream.{page_digest}
 use Rattle.merkle_search_tree.specs.Tree.{Tree}
 use Rattle.merkle_search_tree.specs.TreeOf.{tree_of}
 use Rattle.merkle_search_tree.specs.declared.builder.PageFormat.{PageFormat}
-use Rattle.mst_pair.specs.Contents.{Contents, digests}
+use Rattle.merkle_replica.specs.Contents.{Contents, digests}
 use Rattle.mst_pair.specs.State.{Text, Row, text_order}
 
 -- the digest of a key: that of its bytes

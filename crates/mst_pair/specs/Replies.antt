@@ -4,7 +4,7 @@ use Rattle.std.specs.List.{flat_map}
 use Rattle.std.specs.Fmt.{decimal}
 use Rattle.key_order.specs.Interval.{Span}
 use Rattle.mst_pair.specs.Lines.{newline}
-use Rattle.mst_pair.specs.Pulls.{Answer}
+use Rattle.merkle_replica.specs.Pulls.{Answer}
 use Rattle.mst_pair.specs.State.{Text, Row}
 
 -- a text as a line of a reply

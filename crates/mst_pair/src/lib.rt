@@ -5,34 +5,22 @@
 //! `specs/` says what the lines of an input are (`Lines`), what each line asks for (`Requests`), what it is
 //! answered (`Engine`), and what a whole run reads and writes (`Run`).
 //!
-//! A [`Replica`] is a map from keys to values that can be joined, kept with the Merkle search tree of the digests of
-//! its values (`Contents`). Replicas pull from each other what their trees show to differ (`Pulls`), and after four pulls by
-//! turns hold the join of their maps while digests are faithful (`Faithful`).
+//! The replicas are those of the crate `merkle_replica`, whose public names are here too.
 #![tactic(auto)]
 
 mod engine;
-mod join;
 mod line;
 mod number;
 mod pair;
 mod parse;
 mod pending;
-mod pull;
-mod replica;
 mod reply;
 pub mod run;
 mod session;
 pub mod sink;
 pub mod source;
-mod sweep;
-#[cfg(test)]
-mod tests;
 mod text_replica;
-mod turns;
-mod value_hasher;
 
-pub use join::Join;
-pub use pull::{PullError, Pulled};
-pub use replica::Replica;
-pub use turns::{TurnsError, pull_by_turns};
-pub use value_hasher::ValueHasher;
+pub use merkle_replica::{
+    Join, PullError, Pulled, Replica, TurnsError, ValueHasher, pull_by_turns,
+};

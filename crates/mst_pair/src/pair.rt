@@ -1,20 +1,18 @@
 //! Two replicas, and what the lines do to them.
 ghost use Rattle.std.specs.Prelude.{◌≡◌, ◌↔◌, [], if◌then◌else◌, map, length, OnOk, OnErr, IfOk, IfErr, IsTrue, ℕ, List, ◌⊎◌};
 ghost use Rattle.merkle_diff.specs.Entry.{span_of};
-ghost use Rattle.mst_pair.specs.Answers.{spans_of, answer_of};
+ghost use Rattle.merkle_replica.specs.Answers.{spans_of, answer_of};
 ghost use Rattle.mst_pair.specs.Devices.{Writes, Marks};
 ghost use Rattle.mst_pair.specs.Engine.{MayAsk, Pulls, StopsPulling, TakesTurns, StopsInTurns, no_memory};
 ghost use Rattle.mst_pair.specs.Pages.{root_digest, page_ranges};
 ghost use Rattle.mst_pair.specs.Replies.{ranges_text};
 ghost use Rattle.mst_pair.specs.State.{State, start, rows, other_rows, HasNoRow, JoinsRow, DeletesRow};
 
-use crate::pull::{PullError, Pulled, ask};
-use crate::replica::Replica;
 use crate::sink::Sink;
 use crate::source::Failed;
 use crate::text_replica::{TextReplica, root_hash_of, write_pages};
-use crate::turns::{TurnsError, pull_by_turns};
 use merkle_digest::RootHash;
+use merkle_replica::{PullError, Pulled, Replica, TurnsError, pull_by_turns};
 use merkle_search_tree::builder::{Builder, PageFormat};
 use std::alloc::{AllocError, Global};
 use std::marker::Model;
@@ -141,11 +139,9 @@ impl Pair {
         ensures ranges { IfOk result (λ found. MayAsk self.old.format (rows self.old name) (other_rows self.old name) (spans_of found.items)) }
         ensures same { self.new ≡ self.old }
     {
-        self.a.hash();
-        self.b.hash();
         match name {
-            ReplicaName::A => ask(self.alloc, &self.a, &self.b),
-            ReplicaName::B => ask(self.alloc, &self.b, &self.a),
+            ReplicaName::A => self.a.ranges_to_ask(&mut self.b),
+            ReplicaName::B => self.b.ranges_to_ask(&mut self.a),
         }
     }
 

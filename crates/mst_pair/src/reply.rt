@@ -3,19 +3,19 @@ ghost use Rattle.std.specs.Prelude.{◌≡◌, ◌++◌, ℕ, List, codes, strin
 ghost use Rattle.std.specs.Fmt.{decimal};
 ghost use Rattle.std.specs.List.{flat_map};
 ghost use Rattle.merkle_digest.specs.Digest.{base64_of};
-ghost use Rattle.mst_pair.specs.Answers.{answer_of};
+ghost use Rattle.merkle_replica.specs.Answers.{answer_of};
 ghost use Rattle.mst_pair.specs.Devices.{Writes, Passes, Marks};
 ghost use Rattle.mst_pair.specs.Engine.{no_memory};
 ghost use Rattle.mst_pair.specs.Replies.{text_line, end_line, row_text, range_text, joined_text, pull_text};
 
 use crate::pending::Pending;
-use crate::pull::Pulled;
 use crate::sink::{Sink, write_all};
 use crate::source::Failed;
 use base64::engine::general_purpose::STANDARD;
 use itoa::Buffer;
 use merkle_diff::PageRange;
 use merkle_digest::RootHash;
+use merkle_replica::Pulled;
 
 /// What is shown as a line of a reply.
 pub trait ReplyLine {

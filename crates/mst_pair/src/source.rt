@@ -40,8 +40,8 @@ pub trait Source {
 
 /// A source over a reader of std.
 ///
-/// It tells the bytes that the reader tells, and none once it has failed. Each call of `read` takes one of
-/// 18446744073709551615 reads, and after these it fails; so it does at each read once a read has failed.
+/// It tells the bytes that the reader tells, and none once it has failed. Each call of `read` takes one of the reads that it was
+/// given, 18446744073709551615 unless stated otherwise, and after these it fails; so it does at each read once a read has failed.
 #[derive(Drop)]
 pub struct FromRead<R> {
     inner: R,
@@ -56,9 +56,18 @@ impl<R: Read> FromRead<R> {
         ensures told { ⟦<FromRead<R> as Source>⟧.left result ≡ R.remaining inner }
         ensures reads { ⟦<FromRead<R> as Source>⟧.reads_left result ≡ u64.MAX }
     {
+        FromRead::with_reads(inner, u64::MAX)
+    }
+
+    /// A source that has not failed and fails after so many reads.
+    pub fn with_reads(inner: R, reads: u64) -> Self
+        ensures not_failed { ⟦<FromRead<R> as Source>⟧.has_failed result ≡ false }
+        ensures told { ⟦<FromRead<R> as Source>⟧.left result ≡ R.remaining inner }
+        ensures reads { ⟦<FromRead<R> as Source>⟧.reads_left result ≡ reads }
+    {
         FromRead {
             inner,
-            reads_left: u64::MAX,
+            reads_left: reads,
             failed: false,
         }
     }
@@ -88,26 +97,5 @@ impl<R: Read> Source for FromRead<R> {
 
     fn failed(&self) -> bool {
         self.failed
-    }
-}
-
-#[cfg(test)]
-mod tests {
-    use super::*;
-
-    #[test]
-    fn fails_after_its_reads(rt: HostRuntime) {
-        let mut reader = FromRead {
-            inner: b"abc".as_slice(),
-            reads_left: 2,
-            failed: false,
-        };
-        let mut buf = [0];
-        for byte in [b'a', b'b'] {
-            assert_eq!(rt; reader.read(&mut buf), Ok(1));
-            assert_eq!(rt; buf, [byte]);
-        }
-        assert_eq!(rt; reader.read(&mut buf), Err(Failed));
-        assert!(rt; reader.failed());
     }
 }

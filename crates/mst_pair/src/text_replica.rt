@@ -9,11 +9,11 @@ ghost use Rattle.mst_pair.specs.Engine.{no_memory};
 ghost use Rattle.mst_pair.specs.Pages.{HasDefaults, root_digest, page_ranges};
 ghost use Rattle.mst_pair.specs.Replies.{ranges_text};
 
-use crate::replica::Replica;
 use crate::reply::{write_list, write_no_memory};
 use crate::sink::Sink;
 use crate::source::Failed;
 use merkle_digest::{PageDigest, RootHash, SipHasher};
+use merkle_replica::Replica;
 use merkle_search_tree::laws::every_tree_is_sound;
 
 /// A replica of the program.

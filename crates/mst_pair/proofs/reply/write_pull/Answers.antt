@@ -1,7 +1,7 @@
 -- The ranges and the last line, and then how many rows were joined.
 use Rattle.std.proofs.Common.{◌≡◌, ℕ, List, [], ◌++◌, ap, ◌∙◌, subst}
 use Rattle.std.specs.List.{flat_map}
-use Rattle.mst_pair.specs.Answers.{spans_of}
+use Rattle.merkle_replica.specs.Answers.{spans_of}
 use Rattle.mst_pair.specs.Devices.{Writes, WritesPart}
 use Rattle.mst_pair.specs.Replies.{range_text, ranges_text, joined_text, end_line}
 use Rattle.mst_pair.specs.State.{Text}

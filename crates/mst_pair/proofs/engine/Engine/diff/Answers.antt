@@ -1,5 +1,5 @@
 use Rattle.std.proofs.Common.{refl, inl, inr, subst}
-use Rattle.mst_pair.specs.Answers.{spans_of}
+use Rattle.merkle_replica.specs.Answers.{spans_of}
 use Rattle.mst_pair.specs.Devices.{Writes}
 use Rattle.mst_pair.specs.Engine.{no_memory}
 use Rattle.mst_pair.specs.Replies.{ranges_text}

@@ -1,6 +1,6 @@
 use Rattle.std.proofs.Common.{refl, inl, map, subst, ◌∙◌}
 use Rattle.std.proofs.lemmas.List.{length-map}
-use Rattle.mst_pair.specs.Answers.{answer_of}
+use Rattle.merkle_replica.specs.Answers.{answer_of}
 use Rattle.mst_pair.specs.Devices.{Writes}
 use Rattle.mst_pair.specs.Replies.{turns_text}
 use Rattle.mst_pair.proofs.Replies.{turns_shown}

@@ -1,4 +1,4 @@
-use Rattle.mst_pair.proofs.Removed.{deleted}
+use Rattle.mst_pair.proofs.Deleted.{deleted}
 use Rattle.mst_pair.proofs.pair.Pair.del.Goals as goal
 
 pub returns-in-A-clause-ok : goal.returns-in-A-clause-ok

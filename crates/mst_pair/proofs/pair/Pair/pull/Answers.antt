@@ -1,7 +1,7 @@
 use Rattle.std.proofs.Common.{max, nat_eq}
 use Rattle.std.proofs.lemmas.Result.{IfOk-weaker}
-use Rattle.mst_pair.specs.Answers.{answer_of, IsRefused}
-use Rattle.mst_pair.specs.Pulls.{IsPull}
+use Rattle.merkle_replica.specs.Answers.{answer_of, IsRefused}
+use Rattle.merkle_replica.specs.Pulls.{IsPull}
 use Rattle.mst_pair.specs.State.{text_order}
 use Rattle.mst_pair.proofs.Stops.{under_defaults, on_err_from, stops_pulling}
 use Rattle.mst_pair.proofs.pair.Pair.pull.Goals as goal

@@ -1,8 +1,8 @@
 use Rattle.std.proofs.Common.{◌<◌, max, nat_eq, map, length, subst, sym}
 use Rattle.std.proofs.lemmas.Result.{IfOk-weaker}
 use Rattle.std.proofs.lemmas.List.{length-map}
-use Rattle.mst_pair.specs.Answers.{answer_of, StopsByTurns}
-use Rattle.mst_pair.specs.Pulls.{IsByTurns}
+use Rattle.merkle_replica.specs.Answers.{answer_of, StopsByTurns}
+use Rattle.merkle_replica.specs.Pulls.{IsByTurns}
 use Rattle.mst_pair.specs.State.{text_order}
 use Rattle.mst_pair.proofs.Stops.{under_defaults, on_err_from_both, stops_after}
 use Rattle.mst_pair.proofs.pair.Pair.take_turns.Goals as goal

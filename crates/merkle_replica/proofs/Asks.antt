@@ -1,0 +1,50 @@
+-- What `diff` answers on the page ranges of two replicas is an answer for them, with bounds of its own.
+use Rattle.std.proofs.Common.{◌≡◌, ℕ, ◌+◌, ◌<◌, Bool, List, [], ◌∷◌, ◌++◌, length, take, get_or, map, sym, ◌∙◌, ap, subst}
+use Rattle.std.proofs.lemmas.List.{take_more, map-append}
+use Rattle.std.specs.Cmp.{IsTotalOrder}
+use Rattle.std.specs.declared.cmp.Ordering.{Ordering}
+use Rattle.key_order.specs.Order.{Same}
+use Rattle.key_order.specs.Interval.{Span, SameSpan}
+use Rattle.key_order.specs.Map.{SameMap}
+use Rattle.merkle_diff.specs.Difference.{IsAnswer}
+use Rattle.merkle_diff.specs.Entry.{Entry}
+use Rattle.merkle_diff.specs.Merge.{SameSpans}
+use Rattle.merkle_diff.specs.TreeShape.{IsTreeShaped}
+use Rattle.merkle_diff.proofs.SameAnswers.{difference-same, spares-same}
+use Rattle.merkle_search_tree.specs.Ranges.{ranges_of}
+use Rattle.merkle_search_tree.specs.Sound.{IsSound}
+use Rattle.merkle_search_tree.specs.State.{map_of}
+use Rattle.merkle_replica.specs.Contents.{Contents, digests}
+use Rattle.merkle_replica.specs.Pulls.{IsAnswerFor}
+use Rattle.merkle_replica.specs.Answers.{spans_of}
+use Rattle.merkle_replica.proofs.Turning.{Of}
+
+module _ {K : Type 0} (cmp : K → K → Ordering) where
+  more_same : (xs ys : List (Span K)) (s t : Span K) → SameSpans cmp xs ys → SameSpan cmp s t → SameSpans cmp (xs ++ s ∷ []) (ys ++ t ∷ [])
+  more_same [] [] s t e h = (h, tt)
+  more_same [] (y ∷ ys) s t e h = absurd e
+  more_same (x ∷ xs) [] s t e h = absurd e
+  more_same (x ∷ xs) (y ∷ ys) s t e h = (e.0, more_same xs ys s t e.1 h)
+
+  -- one more range with bounds of its own
+  pub step_same : {A : Type 0} (f : A → Span K) (found : List A) (i : ℕ) (x : A) (rs rs' : List (K × K)) (first last : K) → i < length found → x ≡ get_or found i x → rs' ≡ rs ++ (first, last) ∷ []
+      → SameSpans cmp (map f (take i found)) (spans_of rs) → Same cmp (f x).first first → Same cmp (f x).last last → SameSpans cmp (map f (take (i + 1) found)) (spans_of rs')
+  step_same f found i x rs rs' first last h e r s k l =
+      let t : take (i + 1) found ≡ take i found ++ x ∷ [] = take_more found i x h ∙ ap (λ y. take i found ++ y ∷ []) (sym e) in
+      subst (λ w. SameSpans cmp w (spans_of rs')) (sym (ap (map f) t ∙ map-append f (take i found) (x ∷ [])))
+      (subst (SameSpans cmp (map f (take i found) ++ f x ∷ [])) (sym (ap spans_of r ∙ map-append _ rs ((first, last) ∷ [])))
+      (more_same (map f (take i found)) (spans_of rs) (f x) (record { first = first; last = last }) s (k, l)))
+
+module _ {K V H : Type 0} (cmp : K → K → Ordering) (eq : V → V → Bool) (join : V → V → V) (kd : H → K → List ℕ) (vd : H → V → List ℕ) (bo : K → List ℕ) (o : IsTotalOrder cmp) where
+  pub answer_for : (local peer : Contents K V H) (ls ps : List (Entry K (List ℕ))) (found own : List (Span K)) → SameMap cmp (λ d e. d ≡ e) (map_of local.tree) (digests (vd local.tree.hasher) local.rows) → SameMap cmp (λ d e. d ≡ e) (map_of peer.tree) (digests (vd peer.tree.hasher) peer.rows) → IsSound cmp kd bo local.tree → IsSound cmp kd bo peer.tree
+      → IsTreeShaped cmp (ranges_of local.tree.format bo local.tree.root) → IsTreeShaped cmp (ranges_of peer.tree.format bo peer.tree.root) → ls ≡ ranges_of local.tree.format bo local.tree.root → ps ≡ ranges_of peer.tree.format bo peer.tree.root → IsAnswer cmp ls ps found → SameSpans cmp found own
+      → IsAnswerFor cmp eq join (Of cmp eq join kd vd bo local) (Of cmp eq join kd vd bo peer) local.rows peer.rows own
+  answer_for local peer ls ps found own kl kp sl sp tl tp e f d same =
+      record {
+        local_list = ls;
+        peer_list = ps;
+        of_local = (local.tree.root, (sl.canonical, kl), e);
+        of_peer = (peer.tree.root, (sp.canonical, kp), f);
+        interval_laws = difference-same cmp o ls ps found own same d.interval_laws;
+        laws_on_trees = spares-same cmp o ls ps found own same (d.laws_on_trees (subst (IsTreeShaped cmp) (sym e) tl) (subst (IsTreeShaped cmp) (sym f) tp));
+      }

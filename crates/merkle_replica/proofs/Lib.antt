@@ -1,0 +1,14 @@
+pub mod Searches
+pub mod Sweeps
+pub mod Follows
+pub mod Removed
+pub mod Joined
+pub mod Taken
+pub mod Bounds
+pub mod Cover
+pub mod Converging
+pub mod Turning
+pub mod Asks
+pub mod Within
+pub mod Pulling
+pub mod FromStreams

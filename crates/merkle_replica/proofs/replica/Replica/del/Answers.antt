@@ -1,0 +1,63 @@
+use Rattle.std.proofs.Common.{◌≡◌, true, false, sym, ◌∙◌, subst}
+use Rattle.key_order.specs.Map.{has_key}
+use Rattle.merkle_search_tree.specs.Del.{del}
+use Rattle.merkle_search_tree.proofs.Removes.{entry-absent}
+use Rattle.merkle_search_tree.proofs.Removals.{del-absent}
+use Rattle.merkle_replica.specs.Contents.{Contents}
+use Rattle.merkle_replica.specs.Places.{IsPlaceOf, IsGapFor}
+use Rattle.merkle_replica.proofs.Removed.{removed_there, has_there, has_new, kept_del}
+use Rattle.merkle_replica.proofs.replica.Replica.del.Goals as goal
+
+pub returns-in-Err-clause-rows : goal.returns-in-Err-clause-rows
+returns-in-Err-clause-rows g c =
+    let cmp = g.K.Ord.cmp in
+    let k = c.args.key.now in
+    let rows = c.self.inside.rows.items in
+    let gap : IsGapFor cmp k rows c.in-Err.field-0 = rw (← c.deref.ensures.value) c.in-Err.ensures.absent in
+    subst (λ (v : Contents g.row.K.Denot g.row.V.Denot g.row.H.Denot). v.rows ≡ del cmp v.rows k) c.self.view_is
+    (sym (del-absent cmp k rows (entry-absent cmp k rows (has_new cmp g.met.K.Ord.total rows c.in-Err.field-0 k gap))))
+
+pub returns-in-Err-clause-found : goal.returns-in-Err-clause-found
+returns-in-Err-clause-found g c =
+    let cmp = g.K.Ord.cmp in
+    let k = c.args.key.now in
+    let rows = c.self.inside.rows.items in
+    let gap : IsGapFor cmp k rows c.in-Err.field-0 = rw (← c.deref.ensures.value) c.in-Err.ensures.absent in
+    subst (λ (v : Contents g.row.K.Denot g.row.V.Denot g.row.H.Denot). false ≡ has_key cmp v.rows k) c.self.view_is (sym (has_new cmp g.met.K.Ord.total rows c.in-Err.field-0 k gap))
+
+pub returns-in_err-remove-clause-succeeds_absent : goal.returns-in_err-remove-clause-succeeds_absent
+returns-in_err-remove-clause-succeeds_absent g c =
+    let cmp = g.K.Ord.cmp in
+    let k = c.args.key.now in
+    let rows = c.self.inside.rows.items in
+    let place : IsPlaceOf cmp k rows c.in-Ok.at = rw (← c.deref.ensures.value) c.in-Ok.ensures.found in
+    λ e.
+    let there : true ≡ has_key cmp c.args.self.now.rows k = subst (λ (v : Contents g.row.K.Denot g.row.V.Denot g.row.H.Denot). true ≡ has_key cmp v.rows k) c.self.view_is (sym (has_there cmp g.met.K.Ord.total rows c.in-Ok.at k place)) in
+    let never : true ≡ false = there ∙ e in
+    absurd (cc)
+
+pub invariant_of-self-2 : goal.invariant_of-self-2
+invariant_of-self-2 g c =
+    let cmp = g.K.Ord.cmp in
+    let k = c.args.key.now in
+    let rows = c.self.inside.rows.items in
+    let place : IsPlaceOf cmp k rows c.in-Ok.at = rw (← c.deref.ensures.value) c.in-Ok.ensures.found in
+    kept_del cmp g.H.ValueHasher.value_digest g.met.K.Ord.total rows c.remove-2.new.self.items c.self.inside.tree c.remove.new.self k
+    (c.remove-2.ensures.items ∙ removed_there cmp g.met.K.Ord.total rows c.in-Ok.at k c.self.invariant.ascending place) c.in_ok-remove.ensures.map c.in_ok-remove.ensures.hasher c.self.invariant
+
+pub returns-clause-rows : goal.returns-clause-rows
+returns-clause-rows g c =
+    let cmp = g.K.Ord.cmp in
+    let k = c.args.key.now in
+    let rows = c.self.inside.rows.items in
+    let place : IsPlaceOf cmp k rows c.in-Ok.at = rw (← c.deref.ensures.value) c.in-Ok.ensures.found in
+    subst (λ (v : Contents g.row.K.Denot g.row.V.Denot g.row.H.Denot). c.remove-2.new.self.items ≡ del cmp v.rows k) c.self.view_is
+    (c.remove-2.ensures.items ∙ removed_there cmp g.met.K.Ord.total rows c.in-Ok.at k c.self.invariant.ascending place)
+
+pub returns-clause-found : goal.returns-clause-found
+returns-clause-found g c =
+    let cmp = g.K.Ord.cmp in
+    let k = c.args.key.now in
+    let rows = c.self.inside.rows.items in
+    let place : IsPlaceOf cmp k rows c.in-Ok.at = rw (← c.deref.ensures.value) c.in-Ok.ensures.found in
+    subst (λ (v : Contents g.row.K.Denot g.row.V.Denot g.row.H.Denot). true ≡ has_key cmp v.rows k) c.self.view_is (sym (has_there cmp g.met.K.Ord.total rows c.in-Ok.at k place))

@@ -1,0 +1,45 @@
+use Rattle.std.proofs.Common.{◌≡◌, [], ◌∷◌, set as list_set, sym, ◌∙◌, ap, subst}
+use Rattle.std.specs.List.{insert}
+use Rattle.std.specs.Cmp.{tied_itself, tied_back}
+use Rattle.key_order.specs.Join.{IsJoin}
+use Rattle.key_order.specs.Map.{set}
+use Rattle.merkle_replica.specs.Places.{IsPlaceOf, IsGapFor}
+use Rattle.merkle_replica.proofs.Follows.{kept_set}
+use Rattle.merkle_replica.proofs.Searches.{set_there, set_new, joins_there, joins_new, went}
+use Rattle.merkle_replica.proofs.replica.Replica.put.Goals as goal
+
+pub invariant_of-self-in-Ok-1 : goal.invariant_of-self-in-Ok-1
+invariant_of-self-in-Ok-1 g c =
+    let rows = c.self.inside.rows.items in
+    let place : IsPlaceOf g.K.Ord.cmp c.args.key rows c.in-Ok.at = rw (← c.deref.ensures.value) c.in-Ok.ensures.found in
+    kept_set g.K.Ord.cmp g.H.Hasher-2.digest_of g.met.K.Ord.total rows _ c.self.inside.tree c.upsert.new.self c.args.key c.args.key c.in_ok-stored-in-Ok.stored
+    (set_there g.K.Ord.cmp g.met.K.Ord.total rows c.in-Ok.at c.index_mut.result.now c.args.key c.in_ok-stored-in-Ok.stored c.self.invariant.ascending place c.index_mut.ensures.value)
+    (went c.upsert.result (sym c.is_err.ensures.value ∙ c.if-is_err.false) c.upsert.ensures.set)
+    c.upsert.ensures.hasher (tied_itself g.met.K.Ord.total c.args.key) c.self.invariant
+
+pub invariant_of-self-in-Err : goal.invariant_of-self-in-Err
+invariant_of-self-in-Err g c =
+    let rows = c.self.inside.rows.items in
+    let gap : IsGapFor g.K.Ord.cmp c.args.key rows c.in-Err.at = rw (← c.deref.ensures.value) c.in-Err.ensures.absent in
+    kept_set g.K.Ord.cmp g.H.Hasher-2.digest_of g.met.K.Ord.total rows _ c.self.inside.tree c.upsert-in-Err.new.self c.in_ok-own-in-Err.own c.args.key c.args.value
+    (c.in-Ok-insert.ensures.items ∙ (ap (λ xs. insert xs c.in-Err.at (c.args.key, c.args.value)) c.reserve.ensures.items ∙ set_new g.K.Ord.cmp g.met.K.Ord.total rows c.in-Err.at c.args.key c.args.value gap))
+    (went c.upsert-in-Err.result (sym c.is_err-in-Err.ensures.value ∙ c.if-is_err-2.false) c.upsert-in-Err.ensures.set)
+    c.upsert-in-Err.ensures.hasher (tied_back g.met.K.Ord.total c.args.key c.in_ok-own-in-Err.own (c.requires.clones c.args.key c.in_ok-own-in-Err.own c.in_ok-own-in-Err.ensures.cases)) c.self.invariant
+
+pub returns-else-is_err-clause-joined : goal.returns-else-is_err-clause-joined
+returns-else-is_err-clause-joined g c =
+    let rows = c.self.inside.rows.items in
+    let place : IsPlaceOf g.K.Ord.cmp c.args.key rows c.in-Ok.at = rw (← c.deref.ensures.value) c.in-Ok.ensures.found in
+    subst (λ r. IsJoin g.K.Ord.cmp g.V.PartialEq.eq g.V.Join.join_of r.rows ((c.args.key, c.args.value) ∷ []) (list_set rows c.in-Ok.at (c.index_mut.result.now.0, c.in_ok-stored-in-Ok.stored))) c.self.view_is
+    (subst (IsJoin g.K.Ord.cmp g.V.PartialEq.eq g.V.Join.join_of rows ((c.args.key, c.args.value) ∷ []))
+    (sym (set_there g.K.Ord.cmp g.met.K.Ord.total rows c.in-Ok.at c.index_mut.result.now c.args.key c.in_ok-stored-in-Ok.stored c.self.invariant.ascending place c.index_mut.ensures.value))
+    (joins_there g.K.Ord.cmp g.met.K.Ord.total g.V.PartialEq.eq g.met.V.Eq.laws g.V.Join.join_of g.met.V.Join.joining rows c.in-Ok.at c.index.result.now c.args.key c.args.value c.in_ok-stored-in-Ok.stored c.self.invariant.ascending place c.index.ensures c.in_ok-stored-in-Ok.ensures))
+
+pub returns-in-Ok-insert-clause-joined : goal.returns-in-Ok-insert-clause-joined
+returns-in-Ok-insert-clause-joined g c =
+    let rows = c.self.inside.rows.items in
+    let gap : IsGapFor g.K.Ord.cmp c.args.key rows c.in-Err.at = rw (← c.deref.ensures.value) c.in-Err.ensures.absent in
+    let now : c.insert.new.self.items ≡ set g.K.Ord.cmp rows c.args.key c.args.value = c.in-Ok-insert.ensures.items ∙ (ap (λ xs. insert xs c.in-Err.at (c.args.key, c.args.value)) c.reserve.ensures.items ∙ set_new g.K.Ord.cmp g.met.K.Ord.total rows c.in-Err.at c.args.key c.args.value gap) in
+    subst (λ r. IsJoin g.K.Ord.cmp g.V.PartialEq.eq g.V.Join.join_of r.rows ((c.args.key, c.args.value) ∷ []) c.insert.new.self.items) c.self.view_is
+    (subst (IsJoin g.K.Ord.cmp g.V.PartialEq.eq g.V.Join.join_of rows ((c.args.key, c.args.value) ∷ [])) (sym now)
+    (joins_new g.K.Ord.cmp g.met.K.Ord.total g.V.PartialEq.eq g.met.V.Eq.laws g.V.Join.join_of g.met.V.Join.joining rows c.in-Err.at c.args.key c.args.value c.self.invariant.ascending gap))

@@ -1,0 +1,10 @@
+pub mod Contents
+pub mod Pulls
+pub mod Faithful
+pub mod Answers
+pub mod Places
+pub mod Sweep
+pub use Rattle.key_order.specs.Order
+pub use Rattle.key_order.specs.Interval
+pub use Rattle.key_order.specs.Map
+pub use Rattle.key_order.specs.Join

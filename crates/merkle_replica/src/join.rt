@@ -1,0 +1,46 @@
+//! Values that can be joined.
+ghost use Rattle.std.specs.Prelude.{◌≡◌, IfOk, IsOk, true};
+ghost use Rattle.key_order.specs.Join.{IsJoining};
+
+use std::alloc::{AllocError, Global};
+
+/// A value that can be joined with others of its type, so that replicas that hold different values for a key come to hold the
+/// same one. Every implementation proves that the order, the grouping and the repetition of the joined values don't matter.
+pub trait Join: Eq {
+    /// The join of two values, up to equality.
+    ghost join_of: { Self → Self → Self };
+
+    /// The join of both values. It is refused only where memory is.
+    fn join(&self, alloc: Global, other: &Self) -> Result<Self, AllocError>
+        ensures { IfOk result (λ both. Self.eq both (join_of self.now other.now) ≡ true) };
+
+    /// It is idempotent, commutative and associative, and equal values have equal joins.
+    ghost joining: { IsJoining Self.eq join_of };
+}
+
+/// The greater number. It takes no memory.
+impl Join for u64 {
+    ghost use Rattle.std.specs.Prelude.{max};
+    ghost use Rattle.key_order.proofs.Numbers.{max_joining};
+
+    ghost join_of = { max };
+
+    ghost joining = { max_joining };
+
+    fn join(&self, _alloc: Global, other: &Self) -> Result<Self, AllocError> {
+        Ok((*self).max(*other))
+    }
+}
+
+/// The only value: with it a replica is a set of keys that only grows. It takes no memory.
+impl Join for () {
+    ghost use Rattle.std.specs.Prelude.{refl};
+
+    ghost join_of = { λ a b. a };
+
+    ghost joining = { record { idempotent = λ a. refl; commutative = λ a b. refl; associative = λ a b c. refl; respects = λ a b c d e f. refl } };
+
+    fn join(&self, _alloc: Global, _other: &Self) -> Result<Self, AllocError> {
+        Ok(())
+    }
+}

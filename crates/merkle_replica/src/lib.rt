@@ -1,0 +1,19 @@
+//! Replicas of a map from keys to values that can be joined.
+//!
+//! A [`Replica`] keeps its rows with the Merkle search tree of the digests of its values (`Contents`). Replicas pull from each
+//! other what their trees show to differ (`Pulls`), and after four pulls by turns hold the join of their maps while digests are
+//! faithful (`Faithful`).
+#![tactic(auto)]
+
+mod join;
+mod pull;
+mod replica;
+mod sweep;
+mod turns;
+mod value_hasher;
+
+pub use join::Join;
+pub use pull::{PullError, Pulled};
+pub use replica::Replica;
+pub use turns::{TurnsError, pull_by_turns};
+pub use value_hasher::ValueHasher;

@@ -1,0 +1,230 @@
+//! Pulls: a replica joins what its tree shows it to lack from a peer.
+ghost use Rattle.std.specs.Prelude.{◌≡◌, ℕ, List, [], ◌∷◌, IfOk, IfErr, OnOk, OnErr, IsSome, Some};
+ghost use Rattle.key_order.specs.Order.{Same};
+ghost use Rattle.key_order.specs.Interval.{IsCovered, IsApart};
+ghost use Rattle.key_order.specs.Map.{get, rows_in};
+ghost use Rattle.key_order.specs.Join.{IsJoin};
+ghost use Rattle.merkle_diff.specs.DiffRange.{spans};
+ghost use Rattle.merkle_diff.specs.Merge.{SameSpans};
+ghost use Rattle.merkle_search_tree.specs.Faithful.{HasFaithfulPages};
+ghost use Rattle.merkle_search_tree.specs.Page.{pairs};
+ghost use Rattle.merkle_search_tree.specs.Ranges.{IsPageOf};
+ghost use Rattle.merkle_search_tree.specs.Stream.{page_digest};
+ghost use Rattle.merkle_replica.specs.Contents.{SameSetup, digests};
+ghost use Rattle.merkle_replica.specs.Pulls.{IsAnswerFor, IsPull, HasRanges};
+ghost use Rattle.merkle_replica.specs.Faithful.{SpanHolds};
+ghost use Rattle.merkle_replica.specs.Answers.{spans_of, answer_of, IsRefused, IsDone, IsCut};
+
+use crate::join::Join;
+use crate::replica::Replica;
+use crate::sweep::{count_within, seek};
+use merkle_diff::{DiffRange, diff};
+use merkle_digest::{Hasher, KeyBytes};
+use merkle_search_tree::laws::{every_tree_is_sound, page_ranges_are_tree_shaped};
+use std::alloc::{AllocError, Global};
+
+/// What a pull did.
+#[derive(Drop)]
+pub struct Pulled<K> {
+    /// The ranges of keys that were asked for, ascending, each with its first and its last key.
+    pub ranges: Vec<(K, K)>,
+    /// How many rows of the peer are in the ranges.
+    pub joined: usize,
+}
+
+/// Why a pull stopped: memory was refused.
+#[derive(Drop)]
+pub enum PullError<K> {
+    /// No row was joined, and the rows are unchanged. Pages may have got their digests.
+    Memory,
+    /// The first rows of the peer in the ranges are joined, and no others.
+    Partly {
+        /// The ranges, and how many rows of the peer are in them.
+        pulled: Pulled<K>,
+        /// How many of these rows are joined, in key order: at least one, and not all.
+        done: usize,
+    },
+}
+
+impl<
+    K: Ord + KeyBytes + Clone + Drop,
+    V: Join + Drop,
+    H: Hasher<N, K> + Hasher<N, V>,
+    const N: usize,
+> Replica<K, V, H, N> {
+    /// The ranges of keys that a pull from the peer asks for: ascending, each with its first and its last key, in which the two trees
+    /// differ. It hashes both trees, and copies the bounds of the ranges. Want of memory leaves the rows as they are; pages may have
+    /// got their digests then.
+    pub fn ranges_to_ask(
+        &mut self,
+        peer: &mut Replica<K, V, H, N>,
+    ) -> Result<Vec<(K, K)>, AllocError>
+        // A clone of a key equals its original.
+        requires clones { (a b : K) → K.is_clone a b → Same K.cmp a b }
+
+        ensures answer { IfOk result (λ ranges. IsAnswerFor K.cmp V.eq V.join_of
+            (HasRanges K.cmp ⟦<H as Hasher<N, K>>⟧.digest_of ⟦<H as Hasher<N, V>>⟧.digest_of K.bytes_of self.old.tree.hasher self.old.tree.base self.old.tree.format)
+            (HasRanges K.cmp ⟦<H as Hasher<N, K>>⟧.digest_of ⟦<H as Hasher<N, V>>⟧.digest_of K.bytes_of peer.old.tree.hasher peer.old.tree.base peer.old.tree.format)
+            self.old.rows peer.old.rows (spans_of ranges.items)) }
+        ensures rows { self.new.rows ≡ self.old.rows }
+        ensures peer_rows { peer.new.rows ≡ peer.old.rows }
+        ensures setup { SameSetup self.old self.new }
+        ensures peer_setup { SameSetup peer.old peer.new }
+    {
+        self.hash();
+        peer.hash();
+        ask(self.alloc, self, peer)
+    }
+
+    /// Hashes both trees, and joins each row of the peer whose key is in a range of keys in which the trees differ, one after the
+    /// other in key order, each key cloned when its turn comes. The peer's rows stay.
+    ///
+    /// A value that is new here is copied by joining it with itself. The bounds of the ranges are copied before a row is joined.
+    pub fn pull(&mut self, peer: &mut Replica<K, V, H, N>) -> Result<Pulled<K>, PullError<K>>
+        // A clone of a key equals its original.
+        requires clones { (a b : K) → K.is_clone a b → Same K.cmp a b }
+
+        // The rows are the join with the peer's rows in the ranges.
+        ensures done { IfOk result (λ pulled. IsPull K.cmp V.eq V.join_of
+            (HasRanges K.cmp ⟦<H as Hasher<N, K>>⟧.digest_of ⟦<H as Hasher<N, V>>⟧.digest_of K.bytes_of self.old.tree.hasher self.old.tree.base self.old.tree.format)
+            (HasRanges K.cmp ⟦<H as Hasher<N, K>>⟧.digest_of ⟦<H as Hasher<N, V>>⟧.digest_of K.bytes_of peer.old.tree.hasher peer.old.tree.base peer.old.tree.format)
+            self.old.rows peer.old.rows (answer_of pulled) self.new.rows) }
+
+        // Coverage: where pages with equal digests have equal maps, and the peer's keys span the replica's, no key is missed.
+        ensures covers { IfOk result (λ pulled.
+            HasFaithfulPages K.cmp (IsPageOf K.cmp (⟦<H as Hasher<N, K>>⟧.digest_of self.old.tree.hasher) self.old.tree.base) (IsPageOf K.cmp (⟦<H as Hasher<N, K>>⟧.digest_of peer.old.tree.hasher) peer.old.tree.base) (page_digest self.old.tree.format K.bytes_of) (page_digest peer.old.tree.format K.bytes_of) pairs
+            (digests (⟦<H as Hasher<N, V>>⟧.digest_of self.old.tree.hasher) self.old.rows) (digests (⟦<H as Hasher<N, V>>⟧.digest_of peer.old.tree.hasher) peer.old.rows)
+            → SpanHolds K.cmp peer.old.rows self.old.rows
+            → (k : K) (d : List ℕ) → get K.cmp (digests (⟦<H as Hasher<N, V>>⟧.digest_of peer.old.tree.hasher) peer.old.rows) k ≡ Some d
+            → ¬ (get K.cmp (digests (⟦<H as Hasher<N, V>>⟧.digest_of self.old.tree.hasher) self.old.rows) k ≡ Some d)
+            → IsCovered K.cmp k (spans_of pulled.ranges.items)) }
+
+        // Refused, it has joined no row, or the first ones.
+        ensures refused { IfErr result (λ fault. IsRefused K.cmp V.eq V.join_of
+            (HasRanges K.cmp ⟦<H as Hasher<N, K>>⟧.digest_of ⟦<H as Hasher<N, V>>⟧.digest_of K.bytes_of self.old.tree.hasher self.old.tree.base self.old.tree.format)
+            (HasRanges K.cmp ⟦<H as Hasher<N, K>>⟧.digest_of ⟦<H as Hasher<N, V>>⟧.digest_of K.bytes_of peer.old.tree.hasher peer.old.tree.base peer.old.tree.format)
+            self.old.rows peer.old.rows fault self.new.rows) }
+
+        ensures peer_rows { peer.new.rows ≡ peer.old.rows }
+        ensures setup { SameSetup self.old self.new }
+        ensures peer_setup { SameSetup peer.old peer.new }
+    {
+        self.rows_ascend();
+        peer.rows_ascend();
+        let ranges = match self.ranges_to_ask(peer) {
+            Ok(ranges) => ranges,
+            Err(_) => return Err(PullError::Memory),
+        };
+        match self.join_within(peer, &ranges) {
+            Ok(joined) => Ok(Pulled { ranges, joined }),
+            Err(cut) => {
+                if cut.done == 0 {
+                    return Err(PullError::Memory);
+                }
+                let done = cut.done;
+                let joined = cut.joined;
+                Err(PullError::Partly {
+                    pulled: Pulled { ranges, joined },
+                    done,
+                })
+            }
+        }
+    }
+
+    /// Joins the peer's rows in the ranges, one after the other in key order, and answers how many they are.
+    fn join_within(&mut self, peer: &Replica<K, V, H, N>, ranges: &[(K, K)]) -> Result<usize, Cut>
+        requires clones { (a b : K) → K.is_clone a b → Same K.cmp a b }
+        requires apart { IsApart K.cmp (spans_of ranges.now) }
+        ensures all { IfOk result (λ joined. IsDone K.cmp V.eq V.join_of (rows_in K.cmp (spans_of ranges.now) peer.now.rows) self.old.rows joined self.new.rows) }
+        ensures cut { IfErr result (λ cut. IsCut K.cmp V.eq V.join_of (rows_in K.cmp (spans_of ranges.now) peer.now.rows) self.old.rows cut.done cut.joined self.new.rows) }
+        ensures setup { SameSetup self.old self.new }
+    {
+        self.rows_ascend();
+        let rows = peer.rows();
+        let mut at = 0;
+        let mut done = 0;
+        'joining: for row in rows {
+            let (next, found) = seek(ranges, at, &row.0);
+            at = next;
+            if found {
+                if self.take_row(row).is_err() {
+                    let joined = count_within(ranges, rows);
+                    return Err(Cut { done, joined });
+                }
+                done += 1;
+            }
+        }
+        Ok(done)
+    }
+
+    /// Takes a row over: the key cloned, and the value joined with itself.
+    fn take_row(&mut self, row: &(K, V)) -> Result<(), AllocError>
+        requires clones { (a b : K) → K.is_clone a b → Same K.cmp a b }
+        ensures joined { OnOk result (IsJoin K.cmp V.eq V.join_of self.old.rows (row.now ∷ []) self.new.rows) }
+        ensures unchanged { OnErr result (self.new ≡ self.old) }
+        ensures setup { SameSetup self.old self.new }
+    {
+        let key = row.0.clone()?;
+        let value = row.1.join(self.alloc, &row.1)?;
+        self.put(key, value)
+    }
+}
+
+/// How far a pull came: the first `done` of the `joined` rows in the ranges are joined.
+#[derive(Clone, Copy)]
+struct Cut {
+    done: usize,
+    joined: usize,
+}
+
+/// The ranges that `local` may ask of `peer`, where both are hashed, with bounds of their own.
+fn ask<
+    K: Ord + KeyBytes + Clone + Drop,
+    V: Join + Drop,
+    H: Hasher<N, K> + Hasher<N, V>,
+    const N: usize,
+>(
+    alloc: Global,
+    local: &Replica<K, V, H, N>,
+    peer: &Replica<K, V, H, N>,
+) -> Result<Vec<(K, K)>, AllocError>
+    requires clones { (a b : K) → K.is_clone a b → Same K.cmp a b }
+    requires local_hashed { IsSome local.now.tree.root_hash }
+    requires peer_hashed { IsSome peer.now.tree.root_hash }
+    ensures { IfOk result (λ ranges. IsAnswerFor K.cmp V.eq V.join_of
+        (HasRanges K.cmp ⟦<H as Hasher<N, K>>⟧.digest_of ⟦<H as Hasher<N, V>>⟧.digest_of K.bytes_of local.now.tree.hasher local.now.tree.base local.now.tree.format)
+        (HasRanges K.cmp ⟦<H as Hasher<N, K>>⟧.digest_of ⟦<H as Hasher<N, V>>⟧.digest_of K.bytes_of peer.now.tree.hasher peer.now.tree.base peer.now.tree.format)
+        local.now.rows peer.now.rows (spans_of ranges.items)) }
+{
+    every_tree_is_sound(local.tree());
+    every_tree_is_sound(peer.tree());
+    page_ranges_are_tree_shaped(local.tree());
+    page_ranges_are_tree_shaped(peer.tree());
+    let ours = match local.tree().serialise_page_ranges()? {
+        Some(ours) => ours,
+        None => unreachable!(),
+    };
+    let theirs = match peer.tree().serialise_page_ranges()? {
+        Some(theirs) => theirs,
+        None => unreachable!(),
+    };
+    let found = diff(alloc, ours, theirs)?;
+    own_bounds(alloc, &found)
+}
+
+/// The ranges with bounds of their own.
+fn own_bounds<K: Ord + Clone + Drop>(
+    alloc: Global,
+    found: &[DiffRange<'_, K>],
+) -> Result<Vec<(K, K)>, AllocError>
+    requires clones { (a b : K) → K.is_clone a b → Same K.cmp a b }
+    ensures { IfOk result (λ ranges. SameSpans K.cmp (spans found.now) (spans_of ranges.items)) }
+{
+    let mut ranges = Vec::new(alloc);
+    'owning: for range in found {
+        let first = range.start().clone()?;
+        let last = range.end().clone()?;
+        ranges.push((first, last))?;
+    }
+    Ok(ranges)
+}

@@ -1,0 +1,217 @@
+//! A replica: a map from keys to values, with the tree of their digests.
+ghost use Rattle.std.specs.Prelude.{◌≡◌, OnOk, OnErr, IfOk, IfErr, [], ◌∷◌};
+ghost use Rattle.key_order.specs.Order.{Same};
+ghost use Rattle.key_order.specs.Map.{IsMap, SameMap};
+ghost use Rattle.key_order.specs.Join.{IsJoin};
+ghost use Rattle.merkle_search_tree.specs.State.{map_of};
+ghost use Rattle.merkle_replica.specs.Contents.{IsEmpty, SameSetup, digests};
+ghost use Rattle.merkle_replica.specs.Places.{IsPlaceOf, IsGapFor};
+
+use crate::join::Join;
+use crate::value_hasher::ValueHasher;
+use merkle_digest::{Hasher, KeyBytes, RootHash};
+use merkle_search_tree::MerkleSearchTree;
+use merkle_search_tree::builder::Builder;
+use std::alloc::{AllocError, Global};
+use std::cmp::Ordering;
+use std::marker::Model;
+
+/// A map from keys to values that can be joined, kept as rows in ascending key order, and the Merkle search tree of the digests of
+/// the values. Rows and tree never part, also where memory is refused.
+///
+/// A contract sees the rows, and the tree as its hasher, its level base, its page format, its root page with all caches, and its cached root hash.
+///
+/// The replica keeps the allocator that it was made with.
+#[derive(Drop)]
+pub struct Replica<
+    K: Ord + KeyBytes + Clone,
+    V: Join,
+    H: Hasher<N, K> + ValueHasher<N, V>,
+    const N: usize,
+> {
+    pub(crate) alloc: Global,
+    rows: Vec<(K, V)>,
+    tree: MerkleSearchTree<K, V, H, N>,
+}
+
+impl<K: Ord + KeyBytes + Clone, V: Join, H: Hasher<N, K> + ValueHasher<N, V>, const N: usize> Model
+    for Replica<K, V, H, N> {
+    ghost use Rattle.merkle_replica.specs.Contents.{Contents, contents_code, IsKept};
+
+    ghost Value = { Contents K V H };
+
+    ghost coded = { contents_code K.code V.code H.code };
+
+    ghost view = { λ r. record { rows = r.rows.items; tree = r.tree } };
+
+    ghost invariant = { λ r. IsKept K.cmp H.value_digest (record { rows = r.rows.items; tree = r.tree }) };
+}
+
+impl<K: Ord + KeyBytes + Clone, V: Join, H: Hasher<N, K> + Hasher<N, V>, const N: usize> Replica<
+    K,
+    V,
+    H,
+    N,
+> {
+    /// A replica without rows, whose tree has the builder's hasher, level base and page format. It takes no memory.
+    pub fn new(alloc: Global, builder: Builder<H>) -> Self
+        ensures { IsEmpty builder.hasher builder.base builder.format result }
+    {
+        Replica {
+            alloc,
+            rows: Vec::new(alloc),
+            tree: builder.build(alloc),
+        }
+    }
+
+    /// The rows, strictly ascending by key.
+    pub fn rows(&self) -> &[(K, V)]
+        ensures rows { result.now ≡ self.now.rows }
+        ensures ascending { IsMap K.cmp self.now.rows }
+    {
+        &self.rows
+    }
+
+    /// The rows ascend strictly by key.
+    pub(crate) fn rows_ascend(&self)
+        ensures { IsMap K.cmp self.now.rows }
+    {
+        let _ = &self.rows;
+    }
+
+    /// The tree of the digests of the rows.
+    pub fn tree(&self) -> &MerkleSearchTree<K, V, H, N>
+        ensures tree { result.now ≡ self.now.tree }
+
+        // Its map is the digests of the rows.
+        ensures digests { SameMap K.cmp (λ d e. d ≡ e) (map_of self.now.tree) (digests (⟦<H as Hasher<N, V>>⟧.digest_of self.now.tree.hasher) self.now.rows) }
+    {
+        &self.tree
+    }
+}
+
+impl<
+    K: Ord + KeyBytes + Clone,
+    V: Join,
+    H: Hasher<N, K> + ValueHasher<N, V>,
+    const N: usize,
+> Replica<K, V, H, N> {
+    ghost use Rattle.std.specs.Prelude.{◌≡◌, Some, ⊤};
+    ghost use Rattle.merkle_search_tree.specs.Cache.{filled};
+    ghost use Rattle.merkle_search_tree.specs.Stream.{page_digest};
+    ghost use Rattle.merkle_replica.specs.contracts.replica.Replica.{the_row};
+    ghost use Rattle.std.specs.Borrow.{sem};
+    ghost use mathlib.Core.Option.{none};
+    ghost use denote.Follow.{follows_so};
+    ghost use denote.Param.{number};
+
+    /// Fills in the digests that pages of the tree lack, so that the tree is hashed then. It takes no memory.
+    pub fn hash(&mut self)
+        ensures rows { self.new.rows ≡ self.old.rows }
+        ensures tree { self.new.tree ≡ record self.old.tree { root = filled self.old.tree.format K.bytes_of self.old.tree.root; root_hash = Some (page_digest self.old.tree.format K.bytes_of self.old.tree.root) } }
+    {
+        let _ = self.tree.root_hash_counted();
+    }
+
+    /// The digest of the root page of the tree. It fills in the digests that pages lack, so the tree is hashed then, and takes no
+    /// memory. Replicas whose rows have equal keys and equal digests have equal root hashes, under one hasher, level base and page format; the
+    /// converse holds only as far as no digests collide.
+    pub fn root_hash(&mut self) -> &RootHash
+        ensures* hashed { sem 𝓛 (follows_so (the_row K.row V.row H.row (number N) K.Ord.own K.PartialEq K.PartialOrd.own K.KeyBytes.own K.Clone V.Join.own V.PartialEq H.Hasher H.ValueHasher) (the_row K.row V.row H.row (number N) K.Ord.own K.PartialEq K.PartialOrd.own K.KeyBytes.own K.Clone V.Join.own V.PartialEq H.Hasher H.ValueHasher) self.entry.ghost_name none (λ _ _. ⊤)
+            (λ t. (t.rows ≡ self.old.rows) × (t.tree ≡ record self.old.tree { root = filled self.old.tree.format K.bytes_of self.old.tree.root; root_hash = Some (page_digest self.old.tree.format K.bytes_of self.old.tree.root) }))) }
+        ensures digest { result.now ≡ page_digest self.old.tree.format K.bytes_of self.old.tree.root }
+    {
+        self.hash();
+        match self.tree.root_hash_cached() {
+            Some(digest) => digest,
+            None => unreachable!(),
+        }
+    }
+}
+
+impl<
+    K: Ord + KeyBytes + Clone + Drop,
+    V: Join + Drop,
+    H: Hasher<N, K> + Hasher<N, V>,
+    const N: usize,
+> Replica<K, V, H, N> {
+    /// Joins a row: a new key is added, and a key that is there holds the join of both values. It finds the key's place by
+    /// halving, and moves the rows behind a new one up by one.
+    ///
+    /// Where memory is refused, the replica is unchanged, and key and value are given up.
+    pub fn put(&mut self, key: K, value: V) -> Result<(), AllocError>
+        // A clone of a key equals its original.
+        requires clones { (a b : K) → K.is_clone a b → Same K.cmp a b }
+
+        ensures joined { OnOk result (IsJoin K.cmp V.eq V.join_of self.old.rows ((key, value) ∷ []) self.new.rows) }
+        ensures unchanged { OnErr result (self.new ≡ self.old) }
+        ensures setup { SameSetup self.old self.new }
+    {
+        match place(&self.rows, &key) {
+            Ok(at) => {
+                let stored = self.rows[at].1.join(self.alloc, &value)?;
+                if self.tree.upsert(key, &stored).is_err() {
+                    return Err(AllocError);
+                }
+                self.rows[at].1 = stored;
+                Ok(())
+            }
+            Err(at) => {
+                self.rows.reserve(1)?;
+                let own = key.clone()?;
+                if self.tree.upsert(own, &value).is_err() {
+                    return Err(AllocError);
+                }
+                match self.rows.insert(at, (key, value)) {
+                    Ok(()) => Ok(()),
+                    Err(_) => unreachable!(),
+                }
+            }
+        }
+    }
+}
+
+impl<
+    K: Ord + KeyBytes + Clone + Drop,
+    V: Join + Drop,
+    H: Hasher<N, K> + ValueHasher<N, V>,
+    const N: usize,
+> Replica<K, V, H, N> {
+    ghost use Rattle.std.specs.Prelude.{IsOk, true, false};
+    ghost use Rattle.key_order.specs.Map.{has_key};
+    ghost use Rattle.merkle_search_tree.specs.Del.{del};
+    ghost use Rattle.merkle_search_tree.specs.Remove.{HasFreeGap};
+
+    /// Takes the row of a key out, and answers whether there was one. Where memory is refused, the replica is unchanged. No memory is
+    /// taken where there is no such row, or where in the tree the gap before its key or the gap after it is empty.
+    pub fn del(&mut self, key: &K) -> Result<bool, AllocError>
+        ensures rows { OnOk result (self.new.rows ≡ del K.cmp self.old.rows key.now) }
+        ensures found { IfOk result (λ found. found ≡ has_key K.cmp self.old.rows key.now) }
+        ensures absent { IfOk result (λ found. found ≡ false → self.new ≡ self.old) }
+        ensures unchanged { OnErr result (self.new ≡ self.old) }
+        ensures setup { SameSetup self.old self.new }
+        ensures succeeds { HasFreeGap K.cmp key.now self.old.tree.root → IsOk result }
+        ensures succeeds_absent { has_key K.cmp self.old.rows key.now ≡ false → IsOk result }
+    {
+        let at = match place(&self.rows, key) {
+            Ok(at) => at,
+            Err(_) => return Ok(false),
+        };
+        self.tree.remove(key)?;
+        self.rows.remove(at);
+        Ok(true)
+    }
+}
+
+/// Where the key is among ascending rows, or where it would go.
+fn place<K: Ord, V>(rows: &[(K, V)], key: &K) -> Result<usize, usize>
+    requires { IsMap K.cmp rows.now }
+    ensures found { IfOk result (λ at. IsPlaceOf K.cmp key.now rows.now at) }
+    ensures absent { IfErr result (λ at. IsGapFor K.cmp key.now rows.now at) }
+{
+    rows.binary_search_by(
+        |row: &(K, V)| -> Ordering
+            ensures { result ≡ K.cmp row.now.0 key.entry.now }
+        { row.0.cmp(key) },
+    )
+}

@@ -1,0 +1,54 @@
+//! Rows within ascending ranges, found by one walk over both.
+ghost use Rattle.std.specs.Prelude.{◌≡◌, ◌≤◌, length, drop};
+ghost use Rattle.key_order.specs.Order.{upto, below};
+ghost use Rattle.key_order.specs.Interval.{IsApart};
+ghost use Rattle.key_order.specs.Map.{IsMap, rows_in};
+ghost use Rattle.merkle_replica.specs.Answers.{spans_of};
+ghost use Rattle.merkle_replica.specs.Sweep.{ranges_from, begins_upto};
+
+/// Where the first of the ranges from `from` on stands that doesn't end below the key, and whether the key is in it.
+pub fn seek<K: Ord>(ranges: &[(K, K)], from: usize, key: &K) -> (usize, bool)
+    requires { from ≤ length ranges.now }
+    ensures bound { result.0 ≤ length ranges.now }
+    ensures place { drop result.0 (spans_of ranges.now) ≡ ranges_from K.cmp key.now (drop from (spans_of ranges.now)) }
+    ensures found { result.1 ≡ begins_upto K.cmp key.now (drop result.0 (spans_of ranges.now)) }
+{
+    'seeking: for at in from..ranges.len() {
+        if !is_below(&ranges[at].1, key) {
+            return (at, is_upto(&ranges[at].0, key));
+        }
+    }
+    (ranges.len(), false)
+}
+
+/// How many rows have a key in one of the ranges.
+pub fn count_within<K: Ord, V>(ranges: &[(K, K)], rows: &[(K, V)]) -> usize
+    requires apart { IsApart K.cmp (spans_of ranges.now) }
+    requires ascending { IsMap K.cmp rows.now }
+    ensures { result ≡ length (rows_in K.cmp (spans_of ranges.now) rows.now) }
+{
+    let mut at = 0;
+    let mut count = 0;
+    'counting: for row in rows {
+        let (next, found) = seek(ranges, at, &row.0);
+        at = next;
+        if found {
+            count += 1;
+        }
+    }
+    count
+}
+
+/// Whether `a` is at most `b`.
+fn is_upto<K: Ord>(a: &K, b: &K) -> bool
+    ensures { result ≡ upto K.cmp a.now b.now }
+{
+    a <= b
+}
+
+/// Whether `a` is below `b`.
+fn is_below<K: Ord>(a: &K, b: &K) -> bool
+    ensures { result ≡ below K.cmp a.now b.now }
+{
+    a < b
+}

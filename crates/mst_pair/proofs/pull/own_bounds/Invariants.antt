@@ -1,9 +1,0 @@
-use Rattle.std.proofs.Common.{take}
-use Rattle.merkle_diff.specs.DiffRange.{spans}
-use Rattle.merkle_diff.specs.Merge.{SameSpans}
-use Rattle.mst_pair.specs.Answers.{spans_of}
-use Rattle.mst_pair.proofs.pull.own_bounds.Given as goal
-
--- the ranges so far have equal bounds
-abbrev pub invariant-owning : goal.invariant-owning
-invariant-owning g l = SameSpans g.K.Ord.cmp (spans (take l.range-index l.found)) (spans_of l.ranges.items)

@@ -1,6 +1,0 @@
-use Rattle.std.proofs.Common.{arith}
-use Rattle.mst_testing.proofs.Clones.{tied_clones}
-use Rattle.mst_pair_rows.proofs.random_pairs.four_turns.Goals as goal
-
-pub pull_by_turns-requires : goal.pull_by_turns-requires
-pull_by_turns-requires c = (omega arith, λ a b h. tied_clones a b h.whole)

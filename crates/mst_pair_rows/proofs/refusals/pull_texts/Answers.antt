@@ -1,6 +1,0 @@
-use Rattle.std.proofs.Common.{ap, arith}
-use Rattle.mst_testing.proofs.Clones.{tied_bytes}
-use Rattle.mst_pair_rows.proofs.refusals.pull_texts.Goals as goal
-
-pub pull-requires : goal.pull-requires
-pull-requires c = (omega arith, λ a b h. tied_bytes a.text.now b.text.now (ap (λ text. text.now) h))

@@ -1,0 +1,115 @@
+//! Devices that fail where a test says so.
+ghost use Rattle.std.specs.Prelude.{Some, length};
+
+use arrayvec::ArrayVec;
+use mst_pair::sink::Sink;
+use mst_pair::source::{Failed, Source};
+use std::io;
+use std::io::{ErrorKind, Read, Write};
+
+/// Gives the bytes of `left`, `piece` at a time, and then its end or an error.
+#[derive(Drop)]
+pub struct ScriptedSource<'a> {
+    pub left: &'a [u8],
+    pub piece: usize,
+    pub fails: bool,
+    pub failed: bool,
+}
+
+impl Source for ScriptedSource<'_> {
+    ghost left = { λ s. Some s.left.now };
+
+    ghost reads_left = { λ s. length s.left.now };
+
+    ghost has_failed = { λ s. s.failed };
+
+    fn read(&mut self, buf: &mut [u8]) -> Result<usize, Failed> {
+        let count = self.left.len().min(self.piece.max(1)).min(buf.len());
+        if self.fails && count == 0 {
+            self.failed = true;
+            return Err(Failed);
+        }
+        let (front, rest) = self.left.split_at(count);
+        buf[..count].copy_from_slice(front);
+        self.left = rest;
+        Ok(count)
+    }
+
+    fn failed(&self) -> bool {
+        self.failed
+    }
+}
+
+/// Takes `room` bytes, one at a time, and then fails. It takes no memory.
+#[derive(Drop)]
+pub struct NarrowSink {
+    pub taken: ArrayVec<u8, 1024>,
+    pub room: usize,
+    pub refuses_flush: bool,
+    pub flushed: bool,
+    pub failed: bool,
+}
+
+impl Sink for NarrowSink {
+    ghost taken = { λ s. Some s.taken.items };
+
+    ghost has_failed = { λ s. s.failed };
+
+    ghost is_flushed = { λ s. s.flushed };
+
+    fn write(&mut self, bytes: &[u8]) -> Result<usize, Failed> {
+        let Some(first) = bytes.first() else {
+            return Ok(0);
+        };
+        if self.room == 0 || self.taken.try_push(*first).is_err() {
+            self.failed = true;
+            return Err(Failed);
+        }
+        self.room -= 1;
+        Ok(1)
+    }
+
+    fn flush(&mut self) -> Result<(), Failed> {
+        if self.refuses_flush {
+            self.failed = true;
+            return Err(Failed);
+        }
+        self.flushed = true;
+        Ok(())
+    }
+
+    fn failed(&self) -> bool {
+        self.failed
+    }
+}
+
+/// A reader of std that fails at its first read alone.
+#[derive(Drop)]
+pub struct FailsOnce {
+    pub has_failed: bool,
+}
+
+impl Read for FailsOnce {
+    fn read(&mut self, buf: &mut [u8]) -> io::Result<usize> {
+        if !self.has_failed {
+            self.has_failed = true;
+            return Err(io::Error::from(ErrorKind::Other));
+        }
+        buf.fill(b'x');
+        Ok(buf.len())
+    }
+}
+
+/// A writer of std that takes all bytes and can't be flushed.
+#[derive(Drop)]
+pub struct CannotFlush;
+
+impl Write for CannotFlush {
+    fn write(&mut self, buf: &[u8]) -> io::Result<usize> {
+        Ok(buf.len())
+    }
+
+    fn flush(&mut self) -> io::Result<()> {
+        Err(io::Error::from(ErrorKind::Other))
+    }
+}

@@ -1,0 +1,15 @@
+//! Tests that cross the crates: replicas that pull from each other, with answers from outside, and refused memory.
+#![tactic(auto)]
+
+#[cfg(test)]
+mod joins;
+#[cfg(test)]
+mod memory;
+#[cfg(test)]
+mod random_pairs;
+#[cfg(test)]
+mod refusals;
+#[cfg(test)]
+mod text;
+#[cfg(test)]
+mod turns;

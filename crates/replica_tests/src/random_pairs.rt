@@ -1,0 +1,141 @@
+//! Four pulls by turns between random small maps, whose keys are on random levels.
+
+use merkle_replica::{Replica, pull_by_turns};
+use merkle_search_tree::builder::Builder;
+use std::alloc::{AllocError, Global};
+use std::test::Fail;
+use testing::{LevelHasher, number_key};
+
+/// A map of number keys on given levels.
+type Numbers = Replica<[u8; 2], u64, LevelHasher<[u8; 2]>, 32>;
+
+/// How many keys there are.
+const COUNT: usize = 8;
+
+/// The numbers of the keys.
+const NUMBERS: [u16; COUNT] = [0, 1, 2, 3, 4, 5, 6, 7];
+
+/// The levels that a key can be on, level 0 twice as often as the others.
+const LEVELS: [u8; 4] = [0, 0, 1, 2];
+
+/// A generator of numbers, which it takes from the highest bits of a product sum.
+#[derive(Clone, Copy)]
+struct Random {
+    state: u64,
+}
+
+impl Random {
+    /// The next number below a bound.
+    fn below(&mut self, bound: u64) -> u64 {
+        self.state = self
+            .state
+            .wrapping_mul(6_364_136_223_846_793_005)
+            .wrapping_add(1_442_695_040_888_963_407);
+        (self.state >> 33).checked_rem(bound).unwrap_or(0)
+    }
+
+    /// A level for each key.
+    fn levels(&mut self) -> [u8; COUNT] {
+        let mut levels = [0; COUNT];
+        for level in &mut levels {
+            *level = LEVELS.get(self.below(4) as usize).copied().unwrap_or(0);
+        }
+        levels
+    }
+
+    /// A value for each key; 0 where the map lacks the key.
+    fn values(&mut self) -> [u64; COUNT] {
+        let mut values = [0; COUNT];
+        for value in &mut values {
+            *value = self.below(4);
+        }
+        values
+    }
+}
+
+/// Puts a row.
+fn put(replica: &mut Numbers, number: u16, value: u64) -> Result<(), AllocError> {
+    replica.put(number_key(number), value)
+}
+
+/// Makes four pulls by turns, and tells whether memory was there.
+fn four_turns(alloc: Global, a: &mut Numbers, b: &mut Numbers) -> bool {
+    pull_by_turns(alloc, a, b, 4).is_ok()
+}
+
+/// The hasher that puts each key on its level.
+fn hasher(alloc: Global, levels: &[u8; COUNT]) -> Result<LevelHasher<[u8; 2]>, AllocError> {
+    let mut keys = Vec::with_capacity(alloc, COUNT)?;
+    for (number, level) in NUMBERS.iter().zip(levels.iter()) {
+        keys.push((number_key(*number), *level))?;
+    }
+    Ok(LevelHasher::new(keys))
+}
+
+/// The map of these values.
+fn numbers(
+    alloc: Global,
+    values: &[u64; COUNT],
+    hasher: LevelHasher<[u8; 2]>,
+) -> Result<Numbers, AllocError> {
+    let mut replica = Numbers::new(alloc, Builder::default().with_hasher(hasher));
+    for (number, value) in NUMBERS.iter().zip(values.iter()) {
+        if *value > 0 {
+            put(&mut replica, *number, *value)?;
+        }
+    }
+    Ok(replica)
+}
+
+/// Whether the map has these values and no other rows.
+fn holds(replica: &Numbers, values: &[u64; COUNT]) -> bool {
+    let mut rows = replica.rows().iter();
+    for (number, value) in NUMBERS.iter().zip(values.iter()) {
+        if *value > 0 {
+            match rows.next() {
+                None => return false,
+                Some(row) => {
+                    if row.0 != number_key(*number) || row.1 != *value {
+                        return false;
+                    }
+                }
+            }
+        }
+    }
+    rows.next().is_none()
+}
+
+/// The greater value of each key.
+fn greatest(a: &[u64; COUNT], b: &[u64; COUNT]) -> [u64; COUNT] {
+    let mut joined = *a;
+    for (value, other) in joined.iter_mut().zip(b.iter()) {
+        *value = (*value).max(*other);
+    }
+    joined
+}
+
+/// Whether four pulls by turns leave two maps of random values, whose keys are on the same random levels, with the join of both.
+fn join_in_four_turns(alloc: Global, random: &mut Random) -> Result<bool, AllocError> {
+    let hasher = hasher(alloc, &random.levels())?;
+    let a_values = random.values();
+    let b_values = random.values();
+    let joined = greatest(&a_values, &b_values);
+    let mut a = numbers(alloc, &a_values, hasher.clone()?)?;
+    let mut b = numbers(alloc, &b_values, hasher)?;
+    let are_built = holds(&a, &a_values) && holds(&b, &b_values);
+    let are_pulled = four_turns(alloc, &mut a, &mut b);
+    let are_joined = holds(&a, &joined) && holds(&b, &joined);
+    Ok(are_built && are_pulled && are_joined && a.root_hash() == b.root_hash())
+}
+
+#[test]
+fn four_turns_join_random_maps(rt: HostRuntime) -> Result<(), Fail> {
+    let mut random = Random { state: 2019 };
+    for round in 0..200 {
+        assert!(rt;
+            join_in_four_turns(rt.alloc(), &mut random)?,
+            "round {round}"
+        );
+    }
+    Ok(())
+}

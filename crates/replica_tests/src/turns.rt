@@ -1,0 +1,154 @@
+//! Four pulls by turns between two sets of keys that are all on level 0.
+
+use merkle_replica::{PullError, Pulled, Replica, TurnsError, pull_by_turns};
+use merkle_search_tree::builder::Builder;
+use std::alloc::{AllocError, Global};
+use std::test::Fail;
+use testing::{LevelHasher, number_key};
+
+/// A set of number keys.
+type Numbers = Replica<[u8; 2], (), LevelHasher<[u8; 2]>, 32>;
+
+/// A line for each: the keys of a and of b, how many rows each of four pulls joined, and the keys of both afterwards.
+const TURNS: &str = "\
+1 4 5 | 3 7 | 0 1 3 5 | 1 3 4 5 7\n\
+1 9 | 5 | 0 2 3 0 | 1 5 9\n\
+3 7 | 1 4 5 | 1 3 5 0 | 1 3 4 5 7\n\
+| 1 2 | 2 0 0 0 | 1 2\n\
+1 2 | | 0 2 0 0 | 1 2\n\
+| | 0 0 0 0 |\n\
+";
+
+/// Puts a key.
+fn put(replica: &mut Numbers, number: u16) -> Result<(), AllocError> {
+    replica.put(number_key(number), ())
+}
+
+/// Makes `n` pulls by turns.
+fn turn(
+    alloc: Global,
+    a: &mut Numbers,
+    b: &mut Numbers,
+    n: usize,
+) -> Result<Vec<Pulled<[u8; 2]>>, TurnsError<[u8; 2]>> {
+    pull_by_turns(alloc, a, b, n)
+}
+
+/// The set of the keys of a text, all on level 0.
+fn numbers(alloc: Global, text: &str) -> Result<Numbers, Fail> {
+    let hasher = LevelHasher::new(Vec::new(alloc));
+    let mut replica = Numbers::new(alloc, Builder::default().with_hasher(hasher));
+    for word in text.split_whitespace() {
+        put(&mut replica, word.parse::<u16>()?)?;
+    }
+    Ok(replica)
+}
+
+/// The keys of a set, a blank before each.
+fn shown(alloc: Global, replica: &Numbers) -> Result<String, AllocError> {
+    let mut text = String::new(alloc);
+    for (key, _) in replica.rows() {
+        let number = u16::from_be_bytes(*key);
+        text.push_str(format!(in alloc; " {number}")?.as_str())?;
+    }
+    Ok(text)
+}
+
+/// How many rows each of these pulls joined, a blank before each.
+fn counts(alloc: Global, all: &[Pulled<[u8; 2]>]) -> Result<String, AllocError> {
+    let mut text = String::new(alloc);
+    for pulled in all {
+        let count = pulled.joined;
+        text.push_str(format!(in alloc; " {count}")?.as_str())?;
+    }
+    Ok(text)
+}
+
+/// Whether four pulls join as many rows as a text says.
+fn join_as_many(
+    alloc: Global,
+    a: &mut Numbers,
+    b: &mut Numbers,
+    wanted: &str,
+) -> Result<bool, AllocError> {
+    match turn(alloc, a, b, 4) {
+        Ok(all) => Ok(counts(alloc, &all)?.as_str() == wanted.trim_end()),
+        Err(_) => Err(AllocError),
+    }
+}
+
+/// Whether four pulls between sets of these keys go as the rest of a line says.
+fn go_as_said(alloc: Global, a_keys: &str, b_keys: &str, rest: &str) -> Result<bool, Fail> {
+    let (wanted, joined) = rest.split_once('|').ok_or("no join")?;
+    let mut a = numbers(alloc, a_keys)?;
+    let mut b = numbers(alloc, b_keys)?;
+    let are_counted = join_as_many(alloc, &mut a, &mut b, wanted)?;
+    Ok(are_counted && shown(alloc, &a)?.as_str() == joined && shown(alloc, &b)?.as_str() == joined)
+}
+
+#[test]
+fn four_turns_join_both(rt: HostRuntime) -> Result<(), Fail> {
+    for line in TURNS.lines() {
+        let (a_keys, rest) = line.split_once('|').ok_or("no keys of b")?;
+        let (b_keys, rest) = rest.split_once('|').ok_or("no counts")?;
+        assert!(rt; go_as_said(rt.alloc(), a_keys, b_keys, rest)?, "at {line}");
+    }
+    Ok(())
+}
+
+/// The ranges of keys that four pulls ask for, where a holds 1, 4, 5 and b holds 3, 7: a comma behind those of each.
+const RANGES: &str = ", 1-3, 1-7, 1-7,";
+
+/// The ranges that these pulls asked for.
+fn ranges(alloc: Global, all: &[Pulled<[u8; 2]>]) -> Result<String, AllocError> {
+    let mut text = String::new(alloc);
+    for pulled in all {
+        add_ranges(alloc, &mut text, &pulled.ranges)?;
+        text.push_str(",")?;
+    }
+    Ok(text)
+}
+
+/// Adds these ranges to a text, a blank before each.
+fn add_ranges(
+    alloc: Global,
+    text: &mut String,
+    ranges: &[([u8; 2], [u8; 2])],
+) -> Result<(), AllocError> {
+    for (first, last) in ranges {
+        let first = u16::from_be_bytes(*first);
+        let last = u16::from_be_bytes(*last);
+        text.push_str(format!(in alloc; " {first}-{last}")?.as_str())?;
+    }
+    Ok(())
+}
+
+#[test]
+fn turns_ask_for_growing_ranges(rt: HostRuntime) -> Result<(), Fail> {
+    let mut a = numbers(rt.alloc(), "1 4 5")?;
+    let mut b = numbers(rt.alloc(), "3 7")?;
+    match turn(rt.alloc(), &mut a, &mut b, 4) {
+        Ok(all) => assert_eq!(rt; ranges(rt.alloc(), &all)?.as_str(), RANGES),
+        Err(_) => return Err(Fail::from("no memory")),
+    }
+    Ok(())
+}
+
+/// Pulls from a peer.
+fn pull(a: &mut Numbers, b: &mut Numbers) -> Result<Pulled<[u8; 2]>, PullError<[u8; 2]>> {
+    a.pull(b)
+}
+
+#[test]
+fn calls_succeed_where_memory_is_at_hand(rt: HostRuntime) -> Result<(), Fail> {
+    let mut a = numbers(rt.alloc(), "")?;
+    let mut b = numbers(rt.alloc(), "2 1")?;
+    assert!(rt; put(&mut a, 3).is_ok());
+    assert!(rt; pull(&mut a, &mut b).is_ok());
+    match turn(rt.alloc(), &mut a, &mut b, 0) {
+        Ok(all) => assert!(rt; all.is_empty()),
+        Err(_) => return Err(Fail::from("no memory")),
+    }
+    assert!(rt; turn(rt.alloc(), &mut a, &mut b, 1).is_ok());
+    Ok(())
+}

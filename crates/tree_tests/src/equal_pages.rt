@@ -1,0 +1,83 @@
+//! The pages of default trees of equal maps.
+
+use crate::root_pages::root_copy;
+use merkle_digest::SipHasher;
+use merkle_search_tree::{MerkleSearchTree, Page};
+use std::alloc::Global;
+use std::test::Fail;
+use testing::number_key;
+
+/// The default tree of the tests.
+type Tree = MerkleSearchTree<[u8; 2], u64, SipHasher, 16>;
+
+/// Sets a key to a value.
+fn put(tree: &mut Tree, key: u16, value: u64) -> Result<(), Fail> {
+    match tree.upsert(number_key(key), &value) {
+        Ok(()) => Ok(()),
+        Err(_) => Err(Fail::from("no memory")),
+    }
+}
+
+/// The tree of the keys `factor * i` modulo 64, with value 1, for i from 0 to `count` - 1.
+fn built(alloc: Global, factor: u16, count: u16) -> Result<Tree, Fail> {
+    let mut tree: Tree = MerkleSearchTree::with_defaults(alloc);
+    for i in 0..count {
+        put(&mut tree, factor.wrapping_mul(i) % 64, 1)?;
+    }
+    Ok(tree)
+}
+
+/// The root page of both trees; none where they differ in a page below it or in a cached digest.
+fn common_root(
+    alloc: Global,
+    left: &Tree,
+    right: &Tree,
+) -> Result<Option<Page<16, [u8; 2]>>, Fail> {
+    let root = root_copy(alloc, left)?.page;
+    if root == root_copy(alloc, right)?.page {
+        Ok(Some(root))
+    } else {
+        Ok(None)
+    }
+}
+
+/// The root page of both trees, which are hashed; none where they differ.
+fn hashed_root(
+    alloc: Global,
+    left: &mut Tree,
+    right: &mut Tree,
+) -> Result<Option<Page<16, [u8; 2]>>, Fail> {
+    left.root_hash();
+    right.root_hash();
+    common_root(alloc, left, right)
+}
+
+#[test]
+fn trees_without_keys_have_equal_pages(rt: HostRuntime) -> Result<(), Fail> {
+    let (left, right) = (built(rt.alloc(), 37, 0)?, built(rt.alloc(), 1, 0)?);
+    let root = common_root(rt.alloc(), &left, &right)?.ok_or("the pages differ")?;
+    assert_eq!(rt; (root.level(), root.nodes().len()), (0, 0));
+    Ok(())
+}
+
+#[test]
+fn orders_of_upserts_make_equal_pages(rt: HostRuntime) -> Result<(), Fail> {
+    let (mixed, ascending) = (built(rt.alloc(), 37, 64)?, built(rt.alloc(), 1, 64)?);
+    let root = common_root(rt.alloc(), &mixed, &ascending)?.ok_or("the pages differ")?;
+    // The keys 6, 29, 34 and 53 are on level 1, and the others on level 0.
+    assert_eq!(rt; (root.level(), root.nodes().len()), (1, 4));
+    Ok(())
+}
+
+#[test]
+fn equal_changes_leave_equal_pages(rt: HostRuntime) -> Result<(), Fail> {
+    let mut mixed = built(rt.alloc(), 37, 64)?;
+    let mut ascending = built(rt.alloc(), 1, 64)?;
+    let before = hashed_root(rt.alloc(), &mut mixed, &mut ascending)?.ok_or("the pages differ")?;
+    put(&mut mixed, 0, 2)?;
+    assert!(rt; hashed_root(rt.alloc(), &mut mixed, &mut ascending)?.is_none());
+    put(&mut ascending, 0, 2)?;
+    let after = hashed_root(rt.alloc(), &mut mixed, &mut ascending)?.ok_or("the pages differ")?;
+    assert!(rt; after != before);
+    Ok(())
+}

@@ -1,0 +1,20 @@
+//! Places of keys in root pages.
+
+use crate::trees::{keys_of, tree};
+use std::test::Fail;
+use testing::number_key;
+
+#[test]
+fn places_of_keys_in_a_root_page(rt: HostRuntime) -> Result<(), Fail> {
+    let alloc = rt.alloc();
+    let keys = keys_of(alloc, "2:0 4:0 6:0")?;
+    let page = tree(alloc, &keys)?;
+    for (key, place) in [(5, 2), (6, 2), (7, 3), (1, 0)] {
+        let found = page.find_counted(&number_key(key));
+        assert_eq!(rt; found.0, place);
+        assert!(rt; found.1 <= 2);
+    }
+    let none = tree(alloc, &[])?;
+    assert_eq!(rt; none.find_counted(&number_key(5)), (0, 0));
+    Ok(())
+}

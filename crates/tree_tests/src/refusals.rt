@@ -1,0 +1,210 @@
+//! Refused memory. Under `rt try --test --fail-alloc N -- a_refused` the Nth request for memory of each of these tests is refused:
+//! then the answer is right, or it is want of memory with everything as before.
+
+use crate::root_pages::root_copy;
+use crate::trees::{Tree, copy, defined_root, hashed, nodes, put, tree, value_at};
+use merkle_diff::{PageRange, PageRangeSnapshot};
+use merkle_digest::RootHash;
+use std::alloc::{AllocError, Global};
+use testing::{Value, number_key};
+
+/// Nine keys on their levels.
+const NINE: [(u16, u8); 9] = [
+    (7, 2),
+    (11, 2),
+    (3, 1),
+    (4, 1),
+    (6, 1),
+    (2, 0),
+    (5, 0),
+    (15, 1),
+    (42, 0),
+];
+
+/// The spans of the pages of the tree of the nine keys.
+const SPANS_OF_NINE: [(u16, u16); 6] = [(2, 42), (2, 6), (2, 2), (5, 5), (15, 42), (42, 42)];
+
+/// Keys on their levels, of which the last is upserted into the tree of the others.
+const GROWTHS: [&[(u16, u8)]; 3] = [
+    &[(1, 1), (2, 1), (5, 0), (4, 2)],
+    &[(2, 64), (6, 20), (4, 20), (3, 52), (5, 64)],
+    &[
+        (7, 2),
+        (11, 2),
+        (3, 1),
+        (4, 1),
+        (6, 1),
+        (2, 0),
+        (15, 1),
+        (42, 0),
+        (5, 3),
+    ],
+];
+
+/// The hashed tree of the nine keys.
+fn nine(alloc: Global) -> Result<Tree, AllocError> {
+    let mut tree = tree(alloc, &NINE)?;
+    tree.root_hash();
+    Ok(tree)
+}
+
+/// What the page ranges of a tree were; `None` where it isn't hashed.
+fn seen(alloc: Global, tree: &Tree) -> Result<Option<PageRangeSnapshot<[u8; 2]>>, AllocError> {
+    match tree.serialise_page_ranges()? {
+        None => Ok(None),
+        Some(ranges) => Ok(Some(PageRangeSnapshot::from_ranges(alloc, ranges)?)),
+    }
+}
+
+/// Whether the digests above a new key are forgotten, and the tree is then the defined one of these keys.
+fn is_set(alloc: Global, tree: &mut Tree, keys: &[(u16, u8)]) -> Result<bool, AllocError> {
+    let is_forgotten = tree.root_hash_cached().is_none();
+    Ok(is_forgotten && *tree.root_hash() == defined_root(alloc, keys)?)
+}
+
+/// Whether the pages of a tree and all their digests are as before.
+fn is_as_before(
+    alloc: Global,
+    tree: &Tree,
+    before: &Option<PageRangeSnapshot<[u8; 2]>>,
+) -> Result<bool, AllocError> {
+    Ok(tree.pages_to_hash() == 0 && seen(alloc, tree)? == *before)
+}
+
+/// Whether the last of the keys is set, or handed back with the pages and all digests as before.
+fn is_set_or_handed_back(alloc: Global, keys: &[(u16, u8)], last: u16) -> Result<bool, AllocError> {
+    let mut tree = hashed(alloc, keys)?;
+    let before = seen(alloc, &tree)?;
+    match tree.upsert(number_key(last), &value_at(last)) {
+        Ok(()) => is_set(alloc, &mut tree, keys),
+        Err(refused) => {
+            let is_back = refused.into_key() == number_key(last);
+            Ok(is_back && is_as_before(alloc, &tree, &before)?)
+        }
+    }
+}
+
+#[test]
+fn a_refused_upsert_changes_nothing(rt: HostRuntime) {
+    for keys in GROWTHS {
+        if let Some((last, _)) = keys.last() {
+            assert!(rt;
+                is_set_or_handed_back(rt.alloc(), keys, *last) != Ok(false),
+                "key {last}"
+            );
+        }
+    }
+}
+
+/// Whether the nodes are right after upserts of 1, 2, 1 with another value, and 3, of which the last may be refused.
+fn keeps_nodes(alloc: Global) -> Result<bool, AllocError> {
+    let mut tree = tree(alloc, &[(1, 0), (2, 0)])?;
+    let is_replaced = tree.upsert(number_key(1), &Value { number: 9 }).is_ok();
+    let wanted = if put(&mut tree, 3).is_ok() {
+        " 1=9 2=2 3=3"
+    } else {
+        " 1=9 2=2"
+    };
+    Ok(is_replaced && nodes(alloc, &tree)?.as_str() == wanted)
+}
+
+#[test]
+fn a_refused_upsert_keeps_the_nodes(rt: HostRuntime) {
+    assert!(rt; keeps_nodes(rt.alloc()) != Ok(false));
+}
+
+/// Whether a key that is there is accepted with the same value, and the root hash is then what it was.
+fn is_accepted(tree: &mut Tree, key: u16, root_hash: &RootHash) -> bool {
+    put(tree, key).is_ok()
+        && tree.root_hash_cached().is_none()
+        && tree.pages_to_hash() >= 1
+        && *tree.root_hash() == *root_hash
+}
+
+/// Whether each key that is there is accepted with the same value.
+fn takes_what_is_there(alloc: Global) -> Result<bool, AllocError> {
+    let mut tree = tree(alloc, &NINE)?;
+    let root_hash = tree.root_hash().clone()?;
+    let mut is_right = true;
+    for (number, _) in &NINE {
+        is_right = is_right && is_accepted(&mut tree, *number, &root_hash);
+    }
+    Ok(is_right)
+}
+
+#[test]
+fn a_refused_request_is_none_of_a_key_that_is_there(rt: HostRuntime) {
+    assert!(rt; takes_what_is_there(rt.alloc()) != Ok(false));
+}
+
+/// Whether the tree of the nine keys lists its nodes.
+fn lists_nodes(alloc: Global) -> Result<bool, AllocError> {
+    let tree = tree(alloc, &NINE)?;
+    Ok(nodes(alloc, &tree)?.as_str() == " 2=2 3=3 4=4 5=5 6=6 7=7 11=11 15=15 42=42")
+}
+
+/// Whether these page ranges have the spans of the pages of the nine keys.
+fn are_of_nine(ranges: &[PageRange<'_, [u8; 2]>]) -> bool {
+    ranges.len() == SPANS_OF_NINE.len()
+        && ranges.iter().zip(&SPANS_OF_NINE).all(|(range, span)| {
+            *range.start() == number_key(span.0) && *range.end() == number_key(span.1)
+        })
+}
+
+/// Whether the tree of the nine keys lists its page ranges.
+fn lists_ranges(alloc: Global) -> Result<bool, AllocError> {
+    let tree = nine(alloc)?;
+    match tree.serialise_page_ranges()? {
+        None => Ok(false),
+        Some(ranges) => Ok(are_of_nine(&ranges)),
+    }
+}
+
+/// Whether a copy of each node of the tree of the nine keys is equal to it, the pages below it and their digests included.
+fn copies_nodes(alloc: Global) -> Result<bool, AllocError> {
+    let tree = nine(alloc)?;
+    let mut is_right = true;
+    for node in tree.node_iter()? {
+        is_right = is_right && node.try_clone(alloc)? == *node;
+    }
+    Ok(is_right)
+}
+
+/// Whether a copy of the root page of the tree of the nine keys is equal to it, the pages below it and their digests included.
+fn copies_the_root_page(alloc: Global) -> Result<bool, AllocError> {
+    let tree = nine(alloc)?;
+    let copy = root_copy(alloc, &tree)?;
+    Ok(copy.is_equal && copy.page.hash().is_some())
+}
+
+/// Whether a copy of the tree of the nine keys has its pages and digests.
+fn copies_the_tree(alloc: Global) -> Result<bool, AllocError> {
+    let tree = nine(alloc)?;
+    let copy = copy(&tree)?;
+    is_as_before(alloc, &copy, &seen(alloc, &tree)?)
+}
+
+/// Whether each call gives what is right.
+fn answers(alloc: Global) -> [Result<bool, AllocError>; 5] {
+    [
+        lists_nodes(alloc),
+        lists_ranges(alloc),
+        copies_nodes(alloc),
+        copies_the_root_page(alloc),
+        copies_the_tree(alloc),
+    ]
+}
+
+#[test]
+fn a_refused_call_is_want_of_memory(rt: HostRuntime) {
+    assert!(rt;
+        answers(rt.alloc())
+            .iter()
+            .all(|answer| *answer != Ok(false))
+    );
+}
+
+#[test]
+fn calls_succeed_where_memory_is_at_hand(rt: HostRuntime) {
+    assert!(rt; answers(rt.alloc()).iter().all(|answer| *answer == Ok(true)));
+}

@@ -1,0 +1,170 @@
+//! Upserts, by the nodes that are then there and by the root hash of the defined tree.
+
+use crate::trees::{Tree, copy, defined_root, hashed, keys_of, nodes, put, tree, tree_of};
+use merkle_digest::{RootHash, SipHasher};
+use merkle_search_tree::MerkleSearchTree;
+use std::alloc::Global;
+use std::test::Fail;
+use testing::{Value, number_key};
+
+/// A line for each tree: its keys with their levels, in the order in which they are upserted.
+const UPSERTS: &str = "\
+\n\
+65:0\n\
+65:4\n\
+65:0 66:0\n\
+66:0 65:0\n\
+65:0 66:1\n\
+66:0 65:1\n\
+65:3 66:9\n\
+66:3 65:9\n\
+65:6 66:4 67:2\n\
+67:6 66:4 65:2\n\
+65:6 65:6\n\
+65:5 66:0 67:0 68:1\n\
+65:5 66:0 67:0 69:0 68:1\n\
+11:1 10:2 12:2\n\
+1:1 2:1 4:0 3:2\n\
+4:1 3:0 1:0 2:1\n\
+1:1 2:1 3:0 5:0 4:2\n\
+75:2 68:0 69:1\n\
+2:64 5:20 3:52 4:64\n\
+2:64 6:20 4:20 3:52 5:64\n\
+1:0 0:1\n\
+0:0 1:1\n\
+1:1 2:0 4:1 3:2\n\
+6:0 3:21 0:21 1:22\n\
+73:2 75:2 65:1 69:1 74:1 66:0 67:0 68:0 70:0 71:0 72:0\n\
+7:2 11:2 3:1 4:1 6:1 2:0 5:0 15:1 42:0\n\
+2:42 5:43\n\
+2:42 1:43\n\
+1:42 2:42 4:42 3:43\n\
+1:42 2:42 4:42 0:43\n\
+1:42 2:42 4:42 10:43\n\
+5:42 10:40 15:40 12:43\n\
+5:42 4:41 1:40 3:40 2:43\n\
+42:42 44:32 43:43\n\
+1:1 2:1 5:0 4:2\n\
+1:1 4:1 2:0 3:0\n\
+6:20 5:64 4:20 3:52 2:64\n\
+";
+
+/// Whether a tree has this root hash, and every digest once it is asked for it.
+fn has_root(tree: &mut Tree, wanted: &RootHash) -> bool {
+    *tree.root_hash() == *wanted
+        && tree.root_hash_cached() == Some(wanted)
+        && tree.pages_to_hash() == 0
+}
+
+/// Whether the tree of these keys, upserted in this order, is the defined one.
+fn is_defined(alloc: Global, line: &str) -> Result<bool, Fail> {
+    let keys = keys_of(alloc, line)?;
+    let mut tree = tree(alloc, &keys)?;
+    Ok(has_root(&mut tree, &defined_root(alloc, &keys)?))
+}
+
+#[test]
+fn makes_the_defined_tree(rt: HostRuntime) -> Result<(), Fail> {
+    for line in UPSERTS.lines() {
+        assert!(rt; is_defined(rt.alloc(), line)?, "at {line}");
+    }
+    Ok(())
+}
+
+/// Whether a tree says that it lacks digests, and then makes as many as it said.
+fn makes_what_it_lacks(tree: &mut Tree) -> bool {
+    let is_forgotten = tree.root_hash_cached().is_none();
+    let lacks = tree.pages_to_hash();
+    is_forgotten && lacks >= 1 && lacks <= 5 && tree.root_hash_counted().1 == lacks
+}
+
+#[test]
+fn drops_the_digest_of_a_page_whose_high_page_moves(rt: HostRuntime) -> Result<(), Fail> {
+    let keys = keys_of(rt.alloc(), "1:1 2:1 5:0 4:2")?;
+    let mut tree = hashed(rt.alloc(), &keys)?;
+    for _ in 0..2 {
+        put(&mut tree, 4)?;
+        assert!(rt; makes_what_it_lacks(&mut tree));
+        assert!(rt; *tree.root_hash() == defined_root(rt.alloc(), &keys)?);
+    }
+    Ok(())
+}
+
+/// Three orders of the same keys on their levels.
+const ORDERS: [&str; 3] = [
+    "7:2 11:2 3:1 4:1 6:1 2:0 5:0 15:1 42:0",
+    "42:0 15:1 5:0 2:0 6:1 4:1 3:1 11:2 7:2",
+    "6:1 42:0 2:0 11:2 3:1 15:1 7:2 5:0 4:1",
+];
+
+#[test]
+fn gives_nodes_in_order(rt: HostRuntime) -> Result<(), Fail> {
+    for line in ORDERS {
+        let tree = tree_of(rt.alloc(), line)?;
+        let found = nodes(rt.alloc(), &tree)?;
+        assert_eq!(rt;
+            found.as_str(),
+            " 2=2 3=3 4=4 5=5 6=6 7=7 11=11 15=15 42=42",
+            "at {line}"
+        );
+    }
+    Ok(())
+}
+
+#[test]
+fn replaces_the_digest_of_a_key(rt: HostRuntime) -> Result<(), Fail> {
+    let mut tree = tree_of(rt.alloc(), "1:0 2:0")?;
+    assert!(rt; tree.upsert(number_key(1), &Value { number: 9 }).is_ok());
+    assert_eq!(rt; nodes(rt.alloc(), &tree)?.as_str(), " 1=9 2=2");
+    Ok(())
+}
+
+/// A tree of the default hasher.
+type DefaultTree = MerkleSearchTree<[u8; 2], u64, SipHasher, 16>;
+
+/// The default tree of the keys `factor * i` modulo 64, with value 1, for i from 0 to 63.
+fn multiples(alloc: Global, factor: u16) -> Result<DefaultTree, Fail> {
+    let mut tree: DefaultTree = MerkleSearchTree::with_defaults(alloc);
+    for i in 0..64u16 {
+        set(&mut tree, factor.wrapping_mul(i) % 64, 1)?;
+    }
+    Ok(tree)
+}
+
+/// Sets a key to a value.
+fn set(tree: &mut DefaultTree, key: u16, value: u64) -> Result<(), Fail> {
+    match tree.upsert(number_key(key), &value) {
+        Ok(()) => Ok(()),
+        Err(_) => Err(Fail::from("no memory")),
+    }
+}
+
+#[test]
+fn default_trees_forget_the_order_of_upserts(rt: HostRuntime) -> Result<(), Fail> {
+    let mut mixed = multiples(rt.alloc(), 37)?;
+    let mut ascending = multiples(rt.alloc(), 1)?;
+    assert!(rt; *mixed.root_hash() == *ascending.root_hash());
+    set(&mut mixed, 0, 2)?;
+    assert!(rt; *mixed.root_hash() != *ascending.root_hash());
+    set(&mut ascending, 0, 2)?;
+    assert!(rt; *mixed.root_hash() == *ascending.root_hash());
+    Ok(())
+}
+
+/// Whether a copy of a tree has the same root hash, and lacks as many digests.
+fn is_copied(tree: &Tree) -> Result<bool, Fail> {
+    let copy = copy(tree)?;
+    Ok(
+        copy.root_hash_cached() == tree.root_hash_cached()
+            && copy.pages_to_hash() == tree.pages_to_hash(),
+    )
+}
+
+#[test]
+fn copies_keep_all_digests(rt: HostRuntime) -> Result<(), Fail> {
+    let mut tree = tree_of(rt.alloc(), ORDERS[0])?;
+    assert!(rt; is_copied(&tree)?);
+    tree.root_hash();
+    assert!(rt; is_copied(&tree)?);
+    Ok(())
+}
