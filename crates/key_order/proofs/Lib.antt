@@ -4,6 +4,7 @@ pub mod Spans
 pub mod Maps
 pub mod Values
 pub mod Sets
+pub mod Dels
 pub mod Joins
 pub mod Places
 pub mod Numbers

@@ -1,14 +1,16 @@
 -- Where a key is among the pairs of a map, or would go, and what an edit at that place makes of the map.
-use Rattle.std.proofs.Common.{◌≡◌, ℕ, zero, suc, ◌<◌, ◌≤◌, true, List, [], ◌∷◌, length, get_or, set as list_set, Some, None, refl, sym, ◌∙◌, ap, arith}
-use Rattle.std.specs.List.{AllByRecursion, AllWithin, insert}
+use Rattle.std.proofs.Common.{◌≡◌, ℕ, zero, suc, ◌<◌, ◌≤◌, true, false, List, [], ◌∷◌, length, get_or, set as list_set, Some, None, refl, sym, ◌∙◌, ap, arith}
+use Rattle.std.specs.List.{AllByRecursion, AllWithin, insert, remove}
 use Rattle.std.specs.List.Sorted.{IsNonDecreasingBy}
 use Rattle.std.specs.Cmp.{IsTotalOrder, tied_back}
 use Rattle.std.specs.Ordering.{ordering_index, ordering_reverse, is_eq, is_lt}
 use Rattle.std.specs.declared.cmp.Ordering.{Ordering}
 use Rattle.std.specs.declared.cmp.Ordering.TheVariants.{Less, Equal, Greater}
 use Rattle.key_order.specs.Order.{Below, Same}
-use Rattle.key_order.specs.Map.{IsMap, get, set}
-use Rattle.key_order.proofs.Orders.{low_low, low_up, same_up}
+use Rattle.key_order.specs.Map.{IsMap, get, has_key, set, del}
+use Rattle.key_order.proofs.Bools.{or_right}
+use Rattle.key_order.proofs.Orders.{low_low, low_up, up_low, same_up}
+use Rattle.key_order.proofs.Dels.{NoEqual, del-here, del-past, del-none}
 
 is_less : (r : Ordering) → is_lt r ≡ true → r ≡ Less
 is_less Less h = refl
@@ -80,3 +82,29 @@ module _ {K X : Type 0} (cmp : K → K → Ordering) (o : IsTotalOrder cmp) wher
   set_in_gap (r ∷ rows) (suc at) k v within lower higher =
       rw (seen_from_below cmp o r.0 k (lower 0 r (omega arith) (omega arith)))
       (ap (λ t. r ∷ t) (set_in_gap rows at k v (omega arith) (λ j d from to. lower (suc j) d (omega arith) (omega arith)) (λ j d from to. higher (suc j) d (omega arith) (omega arith))))
+
+  none_above : (rows : List (K × X)) (j k : K) → Same cmp k j → AllByRecursion (λ s. Below cmp j s.0) rows → NoEqual cmp k rows
+  none_above [] j k same all = tt
+  none_above (r ∷ rows) j k same all = (λ e. let never = sym (up_low cmp o k j r.0 (same_up cmp o k j same) all.0) ∙ ap is_lt e in cc, none_above rows j k same all.1)
+
+  -- the pair at a key's place goes with the key
+  pub del_at_place : (rows : List (K × X)) (at : ℕ) (k : K) (d : K × X) → IsMap cmp rows → at < length rows → Same cmp (get_or rows at d).0 k → del cmp rows k ≡ remove rows at
+  del_at_place [] at k d up inside here = absurd (omega arith)
+  del_at_place (r ∷ rows) zero k d up inside here = let back = tied_back o r.0 k here in del-here cmp k r rows back ∙ del-none cmp k rows (none_above rows r.0 k back up.0)
+  del_at_place (r ∷ rows) (suc at) k d up inside here =
+      let in_rows : at < length rows = omega arith in
+      del-past cmp k r rows (λ e. let never = sym (seen_from_below cmp o r.0 k (passed r rows at k d up in_rows here)) ∙ e in cc) ∙ ap (λ t. r ∷ t) (del_at_place rows at k d up.1 in_rows here)
+
+  -- a key with a place is there
+  pub has_at_place : (rows : List (K × X)) (at : ℕ) (k : K) (d : K × X) → at < length rows → Same cmp (get_or rows at d).0 k → has_key cmp rows k ≡ true
+  has_at_place [] at k d inside here = absurd (omega arith)
+  has_at_place (r ∷ rows) zero k d inside here = rw (tied_back o r.0 k here) refl
+  has_at_place (r ∷ rows) (suc at) k d inside here = or_right (is_eq (cmp k r.0)) (has_key cmp rows k) (has_at_place rows at k d (omega arith) here)
+
+  -- and one that would go to a place is not
+  pub has_in_gap : (rows : List (K × X)) (at : ℕ) (k : K) → at ≤ length rows → AllWithin (λ r. cmp r.0 k ≡ Less) rows 0 at → AllWithin (λ r. cmp r.0 k ≡ Greater) rows at (length rows) → has_key cmp rows k ≡ false
+  has_in_gap [] at k within lower higher = refl
+  has_in_gap (r ∷ rows) zero k within lower higher =
+      rw (seen_from_above cmp o r.0 k (higher 0 r (omega arith) (omega arith))) (has_in_gap rows zero k (omega arith) (λ j d from to. absurd (omega arith)) (λ j d from to. higher (suc j) d (omega arith) (omega arith)))
+  has_in_gap (r ∷ rows) (suc at) k within lower higher =
+      rw (seen_from_below cmp o r.0 k (lower 0 r (omega arith) (omega arith))) (has_in_gap rows at k (omega arith) (λ j d from to. lower (suc j) d (omega arith) (omega arith)) (λ j d from to. higher (suc j) d (omega arith) (omega arith)))

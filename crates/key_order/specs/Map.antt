@@ -1,5 +1,5 @@
 -- A map is a list of pairs of key and value, strictly ascending by key.
-use Rattle.std.specs.Prelude.{Bool, false, cond, ◌||◌, List, [], ◌∷◌, ⊤, Option, Some, None}
+use Rattle.std.specs.Prelude.{Bool, false, not, cond, ◌||◌, List, [], ◌∷◌, ⊤, Option, Some, None}
 use Rattle.std.specs.List.{AllByRecursion, filter}
 use Rattle.std.specs.declared.cmp.Ordering.{Ordering}
 use Rattle.std.specs.Ordering.{is_eq, match_ordering}
@@ -47,6 +47,15 @@ module _ {K X : Type 0} (cmp : K → K → Ordering) where
   abbrev pub set : List (K × X) → K → X → List (K × X)
   set [] k v = (k, v) ∷ []
   set (r ∷ rs) k v = match_ordering (cmp k r.0) ((k, v) ∷ r ∷ rs) ((r.0, v) ∷ rs) (r ∷ set rs k v)
+
+  -- the map without the pair whose key is equal to k
+  abbrev pub del : List (K × X) → K → List (K × X)
+  del m k = filter (λ r. not (is_eq (cmp k r.0))) m
+
+  -- the pair whose key is equal to k
+  abbrev pub entry : List (K × X) → K → Option (K × X)
+  entry [] k = None
+  entry (r ∷ rs) k = cond (is_eq (cmp k r.0)) (Some r) (entry rs k)
 
   -- equal keys and related values, place by place
   abbrev pub SameMap : (X → X → Type 0) → List (K × X) → List (K × X) → Type 0

@@ -178,18 +178,24 @@ impl<
     const N: usize,
 > Replica<K, V, H, N> {
     ghost use Rattle.std.specs.Prelude.{IsOk, true, false};
-    ghost use Rattle.key_order.specs.Map.{has_key};
-    ghost use Rattle.merkle_search_tree.specs.Del.{del};
+    ghost use Rattle.key_order.specs.Map.{has_key, del};
     ghost use Rattle.merkle_search_tree.specs.Remove.{HasFreeGap};
 
-    /// Takes the row of a key out, and answers whether there was one. Where memory is refused, the replica is unchanged. No memory is
-    /// taken where there is no such row, or where in the tree the gap before its key or the gap after it is empty.
+    /// Takes the row of a key out of this replica alone, so a pull from a peer that still has the key brings the row back: removals
+    /// are not merged. Answers true where a row was taken out, and false where there was none.
+    ///
+    /// It finds the row by halving, and moves the rows behind it down by one; the tree then compares `key` and joins pages as
+    /// [`MerkleSearchTree::remove`] says. It is refused only for want of memory, and then leaves rows and tree as they were. No memory
+    /// is taken where there is no such row, or where in the tree the gap before its key or the gap after it is empty.
     pub fn del(&mut self, key: &K) -> Result<bool, AllocError>
+        // The rows no longer have the key, and the answer says whether they had it.
         ensures rows { OnOk result (self.new.rows ≡ del K.cmp self.old.rows key.now) }
         ensures found { IfOk result (λ found. found ≡ has_key K.cmp self.old.rows key.now) }
+        ensures setup { SameSetup self.old self.new }
+
+        // Where there is no such row, and where it is refused, nothing changes.
         ensures absent { IfOk result (λ found. found ≡ false → self.new ≡ self.old) }
         ensures unchanged { OnErr result (self.new ≡ self.old) }
-        ensures setup { SameSetup self.old self.new }
         ensures succeeds { HasFreeGap K.cmp key.now self.old.tree.root → IsOk result }
         ensures succeeds_absent { has_key K.cmp self.old.rows key.now ≡ false → IsOk result }
     {

@@ -1,5 +1,5 @@
 -- After an upsert no page over the key has a digest, and the path leads to a key that is there.
-use Rattle.std.proofs.Common.{◌≡◌, ◌≢◌, ℕ, ◌+◌, ◌<◌, ◌∷◌, ◌++◌, Bool, true, false, ◌||◌, Some, None, refl, sym, subst, ◌∙◌, arith}
+use Rattle.std.proofs.Common.{◌≡◌, ◌≢◌, ℕ, ◌+◌, ◌<◌, ◌∷◌, Bool, true, false, ◌||◌, Some, None, refl, sym, subst, ◌∙◌, arith}
 use Rattle.std.specs.declared.cmp.Ordering.{Ordering}
 use Rattle.std.specs.declared.cmp.Ordering.TheVariants.{Less, Equal, Greater}
 use Rattle.std.specs.Ordering.{match_ordering, nat_cmp, MatchOrdering, is_eq}
@@ -11,8 +11,8 @@ use Rattle.key_order.specs.Map.{IsMap, has_key}
 use Rattle.merkle_search_tree.specs.Cache.{KeyUncached, RowKeyUncached, HeldKeyUncached}
 use Rattle.merkle_search_tree.specs.Upsert.{held_lower, held_upper, tree_lower, tree_upper, row_put, row_sink, held_set, tree_set, lifted, tree_finds, row_finds, held_finds}
 use Rattle.merkle_search_tree.proofs.Unique.{Under-more, Under-row, Under-gap}
-use Rattle.key_order.proofs.Orders.{same_up, same_down}
-use Rattle.merkle_search_tree.proofs.Sides.{NoEqual, no_equal-first, no_equal-rest, map-first, map-rest, map-before, no_equal-above, no_equal-below, no_equal-under, has_key-none, has_key-append, below-more, above-more, less-upto, greater-upto}
+use Rattle.key_order.proofs.Dels.{NoEqual}
+use Rattle.merkle_search_tree.proofs.Sides.{none-before, none-after, no_equal-first, no_equal-rest, map-first, map-rest, no_equal-above, no_equal-below, no_equal-under, has_key-none, has_key-append}
 use Rattle.merkle_search_tree.proofs.Set.{held_split-sides, tree_split-sides}
 
 or_first : (a b c : Bool) → a || (b || c) ≡ true → b ≡ false → c ≡ false → a ≡ true
@@ -59,30 +59,10 @@ module _ {K D : Type 0} (cmp : K → K → Ordering) (o : IsTotalOrder cmp) (lev
         none-held cmp k (tree_upper cmp k t) (no_equal-above cmp k (held_pairs (tree_upper cmp k t)) s.1),
       )
 
-  -- what stands before a node, and after it, by how the key compares with it
-  before-ne : (h : Held K D) (x : K) (e : D) (r : Row K D) → IsMap cmp (held_pairs h ++ (x, e) ∷ row_pairs r) → cmp k x ≢ Less → NoEqual cmp k (held_pairs h)
-  before-ne h x e r a nl = by (cmp k x) refl nl
-    where
-      by : (q : Ordering) → cmp k x ≡ q → q ≢ Less → NoEqual cmp k (held_pairs h)
-      by Less q nl = absurd (nl refl)
-      by Equal q nl = no_equal-below cmp o k (held_pairs h) (below-more cmp o k x (held_pairs h) (same_down cmp o k x q) (map-before cmp (held_pairs h) (x, e) (row_pairs r) a))
-      by Greater q nl = no_equal-below cmp o k (held_pairs h) (below-more cmp o k x (held_pairs h) (greater-upto cmp o k x q) (map-before cmp (held_pairs h) (x, e) (row_pairs r) a))
-
-  after-ne : (h : Held K D) (x : K) (e : D) (r : Row K D) → IsMap cmp (held_pairs h ++ (x, e) ∷ row_pairs r) → cmp k x ≢ Greater → NoEqual cmp k (row_pairs r)
-  after-ne h x e r a ng = by (cmp k x) refl ng
-    where
-      rest : IsMap cmp ((x, e) ∷ row_pairs r)
-      rest = map-rest cmp (held_pairs h) ((x, e) ∷ row_pairs r) a
-
-      by : (q : Ordering) → cmp k x ≡ q → q ≢ Greater → NoEqual cmp k (row_pairs r)
-      by Less q ng = no_equal-above cmp k (row_pairs r) (above-more cmp o k x (row_pairs r) (less-upto cmp k x q) rest.0)
-      by Equal q ng = no_equal-above cmp k (row_pairs r) (above-more cmp o k x (row_pairs r) (same_up cmp o k x q) rest.0)
-      by Greater q ng = absurd (ng refl)
-
   put-dropped : (r : Row K D) → IsRow lev n r → IsMap cmp (row_pairs r) → RowKeyUncached cmp k (row_put cmp k d r)
   put-dropped (high h) p a = sides h a (gap_ne h p)
   put-dropped (node h x e r) p a =
-      by (cmp k x) (before-ne h x e r a) (after-ne h x e r a) (put-dropped r p.2 (map-rest cmp (held_pairs h) ((x, e) ∷ row_pairs r) a).1)
+      by (cmp k x) (none-before cmp o k (held_pairs h) x e (row_pairs r) a) (none-after cmp o k (held_pairs h) x e (row_pairs r) a) (put-dropped r p.2 (map-rest cmp (held_pairs h) ((x, e) ∷ row_pairs r) a).1)
     where
       by : (q : Ordering) → (q ≢ Less → NoEqual cmp k (held_pairs h)) → (q ≢ Greater → NoEqual cmp k (row_pairs r)) → RowKeyUncached cmp k (row_put cmp k d r)
           → RowKeyUncached cmp k (match_ordering q (node (held_lower cmp k h) k d (node (held_upper cmp k h) x e r)) (node h x d r) (node h x e (row_put cmp k d r)))
@@ -110,7 +90,7 @@ module _ {K D : Type 0} (cmp : K → K → Ordering) (o : IsTotalOrder cmp) (lev
     sink-dropped : (m : ℕ) (r : Row K D) → IsRow lev m r → IsMap cmp (row_pairs r) → RowKeyUncached cmp k (row_sink cmp n k d r)
     sink-dropped m (high h) p a = gap-dropped m h p a
     sink-dropped m (node h x e r) p a =
-        by (cmp k x) (before-ne h x e r a) (after-ne h x e r a) (sink-dropped m r p.2 (map-rest cmp (held_pairs h) ((x, e) ∷ row_pairs r) a).1)
+        by (cmp k x) (none-before cmp o k (held_pairs h) x e (row_pairs r) a) (none-after cmp o k (held_pairs h) x e (row_pairs r) a) (sink-dropped m r p.2 (map-rest cmp (held_pairs h) ((x, e) ∷ row_pairs r) a).1)
         (gap-dropped m h p.0 (map-first cmp (held_pairs h) ((x, e) ∷ row_pairs r) a))
       where
         by : (q : Ordering) → (q ≢ Less → NoEqual cmp k (held_pairs h)) → (q ≢ Greater → NoEqual cmp k (row_pairs r)) → RowKeyUncached cmp k (row_sink cmp n k d r) → HeldKeyUncached cmp k (held_set cmp n k d h)
@@ -131,7 +111,7 @@ module _ {K D : Type 0} (cmp : K → K → Ordering) (o : IsTotalOrder cmp) (lev
   put-finds : (r : Row K D) → IsRow lev n r → IsMap cmp (row_pairs r) → has_key cmp (row_pairs r) k ≡ true → row_finds cmp n k d false r ≡ true
   put-finds (high h) p a e = sym (has_key-none cmp k (held_pairs h) (gap_ne h p)) ∙ e
   put-finds (node h x v r) p a e =
-      by (cmp k x) refl (before-ne h x v r a) (after-ne h x v r a)
+      by (cmp k x) refl (none-before cmp o k (held_pairs h) x v (row_pairs r) a) (none-after cmp o k (held_pairs h) x v (row_pairs r) a)
       (sym (has_key-append cmp k (held_pairs h) ((x, v) ∷ row_pairs r)) ∙ e) (put-finds r p.2 (map-rest cmp (held_pairs h) ((x, v) ∷ row_pairs r) a).1)
     where
       by : (q : Ordering) → cmp k x ≡ q → (q ≢ Less → NoEqual cmp k (held_pairs h)) → (q ≢ Greater → NoEqual cmp k (row_pairs r))
@@ -159,7 +139,7 @@ module _ {K D : Type 0} (cmp : K → K → Ordering) (o : IsTotalOrder cmp) (lev
     sink-finds : (m : ℕ) (r : Row K D) → IsRow lev m r → IsMap cmp (row_pairs r) → has_key cmp (row_pairs r) k ≡ true → row_finds cmp n k d true r ≡ true
     sink-finds m (high h) p a e = gap-finds m h p a e
     sink-finds m (node h x v r) p a e =
-        by (cmp k x) (before-ne h x v r a) (after-ne h x v r a)
+        by (cmp k x) (none-before cmp o k (held_pairs h) x v (row_pairs r) a) (none-after cmp o k (held_pairs h) x v (row_pairs r) a)
         (sym (has_key-append cmp k (held_pairs h) ((x, v) ∷ row_pairs r)) ∙ e) (sink-finds m r p.2 (map-rest cmp (held_pairs h) ((x, v) ∷ row_pairs r) a).1)
         (gap-finds m h p.0 (map-first cmp (held_pairs h) ((x, v) ∷ row_pairs r) a))
       where

@@ -1,5 +1,5 @@
 -- What stands in two neighbouring gaps, put together: its pairs, its form, its caches, and how few digests are dropped.
-use Rattle.std.proofs.Common.{◌≡◌, ℕ, ◌<◌, ◌≤◌, List, ◌∷◌, ◌++◌, None, refl, ap, sym, subst, ◌∙◌, append_assoc, append-nil, arith}
+use Rattle.std.proofs.Common.{◌≡◌, ℕ, ◌+◌, ◌<◌, ◌≤◌, List, ◌∷◌, ◌++◌, None, refl, ap, sym, subst, ◌∙◌, append_assoc, append-nil, arith}
 use Rattle.std.specs.declared.cmp.Ordering.{Ordering}
 use Rattle.std.specs.declared.cmp.Ordering.TheVariants.{Less, Equal, Greater}
 use Rattle.std.specs.Ordering.{match_ordering, nat_cmp, MatchOrdering}
@@ -110,31 +110,32 @@ module _ {K : Type 0} (format : PageFormat) (b : K → List ℕ) where
     append-hold (high g) (node h k d s) p q = (join-hold g h p q.0, q.1)
     append-hold (node h k d r) s p q = (p.0, append-hold r s p.1 q)
 
--- how many digests are dropped, where none was missing
+-- how many digests are dropped
 module _ {K D : Type 0} (lev : K → ℕ) where
-  module _ (t : Tree K D) (l : ℕ) (on : Row K D → Row K D) (z : missing t ≡ 0) (f : (s : Row K D) → IsRow lev l s → row_missing s ≡ 0 → row_missing (on s) ≤ l) where
-    under-few : (b : ℕ) (h : Held K D) → l < b → IsGap lev b h → held_missing h ≡ 0 → held_missing (under t l on h) ≤ b
-    under-few b nothing s p y = omega (arith, z)
-    under-few b (below (page m c (high h))) s p y = absurd p.1
-    under-few b (below (page m c (node h k d r))) s p y = by (nat_cmp l m) (ranks l m) (λ q. under-few m h q p.2.0 (omega (arith, y)))
+  module _ (t : Tree K D) (l a : ℕ) (on : Row K D → Row K D) (z : a ≤ missing t) (f : (s : Row K D) → IsRow lev l s → row_missing (on s) ≤ a + row_missing s + l) where
+    under-few : (b : ℕ) (h : Held K D) → l < b → IsGap lev b h → held_missing (under t l on h) ≤ missing t + held_missing h + b
+    under-few b nothing s p = omega arith
+    under-few b (below (page m c (high h))) s p = absurd p.1
+    under-few b (below (page m c (node h k d r))) s p = by (nat_cmp l m) (ranks l m) (λ q. under-few m h q p.2.0)
       where
-        by : (q : Ordering) → MatchOrdering q (l < m) (l ≡ m) (m < l) → (l < m → held_missing (under t l on h) ≤ m)
-            → missing (match_ordering q (page m None (node (under t l on h) k d r)) (page l None (on (node h k d r))) (page l None (on (high (below (page m c (node h k d r))))))) ≤ b
-        by Less q i = omega (arith, i q, p.0, y)
-        by Equal q i = omega (arith, f (node h k d r) (subst (λ j. IsRow lev j (node h k d r)) (sym q) p.2) (omega (arith, y)), s)
-        by Greater q i = omega (arith, f (high (below (page m c (node h k d r)))) (q, tt, p.2) y, s)
+        by : (q : Ordering) → MatchOrdering q (l < m) (l ≡ m) (m < l) → (l < m → held_missing (under t l on h) ≤ missing t + held_missing h + m)
+            → missing (match_ordering q (page m None (node (under t l on h) k d r)) (page l None (on (node h k d r))) (page l None (on (high (below (page m c (node h k d r)))))))
+            ≤ missing t + missing (page m c (node h k d r)) + b
+        by Less q i = omega (arith, i q, p.0)
+        by Equal q i = omega (arith, z, f (node h k d r) (subst (λ j. IsRow lev j (node h k d r)) (sym q) p.2), s)
+        by Greater q i = omega (arith, z, f (high (below (page m c (node h k d r)))) (q, tt, p.2), s)
 
   mutual
-    pub join-few : (b : ℕ) (g h : Held K D) → IsGap lev b g → IsGap lev b h → held_missing g ≡ 0 → held_missing h ≡ 0 → held_missing (held_join g h) ≤ b
-    join-few b nothing h p q y z = omega (arith, z)
-    join-few b (below t) h p q y z = tree_join-few b t h p q y z
+    pub join-few : (b : ℕ) (g h : Held K D) → IsGap lev b g → IsGap lev b h → held_missing (held_join g h) ≤ held_missing g + held_missing h + b
+    join-few b nothing h p q = omega arith
+    join-few b (below t) h p q = tree_join-few b t h p q
 
-    tree_join-few : (b : ℕ) (t : Tree K D) (h : Held K D) → IsGap lev b (below t) → IsGap lev b h → missing t ≡ 0 → held_missing h ≡ 0 → held_missing (tree_join t h) ≤ b
-    tree_join-few b (page l c (high g)) h p q y z = absurd p.1
-    tree_join-few b (page l c (node g k d r)) h p q y z =
-        under-few (page l c (node g k d r)) l (row_append (node g k d r)) y (λ s i x. omega (arith, append-few l r s p.2.2 i (omega (arith, y)) x, y)) b h p.0 q z
+    tree_join-few : (b : ℕ) (t : Tree K D) (h : Held K D) → IsGap lev b (below t) → IsGap lev b h → held_missing (tree_join t h) ≤ missing t + held_missing h + b
+    tree_join-few b (page l c (high g)) h p q = absurd p.1
+    tree_join-few b (page l c (node g k d r)) h p q =
+        under-few (page l c (node g k d r)) l (row_missing (node g k d r)) (row_append (node g k d r)) (omega arith) (λ s i. omega (arith, append-few l r s p.2.2 i)) b h p.0 q
 
-    pub append-few : (l : ℕ) (r s : Row K D) → IsRow lev l r → IsRow lev l s → row_missing r ≡ 0 → row_missing s ≡ 0 → row_missing (row_append r s) ≤ l
-    append-few l (high g) (high h) p q y z = join-few l g h p q y z
-    append-few l (high g) (node h k d s) p q y z = omega (arith, join-few l g h p q.0 y (omega (arith, z)), z)
-    append-few l (node h k d r) s p q y z = omega (arith, append-few l r s p.2 q (omega (arith, y)) z, y)
+    pub append-few : (l : ℕ) (r s : Row K D) → IsRow lev l r → IsRow lev l s → row_missing (row_append r s) ≤ row_missing r + row_missing s + l
+    append-few l (high g) (high h) p q = join-few l g h p q
+    append-few l (high g) (node h k d s) p q = omega (arith, join-few l g h p q.0)
+    append-few l (node h k d r) s p q = omega (arith, append-few l r s p.2 q)

@@ -17,13 +17,17 @@ as_held-nothing l c (high h) e = ap high e
 as_held-nothing l c (node h k d r) e = absurd (cc)
 
 module _ {K D : Type 0} (lev : K → ℕ) where
-  gap-more : (l m : ℕ) (h : Held K D) → l < m → IsGap lev l h → IsGap lev m h
+  pub gap-more : (l m : ℕ) (h : Held K D) → l < m → IsGap lev l h → IsGap lev m h
   gap-more l m nothing s g = tt
   gap-more l m (below t) s g = (omega (arith, g.0), g.1, g.2)
 
-  as_held-gap : (l m : ℕ) (c : Option (List ℕ)) (r : Row K D) → l < m → IsRow lev l r → IsGap lev m (as_held l c r)
+  pub as_held-gap : (l m : ℕ) (c : Option (List ℕ)) (r : Row K D) → l < m → IsRow lev l r → IsGap lev m (as_held l c r)
   as_held-gap l m c (high h) s g = gap-more l m h s g
   as_held-gap l m c (node h k d r) s g = (s, tt, g)
+
+  pub root_from : (t : Tree K D) → HasNode t → IsCanonical lev t → IsCanonicalRoot lev t
+  root_from (page l c (high h)) w p = absurd w
+  root_from (page l c (node h x e r)) w p = p
 
 -- the form
 module _ {K D : Type 0} (cmp : K → K → Ordering) (lev : K → ℕ) (at : K) where
@@ -105,15 +109,11 @@ module _ {K D : Type 0} (cmp : K → K → Ordering) (lev : K → ℕ) (n : ℕ)
         by Equal f g = (p.0, p.1, p.2)
         by Greater f g = (p.0, p.1, f)
 
-  root_from : (t : Tree K D) → HasNode t → IsCanonical lev t → IsCanonicalRoot lev t
-  root_from (page l c (high h)) w p = absurd w
-  root_from (page l c (node h x e r)) w p = p
-
   pub set-root : (t : Tree K D) → IsCanonicalRoot lev t → IsCanonicalRoot lev (tree_set cmp n k d t)
   set-root (page m c (high nothing)) p = (tt, at, tt)
   set-root (page m c (high (below t))) p = absurd p
   set-root (page m c (node h x e r)) p =
-      let g = set-tree (suc (m + n)) (page m c (node h x e r)) (omega arith) (omega arith) tt p in root_from (tree_set cmp n k d (page m c (node h x e r))) g.1 g.2
+      let g = set-tree (suc (m + n)) (page m c (node h x e r)) (omega arith) (omega arith) tt p in root_from lev (tree_set cmp n k d (page m c (node h x e r))) g.1 g.2
 
 -- what is wholly on one side stays as it is, with its digests
 module _ {K D : Type 0} (cmp : K → K → Ordering) (at : K) where
@@ -253,13 +253,15 @@ module _ {K : Type 0} (format : PageFormat) (b : K → List ℕ) where
     held_none_missing (below (page l None r)) e p = absurd e
     held_none_missing (below (page l (Some d) r)) e p = omega (arith, row_none_missing r p.1 p.2)
 
+-- a row lacks few digests more as what stands in a gap
+module _ {K D : Type 0} where
+  pub as_held-few : (l m a : ℕ) (c : Option (List ℕ)) (r : Row K D) → l < m → row_missing r ≤ a + l → held_missing (as_held l c r) ≤ a + m
+  as_held-few l m a c (high h) s p = omega arith
+  as_held-few l m a None (node h k d r) s p = omega arith
+  as_held-few l m a (Some c) (node h k d r) s p = omega arith
+
 -- how many digests are dropped, where none was missing
 module _ {K D : Type 0} (cmp : K → K → Ordering) (lev : K → ℕ) (at : K) where
-  as_held-few : (l m : ℕ) (c : Option (List ℕ)) (r : Row K D) → l < m → row_missing r ≤ l → held_missing (as_held l c r) ≤ m
-  as_held-few l m c (high h) s p = omega arith
-  as_held-few l m None (node h k d r) s p = omega arith
-  as_held-few l m (Some c) (node h k d r) s p = omega arith
-
   mutual
     pub split-few : (l : ℕ) (r : Row K D) → IsRow lev l r → row_missing r ≡ 0 → (row_missing (lower cmp at r) ≤ l) × (row_missing (upper cmp at r) ≤ l)
     split-few l (high h) p z = held_split-few l h p z
@@ -275,8 +277,8 @@ module _ {K D : Type 0} (cmp : K → K → Ordering) (lev : K → ℕ) (at : K) 
     held_split-few l (below (page m c (high h))) p z = absurd p.1
     held_split-few l (below (page m c (node h k d r))) p z =
         let s = split-few m (node h k d r) p.2 (omega arith) in (
-          as_held-few m l (kept (upper cmp at (node h k d r)) c) (lower cmp at (node h k d r)) p.0 s.0,
-          as_held-few m l (kept (lower cmp at (node h k d r)) c) (upper cmp at (node h k d r)) p.0 s.1,
+          omega (arith, as_held-few m l 0 (kept (upper cmp at (node h k d r)) c) (lower cmp at (node h k d r)) p.0 (omega (arith, s.0))),
+          omega (arith, as_held-few m l 0 (kept (lower cmp at (node h k d r)) c) (upper cmp at (node h k d r)) p.0 (omega (arith, s.1))),
         )
 
 module _ {K D : Type 0} (cmp : K → K → Ordering) (lev : K → ℕ) (n : ℕ) (k : K) (d : D) where
@@ -304,7 +306,7 @@ module _ {K D : Type 0} (cmp : K → K → Ordering) (lev : K → ℕ) (n : ℕ)
             ≤ level (match_ordering q (page m None (row_sink cmp n k d (node h x e r))) (page m None (row_put cmp k d (node h x e r))) (lifted cmp n k d (page m c (node h x e r)))) + n + 1
         by Less q f g s = omega (arith, f q)
         by Equal q f g s = omega (arith, g q)
-        by Greater q f g s = omega (arith, as_held-few cmp lev k m n (kept (upper cmp k (node h x e r)) c) (lower cmp k (node h x e r)) q s.0, as_held-few cmp lev k m n (kept (lower cmp k (node h x e r)) c) (upper cmp k (node h x e r)) q s.1)
+        by Greater q f g s = omega (arith, as_held-few m n 0 (kept (upper cmp k (node h x e r)) c) (lower cmp k (node h x e r)) q (omega (arith, s.0)), as_held-few m n 0 (kept (lower cmp k (node h x e r)) c) (upper cmp k (node h x e r)) q (omega (arith, s.1)))
 
     sink-few : (m : ℕ) (r : Row K D) → n < m → IsRow lev m r → row_missing r ≡ 0 → row_missing (row_sink cmp n k d r) ≤ m + n
     sink-few m (high h) s p z = gap-few m h s p z
@@ -329,7 +331,7 @@ module _ {K D : Type 0} (cmp : K → K → Ordering) (lev : K → ℕ) (n : ℕ)
             → missing (match_ordering q (page l None (row_sink cmp n k d (node h x e r))) (page l None (row_put cmp k d (node h x e r))) (lifted cmp n k d (page l c (node h x e r)))) ≤ m + n
         by Less q f g t = omega (arith, f q, p.0)
         by Equal q f g t = omega (arith, g q, p.0)
-        by Greater q f g t = omega (arith, as_held-few cmp lev k l n (kept (upper cmp k (node h x e r)) c) (lower cmp k (node h x e r)) q t.0, as_held-few cmp lev k l n (kept (lower cmp k (node h x e r)) c) (upper cmp k (node h x e r)) q t.1)
+        by Greater q f g t = omega (arith, as_held-few l n 0 (kept (upper cmp k (node h x e r)) c) (lower cmp k (node h x e r)) q (omega (arith, t.0)), as_held-few l n 0 (kept (lower cmp k (node h x e r)) c) (upper cmp k (node h x e r)) q (omega (arith, t.1)))
 
   pub set-few_root : (t : Tree K D) → IsCanonicalRoot lev t → missing t ≡ 0 → missing (tree_set cmp n k d t) ≤ level (tree_set cmp n k d t) + n + 1
   set-few_root (page m c (high nothing)) p z = omega arith

@@ -1,128 +1,31 @@
 -- What a removal does to the map, the form and the caches, and how few digests are dropped.
-use Rattle.std.proofs.Common.{◌≡◌, ◌≢◌, ℕ, suc, ◌+◌, ◌<◌, ◌≤◌, List, [], ◌∷◌, ◌++◌, Bool, true, false, not, ◌||◌, cond, Option, Some, None, refl, ap, sym, ◌∙◌, arith}
-use Rattle.std.specs.List.{AllByRecursion}
-use Rattle.std.proofs.lemmas.List.Elements.{filter-append}
+use Rattle.std.proofs.Common.{◌≡◌, ◌≢◌, ℕ, suc, ◌+◌, ◌<◌, ◌≤◌, List, ◌∷◌, ◌++◌, Bool, true, false, ◌||◌, Some, None, refl, ap, sym, ◌∙◌, arith}
 use Rattle.std.specs.declared.cmp.Ordering.{Ordering}
 use Rattle.std.specs.declared.cmp.Ordering.TheVariants.{Less, Equal, Greater}
 use Rattle.std.specs.Ordering.{is_eq, match_ordering}
 use Rattle.std.specs.Cmp.{IsTotalOrder}
-use Rattle.key_order.specs.Order.{Below}
-use Rattle.key_order.specs.Map.{IsMap, has_key}
-use Rattle.key_order.proofs.Orders.{same_up, same_down}
+use Rattle.key_order.specs.Map.{IsMap, has_key, del, entry}
+use Rattle.key_order.proofs.Dels.{NoEqual, del-append, del-here, del-past, del-none, entry-here, entry-past, entry-behind, entry-before}
 use Rattle.merkle_search_tree.specs.Tree.{Tree, page, Row, high, node, Held, nothing, below}
 use Rattle.merkle_search_tree.specs.TreeOf.{root_of}
 use Rattle.merkle_search_tree.specs.Page.{level, pairs, row_pairs, held_pairs}
 use Rattle.merkle_search_tree.specs.Cache.{missing, row_missing, held_missing, CachesHold, RowCachesHold, HeldCachesHold}
-use Rattle.merkle_search_tree.specs.Canonical.{HasNode, IsCanonical, IsRow, IsGap, IsCanonicalRoot}
+use Rattle.merkle_search_tree.specs.Canonical.{IsCanonical, IsRow, IsGap, IsCanonicalRoot}
 use Rattle.merkle_search_tree.specs.Upsert.{as_held}
-use Rattle.merkle_search_tree.specs.Del.{del, entry}
 use Rattle.merkle_search_tree.specs.Remove.{row_append, row_del, held_del, tree_del, root_del, row_entry, held_entry, tree_entry, HasFreeGap, RowHasFreeGap, HeldHasFreeGap}
-use Rattle.merkle_search_tree.proofs.Sides.{NoEqual, no_equal-above, no_equal-below, map-first, map-rest, map-before, has_key-append, below-more, above-more, less-upto, greater-upto}
-use Rattle.merkle_search_tree.proofs.Keeps.{rows_hold}
+use Rattle.merkle_search_tree.proofs.Sides.{map-first, map-rest, has_key-append, none-before, none-after}
+use Rattle.merkle_search_tree.proofs.Keeps.{rows_hold, as_held-gap, as_held-few, root_from}
+use Rattle.merkle_search_tree.proofs.Set.{as_held-pairs}
 use Rattle.merkle_search_tree.proofs.Joins.{append-pairs, append-row, append-hold, append-few}
 use Rattle.merkle_search_tree.specs.declared.builder.PageFormat.{PageFormat}
 
--- maps without a key
-module _ {K X : Type 0} (cmp : K → K → Ordering) (k : K) where
-  pub del-append : (xs ys : List (K × X)) → del cmp (xs ++ ys) k ≡ del cmp xs k ++ del cmp ys k
-  del-append xs ys = filter-append (λ r. not (is_eq (cmp k r.0))) xs ys
-
-  -- the key's own pair goes
-  pub del-here : (p : K × X) (ps : List (K × X)) → cmp k p.0 ≡ Equal → del cmp (p ∷ ps) k ≡ del cmp ps k
-  del-here p ps e = ap (λ q. cond (not (is_eq q)) (p ∷ del cmp ps k) (del cmp ps k)) e
-
-  pub del-past : (p : K × X) (ps : List (K × X)) → cmp k p.0 ≢ Equal → del cmp (p ∷ ps) k ≡ p ∷ del cmp ps k
-  del-past p ps ne = by (cmp k p.0) ne
-    where
-      by : (q : Ordering) → q ≢ Equal → cond (not (is_eq q)) (p ∷ del cmp ps k) (del cmp ps k) ≡ p ∷ del cmp ps k
-      by Less n = refl
-      by Equal n = absurd (n refl)
-      by Greater n = refl
-
-  -- a map without the key stays
-  pub del-none : (ps : List (K × X)) → NoEqual cmp k ps → del cmp ps k ≡ ps
-  del-none [] a = refl
-  del-none (p ∷ ps) a = del-past p ps a.0 ∙ ap (λ xs. p ∷ xs) (del-none ps a.1)
-
-  pub entry-here : (p : K × X) (ps : List (K × X)) → cmp k p.0 ≡ Equal → entry cmp (p ∷ ps) k ≡ Some p
-  entry-here p ps e = ap (λ q. cond (is_eq q) (Some p) (entry cmp ps k)) e
-
-  pub entry-past : (p : K × X) (ps : List (K × X)) → cmp k p.0 ≢ Equal → entry cmp (p ∷ ps) k ≡ entry cmp ps k
-  entry-past p ps ne = by (cmp k p.0) ne
-    where
-      by : (q : Ordering) → q ≢ Equal → cond (is_eq q) (Some p) (entry cmp ps k) ≡ entry cmp ps k
-      by Less n = refl
-      by Equal n = absurd (n refl)
-      by Greater n = refl
-
-  pub entry-none : (ps : List (K × X)) → NoEqual cmp k ps → entry cmp ps k ≡ None
-  entry-none [] a = refl
-  entry-none (p ∷ ps) a = entry-past p ps a.0 ∙ entry-none ps a.1
-
-  pub entry-behind : (xs ys : List (K × X)) → NoEqual cmp k xs → entry cmp (xs ++ ys) k ≡ entry cmp ys k
-  entry-behind [] ys a = refl
-  entry-behind (x ∷ xs) ys a = entry-past x (xs ++ ys) a.0 ∙ entry-behind xs ys a.1
-
-  pub entry-before : (xs ys : List (K × X)) → NoEqual cmp k ys → entry cmp (xs ++ ys) k ≡ entry cmp xs k
-  entry-before [] ys a = entry-none ys a
-  entry-before (x ∷ xs) ys a = ap (λ e. cond (is_eq (cmp k x.0)) (Some x) e) (entry-before xs ys a)
-
-  all-del : (P : K × X → Type 0) (ps : List (K × X)) → AllByRecursion P ps → AllByRecursion P (del cmp ps k)
-  all-del P [] a = tt
-  all-del P (p ∷ ps) a = by (not (is_eq (cmp k p.0))) (all-del P ps a.1)
-    where
-      by : (b : Bool) → AllByRecursion P (del cmp ps k) → AllByRecursion P (cond b (p ∷ del cmp ps k) (del cmp ps k))
-      by true f = (a.0, f)
-      by false f = f
-
-  pub del-ascending : (m : List (K × X)) → IsMap cmp m → IsMap cmp (del cmp m k)
-  del-ascending [] a = tt
-  del-ascending (p ∷ ps) a = by (not (is_eq (cmp k p.0))) (all-del (λ s. Below cmp p.0 s.0) ps a.0) (del-ascending ps a.1)
-    where
-      by : (b : Bool) → AllByRecursion (λ s. Below cmp p.0 s.0) (del cmp ps k) → IsMap cmp (del cmp ps k) → IsMap cmp (cond b (p ∷ del cmp ps k) (del cmp ps k))
-      by true f g = (f, g)
-      by false f g = g
-
-  -- a key that is there has an entry, and one that is not has none
-  pub entry-absent : (m : List (K × X)) → has_key cmp m k ≡ false → entry cmp m k ≡ None
-  entry-absent [] e = refl
-  entry-absent (p ∷ ps) e = by (is_eq (cmp k p.0)) e (entry-absent ps)
-    where
-      by : (b : Bool) → b || has_key cmp ps k ≡ false → (has_key cmp ps k ≡ false → entry cmp ps k ≡ None) → cond b (Some p) (entry cmp ps k) ≡ None
-      by true e f = absurd (cc)
-      by false e f = f e
-
 module _ {K D : Type 0} (cmp : K → K → Ordering) (o : IsTotalOrder cmp) (k : K) where
-  -- what stands before a node, and after it, by how the key compares with it
-  before : (xs : List (K × D)) (x : K) (e : D) (ys : List (K × D)) → IsMap cmp (xs ++ (x, e) ∷ ys) → cmp k x ≢ Less → NoEqual cmp k xs
-  before xs x e ys a nl = by (cmp k x) refl nl
-    where
-      by : (q : Ordering) → cmp k x ≡ q → q ≢ Less → NoEqual cmp k xs
-      by Less q n = absurd (n refl)
-      by Equal q n = no_equal-below cmp o k xs (below-more cmp o k x xs (same_down cmp o k x q) (map-before cmp xs (x, e) ys a))
-      by Greater q n = no_equal-below cmp o k xs (below-more cmp o k x xs (greater-upto cmp o k x q) (map-before cmp xs (x, e) ys a))
-
-  after : (xs : List (K × D)) (x : K) (e : D) (ys : List (K × D)) → IsMap cmp (xs ++ (x, e) ∷ ys) → cmp k x ≢ Greater → NoEqual cmp k ys
-  after xs x e ys a ng = by (cmp k x) refl ng
-    where
-      rest : IsMap cmp ((x, e) ∷ ys)
-      rest = map-rest cmp xs ((x, e) ∷ ys) a
-
-      by : (q : Ordering) → cmp k x ≡ q → q ≢ Greater → NoEqual cmp k ys
-      by Less q n = no_equal-above cmp k ys (above-more cmp o k x ys (less-upto cmp k x q) rest.0)
-      by Equal q n = no_equal-above cmp k ys (above-more cmp o k x ys (same_up cmp o k x q) rest.0)
-      by Greater q n = absurd (n refl)
-
-  as_held-pairs : (l : ℕ) (c : Option (List ℕ)) (r : Row K D) → held_pairs (as_held l c r) ≡ row_pairs r
-  as_held-pairs l c (high h) = refl
-  as_held-pairs l c (node h x d r) = refl
-
   -- the map
   mutual
     pub row_del-pairs : (r : Row K D) → IsMap cmp (row_pairs r) → row_pairs (row_del cmp k r) ≡ del cmp (row_pairs r) k
     row_del-pairs (high h) a = held_del-pairs h a
     row_del-pairs (node h x e r) a =
-        by (cmp k x) refl (before (held_pairs h) x e (row_pairs r) a) (after (held_pairs h) x e (row_pairs r) a)
+        by (cmp k x) refl (none-before cmp o k (held_pairs h) x e (row_pairs r) a) (none-after cmp o k (held_pairs h) x e (row_pairs r) a)
         (row_del-pairs r (map-rest cmp (held_pairs h) ((x, e) ∷ row_pairs r) a).1) (held_del-pairs h (map-first cmp (held_pairs h) ((x, e) ∷ row_pairs r) a))
       where
         by : (q : Ordering) → cmp k x ≡ q → (cmp k x ≢ Less → NoEqual cmp k (held_pairs h)) → (cmp k x ≢ Greater → NoEqual cmp k (row_pairs r))
@@ -159,7 +62,7 @@ module _ {K D : Type 0} (cmp : K → K → Ordering) (o : IsTotalOrder cmp) (k :
     pub row_entry-is : (r : Row K D) → IsMap cmp (row_pairs r) → row_entry cmp k r ≡ entry cmp (row_pairs r) k
     row_entry-is (high h) a = held_entry-is h a
     row_entry-is (node h x e r) a =
-        by (cmp k x) refl (before (held_pairs h) x e (row_pairs r) a) (after (held_pairs h) x e (row_pairs r) a)
+        by (cmp k x) refl (none-before cmp o k (held_pairs h) x e (row_pairs r) a) (none-after cmp o k (held_pairs h) x e (row_pairs r) a)
         (row_entry-is r (map-rest cmp (held_pairs h) ((x, e) ∷ row_pairs r) a).1) (held_entry-is h (map-first cmp (held_pairs h) ((x, e) ∷ row_pairs r) a))
       where
         by : (q : Ordering) → cmp k x ≡ q → (cmp k x ≢ Less → NoEqual cmp k (held_pairs h)) → (cmp k x ≢ Greater → NoEqual cmp k (row_pairs r))
@@ -181,14 +84,6 @@ module _ {K D : Type 0} (cmp : K → K → Ordering) (o : IsTotalOrder cmp) (k :
 
 -- the form
 module _ {K D : Type 0} (cmp : K → K → Ordering) (lev : K → ℕ) (k : K) where
-  gap-more : (l m : ℕ) (h : Held K D) → l < m → IsGap lev l h → IsGap lev m h
-  gap-more l m nothing s g = tt
-  gap-more l m (below t) s g = (omega (arith, g.0), g.1, g.2)
-
-  as_held-gap : (l m : ℕ) (c : Option (List ℕ)) (r : Row K D) → l < m → IsRow lev l r → IsGap lev m (as_held l c r)
-  as_held-gap l m c (high h) s g = gap-more l m h s g
-  as_held-gap l m c (node h x d r) s g = (s, tt, g)
-
   mutual
     pub row_del-row : (l : ℕ) (r : Row K D) → IsRow lev l r → IsRow lev l (row_del cmp k r)
     row_del-row l (high h) p = held_del-gap l h p
@@ -205,15 +100,11 @@ module _ {K D : Type 0} (cmp : K → K → Ordering) (lev : K → ℕ) (k : K) w
     held_del-gap b (below t) p = tree_del-gap b t p.0 p.2
 
     tree_del-gap : (b : ℕ) (t : Tree K D) → level t < b → IsCanonical lev t → IsGap lev b (tree_del cmp k t)
-    tree_del-gap b (page l c r) s p = as_held-gap l b None (row_del cmp k r) s (row_del-row l r p)
-
-  root_from : (t : Tree K D) → HasNode t → IsCanonical lev t → IsCanonicalRoot lev t
-  root_from (page l c (high h)) w p = absurd w
-  root_from (page l c (node h x e r)) w p = p
+    tree_del-gap b (page l c r) s p = as_held-gap lev l b None (row_del cmp k r) s (row_del-row l r p)
 
   root_of-root : (b : ℕ) (h : Held K D) → IsGap lev b h → IsCanonicalRoot lev (root_of h)
   root_of-root b nothing p = refl
-  root_of-root b (below t) p = root_from t p.1 p.2
+  root_of-root b (below t) p = root_from lev t p.1 p.2
 
   pub root_del-root : (t : Tree K D) → IsCanonicalRoot lev t → IsCanonicalRoot lev (root_del cmp k t)
   root_del-root (page l c (high nothing)) p = refl
@@ -251,39 +142,35 @@ module _ {K : Type 0} (cmp : K → K → Ordering) (k : K) (format : PageFormat)
   pub root_del-hold : (t : Tree K (List ℕ)) → CachesHold format b t → CachesHold format b (root_del cmp k t)
   root_del-hold t p = root_of-hold (tree_del cmp k t) (tree_del-hold t p)
 
--- how many digests are dropped, where none was missing
+-- how many digests are dropped
 module _ {K D : Type 0} (cmp : K → K → Ordering) (lev : K → ℕ) (k : K) where
-  as_held-few : (l m : ℕ) (r : Row K D) → l < m → row_missing r ≤ l → held_missing (as_held l None r) ≤ m
-  as_held-few l m (high h) s p = omega (arith, p)
-  as_held-few l m (node h x d r) s p = omega (arith, p)
-
   mutual
-    pub row_del-few : (l : ℕ) (r : Row K D) → IsRow lev l r → row_missing r ≡ 0 → row_missing (row_del cmp k r) ≤ l
-    row_del-few l (high h) p z = held_del-few l h p z
-    row_del-few l (node h x e r) p z = by (cmp k x) (row_del-few l r p.2 (omega (arith, z))) (held_del-few l h p.0 (omega (arith, z)))
+    pub row_del-few : (l : ℕ) (r : Row K D) → IsRow lev l r → row_missing (row_del cmp k r) ≤ row_missing r + l
+    row_del-few l (high h) p = held_del-few l h p
+    row_del-few l (node h x e r) p = by (cmp k x) (row_del-few l r p.2) (held_del-few l h p.0)
       where
-        by : (q : Ordering) → row_missing (row_del cmp k r) ≤ l → held_missing (held_del cmp k h) ≤ l
-            → row_missing (match_ordering q (node (held_del cmp k h) x e r) (row_append (high h) r) (node h x e (row_del cmp k r))) ≤ l
-        by Less f g = omega (arith, g, z)
-        by Equal f g = append-few lev l (high h) r p.0 p.2 (omega (arith, z)) (omega (arith, z))
-        by Greater f g = omega (arith, f, z)
+        by : (q : Ordering) → row_missing (row_del cmp k r) ≤ row_missing r + l → held_missing (held_del cmp k h) ≤ held_missing h + l
+            → row_missing (match_ordering q (node (held_del cmp k h) x e r) (row_append (high h) r) (node h x e (row_del cmp k r))) ≤ row_missing (node h x e r) + l
+        by Less f g = omega (arith, g)
+        by Equal f g = append-few lev l (high h) r p.0 p.2
+        by Greater f g = omega (arith, f)
 
-    held_del-few : (b : ℕ) (h : Held K D) → IsGap lev b h → held_missing h ≡ 0 → held_missing (held_del cmp k h) ≤ b
-    held_del-few b nothing p z = omega arith
-    held_del-few b (below t) p z = tree_del-few b t p.0 p.2 z
+    held_del-few : (b : ℕ) (h : Held K D) → IsGap lev b h → held_missing (held_del cmp k h) ≤ held_missing h + b
+    held_del-few b nothing p = omega arith
+    held_del-few b (below t) p = tree_del-few b t p.0 p.2
 
-    tree_del-few : (b : ℕ) (t : Tree K D) → level t < b → IsCanonical lev t → missing t ≡ 0 → held_missing (tree_del cmp k t) ≤ b
-    tree_del-few b (page l c r) s p z = as_held-few l b (row_del cmp k r) s (row_del-few l r p (omega (arith, z)))
+    tree_del-few : (b : ℕ) (t : Tree K D) → level t < b → IsCanonical lev t → held_missing (tree_del cmp k t) ≤ missing t + b
+    tree_del-few b (page l c r) s p = omega (arith, as_held-few l b (row_missing r) None (row_del cmp k r) s (row_del-few l r p))
 
-  root_of-few : (b : ℕ) (h : Held K D) → held_missing h ≤ b + 1 → missing (root_of h) ≤ b + 1
-  root_of-few b nothing s = omega arith
-  root_of-few b (below t) s = s
+  root_of-few : (a b : ℕ) (h : Held K D) → held_missing h ≤ a + (b + 1) → missing (root_of h) ≤ a + (b + 1)
+  root_of-few a b nothing s = omega arith
+  root_of-few a b (below t) s = s
 
-  pub root_del-few : (t : Tree K D) → IsCanonicalRoot lev t → missing t ≡ 0 → missing (root_del cmp k t) ≤ level t + 1
-  root_del-few (page l c (high nothing)) p z = omega arith
-  root_del-few (page l c (high (below t))) p z = absurd p
-  root_del-few (page l c (node h x e r)) p z =
-      root_of-few l (tree_del cmp k (page l c (node h x e r))) (tree_del-few (l + 1) (page l c (node h x e r)) (omega arith) p z)
+  pub root_del-few : (t : Tree K D) → IsCanonicalRoot lev t → missing (root_del cmp k t) ≤ missing t + (level t + 1)
+  root_del-few (page l c (high nothing)) p = omega arith
+  root_del-few (page l c (high (below t))) p = absurd p
+  root_del-few (page l c (node h x e r)) p =
+      root_of-few (missing (page l c (node h x e r))) l (tree_del cmp k (page l c (node h x e r))) (tree_del-few (l + 1) (page l c (node h x e r)) (omega arith) p)
 
 -- where the map has no such key, nothing is claimed of the gaps beside it
 or_false : (a b : Bool) → a || b ≡ false → (a ≡ false) × (b ≡ false)

@@ -1,14 +1,12 @@
 -- One update more at the end of a list of updates.
-use Rattle.std.proofs.Common.{◌≡◌, ℕ, List, [], ◌∷◌, ◌++◌, length, Bool, true, false, ◌||◌, cond, ◌≢◌, refl, arith, ap, sym, subst, Option, Some, None, is_some, if◌then◌else◌, MatchOption, ◌∙◌}
+use Rattle.std.proofs.Common.{◌≡◌, ℕ, List, [], ◌∷◌, ◌++◌, length, Bool, true, false, ◌≢◌, refl, arith, ap, sym, subst, Option, Some, None, is_some, if◌then◌else◌, MatchOption, ◌∙◌}
 use Rattle.std.specs.Bool.{⊤}
 use Rattle.std.specs.declared.cmp.Ordering.{Ordering}
 use Rattle.std.specs.Prelude.{Result, Ok, Err, IfOk, OnErr, is_ok}
-use Rattle.std.specs.Ordering.{is_eq}
 use Rattle.merkle_search_tree.specs.State.{State}
 use Rattle.merkle_search_tree.specs.declared.updates.Update.TheVariants.{Remove}
-use Rattle.key_order.specs.Map.{has_key}
-use Rattle.merkle_search_tree.specs.Del.{entry}
-use Rattle.merkle_search_tree.proofs.Removes.{entry-absent}
+use Rattle.key_order.specs.Map.{has_key, entry}
+use Rattle.key_order.proofs.Dels.{entry-there, entry-absent}
 use Rattle.merkle_search_tree.specs.declared.updates.Update.{Update}
 use Rattle.merkle_search_tree.specs.Updates.{map_after, map_after_one, hashed_after, hashed_after_one}
 
@@ -30,20 +28,12 @@ module _ {K V : Type 0} where
 
 -- a removal forgets the root hash exactly where its key is there
 module _ {K D : Type 0} (cmp : K → K → Ordering) (k : K) where
-  entry-there : (m : List (K × D)) → has_key cmp m k ≡ true → entry cmp m k ≡ None → ⊥
-  entry-there [] e f = absurd (cc)
-  entry-there (p ∷ ps) e f = by (is_eq (cmp k p.0)) e f (entry-there ps)
-    where
-      by : (b : Bool) → b || has_key cmp ps k ≡ true → cond b (Some p) (entry cmp ps k) ≡ None → (has_key cmp ps k ≡ true → entry cmp ps k ≡ None → ⊥) → ⊥
-      by true e f h = absurd (cc)
-      by false e f h = h e f
-
   pub removal_hashed : (m : List (K × D)) (found : Option (K × D)) (old new : Option (List ℕ)) → found ≡ entry cmp m k → (found ≡ None → new ≡ old) → (found ≢ None → new ≡ None)
       → is_some new ≡ (if (has_key cmp m k) then false else (is_some old))
   removal_hashed m found old new e f h = by (has_key cmp m k) refl
     where
       by : (b : Bool) → has_key cmp m k ≡ b → is_some new ≡ (if b then false else (is_some old))
-      by true q = ap is_some (h (λ z. entry-there m q (sym e ∙ z)))
+      by true q = ap is_some (h (λ z. entry-there cmp k m q (sym e ∙ z)))
       by false q = ap is_some (f (e ∙ entry-absent cmp k m q))
 
 -- the same of a removal that may be refused

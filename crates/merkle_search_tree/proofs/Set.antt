@@ -10,11 +10,12 @@ use Rattle.merkle_search_tree.specs.Canonical.{HasNode, IsCanonical, IsRow, IsGa
 use Rattle.key_order.specs.Map.{IsMap, set}
 use Rattle.merkle_search_tree.specs.Upsert.{as_held, kept, lower, upper, held_lower, held_upper, tree_lower, tree_upper, row_put, row_sink, held_set, tree_set, lifted}
 use Rattle.merkle_search_tree.proofs.Unique.{Under, Under-more, Under-row, Under-gap}
+use Rattle.key_order.proofs.Dels.{NoEqual}
 use Rattle.key_order.proofs.Orders.{same_down, low_is_up, turned}
-use Rattle.merkle_search_tree.proofs.Sides.{AllAbove, AllBelow, NoEqual, above-append, below-append, no_equal-first, no_equal-rest, map-first, map-rest, map-before, no_equal-under, set-stop, set-front, set-pass, below-more, above-more, less-below, less-upto, greater-upto, not_above}
+use Rattle.merkle_search_tree.proofs.Sides.{AllAbove, AllBelow, above-append, below-append, no_equal-first, no_equal-rest, map-first, map-rest, map-before, no_equal-under, set-stop, set-front, set-pass, below-more, above-more, less-below, less-upto, greater-upto, not_above}
 
 module _ {K D : Type 0} where
-  as_held-pairs : (l : ℕ) (c : Option (List ℕ)) (r : Row K D) → held_pairs (as_held l c r) ≡ row_pairs r
+  pub as_held-pairs : (l : ℕ) (c : Option (List ℕ)) (r : Row K D) → held_pairs (as_held l c r) ≡ row_pairs r
   as_held-pairs l c (high h) = refl
   as_held-pairs l c (node h k d r) = refl
 

@@ -7,7 +7,8 @@ use Rattle.std.specs.Cmp.{IsTotalOrder}
 use Rattle.std.specs.List.{AllByRecursion}
 use Rattle.key_order.specs.Order.{Upto, Below}
 use Rattle.key_order.specs.Map.{IsMap, set, has_key}
-use Rattle.key_order.proofs.Orders.{turned, low_up, up_low, low_is_up}
+use Rattle.key_order.proofs.Orders.{turned, low_up, up_low, low_is_up, same_up, same_down}
+use Rattle.key_order.proofs.Dels.{NoEqual}
 use Rattle.merkle_search_tree.proofs.Unique.{Under}
 
 all-append : {X : Type 0} (P : X → Type 0) (xs ys : List X) → AllByRecursion P xs → AllByRecursion P ys → AllByRecursion P (xs ++ ys)
@@ -69,20 +70,16 @@ module _ {K D : Type 0} (cmp : K → K → Ordering) where
   abbrev pub AllBelow : K → List (K × D) → Type 0
   AllBelow k = AllByRecursion (λ p. Below cmp p.0 k)
 
-  -- no key is equal to k
-  abbrev pub NoEqual : K → List (K × D) → Type 0
-  NoEqual k = AllByRecursion (λ p. cmp k p.0 ≢ Equal)
-
   pub above-append : (k : K) (xs ys : List (K × D)) → AllAbove k xs → AllAbove k ys → AllAbove k (xs ++ ys)
   above-append k = all-append (λ p. Below cmp k p.0)
 
   pub below-append : (k : K) (xs ys : List (K × D)) → AllBelow k xs → AllBelow k ys → AllBelow k (xs ++ ys)
   below-append k = all-append (λ p. Below cmp p.0 k)
 
-  pub no_equal-first : (k : K) (xs ys : List (K × D)) → NoEqual k (xs ++ ys) → NoEqual k xs
+  pub no_equal-first : (k : K) (xs ys : List (K × D)) → NoEqual cmp k (xs ++ ys) → NoEqual cmp k xs
   no_equal-first k = all-first (λ p. cmp k p.0 ≢ Equal)
 
-  pub no_equal-rest : (k : K) (xs ys : List (K × D)) → NoEqual k (xs ++ ys) → NoEqual k ys
+  pub no_equal-rest : (k : K) (xs ys : List (K × D)) → NoEqual cmp k (xs ++ ys) → NoEqual cmp k ys
   no_equal-rest k = all-rest (λ p. cmp k p.0 ≢ Equal)
 
   -- parts of a map are maps
@@ -99,16 +96,16 @@ module _ {K D : Type 0} (cmp : K → K → Ordering) where
   map-before [] p ys a = tt
   map-before (x ∷ xs) p ys a = ((all-rest (λ q. Below cmp x.0 q.0) xs (p ∷ ys) a.0).0, map-before xs p ys a.1)
 
-  pub no_equal-above : (k : K) (ps : List (K × D)) → AllAbove k ps → NoEqual k ps
+  pub no_equal-above : (k : K) (ps : List (K × D)) → AllAbove k ps → NoEqual cmp k ps
   no_equal-above k [] a = tt
   no_equal-above k (p ∷ ps) a = (below≢ cmp k p.0 a.0, no_equal-above k ps a.1)
 
   -- keys of lower levels are not equal to one of this level
-  pub no_equal-under : (lev : K → ℕ) (respects : (a b : K) → cmp a b ≡ Equal → lev a ≡ lev b) (k : K) (n : ℕ) → lev k ≡ n → (ps : List (K × D)) → Under lev n ps → NoEqual k ps
+  pub no_equal-under : (lev : K → ℕ) (respects : (a b : K) → cmp a b ≡ Equal → lev a ≡ lev b) (k : K) (n : ℕ) → lev k ≡ n → (ps : List (K × D)) → Under lev n ps → NoEqual cmp k ps
   no_equal-under lev respects k n e [] u = tt
   no_equal-under lev respects k n e (p ∷ ps) u = (λ q. let r = respects k p.0 q in absurd (omega (arith, u.0)), no_equal-under lev respects k n e ps u.1)
 
-  pub has_key-none : (k : K) (ps : List (K × D)) → NoEqual k ps → has_key cmp ps k ≡ false
+  pub has_key-none : (k : K) (ps : List (K × D)) → NoEqual cmp k ps → has_key cmp ps k ≡ false
   has_key-none k [] a = refl
   has_key-none k (p ∷ ps) a = by_equal (cmp k p.0) (has_key cmp ps k) a.0 (has_key-none k ps a.1)
 
@@ -137,7 +134,7 @@ module _ {K D : Type 0} (cmp : K → K → Ordering) where
       by Greater e = ap (λ zs. x ∷ zs) e
 
   module _ (o : IsTotalOrder cmp) where
-    pub no_equal-below : (k : K) (ps : List (K × D)) → AllBelow k ps → NoEqual k ps
+    pub no_equal-below : (k : K) (ps : List (K × D)) → AllBelow k ps → NoEqual cmp k ps
     no_equal-below k [] a = tt
     no_equal-below k (p ∷ ps) a = (above≢ cmp o k p.0 a.0, no_equal-below k ps a.1)
 
@@ -157,3 +154,23 @@ module _ {K D : Type 0} (cmp : K → K → Ordering) where
     pub above-more : (k x : K) (ps : List (K × D)) → Upto cmp k x → AllAbove x ps → AllAbove k ps
     above-more k x [] e a = tt
     above-more k x (p ∷ ps) e a = (up_low cmp o k x p.0 e a.0, above-more k x ps e a.1)
+
+    -- no key before a node is equal to one that doesn't compare lower with it, and none after it to one that doesn't compare higher
+    pub none-before : (k : K) (xs : List (K × D)) (x : K) (e : D) (ys : List (K × D)) → IsMap cmp (xs ++ (x, e) ∷ ys) → cmp k x ≢ Less → NoEqual cmp k xs
+    none-before k xs x e ys a nl = by (cmp k x) refl nl
+      where
+        by : (q : Ordering) → cmp k x ≡ q → q ≢ Less → NoEqual cmp k xs
+        by Less q n = absurd (n refl)
+        by Equal q n = no_equal-below k xs (below-more k x xs (same_down cmp o k x q) (map-before xs (x, e) ys a))
+        by Greater q n = no_equal-below k xs (below-more k x xs (greater-upto cmp o k x q) (map-before xs (x, e) ys a))
+
+    pub none-after : (k : K) (xs : List (K × D)) (x : K) (e : D) (ys : List (K × D)) → IsMap cmp (xs ++ (x, e) ∷ ys) → cmp k x ≢ Greater → NoEqual cmp k ys
+    none-after k xs x e ys a ng = by (cmp k x) refl ng
+      where
+        rest : IsMap cmp ((x, e) ∷ ys)
+        rest = map-rest xs ((x, e) ∷ ys) a
+
+        by : (q : Ordering) → cmp k x ≡ q → q ≢ Greater → NoEqual cmp k ys
+        by Less q n = no_equal-above k ys (above-more k x ys (less-upto cmp k x q) rest.0)
+        by Equal q n = no_equal-above k ys (above-more k x ys (same_up cmp o k x q) rest.0)
+        by Greater q n = absurd (n refl)

@@ -18,7 +18,8 @@ use Rattle.merkle_search_tree.proofs.Sound.{alike}
 use Rattle.merkle_search_tree.proofs.Drops.{set-dropped_root, set-finds_root}
 use Rattle.merkle_search_tree.specs.declared.builder.PageFormat.{PageFormat}
 
-none_of_hashed : {K : Type 0} (format : PageFormat) (b : K → List ℕ) (t : Tree K (List ℕ)) (o : Option (List ℕ)) → RootHashHolds o (cache t) → CachesHold format b t → o ≢ None → missing t ≡ 0
+-- a tree with a cached root hash lacks no digest
+pub none_of_hashed : {K : Type 0} (format : PageFormat) (b : K → List ℕ) (t : Tree K (List ℕ)) (o : Option (List ℕ)) → RootHashHolds o (cache t) → CachesHold format b t → o ≢ None → missing t ≡ 0
 none_of_hashed format b t None r p ne = absurd (ne refl)
 none_of_hashed format b t (Some d) r p ne = none_missing format b t d r p
 

@@ -21,7 +21,6 @@ pub mod Sound
 pub mod Search
 pub mod Upsert
 pub mod Chain
-pub mod Del
 pub mod Remove
 pub mod Updates
 pub mod Listing

@@ -1,8 +1,7 @@
 -- What a list of updates leads to, each of which was accepted or not.
 use Rattle.std.specs.Prelude.{ℕ, Bool, true, false, List, [], ◌∷◌, if◌then◌else◌}
 use Rattle.std.specs.declared.cmp.Ordering.{Ordering}
-use Rattle.key_order.specs.Map.{set, has_key}
-use Rattle.merkle_search_tree.specs.Del.{del}
+use Rattle.key_order.specs.Map.{set, has_key, del}
 use Rattle.merkle_search_tree.specs.declared.updates.Update.{Update}
 use Rattle.merkle_search_tree.specs.declared.updates.Update.TheVariants.{Upsert, Remove, RootHash}
 

@@ -311,24 +311,35 @@ impl<
 
 impl<K: Ord + KeyBytes + Drop, V, H: Hasher<N, K>, const N: usize> MerkleSearchTree<K, V, H, N> {
     ghost use Rattle.std.specs.Prelude.{false};
-    ghost use Rattle.merkle_search_tree.specs.Del.{del, entry};
+    ghost use Rattle.key_order.specs.Map.{del, entry};
     ghost use Rattle.merkle_search_tree.specs.Remove.{HasFreeGap};
 
-    /// Takes `key` out, and hands out the stored key and its value digest; where no equal key is there, it answers `Ok(None)` and
+    /// Takes `key` out, and hands out the stored key and its value digest. Where no equal key is there, it answers `Ok(None)` and
     /// changes nothing.
     ///
-    /// What stood on both sides of the key is joined, so that the pages are again the tree of the map. It drops the cached root hash,
-    /// and no digests but those of the pages above the key and along the joint. It is refused only for want of memory: the pages, all
-    /// cached digests and the cached root hash are as before. No memory is taken where no equal key is there, or where the gap before
-    /// it or the gap after it is empty.
+    /// The two gaps beside the key become one, whose pages are joined, and a page left without nodes gives way to that joined page; so
+    /// the pages are again the tree of the map. Where the key was there, the cached root hash is dropped, and so are the cached
+    /// digests of the pages above the key and of those that are joined, at most one for each level up to the root's, but no others.
+    ///
+    /// It never asks for a key's level. On each page of the key's path it compares `key` with at most as many keys as the number of
+    /// the page's nodes has binary digits, and it compares no other keys. It moves the nodes behind the key's, and of each two pages
+    /// of one level that are joined the nodes of the upper one; no page is copied. The depth of its recursion is the number of pages
+    /// above the key and along the joint.
+    ///
+    /// It is refused only for want of memory; the pages, all cached digests and the cached root hash are then as before. Memory is
+    /// taken for no more than the nodes that come to a page of their own level, and none where no equal key is there, or where the gap
+    /// before the key or the gap after it is empty.
     pub fn remove(&mut self, key: &K) -> Result<Option<(K, ValueDigest<N>)>, AllocError>
         // The map no longer has the key, and what it had there is handed out.
         ensures map { OnOk result (map_of self.new ≡ del K.cmp (map_of self.old) key.now) }
         ensures found { IfOk result (λ found. found ≡ entry K.cmp (map_of self.old) key.now) }
 
-        // Nothing changes where it had no such key; else the root hash is forgotten, and of a hashed tree few digests are dropped.
+        // Nothing changes where it had no such key; else the root hash is forgotten.
         ensures absent { IfOk result (λ found. found ≡ None → self.new ≡ self.old) }
         ensures forgotten { IfOk result (λ found. found ≢ None → self.new.root_hash ≡ None) }
+
+        // Few digests are dropped, and few are missing in a tree that was hashed.
+        ensures dropped { OnOk result (missing self.new.root ≤ missing self.old.root + (level self.old.root + 1)) }
         ensures few { OnOk result (self.old.root_hash ≢ None → missing self.new.root ≤ level self.old.root + 1) }
 
         ensures hasher { self.new.hasher ≡ self.old.hasher }

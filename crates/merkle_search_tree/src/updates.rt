@@ -21,7 +21,7 @@ use std::alloc::{AllocError, Global};
 pub enum Update<K, V> {
     /// Sets the key to the digest of the value.
     Upsert(K, V),
-    /// Takes the key out.
+    /// Takes the key out, where it is there.
     Remove(K),
     /// Fills in the digests that pages lack.
     RootHash,
@@ -56,9 +56,9 @@ where
 /// An upsert or a removal is refused only for want of memory; its key and value are given up then, and it changes nothing. Where the
 /// room for the answers is refused, no update is carried out.
 ///
-/// Whatever the updates, the pages of the tree are the one tree of the map of the accepted updates, apart from cached digests. So are its
-/// page ranges; and where no accepted upsert, and no removal of a key that was there, comes after the last `RootHash`, the tree is hashed, and its root hash is the digest of
-/// that one tree.
+/// Whatever the updates, the pages of the tree are the one tree of the map of the accepted updates, apart from cached digests. So are
+/// its page ranges; and where after the last `RootHash` no upsert is accepted, and no removal of a key that is there, the tree is
+/// hashed, and its root hash is the digest of that one tree.
 pub fn replay<K, V, H, const N: usize>(
     alloc: Global,
     builder: Builder<H>,

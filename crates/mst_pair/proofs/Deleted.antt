@@ -1,8 +1,7 @@
 -- A row of the program that is taken out.
 use Rattle.std.specs.Prelude.{Result, Ok, Err, IfOk, OnOk, string_bytes}
 use Rattle.std.proofs.Common.{◌≡◌, ℕ, Bool, List}
-use Rattle.key_order.specs.Map.{has_key}
-use Rattle.merkle_search_tree.specs.Del.{del}
+use Rattle.key_order.specs.Map.{has_key, del}
 use Rattle.mst_pair.specs.State.{Text, Row, text_order, DeletesRow}
 
 -- a row of texts and numbers, taken out or not

@@ -4,8 +4,7 @@ use Rattle.std.specs.declared.string.String.{String}
 use Rattle.std.specs.declared.alloc.Global.{Global}
 use Rattle.std.specs.declared.cmp.Ordering.{Ordering}
 use Rattle.key_order.specs.Join.{IsJoin}
-use Rattle.key_order.specs.Map.{has_key}
-use Rattle.merkle_search_tree.specs.Del.{del}
+use Rattle.key_order.specs.Map.{has_key, del}
 use Rattle.merkle_search_tree.specs.declared.builder.PageFormat.{PageFormat}
 use Rattle.merkle_search_tree.specs.declared.builder.PageFormat.TheVariants.{V1}
 use Rattle.mst_pair.specs.declared.pair.ReplicaName.{ReplicaName}

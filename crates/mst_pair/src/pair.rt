@@ -96,7 +96,8 @@ impl Pair {
         }
     }
 
-    /// Takes the row of a key out of a replica, and answers whether there was one. Where memory is refused, nothing changes.
+    /// Takes the row of a key out of a replica, and answers whether there was one; a pull may bring it back. Where memory is refused,
+    /// nothing changes.
     pub fn del(&mut self, name: ReplicaName, key: &str) -> Result<bool, AllocError>
         ensures ok { IfOk result (λ found. DeletesRow (rows self.old name) (rows self.new name) key.now found) }
         ensures other { other_rows self.new name ≡ other_rows self.old name }

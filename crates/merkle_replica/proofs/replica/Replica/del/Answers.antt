@@ -1,8 +1,6 @@
 use Rattle.std.proofs.Common.{◌≡◌, true, false, sym, ◌∙◌, subst}
-use Rattle.key_order.specs.Map.{has_key}
-use Rattle.merkle_search_tree.specs.Del.{del}
-use Rattle.merkle_search_tree.proofs.Removes.{entry-absent}
-use Rattle.merkle_search_tree.proofs.Removals.{del-absent}
+use Rattle.key_order.specs.Map.{has_key, del}
+use Rattle.key_order.proofs.Dels.{entry-absent, del-absent}
 use Rattle.merkle_replica.specs.Contents.{Contents}
 use Rattle.merkle_replica.specs.Places.{IsPlaceOf, IsGapFor}
 use Rattle.merkle_replica.proofs.Removed.{removed_there, has_there, has_new, kept_del}

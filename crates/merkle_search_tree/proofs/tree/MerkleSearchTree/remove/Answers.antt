@@ -1,15 +1,15 @@
-use Rattle.std.proofs.Common.{◌≡◌, ◌≢◌, ℕ, ◌+◌, ◌≤◌, List, None, true, false, ap, sym, subst, ◌∙◌}
+use Rattle.std.proofs.Common.{◌≡◌, ◌≢◌, ℕ, ◌+◌, ◌≤◌, List, None, true, false, ap, sym, subst, ◌∙◌, arith}
 use Rattle.std.specs.Int.NonZero.{non_zero_u8_get}
-use Rattle.key_order.specs.Map.{has_key}
+use Rattle.key_order.specs.Map.{has_key, del, entry}
+use Rattle.key_order.proofs.Dels.{del-absent}
 use Rattle.merkle_search_tree.specs.Tree.{Tree}
 use Rattle.merkle_search_tree.specs.State.{State, map_of}
 use Rattle.merkle_search_tree.specs.Page.{pairs, level}
 use Rattle.merkle_search_tree.specs.Cache.{missing}
 use Rattle.merkle_search_tree.specs.Sound.{IsSound}
-use Rattle.merkle_search_tree.specs.Del.{del, entry}
 use Rattle.merkle_search_tree.specs.Remove.{root_del}
 use Rattle.merkle_search_tree.proofs.Seams.{at_some, at_none}
-use Rattle.merkle_search_tree.proofs.Removals.{del-absent, remove-pairs, remove-entry, remove-sound, remove-few, stay-few, remove-free}
+use Rattle.merkle_search_tree.proofs.Removals.{remove-pairs, remove-entry, remove-sound, remove-few, hashed-lacks, remove-free}
 use Rattle.merkle_search_tree.proofs.tree.MerkleSearchTree.remove.Goals as goal
 
 pub returns-in_err-remove_from_root-clause-succeeds_absent : goal.returns-in_err-remove_from_root-clause-succeeds_absent
@@ -40,6 +40,13 @@ returns-in-None-clause-found g c =
     let view : State g.row.K.Denot g.row.H.Denot = record { hasher = s.hasher; base = non_zero_u8_get s.level_base; format = s.page_format; root = s.root; root_hash = s.root_hash } in
     sym c.in-None.is ∙ c.in_ok-remove_from_root.ensures.found ∙ remove-entry g.K.Ord.cmp g.met.K.Ord.total g.H.Hasher.digest_of g.K.KeyBytes.bytes_of view c.self.invariant k ∙ ap (λ (v : State g.row.K.Denot g.row.H.Denot). entry cmp (map_of v) k) c.self.view_is
 
+pub returns-in-None-clause-dropped : goal.returns-in-None-clause-dropped
+returns-in-None-clause-dropped g c =
+    let s = c.self.inside in
+    let same : c.remove_from_root.new.self ≡ s.root = at_none _ _ _ c.in-None.is c.in_ok-remove_from_root.ensures.done in
+    subst (λ (v : State g.row.K.Denot g.row.H.Denot). missing c.remove_from_root.new.self ≤ missing v.root + (level v.root + 1)) c.self.view_is
+    (subst (λ (t : Tree g.row.K.Denot (List ℕ)). missing t ≤ missing s.root + (level s.root + 1)) (sym same) (omega arith))
+
 pub returns-in-None-clause-few : goal.returns-in-None-clause-few
 returns-in-None-clause-few g c =
     let s = c.self.inside in
@@ -48,7 +55,7 @@ returns-in-None-clause-few g c =
     let view : State g.row.K.Denot g.row.H.Denot = record { hasher = s.hasher; base = non_zero_u8_get s.level_base; format = s.page_format; root = s.root; root_hash = s.root_hash } in
     let same : c.remove_from_root.new.self ≡ s.root = at_none _ _ _ c.in-None.is c.in_ok-remove_from_root.ensures.done in
     subst (λ (v : State g.row.K.Denot g.row.H.Denot). v.root_hash ≢ None → missing c.remove_from_root.new.self ≤ level v.root + 1) c.self.view_is
-    (λ ne. subst (λ (t : Tree g.row.K.Denot (List ℕ)). missing t ≤ level s.root + 1) (sym same) (stay-few g.K.Ord.cmp g.met.K.Ord.total g.H.Hasher.digest_of g.K.KeyBytes.bytes_of view c.self.invariant k ne))
+    (λ ne. subst (λ (t : Tree g.row.K.Denot (List ℕ)). missing t ≤ level s.root + 1) (sym same) (omega (arith, hashed-lacks g.K.Ord.cmp g.met.K.Ord.total g.H.Hasher.digest_of g.K.KeyBytes.bytes_of view c.self.invariant k ne)))
 
 pub invariant_of-self-2 : goal.invariant_of-self-2
 invariant_of-self-2 g c =
@@ -76,6 +83,16 @@ returns-clause-found g c =
     let view : State g.row.K.Denot g.row.H.Denot = record { hasher = s.hasher; base = non_zero_u8_get s.level_base; format = s.page_format; root = s.root; root_hash = s.root_hash } in
     sym c.in-Some.is ∙ c.in_ok-remove_from_root.ensures.found ∙ remove-entry g.K.Ord.cmp g.met.K.Ord.total g.H.Hasher.digest_of g.K.KeyBytes.bytes_of view c.self.invariant k ∙ ap (λ (v : State g.row.K.Denot g.row.H.Denot). entry cmp (map_of v) k) c.self.view_is
 
+pub returns-clause-dropped : goal.returns-clause-dropped
+returns-clause-dropped g c =
+    let s = c.self.inside in
+    let cmp = g.K.Ord.cmp in
+    let k = c.args.key.now in
+    let view : State g.row.K.Denot g.row.H.Denot = record { hasher = s.hasher; base = non_zero_u8_get s.level_base; format = s.page_format; root = s.root; root_hash = s.root_hash } in
+    let done : c.remove_from_root.new.self ≡ root_del cmp k s.root = at_some _ _ _ c.in-Some.entry c.in-Some.is c.in_ok-remove_from_root.ensures.done in
+    subst (λ (v : State g.row.K.Denot g.row.H.Denot). missing c.remove_from_root.new.self ≤ missing v.root + (level v.root + 1)) c.self.view_is
+    (subst (λ (t : Tree g.row.K.Denot (List ℕ)). missing t ≤ missing s.root + (level s.root + 1)) (sym done) (remove-few g.K.Ord.cmp g.met.K.Ord.total g.H.Hasher.digest_of g.K.KeyBytes.bytes_of view c.self.invariant k))
+
 pub returns-clause-few : goal.returns-clause-few
 returns-clause-few g c =
     let s = c.self.inside in
@@ -84,7 +101,7 @@ returns-clause-few g c =
     let view : State g.row.K.Denot g.row.H.Denot = record { hasher = s.hasher; base = non_zero_u8_get s.level_base; format = s.page_format; root = s.root; root_hash = s.root_hash } in
     let done : c.remove_from_root.new.self ≡ root_del cmp k s.root = at_some _ _ _ c.in-Some.entry c.in-Some.is c.in_ok-remove_from_root.ensures.done in
     subst (λ (v : State g.row.K.Denot g.row.H.Denot). v.root_hash ≢ None → missing c.remove_from_root.new.self ≤ level v.root + 1) c.self.view_is
-    (λ ne. subst (λ (t : Tree g.row.K.Denot (List ℕ)). missing t ≤ level s.root + 1) (sym done) (remove-few g.K.Ord.cmp g.met.K.Ord.total g.H.Hasher.digest_of g.K.KeyBytes.bytes_of view c.self.invariant k ne))
+    (λ ne. subst (λ (t : Tree g.row.K.Denot (List ℕ)). missing t ≤ level s.root + 1) (sym done) (omega (arith, remove-few g.K.Ord.cmp g.met.K.Ord.total g.H.Hasher.digest_of g.K.KeyBytes.bytes_of view c.self.invariant k, hashed-lacks g.K.Ord.cmp g.met.K.Ord.total g.H.Hasher.digest_of g.K.KeyBytes.bytes_of view c.self.invariant k ne)))
 
 pub remove_from_root-requires : goal.remove_from_root-requires
 remove_from_root-requires g c = record { ascending = c.self.invariant.ascending }
