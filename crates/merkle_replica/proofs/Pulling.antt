@@ -7,9 +7,10 @@ use Rattle.key_order.specs.Map.{IsMap, get, last_key, rows_in}
 use Rattle.merkle_search_tree.specs.Page.{pairs}
 use Rattle.merkle_search_tree.specs.Ranges.{IsPageOf}
 use Rattle.merkle_search_tree.specs.Stream.{page_digest}
+use Rattle.merkle_search_tree.specs.declared.builder.PageFormat.{PageFormat}
 use Rattle.merkle_search_tree.proofs.Listing.{lists}
 use Rattle.merkle_replica.specs.Contents.{Contents, SameSetup, digests}
-use Rattle.merkle_replica.specs.Pulls.{IsAnswerFor, IsPull, IsPartOfPull}
+use Rattle.merkle_replica.specs.Pulls.{IsAnswerFor, IsPull, IsPartOfPull, HasRanges}
 use Rattle.merkle_search_tree.specs.Faithful.{HasFaithfulPages}
 use Rattle.merkle_replica.specs.Faithful.{SpanHolds}
 use Rattle.merkle_replica.specs.Answers.{spans_of, IsDone, IsCut}
@@ -44,23 +45,24 @@ module _ {K V H : Type 0} (cmp : K → K → Ordering) (eq : V → V → Bool) (
       record { answered = a; counted = e.counted; some = n; not_all = e.not_all; joins = e.joins }
 
   -- coverage
-  pub covers_pull : IsTotalOrder cmp → (local peer : Contents K V H) (found : List (Span K)) → IsMap cmp local.rows → IsMap cmp peer.rows → IsAnswerFor cmp eq join (Of cmp eq join kd vd bo local) (Of cmp eq join kd vd bo peer) local.rows peer.rows found
-      → HasFaithfulPages cmp (IsPageOf cmp (kd local.tree.hasher) local.tree.base) (IsPageOf cmp (kd peer.tree.hasher) peer.tree.base) (page_digest local.tree.format bo) (page_digest peer.tree.format bo) pairs (digests (vd local.tree.hasher) local.rows) (digests (vd peer.tree.hasher) peer.rows)
-      → SpanHolds cmp peer.rows local.rows → (k : K) (d : List ℕ) → get cmp (digests (vd peer.tree.hasher) peer.rows) k ≡ Some d → ¬ (get cmp (digests (vd local.tree.hasher) local.rows) k ≡ Some d) → IsCovered cmp k found
-  covers_pull o local peer found al ap a faith holds k d there lacks =
-      let dl = digests (vd local.tree.hasher) local.rows in
-      let dp = digests (vd peer.tree.hasher) peer.rows in
-      let ml = ascending_digests cmp o (vd local.tree.hasher) local.rows al in
-      let mp = ascending_digests cmp o (vd peer.tree.hasher) peer.rows ap in
-      covers cmp o (IsPageOf cmp (kd local.tree.hasher) local.tree.base) (IsPageOf cmp (kd peer.tree.hasher) peer.tree.base) (page_digest local.tree.format bo) (page_digest peer.tree.format bo) pairs dl dp a.local_list a.peer_list found ml mp
-      (lists cmp o (kd local.tree.hasher) local.tree.base local.tree.format bo dl a.local_list ml a.of_local) (lists cmp o (kd peer.tree.hasher) peer.tree.base peer.tree.format bo dp a.peer_list mp a.of_peer)
-      (span_digests peer.rows local.rows holds) faith a.interval_laws k d there lacks
+  pub covers_rows : IsTotalOrder cmp → (hl hp : H) (bl bp : ℕ) (fl fp : PageFormat) (local peer : List (K × V)) (found : List (Span K)) → IsMap cmp local → IsMap cmp peer
+      → IsAnswerFor cmp eq join (HasRanges cmp kd vd bo hl bl fl) (HasRanges cmp kd vd bo hp bp fp) local peer found
+      → HasFaithfulPages cmp (IsPageOf cmp (kd hl) bl) (IsPageOf cmp (kd hp) bp) (page_digest fl bo) (page_digest fp bo) pairs (digests (vd hl) local) (digests (vd hp) peer)
+      → SpanHolds cmp peer local → (k : K) (d : List ℕ) → get cmp (digests (vd hp) peer) k ≡ Some d → ¬ (get cmp (digests (vd hl) local) k ≡ Some d) → IsCovered cmp k found
+  covers_rows o hl hp bl bp fl fp local peer found al ap a faith holds k d there lacks =
+      let dl = digests (vd hl) local in
+      let dp = digests (vd hp) peer in
+      let ml = ascending_digests cmp o (vd hl) local al in
+      let mp = ascending_digests cmp o (vd hp) peer ap in
+      covers cmp o (IsPageOf cmp (kd hl) bl) (IsPageOf cmp (kd hp) bp) (page_digest fl bo) (page_digest fp bo) pairs dl dp a.local_list a.peer_list found ml mp
+      (lists cmp o (kd hl) bl fl bo dl a.local_list ml a.of_local) (lists cmp o (kd hp) bp fp bo dp a.peer_list mp a.of_peer)
+      (span_digests peer local holds) faith a.interval_laws k d there lacks
     where
       last_digests : {X Y : Type 0} (f : X → Y) (k : K) (rs : List (K × X)) → last_key k (digests f rs) ≡ last_key k rs
       last_digests f k [] = refl
       last_digests f k (r ∷ rs) = last_digests f r.0 rs
 
-      span_digests : (b a : List (K × V)) → SpanHolds cmp b a → SpanHolds cmp (digests (vd peer.tree.hasher) b) (digests (vd local.tree.hasher) a)
+      span_digests : (b a : List (K × V)) → SpanHolds cmp b a → SpanHolds cmp (digests (vd hp) b) (digests (vd hl) a)
       span_digests b [] h = tt
       span_digests [] (r ∷ rs) h = h
-      span_digests (s ∷ ss) (r ∷ rs) h = rw (last_digests (vd local.tree.hasher) r.0 rs, last_digests (vd peer.tree.hasher) s.0 ss) h
+      span_digests (s ∷ ss) (r ∷ rs) h = rw (last_digests (vd hl) r.0 rs, last_digests (vd hp) s.0 ss) h

@@ -6,6 +6,7 @@
 #![tactic(auto)]
 
 mod join;
+pub mod laws;
 mod pull;
 mod replica;
 mod sweep;

@@ -1,6 +1,6 @@
 use Rattle.std.proofs.Common.{arith}
 use Rattle.merkle_replica.specs.Answers.{spans_of}
-use Rattle.merkle_replica.proofs.Pulling.{covers_pull, pull_from, part_from}
+use Rattle.merkle_replica.proofs.Pulling.{covers_rows, pull_from, part_from}
 use Rattle.merkle_replica.proofs.replica.Replica.pull.Goals as goal
 
 pub returns-in-Ok-join_within-clause-done : goal.returns-in-Ok-join_within-clause-done
@@ -10,7 +10,10 @@ returns-in-Ok-join_within-clause-done g c =
 
 pub returns-in-Ok-join_within-clause-covers : goal.returns-in-Ok-join_within-clause-covers
 returns-in-Ok-join_within-clause-covers g c =
-    covers_pull g.K.Ord.cmp g.V.PartialEq.eq g.V.Join.join_of g.H.Hasher-1.digest_of g.H.Hasher-2.digest_of g.K.KeyBytes.bytes_of g.met.K.Ord.total c.args.self.now c.args.peer.now (spans_of c.in-Ok.ranges.items) c.rows_ascend.ensures c.rows_ascend-2.ensures c.in-Ok.ensures.answer
+    let local = c.args.self.now in
+    let peer = c.args.peer.now in
+    covers_rows g.K.Ord.cmp g.V.PartialEq.eq g.V.Join.join_of g.H.Hasher-1.digest_of g.H.Hasher-2.digest_of g.K.KeyBytes.bytes_of g.met.K.Ord.total local.tree.hasher peer.tree.hasher local.tree.base peer.tree.base local.tree.format peer.tree.format local.rows peer.rows
+    (spans_of c.in-Ok.ranges.items) c.rows_ascend.ensures c.rows_ascend-2.ensures c.in-Ok.ensures.answer
 
 pub returns-else-cut-eq0-clause-refused : goal.returns-else-cut-eq0-clause-refused
 returns-else-cut-eq0-clause-refused g c =
