@@ -1,6 +1,8 @@
 pub mod Rows
 pub mod Parts
-pub mod Chain
+pub mod Hung
+pub mod Cuts
+pub mod Apart
 pub mod Gaps
 pub mod Unique
 pub mod TreeOf

@@ -16,33 +16,6 @@ use Rattle.merkle_search_tree.specs.Page.{row_pairs, held_pairs}
 use Rattle.merkle_search_tree.specs.CachedRanges.{first_of, last_of, range_from, range_of, row_cached, held_cached}
 
 module _ {K D : Type 0} where
-  first-append : (ps : List (K × D)) (q : K × D) (qs : List (K × D)) (k : K) → first_of ps ≡ Some k → first_of (ps ++ q ∷ qs) ≡ Some k
-  first-append [] q qs k e = absurd (cc)
-  first-append (p ∷ ps) q qs k e = e
-
-  first-skip : (ps : List (K × D)) (q : K × D) (qs : List (K × D)) → first_of ps ≡ None → first_of (ps ++ q ∷ qs) ≡ Some q.0
-  first-skip [] q qs e = refl
-  first-skip (p ∷ ps) q qs e = absurd (cc)
-
-  pub first-high : (es : List (Node K D)) (h : Held K D) → slice_get es 0 ≡ None → first_of (row_pairs (row es h)) ≡ first_of (held_pairs h)
-  first-high [] h e = refl
-  first-high (x ∷ es) h e = absurd (cc)
-
-  pub first-below : (es : List (Node K D)) (h : Held K D) (x : Node K D) (k : K) → slice_get es 0 ≡ Some x → first_of (held_pairs x.lt) ≡ Some k → first_of (row_pairs (row es h)) ≡ Some k
-  first-below [] h x k e f = absurd (cc)
-  first-below (y ∷ es) h x k e f = first-append (held_pairs y.lt) (y.key, y.digest) (row_pairs (row es h)) k (ap (λ (n : Node K D). first_of (held_pairs n.lt)) (some y x e) ∙ f)
-    where
-      some : (a b : Node K D) → Some a ≡ Some b → a ≡ b
-      some a b e = cc
-
-  pub first-own : (es : List (Node K D)) (h : Held K D) (x : Node K D) → slice_get es 0 ≡ Some x → first_of (held_pairs x.lt) ≡ None → first_of (row_pairs (row es h)) ≡ Some x.key
-  first-own [] h x e f = absurd (cc)
-  first-own (y ∷ es) h x e f =
-      first-skip (held_pairs y.lt) (y.key, y.digest) (row_pairs (row es h)) (ap (λ (n : Node K D). first_of (held_pairs n.lt)) (some y x e) ∙ f) ∙ ap (λ (n : Node K D). Some n.key) (some y x e)
-    where
-      some : (a b : Node K D) → Some a ≡ Some b → a ≡ b
-      some a b e = cc
-
   last-append : (c : K) (ps : List (K × D)) (q : K × D) (qs : List (K × D)) → last_key c (ps ++ q ∷ qs) ≡ last_key q.0 qs
   last-append c [] q qs = refl
   last-append c (p ∷ ps) q qs = last-append p.0 ps q qs
@@ -78,15 +51,6 @@ module _ {K D : Type 0} where
       some a b e = cc
   last-own (y ∷ z ∷ es) h x e f =
       last-pair (held_pairs y.lt) (y.key, y.digest) (row_pairs (row (z ∷ es) h)) ∙ last-key y.key (row_pairs (row (z ∷ es) h)) x.key (last-own (z ∷ es) h x (behind y z es (Some x) e) f)
-
-  pub last-nothing : (es : List (Node K D)) (h : Held K D) → slice_get es (length es - 1) ≡ None → last_of (held_pairs h) ≡ None → last_of (row_pairs (row es h)) ≡ None
-  last-nothing [] h e f = f
-  last-nothing (y ∷ []) h e f = absurd (cc)
-  last-nothing (y ∷ z ∷ es) h e f = absurd (there (held_pairs z.lt) (z.key, z.digest) (row_pairs (row es h)) (last-nothing (z ∷ es) h (behind y z es None e) f))
-    where
-      there : (ps : List (K × D)) (q : K × D) (qs : List (K × D)) → last_of (ps ++ q ∷ qs) ≡ None → ⊥
-      there [] q qs e = cc
-      there (p ∷ ps) q qs e = cc
 
 module _ {K D : Type 0} (cmp : K → K → Ordering) where
   -- the ranges of the pages below a node

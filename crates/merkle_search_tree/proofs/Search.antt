@@ -75,9 +75,6 @@ module _ {K D : Type 0} (cmp : K → K → Ordering) (k : K) where
       let p = ap (λ b. if b then (suc (place cmp k es)) else 0) (sym (turned cmp o k e.key) ∙ low) in
       omega (arith, p, place-above o es i x a.1 (omega arith) q)
 
-pub is_eq-not : (r : Ordering) → r ≡ Less → is_eq r ≡ false
-is_eq-not r e = ap is_eq e
-
 pub is_there : (r : Ordering) → is_eq r ≡ true → r ≡ Equal
 is_there Less e = cc
 is_there Equal e = refl
@@ -85,11 +82,6 @@ is_there Greater e = cc
 
 pub not_there : (r : Ordering) → is_eq r ≡ false → r ≢ Equal
 not_there r e f = let g = sym e ∙ ap is_eq f in cc
-
-pub is_gt-not : (r : Ordering) → r ≢ Greater → is_gt r ≡ false
-is_gt-not Less n = refl
-is_gt-not Equal n = refl
-is_gt-not Greater n = absurd (n refl)
 
 module _ {K D : Type 0} (cmp : K → K → Ordering) (k : K) where
   -- the place of a node with the key

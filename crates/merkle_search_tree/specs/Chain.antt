@@ -1,13 +1,8 @@
 -- The pages of a path, taken apart at a key and hung together again.
-use Rattle.std.specs.Prelude.{◌≡◌, ℕ, zero, suc, ◌-◌, ◌<◌, ◌≤◌, List, [], ◌∷◌, ⊤, Option, Some, None, if◌then◌else◌}
-use Rattle.std.specs.Vec.{vec_capacity}
+use Rattle.std.specs.Prelude.{ℕ, zero, suc, ◌<◌, List, [], ◌∷◌, ⊤, None}
 use Rattle.std.specs.declared.boxed.Box.{Box}
 use Rattle.std.specs.declared.alloc.Global.{Global}
-use Rattle.std.specs.declared.cmp.Ordering.{Ordering}
-use Rattle.std.specs.Ordering.{is_gt}
 use Rattle.merkle_search_tree.specs.Tree.{Tree, page, Row, high, node, Held, nothing, below}
-use Rattle.merkle_search_tree.specs.declared.spare.Spare.{Spare}
-use Rattle.merkle_search_tree.specs.declared.split.Cut.{Cut}
 
 module _ {K D : Type 0} where
   abbrev pub row_length : Row K D → ℕ
@@ -64,29 +59,3 @@ module _ {K D : Type 0} where
   hung put n [] h = h
   hung put zero (b ∷ bs) h = below (remade 0 b.value (put (hung put zero bs h) (row_of_page b.value)))
   hung put (suc n) (b ∷ bs) h = below (remade 1 b.value (put (hung put n bs h) (row_of_page b.value)))
-
-  -- where nodes stay and nodes go, there is a page with room for those that go
-  abbrev pub HasSpare : ℕ → ℕ → Option (Spare K D) → Type 0
-  HasSpare i n None = ⊥
-  HasSpare i n (Some s) = (s.nodes.items ≡ []) × (n - i ≤ vec_capacity s.nodes)
-
-module _ {K D : Type 0} (cmp : K → K → Ordering) (at : K) where
-  -- what stands in the key's gap of a row
-  abbrev pub gap : Row K D → Held K D
-  gap (high h) = h
-  gap (node h k d r) = if (is_gt (cmp at k)) then (gap r) else h
-
-  -- the place of the gap: how many nodes are below the key
-  abbrev pub row_place : Row K D → ℕ
-  row_place (high h) = 0
-  row_place (node h k d r) = if (is_gt (cmp at k)) then (suc (row_place r)) else 0
-
-  abbrev pub CutFits : Row K D → Cut K D → Type 0
-  CutFits r c = (c.at ≡ row_place r) × (0 < c.at → c.at < row_length r → HasSpare c.at (row_length r) c.spare)
-
-  -- the cuts are those of the key's path, the topmost first
-  abbrev pub CutsFit : Held K D → List (Cut K D) → Type 0
-  CutsFit nothing [] = ⊤
-  CutsFit nothing (c ∷ cs) = ⊥
-  CutsFit (below t) [] = ⊥
-  CutsFit (below (page l d r)) (c ∷ cs) = CutFits r c × CutsFit (gap r) cs

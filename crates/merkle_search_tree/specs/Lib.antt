@@ -21,6 +21,8 @@ pub mod Sound
 pub mod Search
 pub mod Upsert
 pub mod Chain
+pub mod Cut
+pub mod Split
 pub mod Remove
 pub mod Updates
 pub mod Listing

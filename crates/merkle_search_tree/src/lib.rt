@@ -7,7 +7,9 @@
 #![tactic(auto)]
 
 pub mod builder;
+mod chain;
 mod copy;
+mod cut;
 mod equality;
 mod hash;
 pub mod laws;
@@ -17,6 +19,7 @@ mod page_ranges;
 mod remove;
 mod spare;
 mod split;
+mod spot;
 mod tree;
 pub mod updates;
 mod upsert;

@@ -8,7 +8,7 @@ ghost use Rattle.merkle_search_tree.specs.Tree.{high, nothing, row, held_of};
 ghost use Rattle.merkle_search_tree.specs.Remove.{held_join, row_append, row_del, held_del, tree_without, root_del, row_entry, held_entry, tree_entry, IsNothing, BeginsFree, row_without, pair_at, IsFreeAt, HasFreeGap, HeldHasFreeGap};
 
 use crate::page::{NodeOf, PageOf};
-use crate::split::search;
+use crate::spot::search;
 use std::alloc::{AllocError, Global};
 use std::cmp::Ordering;
 use std::mem;

@@ -18,7 +18,7 @@ ghost use Rattle.merkle_search_tree.specs.declared.builder.PageFormat.TheVariant
 use crate::builder::{Builder, PageFormat};
 use crate::node_iter::NodeIter;
 use crate::page::Page;
-use crate::split::search;
+use crate::spot::search;
 use crate::upsert::UpsertRefused;
 use crate::visitor::{Visitor, traverse_page};
 use merkle_diff::PageRange;

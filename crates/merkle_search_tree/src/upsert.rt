@@ -8,7 +8,8 @@ ghost use Rattle.merkle_search_tree.specs.Upsert.{lifted, row_put, row_finds, tr
 
 use crate::page::{NodeOf, PageOf};
 use crate::spare::Spare;
-use crate::split::{search, split_off_lt};
+use crate::split::split_off_lt;
+use crate::spot::search;
 use std::alloc::Global;
 use std::cmp::Ordering;
 use std::marker::Model;

@@ -1,7 +1,7 @@
 use Rattle.std.proofs.Common.{None, ap, sym, ◌∙◌, arith}
 use Rattle.merkle_search_tree.specs.Tree.{Tree, page, row, held_of}
 use Rattle.merkle_search_tree.specs.Chain.{page_length, row_take, row_drop, row_of_page, remade}
-use Rattle.merkle_search_tree.proofs.Chain.{row_length-row, row_take-row, row_drop-row}
+use Rattle.merkle_search_tree.proofs.Hung.{row_length-row, row_take-row, row_drop-row}
 use Rattle.merkle_search_tree.proofs.page.PageOf.part.Goals as goal
 
 pub move_tail-requires-clause-in_bounds : goal.move_tail-requires-clause-in_bounds

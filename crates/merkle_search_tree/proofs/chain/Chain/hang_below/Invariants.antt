@@ -1,7 +1,7 @@
 use Rattle.std.proofs.Common.{◌≡◌, vec_len}
 use Rattle.merkle_search_tree.specs.Tree.{nothing, held_of}
 use Rattle.merkle_search_tree.specs.Chain.{with_high, hung}
-use Rattle.merkle_search_tree.proofs.split.Chain.hang_below.Given as goal
+use Rattle.merkle_search_tree.proofs.chain.Chain.hang_below.Given as goal
 
 abbrev pub invariant-hang : goal.invariant-hang
 invariant-hang g l = (hung with_high l.stale l.pages.items (held_of l.held) ≡ hung with_high l.stale l.initial.pages.items nothing)

@@ -6,7 +6,7 @@ use Rattle.std.specs.Ordering.{is_gt, is_eq}
 use Rattle.merkle_search_tree.specs.Tree.{Node}
 use Rattle.merkle_search_tree.proofs.Search.{place-upto, place-above, place-within, place-equal, halved_more}
 use Rattle.merkle_search_tree.proofs.Gaps.{get_or_same}
-use Rattle.merkle_search_tree.proofs.split.search.Goals as goal
+use Rattle.merkle_search_tree.proofs.spot.search.Goals as goal
 
 pub halves-init : goal.halves-init
 halves-init g c = (omega arith, place-within g.K.Ord.cmp c.args.key.now c.args.nodes.now, omega arith, λ digits h. (omega arith, simp unary_clauses h), λ e r. absurd (omega arith))

@@ -2,9 +2,9 @@ use Rattle.std.proofs.Common.{List, ◌++◌}
 use Rattle.key_order.specs.Map.{IsMap}
 use Rattle.merkle_search_tree.specs.Page.{held_pairs}
 use Rattle.merkle_search_tree.specs.Tree.{held_of, held_size}
-use Rattle.merkle_search_tree.specs.Chain.{CutsFit}
-use Rattle.merkle_search_tree.specs.declared.split.Cut.{Cut}
-use Rattle.merkle_search_tree.proofs.split.cuts_of.Given as goal
+use Rattle.merkle_search_tree.specs.Cut.{CutsFit}
+use Rattle.merkle_search_tree.specs.declared.cut.Cut.{Cut}
+use Rattle.merkle_search_tree.proofs.cut.cuts_of.Given as goal
 
 abbrev pub invariant-path : goal.invariant-path
 invariant-path g l =

@@ -1,7 +1,7 @@
 use Rattle.std.proofs.Common.{◌≡◌, vec_len}
 use Rattle.merkle_search_tree.specs.Tree.{nothing, held_of}
 use Rattle.merkle_search_tree.specs.Chain.{with_first, hung, HaveNodes}
-use Rattle.merkle_search_tree.proofs.split.Chain.hang_rest.Given as goal
+use Rattle.merkle_search_tree.proofs.chain.Chain.hang_rest.Given as goal
 
 abbrev pub invariant-hang : goal.invariant-hang
 invariant-hang g l = (hung with_first l.stale l.pages.items (held_of l.held) ≡ hung with_first l.stale l.initial.pages.items nothing) × HaveNodes l.pages.items

@@ -1,0 +1,56 @@
+//! Where a key goes among the nodes of a page.
+
+ghost use Rattle.std.specs.Ordering.{is_eq};
+ghost use Rattle.std.specs.Prelude.{slice_index_or, ◌≡◌, ℕ, ◌^◌, ◌<◌, ◌≤◌, length};
+ghost use Rattle.merkle_search_tree.specs.Tree.{Node};
+ghost use Rattle.merkle_search_tree.specs.Search.{NodesAscend};
+ghost use Rattle.merkle_search_tree.specs.Upsert.{place};
+
+use crate::page::NodeOf;
+use std::cmp::Ordering;
+
+/// Where a key goes among the nodes of a page.
+#[derive(Clone, Copy)]
+pub(crate) struct Spot {
+    /// The place of the first node whose key is at least the key, or the number of nodes.
+    pub(crate) at: usize,
+    /// Whether that node has the key.
+    pub(crate) is_there: bool,
+    /// How many nodes' keys were compared.
+    pub(crate) compared: usize,
+}
+
+/// Where `key` goes among the nodes, found by halving; the search stops at an equal key. The count is at most the number of binary
+/// digits of the number of nodes.
+pub(crate) fn search<K: Ord, D>(nodes: &[NodeOf<K, D>], key: &K) -> Spot
+    requires ascending { NodesAscend K.cmp nodes.now }
+    ensures found { result.at ≡ place K.cmp key.now nodes.now }
+    ensures within { result.at ≤ length nodes.now }
+    ensures there { (node : Node K D) → result.at < length nodes.now → result.is_there ≡ is_eq (K.cmp key.now (slice_index_or nodes.now result.at node).key) }
+    ensures few { (digits : ℕ) → length nodes.now < 2 ^ digits → result.compared ≤ digits }
+{
+    let mut low = 0;
+    let mut high = nodes.len();
+    let mut compared = 0;
+    'halves: while low < high {
+        let middle = low + (high - low) / 2;
+        compared += 1;
+        let node = &nodes[middle];
+        match key.cmp(&node.key) {
+            Ordering::Greater => low = middle + 1,
+            Ordering::Less => high = middle,
+            Ordering::Equal => {
+                return Spot {
+                    at: middle,
+                    is_there: true,
+                    compared,
+                };
+            }
+        }
+    }
+    Spot {
+        at: low,
+        is_there: false,
+        compared,
+    }
+}
