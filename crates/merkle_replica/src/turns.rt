@@ -65,8 +65,8 @@ pub fn pull_by_turns<
     ensures a_setup { SameSetup a.old a.new }
     ensures b_setup { SameSetup b.old b.new }
 {
-    let _ = a.rows();
-    let _ = b.rows();
+    a.rows_ascend();
+    b.rows_ascend();
     let mut all = match Vec::with_capacity(alloc, n) {
         Ok(all) => all,
         Err(_) => {

@@ -20,7 +20,7 @@ returns-clause-length g c = let t = c.turning.invariant.taken in omega arith
 pub returns-clause-turns : goal.returns-clause-turns
 returns-clause-turns g c =
     let (met, turns, all) = ends_converged g.K.Ord.cmp g.V.PartialEq.eq g.V.Join.join_of g.H.Hasher-1.digest_of g.H.Hasher-2.digest_of g.K.KeyBytes.bytes_of g.met.K.Ord.total g.met.V.Eq.laws g.met.V.Join.joining
-    c.args.a.now c.args.b.now c.turning.all.items c.turning.a_pulls c.turning.a c.turning.b c.rows.ensures.ascending c.rows-2.ensures.ascending c.turning.invariant.goes in
+    c.args.a.now c.args.b.now c.turning.all.items c.turning.a_pulls c.turning.a c.turning.b c.rows_ascend.ensures c.rows_ascend-2.ensures c.turning.invariant.goes in
     (met, turns, λ h b p f n. all h b p f (let t = c.turning.invariant.taken in let k = length-map c.turning.all.items answer_of in omega arith))
 
 pub unreachable-requires : goal.unreachable-requires
