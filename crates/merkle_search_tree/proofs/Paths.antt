@@ -1,5 +1,5 @@
 -- The path of an iteration.
-use Rattle.std.proofs.Common.{◌≡◌, ℕ, suc, ◌+◌, ◌<◌, ◌≤◌, List, [], ◌∷◌, ◌++◌, length, map, get_or, refl, ap, sym, ◌∙◌, append_assoc, append-nil, arith}
+use Rattle.std.proofs.Common.{◌≡◌, ℕ, zero, suc, ◌+◌, ◌<◌, ◌≤◌, List, [], ◌∷◌, ◌++◌, length, map, get_or, refl, ap, sym, ◌∙◌, append_assoc, append-nil, arith}
 use Rattle.merkle_search_tree.specs.Tree.{Tree, page, Row, high, node, Held, nothing, below, Node, row}
 use Rattle.merkle_search_tree.specs.Page.{pair_of, pairs, row_pairs, held_pairs, nodes_in_order, row_in_order, held_in_order, LevelsFall, RowFalls, HeldFalls}
 use Rattle.merkle_search_tree.specs.Canonical.{IsCanonical, IsRow, IsGap, IsCanonicalRoot}
@@ -37,9 +37,10 @@ module _ {K D : Type 0} where
   none-rest [] h e = refl
   none-rest (x ∷ xs) h e = absurd (omega arith)
 
-  pub first-falls : (l : ℕ) (es : List (Node K D)) (h : Held K D) (d : Node K D) → 0 < length es → RowFalls l (row es h) → HeldFalls l (get_or es 0 d).lt
-  first-falls l [] h d r f = absurd (omega arith)
-  first-falls l (e ∷ es) h d r f = f.0
+  pub at-falls : (l : ℕ) (es : List (Node K D)) (h : Held K D) (i : ℕ) (d : Node K D) → i < length es → RowFalls l (row es h) → HeldFalls l (get_or es i d).lt
+  at-falls l [] h i d r f = absurd (omega arith)
+  at-falls l (e ∷ es) h zero d r f = f.0
+  at-falls l (e ∷ es) h (suc i) d r f = at-falls l es h i d (omega arith) f.1
 
   pub high-falls : (l : ℕ) (es : List (Node K D)) (h : Held K D) → RowFalls l (row es h) → HeldFalls l h
   high-falls l [] h f = f

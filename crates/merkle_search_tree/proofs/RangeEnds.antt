@@ -1,5 +1,5 @@
 -- The first and the last key of a page and those below it, read off its list of nodes.
-use Rattle.std.proofs.Common.{◌≡◌, ℕ, suc, ◌-◌, List, [], ◌∷◌, ◌++◌, length, Option, Some, None, refl, ap, sym, ◌∙◌, append_assoc, arith, ◌⊎◌, inl, inr}
+use Rattle.std.proofs.Common.{◌≡◌, ℕ, suc, ◌-◌, List, [], ◌∷◌, ◌++◌, length, Option, Some, None, refl, ap, sym, subst, ◌∙◌, append_assoc, append-nil, arith, ◌⊎◌, inl, inr}
 use Rattle.std.specs.Prelude.{◌≢◌, ◌↔◌, false, true, if◌then◌else◌, slice_get, IsSome, IfSome}
 use Rattle.std.specs.Option.{option_map}
 use Rattle.std.specs.Ordering.{is_gt}
@@ -11,9 +11,9 @@ use Rattle.key_order.specs.Order.{Upto, upto}
 use Rattle.key_order.specs.Map.{last_key}
 use Rattle.key_order.proofs.Bools.{which}
 use Rattle.merkle_diff.specs.Entry.{Entry}
-use Rattle.merkle_search_tree.specs.Tree.{page, Held, Node, row}
-use Rattle.merkle_search_tree.specs.Page.{row_pairs, held_pairs}
-use Rattle.merkle_search_tree.specs.CachedRanges.{first_of, last_of, range_from, range_of, row_cached, held_cached}
+use Rattle.merkle_search_tree.specs.Tree.{Tree, page, Row, high, node, Held, nothing, below, Node, row}
+use Rattle.merkle_search_tree.specs.Page.{level, row_pairs, held_pairs, LevelsFall, RowFalls}
+use Rattle.merkle_search_tree.specs.CachedRanges.{as_list, first_of, last_of, range_from, range_of, cached_ranges, row_cached, held_cached}
 
 module _ {K D : Type 0} where
   last-append : (c : K) (ps : List (K × D)) (q : K × D) (qs : List (K × D)) → last_key c (ps ++ q ∷ qs) ≡ last_key q.0 qs
@@ -62,6 +62,16 @@ module _ {K D : Type 0} (cmp : K → K → Ordering) where
   row_cached-row (e ∷ es) h =
       ap (λ w. node_cached e ++ w) (row_cached-row es h) ∙ sym (append_assoc (node_cached e) (flat_map node_cached es) (held_cached cmp h))
       ∙ ap (λ w. w ++ held_cached cmp h) (sym (flat_map-cons node_cached e es))
+
+  -- below a page of level 0 there is nothing
+  none_cached : (r : Row K D) → RowFalls 0 r → row_cached cmp r ≡ []
+  none_cached (high nothing) f = refl
+  none_cached (high (below t)) f = absurd (omega arith)
+  none_cached (node nothing k d r) f = none_cached r f.1
+  none_cached (node (below t) k d r) f = absurd (omega arith)
+
+  pub only_own : (t : Tree K D) → LevelsFall t → level t ≡ 0 → as_list (range_of cmp t) ≡ cached_ranges cmp t
+  only_own (page l c r) f e = sym (append-nil (as_list (range_of cmp (page l c r)))) ∙ ap (λ w. as_list (range_of cmp (page l c r)) ++ w) (sym (none_cached r (subst (λ n. RowFalls n r) e f)))
 
 module _ {K : Type 0} (cmp : K → K → Ordering) where
   -- the range from a to b, where a is at most b

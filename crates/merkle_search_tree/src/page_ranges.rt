@@ -1,11 +1,11 @@
 //! The ranges of keys that pages hold.
 
-ghost use Rattle.std.specs.Prelude.{◌≡◌, ◌++◌, OnOk};
+ghost use Rattle.std.specs.Prelude.{◌≡◌, ℕ, ◌++◌, OnOk};
 ghost use Rattle.std.specs.Option.{option_map};
 ghost use Rattle.merkle_diff.specs.PageRange.{entry, entries};
 ghost use Rattle.merkle_search_tree.specs.Tree.{held_of};
-ghost use Rattle.merkle_search_tree.specs.Page.{pairs, held_pairs};
-ghost use Rattle.merkle_search_tree.specs.CachedRanges.{first_of, last_of, range_of, cached_ranges, held_cached};
+ghost use Rattle.merkle_search_tree.specs.Page.{pairs, held_pairs, LevelsFall, HeldFalls};
+ghost use Rattle.merkle_search_tree.specs.CachedRanges.{as_list, first_of, last_of, range_of, cached_ranges, held_cached};
 
 use crate::page::PageOf;
 use merkle_diff::PageRange;
@@ -77,16 +77,29 @@ impl<K: Ord, D> PageOf<K, D> {
         PageRange::try_new(first, last, PageDigest::new(*digest.as_bytes()))
     }
 
-    /// Adds the ranges of the page and those below it to a list, that of a page before those of the pages below it.
+    /// Adds the range of the page to a list, where it has one.
+    fn list_own<'a>(&'a self, list: &mut Vec<PageRange<'a, K>>) -> Result<(), AllocError>
+        ensures { OnOk result (entries list.new.items ≡ entries list.old.items ++ as_list (range_of K.cmp self.now)) }
+    {
+        if let Some(range) = self.page_range() {
+            list.push(range)?;
+        }
+        Ok(())
+    }
+
+    /// Adds the ranges of the page and those below it to a list, that of a page before those of the pages below it. Below a page of
+    /// level 0 there is none to look for.
     #[cycle(list)]
     pub(crate) fn list_ranges<'a>(
         &'a self,
         list: &mut Vec<PageRange<'a, K>>,
     ) -> Result<(), AllocError>
+        requires { LevelsFall self.now }
         ensures { OnOk result (entries list.new.items ≡ entries list.old.items ++ cached_ranges K.cmp self.now) }
     {
-        if let Some(range) = self.page_range() {
-            list.push(range)?;
+        self.list_own(list)?;
+        if self.level == 0 {
+            return Ok(());
         }
         'nodes: for node in &self.nodes {
             list_below(&node.lt_pointer, list)?;
@@ -101,6 +114,7 @@ fn list_below<'a, K: Ord, D>(
     held: &'a Option<Box<PageOf<K, D>>>,
     list: &mut Vec<PageRange<'a, K>>,
 ) -> Result<(), AllocError>
+    requires { (above : ℕ) × HeldFalls above (held_of held.now) }
     ensures { OnOk result (entries list.new.items ≡ entries list.old.items ++ held_cached K.cmp (held_of held.now)) }
 {
     match held {

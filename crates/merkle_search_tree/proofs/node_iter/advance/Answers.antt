@@ -4,7 +4,7 @@ use Rattle.merkle_search_tree.specs.Tree.{Node, Held, row, held_of}
 use Rattle.merkle_search_tree.specs.Page.{RowFalls, HeldFalls, held_in_order}
 use Rattle.merkle_search_tree.specs.Path.{rest_of, from_first, VisitFits, PathFits}
 use Rattle.merkle_search_tree.specs.declared.node_iter.Visit.{Visit}
-use Rattle.merkle_search_tree.proofs.Paths.{rest_of-push, fits-more, fits-front, fits-last, first-rest, none-rest, first-falls, high-falls}
+use Rattle.merkle_search_tree.proofs.Paths.{rest_of-push, fits-more, fits-front, fits-last, first-rest, none-rest, at-falls, high-falls}
 use Rattle.merkle_search_tree.proofs.node_iter.advance.Goals as goal
 use Rattle.merkle_search_tree.proofs.node_iter.advance.Goals.{then-is_empty, else-is_empty}
 
@@ -67,7 +67,7 @@ descend-requires-else-is_empty-clause-room g c =
     let ne = eqb-false (length others) 0 (sym c.is_empty.ensures ∙ c.if-is_empty.false) in
     let some : 0 < length others = omega (arith, ne) in
     let is = c.next.view_is ∙ c.index-others-0.is in
-    (v.level, subst (λ (n : Node g.row.K.Denot g.row.D.Denot). HeldFalls v.level n.lt) (sym is) (first-falls v.level others (held_of v.high_page.now) c.index-others-0.result some rows), c.push.ensures.room_left)
+    (v.level, subst (λ (n : Node g.row.K.Denot g.row.D.Denot). HeldFalls v.level n.lt) (sym is) (at-falls v.level others (held_of v.high_page.now) 0 c.index-others-0.result some rows), c.push.ensures.room_left)
 
 pub returns-clause-gives : goal.returns-clause-gives
 returns-clause-gives g c =

@@ -7,8 +7,14 @@ use Rattle.merkle_diff.specs.PageRange.{entries}
 use Rattle.merkle_search_tree.specs.CachedRanges.{cached_ranges}
 use Rattle.merkle_search_tree.specs.Ranges.{ranges_of}
 use Rattle.merkle_search_tree.specs.State.{State, map_of}
+use Rattle.merkle_search_tree.proofs.Paths.{root-falls}
 use Rattle.merkle_search_tree.proofs.Listed.{hashed_listed, no_nodes}
 use Rattle.merkle_search_tree.proofs.tree.MerkleSearchTree.serialise_page_ranges.Goals as goal
+
+pub list_ranges-requires : goal.list_ranges-requires
+list_ranges-requires g c =
+    let s = c.self.inside in
+    root-falls (λ k. level_of (g.H.Hasher.digest_of s.hasher k) (non_zero_u8_get s.level_base)) s.root c.self.invariant.canonical
 
 pub returns-in_err-list_ranges-clause-empty : goal.returns-in_err-list_ranges-clause-empty
 returns-in_err-list_ranges-clause-empty g c = λ e.
