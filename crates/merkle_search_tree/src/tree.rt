@@ -339,7 +339,7 @@ impl<K: Ord + KeyBytes + Drop, V, H: Hasher<N, K>, const N: usize> MerkleSearchT
         ensures forgotten { IfOk result (λ found. found ≢ None → self.new.root_hash ≡ None) }
 
         // Few digests are dropped, and few are missing in a tree that was hashed.
-        ensures dropped { OnOk result (missing self.new.root ≤ missing self.old.root + (level self.old.root + 1)) }
+        ensures few_more { OnOk result (missing self.new.root ≤ missing self.old.root + (level self.old.root + 1)) }
         ensures few { OnOk result (self.old.root_hash ≢ None → missing self.new.root ≤ level self.old.root + 1) }
 
         ensures hasher { self.new.hasher ≡ self.old.hasher }

@@ -40,8 +40,8 @@ returns-in-None-clause-found g c =
     let view : State g.row.K.Denot g.row.H.Denot = record { hasher = s.hasher; base = non_zero_u8_get s.level_base; format = s.page_format; root = s.root; root_hash = s.root_hash } in
     sym c.in-None.is ∙ c.in_ok-remove_from_root.ensures.found ∙ remove-entry g.K.Ord.cmp g.met.K.Ord.total g.H.Hasher.digest_of g.K.KeyBytes.bytes_of view c.self.invariant k ∙ ap (λ (v : State g.row.K.Denot g.row.H.Denot). entry cmp (map_of v) k) c.self.view_is
 
-pub returns-in-None-clause-dropped : goal.returns-in-None-clause-dropped
-returns-in-None-clause-dropped g c =
+pub returns-in-None-clause-few_more : goal.returns-in-None-clause-few_more
+returns-in-None-clause-few_more g c =
     let s = c.self.inside in
     let same : c.remove_from_root.new.self ≡ s.root = at_none _ _ _ c.in-None.is c.in_ok-remove_from_root.ensures.done in
     subst (λ (v : State g.row.K.Denot g.row.H.Denot). missing c.remove_from_root.new.self ≤ missing v.root + (level v.root + 1)) c.self.view_is
@@ -83,8 +83,8 @@ returns-clause-found g c =
     let view : State g.row.K.Denot g.row.H.Denot = record { hasher = s.hasher; base = non_zero_u8_get s.level_base; format = s.page_format; root = s.root; root_hash = s.root_hash } in
     sym c.in-Some.is ∙ c.in_ok-remove_from_root.ensures.found ∙ remove-entry g.K.Ord.cmp g.met.K.Ord.total g.H.Hasher.digest_of g.K.KeyBytes.bytes_of view c.self.invariant k ∙ ap (λ (v : State g.row.K.Denot g.row.H.Denot). entry cmp (map_of v) k) c.self.view_is
 
-pub returns-clause-dropped : goal.returns-clause-dropped
-returns-clause-dropped g c =
+pub returns-clause-few_more : goal.returns-clause-few_more
+returns-clause-few_more g c =
     let s = c.self.inside in
     let cmp = g.K.Ord.cmp in
     let k = c.args.key.now in
