@@ -5,10 +5,19 @@ use Rattle.std.specs.declared.cmp.Ordering.{Ordering}
 use Rattle.std.specs.declared.cmp.Ordering.TheVariants.{Less, Equal, Greater}
 use Rattle.std.specs.Ordering.{is_gt, match_ordering, nat_cmp}
 use Rattle.merkle_search_tree.specs.Tree.{page, node, Held, Node, row}
-use Rattle.merkle_search_tree.specs.Upsert.{place, held_lower, held_upper, row_put, row_sink, held_set, row_finds, held_finds, tree_set, tree_finds, lifted}
+use Rattle.merkle_search_tree.specs.Upsert.{place, level_order, held_lower, held_upper, row_put, row_sink, held_set, row_finds, held_finds, tree_set, tree_finds, lifted}
 use Rattle.merkle_search_tree.proofs.Parts.{with_lt}
 
 module _ {K D : Type 0} where
+  -- the order of a level beside a page, read off its list of nodes
+  pub order_none : (n l : ℕ) (c : Option (List ℕ)) (es : List (Node K D)) (h : Held K D) → length es ≡ 0 → Equal ≡ level_order n (page l c (row es h))
+  order_none n l c [] h e = refl
+  order_none n l c (x ∷ xs) h e = absurd (omega arith)
+
+  pub order_some : (n l : ℕ) (c : Option (List ℕ)) (es : List (Node K D)) (h : Held K D) → 0 < length es → nat_cmp n l ≡ level_order n (page l c (row es h))
+  order_some n l c [] h e = absurd (omega arith)
+  order_some n l c (x ∷ xs) h e = refl
+
   abbrev pub with_digest : Node K D → D → Node K D
   with_digest e d = record { lt = e.lt; key = e.key; digest = d }
 
@@ -147,20 +156,20 @@ module _ {K D : Type 0} (cmp : K → K → Ordering) (n : ℕ) (k : K) (d : D) w
       by Greater p f = f (omega arith)
 
 module _ {K D : Type 0} (cmp : K → K → Ordering) (n : ℕ) (k : K) (d : D) where
-  pub set_less : (m : ℕ) (c : Option (List ℕ)) (es : List (Node K D)) (h : Held K D) → 0 < length es → nat_cmp n m ≡ Less
+  pub set_less : (m : ℕ) (c : Option (List ℕ)) (es : List (Node K D)) (h : Held K D) → level_order n (page m c (row es h)) ≡ Less
       → tree_set cmp n k d (page m c (row es h)) ≡ page m None (row_sink cmp n k d (row es h))
-  set_less m c [] h r q = absurd (omega arith)
-  set_less m c (e ∷ es) h r q =
+  set_less m c [] h q = absurd (cc)
+  set_less m c (e ∷ es) h q =
       ap (λ o. match_ordering o (page m None (row_sink cmp n k d (row (e ∷ es) h))) (page m None (row_put cmp k d (row (e ∷ es) h))) (lifted cmp n k d (page m c (row (e ∷ es) h)))) q
 
-  pub set_greater : (m : ℕ) (c : Option (List ℕ)) (es : List (Node K D)) (h : Held K D) → 0 < length es → nat_cmp n m ≡ Greater
+  pub set_greater : (m : ℕ) (c : Option (List ℕ)) (es : List (Node K D)) (h : Held K D) → level_order n (page m c (row es h)) ≡ Greater
       → tree_set cmp n k d (page m c (row es h)) ≡ lifted cmp n k d (page m c (row es h))
-  set_greater m c [] h r q = absurd (omega arith)
-  set_greater m c (e ∷ es) h r q =
+  set_greater m c [] h q = absurd (cc)
+  set_greater m c (e ∷ es) h q =
       ap (λ o. match_ordering o (page m None (row_sink cmp n k d (row (e ∷ es) h))) (page m None (row_put cmp k d (row (e ∷ es) h))) (lifted cmp n k d (page m c (row (e ∷ es) h)))) q
 
-  pub finds_less : (m : ℕ) (c : Option (List ℕ)) (es : List (Node K D)) (h : Held K D) → 0 < length es → nat_cmp n m ≡ Less
+  pub finds_less : (m : ℕ) (c : Option (List ℕ)) (es : List (Node K D)) (h : Held K D) → level_order n (page m c (row es h)) ≡ Less
       → tree_finds cmp n k d (page m c (row es h)) ≡ row_finds cmp n k d true (row es h)
-  finds_less m c [] h r q = absurd (omega arith)
-  finds_less m c (e ∷ es) h r q =
+  finds_less m c [] h q = absurd (cc)
+  finds_less m c (e ∷ es) h q =
       ap (λ o. match_ordering o (row_finds cmp n k d true (row (e ∷ es) h)) (row_finds cmp n k d false (row (e ∷ es) h)) false) q

@@ -1,6 +1,7 @@
 -- What an upsert does to a page.
 use Rattle.std.specs.Prelude.{ℕ, suc, List, [], ◌∷◌, Bool, true, false, if◌then◌else◌, Option, None}
 use Rattle.std.specs.declared.cmp.Ordering.{Ordering}
+use Rattle.std.specs.declared.cmp.Ordering.TheVariants.{Equal}
 use Rattle.std.specs.Ordering.{is_gt, match_ordering, nat_cmp}
 use Rattle.merkle_search_tree.specs.Tree.{Tree, page, Row, high, node, Held, nothing, below, Node}
 
@@ -56,6 +57,11 @@ module _ {K D : Type 0} (cmp : K → K → Ordering) (k : K) (d : D) where
   abbrev pub row_put : Row K D → Row K D
   row_put (high h) = node (held_lower cmp k h) k d (high (held_upper cmp k h))
   row_put (node h x e r) = match_ordering (cmp k x) (node (held_lower cmp k h) k d (node (held_upper cmp k h) x e r)) (node h x d r) (node h x e (row_put r))
+
+-- how a level compares with that of a page; a page without nodes is of every level
+abbrev pub level_order : {K D : Type 0} → ℕ → Tree K D → Ordering
+level_order n (page m c (high h)) = Equal
+level_order n (page m c (node h k d r)) = nat_cmp n m
 
 module _ {K D : Type 0} (cmp : K → K → Ordering) (n : ℕ) (k : K) (d : D) where
   -- a page with the key over a page, which is parted at it

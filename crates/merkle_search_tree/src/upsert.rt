@@ -1,10 +1,10 @@
 //! Setting a key in a subtree.
 
-ghost use Rattle.std.specs.Prelude.{◌≡◌, ℕ, [], false, OnOk, OnErr, IfErr};
+ghost use Rattle.std.specs.Prelude.{◌≡◌, ℕ, false, OnOk, OnErr, IfErr};
 ghost use Rattle.key_order.specs.Map.{IsMap};
-ghost use Rattle.merkle_search_tree.specs.Page.{pairs, row_pairs, held_pairs, nodes_of};
+ghost use Rattle.merkle_search_tree.specs.Page.{pairs, row_pairs, held_pairs};
 ghost use Rattle.merkle_search_tree.specs.Tree.{row, held_of};
-ghost use Rattle.merkle_search_tree.specs.Upsert.{lifted, row_put, row_finds, tree_set, tree_finds, held_set, held_finds};
+ghost use Rattle.merkle_search_tree.specs.Upsert.{level_order, lifted, row_put, row_finds, tree_set, tree_finds, held_set, held_finds};
 
 use crate::page::{NodeOf, PageOf};
 use crate::spare::Spare;
@@ -141,27 +141,16 @@ fn put<K: Ord + Drop, D: Drop>(
     }
 }
 
-impl<K: Ord + Drop, D: Drop> PageOf<K, D> {
-    /// Puts a key of the level into a page without nodes, as [`set`](Self::set) does.
-    #[inline(never)]
-    fn set_first(
-        &mut self,
-        alloc: Global,
-        key: K,
-        level: u8,
-        digest: D,
-    ) -> Result<(), UpsertRefused<K>>
-        requires ascending { IsMap K.cmp (pairs self.old) }
-        requires empty { nodes_of self.old ≡ [] }
-        ensures done { OnOk result (self.new ≡ tree_set K.cmp level key digest self.old) }
-        ensures unchanged { OnErr result (self.new ≡ self.old) }
-        ensures returned { IfErr result (λ refused. refused ≡ key) }
-        ensures absent { OnErr result (tree_finds K.cmp level key digest self.old ≡ false) }
+impl<K, D> PageOf<K, D> {
+    /// How a level compares with that of the page; a page without nodes is of every level.
+    #[inline(always)]
+    fn compare_level(&self, level: u8) -> Ordering
+        ensures { result ≡ level_order level self.now }
     {
-        put(alloc, &mut self.nodes, &mut self.high_page, key, digest)?;
-        self.level = level;
-        self.tree_hash = None;
-        Ok(())
+        if self.nodes.is_empty() {
+            return Ordering::Equal;
+        }
+        level.cmp(&self.level)
     }
 }
 
@@ -181,12 +170,10 @@ impl<K: Ord + Drop, D: Drop> PageOf<K, D> {
         ensures returned { IfErr result (λ refused. refused ≡ key) }
         ensures absent { OnErr result (tree_finds K.cmp level key digest self.old ≡ false) }
     {
-        if self.nodes.is_empty() {
-            return self.set_first(alloc, key, level, digest);
-        }
-        match level.cmp(&self.level) {
+        match self.compare_level(level) {
             Ordering::Equal => {
                 put(alloc, &mut self.nodes, &mut self.high_page, key, digest)?;
+                self.level = level;
                 self.tree_hash = None;
                 Ok(())
             }
