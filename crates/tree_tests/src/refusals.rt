@@ -96,6 +96,36 @@ fn a_refused_upsert_changes_nothing(rt: HostRuntime) {
     }
 }
 
+/// Whether a key is taken out of the hashed tree of these keys, which is then the defined one of the others, or the removal is refused
+/// with the pages and all digests as before.
+fn is_out_or_unchanged(
+    alloc: Global,
+    keys: &[(u16, u8)],
+    key: u16,
+    others: &[(u16, u8)],
+) -> Result<bool, AllocError> {
+    let mut tree = tree(alloc, keys)?;
+    tree.root_hash();
+    let before = seen(alloc, &tree)?;
+    match tree.remove(&number_key(key)) {
+        Ok(found) => Ok(found.is_some() && is_set(alloc, &mut tree, others)?),
+        Err(_) => { Ok(is_as_before(alloc, &tree, &before)? && tree.root_hash_cached().is_some()) }
+    }
+}
+
+/// Whether the removal of a key whose gaps both have a page of one level is right, or refused with everything as before. The page of
+/// the lower gap has no room, so that it has to grow.
+fn joins_or_keeps_pages(alloc: Global) -> Result<bool, AllocError> {
+    let keys = [(2, 64), (5, 64), (4, 20), (6, 20), (3, 52)];
+    let others = [(2, 64), (4, 20), (6, 20), (3, 52)];
+    is_out_or_unchanged(alloc, &keys, 5, &others)
+}
+
+#[test]
+fn a_refused_removal_changes_nothing(rt: HostRuntime) {
+    assert!(rt; joins_or_keeps_pages(rt.alloc()) != Ok(false));
+}
+
 /// Whether the nodes are right after upserts of 1, 2, 1 with another value, and 3, of which the last may be refused.
 fn keeps_nodes(alloc: Global) -> Result<bool, AllocError> {
     let mut tree = tree(alloc, &[(1, 0), (2, 0)])?;

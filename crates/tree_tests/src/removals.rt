@@ -1,6 +1,9 @@
-//! Removals, by what they hand out, by the pages that then lack a digest, and by the root hash of the defined tree of the keys left.
+//! Removals, by what they hand out, by the pages that are left and those that lack a digest, and by the root hash of the defined tree
+//! of the keys left.
 
-use crate::trees::{Tree, defined_root, hasher, keys_of, put, tree};
+use crate::root_pages::root_copy;
+use crate::shapes::pages_of;
+use crate::trees::{Tree, copy, defined_root, empty, hasher, keys_of, put, tree};
 use merkle_search_tree::builder::{Builder, PageFormat};
 use std::alloc::{AllocError, Global};
 use std::test::Fail;
@@ -133,6 +136,28 @@ fn drops_few_digests(rt: HostRuntime) -> Result<(), Fail> {
     Ok(())
 }
 
+/// A line for each removal: the keys of a hashed tree with their levels, `-` and the key that is taken out, then `=` and the pages of
+/// the tree that is left. A page is a space, or `^` for a high page, a `?` where it lacks its digest, its level, and in brackets its
+/// nodes with the page below each before it; the high page follows.
+const LEFT: &str = "\
+1:1 2:1 4:0 3:2 -3= ?1( 1 2)^0( 4)\n\
+2:64 6:20 4:20 3:52 5:64 -5= ?64( 2)^?52( 3)^?20( 4 6)\n\
+1:1 2:0 -1= 0( 2)\n\
+1:0 -1= ?0()\n\
+";
+
+#[test]
+fn leaves_the_pages_of_the_levels(rt: HostRuntime) -> Result<(), Fail> {
+    for line in LEFT.lines() {
+        let (removal, wanted) = line.split_once('=').ok_or("no pages")?;
+        let (keys, key) = removal.split_once('-').ok_or("no key")?;
+        let mut tree = hashed_tree(rt.alloc(), keys)?;
+        tree.remove(&number_key(key.parse::<u16>()?))?;
+        assert_eq!(rt; pages_of(rt.alloc(), &tree, true).as_str(), wanted);
+    }
+    Ok(())
+}
+
 #[test]
 fn joins_pages_of_one_level(rt: HostRuntime) -> Result<(), Fail> {
     let mut tree = hashed_tree(rt.alloc(), "2:64 6:20 4:20 3:52 5:64")?;
@@ -149,19 +174,90 @@ fn joins_pages_of_one_level(rt: HostRuntime) -> Result<(), Fail> {
     Ok(())
 }
 
-/// Refused, a removal leaves the tree, and one with memory at hand is then the right one. (Passes where the tree itself is refused.)
 #[test]
-fn a_refused_removal_changes_nothing(rt: HostRuntime) -> Result<(), Fail> {
-    let keys: [(u16, u8); 5] = [(2, 64), (5, 64), (4, 20), (6, 20), (3, 52)];
-    let mut tree = match tree(rt.alloc(), &keys) {
-        Ok(tree) => tree,
-        Err(_) => return Ok(()),
-    };
-    let before = tree.root_hash_counted().0;
-    if tree.remove(&number_key(5)).is_err() {
-        assert!(rt; tree.pages_to_hash() == 0 && tree.root_hash_cached() == Some(&before));
-        assert!(rt; tree.remove(&number_key(5))?.is_some());
+fn the_last_key_leaves_a_new_tree(rt: HostRuntime) -> Result<(), Fail> {
+    let mut tree = hashed_tree(rt.alloc(), "1:0")?;
+    assert!(rt; tree.remove(&number_key(1))?.is_some());
+    assert_eq!(rt; tree.pages_to_hash(), 1);
+    let new = empty(rt.alloc(), &[])?.root_hash_counted().0;
+    assert!(rt; tree.root_hash_counted() == (new, 1));
+    let new = empty(rt.alloc(), &[])?.root_hash_counted().0;
+    assert!(rt; tree.remove(&number_key(1))?.is_none());
+    assert!(rt; tree.root_hash_cached() == Some(&new));
+    Ok(())
+}
+
+/// The level of a key: half of the keys stand on level 0, a quarter on level 1, an eighth on level 2, and the others on level 3.
+fn level_at(key: u16) -> u8 {
+    let mixed = key.wrapping_mul(37);
+    if mixed % 2 == 1 {
+        0
+    } else if mixed % 4 == 2 {
+        1
+    } else if mixed % 8 == 4 {
+        2
+    } else {
+        3
     }
-    assert!(rt; tree.pages_to_hash() == 3 && tree.root_hash_cached().is_none());
+}
+
+/// The keys of a set, a bit for each key below 64, with their levels.
+fn keys_in(alloc: Global, set: u64) -> Result<Vec<(u16, u8)>, AllocError> {
+    let mut keys = Vec::with_capacity(alloc, 64)?;
+    for key in 0..64u16 {
+        if (set >> key) & 1 == 1 {
+            keys.push((key, level_at(key)))?;
+        }
+    }
+    Ok(keys)
+}
+
+/// Whether a copy of a tree, once it is hashed, has the root hash of the tree that is built anew of these keys, and its pages with
+/// all digests.
+fn is_built_anew(alloc: Global, left: &Tree, keys: &[(u16, u8)]) -> Result<bool, AllocError> {
+    let mut found = copy(left)?;
+    let mut anew = tree(alloc, keys)?;
+    let is_same = found.root_hash_counted().0 == anew.root_hash_counted().0;
+    Ok(is_same && root_copy(alloc, &found)?.page == root_copy(alloc, &anew)?.page)
+}
+
+/// The next of a row of random numbers.
+fn next(random: u64) -> u64 {
+    random
+        .wrapping_mul(6364136223846793005)
+        .wrapping_add(1442695040888963407)
+}
+
+/// Sets a key below 64 or takes it out, by a random number, and tells the set of keys that are then there; `None` where the removal
+/// doesn't answer whether the key was there.
+fn update(tree: &mut Tree, keys: u64, random: u64) -> Result<Option<u64>, AllocError> {
+    let key = ((random >> 33) % 64) as u16;
+    let bit = 1u64 << key;
+    if (random >> 40) % 2 == 0 {
+        put(tree, key)?;
+        return Ok(Some(keys | bit));
+    }
+    let is_out = tree.remove(&number_key(key))?.is_some();
+    if is_out == (keys & bit != 0) {
+        Ok(Some(keys & !bit))
+    } else {
+        Ok(None)
+    }
+}
+
+#[test]
+fn random_updates_leave_the_tree_built_anew(rt: HostRuntime) -> Result<(), Fail> {
+    let mut tree = empty(rt.alloc(), &keys_in(rt.alloc(), u64::MAX)?)?;
+    let mut keys = 0u64;
+    let mut random = 1u64;
+    for step in 0..400u32 {
+        random = next(random);
+        keys = update(&mut tree, keys, random)?.ok_or("another answer")?;
+        let left = keys_in(rt.alloc(), keys)?;
+        assert!(rt; is_built_anew(rt.alloc(), &tree, &left)?, "after {step}");
+        if (random >> 50) % 4 == 0 {
+            tree.root_hash();
+        }
+    }
     Ok(())
 }

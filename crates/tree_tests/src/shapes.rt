@@ -77,8 +77,8 @@ impl Visitor<[u8; 2], ValueDigest<32>> for Shape {
     }
 }
 
-/// The pages of a tree.
-fn pages_of(alloc: Global, tree: &Tree, shows_lacking: bool) -> String {
+/// The pages of a tree; a page without a digest has a `?`, where that is asked for.
+pub fn pages_of(alloc: Global, tree: &Tree, shows_lacking: bool) -> String {
     let mut shape = Shape {
         alloc,
         text: String::new(alloc),

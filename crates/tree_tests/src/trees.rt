@@ -38,7 +38,7 @@ pub fn value_at(number: u16) -> Value {
 }
 
 /// The tree of no keys, whose hasher puts these keys on these levels.
-fn empty(alloc: Global, keys: &[(u16, u8)]) -> Result<Tree, AllocError> {
+pub fn empty(alloc: Global, keys: &[(u16, u8)]) -> Result<Tree, AllocError> {
     Ok(
         Builder::default()
             .with_hasher(hasher(alloc, keys)?)
