@@ -1,68 +1,111 @@
-//! The digest in format 1 of the tree of a map, by a plain and slow program that scans the sorted list of its pairs.
+//! The digest of the tree of a map in a page format, by a plain and slow program that scans the sorted list of its pairs.
 
-ghost use Rattle.std.specs.Prelude.{◌≡◌, ℕ, List, ◌++◌};
+ghost use Rattle.std.specs.Prelude.{◌≡◌, ◌≤◌, ℕ, List, ◌++◌, ◌==◌, count_by};
 ghost use Rattle.merkle_digest.specs.Level.{level_of};
 ghost use Rattle.merkle_digest.specs.Sip24.{Holds};
-ghost use Rattle.merkle_search_tree.specs.TreeOf.{any_at, gap_of, tree_of};
-ghost use Rattle.merkle_search_tree.specs.Stream.{page_digest};
-ghost use Rattle.merkle_search_tree.specs.declared.builder.PageFormat.TheVariants.{V1};
+ghost use Rattle.merkle_search_tree.specs.TreeOf.{gap_of, tree_of};
+ghost use Rattle.merkle_search_tree.specs.Stream.{page_digest, head_bytes, key_bytes};
 ghost use Rattle.tree_tests.specs.Defined.{gap_digest, written};
 
 use merkle_digest::{
     Hasher, KeyBytes, PageDigest, RootHash, Sip24, ValueDigest, default_level_base, level,
 };
+use merkle_search_tree::builder::PageFormat;
 
-/// The root hash in format 1 of the tree of a map, whose pairs of keys and value digests are in ascending order, with levels in base 16.
+/// The root hash in a page format of the tree of a map, whose pairs of keys and value digests are in ascending order, with levels in base 16.
 pub fn defined_root_hash<K: Eq + KeyBytes, H: Hasher<N, K>, const N: usize>(
     hasher: &H,
+    format: PageFormat,
     pairs: &[(K, ValueDigest<N>)],
 ) -> RootHash
-    ensures { result ≡ page_digest V1 K.bytes_of (tree_of (λ key. level_of (H.digest_of hasher.now key) 16) pairs.now) }
+    ensures { result ≡ page_digest format K.bytes_of (tree_of (λ key. level_of (H.digest_of hasher.now key) 16) pairs.now) }
 {
-    match defined_digest(hasher, pairs, 256) {
+    match defined_digest(hasher, format, pairs, 256) {
         Some(digest) => RootHash::new(digest),
-        None => RootHash::new(PageDigest::new(Sip24::new().finish128())),
+        None => {
+            let mut sip = Sip24::new();
+            write_head(&mut sip, format, 0, 0);
+            write_gap(&mut sip, format, None);
+            RootHash::new(PageDigest::new(sip.finish128()))
+        }
     }
 }
 
 /// The digest of the page of pairs whose keys are on levels below `bound`; none where there is no such page.
 fn defined_digest<K: Eq + KeyBytes, H: Hasher<N, K>, const N: usize>(
     hasher: &H,
+    format: PageFormat,
     pairs: &[(K, ValueDigest<N>)],
     bound: u16,
 ) -> Option<PageDigest>
-    ensures { result ≡ gap_digest K.bytes_of (gap_of (λ key. level_of (H.digest_of hasher.now key) 16) bound pairs.now) }
+    requires { bound ≤ 256 }
+    ensures { result ≡ gap_digest format K.bytes_of (gap_of (λ key. level_of (H.digest_of hasher.now key) 16) bound pairs.now) }
 {
     if bound == 0 {
         return None;
     }
     let page_level = bound - 1;
-    if !has_key_at(hasher, pairs, page_level) {
-        return defined_digest(hasher, pairs, page_level);
+    let count = count_at(hasher, pairs, page_level);
+    if count == 0 {
+        return defined_digest(hasher, format, pairs, page_level);
     }
     let mut sip = Sip24::new();
+    write_head(&mut sip, format, page_level as u8, count);
     let mut start = 0;
     'pairs: for i in 0..pairs.len() {
         let pair = &pairs[i];
         if level_of_key(hasher, &pair.0) == page_level {
-            let gap = defined_digest(hasher, &pairs[start..i], page_level);
-            write_digest(&mut sip, gap);
-            sip.write(pair.0.key_bytes());
+            let gap = defined_digest(hasher, format, &pairs[start..i], page_level);
+            write_gap(&mut sip, format, gap);
+            write_key(&mut sip, format, pair.0.key_bytes());
             sip.write(pair.1.as_bytes());
             start = i + 1;
         }
     }
-    let high = defined_digest(hasher, &pairs[start..], page_level);
-    write_digest(&mut sip, high);
+    let high = defined_digest(hasher, format, &pairs[start..], page_level);
+    write_gap(&mut sip, format, high);
     Some(PageDigest::new(sip.finish128()))
 }
 
-/// Writes the digest of the page in a gap, where there is one.
-fn write_digest(sip: &mut Sip24, digest: Option<PageDigest>)
-    ensures { (key before : List ℕ) → Holds sip.old key before → Holds sip.new key (before ++ written digest) }
+/// Writes what stands before the first node of a page of a level, which has so many nodes: in format 2 a mark, the level and the number.
+fn write_head(sip: &mut Sip24, format: PageFormat, level: u8, count: usize)
+    ensures { (key before : List ℕ) → Holds sip.old key before → Holds sip.new key (before ++ head_bytes format level count) }
 {
-    if let Some(digest) = digest {
-        sip.write(digest.as_bytes());
+    match format {
+        PageFormat::V1 => {}
+        PageFormat::V2 => {
+            sip.write(&[2]);
+            sip.write(&[level]);
+            sip.write(&(count as u64).to_le_bytes());
+        }
+    }
+}
+
+/// Writes the digest of the page in a gap, where there is one; in format 2 a mark is before it, or in its place.
+fn write_gap(sip: &mut Sip24, format: PageFormat, digest: Option<PageDigest>)
+    ensures { (key before : List ℕ) → Holds sip.old key before → Holds sip.new key (before ++ written format digest) }
+{
+    match (format, digest) {
+        (PageFormat::V1, None) => {}
+        (PageFormat::V1, Some(digest)) => sip.write(digest.as_bytes()),
+        (PageFormat::V2, None) => sip.write(&[0]),
+        (PageFormat::V2, Some(digest)) => {
+            sip.write(&[1]);
+            sip.write(digest.as_bytes());
+        }
+    }
+}
+
+/// Writes the bytes of a key, in format 2 behind their number.
+fn write_key(sip: &mut Sip24, format: PageFormat, bytes: &[u8])
+    ensures { (key before : List ℕ) → Holds sip.old key before → Holds sip.new key (before ++ key_bytes format bytes.now) }
+{
+    match format {
+        PageFormat::V1 => sip.write(bytes),
+        PageFormat::V2 => {
+            sip.write(&(bytes.len() as u64).to_le_bytes());
+            sip.write(bytes);
+        }
     }
 }
 
@@ -73,18 +116,19 @@ fn level_of_key<K: Eq, H: Hasher<N, K>, const N: usize>(hasher: &H, key: &K) -> 
     level(&hasher.hash(key), default_level_base()) as u16
 }
 
-/// Whether the list has a key at a level.
-fn has_key_at<K: Eq, H: Hasher<N, K>, const N: usize>(
+/// How many keys of the list are on a level.
+fn count_at<K: Eq, H: Hasher<N, K>, const N: usize>(
     hasher: &H,
     pairs: &[(K, ValueDigest<N>)],
     wanted: u16,
-) -> bool
-    ensures { result ≡ any_at (λ key. level_of (H.digest_of hasher.now key) 16) wanted pairs.now }
+) -> usize
+    ensures { result ≡ count_by (λ pair. level_of (H.digest_of hasher.now pair.0) 16 == wanted) pairs.now }
 {
+    let mut count = 0;
     'keys: for i in 0..pairs.len() {
         if level_of_key(hasher, &pairs[i].0) == wanted {
-            return true;
+            count += 1;
         }
     }
-    false
+    count
 }

@@ -7,6 +7,8 @@ pub mod defined;
 #[cfg(test)]
 mod equal_pages;
 #[cfg(test)]
+mod formats;
+#[cfg(test)]
 mod lengths;
 #[cfg(test)]
 mod orders;

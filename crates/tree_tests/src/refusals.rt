@@ -59,7 +59,8 @@ fn seen(alloc: Global, tree: &Tree) -> Result<Option<PageRangeSnapshot<[u8; 2]>>
 /// Whether the digests above a new key are forgotten, and the tree is then the defined one of these keys.
 fn is_set(alloc: Global, tree: &mut Tree, keys: &[(u16, u8)]) -> Result<bool, AllocError> {
     let is_forgotten = tree.root_hash_cached().is_none();
-    Ok(is_forgotten && *tree.root_hash() == defined_root(alloc, keys)?)
+    let wanted = defined_root(alloc, tree.page_format(), keys)?;
+    Ok(is_forgotten && *tree.root_hash() == wanted)
 }
 
 /// Whether the pages of a tree and all their digests are as before.

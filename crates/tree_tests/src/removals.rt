@@ -3,15 +3,15 @@
 
 use crate::root_pages::root_copy;
 use crate::shapes::pages_of;
-use crate::trees::{Tree, copy, defined_root, empty, hasher, keys_of, put, tree};
-use merkle_search_tree::builder::{Builder, PageFormat};
+use crate::trees::{FORMATS, Tree, copy, defined_root, empty, keys_of, put, tree, tree_in};
+use merkle_search_tree::builder::PageFormat;
 use std::alloc::{AllocError, Global};
 use std::test::Fail;
 use testing::number_key;
 
-/// The hashed tree of the keys of a text.
-fn hashed_tree(alloc: Global, text: &str) -> Result<Tree, Fail> {
-    let mut tree = tree(alloc, &keys_of(alloc, text)?)?;
+/// The hashed tree of the keys of a text in a page format.
+fn hashed_tree(alloc: Global, format: PageFormat, text: &str) -> Result<Tree, Fail> {
+    let mut tree = tree_in(alloc, format, &keys_of(alloc, text)?)?;
     tree.root_hash();
     Ok(tree)
 }
@@ -27,54 +27,33 @@ fn without(alloc: Global, keys: &[(u16, u8)], key: u16) -> Result<Vec<(u16, u8)>
     Ok(left)
 }
 
-/// Takes a key out of the hashed tree of a text, and answers how many pages then lack a digest; `None` where the root hash isn't
+/// Takes a key out of the hashed tree of a text in a page format, and answers how many pages then lack a digest; `None` where the root hash isn't
 /// forgotten, another key is handed out, as many digests aren't made, or the tree isn't the defined one.
-fn lacks_without(alloc: Global, text: &str, key: u16) -> Result<Option<usize>, Fail> {
+fn lacks_without(
+    alloc: Global,
+    format: PageFormat,
+    text: &str,
+    key: u16,
+) -> Result<Option<usize>, Fail> {
     let keys = keys_of(alloc, text)?;
-    let mut tree = hashed_tree(alloc, text)?;
-    let is_out = match tree.remove(&number_key(key))? {
+    let mut tree = hashed_tree(alloc, format, text)?;
+    let asked = number_key(key);
+    let is_out = match &tree.remove(&asked)? {
         None => false,
-        Some((out, _)) => out == number_key(key),
+        Some(removed) => removed.0 == asked,
     };
     let lacks = tree.pages_to_hash();
     if !is_out || tree.root_hash_cached().is_some() || tree.root_hash_counted().1 != lacks {
         return Ok(None);
     }
-    let is_defined = *tree.root_hash() == defined_root(alloc, &without(alloc, &keys, key)?)?;
+    let wanted = defined_root(alloc, format, &without(alloc, &keys, key)?)?;
+    let is_defined = *tree.root_hash() == wanted;
     let is_gone = tree.remove(&number_key(key))?.is_none() && tree.root_hash_cached().is_some();
     if is_defined && is_gone {
         Ok(Some(lacks))
     } else {
         Ok(None)
     }
-}
-
-/// The tree of these keys on these levels in a page format.
-fn tree_in(alloc: Global, format: PageFormat, keys: &[(u16, u8)]) -> Result<Tree, AllocError> {
-    let mut tree: Tree = Builder::default()
-        .with_page_format(format)
-        .with_hasher(hasher(alloc, keys)?)
-        .build(alloc);
-    for (number, _) in keys {
-        put(&mut tree, *number)?;
-    }
-    Ok(tree)
-}
-
-/// Whether in a page format the hashed tree of a text has, without any one of its keys, the root hash of the tree of the others.
-fn leaves_the_others(alloc: Global, format: PageFormat, text: &str) -> Result<bool, Fail> {
-    let keys = keys_of(alloc, text)?;
-    for (key, _) in &keys {
-        let mut left = tree_in(alloc, format, &keys)?;
-        left.root_hash();
-        let is_out = left.remove(&number_key(*key))?.is_some();
-        let mut others = tree_in(alloc, format, &without(alloc, &keys, *key)?)?;
-        let is_same = left.root_hash_counted().0 == others.root_hash_counted().0;
-        if !is_out || !is_same || left.page_format() != format {
-            return Ok(false);
-        }
-    }
-    Ok(true)
 }
 
 /// A line for each tree: its keys with their levels.
@@ -97,42 +76,48 @@ const TREES: &str = "\
 1:3 2:0 3:2 4:1 5:9 6:1 7:2 8:0 9:3 10:9\n\
 ";
 
+/// Whether the hashed tree of a text in a page format, without any one of its keys, is the defined one of the others.
+fn leaves_the_others(alloc: Global, format: PageFormat, text: &str) -> Result<bool, Fail> {
+    for (key, _) in &keys_of(alloc, text)? {
+        if lacks_without(alloc, format, text, *key)?.is_none() {
+            return Ok(false);
+        }
+    }
+    Ok(true)
+}
+
 #[test]
 fn leaves_the_defined_tree(rt: HostRuntime) -> Result<(), Fail> {
     for line in TREES.lines() {
-        let keys = keys_of(rt.alloc(), line)?;
-        for (key, _) in &keys {
+        for format in FORMATS {
             assert!(rt;
-                lacks_without(rt.alloc(), line, *key)?.is_some(),
-                "at {key} of {line}"
+                leaves_the_others(rt.alloc(), format, line)?,
+                "{format:?}: {line}"
             );
         }
     }
     Ok(())
 }
 
-#[test]
-fn removes_in_both_formats(rt: HostRuntime) -> Result<(), Fail> {
-    for line in TREES.lines() {
-        assert!(rt;
-            leaves_the_others(rt.alloc(), PageFormat::V1, line)?,
-            "format 1: {line}"
-        );
-        assert!(rt;
-            leaves_the_others(rt.alloc(), PageFormat::V2, line)?,
-            "format 2: {line}"
-        );
-    }
-    Ok(())
-}
+/// Trees, a key of each, and how many pages lack a digest without it; `None` where the key isn't there.
+const LACKING: [(&str, u16, Option<usize>); 5] = [
+    ("1:1 2:1 4:0 3:2", 3, Some(1)),
+    ("2:64 6:20 4:20 3:52 5:64", 5, Some(3)),
+    ("1:1 2:0", 1, Some(0)),
+    ("1:0", 1, Some(1)),
+    ("1:0", 2, None),
+];
 
 #[test]
 fn drops_few_digests(rt: HostRuntime) -> Result<(), Fail> {
-    assert!(rt; lacks_without(rt.alloc(), "1:1 2:1 4:0 3:2", 3)? == Some(1));
-    assert!(rt; lacks_without(rt.alloc(), "2:64 6:20 4:20 3:52 5:64", 5)? == Some(3));
-    assert!(rt; lacks_without(rt.alloc(), "1:1 2:0", 1)? == Some(0));
-    assert!(rt; lacks_without(rt.alloc(), "1:0", 1)? == Some(1));
-    assert!(rt; lacks_without(rt.alloc(), "1:0", 2)? == None);
+    for (text, key, wanted) in LACKING {
+        for format in FORMATS {
+            assert!(rt;
+                lacks_without(rt.alloc(), format, text, key)? == wanted,
+                "{format:?}: {text}"
+            );
+        }
+    }
     Ok(())
 }
 
@@ -151,7 +136,7 @@ fn leaves_the_pages_of_the_levels(rt: HostRuntime) -> Result<(), Fail> {
     for line in LEFT.lines() {
         let (removal, wanted) = line.split_once('=').ok_or("no pages")?;
         let (keys, key) = removal.split_once('-').ok_or("no key")?;
-        let mut tree = hashed_tree(rt.alloc(), keys)?;
+        let mut tree = hashed_tree(rt.alloc(), PageFormat::V1, keys)?;
         tree.remove(&number_key(key.parse::<u16>()?))?;
         assert_eq!(rt; pages_of(rt.alloc(), &tree, true).as_str(), wanted);
     }
@@ -160,7 +145,7 @@ fn leaves_the_pages_of_the_levels(rt: HostRuntime) -> Result<(), Fail> {
 
 #[test]
 fn joins_pages_of_one_level(rt: HostRuntime) -> Result<(), Fail> {
-    let mut tree = hashed_tree(rt.alloc(), "2:64 6:20 4:20 3:52 5:64")?;
+    let mut tree = hashed_tree(rt.alloc(), PageFormat::V1, "2:64 6:20 4:20 3:52 5:64")?;
     tree.remove(&number_key(5))?;
     tree.root_hash();
     let ranges = tree.serialise_page_ranges()?.ok_or("not hashed")?;
@@ -176,12 +161,16 @@ fn joins_pages_of_one_level(rt: HostRuntime) -> Result<(), Fail> {
 
 #[test]
 fn the_last_key_leaves_a_new_tree(rt: HostRuntime) -> Result<(), Fail> {
-    let mut tree = hashed_tree(rt.alloc(), "1:0")?;
+    let mut tree = hashed_tree(rt.alloc(), PageFormat::V1, "1:0")?;
     assert!(rt; tree.remove(&number_key(1))?.is_some());
     assert_eq!(rt; tree.pages_to_hash(), 1);
-    let new = empty(rt.alloc(), &[])?.root_hash_counted().0;
+    let new = empty(rt.alloc(), PageFormat::V1, &[])?
+        .root_hash_counted()
+        .0;
     assert!(rt; tree.root_hash_counted() == (new, 1));
-    let new = empty(rt.alloc(), &[])?.root_hash_counted().0;
+    let new = empty(rt.alloc(), PageFormat::V1, &[])?
+        .root_hash_counted()
+        .0;
     assert!(rt; tree.remove(&number_key(1))?.is_none());
     assert!(rt; tree.root_hash_cached() == Some(&new));
     Ok(())
@@ -247,7 +236,7 @@ fn update(tree: &mut Tree, keys: u64, random: u64) -> Result<Option<u64>, AllocE
 
 #[test]
 fn random_updates_leave_the_tree_built_anew(rt: HostRuntime) -> Result<(), Fail> {
-    let mut tree = empty(rt.alloc(), &keys_in(rt.alloc(), u64::MAX)?)?;
+    let mut tree = empty(rt.alloc(), PageFormat::V1, &keys_in(rt.alloc(), u64::MAX)?)?;
     let mut keys = 0u64;
     let mut random = 1u64;
     for step in 0..400u32 {

@@ -1,7 +1,9 @@
-//! Root hashes and page ranges against answers of the Rust crate merkle-search-tree 0.8.0.
+//! Root hashes and page ranges in format 1 against answers of the Rust crate merkle-search-tree 0.8.0, and root hashes in format 2
+//! against those of a second program.
 
 use merkle_digest::SipHasher;
 use merkle_search_tree::MerkleSearchTree;
+use merkle_search_tree::builder::{Builder, PageFormat};
 use std::alloc::Global;
 use std::test::Fail;
 
@@ -25,6 +27,25 @@ const RUST_ROOTS: &str = "\
 2000 dANiWnICsGau1PiWojttvA== 124 k0000..k1999 k0000..k0323 k0000..k0150 k0000..k0035 k0037..k0073 k0075..k0082\n\
 ";
 
+/// A line for each size of a tree of the same keys and values in format 2: the root hash.
+const ROOTS_OF_FORMAT_2: &str = "\
+0 9/FwCJ+cWkM577LEunsrHQ==\n\
+1 KIFCoxJAxub0v94KVeZbYQ==\n\
+2 wU4DEvi5BsZkmkyuhYtCww==\n\
+3 K7K7r7tGv5esIdslX3KzUg==\n\
+5 WwvS5M9qBCIM1rXjazys4w==\n\
+10 /1qFjA1TCxGinLmUpNLdwg==\n\
+16 jwi0YiZfgs5sUyZxBKMXzA==\n\
+17 ieBcg6uxMsPZXRhC8HJXvw==\n\
+40 uRnYNjfGEUGU49YF1VtuBQ==\n\
+64 LteONoG3lzpXLdoHdeUUZg==\n\
+100 iswy42fCOg4qStLKIFV8KQ==\n\
+256 9LEyT7GLN1IkOQMCJBt4og==\n\
+500 rNTNqCIFy0KHgG13xP0GFw==\n\
+1000 AOKYcKgCzGnwzaasl2I7fg==\n\
+2000 6ttDSF22jXS7XYF1aFbpVA==\n\
+";
+
 /// The default tree of the tests.
 type Squares = MerkleSearchTree<String, u64, SipHasher, 16>;
 
@@ -37,9 +58,9 @@ fn put(alloc: Global, tree: &mut Squares, i: u64) -> Result<(), Fail> {
     }
 }
 
-/// The default tree of that many keys.
-fn squares(alloc: Global, size: u64) -> Result<Squares, Fail> {
-    let mut tree = MerkleSearchTree::with_defaults(alloc);
+/// The tree of that many keys in a page format, with the default hasher and level base.
+fn squares(alloc: Global, format: PageFormat, size: u64) -> Result<Squares, Fail> {
+    let mut tree = Builder::default().with_page_format(format).build(alloc);
     for i in 0..size {
         put(alloc, &mut tree, i)?;
     }
@@ -58,7 +79,7 @@ fn ranges(alloc: Global, tree: &Squares) -> Result<String, Fail> {
 
 /// The line of the default tree of that many keys.
 fn line_of(alloc: Global, size: u64) -> Result<String, Fail> {
-    let mut tree = squares(alloc, size)?;
+    let mut tree = squares(alloc, PageFormat::V1, size)?;
     let mut line = format!(in alloc; "{size} {}", tree.root_hash())?;
     line.push_str(ranges(alloc, &tree)?.as_str())?;
     Ok(line)
@@ -74,6 +95,19 @@ fn size_of(line: &str) -> Result<u64, Fail> {
 fn roots_and_ranges_are_those_of_the_rust_crate(rt: HostRuntime) -> Result<(), Fail> {
     for line in RUST_ROOTS.lines() {
         assert_eq!(rt; line_of(rt.alloc(), size_of(line)?)?.as_str(), line);
+    }
+    Ok(())
+}
+
+#[test]
+fn roots_of_format_2(rt: HostRuntime) -> Result<(), Fail> {
+    for line in ROOTS_OF_FORMAT_2.lines() {
+        let size = size_of(line)?;
+        let mut tree = squares(rt.alloc(), PageFormat::V2, size)?;
+        assert_eq!(rt;
+            format!(in rt.alloc(); "{size} {}", tree.root_hash())?.as_str(),
+            line
+        );
     }
     Ok(())
 }

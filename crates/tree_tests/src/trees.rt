@@ -3,7 +3,7 @@
 use crate::defined::defined_root_hash;
 use merkle_digest::{Hasher, RootHash, ValueDigest};
 use merkle_search_tree::MerkleSearchTree;
-use merkle_search_tree::builder::Builder;
+use merkle_search_tree::builder::{Builder, PageFormat};
 use std::alloc::{AllocError, Global};
 use std::test::Fail;
 use testing::{LevelHasher, Value, number_key};
@@ -37,10 +37,14 @@ pub fn value_at(number: u16) -> Value {
     }
 }
 
-/// The tree of no keys, whose hasher puts these keys on these levels.
-pub fn empty(alloc: Global, keys: &[(u16, u8)]) -> Result<Tree, AllocError> {
+/// Both page formats.
+pub const FORMATS: [PageFormat; 2] = [PageFormat::V1, PageFormat::V2];
+
+/// The tree of no keys in a page format, whose hasher puts these keys on these levels.
+pub fn empty(alloc: Global, format: PageFormat, keys: &[(u16, u8)]) -> Result<Tree, AllocError> {
     Ok(
         Builder::default()
+            .with_page_format(format)
             .with_hasher(hasher(alloc, keys)?)
             .build(alloc),
     )
@@ -54,28 +58,42 @@ pub fn put(tree: &mut Tree, key: u16) -> Result<(), AllocError> {
     }
 }
 
-/// The tree of these keys on these levels, upserted in this order.
-pub fn tree(alloc: Global, keys: &[(u16, u8)]) -> Result<Tree, AllocError> {
-    let mut tree = empty(alloc, keys)?;
+/// The tree of these keys on these levels in a page format, upserted in this order.
+pub fn tree_in(alloc: Global, format: PageFormat, keys: &[(u16, u8)]) -> Result<Tree, AllocError> {
+    let mut tree = empty(alloc, format, keys)?;
     for (number, _) in keys {
         put(&mut tree, *number)?;
     }
     Ok(tree)
 }
 
-/// The tree of the keys of a text, in its order.
+/// The tree of these keys on these levels in format 1, upserted in this order.
+pub fn tree(alloc: Global, keys: &[(u16, u8)]) -> Result<Tree, AllocError> {
+    tree_in(alloc, PageFormat::V1, keys)
+}
+
+/// The tree of the keys of a text in format 1, in its order.
 pub fn tree_of(alloc: Global, text: &str) -> Result<Tree, Fail> {
     Ok(tree(alloc, &keys_of(alloc, text)?)?)
 }
 
-/// The hashed tree of the keys but the last, on the levels of all.
-pub fn hashed(alloc: Global, keys: &[(u16, u8)]) -> Result<Tree, AllocError> {
-    let mut tree = empty(alloc, keys)?;
+/// The hashed tree of the keys but the last in a page format, on the levels of all.
+pub fn hashed_in(
+    alloc: Global,
+    format: PageFormat,
+    keys: &[(u16, u8)],
+) -> Result<Tree, AllocError> {
+    let mut tree = empty(alloc, format, keys)?;
     for (number, _) in &keys[..keys.len().saturating_sub(1)] {
         put(&mut tree, *number)?;
     }
     tree.root_hash();
     Ok(tree)
+}
+
+/// The hashed tree of the keys but the last in format 1, on the levels of all.
+pub fn hashed(alloc: Global, keys: &[(u16, u8)]) -> Result<Tree, AllocError> {
+    hashed_in(alloc, PageFormat::V1, keys)
 }
 
 /// A copy of a tree.
@@ -111,12 +129,16 @@ fn digest_at(hasher: &LevelHasher<[u8; 2]>, number: u16) -> ValueDigest<32> {
     ValueDigest::new(<LevelHasher<[u8; 2]> as Hasher<32, Value>>::hash(hasher, &value_at(number)))
 }
 
-/// The root hash of the defined tree of these keys on these levels, in whatever order they are given.
-pub fn defined_root(alloc: Global, keys: &[(u16, u8)]) -> Result<RootHash, AllocError> {
+/// The root hash in a page format of the defined tree of these keys on these levels, in whatever order they are given.
+pub fn defined_root(
+    alloc: Global,
+    format: PageFormat,
+    keys: &[(u16, u8)],
+) -> Result<RootHash, AllocError> {
     let hasher = hasher(alloc, keys)?;
     let mut pairs = Vec::with_capacity(alloc, keys.len())?;
     for number in numbers_of(alloc, keys)? {
         pairs.push((number_key(number), digest_at(&hasher, number)))?;
     }
-    Ok(defined_root_hash(&hasher, &pairs))
+    Ok(defined_root_hash(&hasher, format, &pairs))
 }

@@ -1,8 +1,11 @@
 //! Upserts, by the nodes that are then there and by the root hash of the defined tree.
 
-use crate::trees::{Tree, copy, defined_root, hashed, keys_of, nodes, put, tree, tree_of};
+use crate::trees::{
+    FORMATS, Tree, copy, defined_root, hashed_in, keys_of, nodes, put, tree_in, tree_of,
+};
 use merkle_digest::{RootHash, SipHasher};
 use merkle_search_tree::MerkleSearchTree;
+use merkle_search_tree::builder::PageFormat;
 use std::alloc::Global;
 use std::test::Fail;
 use testing::{Value, number_key};
@@ -56,17 +59,19 @@ fn has_root(tree: &mut Tree, wanted: &RootHash) -> bool {
         && tree.pages_to_hash() == 0
 }
 
-/// Whether the tree of these keys, upserted in this order, is the defined one.
-fn is_defined(alloc: Global, line: &str) -> Result<bool, Fail> {
+/// Whether the tree of these keys in a page format, upserted in this order, is the defined one.
+fn is_defined(alloc: Global, format: PageFormat, line: &str) -> Result<bool, Fail> {
     let keys = keys_of(alloc, line)?;
-    let mut tree = tree(alloc, &keys)?;
-    Ok(has_root(&mut tree, &defined_root(alloc, &keys)?))
+    let mut tree = tree_in(alloc, format, &keys)?;
+    Ok(has_root(&mut tree, &defined_root(alloc, format, &keys)?))
 }
 
 #[test]
 fn makes_the_defined_tree(rt: HostRuntime) -> Result<(), Fail> {
     for line in UPSERTS.lines() {
-        assert!(rt; is_defined(rt.alloc(), line)?, "at {line}");
+        for format in FORMATS {
+            assert!(rt; is_defined(rt.alloc(), format, line)?, "{format:?}: {line}");
+        }
     }
     Ok(())
 }
@@ -81,11 +86,13 @@ fn makes_what_it_lacks(tree: &mut Tree) -> bool {
 #[test]
 fn drops_the_digest_of_a_page_whose_high_page_moves(rt: HostRuntime) -> Result<(), Fail> {
     let keys = keys_of(rt.alloc(), "1:1 2:1 5:0 4:2")?;
-    let mut tree = hashed(rt.alloc(), &keys)?;
-    for _ in 0..2 {
+    for format in FORMATS {
+        let mut tree = hashed_in(rt.alloc(), format, &keys)?;
         put(&mut tree, 4)?;
         assert!(rt; makes_what_it_lacks(&mut tree));
-        assert!(rt; *tree.root_hash() == defined_root(rt.alloc(), &keys)?);
+        put(&mut tree, 4)?;
+        assert!(rt; makes_what_it_lacks(&mut tree));
+        assert!(rt; *tree.root_hash() == defined_root(rt.alloc(), format, &keys)?);
     }
     Ok(())
 }

@@ -2,6 +2,7 @@ use Rattle.std.proofs.Common.{◌≡◌, ℕ, List, [], ◌++◌, ◌≤◌, dro
 use Rattle.merkle_digest.specs.Level.{level_of}
 use Rattle.merkle_digest.specs.Sip24.{Holds}
 use Rattle.merkle_digest.specs.SipHash.{zero_key}
+use Rattle.merkle_search_tree.specs.Stream.{head_bytes}
 use Rattle.tree_tests.proofs.Scan.{part, left}
 use Rattle.tree_tests.proofs.defined.+defined_digest.Given as goal
 
@@ -12,4 +13,4 @@ abbrev pub invariant-pairs : goal.invariant-pairs
 invariant-pairs g l =
     let lev : g.row.K.Denot → ℕ = λ key. level_of (g.H.Hasher.digest_of l.hasher key) 16 in
     (l.start ≤ l.i) × ((before : List ℕ) × Holds l.sip zero_key before
-    × (before ++ left g.K.KeyBytes.bytes_of lev l.page_level (part l.pairs l.start l.i) (drop l.i l.pairs) ≡ left g.K.KeyBytes.bytes_of lev l.page_level [] l.pairs))
+    × (before ++ left l.format g.K.KeyBytes.bytes_of lev l.page_level (part l.pairs l.start l.i) (drop l.i l.pairs) ≡ head_bytes l.format l.page_level l.count ++ left l.format g.K.KeyBytes.bytes_of lev l.page_level [] l.pairs))
