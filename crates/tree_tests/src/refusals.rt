@@ -110,7 +110,7 @@ fn is_out_or_unchanged(
     let before = seen(alloc, &tree)?;
     match tree.remove(&number_key(key)) {
         Ok(found) => Ok(found.is_some() && is_set(alloc, &mut tree, others)?),
-        Err(_) => { Ok(is_as_before(alloc, &tree, &before)? && tree.root_hash_cached().is_some()) }
+        Err(_) => is_as_before(alloc, &tree, &before),
     }
 }
 
