@@ -4,7 +4,7 @@ use Rattle.std.specs.declared.cmp.Ordering.{Ordering}
 use Rattle.std.specs.declared.cmp.Ordering.TheVariants.{Less, Equal, Greater}
 use Rattle.std.specs.Ordering.{is_gt, match_ordering, nat_cmp}
 use Rattle.merkle_search_tree.specs.Tree.{Tree, page, Row, high, node, Held, nothing, below, Node, row}
-use Rattle.merkle_search_tree.specs.Page.{nodes_of, row_nodes}
+use Rattle.merkle_search_tree.specs.Page.{nodes_of}
 use Rattle.merkle_search_tree.specs.Upsert.{place, as_held}
 use Rattle.merkle_search_tree.specs.Remove.{row_under, held_join, row_append, row_del, held_del, tree_del, tree_without, row_entry, held_entry, row_without, pair_at, IsFreeAt, IsNothing, BeginsFree, RowHasFreeGap, HeldHasFreeGap}
 use Rattle.std.specs.List.{remove}
@@ -13,6 +13,7 @@ use Rattle.std.proofs.lemmas.List.{drop_all}
 use Rattle.std.specs.Prelude.{MatchOption}
 use borrow.Rule.Slice.PartMut.{put_mid}
 use Rattle.merkle_search_tree.proofs.Parts.{with_lt}
+use Rattle.merkle_search_tree.proofs.Rows.{row_nodes-row}
 
 -- two pages, joined
 module _ {K D : Type 0} where
@@ -176,6 +177,11 @@ written_back (x ∷ xs) (y ∷ ys) (suc n) e f = ap (λ zs. x ∷ zs) (written_b
 
 -- a vector whose element i was set, and whose elements behind it are lent and came back as t
 module _ {X : Type 0} where
+  length_set : (es : List X) (i : ℕ) (e : X) → length (slice_set es i e) ≡ length es
+  length_set [] i e = refl
+  length_set (y ∷ ys) zero e = refl
+  length_set (y ∷ ys) (suc i) e = ap suc (length_set ys i e)
+
   tail_of : (es : List X) (i : ℕ) (e : X) (k : ℕ) → i < length es → k ≡ length es - suc i → take k (drop (suc i) (slice_set es i e)) ≡ drop (suc i) es
   tail_of [] i e k r q = absurd (omega (arith, r))
   tail_of (y ∷ ys) zero e k r q = take_all k ys (omega (arith, q))
@@ -184,11 +190,6 @@ module _ {X : Type 0} where
   -- what is lent
   pub tail_lent : (es xs : List X) (i m : ℕ) (e : X) → xs ≡ slice_set es i e → i < length es → m ≡ suc i → take (length xs - m) (drop m xs) ≡ drop (suc i) es
   tail_lent es xs i m e p r q = (λ j. take (length xs - m) (drop (q j) (p j))) ∙ tail_of es i e (length xs - m) r (omega (arith, q, ap length p, length_set es i e))
-    where
-      length_set : (es : List X) (i : ℕ) (e : X) → length (slice_set es i e) ≡ length es
-      length_set [] i e = refl
-      length_set (y ∷ ys) zero e = refl
-      length_set (y ∷ ys) (suc i) e = ap suc (length_set ys i e)
 
   whole_of : (es : List X) (i : ℕ) (e : X) (t : List X) (n k : ℕ) → n ≡ length es → i < length es → length t ≡ k → k ≡ length es - suc i
       → take n (put_mid (suc i) k (slice_set es i e) t ++ drop (length (put_mid (suc i) k (slice_set es i e) t)) (slice_set es i e)) ≡ take (suc i) (slice_set es i e) ++ t
@@ -207,11 +208,6 @@ module _ {X : Type 0} where
       (λ j. take n (put_mid (q j) (length (p j) - q j) (p j) t ++ drop (length (put_mid (q j) (length (p j) - q j) (p j) t)) (slice_set es i e)))
       ∙ whole_of es i e t n (length (slice_set es i e) - suc i) w r (s ∙ length_behind es i r ∙ ap (λ z. z - suc i) (sym (length_set es i e))) (ap (λ z. z - suc i) (length_set es i e))
     where
-      length_set : (es : List X) (i : ℕ) (e : X) → length (slice_set es i e) ≡ length es
-      length_set [] i e = refl
-      length_set (y ∷ ys) zero e = refl
-      length_set (y ∷ ys) (suc i) e = ap suc (length_set ys i e)
-
       length_behind : (es : List X) (i : ℕ) → i < length es → length (drop (suc i) es) ≡ length es - suc i
       length_behind [] i r = absurd (omega (arith, r))
       length_behind (y ∷ ys) zero r = omega arith
@@ -254,10 +250,6 @@ module _ {K D : Type 0} where
   pub without_gives : (cmp : K → K → Ordering) (k : K) (t : Tree K D) → tree_del cmp k t ≡ gives_way (tree_without cmp k t)
   without_gives cmp k (page l c r) = refl
 
-  nodes-len : (es : List (Node K D)) (h : Held K D) → length (row_nodes (row es h)) ≡ length es
-  nodes-len [] h = refl
-  nodes-len (x ∷ es) h = ap suc (nodes-len es h)
-
   -- one page seen twice: without nodes, what stands in its gap is its high page
   pub way_same : (l m : ℕ) (c d : Option (List ℕ)) (es fs : List (Node K D)) (h i : Held K D) → page l c (row es h) ≡ page m d (row fs i) → length es ≡ 0 → gives_way (page m d (row fs i)) ≡ i
-  way_same l m c d es fs h i e z = way_none m d fs i (sym (nodes-len fs i) ∙ ap (λ t. length (nodes_of t)) (sym e) ∙ nodes-len es h ∙ z)
+  way_same l m c d es fs h i e z = way_none m d fs i (ap length (sym (row_nodes-row fs i) ∙ ap nodes_of (sym e) ∙ row_nodes-row es h) ∙ z)
