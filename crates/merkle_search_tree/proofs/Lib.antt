@@ -15,6 +15,7 @@ pub mod Same
 pub mod SameParts
 pub mod Streams
 pub mod Faithful
+pub mod Small
 pub mod Sound
 pub mod Upserts
 pub mod Joins

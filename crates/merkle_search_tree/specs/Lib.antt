@@ -6,6 +6,7 @@ pub mod Canonical
 pub mod TreeOf
 pub mod Stream
 pub mod Faithful
+pub mod Small
 pub mod Cache
 pub mod Events
 pub mod Traversal

@@ -12,7 +12,8 @@ use std::alloc::{AllocError, Global};
 use std::marker::Model;
 use std::num::NonZeroU8;
 
-/// How a page is written as the stream of bytes that its digest is made of. Trees in different formats have different digests.
+/// How a page is written as the stream of bytes that its digest is made of. Peers that compare their trees take one format: in
+/// different formats trees of equal maps never look the same, as far as no digests collide.
 #[derive(Clone, Copy, Debug, PartialEq, Eq)]
 pub enum PageFormat {
     /// For each node the digest of the page below it, the bytes of its key and its value digest, and at the end the digest of the

@@ -101,6 +101,16 @@ pub fn equal_maps_have_equal_page_ranges<K: Ord + KeyBytes, V, H: Hasher<N, K>, 
     let _ = &b.root;
 }
 
+/// The map of a tree in memory is small: its keys have fewer than 2^64 bytes, its value digests `N` bytes, and each page of a tree of
+/// the map has fewer than 2^64 nodes. It looks at the bytes of each key, changes nothing and takes no memory.
+pub fn a_tree_in_memory_is_small<K: Ord + KeyBytes, V, H: Hasher<N, K>, const N: usize>(
+    tree: &MerkleSearchTree<K, V, H, N>,
+)
+    ensures { IsSmall K.cmp (H.digest_of tree.now.hasher) tree.now.base K.bytes_of N (map_of tree.now) }
+{
+    tree.root.look();
+}
+
 /// In format 2, where the bytes of a key tell it from every other, page digests are as faithful as the hash of streams. For any two
 /// maps under one hasher and level base: where no page of one tree and page of the other have unequal streams of one digest, pages
 /// with equal digests have equal maps below them, and root pages with equal digests have equal maps.

@@ -13,6 +13,7 @@ mod cut;
 mod equality;
 mod hash;
 pub mod laws;
+mod measure;
 mod node_iter;
 mod page;
 mod page_ranges;

@@ -162,8 +162,8 @@ impl<K: Ord + KeyBytes, V, H: Hasher<N, K>, const N: usize> MerkleSearchTree<K, 
     }
 
     /// The digest of the root page: SipHash-2-4-128 of its stream under the zero key, whatever the tree's own hasher is. It
-    /// fills in the digests that pages lack, and takes no memory. Trees of equal maps have equal root hashes; the converse holds
-    /// only as far as no digests collide.
+    /// fills in the digests that pages lack, and takes no memory. Trees of equal maps have equal root hashes, under one hasher,
+    /// level base and page format; the converse holds only as far as no digests collide, and in format 1 streams can be equal, too.
     pub fn root_hash(&mut self) -> &RootHash
         ensures* tree { sem 𝓛 (follows_so (the_row K.row V.row H.row (number N) K.Ord.own K.PartialEq K.PartialOrd.own K.KeyBytes.own H.Hasher) (the_row K.row V.row H.row (number N) K.Ord.own K.PartialEq K.PartialOrd.own K.KeyBytes.own H.Hasher) self.entry.ghost_name none (λ _ _. ⊤)
             (λ t. t ≡ record self.old { root = filled self.old.format K.bytes_of self.old.root; root_hash = Some (page_digest self.old.format K.bytes_of self.old.root) })) }
