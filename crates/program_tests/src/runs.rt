@@ -36,25 +36,13 @@ fn serve(
     (result, writer.taken)
 }
 
-const ROWS: [(&[u8], &[u8]); 23] = [
-    // page formats
-    (
-        b"put a x 1\nformat 2\ndel a x\nformat 2\nput a x 1\nput b x 1\nsame\nformat 3\n",
-        b"ok\nnot empty\nok\nok\nok\nok\nsame\nbad line\n",
-    ),
-    (
-        b"format 2\nput a x 1\nput b x 1\nsame\nformat 3\nformat 1\nformat\nformat 1 \n",
-        b"ok\nok\nok\nsame\nbad line\nnot empty\nbad line\nbad line\n",
-    ),
-    // rows are taken out in format 2 as in format 1
-    (
-        b"format 2\nput a x 1\nput b x 5\ndel a x\ndel a x\nkeys a\npull a\nkeys a\n",
-        b"ok\nok\nok\nok\nabsent\nend\nx x\nend\njoined 1\nx 5\nend\n",
-    ),
-    (
-        b"format 2\nput a x 1\nput a y 2\ndel a x\nput b y 2\nsame\nformat 1\ndel a y\ndel b y\nformat 1\nsame\n",
-        b"ok\nok\nok\nok\nok\nsame\nnot empty\nok\nok\nok\nsame\n",
-    ),
+/// Lines with a pull by each replica: a pulls from b, then b from a.
+const PULLS: (&[u8], &[u8]) = (
+    b"put a donkey 1\nput b bananas 1\nput b pl\xc3\xa1tanos 1\ndiff a\npull a\nkeys a\nsame\npull b\nsame\n",
+    b"ok\nok\nok\nbananas pl\xc3\xa1tanos\nend\nbananas pl\xc3\xa1tanos\nend\njoined 2\nbananas 1\ndonkey 1\npl\xc3\xa1tanos 1\nend\ndiffer\nbananas pl\xc3\xa1tanos\nend\njoined 3\nsame\n",
+);
+
+const ROWS: [(&[u8], &[u8]); 24] = [
     (
         b"put a k 1\nkeys a\nkeys b\nhello\n",
         b"ok\nk 1\nend\nend\nbad line\n",
@@ -99,11 +87,7 @@ const ROWS: [(&[u8], &[u8]); 23] = [
         b"put b b 1\nput b \xc3\xa9 2\nput b ab 3\nput b a 4\nput b Z 5\nkeys b\n",
         b"ok\nok\nok\nok\nok\nZ 5\na 4\nab 3\nb 1\n\xc3\xa9 2\nend\n",
     ),
-    // a pulls from b, then b from a
-    (
-        b"put a donkey 1\nput b bananas 1\nput b pl\xc3\xa1tanos 1\ndiff a\npull a\nkeys a\nsame\npull b\nsame\n",
-        b"ok\nok\nok\nbananas pl\xc3\xa1tanos\nend\nbananas pl\xc3\xa1tanos\nend\njoined 2\nbananas 1\ndonkey 1\npl\xc3\xa1tanos 1\nend\ndiffer\nbananas pl\xc3\xa1tanos\nend\njoined 3\nsame\n",
-    ),
+    PULLS,
     // the same rows, whatever order they came in
     (
         b"same\nput a k 1\nsame\nput b k 1\nsame\n",
@@ -137,6 +121,29 @@ const ROWS: [(&[u8], &[u8]); 23] = [
     (
         b"turns\nturns \nturns x\nturns -1\nturns 1 \nturns /\nturns :\nTurns 1\nput\nput a\nput k 1\n",
         b"bad line\nbad line\nbad line\nbad line\nbad line\nbad line\nbad line\nbad line\nbad line\nbad line\nbad line\n",
+    ),
+    // page formats: a replica without rows can change it, and others keep it
+    (
+        b"put a x 1\nformat 2\ndel a x\nformat 2\nput a x 1\nput b x 1\nsame\nformat 3\n",
+        b"ok\nnot empty\nok\nok\nok\nok\nsame\nbad line\n",
+    ),
+    (
+        b"put b x 1\nformat 1\nformat 2\ndel b x\nformat 2\nroot b\nformat 1\nroot b\n",
+        b"ok\nnot empty\nnot empty\nok\nok\n9/FwCJ+cWkM577LEunsrHQ==\nok\nUEnXR4Cj4H1CAqtH1M7y9A==\n",
+    ),
+    (
+        b"format\nformat \nformat 0\nformat 3\nformat 12\nformat 1 \nformat  1\nformat a\nformat a 1\nFormat 1\n",
+        b"bad line\nbad line\nbad line\nbad line\nbad line\nbad line\nbad line\nbad line\nbad line\nbad line\n",
+    ),
+    // rows are taken out in format 2 as in format 1
+    (
+        b"format 2\nput a x 1\nput b x 5\ndel a x\ndel a x\nkeys a\npull a\nkeys a\n",
+        b"ok\nok\nok\nok\nabsent\nend\nx x\nend\njoined 1\nx 5\nend\n",
+    ),
+    // pulls by turns in format 2
+    (
+        b"format 2\nput a k0001 1\nput a k0004 1\nput a k0005 1\nput b k0003 1\nput b k0007 1\nturns 4\nsame\nkeys b\n",
+        b"ok\nok\nok\nok\nok\nok\njoined 0\njoined 1\njoined 3\njoined 5\nend\nsame\nk0001 1\nk0003 1\nk0004 1\nk0005 1\nk0007 1\nend\n",
     ),
 ];
 
@@ -197,8 +204,8 @@ fn shows_many_rows_in_order(rt: HostRuntime) -> Result<(), Fail> {
     Ok(())
 }
 
-/// Numbers of rows, and the root hash that the Rust crate merkle-search-tree 0.8.0 gives them: the keys are the texts k0000, k0001
-/// and so on, and each has the square of its number.
+/// Numbers of rows, and their root hash in format 1, which is that of the Rust crate merkle-search-tree 0.8.0: the keys are the texts
+/// k0000, k0001 and so on, and each has the square of its number.
 const ROOTS: [(u64, &str); 15] = [
     (0, "UEnXR4Cj4H1CAqtH1M7y9A=="),
     (1, "yHnxQb2UAvJQMlq9TWK/Cw=="),
@@ -217,21 +224,49 @@ const ROOTS: [(u64, &str); 15] = [
     (2000, "dANiWnICsGau1PiWojttvA=="),
 ];
 
+/// The same in format 2, by a second program.
+const ROOTS_OF_FORMAT_2: [(u64, &str); 5] = [
+    (0, "9/FwCJ+cWkM577LEunsrHQ=="),
+    (1, "KIFCoxJAxub0v94KVeZbYQ=="),
+    (17, "ieBcg6uxMsPZXRhC8HJXvw=="),
+    (100, "iswy42fCOg4qStLKIFV8KQ=="),
+    (1000, "AOKYcKgCzGnwzaasl2I7fg=="),
+];
+
+/// What is written to a line that sets the format, to so many puts, and to a line that asks for the root hash.
+fn root_of_rows(alloc: Global, format: u8, count: u64) -> Result<Vec<u8>, Fail> {
+    let mut input = format!(in alloc; "format {format}\n")?;
+    for number in (0..count).rev() {
+        writeln!(input, "put a k{number:04} {}", number.wrapping_mul(number))?;
+    }
+    input.push_str("root a\n")?;
+    let mut output = Vec::new(alloc);
+    let mut reader = FromRead::new(input.as_bytes());
+    let mut writer = ToWrite::new(&mut output);
+    match run(alloc, &mut reader, &mut writer) {
+        Ok(()) => Ok(output),
+        Err(_) => Err(Fail::from("a fault")),
+    }
+}
+
+/// Whether the last line that is written is this root hash.
+fn shows_root(alloc: Global, format: u8, count: u64, root: &str) -> Result<bool, Fail> {
+    let output = root_of_rows(alloc, format, count)?;
+    let end = output.len().saturating_sub(1);
+    let start = end.saturating_sub(root.len());
+    Ok(&output[start..end] == root.as_bytes())
+}
+
 #[test]
-fn shows_the_root_hashes_of_the_rust_crate(rt: HostRuntime) -> Result<(), Fail> {
+fn shows_the_root_hashes_of_the_tables(rt: HostRuntime) -> Result<(), Fail> {
     for (count, root) in ROOTS {
-        let mut input = String::new(rt.alloc());
-        for number in (0..count).rev() {
-            writeln!(input, "put a k{number:04} {}", number.wrapping_mul(number))?;
-        }
-        input.push_str("root a\n")?;
-        let mut output = Vec::new(rt.alloc());
-        let mut reader = FromRead::new(input.as_bytes());
-        let mut writer = ToWrite::new(&mut output);
-        assert_eq!(rt; run(rt.alloc(), &mut reader, &mut writer), Ok(()));
-        let end = output.len().saturating_sub(1);
-        let start = end.saturating_sub(root.len());
-        assert_eq!(rt; &output[start..end], root.as_bytes(), "{count} rows");
+        assert!(rt; shows_root(rt.alloc(), 1, count, root)?, "{count} rows");
+    }
+    for (count, root) in ROOTS_OF_FORMAT_2 {
+        assert!(rt;
+            shows_root(rt.alloc(), 2, count, root)?,
+            "{count} rows in format 2"
+        );
     }
     Ok(())
 }
@@ -311,10 +346,7 @@ fn names_its_faults(rt: HostRuntime) {
     assert_eq!(rt; RunFault::Write.text(), "mst_pair: write failed");
 }
 
-/// Which of `ROWS` has a pull from each replica.
-const PULLS: usize = 9;
-
-/// The replies to `ROWS[PULLS]` where one of its lines was refused memory: a put, the line `diff a`, the first pull before it
+/// The replies to `PULLS` where one of its lines was refused memory: a put, the line `diff a`, the first pull before it
 /// joined a row and after it did, and the second pull before and after it joined the row that lacked.
 const REFUSED: [&[u8]; 8] = [
     b"no memory\nok\nok\nbananas pl\xc3\xa1tanos\nend\nbananas pl\xc3\xa1tanos\nend\njoined 2\nbananas 1\npl\xc3\xa1tanos 1\nend\nsame\nend\njoined 0\nsame\n",
@@ -331,7 +363,7 @@ const REFUSED: [&[u8]; 8] = [
 /// answers `no memory`, and the replies are those that the rows then give.
 #[test]
 fn answers_where_memory_is_refused(rt: HostRuntime) {
-    let (input, stored) = ROWS[PULLS];
+    let (input, stored) = PULLS;
     let (result, taken) = serve(rt.alloc(), input, 100, false, 1024, false);
     assert_eq!(rt; result, Ok(()));
     assert!(rt;
