@@ -12,3 +12,4 @@ pub mod Asks
 pub mod Within
 pub mod Pulling
 pub mod FromStreams
+pub mod Small

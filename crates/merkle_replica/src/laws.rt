@@ -1,4 +1,4 @@
-//! Laws over the definitions alone, of maps whose trees are in page format 2. The function has no effect and takes no memory.
+//! Laws over the definitions alone, of maps whose trees are in page format 2. Each function has no effect and takes no memory.
 
 ghost use Rattle.std.specs.Prelude.{◌≡◌, ℕ, ◌≤◌, List, Some, length};
 ghost use Rattle.std.specs.List.{AllByRecursion};
@@ -12,8 +12,9 @@ ghost use Rattle.merkle_replica.specs.Faithful.{SpanHolds, IsFaithful, IsCollisi
 ghost use Rattle.merkle_replica.specs.Pulls.{Answer, IsAnswerFor, IsByTurns, HasRanges};
 
 use crate::join::Join;
-use merkle_digest::{Hasher, KeyBytesExact};
-use merkle_search_tree::laws::exact_keys_make_pages_faithful;
+use crate::replica::Replica;
+use merkle_digest::{Hasher, KeyBytes, KeyBytesExact};
+use merkle_search_tree::laws::{a_tree_in_memory_is_small, exact_keys_make_pages_faithful};
 
 /// In format 2, where the bytes of a key tell it from every other, it is premise enough that no streams and no values collide, for
 /// coverage by [`Replica::pull`](crate::Replica::pull), for convergence by [`pull_by_turns`](crate::pull_by_turns), and for the
@@ -56,4 +57,17 @@ pub fn no_collision_is_enough<
         → IsJoin K.cmp V.eq V.join_of a b a' × IsJoin K.cmp V.eq V.join_of a b b' }
 {
     exact_keys_make_pages_faithful::<K, H, N>();
+}
+
+/// The map of a replica in memory is small: its keys have fewer than 2^64 bytes, the digests of its values `N` bytes, and each page of a
+/// tree of the map has fewer than 2^64 nodes. It looks at the bytes of each key.
+pub fn a_replica_in_memory_is_small<
+    K: Ord + KeyBytes + Clone,
+    V: Join,
+    H: Hasher<N, K> + Hasher<N, V>,
+    const N: usize,
+>(replica: &Replica<K, V, H, N>)
+    ensures { IsSmall K.cmp (⟦<H as Hasher<N, K>>⟧.digest_of replica.now.tree.hasher) replica.now.tree.base K.bytes_of N (digests (⟦<H as Hasher<N, V>>⟧.digest_of replica.now.tree.hasher) replica.now.rows) }
+{
+    a_tree_in_memory_is_small(replica.tree());
 }
