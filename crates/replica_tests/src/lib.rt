@@ -6,6 +6,8 @@ mod joins;
 #[cfg(test)]
 mod memory;
 #[cfg(test)]
+mod mixed_formats;
+#[cfg(test)]
 mod random_pairs;
 #[cfg(test)]
 mod refusals;

@@ -1,7 +1,7 @@
 //! Four pulls by turns between random small maps, whose keys are on random levels.
 
 use merkle_replica::{Replica, pull_by_turns};
-use merkle_search_tree::builder::Builder;
+use merkle_search_tree::builder::{Builder, PageFormat};
 use std::alloc::{AllocError, Global};
 use std::test::Fail;
 use testing::{LevelHasher, number_key};
@@ -72,13 +72,15 @@ fn hasher(alloc: Global, levels: &[u8; COUNT]) -> Result<LevelHasher<[u8; 2]>, A
     Ok(LevelHasher::new(keys))
 }
 
-/// The map of these values.
+/// The map of these values, with a tree in a page format.
 fn numbers(
     alloc: Global,
+    format: PageFormat,
     values: &[u64; COUNT],
     hasher: LevelHasher<[u8; 2]>,
 ) -> Result<Numbers, AllocError> {
-    let mut replica = Numbers::new(alloc, Builder::default().with_hasher(hasher));
+    let builder = Builder::default().with_page_format(format);
+    let mut replica = Numbers::new(alloc, builder.with_hasher(hasher));
     for (number, value) in NUMBERS.iter().zip(values.iter()) {
         if *value > 0 {
             put(&mut replica, *number, *value)?;
@@ -114,14 +116,19 @@ fn greatest(a: &[u64; COUNT], b: &[u64; COUNT]) -> [u64; COUNT] {
     joined
 }
 
-/// Whether four pulls by turns leave two maps of random values, whose keys are on the same random levels, with the join of both.
-fn join_in_four_turns(alloc: Global, random: &mut Random) -> Result<bool, AllocError> {
+/// Whether four pulls by turns leave two maps of random values in a page format, whose keys are on the same random levels, with the
+/// join of both.
+fn join_in_four_turns(
+    alloc: Global,
+    format: PageFormat,
+    random: &mut Random,
+) -> Result<bool, AllocError> {
     let hasher = hasher(alloc, &random.levels())?;
     let a_values = random.values();
     let b_values = random.values();
     let joined = greatest(&a_values, &b_values);
-    let mut a = numbers(alloc, &a_values, hasher.clone()?)?;
-    let mut b = numbers(alloc, &b_values, hasher)?;
+    let mut a = numbers(alloc, format, &a_values, hasher.clone()?)?;
+    let mut b = numbers(alloc, format, &b_values, hasher)?;
     let are_built = holds(&a, &a_values) && holds(&b, &b_values);
     let are_pulled = four_turns(alloc, &mut a, &mut b);
     let are_joined = holds(&a, &joined) && holds(&b, &joined);
@@ -130,12 +137,14 @@ fn join_in_four_turns(alloc: Global, random: &mut Random) -> Result<bool, AllocE
 
 #[test]
 fn four_turns_join_random_maps(rt: HostRuntime) -> Result<(), Fail> {
-    let mut random = Random { state: 2019 };
-    for round in 0..200 {
-        assert!(rt;
-            join_in_four_turns(rt.alloc(), &mut random)?,
-            "round {round}"
-        );
+    for format in [PageFormat::V1, PageFormat::V2] {
+        let mut random = Random { state: 2019 };
+        for round in 0..200 {
+            assert!(rt;
+                join_in_four_turns(rt.alloc(), format, &mut random)?,
+                "{format:?}: round {round}"
+            );
+        }
     }
     Ok(())
 }

@@ -1,13 +1,13 @@
-//! Four pulls by turns between two sets of keys that are all on level 0.
+//! Four pulls by turns between two sets of keys that are all on level 0, in both page formats.
 
 use merkle_replica::{PullError, Pulled, Replica, TurnsError, pull_by_turns};
-use merkle_search_tree::builder::Builder;
+use merkle_search_tree::builder::{Builder, PageFormat};
 use std::alloc::{AllocError, Global};
 use std::test::Fail;
 use testing::{LevelHasher, number_key};
 
 /// A set of number keys.
-type Numbers = Replica<[u8; 2], (), LevelHasher<[u8; 2]>, 32>;
+pub type Numbers = Replica<[u8; 2], (), LevelHasher<[u8; 2]>, 32>;
 
 /// A line for each: the keys of a and of b, how many rows each of four pulls joined, and the keys of both afterwards.
 const TURNS: &str = "\
@@ -34,10 +34,11 @@ fn turn(
     pull_by_turns(alloc, a, b, n)
 }
 
-/// The set of the keys of a text, all on level 0.
-fn numbers(alloc: Global, text: &str) -> Result<Numbers, Fail> {
+/// The set of the keys of a text, all on level 0, with a tree in a page format.
+pub fn numbers(alloc: Global, format: PageFormat, text: &str) -> Result<Numbers, Fail> {
     let hasher = LevelHasher::new(Vec::new(alloc));
-    let mut replica = Numbers::new(alloc, Builder::default().with_hasher(hasher));
+    let builder = Builder::default().with_page_format(format);
+    let mut replica = Numbers::new(alloc, builder.with_hasher(hasher));
     for word in text.split_whitespace() {
         put(&mut replica, word.parse::<u16>()?)?;
     }
@@ -45,7 +46,7 @@ fn numbers(alloc: Global, text: &str) -> Result<Numbers, Fail> {
 }
 
 /// The keys of a set, a blank before each.
-fn shown(alloc: Global, replica: &Numbers) -> Result<String, AllocError> {
+pub fn shown(alloc: Global, replica: &Numbers) -> Result<String, AllocError> {
     let mut text = String::new(alloc);
     for (key, _) in replica.rows() {
         let number = u16::from_be_bytes(*key);
@@ -77,11 +78,17 @@ fn join_as_many(
     }
 }
 
-/// Whether four pulls between sets of these keys go as the rest of a line says.
-fn go_as_said(alloc: Global, a_keys: &str, b_keys: &str, rest: &str) -> Result<bool, Fail> {
+/// Whether four pulls between sets of these keys in a page format go as the rest of a line says.
+fn go_as_said(
+    alloc: Global,
+    format: PageFormat,
+    a_keys: &str,
+    b_keys: &str,
+    rest: &str,
+) -> Result<bool, Fail> {
     let (wanted, joined) = rest.split_once('|').ok_or("no join")?;
-    let mut a = numbers(alloc, a_keys)?;
-    let mut b = numbers(alloc, b_keys)?;
+    let mut a = numbers(alloc, format, a_keys)?;
+    let mut b = numbers(alloc, format, b_keys)?;
     let are_counted = join_as_many(alloc, &mut a, &mut b, wanted)?;
     Ok(are_counted && shown(alloc, &a)?.as_str() == joined && shown(alloc, &b)?.as_str() == joined)
 }
@@ -91,7 +98,12 @@ fn four_turns_join_both(rt: HostRuntime) -> Result<(), Fail> {
     for line in TURNS.lines() {
         let (a_keys, rest) = line.split_once('|').ok_or("no keys of b")?;
         let (b_keys, rest) = rest.split_once('|').ok_or("no counts")?;
-        assert!(rt; go_as_said(rt.alloc(), a_keys, b_keys, rest)?, "at {line}");
+        for format in [PageFormat::V1, PageFormat::V2] {
+            assert!(rt;
+                go_as_said(rt.alloc(), format, a_keys, b_keys, rest)?,
+                "{format:?}: {line}"
+            );
+        }
     }
     Ok(())
 }
@@ -110,7 +122,7 @@ fn ranges(alloc: Global, all: &[Pulled<[u8; 2]>]) -> Result<String, AllocError> 
 }
 
 /// Adds these ranges to a text, a blank before each.
-fn add_ranges(
+pub fn add_ranges(
     alloc: Global,
     text: &mut String,
     ranges: &[([u8; 2], [u8; 2])],
@@ -125,8 +137,8 @@ fn add_ranges(
 
 #[test]
 fn turns_ask_for_growing_ranges(rt: HostRuntime) -> Result<(), Fail> {
-    let mut a = numbers(rt.alloc(), "1 4 5")?;
-    let mut b = numbers(rt.alloc(), "3 7")?;
+    let mut a = numbers(rt.alloc(), PageFormat::V1, "1 4 5")?;
+    let mut b = numbers(rt.alloc(), PageFormat::V1, "3 7")?;
     match turn(rt.alloc(), &mut a, &mut b, 4) {
         Ok(all) => assert_eq!(rt; ranges(rt.alloc(), &all)?.as_str(), RANGES),
         Err(_) => return Err(Fail::from("no memory")),
@@ -135,14 +147,14 @@ fn turns_ask_for_growing_ranges(rt: HostRuntime) -> Result<(), Fail> {
 }
 
 /// Pulls from a peer.
-fn pull(a: &mut Numbers, b: &mut Numbers) -> Result<Pulled<[u8; 2]>, PullError<[u8; 2]>> {
+pub fn pull(a: &mut Numbers, b: &mut Numbers) -> Result<Pulled<[u8; 2]>, PullError<[u8; 2]>> {
     a.pull(b)
 }
 
 #[test]
 fn calls_succeed_where_memory_is_at_hand(rt: HostRuntime) -> Result<(), Fail> {
-    let mut a = numbers(rt.alloc(), "")?;
-    let mut b = numbers(rt.alloc(), "2 1")?;
+    let mut a = numbers(rt.alloc(), PageFormat::V1, "")?;
+    let mut b = numbers(rt.alloc(), PageFormat::V1, "2 1")?;
     assert!(rt; put(&mut a, 3).is_ok());
     assert!(rt; pull(&mut a, &mut b).is_ok());
     match turn(rt.alloc(), &mut a, &mut b, 0) {
