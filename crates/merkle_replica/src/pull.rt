@@ -81,8 +81,8 @@ impl<
     ///
     /// A value that is new here is copied by joining it with itself. The bounds of the ranges are copied before a row is joined.
     ///
-    /// Replicas whose trees are in different page formats never look the same, as far as no digests collide: even where their rows
-    /// are equal, a pull asks for ranges, and joins what is there already. What it joins is right all the same, and no row is lost.
+    /// Replicas of equal rows whose trees are in different page formats don't look the same, as far as no digests collide: a pull then
+    /// asks for ranges, and joins what is there already. Whatever it joins is right all the same, and no row is lost.
     pub fn pull(&mut self, peer: &mut Replica<K, V, H, N>) -> Result<Pulled<K>, PullError<K>>
         // A clone of a key equals its original.
         requires clones { (a b : K) → K.is_clone a b → Same K.cmp a b }
