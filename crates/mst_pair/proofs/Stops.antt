@@ -1,5 +1,5 @@
 -- Pulls of replicas of the program, in the words of the engine.
-use Rattle.std.proofs.Common.{◌≡◌, ap, ℕ, List, [], ◌∷◌, max, nat_eq, inl, inr, subst, string_bytes, map, Some, Result, Ok, Err, IfErr, OnErr}
+use Rattle.std.proofs.Common.{ℕ, List, [], ◌∷◌, max, nat_eq, inl, inr, subst, string_bytes, map, Result, Ok, Err, IfErr, OnErr}
 use Rattle.std.specs.Int.{w64, to_le_bytes}
 use Rattle.merkle_digest.specs.SipHash.{siphash128}
 use Rattle.key_order.specs.Interval.{Span}
