@@ -22,6 +22,8 @@ pub mod Joins
 pub mod Seams
 pub mod Removes
 pub mod Removals
+pub mod Edges
+pub mod Loadings
 pub mod Replays
 pub mod Equals
 pub mod Copies

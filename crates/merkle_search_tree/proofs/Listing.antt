@@ -60,7 +60,7 @@ module _ {K X : Type 0} (cmp : K → K → Ordering) (o : IsTotalOrder cmp) wher
   all_below R (p ∷ ps) [] x y e s h = absurd s
   all_below R (p ∷ ps) (q ∷ qs) x y e s h = (low_up cmp o x q.0 p.0 (up_low cmp o x y q.0 (same_up cmp o x y e) h.0) (same_down cmp o p.0 q.0 s.0), all_below R ps qs x y e s.2 h.1)
 
-  ascends : (R : X → X → Type 0) (a b : List (K × X)) → SameMap cmp R a b → IsMap cmp b → IsMap cmp a
+  pub ascends : (R : X → X → Type 0) (a b : List (K × X)) → SameMap cmp R a b → IsMap cmp b → IsMap cmp a
   ascends R [] b s h = tt
   ascends R (p ∷ ps) [] s h = absurd s
   ascends R (p ∷ ps) (q ∷ qs) s h = (all_below R ps qs p.0 q.0 s.0 s.2 h.0, ascends R ps qs s.2 h.1)

@@ -16,7 +16,7 @@ use Rattle.merkle_search_tree.specs.Page.{level, row_pairs, held_pairs, LevelsFa
 use Rattle.merkle_search_tree.specs.CachedRanges.{as_list, first_of, last_of, range_from, range_of, cached_ranges, row_cached, held_cached}
 
 module _ {K D : Type 0} where
-  last-append : (c : K) (ps : List (K × D)) (q : K × D) (qs : List (K × D)) → last_key c (ps ++ q ∷ qs) ≡ last_key q.0 qs
+  pub last-append : (c : K) (ps : List (K × D)) (q : K × D) (qs : List (K × D)) → last_key c (ps ++ q ∷ qs) ≡ last_key q.0 qs
   last-append c [] q qs = refl
   last-append c (p ∷ ps) q qs = last-append p.0 ps q qs
 

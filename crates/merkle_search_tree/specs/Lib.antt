@@ -25,5 +25,7 @@ pub mod Chain
 pub mod Cut
 pub mod Split
 pub mod Remove
+pub mod Edge
+pub mod Loading
 pub mod Updates
 pub mod Listing

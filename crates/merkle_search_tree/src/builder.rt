@@ -27,9 +27,9 @@ pub enum PageFormat {
 /// Makes trees with a hasher, a level base and a page format. A contract sees the three.
 #[derive(Drop)]
 pub struct Builder<H> {
-    hasher: H,
-    level_base: NonZeroU8,
-    page_format: PageFormat,
+    pub(crate) hasher: H,
+    pub(crate) level_base: NonZeroU8,
+    pub(crate) page_format: PageFormat,
 }
 
 impl<H> Model for Builder<H> {

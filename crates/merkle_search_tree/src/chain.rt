@@ -10,7 +10,7 @@ use std::alloc::{AllocError, Global};
 
 impl<K: Drop, D: Drop> PageOf<K, D> {
     /// Hangs a page above the last node.
-    fn hang_high(&mut self, held: Option<Box<PageOf<K, D>>>)
+    pub(crate) fn hang_high(&mut self, held: Option<Box<PageOf<K, D>>>)
         ensures { self.new ≡ remade 0 self.old (with_high (held_of held) (row_of_page self.old)) }
     {
         self.high_page = held;

@@ -39,7 +39,7 @@ fn first_key_below<K, D>(held: &Option<Box<PageOf<K, D>>>) -> Option<&K>
 
 /// The last key of a page and those below it.
 #[cycle(last)]
-fn last_key<K, D>(page: &PageOf<K, D>) -> Option<&K>
+pub(crate) fn last_key<K, D>(page: &PageOf<K, D>) -> Option<&K>
     ensures { option_map (λ key. key.now) result ≡ last_of (pairs page.now) }
 {
     match last_key_below(&page.high_page) {

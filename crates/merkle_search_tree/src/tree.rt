@@ -12,6 +12,7 @@ ghost use Rattle.merkle_search_tree.specs.Page.{level, pair_of, nodes_of, nodes_
 ghost use Rattle.merkle_search_tree.specs.Upsert.{place};
 ghost use Rattle.merkle_search_tree.specs.Cache.{missing, KeyUncached};
 ghost use Rattle.merkle_search_tree.specs.Copy.{IsCopy};
+ghost use Rattle.merkle_search_tree.specs.Sound.{IsSound};
 ghost use Rattle.merkle_search_tree.specs.State.{map_of, IsNew};
 ghost use Rattle.merkle_search_tree.specs.declared.builder.PageFormat.TheVariants.{V1};
 
@@ -104,6 +105,22 @@ impl<K: Ord + KeyBytes, V, H: Hasher<N, K>, const N: usize> MerkleSearchTree<K, 
             level_base,
             page_format,
             root: Page::empty(alloc),
+            root_hash: None,
+            value_type: PhantomData,
+        }
+    }
+
+    /// The tree with the builder's hasher, level base and page format, and this root page. It isn't hashed.
+    pub(crate) fn with_root(alloc: Global, builder: Builder<H>, root: Page<N, K>) -> Self
+        requires { IsSound K.cmp H.digest_of K.bytes_of (record { hasher = builder.hasher; base = builder.base; format = builder.format; root = root; root_hash = None }) }
+        ensures { result ≡ record { hasher = builder.hasher; base = builder.base; format = builder.format; root = root; root_hash = None } }
+    {
+        MerkleSearchTree {
+            alloc,
+            hasher: builder.hasher,
+            level_base: builder.level_base,
+            page_format: builder.page_format,
+            root,
             root_hash: None,
             value_type: PhantomData,
         }

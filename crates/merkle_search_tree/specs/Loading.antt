@@ -1,0 +1,43 @@
+-- A tree that is being loaded from rows in ascending key order.
+use Rattle.std.specs.Prelude.{◌≡◌, ℕ, ◌-◌, ◌^◌, min, List, [], ◌∷◌, ◌++◌, map, length, ⊤}
+use Rattle.std.specs.declared.cmp.Ordering.{Ordering}
+use Rattle.key_order.specs.Map.{IsMap}
+use Rattle.merkle_digest.specs.Level.{level_of}
+use Rattle.merkle_search_tree.specs.Edge.{IsEdge, edge_pairs}
+use Rattle.merkle_search_tree.specs.Settings.{Settings}
+use Rattle.merkle_search_tree.specs.declared.load.Loading.{Loading}
+use Rattle.merkle_search_tree.specs.declared.load.LoadRefused.{LoadRefused}
+use Rattle.merkle_search_tree.specs.declared.load.LoadRefused.TheVariants.{Memory, NotAscending}
+
+-- how many rows there are, but at most what a `usize` holds
+abbrev pub row_count : {X : Type 0} → List X → ℕ
+row_count rows = min (length rows) (2 ^ 64 - 1)
+
+-- the pairs of the open pages ascend, the pages are those of a right edge, and the pairs are counted
+pub record IsLoading {K H : Type 0} (cmp : K → K → Ordering) (digest_of : H → K → List ℕ) (settings : Settings H) (loading : Loading K (List ℕ)) : Type 0 where
+  pub ascending : IsMap cmp (edge_pairs loading.edge.items)
+  pub fits : IsEdge (λ k. level_of (digest_of settings.hasher k) settings.base) 256 loading.edge.items
+  pub counted : loading.count ≡ row_count (edge_pairs loading.edge.items)
+
+-- each key with the digest of its value
+abbrev pub digests_of : {K V D : Type 0} → (V → D) → List (K × V) → List (K × D)
+digests_of digest_of = map (λ r. (r.0, digest_of r.1))
+
+-- the rows begin with these
+abbrev pub BeginsWith : {X : Type 0} → List X → List X → Type 0
+BeginsWith {X} rows front = (rest : List X) × (front ++ rest ≡ rows)
+
+module _ {K X : Type 0} (cmp : K → K → Ordering) where
+  -- behind these rows, which ascend, a row with the key k doesn't
+  abbrev pub EndsAscent : List (K × X) → K → Type 0
+  EndsAscent rows k = IsMap cmp rows × ((x : X) → ¬ (IsMap cmp (rows ++ (k, x) ∷ [])))
+
+  -- a row with the key k was refused behind these rows: memory was refused, or it doesn't ascend
+  abbrev pub IsRefused : List (K × X) → K → LoadRefused → Type 0
+  IsRefused rows k Memory = ⊤
+  IsRefused rows k (NotAscending at) = EndsAscent rows k × (at ≡ row_count rows)
+
+  -- loading was refused: memory was refused, or the last of the rows that came is the first that doesn't ascend
+  abbrev pub LoadFails : (List (K × X) → Type 0) → LoadRefused → Type 0
+  LoadFails Came Memory = ⊤
+  LoadFails Came (NotAscending at) = (rows : List (K × X)) × (row : K × X) × Came (rows ++ row ∷ []) × EndsAscent rows row.0 × (at ≡ row_count rows)

@@ -1,0 +1,170 @@
+//! Building a tree of rows that come in ascending key order.
+
+ghost use Rattle.std.specs.Prelude.{◌≡◌, [], ◌∷◌, ◌++◌, IfOk, IfErr, OnOk, None};
+ghost use Rattle.std.specs.Iterator.{IsFiniteIterable};
+ghost use Rattle.key_order.specs.Order.{Same};
+ghost use Rattle.key_order.specs.Map.{IsMap, SameMap};
+ghost use Rattle.merkle_diff.specs.Iterable.{Gives, Begins};
+ghost use Rattle.merkle_search_tree.specs.Edge.{edge_pairs};
+ghost use Rattle.merkle_search_tree.specs.Loading.{digests_of, IsLoading, IsRefused, LoadFails, BeginsWith};
+ghost use Rattle.merkle_search_tree.specs.State.{map_of};
+ghost use Rattle.merkle_search_tree.specs.declared.load.LoadRefused.TheVariants.{Memory};
+
+use crate::builder::Builder;
+use crate::edge::{append, is_above, root_of};
+use crate::page::PageOf;
+use crate::tree::MerkleSearchTree;
+use merkle_digest::{Hasher, KeyBytes, ValueDigest, level};
+use std::alloc::{AllocError, Global};
+
+/// Why rows were not loaded.
+#[derive(Clone, Copy, Debug, PartialEq, Eq)]
+pub enum LoadRefused {
+    /// Memory was refused.
+    Memory,
+    /// The row at this place, counted from 0 and at most `usize::MAX`, is the first whose key isn't above that of the row before it.
+    NotAscending(usize),
+}
+
+impl From<AllocError> for LoadRefused {
+    ghost from_gives = { λ _ fault. fault ≡ Memory };
+
+    fn from(_error: AllocError) -> Self {
+        LoadRefused::Memory
+    }
+}
+
+/// What is loaded so far: the open pages of the right edge, and how many rows came, but at most `usize::MAX`.
+#[derive(Drop)]
+struct Loading<K, D> {
+    edge: Vec<PageOf<K, D>>,
+    count: usize,
+}
+
+/// Puts a row behind those that are loaded.
+fn push_row<K: Ord + KeyBytes + Drop, V: Eq, H: Hasher<N, K> + Hasher<N, V>, const N: usize>(
+    alloc: Global,
+    builder: &Builder<H>,
+    loading: &mut Loading<K, ValueDigest<N>>,
+    key: K,
+    value: &V,
+) -> Result<(), LoadRefused>
+    requires { IsLoading K.cmp ⟦<H as Hasher<N, K>>⟧.digest_of builder.now loading.old }
+    ensures loading { OnOk result (IsLoading K.cmp ⟦<H as Hasher<N, K>>⟧.digest_of builder.now loading.new) }
+    ensures pushed { OnOk result (edge_pairs loading.new.edge.items ≡ edge_pairs loading.old.edge.items ++ (key, ⟦<H as Hasher<N, V>>⟧.digest_of builder.now.hasher value.now) ∷ []) }
+    ensures refused { IfErr result (λ fault. IsRefused K.cmp (edge_pairs loading.old.edge.items) key fault) }
+{
+    if !is_above(&loading.edge, &key) {
+        return Err(LoadRefused::NotAscending(loading.count));
+    }
+    let digest = ValueDigest::new(<H as Hasher<N, V>>::hash(&builder.hasher, value));
+    let key_level = level(
+        &<H as Hasher<N, K>>::hash(&builder.hasher, &key),
+        builder.level_base,
+    );
+    append(alloc, &mut loading.edge, key, key_level, digest)?;
+    loading.count = loading.count.saturating_add(1);
+    Ok(())
+}
+
+/// The tree of the rows that are loaded.
+fn finished<K: Ord + KeyBytes + Drop, V, H: Hasher<N, K> + Drop, const N: usize>(
+    alloc: Global,
+    builder: Builder<H>,
+    loading: Loading<K, ValueDigest<N>>,
+) -> Result<MerkleSearchTree<K, V, H, N>, LoadRefused>
+    requires { IsLoading K.cmp H.digest_of builder loading }
+    ensures tree { IfOk result (λ tree. (map_of tree ≡ edge_pairs loading.edge.items) × (tree.hasher ≡ builder.hasher) × (tree.base ≡ builder.base) × (tree.format ≡ builder.format) × (tree.root_hash ≡ None)) }
+    ensures refused { IfErr result (λ fault. fault ≡ Memory) }
+{
+    let root = root_of(alloc, loading.edge)?;
+    Ok(MerkleSearchTree::with_root(alloc, builder, root))
+}
+
+impl<
+    K: Ord + KeyBytes + Drop,
+    V: Eq + Drop,
+    H: Hasher<N, K> + Hasher<N, V> + Drop,
+    const N: usize,
+> MerkleSearchTree<K, V, H, N> {
+    /// The tree of rows that ascend strictly by key, with the builder's hasher, level base and page format: the tree that upserts of
+    /// the same rows make, in whatever order.
+    ///
+    /// It is built in one pass, in time linear in the number of rows: each key is compared with the one before it alone, and each
+    /// page is written once. Memory is taken for the pages and their nodes, and for a list of the pages to which nodes are still
+    /// added, at most one for each level.
+    ///
+    /// The rows have to end. They are taken to their end, unless they are refused, at the first that doesn't ascend or for want of
+    /// memory: then the rows and the builder are given up.
+    pub fn from_ascending<T>(
+        alloc: Global,
+        builder: Builder<H>,
+        rows: T,
+    ) -> Result<Self, LoadRefused>
+    where
+        T: IntoIterator<Item = (K, V)>,
+        requires ends { IsFiniteIterable T.into_iter_gives T.IntoIter.can_next T.IntoIter.remaining rows }
+
+        // The map is the rows that were given, which ascend, with the digests of their values.
+        ensures map { IfOk result (λ tree. (given : _) × Gives T.into_iter_gives T.IntoIter.next_gives rows given
+            × IsMap K.cmp given × (map_of tree ≡ digests_of (⟦<H as Hasher<N, V>>⟧.digest_of builder.hasher) given)) }
+
+        ensures hasher { IfOk result (λ tree. tree.hasher ≡ builder.hasher) }
+        ensures base { IfOk result (λ tree. tree.base ≡ builder.base) }
+        ensures format { IfOk result (λ tree. tree.format ≡ builder.format) }
+        ensures not_hashed { IfOk result (λ tree. tree.root_hash ≡ None) }
+
+        // Refused, it is at the first row that doesn't ascend, or for want of memory.
+        ensures refused { IfErr result (λ fault. LoadFails K.cmp (Begins T.into_iter_gives T.IntoIter.next_gives rows) fault) }
+    {
+        let mut loading = Loading {
+            edge: Vec::new(alloc),
+            count: 0,
+        };
+        'rows: for (key, value) in rows {
+            push_row(alloc, &builder, &mut loading, key, &value)?;
+        }
+        finished(alloc, builder, loading)
+    }
+}
+
+impl<
+    K: Ord + KeyBytes + Clone + Drop,
+    V: Eq,
+    H: Hasher<N, K> + Hasher<N, V> + Drop,
+    const N: usize,
+> MerkleSearchTree<K, V, H, N> {
+    /// The tree of rows that stay where they are and ascend strictly by key, as [`from_ascending`](Self::from_ascending) builds it, with
+    /// clones of their keys.
+    ///
+    /// Refused, at the first row that doesn't ascend or for want of memory, the builder is given up.
+    pub fn from_ascending_slice(
+        alloc: Global,
+        builder: Builder<H>,
+        rows: &[(K, V)],
+    ) -> Result<Self, LoadRefused>
+        // A clone of a key equals its original.
+        requires clones { (a b : K) → K.is_clone a b → Same K.cmp a b }
+
+        // The map is the rows with the digests of their values.
+        ensures map { IfOk result (λ tree. SameMap K.cmp (λ d e. d ≡ e) (map_of tree) (digests_of (⟦<H as Hasher<N, V>>⟧.digest_of builder.hasher) rows.now)) }
+
+        ensures ascending { IfOk result (λ tree. IsMap K.cmp rows.now) }
+        ensures hasher { IfOk result (λ tree. tree.hasher ≡ builder.hasher) }
+        ensures base { IfOk result (λ tree. tree.base ≡ builder.base) }
+        ensures format { IfOk result (λ tree. tree.format ≡ builder.format) }
+        ensures not_hashed { IfOk result (λ tree. tree.root_hash ≡ None) }
+
+        // Refused, it is at the first row that doesn't ascend, or for want of memory.
+        ensures refused { IfErr result (λ fault. LoadFails K.cmp (BeginsWith rows.now) fault) }
+    {
+        let mut loading = Loading {
+            edge: Vec::new(alloc),
+            count: 0,
+        };
+        'rows: for (key, value) in rows {
+            push_row(alloc, &builder, &mut loading, key.clone()?, value)?;
+        }
+        finished(alloc, builder, loading)
+    }
+}
