@@ -11,6 +11,8 @@ mod formats;
 #[cfg(test)]
 mod lengths;
 #[cfg(test)]
+mod loads;
+#[cfg(test)]
 mod orders;
 #[cfg(test)]
 mod page_ranges;

@@ -113,7 +113,7 @@ pub fn nodes(alloc: Global, tree: &Tree) -> Result<String, AllocError> {
 }
 
 /// The different numbers of these keys in ascending order.
-fn numbers_of(alloc: Global, keys: &[(u16, u8)]) -> Result<Vec<u16>, AllocError> {
+pub fn numbers_of(alloc: Global, keys: &[(u16, u8)]) -> Result<Vec<u16>, AllocError> {
     let mut numbers = Vec::with_capacity(alloc, keys.len())?;
     for (number, _) in keys {
         if !numbers.contains(number) {

@@ -11,7 +11,7 @@ use std::test::Fail;
 use testing::{Value, number_key};
 
 /// A line for each tree: its keys with their levels, in the order in which they are upserted.
-const UPSERTS: &str = "\
+pub const UPSERTS: &str = "\
 \n\
 65:0\n\
 65:4\n\
