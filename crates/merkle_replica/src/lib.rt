@@ -15,6 +15,6 @@ mod value_hasher;
 
 pub use join::Join;
 pub use pull::{PullError, Pulled};
-pub use replica::Replica;
+pub use replica::{Replica, RowsRefused};
 pub use turns::{TurnsError, pull_by_turns};
 pub use value_hasher::ValueHasher;

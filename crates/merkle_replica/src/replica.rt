@@ -1,5 +1,5 @@
 //! A replica: a map from keys to values, with the tree of their digests.
-ghost use Rattle.std.specs.Prelude.{◌≡◌, OnOk, OnErr, IfOk, IfErr, [], ◌∷◌};
+ghost use Rattle.std.specs.Prelude.{◌≡◌, OnOk, OnErr, IfOk, IfErr, [], ◌∷◌, None};
 ghost use Rattle.key_order.specs.Order.{Same};
 ghost use Rattle.key_order.specs.Map.{IsMap, SameMap};
 ghost use Rattle.key_order.specs.Join.{IsJoin};
@@ -10,8 +10,8 @@ ghost use Rattle.merkle_replica.specs.Places.{IsPlaceOf, IsGapFor};
 use crate::join::Join;
 use crate::value_hasher::ValueHasher;
 use merkle_digest::{Hasher, KeyBytes, RootHash};
-use merkle_search_tree::MerkleSearchTree;
 use merkle_search_tree::builder::Builder;
+use merkle_search_tree::{LoadRefused, MerkleSearchTree};
 use std::alloc::{AllocError, Global};
 use std::cmp::Ordering;
 use std::marker::Model;
@@ -206,6 +206,53 @@ impl<
         self.tree.remove(key)?;
         self.rows.remove(at);
         Ok(true)
+    }
+}
+
+/// Rows of which no replica was made.
+#[derive(Drop)]
+pub struct RowsRefused<K, V> {
+    /// The rows, as they were handed in.
+    pub rows: Vec<(K, V)>,
+    /// Why: the place of the first row that doesn't ascend, or want of memory.
+    pub why: LoadRefused,
+}
+
+impl<
+    K: Ord + KeyBytes + Clone + Drop,
+    V: Join,
+    H: Hasher<N, K> + Hasher<N, V> + Drop,
+    const N: usize,
+> Replica<K, V, H, N> {
+    ghost use Rattle.merkle_search_tree.specs.Loading.{LoadFails, BeginsWith};
+
+    /// A replica of rows that ascend strictly by key, whose tree has the builder's hasher, level base and page format. It takes the rows
+    /// over as they are: no row is moved, and each key is cloned once, for the tree.
+    ///
+    /// The tree is built in one pass, as [`MerkleSearchTree::from_ascending_slice`] says. Refused, at the first row that doesn't
+    /// ascend or for want of memory, it hands the rows back, and the builder is given up.
+    pub fn from_rows(
+        alloc: Global,
+        builder: Builder<H>,
+        rows: Vec<(K, V)>,
+    ) -> Result<Self, RowsRefused<K, V>>
+        // A clone of a key equals its original.
+        requires clones { (a b : K) → K.is_clone a b → Same K.cmp a b }
+
+        ensures rows { IfOk result (λ replica. replica.rows ≡ rows.items) }
+        ensures hasher { IfOk result (λ replica. replica.tree.hasher ≡ builder.hasher) }
+        ensures base { IfOk result (λ replica. replica.tree.base ≡ builder.base) }
+        ensures format { IfOk result (λ replica. replica.tree.format ≡ builder.format) }
+        ensures not_hashed { IfOk result (λ replica. replica.tree.root_hash ≡ None) }
+
+        // Refused, the rows are handed back, with the first that doesn't ascend where there is one.
+        ensures returned { IfErr result (λ refused. refused.rows.items ≡ rows.items) }
+        ensures refused { IfErr result (λ refused. LoadFails K.cmp (BeginsWith rows.items) refused.why) }
+    {
+        match MerkleSearchTree::from_ascending_slice(alloc, builder, &rows) {
+            Ok(tree) => Ok(Replica { alloc, rows, tree }),
+            Err(why) => Err(RowsRefused { rows, why }),
+        }
     }
 }
 

@@ -4,6 +4,8 @@
 #[cfg(test)]
 mod joins;
 #[cfg(test)]
+mod loads;
+#[cfg(test)]
 mod memory;
 #[cfg(test)]
 mod mixed_formats;
