@@ -5,6 +5,7 @@ ghost use Rattle.std.specs.Prelude.{◌≢◌, None};
 use crate::clock::{Best, now, rounds};
 use crate::fault::Fault;
 use crate::keys::copies;
+use crate::loads::LoadTimes;
 use crate::sample::{Sample, Tree, ranges, tree_of};
 use merkle_diff::diff;
 use std::alloc::Global;
@@ -15,6 +16,7 @@ use std::rt::Clock;
 #[derive(Drop)]
 struct Times {
     insert: Best,
+    loads: LoadTimes,
     root: Best,
     serialise: Best,
     diff_same: Best,
@@ -45,6 +47,7 @@ impl Times {
     fn new() -> Self {
         Times {
             insert: Best::new(),
+            loads: LoadTimes::new(),
             root: Best::new(),
             serialise: Best::new(),
             diff_same: Best::new(),
@@ -60,6 +63,7 @@ impl Times {
         alloc: Global,
         sample: &Sample,
     ) -> Result<(), Fault> {
+        self.loads.note_round(rt, alloc, &sample.keys)?;
         let keys = copies(alloc, &sample.keys)?;
         let start = now(rt)?;
         let mut local = tree_of(alloc, keys, 1)?;
@@ -89,6 +93,8 @@ fn measured<R: Clock>(rt: &R, alloc: Global, count: usize) -> Result<Times, Faul
 /// Writes the line of `count` keys.
 fn write_line<W: Write>(count: usize, times: &Times, out: &mut W) -> Result<(), Fault> {
     let insert = times.insert.each(count);
+    let load = times.loads.load.each(count);
+    let load_root = times.loads.with_root.each(count);
     let root = times.root.each(count);
     let serialise = times.serialise.each(count);
     let same = times.diff_same.each(count);
@@ -96,7 +102,7 @@ fn write_line<W: Write>(count: usize, times: &Times, out: &mut W) -> Result<(), 
     let some = times.diff_some.each(count);
     writeln!(
         out,
-        "{count} {insert} {root} {serialise} {same} {other} {some}"
+        "{count} {insert} {load} {load_root} {root} {serialise} {same} {other} {some}"
     )
     .map_err(|_| Fault::Output)
 }
@@ -110,7 +116,7 @@ pub fn write_table<R: Clock, W: Write>(
 ) -> Result<(), Fault> {
     writeln!(
         out,
-        "keys insert_ns root_ns serialise_ns diff_same_ns diff_other_ns diff_some_ns"
+        "keys insert_ns load_ns load_root_ns root_ns serialise_ns diff_same_ns diff_other_ns diff_some_ns"
     )
     .map_err(|_| Fault::Output)?;
     for count in counts {
