@@ -44,11 +44,10 @@ pub fn ranges(tree: &Tree) -> Result<Vec<PageRange<'_, String>>, Fault>
     }
 }
 
-/// What peers hold of the sample: the keys of the local tree, that tree, the peer's tree, and a third, which has the local keys, and
-/// the value 2 at the first of every ten.
+/// What peers hold of the sample: the local tree, the peer's tree, and a third, which has the local keys, and the value 2 at the first
+/// of every ten.
 #[derive(Drop)]
 pub struct Sample {
-    pub keys: Vec<String>,
     pub local: Tree,
     pub peer: Tree,
     pub third: Tree,
@@ -64,15 +63,10 @@ impl Sample {
         let others = keys::keys(alloc, keys::PEER_SEED, count)?;
         let mut local = tree_of(alloc, keys::copies(alloc, &keys)?, 1)?;
         let mut peer = tree_of(alloc, others, 1)?;
-        let mut third = tree_of(alloc, keys::copies(alloc, &keys)?, 2)?;
+        let mut third = tree_of(alloc, keys, 2)?;
         let _ = local.root_hash_counted();
         let _ = peer.root_hash_counted();
         let _ = third.root_hash_counted();
-        Ok(Sample {
-            keys,
-            local,
-            peer,
-            third,
-        })
+        Ok(Sample { local, peer, third })
     }
 }

@@ -4,7 +4,7 @@ ghost use Rattle.std.specs.Prelude.{◌≢◌, None};
 
 use crate::clock::{Best, now, rounds};
 use crate::fault::Fault;
-use crate::keys::copies;
+use crate::keys::{LOCAL_SEED, copies, keys};
 use crate::loads::LoadTimes;
 use crate::sample::{Sample, Tree, ranges, tree_of};
 use merkle_diff::diff;
@@ -56,37 +56,48 @@ impl Times {
         }
     }
 
-    /// Makes one round of all operations.
-    fn note_round<R: Clock>(
-        &mut self,
-        rt: &R,
-        alloc: Global,
-        sample: &Sample,
-    ) -> Result<(), Fault> {
-        self.loads.note_round(rt, alloc, &sample.keys)?;
-        let keys = copies(alloc, &sample.keys)?;
+    /// Makes one round of the operations on one tree of these keys. Nothing else is in memory then but the keys.
+    fn note_tree<R: Clock>(&mut self, rt: &R, alloc: Global, keys: &[String]) -> Result<(), Fault> {
+        self.loads.note_round(rt, alloc, keys)?;
+        let keys = copies(alloc, keys)?;
         let start = now(rt)?;
-        let mut local = tree_of(alloc, keys, 1)?;
+        let mut tree = tree_of(alloc, keys, 1)?;
         self.insert.note_since(rt, start)?;
         let start = now(rt)?;
-        let _ = local.root_hash_counted();
+        let _ = tree.root_hash_counted();
         self.root.note_since(rt, start)?;
         let start = now(rt)?;
-        let _listed = ranges(&local)?;
-        self.serialise.note_since(rt, start)?;
-        time_diff(rt, alloc, &local, &sample.local, &mut self.diff_same)?;
-        time_diff(rt, alloc, &local, &sample.peer, &mut self.diff_other)?;
-        time_diff(rt, alloc, &local, &sample.third, &mut self.diff_some)
+        let _listed = ranges(&tree)?;
+        self.serialise.note_since(rt, start)
+    }
+
+    /// Makes all rounds of the operations on one tree of `count` keys.
+    fn note_trees<R: Clock>(&mut self, rt: &R, alloc: Global, count: usize) -> Result<(), Fault> {
+        let keys = keys(alloc, LOCAL_SEED, count)?;
+        for _ in 0..rounds(count) {
+            self.note_tree(rt, alloc, &keys)?;
+        }
+        Ok(())
+    }
+
+    /// Makes all rounds of the differences of trees of `count` keys.
+    fn note_diffs<R: Clock>(&mut self, rt: &R, alloc: Global, count: usize) -> Result<(), Fault> {
+        let sample = Sample::new(alloc, count)?;
+        let local = &sample.local;
+        for _ in 0..rounds(count) {
+            time_diff(rt, alloc, local, local, &mut self.diff_same)?;
+            time_diff(rt, alloc, local, &sample.peer, &mut self.diff_other)?;
+            time_diff(rt, alloc, local, &sample.third, &mut self.diff_some)?;
+        }
+        Ok(())
     }
 }
 
 /// The best times of the operations on `count` keys.
 fn measured<R: Clock>(rt: &R, alloc: Global, count: usize) -> Result<Times, Fault> {
-    let sample = Sample::new(alloc, count)?;
     let mut times = Times::new();
-    for _ in 0..rounds(count) {
-        times.note_round(rt, alloc, &sample)?;
-    }
+    times.note_trees(rt, alloc, count)?;
+    times.note_diffs(rt, alloc, count)?;
     Ok(times)
 }
 
