@@ -16,6 +16,7 @@ pub trait HashBytes: Eq {
     ghost fed_bytes: { Self → List ℕ };
 
     /// Writes the bytes of the value to the hasher.
+    #[inline(always)]
     fn feed(&self, sip: &mut Sip24)
         ensures { (key written : List ℕ) → Holds sip.old key written → Holds sip.new key (written ++ fed_bytes self.now) };
 
@@ -29,6 +30,7 @@ impl HashBytes for String {
 
     ghost fed_bytes_respect_eq = { λ a b equal. same_text (string_bytes a) (string_bytes b) (sym equal) };
 
+    #[inline(always)]
     fn feed(&self, sip: &mut Sip24) {
         sip.write(self.as_bytes());
     }
@@ -40,6 +42,7 @@ impl HashBytes for &str {
 
     ghost fed_bytes_respect_eq = { λ a b equal. same_text a.now b.now (sym equal) };
 
+    #[inline(always)]
     fn feed(&self, sip: &mut Sip24) {
         sip.write(self.as_bytes());
     }
@@ -51,6 +54,7 @@ impl HashBytes for Vec<u8> {
 
     ghost fed_bytes_respect_eq = { λ a b equal. same_text a.items b.items (sym equal) };
 
+    #[inline(always)]
     fn feed(&self, sip: &mut Sip24) {
         sip.write(self.as_slice());
     }
@@ -62,6 +66,7 @@ impl<const M: usize> HashBytes for [u8; M] {
 
     ghost fed_bytes_respect_eq = { λ a b equal. same_text a b (sym equal) };
 
+    #[inline(always)]
     fn feed(&self, sip: &mut Sip24) {
         sip.write(self);
     }
@@ -73,6 +78,7 @@ impl HashBytes for u8 {
 
     ghost fed_bytes_respect_eq = { λ a b equal. ap (λ n. n ∷ []) (eqb-true a b equal) };
 
+    #[inline(always)]
     fn feed(&self, sip: &mut Sip24) {
         sip.write(&[*self]);
     }
@@ -84,6 +90,7 @@ impl HashBytes for u16 {
 
     ghost fed_bytes_respect_eq = { λ a b equal. ap (to_le_bytes w16) (eqb-true a b equal) };
 
+    #[inline(always)]
     fn feed(&self, sip: &mut Sip24) {
         sip.write(&u16::to_le_bytes(*self));
     }
@@ -95,6 +102,7 @@ impl HashBytes for u32 {
 
     ghost fed_bytes_respect_eq = { λ a b equal. ap (to_le_bytes w32) (eqb-true a b equal) };
 
+    #[inline(always)]
     fn feed(&self, sip: &mut Sip24) {
         sip.write(&u32::to_le_bytes(*self));
     }
@@ -106,6 +114,7 @@ impl HashBytes for u64 {
 
     ghost fed_bytes_respect_eq = { λ a b equal. ap (to_le_bytes w64) (eqb-true a b equal) };
 
+    #[inline(always)]
     fn feed(&self, sip: &mut Sip24) {
         sip.write(&u64::to_le_bytes(*self));
     }
@@ -117,6 +126,7 @@ impl HashBytes for u128 {
 
     ghost fed_bytes_respect_eq = { λ a b equal. ap (to_le_bytes w128) (eqb-true a b equal) };
 
+    #[inline(always)]
     fn feed(&self, sip: &mut Sip24) {
         sip.write(&u128::to_le_bytes(*self));
     }
@@ -128,5 +138,6 @@ impl HashBytes for () {
 
     ghost fed_bytes_respect_eq = { λ a b equal. refl };
 
+    #[inline(always)]
     fn feed(&self, _sip: &mut Sip24) {}
 }

@@ -58,7 +58,6 @@ impl Times {
 
     /// Makes one round of the operations on one tree of these keys. Nothing else is in memory then but the keys.
     fn note_tree<R: Clock>(&mut self, rt: &R, alloc: Global, keys: &[String]) -> Result<(), Fault> {
-        self.loads.note_round(rt, alloc, keys)?;
         let keys = copies(alloc, keys)?;
         let start = now(rt)?;
         let mut tree = tree_of(alloc, keys, 1)?;
@@ -80,6 +79,15 @@ impl Times {
         Ok(())
     }
 
+    /// Makes all rounds of the loads of `count` keys.
+    fn note_loads<R: Clock>(&mut self, rt: &R, alloc: Global, count: usize) -> Result<(), Fault> {
+        let keys = keys(alloc, LOCAL_SEED, count)?;
+        for _ in 0..rounds(count) {
+            self.loads.note_round(rt, alloc, &keys)?;
+        }
+        Ok(())
+    }
+
     /// Makes all rounds of the differences of trees of `count` keys.
     fn note_diffs<R: Clock>(&mut self, rt: &R, alloc: Global, count: usize) -> Result<(), Fault> {
         let sample = Sample::new(alloc, count)?;
@@ -97,6 +105,7 @@ impl Times {
 fn measured<R: Clock>(rt: &R, alloc: Global, count: usize) -> Result<Times, Fault> {
     let mut times = Times::new();
     times.note_trees(rt, alloc, count)?;
+    times.note_loads(rt, alloc, count)?;
     times.note_diffs(rt, alloc, count)?;
     Ok(times)
 }
