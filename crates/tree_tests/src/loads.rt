@@ -46,11 +46,20 @@ fn loaded(alloc: Global, keys: &[(u16, u8)]) -> Result<Tree, Fail> {
     }
 }
 
-/// The same, from rows that stay where they are.
+/// The tree of rows that stay where they are.
+fn load_slice(
+    alloc: Global,
+    builder: Builder<LevelHasher<[u8; 2]>>,
+    rows: &[Row],
+) -> Result<Tree, LoadRefused> {
+    MerkleSearchTree::from_ascending_slice(alloc, builder, rows)
+}
+
+/// The tree of these keys on these levels, loaded in ascending order from rows that stay where they are.
 fn loaded_slice(alloc: Global, keys: &[(u16, u8)]) -> Result<Tree, Fail> {
     let builder = builder(alloc, keys)?;
     let rows = ascending(alloc, keys)?;
-    match MerkleSearchTree::from_ascending_slice(alloc, builder, &rows) {
+    match load_slice(alloc, builder, &rows) {
         Ok(tree) => Ok(tree),
         Err(_) => Err(Fail::from("refused")),
     }
@@ -130,11 +139,7 @@ fn rows_are_refused_at_the_first_that_does_not_ascend(rt: HostRuntime) -> Result
         let keys = keys_of(alloc, text)?;
         let wanted = LoadRefused::NotAscending(place);
         let rows = rows(alloc, &keys)?;
-        let slice: Result<Tree, LoadRefused> = MerkleSearchTree::from_ascending_slice(
-            alloc,
-            builder(alloc, &keys)?,
-            &rows,
-        );
+        let slice = load_slice(alloc, builder(alloc, &keys)?, &rows);
         assert!(rt; slice.err() == Some(wanted), "at {text}");
         let owned: Result<Tree, LoadRefused> = MerkleSearchTree::from_ascending(
             alloc,
@@ -177,7 +182,7 @@ fn loads_nine(alloc: Global, is_slice: bool) -> Result<bool, AllocError> {
     let builder = builder(alloc, &NINE)?;
     let rows = rows(alloc, &NINE)?;
     let loaded = if is_slice {
-        MerkleSearchTree::from_ascending_slice(alloc, builder, &rows)
+        load_slice(alloc, builder, &rows)
     } else {
         MerkleSearchTree::from_ascending(alloc, builder, rows)
     };
