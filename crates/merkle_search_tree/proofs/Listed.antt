@@ -5,12 +5,15 @@ use Rattle.std.specs.Cmp.{IsTotalOrder}
 use Rattle.std.specs.declared.cmp.Ordering.{Ordering}
 use Rattle.key_order.specs.Map.{IsMap}
 use Rattle.merkle_search_tree.specs.Tree.{Tree, page, Row, high, node, Held, nothing, below}
-use Rattle.merkle_search_tree.specs.Page.{pairs, row_pairs, held_pairs, nodes_of, cache}
+use Rattle.merkle_search_tree.specs.Page.{pairs, row_pairs, held_pairs, nodes_of, cache, pages_in_order, row_pages, held_pages}
 use Rattle.merkle_search_tree.specs.Canonical.{HasNode, IsCanonical, IsRow, IsGap, IsCanonicalRoot}
 use Rattle.merkle_search_tree.specs.Cache.{HasCache, EachHasCache, CachesHold, RowCachesHold, HeldCachesHold, missing}
 use Rattle.merkle_search_tree.specs.Sound.{RootHashHolds}
 use Rattle.merkle_search_tree.specs.Stream.{page_digest}
 use Rattle.merkle_search_tree.specs.Ranges.{entry_of, ranges_of, row_ranges, held_ranges}
+use Rattle.merkle_search_tree.specs.PagesToCome.{HasRange}
+use Rattle.merkle_diff.proofs.Each.{each-append}
+use Rattle.std.specs.List.{AllByRecursion}
 use Rattle.merkle_search_tree.specs.CachedRanges.{as_list, range_from, cached_ranges, row_cached, held_cached}
 use Rattle.merkle_search_tree.proofs.Keeps.{none_missing}
 use Rattle.merkle_search_tree.proofs.RangeKeys.{map-first, map-rest, first_last, not-none}
@@ -51,6 +54,30 @@ module _ {K : Type 0} (cmp : K → K → Ordering) (o : IsTotalOrder cmp) where
     pub hashed_listed : (h : Option (List ℕ)) (t : Tree K (List ℕ)) → is_some h ≡ true → RootHashHolds h (cache t) → CachesHold format bytes_of t → IsCanonicalRoot lev t → IsMap cmp (pairs t) → cached_ranges cmp t ≡ ranges_of format bytes_of t
     hashed_listed None t e r q g m = absurd (cc)
     hashed_listed (Some d) t e r q g m = root_listed t d r q g m
+
+module _ {K : Type 0} (cmp : K → K → Ordering) (lev : K → ℕ) (format : PageFormat) (bytes_of : K → List ℕ) where
+  mutual
+    tree_ranged : (t : Tree K (List ℕ)) → HasCache (below t) → CachesHold format bytes_of t → HasNode t → IsCanonical lev t → IsMap cmp (pairs t) → AllByRecursion (HasRange cmp) (pages_in_order t)
+    tree_ranged (page l None r) c q n g m = absurd c
+    tree_ranged (page l (Some d) r) c q n g m = ((n, c, m), row_ranged l r q.1 q.2 g m)
+
+    row_ranged : (l : ℕ) (r : Row K (List ℕ)) → EachHasCache r → RowCachesHold format bytes_of r → IsRow lev l r → IsMap cmp (row_pairs r) → AllByRecursion (HasRange cmp) (row_pages r)
+    row_ranged l (high h) c q g m = held_ranged l h c q g m
+    row_ranged l (node h k d r) c q g m =
+        each-append (HasRange cmp) (held_pages h) (row_pages r) (held_ranged l h c.0 q.0 g.0 (map-first cmp (held_pairs h) ((k, d) ∷ row_pairs r) m))
+        (row_ranged l r c.1 q.1 g.2 (map-rest cmp (held_pairs h) ((k, d) ∷ row_pairs r) m).1)
+
+    held_ranged : (l : ℕ) (h : Held K (List ℕ)) → HasCache h → HeldCachesHold format bytes_of h → IsGap lev l h → IsMap cmp (held_pairs h) → AllByRecursion (HasRange cmp) (held_pages h)
+    held_ranged l nothing c q g m = tt
+    held_ranged l (below t) c q g m = tree_ranged t c q g.1 g.2 m
+
+  -- each page of a hashed tree that has a node has a range
+  pub hashed_ranges : (h : Option (List ℕ)) (t : Tree K (List ℕ)) → is_some h ≡ true → RootHashHolds h (cache t) → CachesHold format bytes_of t → IsCanonicalRoot lev t → IsMap cmp (pairs t) → (nodes_of t ≡ [] → ⊥)
+      → AllByRecursion (HasRange cmp) (pages_in_order t)
+  hashed_ranges None t e r q g m n = absurd (cc)
+  hashed_ranges (Some d) (page l c (high h)) e r q g m n = absurd (n refl)
+  hashed_ranges (Some d) (page l None (node h k x s)) e r q g m n = absurd (cc)
+  hashed_ranges (Some d) (page l (Some c) (node h k x s)) e r q g m n = tree_ranged (page l (Some c) (node h k x s)) tt q tt g m
 
 -- a page without keys has no node
 pub no_nodes : {K D : Type 0} (t : Tree K D) → pairs t ≡ [] → nodes_of t ≡ []

@@ -1,15 +1,21 @@
 -- The path of an iteration.
 use Rattle.std.proofs.Common.{◌≡◌, ℕ, zero, suc, ◌+◌, ◌<◌, ◌≤◌, List, [], ◌∷◌, ◌++◌, length, map, get_or, refl, ap, sym, ◌∙◌, append_assoc, append-nil, arith}
-use Rattle.merkle_search_tree.specs.Tree.{Tree, page, Row, high, node, Held, nothing, below, Node, row}
-use Rattle.merkle_search_tree.specs.Page.{pair_of, pairs, row_pairs, held_pairs, nodes_in_order, row_in_order, held_in_order, LevelsFall, RowFalls, HeldFalls}
+use Rattle.merkle_search_tree.specs.Tree.{Tree, page, Row, high, node, Held, nothing, below, Node, row, held_of}
+use Rattle.merkle_search_tree.specs.Page.{pair_of, pairs, row_pairs, held_pairs, nodes_in_order, row_in_order, held_in_order, row_pages, held_pages, LevelsFall, RowFalls, HeldFalls}
 use Rattle.merkle_search_tree.specs.Canonical.{IsCanonical, IsRow, IsGap, IsCanonicalRoot}
-use Rattle.merkle_search_tree.specs.Path.{from_first, visit_rest, rest_of, VisitFits, PathFits}
-use Rattle.merkle_search_tree.specs.declared.node_iter.Visit.{Visit}
+use Rattle.merkle_search_tree.specs.Path.{from_first, behind_first, visit_rest, rest_of, pages_left, VisitFits, PathFits}
+use Rattle.merkle_search_tree.specs.declared.path.Visit.{Visit}
 
 module _ {K D : Type 0} where
   pub rest_of-push : (vs : List (Visit K D)) (v : Visit K D) → rest_of (vs ++ v ∷ []) ≡ visit_rest v ++ rest_of vs
   rest_of-push [] v = sym (append-nil (visit_rest v))
   rest_of-push (w ∷ ws) v = ap (λ xs. xs ++ visit_rest w) (rest_of-push ws v) ∙ append_assoc (visit_rest v) (rest_of ws) (visit_rest w)
+
+  pub pages_left-push : (vs : List (Visit K D)) (v : Visit K D) → pages_left (vs ++ v ∷ []) ≡ behind_first (row v.nodes.now (held_of v.high_page.now)) ++ pages_left vs
+  pages_left-push [] v = sym (append-nil (behind_first (row v.nodes.now (held_of v.high_page.now))))
+  pages_left-push (w ∷ ws) v =
+      ap (λ xs. xs ++ behind_first (row w.nodes.now (held_of w.high_page.now))) (pages_left-push ws v)
+      ∙ append_assoc (behind_first (row v.nodes.now (held_of v.high_page.now))) (pages_left ws) (behind_first (row w.nodes.now (held_of w.high_page.now)))
 
   pub fits-more : (c c' : ℕ) → c ≤ c' → (n : ℕ) (vs : List (Visit K D)) → PathFits c n vs → PathFits c' n vs
   fits-more c c' h n [] f = tt
@@ -37,6 +43,16 @@ module _ {K D : Type 0} where
   none-rest [] h e = refl
   none-rest (x ∷ xs) h e = absurd (omega arith)
 
+  -- the same of the pages
+  pub first-pages : (es : List (Node K D)) (h : Held K D) (d : Node K D) (xs : List (Tree K D)) → 0 < length es
+      → held_pages (get_or es 0 d).lt ++ (behind_first (row es h) ++ xs) ≡ row_pages (row es h) ++ xs
+  first-pages [] h d xs r = absurd (omega arith)
+  first-pages (e ∷ es) h d xs r = sym (append_assoc (held_pages e.lt) (behind_first (row (e ∷ es) h)) xs)
+
+  pub none-pages : (es : List (Node K D)) (h : Held K D) → length es ≡ 0 → row_pages (row es h) ≡ held_pages h
+  none-pages [] h e = refl
+  none-pages (x ∷ xs) h e = absurd (omega arith)
+
   pub at-falls : (l : ℕ) (es : List (Node K D)) (h : Held K D) (i : ℕ) (d : Node K D) → i < length es → RowFalls l (row es h) → HeldFalls l (get_or es i d).lt
   at-falls l [] h i d r f = absurd (omega arith)
   at-falls l (e ∷ es) h zero d r f = f.0
@@ -45,6 +61,13 @@ module _ {K D : Type 0} where
   pub high-falls : (l : ℕ) (es : List (Node K D)) (h : Held K D) → RowFalls l (row es h) → HeldFalls l h
   high-falls l [] h f = f
   high-falls l (e ∷ es) h f = high-falls l es h f.1
+
+  -- below a page of level 0 there is none
+  pub no-pages : (r : Row K D) → RowFalls 0 r → row_pages r ≡ []
+  no-pages (high nothing) f = refl
+  no-pages (high (below t)) f = absurd (omega arith)
+  no-pages (node nothing k d r) f = no-pages r f.1
+  no-pages (node (below t) k d r) f = absurd (omega arith)
 
   mutual
     -- the nodes in order are the map

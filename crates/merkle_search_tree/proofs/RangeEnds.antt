@@ -6,13 +6,19 @@ use Rattle.std.specs.Ordering.{is_gt}
 use Rattle.std.proofs.lemmas.Bool.{false≢true}
 use Rattle.std.specs.List.{flat_map}
 use Rattle.std.proofs.lemmas.List.Concat.{flat_map-cons}
+use Rattle.std.proofs.lemmas.Grind.{flat_map-append}
+use Rattle.std.specs.Cmp.{IsTotalOrder}
 use Rattle.std.specs.declared.cmp.Ordering.{Ordering}
 use Rattle.key_order.specs.Order.{Upto, upto}
-use Rattle.key_order.specs.Map.{last_key}
+use Rattle.key_order.specs.Map.{IsMap, last_key}
 use Rattle.key_order.proofs.Bools.{which}
 use Rattle.merkle_diff.specs.Entry.{Entry}
 use Rattle.merkle_search_tree.specs.Tree.{Tree, page, Row, high, node, Held, nothing, below, Node, row}
-use Rattle.merkle_search_tree.specs.Page.{level, row_pairs, held_pairs, LevelsFall, RowFalls}
+use Rattle.merkle_search_tree.specs.Page.{level, pairs, row_pairs, held_pairs, pages_in_order, row_pages, held_pages, LevelsFall, RowFalls}
+use Rattle.merkle_search_tree.specs.Canonical.{HasNode}
+use Rattle.merkle_search_tree.specs.PagesToCome.{ranges_to_come}
+use Rattle.merkle_search_tree.proofs.RangeKeys.{first_last, not-none}
+use Rattle.merkle_search_tree.proofs.Paths.{no-pages}
 use Rattle.merkle_search_tree.specs.CachedRanges.{as_list, first_of, last_of, range_from, range_of, cached_ranges, row_cached, held_cached}
 
 module _ {K D : Type 0} where
@@ -52,6 +58,15 @@ module _ {K D : Type 0} where
   last-own (y ∷ z ∷ es) h x e f =
       last-pair (held_pairs y.lt) (y.key, y.digest) (row_pairs (row (z ∷ es) h)) ∙ last-key y.key (row_pairs (row (z ∷ es) h)) x.key (last-own (z ∷ es) h x (behind y z es (Some x) e) f)
 
+-- a page with a node has a first key
+pub has-first : {K D : Type 0} (t : Tree K D) → HasNode t → None ≡ first_of (pairs t) → ⊥
+has-first (page l c (high h)) n e = absurd n
+has-first (page l c (node h k d r)) n e = not-none (held_pairs h) (k, d) (row_pairs r) (none (held_pairs h ++ (k, d) ∷ row_pairs r) e)
+  where
+    none : {K D : Type 0} (ps : List (K × D)) → None ≡ first_of ps → ps ≡ []
+    none [] e = refl
+    none (p ∷ ps) e = absurd (cc)
+
 module _ {K D : Type 0} (cmp : K → K → Ordering) where
   -- the ranges of the pages below a node
   abbrev pub node_cached : Node K D → List (Entry K (List ℕ))
@@ -63,12 +78,22 @@ module _ {K D : Type 0} (cmp : K → K → Ordering) where
       ap (λ w. node_cached e ++ w) (row_cached-row es h) ∙ sym (append_assoc (node_cached e) (flat_map node_cached es) (held_cached cmp h))
       ∙ ap (λ w. w ++ held_cached cmp h) (sym (flat_map-cons node_cached e es))
 
+  mutual
+    -- the ranges of the pages in order are those of the page and the pages below it
+    pub each-cached : (t : Tree K D) → ranges_to_come cmp (pages_in_order t) ≡ cached_ranges cmp t
+    each-cached (page l c r) = flat_map-cons (λ s. as_list (range_of cmp s)) (page l c r) (row_pages r) ∙ ap (λ w. as_list (range_of cmp (page l c r)) ++ w) (row_each-cached r)
+
+    row_each-cached : (r : Row K D) → ranges_to_come cmp (row_pages r) ≡ row_cached cmp r
+    row_each-cached (high h) = held_each-cached h
+    row_each-cached (node h k d r) = flat_map-append (λ s. as_list (range_of cmp s)) (held_pages h) (row_pages r) ∙ (λ i. held_each-cached h i ++ row_each-cached r i)
+
+    held_each-cached : (h : Held K D) → ranges_to_come cmp (held_pages h) ≡ held_cached cmp h
+    held_each-cached nothing = refl
+    held_each-cached (below t) = each-cached t
+
   -- below a page of level 0 there is nothing
   none_cached : (r : Row K D) → RowFalls 0 r → row_cached cmp r ≡ []
-  none_cached (high nothing) f = refl
-  none_cached (high (below t)) f = absurd (omega arith)
-  none_cached (node nothing k d r) f = none_cached r f.1
-  none_cached (node (below t) k d r) f = absurd (omega arith)
+  none_cached r f = sym (row_each-cached r) ∙ ap (ranges_to_come cmp) (no-pages r f)
 
   pub only_own : (t : Tree K D) → LevelsFall t → level t ≡ 0 → as_list (range_of cmp t) ≡ cached_ranges cmp t
   only_own (page l c r) f e = sym (append-nil (as_list (range_of cmp (page l c r)))) ∙ ap (λ w. as_list (range_of cmp (page l c r)) ++ w) (sym (none_cached r (subst (λ n. RowFalls n r) e f)))
@@ -77,6 +102,14 @@ module _ {K : Type 0} (cmp : K → K → Ordering) where
   -- the range from a to b, where a is at most b
   abbrev pub range_if : K → K → List ℕ → Option (Entry K (List ℕ))
   range_if a b d = if upto cmp a b then Some (record { first = a; last = b; digest = d }) else None
+
+  -- the first key is at most the last
+  pub ends-upto : {D : Type 0} → IsTotalOrder cmp → (ps : List (K × D)) (a b : K) → Some a ≡ first_of ps → Some b ≡ last_of ps → IsMap cmp ps → Upto cmp a b
+  ends-upto o [] a b e f m = absurd (cc)
+  ends-upto o (p ∷ ps) a b e f m = subst (λ x. Upto cmp x b) (sym (some a p.0 e)) (subst (λ x. Upto cmp p.0 x) (sym (some b (last_key p.0 ps) f)) (first_last cmp o p ps m))
+    where
+      some : (x y : K) → Some x ≡ Some y → x ≡ y
+      some x y e = cc
 
   from-ends : {D : Type 0} (ps : List (K × D)) (d : List ℕ) (a b : K) → Some a ≡ first_of ps → Some b ≡ last_of ps → range_if a b d ≡ range_from cmp ps d
   from-ends [] d a b e f = absurd (cc)

@@ -16,6 +16,7 @@ pub mod Copy
 pub mod Path
 pub mod Ranges
 pub mod CachedRanges
+pub mod PagesToCome
 pub mod Settings
 pub mod State
 pub mod Sound

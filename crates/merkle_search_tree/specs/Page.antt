@@ -50,6 +50,23 @@ module _ {K D : Type 0} where
     held_in_order (below t) = nodes_in_order t
 
   abbrev mutual
+    -- the page and those below it, each before those below it
+    pub pages_in_order : Tree K D → List (Tree K D)
+    pages_in_order (page l c r) = page l c r ∷ row_pages r
+
+    pub row_pages : Row K D → List (Tree K D)
+    row_pages (high h) = held_pages h
+    row_pages (node h k d r) = held_pages h ++ row_pages r
+
+    pub held_pages : Held K D → List (Tree K D)
+    held_pages nothing = []
+    held_pages (below t) = pages_in_order t
+
+  -- the pages below a page
+  abbrev pub pages_below : Tree K D → List (Tree K D)
+  pages_below (page l c r) = row_pages r
+
+  abbrev mutual
     -- the level of each page below is strictly lower
     pub LevelsFall : Tree K D → Type 0
     LevelsFall (page l c r) = RowFalls l r

@@ -1,8 +1,8 @@
--- The pages on the way to the next node of an iteration, the root first.
+-- The pages on the way to what comes next in an iteration, the root first.
 use Rattle.std.specs.Prelude.{ℕ, suc, ◌+◌, ◌<◌, ◌≤◌, List, [], ◌∷◌, ◌++◌, length, ⊤}
-use Rattle.merkle_search_tree.specs.Tree.{Row, high, node, Held, row, held_of, Node}
-use Rattle.merkle_search_tree.specs.Page.{row_in_order, held_in_order, RowFalls, HeldFalls}
-use Rattle.merkle_search_tree.specs.declared.node_iter.Visit.{Visit}
+use Rattle.merkle_search_tree.specs.Tree.{Tree, Row, high, node, Held, row, held_of, Node}
+use Rattle.merkle_search_tree.specs.Page.{row_in_order, held_in_order, row_pages, held_pages, RowFalls, HeldFalls}
+use Rattle.merkle_search_tree.specs.declared.path.Visit.{Visit}
 
 module _ {K D : Type 0} where
   -- what is left of a row whose first node comes next
@@ -18,6 +18,16 @@ module _ {K D : Type 0} where
   abbrev pub rest_of : List (Visit K D) → List (Node K D)
   rest_of [] = []
   rest_of (v ∷ vs) = rest_of vs ++ visit_rest v
+
+  -- the pages that are left of a row whose first node comes next
+  abbrev pub behind_first : Row K D → List (Tree K D)
+  behind_first (high h) = held_pages h
+  behind_first (node h k d r) = row_pages r
+
+  -- the pages that are left, each before those below it: those of the last page first
+  abbrev pub pages_left : List (Visit K D) → List (Tree K D)
+  pages_left [] = []
+  pages_left (v ∷ vs) = pages_left vs ++ behind_first (row v.nodes.now (held_of v.high_page.now))
 
   -- a page at a place in the path has a node left, and room above it for a page of each lower level
   abbrev pub VisitFits : ℕ → ℕ → Visit K D → Type 0

@@ -1,11 +1,12 @@
 //! The ranges of keys that pages hold.
 
-ghost use Rattle.std.specs.Prelude.{◌≡◌, ℕ, ◌++◌, OnOk};
+ghost use Rattle.std.specs.Prelude.{◌≡◌, ℕ, ◌++◌, ◌∷◌, [], OnOk};
 ghost use Rattle.std.specs.Option.{option_map};
 ghost use Rattle.merkle_diff.specs.PageRange.{entry, entries};
 ghost use Rattle.merkle_search_tree.specs.Tree.{held_of};
 ghost use Rattle.merkle_search_tree.specs.Page.{pairs, held_pairs, LevelsFall, HeldFalls};
 ghost use Rattle.merkle_search_tree.specs.CachedRanges.{as_list, first_of, last_of, range_of, cached_ranges, held_cached};
+ghost use Rattle.merkle_search_tree.specs.PagesToCome.{HasRange};
 
 use crate::page::PageOf;
 use merkle_diff::PageRange;
@@ -75,6 +76,26 @@ impl<K: Ord, D> PageOf<K, D> {
         let first = first_key(self)?;
         let last = last_key(self)?;
         PageRange::try_new(first, last, PageDigest::new(*digest.as_bytes()))
+    }
+
+    /// The range of a page that has one, as [`page_range`](Self::page_range) gives it. It compares no keys.
+    pub(crate) fn hashed_range(&self) -> PageRange<'_, K>
+        requires { HasRange K.cmp self.now }
+        ensures { as_list (range_of K.cmp self.now) ≡ entry result ∷ [] }
+    {
+        let digest = match &self.tree_hash {
+            Some(digest) => digest,
+            None => unreachable!(),
+        };
+        let first = match first_key(self) {
+            Some(key) => key,
+            None => unreachable!(),
+        };
+        let last = match last_key(self) {
+            Some(key) => key,
+            None => unreachable!(),
+        };
+        PageRange::new(first, last, PageDigest::new(*digest.as_bytes()))
     }
 
     /// Adds the range of the page to a list, where it has one.

@@ -19,6 +19,7 @@ ghost use Rattle.merkle_search_tree.specs.declared.builder.PageFormat.TheVariant
 use crate::builder::{Builder, PageFormat};
 use crate::node_iter::NodeIter;
 use crate::page::Page;
+use crate::page_range_iter::PageRangeIter;
 use crate::spot::search;
 use crate::upsert::UpsertRefused;
 use crate::visitor::{Visitor, traverse_page};
@@ -232,6 +233,24 @@ impl<K: Ord + KeyBytes, V, H: Hasher<N, K>, const N: usize> MerkleSearchTree<K, 
         }
         self.root.list_ranges(&mut list)?;
         Ok(Some(list))
+    }
+
+    /// The ranges of all pages, as [`serialise_page_ranges`](Self::serialise_page_ranges) lists them, one at a time; `None` where the
+    /// tree isn't hashed. The memory that the iteration takes, room for one page more than the level of the root, is taken here;
+    /// neither `None` nor the iterator of a tree without keys takes memory.
+    pub fn page_range_iter(&self) -> Result<Option<PageRangeIter<'_, N, K>>, AllocError>
+        ensures hashed { IfOk result (λ found. IfSome found (λ rest. self.now.root_hash ≢ None)) }
+        ensures ranges { IfOk result (λ found. MatchOption found (self.now.root_hash ≡ None) (λ rest. rest ≡ ranges_of self.now.format K.bytes_of self.now.root)) }
+        ensures not_hashed { self.now.root_hash ≡ None → IsOk result }
+        ensures empty { map_of self.now ≡ [] → IsOk result }
+    {
+        if self.root_hash.is_none() {
+            return Ok(None);
+        }
+        if self.root.nodes().is_empty() {
+            return Ok(Some(PageRangeIter::none(self.alloc)));
+        }
+        Ok(Some(PageRangeIter::new(self.alloc, &self.root)?))
     }
 }
 
