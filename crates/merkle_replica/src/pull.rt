@@ -203,11 +203,11 @@ fn ask<
     every_tree_is_sound(peer.tree());
     page_ranges_are_tree_shaped(local.tree());
     page_ranges_are_tree_shaped(peer.tree());
-    let ours = match local.tree().serialise_page_ranges()? {
+    let ours = match local.tree().page_range_iter()? {
         Some(ours) => ours,
         None => unreachable!(),
     };
-    let theirs = match peer.tree().serialise_page_ranges()? {
+    let theirs = match peer.tree().page_range_iter()? {
         Some(theirs) => theirs,
         None => unreachable!(),
     };
