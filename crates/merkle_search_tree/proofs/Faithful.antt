@@ -5,7 +5,6 @@ use Rattle.std.specs.declared.cmp.Ordering.{Ordering}
 use Rattle.std.specs.Cmp.{IsTotalOrder}
 use Rattle.key_order.specs.Order.{Same}
 use Rattle.key_order.specs.Map.{SameMap}
-use Rattle.key_order.proofs.Orders.{same_up, same_down, same_from, up_up}
 use Rattle.merkle_search_tree.specs.Tree.{Tree, page, Row, high, node, Held, nothing, below}
 use Rattle.merkle_search_tree.specs.Page.{pairs, row_pairs, held_pairs, nodes_of}
 use Rattle.merkle_search_tree.specs.Canonical.{IsTreeOf}
@@ -13,6 +12,7 @@ use Rattle.merkle_search_tree.specs.Ranges.{IsPageOf, IsPageIn, IsPageInRow, IsP
 use Rattle.merkle_search_tree.proofs.Copies.{same-append}
 use Rattle.merkle_search_tree.specs.declared.builder.PageFormat.TheVariants.{V2}
 use Rattle.merkle_search_tree.specs.Stream.{page_digest, stream_of}
+use Rattle.merkle_search_tree.proofs.SameMaps.{same_across}
 use Rattle.merkle_search_tree.proofs.SameParts.{SameBelow, SameParts}
 use Rattle.merkle_search_tree.specs.Faithful.{IsSmall, NoCollision, HasFaithfulPages}
 use Rattle.merkle_search_tree.proofs.Streams.{RowMeasured, page_tells}
@@ -115,32 +115,11 @@ module _ {K : Type 0} (cmp : K → K → Ordering) (bytes_of : K → List ℕ) (
         (all_in Measured s u in_u (tree_measured (pairs u) a is_u.1 f.keys f.digests)) (all_in Measured t v in_v (tree_measured (pairs v) b is_v.1 g.keys g.digests)) e
 
 module _ {K : Type 0} (cmp : K → K → Ordering) (o : IsTotalOrder cmp) where
-  same_turned : (a b : K) → Same cmp a b → Same cmp b a
-  same_turned a b e = same_from cmp o b a (same_down cmp o a b e) (same_up cmp o a b e)
-
-  same_after : (a b c : K) → Same cmp a b → Same cmp b c → Same cmp a c
-  same_after a b c e f = same_from cmp o a c (up_up cmp o a b c (same_up cmp o a b e) (same_up cmp o b c f)) (up_up cmp o c b a (same_down cmp o b c f) (same_down cmp o a b e))
-
-  -- two lists that are the same as two same lists are the same
-  same_across : (ps qs a b : List (K × List ℕ)) → SameMap cmp (λ d e. d ≡ e) ps a → SameMap cmp (λ d e. d ≡ e) qs b → SameMap cmp (λ d e. d ≡ e) ps qs → SameMap cmp (λ d e. d ≡ e) a b
-  same_across [] [] [] [] f g h = tt
-  same_across [] [] [] (y ∷ b) f g h = absurd g
-  same_across [] [] (x ∷ a) b f g h = absurd f
-  same_across [] (q ∷ qs) a b f g h = absurd h
-  same_across (p ∷ ps) [] a b f g h = absurd h
-  same_across (p ∷ ps) (q ∷ qs) [] b f g h = absurd f
-  same_across (p ∷ ps) (q ∷ qs) (x ∷ a) [] f g h = absurd g
-  same_across (p ∷ ps) (q ∷ qs) (x ∷ a) (y ∷ b) f g h = (
-    same_after x.0 p.0 y.0 (same_turned p.0 x.0 f.0) (same_after p.0 q.0 y.0 h.0 g.0),
-    sym f.1 ∙ h.1 ∙ g.1,
-    same_across ps qs a b f.2 g.2 h.2,
-  )
-
   -- equal digests of root pages tell that the maps are equal
   pub roots_tell : (bytes_of : K → List ℕ) (digest_of : K → List ℕ) (base : ℕ) (a b : List (K × List ℕ))
       → HasFaithfulPages cmp (IsPageOf cmp digest_of base) (IsPageOf cmp digest_of base) (page_digest V2 bytes_of) (page_digest V2 bytes_of) pairs a b
       → (t u : Tree K (List ℕ)) → IsTreeOf cmp digest_of base t a → IsTreeOf cmp digest_of base u b → page_digest V2 bytes_of t ≡ page_digest V2 bytes_of u → SameMap cmp (λ d e. d ≡ e) a b
-  roots_tell bytes_of digest_of base a b faithful t u f g e = same_across (pairs t) (pairs u) a b f.1 g.1 (faithful t u (t, f, itself t) (u, g, itself u) e)
+  roots_tell bytes_of digest_of base a b faithful t u f g e = same_across cmp o (pairs t) (pairs u) a b f.1 g.1 (faithful t u (t, f, itself t) (u, g, itself u) e)
     where
       itself : (x : Tree K (List ℕ)) → IsPageIn x x
       itself (page l c r) = inl refl

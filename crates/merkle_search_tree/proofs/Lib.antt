@@ -6,6 +6,7 @@ pub mod Apart
 pub mod Gaps
 pub mod Unique
 pub mod TreeOf
+pub mod SameMaps
 pub mod Sides
 pub mod Search
 pub mod Set
@@ -17,6 +18,7 @@ pub mod Streams
 pub mod Faithful
 pub mod Small
 pub mod Sound
+pub mod Depths
 pub mod Upserts
 pub mod Joins
 pub mod Seams

@@ -104,3 +104,7 @@ module _ {K D : Type 0} (lev : K → ℕ) (low : (k : K) → lev k < 256) (cmp :
   pub is_tree_of : (t : Tree K D) (m : List (K × D)) → IsCanonicalRoot lev t → SameMap cmp (λ d e. d ≡ e) (pairs t) m → SamePages cmp t (tree_of lev m)
   is_tree_of t m c s =
       unique_root lev cmp respects t (tree_of lev m) c (tree_of-canonical lev m (all_under m)) (subst (SameMap cmp (λ d e. d ≡ e) (pairs t)) (sym (tree_of-pairs lev m (all_under m))) s)
+
+  -- and it is a tree of the map
+  pub tree_of-is : IsTotalOrder cmp → (m : List (K × D)) → IsCanonicalRoot lev (tree_of lev m) × SameMap cmp (λ d e. d ≡ e) (pairs (tree_of lev m)) m
+  tree_of-is o m = (tree_of-canonical lev m (all_under m), subst (λ ps. SameMap cmp (λ d e. d ≡ e) ps m) (sym (tree_of-pairs lev m (all_under m))) (same_map-own cmp o m))

@@ -2,6 +2,7 @@ pub mod Tree
 pub mod TreeCode
 pub mod TreeFalls
 pub mod Page
+pub mod Depth
 pub mod Canonical
 pub mod TreeOf
 pub mod Stream
@@ -20,6 +21,7 @@ pub mod PagesToCome
 pub mod Settings
 pub mod State
 pub mod Sound
+pub mod Hashed
 pub mod Search
 pub mod Upsert
 pub mod Chain

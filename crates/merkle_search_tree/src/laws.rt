@@ -1,20 +1,24 @@
-//! Laws over the definitions alone. Each function has no effect and takes no memory; what it ensures holds of every tree.
+//! Laws over the definitions alone. Each function has no effect and takes no memory; what it ensures holds of every tree, or, where
+//! it takes no tree, of every map and every tree that a contract can speak of.
 
-ghost use Rattle.std.specs.Prelude.{◌≡◌, ⊤, ℕ, List, [], MatchOption};
+ghost use Rattle.std.specs.Prelude.{◌≡◌, ◌+◌, ◌≤◌, ⊤, ℕ, List, [], MatchOption};
 ghost use Rattle.key_order.specs.Interval.{Span};
-ghost use Rattle.key_order.specs.Map.{SameMap};
+ghost use Rattle.key_order.specs.Map.{IsMap, SameMap};
 ghost use Rattle.merkle_digest.specs.Level.{level_of};
 ghost use Rattle.merkle_diff.specs.Difference.{IsDifference, SparesAgreed};
+ghost use Rattle.merkle_diff.specs.Entry.{Entry};
 ghost use Rattle.merkle_diff.specs.SameEntries.{SameEntries};
 ghost use Rattle.merkle_diff.specs.TreeShape.{IsTreeShaped};
 ghost use Rattle.merkle_search_tree.specs.Cache.{missing};
+ghost use Rattle.merkle_search_tree.specs.Depth.{depth};
 ghost use Rattle.merkle_search_tree.specs.Listing.{IsListing};
-ghost use Rattle.merkle_search_tree.specs.Page.{pairs};
-ghost use Rattle.merkle_search_tree.specs.Ranges.{IsPageOf, ranges_of};
+ghost use Rattle.merkle_search_tree.specs.Page.{level, pairs};
+ghost use Rattle.merkle_search_tree.specs.Ranges.{IsPageOf, IsRangesOf, ranges_of};
 ghost use Rattle.merkle_search_tree.specs.Canonical.{SamePages, IsTreeOf};
 ghost use Rattle.merkle_search_tree.specs.Faithful.{IsSmall, NoCollision, HasFaithfulPages};
 ghost use Rattle.merkle_search_tree.specs.Tree.{Tree};
 ghost use Rattle.merkle_search_tree.specs.TreeOf.{tree_of};
+ghost use Rattle.merkle_search_tree.specs.declared.builder.PageFormat.{PageFormat};
 ghost use Rattle.merkle_search_tree.specs.declared.builder.PageFormat.TheVariants.{V2};
 ghost use Rattle.merkle_search_tree.specs.Stream.{page_digest};
 ghost use Rattle.merkle_search_tree.specs.State.{map_of};
@@ -24,15 +28,55 @@ use crate::tree::MerkleSearchTree;
 use merkle_digest::{Hasher, KeyBytes, KeyBytesExact};
 
 /// What holds of every tree: its keys ascend, its pages are canonical and so the tree of its map, its cached digests are true,
-/// with every page below a cached one cached too, and a cached root hash is that of the root page.
+/// with every page below a cached one cached too, and a cached root hash is that of the root page. The digest of its root page and its
+/// page ranges are those of the tree of its map, whether it is hashed or not.
 pub fn every_tree_is_sound<K: Ord + KeyBytes, V, H: Hasher<N, K>, const N: usize>(
     tree: &MerkleSearchTree<K, V, H, N>,
 )
     ensures sound { IsSound K.cmp H.digest_of K.bytes_of tree.now }
     ensures defined { SamePages K.cmp tree.now.root (tree_of (λ k. level_of (H.digest_of tree.now.hasher k) tree.now.base) (map_of tree.now)) }
+    ensures digest { page_digest tree.now.format K.bytes_of tree.now.root ≡ page_digest tree.now.format K.bytes_of (tree_of (λ k. level_of (H.digest_of tree.now.hasher k) tree.now.base) (map_of tree.now)) }
+    ensures ranges { SameEntries K.cmp (ranges_of tree.now.format K.bytes_of tree.now.root) (ranges_of tree.now.format K.bytes_of (tree_of (λ k. level_of (H.digest_of tree.now.hasher k) tree.now.base) (map_of tree.now))) }
 {
     let _ = &tree.root;
 }
+
+/// At most 256 pages stand below one another, and no more than the level of the root and one. So deep are the recursions over pages.
+pub fn a_tree_is_at_most_256_pages_deep<K: Ord + KeyBytes, V, H: Hasher<N, K>, const N: usize>(
+    tree: &MerkleSearchTree<K, V, H, N>,
+)
+    ensures by_level { depth tree.now.root ≤ level tree.now.root + 1 }
+    ensures deepest { depth tree.now.root ≤ 256 }
+{
+    let _ = &tree.root;
+}
+
+/// A map has one tree: under any hasher and level base there is one, and trees of equal maps have equal pages apart from caches, and,
+/// in any page format, root pages of equal digest and equal page ranges.
+pub fn a_map_has_one_tree<K: Ord + KeyBytes, H: Hasher<N, K>, const N: usize>()
+    ensures defined { (hasher : H) (base : ℕ) (m : List (K × List ℕ)) → IsTreeOf K.cmp (H.digest_of hasher) base (tree_of (λ k. level_of (H.digest_of hasher k) base) m) m }
+    ensures pages { (hasher : H) (base : ℕ) (a b : List (K × List ℕ)) (t u : Tree K (List ℕ)) → SameMap K.cmp (λ d e. d ≡ e) a b
+        → IsTreeOf K.cmp (H.digest_of hasher) base t a → IsTreeOf K.cmp (H.digest_of hasher) base u b → SamePages K.cmp t u }
+    ensures digests { (hasher : H) (base : ℕ) (format : PageFormat) (a b : List (K × List ℕ)) (t u : Tree K (List ℕ)) → SameMap K.cmp (λ d e. d ≡ e) a b
+        → IsTreeOf K.cmp (H.digest_of hasher) base t a → IsTreeOf K.cmp (H.digest_of hasher) base u b → page_digest format K.bytes_of t ≡ page_digest format K.bytes_of u }
+    ensures ranges { (hasher : H) (base : ℕ) (format : PageFormat) (a b : List (K × List ℕ)) (t u : Tree K (List ℕ)) → SameMap K.cmp (λ d e. d ≡ e) a b
+        → IsTreeOf K.cmp (H.digest_of hasher) base t a → IsTreeOf K.cmp (H.digest_of hasher) base u b → SameEntries K.cmp (ranges_of format K.bytes_of t) (ranges_of format K.bytes_of u) }
+{}
+
+/// Equal pages, apart from caches, have equal maps, and, in any page format, equal digests and equal page ranges.
+pub fn equal_pages_have_equal_maps<K: Ord + KeyBytes>()
+    ensures maps { (t u : Tree K (List ℕ)) → SamePages K.cmp t u → SameMap K.cmp (λ d e. d ≡ e) (pairs t) (pairs u) }
+    ensures digests { (format : PageFormat) (t u : Tree K (List ℕ)) → SamePages K.cmp t u → page_digest format K.bytes_of t ≡ page_digest format K.bytes_of u }
+    ensures ranges { (format : PageFormat) (t u : Tree K (List ℕ)) → SamePages K.cmp t u → SameEntries K.cmp (ranges_of format K.bytes_of t) (ranges_of format K.bytes_of u) }
+{}
+
+/// The page ranges of the tree of any map are tree-shaped, and say where the pages of the map are, in any page format.
+pub fn page_ranges_of_a_map<K: Ord + KeyBytes, H: Hasher<N, K>, const N: usize>()
+    ensures shaped { (hasher : H) (base : ℕ) (format : PageFormat) (m : List (K × List ℕ)) (es : List (Entry K (List ℕ))) → IsMap K.cmp m
+        → IsRangesOf K.cmp (H.digest_of hasher) base format K.bytes_of m es → IsTreeShaped K.cmp es }
+    ensures listing { (hasher : H) (base : ℕ) (format : PageFormat) (m : List (K × List ℕ)) (es : List (Entry K (List ℕ))) → IsMap K.cmp m
+        → IsRangesOf K.cmp (H.digest_of hasher) base format K.bytes_of m es → IsListing K.cmp (IsPageOf K.cmp (H.digest_of hasher) base) (page_digest format K.bytes_of) pairs m es }
+{}
 
 /// Trees of equal maps, under one hasher and level base, have equal pages apart from caches, and, in one page format, equal root
 /// digests.

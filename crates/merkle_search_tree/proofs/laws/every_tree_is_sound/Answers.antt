@@ -1,6 +1,11 @@
 use Rattle.std.proofs.Common.{subst}
+use Rattle.merkle_digest.specs.Level.{level_of}
 use Rattle.merkle_search_tree.specs.Sound.{IsSound}
-use Rattle.merkle_search_tree.proofs.Sound.{sound_defined}
+use Rattle.merkle_search_tree.specs.TreeOf.{tree_of}
+use Rattle.merkle_search_tree.specs.State.{map_of}
+use Rattle.merkle_search_tree.proofs.Same.{same_digest}
+use Rattle.merkle_search_tree.proofs.SameRanges.{same_ranges}
+use Rattle.merkle_search_tree.proofs.Sound.{sound_defined, same_bytes}
 use Rattle.merkle_search_tree.proofs.laws.every_tree_is_sound.Goals as goal
 
 pub returns-clause-sound : goal.returns-clause-sound
@@ -8,3 +13,15 @@ returns-clause-sound g c = subst (IsSound g.K.Ord.cmp g.H.Hasher.digest_of g.K.K
 
 pub returns-clause-defined : goal.returns-clause-defined
 returns-clause-defined g c = sound_defined g.K.Ord.cmp g.met.K.Ord.total g.K.PartialEq.eq g.met.K.Ord.matches_eq g.H.Hasher.digest_of g.met.H.Hasher.respects_eq g.K.KeyBytes.bytes_of c.args.tree.now (returns-clause-sound g c)
+
+pub returns-clause-digest : goal.returns-clause-digest
+returns-clause-digest g c =
+    let s = c.args.tree.now in
+    same_digest g.K.Ord.cmp s.format g.K.KeyBytes.bytes_of (same_bytes g.K.Ord.cmp g.K.PartialEq.eq g.met.K.Ord.matches_eq g.K.KeyBytes.bytes_of g.met.K.KeyBytes.bytes_respect_eq)
+    s.root (tree_of (λ k. level_of (g.H.Hasher.digest_of s.hasher k) s.base) (map_of s)) (returns-clause-defined g c)
+
+pub returns-clause-ranges : goal.returns-clause-ranges
+returns-clause-ranges g c =
+    let s = c.args.tree.now in
+    same_ranges g.K.Ord.cmp s.format g.K.KeyBytes.bytes_of (same_bytes g.K.Ord.cmp g.K.PartialEq.eq g.met.K.Ord.matches_eq g.K.KeyBytes.bytes_of g.met.K.KeyBytes.bytes_respect_eq)
+    s.root (tree_of (λ k. level_of (g.H.Hasher.digest_of s.hasher k) s.base) (map_of s)) (returns-clause-defined g c)
