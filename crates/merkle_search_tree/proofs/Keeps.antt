@@ -260,80 +260,85 @@ module _ {K D : Type 0} where
   as_held-few l m a None (node h k d r) s p = omega arith
   as_held-few l m a (Some c) (node h k d r) s p = omega arith
 
--- how many digests are dropped, where none was missing
+-- how many digests are dropped
+module _ {K D : Type 0} where
+  as_held-one : (l : ℕ) (c : Option (List ℕ)) (r : Row K D) → held_missing (as_held l c r) ≤ row_missing r + 1
+  as_held-one l c (high h) = omega arith
+  as_held-one l None (node h k d r) = omega arith
+  as_held-one l (Some c) (node h k d r) = omega arith
+
 module _ {K D : Type 0} (cmp : K → K → Ordering) (lev : K → ℕ) (at : K) where
   mutual
-    pub split-few : (l : ℕ) (r : Row K D) → IsRow lev l r → row_missing r ≡ 0 → (row_missing (lower cmp at r) ≤ l) × (row_missing (upper cmp at r) ≤ l)
-    split-few l (high h) p z = held_split-few l h p z
-    split-few l (node h k d r) p z = by (is_gt (cmp at k)) (split-few l r p.2 (omega arith)) (held_split-few l h p.0 (omega arith))
+    split-few : (l : ℕ) (r : Row K D) → IsRow lev l r → row_missing (lower cmp at r) + row_missing (upper cmp at r) ≤ row_missing r + (l + l)
+    split-few l (high h) p = held_split-few l h p
+    split-few l (node h k d r) p = by (is_gt (cmp at k)) (split-few l r p.2) (held_split-few l h p.0)
       where
-        by : (b : Bool) → (row_missing (lower cmp at r) ≤ l) × (row_missing (upper cmp at r) ≤ l) → (held_missing (held_lower cmp at h) ≤ l) × (held_missing (held_upper cmp at h) ≤ l)
-            → (row_missing (if b then (node h k d (lower cmp at r)) else (high (held_lower cmp at h))) ≤ l) × (row_missing (if b then (upper cmp at r) else (node (held_upper cmp at h) k d r)) ≤ l)
-        by true s u = (omega (arith, s.0), s.1)
-        by false s u = (u.0, omega (arith, u.1))
+        by : (b : Bool) → row_missing (lower cmp at r) + row_missing (upper cmp at r) ≤ row_missing r + (l + l) → held_missing (held_lower cmp at h) + held_missing (held_upper cmp at h) ≤ held_missing h + (l + l)
+            → row_missing (if b then (node h k d (lower cmp at r)) else (high (held_lower cmp at h))) + row_missing (if b then (upper cmp at r) else (node (held_upper cmp at h) k d r)) ≤ held_missing h + row_missing r + (l + l)
+        by true s u = omega arith
+        by false s u = omega arith
 
-    pub held_split-few : (l : ℕ) (h : Held K D) → IsGap lev l h → held_missing h ≡ 0 → (held_missing (held_lower cmp at h) ≤ l) × (held_missing (held_upper cmp at h) ≤ l)
-    held_split-few l nothing p z = (omega arith, omega arith)
-    held_split-few l (below (page m c (high h))) p z = absurd p.1
-    held_split-few l (below (page m c (node h k d r))) p z =
-        let s = split-few m (node h k d r) p.2 (omega arith) in (
-          omega (arith, as_held-few m l 0 (kept (upper cmp at (node h k d r)) c) (lower cmp at (node h k d r)) p.0 (omega (arith, s.0))),
-          omega (arith, as_held-few m l 0 (kept (lower cmp at (node h k d r)) c) (upper cmp at (node h k d r)) p.0 (omega (arith, s.1))),
-        )
+    held_split-few : (l : ℕ) (h : Held K D) → IsGap lev l h → held_missing (held_lower cmp at h) + held_missing (held_upper cmp at h) ≤ held_missing h + (l + l)
+    held_split-few l nothing p = omega arith
+    held_split-few l (below (page m c (high h))) p = absurd p.1
+    held_split-few l (below (page m c (node h k d r))) p =
+        omega (arith, p.0, split-few m (node h k d r) p.2, as_held-one m (kept (upper cmp at (node h k d r)) c) (lower cmp at (node h k d r)), as_held-one m (kept (lower cmp at (node h k d r)) c) (upper cmp at (node h k d r)))
 
 module _ {K D : Type 0} (cmp : K → K → Ordering) (lev : K → ℕ) (n : ℕ) (k : K) (d : D) where
-  put-few : (r : Row K D) → IsRow lev n r → row_missing r ≡ 0 → row_missing (row_put cmp k d r) ≤ n + n
-  put-few (high h) p z = let s = held_split-few cmp lev k n h p z in omega (arith, s.0, s.1)
-  put-few (node h x e r) p z = by (cmp k x) (put-few r p.2 (omega arith)) (held_split-few cmp lev k n h p.0 (omega arith))
+  put-few : (r : Row K D) → IsRow lev n r → row_missing (row_put cmp k d r) ≤ row_missing r + (n + n)
+  put-few (high h) p = held_split-few cmp lev k n h p
+  put-few (node h x e r) p = by (cmp k x) (put-few r p.2) (held_split-few cmp lev k n h p.0)
     where
-      by : (q : Ordering) → row_missing (row_put cmp k d r) ≤ n + n → (held_missing (held_lower cmp k h) ≤ n) × (held_missing (held_upper cmp k h) ≤ n)
-          → row_missing (match_ordering q (node (held_lower cmp k h) k d (node (held_upper cmp k h) x e r)) (node h x d r) (node h x e (row_put cmp k d r))) ≤ n + n
-      by Less f s = omega (arith, s.0, s.1)
+      by : (q : Ordering) → row_missing (row_put cmp k d r) ≤ row_missing r + (n + n) → held_missing (held_lower cmp k h) + held_missing (held_upper cmp k h) ≤ held_missing h + (n + n)
+          → row_missing (match_ordering q (node (held_lower cmp k h) k d (node (held_upper cmp k h) x e r)) (node h x d r) (node h x e (row_put cmp k d r))) ≤ held_missing h + row_missing r + (n + n)
+      by Less f s = omega arith
       by Equal f s = omega arith
       by Greater f s = omega arith
 
-  mutual
-    pub set-few : (t : Tree K D) → HasNode t → IsCanonical lev t → missing t ≡ 0 → missing (tree_set cmp n k d t) ≤ level (tree_set cmp n k d t) + n + 1
-    set-few (page m c (high h)) w p z = absurd w
-    set-few (page m c (node h x e r)) w p z =
-        by (nat_cmp n m) (ranks n m) (λ q. sink-few m (node h x e r) q p (omega arith)) (λ q. put-few (node h x e r) (subst (λ j. IsRow lev j (node h x e r)) (sym q) p) (omega arith))
-        (split-few cmp lev k m (node h x e r) p (omega arith))
-      where
-        by : (q : Ordering) → MatchOrdering q (n < m) (n ≡ m) (m < n)
-            → (n < m → row_missing (row_sink cmp n k d (node h x e r)) ≤ m + n) → (n ≡ m → row_missing (row_put cmp k d (node h x e r)) ≤ n + n)
-            → (row_missing (lower cmp k (node h x e r)) ≤ m) × (row_missing (upper cmp k (node h x e r)) ≤ m)
-            → missing (match_ordering q (page m None (row_sink cmp n k d (node h x e r))) (page m None (row_put cmp k d (node h x e r))) (lifted cmp n k d (page m c (node h x e r))))
-            ≤ level (match_ordering q (page m None (row_sink cmp n k d (node h x e r))) (page m None (row_put cmp k d (node h x e r))) (lifted cmp n k d (page m c (node h x e r)))) + n + 1
-        by Less q f g s = omega (arith, f q)
-        by Equal q f g s = omega (arith, g q)
-        by Greater q f g s = omega (arith, as_held-few m n 0 (kept (upper cmp k (node h x e r)) c) (lower cmp k (node h x e r)) q (omega (arith, s.0)), as_held-few m n 0 (kept (lower cmp k (node h x e r)) c) (upper cmp k (node h x e r)) q (omega (arith, s.1)))
+  -- a page with a node that gets the key lacks few digests more, whatever level the page with the key is on
+  tree-few : (m : ℕ) (c : Option (List ℕ)) (h : Held K D) (x : K) (e : D) (r : Row K D) → IsRow lev m (node h x e r)
+      → (n < m → row_missing (row_sink cmp n k d (node h x e r)) ≤ row_missing (node h x e r) + (m + n))
+      → missing (tree_set cmp n k d (page m c (node h x e r))) ≤ row_missing (node h x e r) + (level (tree_set cmp n k d (page m c (node h x e r))) + n + 1)
+  tree-few m c h x e r p f =
+      by (nat_cmp n m) (ranks n m) f (λ q. put-few (node h x e r) (subst (λ j. IsRow lev j (node h x e r)) (sym q) p)) (split-few cmp lev k m (node h x e r) p)
+    where
+      by : (q : Ordering) → MatchOrdering q (n < m) (n ≡ m) (m < n)
+          → (n < m → row_missing (row_sink cmp n k d (node h x e r)) ≤ row_missing (node h x e r) + (m + n)) → (n ≡ m → row_missing (row_put cmp k d (node h x e r)) ≤ row_missing (node h x e r) + (n + n))
+          → row_missing (lower cmp k (node h x e r)) + row_missing (upper cmp k (node h x e r)) ≤ row_missing (node h x e r) + (m + m)
+          → missing (match_ordering q (page m None (row_sink cmp n k d (node h x e r))) (page m None (row_put cmp k d (node h x e r))) (lifted cmp n k d (page m c (node h x e r))))
+          ≤ row_missing (node h x e r) + (level (match_ordering q (page m None (row_sink cmp n k d (node h x e r))) (page m None (row_put cmp k d (node h x e r))) (lifted cmp n k d (page m c (node h x e r)))) + n + 1)
+      by Less q f g s = omega (arith, f q)
+      by Equal q f g s = omega (arith, g q)
+      by Greater q f g s = omega (arith, as_held-one m (kept (upper cmp k (node h x e r)) c) (lower cmp k (node h x e r)), as_held-one m (kept (lower cmp k (node h x e r)) c) (upper cmp k (node h x e r)))
 
-    sink-few : (m : ℕ) (r : Row K D) → n < m → IsRow lev m r → row_missing r ≡ 0 → row_missing (row_sink cmp n k d r) ≤ m + n
-    sink-few m (high h) s p z = gap-few m h s p z
-    sink-few m (node h x e r) s p z = by (cmp k x) (sink-few m r s p.2 (omega arith)) (gap-few m h s p.0 (omega arith))
+  -- the level of that page
+  tree-level : (l m : ℕ) (c : Option (List ℕ)) (h : Held K D) (x : K) (e : D) (r : Row K D) → n < m → l < m → level (tree_set cmp n k d (page l c (node h x e r))) < m
+  tree-level l m c h x e r s t = by (nat_cmp n l)
+    where
+      by : (q : Ordering) → level (match_ordering q (page l None (row_sink cmp n k d (node h x e r))) (page l None (row_put cmp k d (node h x e r))) (lifted cmp n k d (page l c (node h x e r)))) < m
+      by Less = t
+      by Equal = t
+      by Greater = s
+
+  mutual
+    sink-few : (m : ℕ) (r : Row K D) → n < m → IsRow lev m r → row_missing (row_sink cmp n k d r) ≤ row_missing r + (m + n)
+    sink-few m (high h) s p = gap-few m h s p
+    sink-few m (node h x e r) s p = by (cmp k x) (sink-few m r s p.2) (gap-few m h s p.0)
       where
-        by : (q : Ordering) → row_missing (row_sink cmp n k d r) ≤ m + n → held_missing (held_set cmp n k d h) ≤ m + n
-            → row_missing (match_ordering q (node (held_set cmp n k d h) x e r) (node h x d r) (node h x e (row_sink cmp n k d r))) ≤ m + n
+        by : (q : Ordering) → row_missing (row_sink cmp n k d r) ≤ row_missing r + (m + n) → held_missing (held_set cmp n k d h) ≤ held_missing h + (m + n)
+            → row_missing (match_ordering q (node (held_set cmp n k d h) x e r) (node h x d r) (node h x e (row_sink cmp n k d r))) ≤ held_missing h + row_missing r + (m + n)
         by Less f g = omega arith
         by Equal f g = omega arith
         by Greater f g = omega arith
 
-    gap-few : (m : ℕ) (h : Held K D) → n < m → IsGap lev m h → held_missing h ≡ 0 → held_missing (held_set cmp n k d h) ≤ m + n
-    gap-few m nothing s p z = omega arith
-    gap-few m (below (page l c (high h))) s p z = absurd p.1
-    gap-few m (below (page l c (node h x e r))) s p z =
-        by (nat_cmp n l) (ranks n l) (λ q. sink-few l (node h x e r) q p.2 (omega arith)) (λ q. put-few (node h x e r) (subst (λ j. IsRow lev j (node h x e r)) (sym q) p.2) (omega arith))
-        (split-few cmp lev k l (node h x e r) p.2 (omega arith))
-      where
-        by : (q : Ordering) → MatchOrdering q (n < l) (n ≡ l) (l < n)
-            → (n < l → row_missing (row_sink cmp n k d (node h x e r)) ≤ l + n) → (n ≡ l → row_missing (row_put cmp k d (node h x e r)) ≤ n + n)
-            → (row_missing (lower cmp k (node h x e r)) ≤ l) × (row_missing (upper cmp k (node h x e r)) ≤ l)
-            → missing (match_ordering q (page l None (row_sink cmp n k d (node h x e r))) (page l None (row_put cmp k d (node h x e r))) (lifted cmp n k d (page l c (node h x e r)))) ≤ m + n
-        by Less q f g t = omega (arith, f q, p.0)
-        by Equal q f g t = omega (arith, g q, p.0)
-        by Greater q f g t = omega (arith, as_held-few l n 0 (kept (upper cmp k (node h x e r)) c) (lower cmp k (node h x e r)) q (omega (arith, t.0)), as_held-few l n 0 (kept (lower cmp k (node h x e r)) c) (upper cmp k (node h x e r)) q (omega (arith, t.1)))
+    gap-few : (m : ℕ) (h : Held K D) → n < m → IsGap lev m h → held_missing (held_set cmp n k d h) ≤ held_missing h + (m + n)
+    gap-few m nothing s p = omega arith
+    gap-few m (below (page l c (high h))) s p = absurd p.1
+    gap-few m (below (page l c (node h x e r))) s p =
+        omega (arith, tree-few l c h x e r p.2 (λ t. sink-few l (node h x e r) t p.2), tree-level l m c h x e r s p.0)
 
-  pub set-few_root : (t : Tree K D) → IsCanonicalRoot lev t → missing t ≡ 0 → missing (tree_set cmp n k d t) ≤ level (tree_set cmp n k d t) + n + 1
-  set-few_root (page m c (high nothing)) p z = omega arith
-  set-few_root (page m c (high (below t))) p z = absurd p
-  set-few_root (page m c (node h x e r)) p z = set-few (page m c (node h x e r)) tt p z
+  -- the pages that lack a digest after an upsert that didn't before
+  pub set-few_root : (t : Tree K D) → IsCanonicalRoot lev t → missing (tree_set cmp n k d t) ≤ missing t + (level (tree_set cmp n k d t) + n + 1)
+  set-few_root (page m c (high nothing)) p = omega arith
+  set-few_root (page m c (high (below t))) p = absurd p
+  set-few_root (page m c (node h x e r)) p = omega (arith, tree-few m c h x e r p (λ t. sink-few m (node h x e r) t p))

@@ -43,8 +43,8 @@ module _ {K H : Type 0} (cmp : K → K → Ordering) (o : IsTotalOrder cmp) (eq 
   pub upsert-dropped : KeyUncached cmp k (tree_set cmp n k d s.root)
   upsert-dropped = set-dropped_root cmp o lev (alike cmp o eq matches digest_of respects bytes_of s) n k d at s.root sound.canonical sound.ascending
 
-  pub upsert-few : s.root_hash ≢ None → missing (tree_set cmp n k d s.root) ≤ level (tree_set cmp n k d s.root) + n + 1
-  upsert-few ne = set-few_root cmp lev n k d s.root sound.canonical (none_of_hashed s.format bytes_of s.root s.root_hash sound.root_hash_holds sound.caches ne)
+  pub upsert-few : missing (tree_set cmp n k d s.root) ≤ missing s.root + (level (tree_set cmp n k d s.root) + n + 1)
+  upsert-few = set-few_root cmp lev n k d s.root sound.canonical
 
   pub upsert-finds : has_key cmp (pairs s.root) k ≡ true → tree_finds cmp n k d s.root ≡ true
   upsert-finds e = set-finds_root cmp o lev (alike cmp o eq matches digest_of respects bytes_of s) n k d at s.root sound.canonical sound.ascending e

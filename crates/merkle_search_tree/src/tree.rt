@@ -1,6 +1,6 @@
 //! The tree.
 
-ghost use Rattle.std.specs.Prelude.{◌≡◌, ◌≢◌, ℕ, ◌+◌, ◌^◌, ◌<◌, ◌≤◌, length, None, OnOk, OnErr, IfOk, IfErr, IsOk, true, map};
+ghost use Rattle.std.specs.Prelude.{◌≡◌, ◌≢◌, ℕ, ◌+◌, ◌^◌, ◌<◌, ◌≤◌, length, None, OnOk, OnErr, IfOk, IfErr, IfSome, IsOk, true, map};
 ghost use Rattle.std.specs.Option.{option_map};
 ghost use Rattle.std.specs.Int.NonZero.{non_zero_u8_get};
 ghost use Rattle.key_order.specs.Order.{Same};
@@ -14,6 +14,7 @@ ghost use Rattle.merkle_search_tree.specs.Cache.{missing, KeyUncached};
 ghost use Rattle.merkle_search_tree.specs.Copy.{IsCopy};
 ghost use Rattle.merkle_search_tree.specs.Sound.{IsSound};
 ghost use Rattle.merkle_search_tree.specs.State.{map_of, IsNew};
+ghost use Rattle.merkle_search_tree.specs.Stream.{page_digest};
 ghost use Rattle.merkle_search_tree.specs.declared.builder.PageFormat.TheVariants.{V1};
 
 use crate::builder::{Builder, PageFormat};
@@ -137,7 +138,8 @@ impl<K: Ord + KeyBytes, V, H: Hasher<N, K>, const N: usize> MerkleSearchTree<K, 
     /// The digest of the root page, where it is cached: `None` for a new tree, and after every accepted upsert until the tree is
     /// hashed again.
     pub fn root_hash_cached(&self) -> Option<&RootHash>
-        ensures { option_map (λ digest. digest.now) result ≡ self.now.root_hash }
+        ensures cached { option_map (λ digest. digest.now) result ≡ self.now.root_hash }
+        ensures digest { IfSome result (λ digest. digest.now ≡ page_digest self.now.format K.bytes_of self.now.root) }
     {
         self.root_hash.as_ref()
     }
@@ -163,9 +165,9 @@ impl<K: Ord + KeyBytes, V, H: Hasher<N, K>, const N: usize> MerkleSearchTree<K, 
 }
 
 impl<K: Ord + KeyBytes, V, H: Hasher<N, K>, const N: usize> MerkleSearchTree<K, V, H, N> {
-    ghost use Rattle.std.specs.Prelude.{◌≡◌, ◌-◌, ◌^◌, min, Some, ⊤};
-    ghost use Rattle.merkle_search_tree.specs.Stream.{page_digest};
+    ghost use Rattle.std.specs.Prelude.{◌≡◌, ◌≢◌, ◌-◌, ◌^◌, min, Some, None, ⊤};
     ghost use Rattle.merkle_search_tree.specs.Cache.{missing, filled};
+    ghost use Rattle.merkle_search_tree.specs.Hashed.{IsHashed};
     ghost use Rattle.merkle_search_tree.specs.contracts.tree.MerkleSearchTree.{the_row};
     ghost use Rattle.std.specs.Borrow.{sem};
     ghost use mathlib.Core.Option.{none};
@@ -174,17 +176,18 @@ impl<K: Ord + KeyBytes, V, H: Hasher<N, K>, const N: usize> MerkleSearchTree<K, 
 
     /// How many pages lack a digest, but at most `usize::MAX`: none of a hashed tree.
     pub fn pages_to_hash(&self) -> usize
-        ensures { result ≡ min (missing self.now.root) (2 ^ 64 - 1) }
+        ensures count { result ≡ min (missing self.now.root) (2 ^ 64 - 1) }
+        ensures hashed { self.now.root_hash ≢ None → result ≡ 0 }
     {
         self.root.missing()
     }
 
     /// The digest of the root page: SipHash-2-4-128 of its stream under the zero key, whatever the tree's own hasher is. It
-    /// fills in the digests that pages lack, and takes no memory. Trees of equal maps have equal root hashes, under one hasher,
+    /// fills in the digests that pages lack, changes nothing else, and takes no memory. Trees of equal maps have equal root hashes, under one hasher,
     /// level base and page format; the converse holds only as far as no digests collide, and in format 1 streams can be equal, too.
     pub fn root_hash(&mut self) -> &RootHash
         ensures* tree { sem 𝓛 (follows_so (the_row K.row V.row H.row (number N) K.Ord.own K.PartialEq K.PartialOrd.own K.KeyBytes.own H.Hasher) (the_row K.row V.row H.row (number N) K.Ord.own K.PartialEq K.PartialOrd.own K.KeyBytes.own H.Hasher) self.entry.ghost_name none (λ _ _. ⊤)
-            (λ t. t ≡ record self.old { root = filled self.old.format K.bytes_of self.old.root; root_hash = Some (page_digest self.old.format K.bytes_of self.old.root) })) }
+            (IsHashed K.bytes_of self.old)) }
         ensures digest { result.now ≡ page_digest self.old.format K.bytes_of self.old.root }
     {
         let _ = self.root_hash_counted();
@@ -198,6 +201,7 @@ impl<K: Ord + KeyBytes, V, H: Hasher<N, K>, const N: usize> MerkleSearchTree<K, 
     /// that lacked a digest, but at most `usize::MAX`.
     pub fn root_hash_counted(&mut self) -> (RootHash, usize)
         ensures tree { self.new ≡ record self.old { root = filled self.old.format K.bytes_of self.old.root; root_hash = Some (page_digest self.old.format K.bytes_of self.old.root) } }
+        ensures map { map_of self.new ≡ map_of self.old }
         ensures digest { result.0 ≡ page_digest self.old.format K.bytes_of self.old.root }
         ensures count { result.1 ≡ min (missing self.old.root) (2 ^ 64 - 1) }
         ensures hashed { missing self.new.root ≡ 0 }
@@ -320,9 +324,10 @@ impl<
         // The map has the key with the digest of the value.
         ensures set { OnOk result (map_of self.new ≡ set K.cmp (map_of self.old) key (⟦<H as Hasher<N, V>>⟧.digest_of self.old.hasher value.now)) }
 
-        // No digest over the key is left, and into a hashed tree few others are dropped.
+        // No digest over the key is left, and few others are dropped: few are missing in a tree that was hashed.
         ensures forgotten { OnOk result (self.new.root_hash ≡ None) }
         ensures dropped { OnOk result (KeyUncached K.cmp key self.new.root) }
+        ensures few_more { OnOk result (missing self.new.root ≤ missing self.old.root + (level self.new.root + level_of (⟦<H as Hasher<N, K>>⟧.digest_of self.old.hasher key) self.old.base + 1)) }
         ensures few { OnOk result (self.old.root_hash ≢ None → missing self.new.root ≤ level self.new.root + level_of (⟦<H as Hasher<N, K>>⟧.digest_of self.old.hasher key) self.old.base + 1) }
 
         ensures hasher { self.new.hasher ≡ self.old.hasher }

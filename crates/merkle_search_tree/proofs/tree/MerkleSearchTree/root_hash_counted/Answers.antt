@@ -2,6 +2,8 @@ use Rattle.std.proofs.Common.{rules, ap, ◌∙◌}
 use Rattle.std.specs.Int.NonZero.{non_zero_u8_get}
 use Rattle.merkle_digest.specs.Level.{level_of}
 use Rattle.merkle_search_tree.specs.Cache.{missing}
+use Rattle.merkle_search_tree.specs.Page.{pairs}
+use Rattle.merkle_search_tree.specs.State.{State, map_of}
 use Rattle.merkle_search_tree.proofs.Fill.{pairs-filled, IsCanonicalRoot-filled, CachesHold-filled, cache-filled, missing-filled}
 use Rattle.merkle_search_tree.proofs.tree.MerkleSearchTree.root_hash_counted.Goals as goal
 
@@ -22,3 +24,7 @@ invariant_of-self g c =
 
 pub returns-clause-hashed : goal.returns-clause-hashed
 returns-clause-hashed g c = ap missing c.fill-digest.ensures.pages ∙ missing-filled c.self.inside.page_format g.K.KeyBytes.bytes_of c.self.inside.root
+
+pub returns-clause-map : goal.returns-clause-map
+returns-clause-map g c =
+    ap pairs c.fill-digest.ensures.pages ∙ pairs-filled c.self.inside.page_format g.K.KeyBytes.bytes_of c.self.inside.root ∙ ap (λ (v : State g.row.K.Denot g.row.H.Denot). map_of v) c.self.view_is

@@ -1,4 +1,4 @@
-use Rattle.std.proofs.Common.{◌≡◌, ◌≢◌, ℕ, ◌+◌, ◌≤◌, List, true, false, None, ap, sym, subst, ◌∙◌}
+use Rattle.std.proofs.Common.{◌≡◌, ◌≢◌, ℕ, ◌+◌, ◌≤◌, List, true, false, None, ap, sym, subst, ◌∙◌, arith}
 use Rattle.std.specs.Int.NonZero.{non_zero_u8_get}
 use Rattle.merkle_digest.specs.Level.{level_of}
 use Rattle.merkle_search_tree.specs.Tree.{Tree}
@@ -8,7 +8,7 @@ use Rattle.merkle_search_tree.specs.Cache.{missing, KeyUncached}
 use Rattle.merkle_search_tree.specs.Sound.{IsSound}
 use Rattle.key_order.specs.Map.{set, has_key}
 use Rattle.merkle_search_tree.specs.Upsert.{tree_set}
-use Rattle.merkle_search_tree.proofs.Upserts.{upsert-pairs, upsert-sound, upsert-dropped, upsert-few, upsert-finds}
+use Rattle.merkle_search_tree.proofs.Upserts.{upsert-pairs, upsert-sound, upsert-dropped, upsert-few, upsert-finds, none_of_hashed}
 use Rattle.merkle_search_tree.proofs.tree.MerkleSearchTree.upsert.Goals as goal
 
 pub returns-in_err-set-clause-succeeds : goal.returns-in_err-set-clause-succeeds
@@ -48,12 +48,17 @@ returns-clause-dropped g c =
     subst (KeyUncached g.K.Ord.cmp c.args.key) (sym c.in_ok-set.ensures.done)
     (upsert-dropped g.K.Ord.cmp g.met.K.Ord.total g.K.PartialEq.eq g.met.K.Ord.matches_eq g.H.Hasher-1.digest_of g.met.H.Hasher-1.respects_eq g.K.KeyBytes.bytes_of view c.self.invariant _ c.args.key c.new-digest.result at)
 
-pub returns-clause-few : goal.returns-clause-few
-returns-clause-few g c =
+pub returns-clause-few_more : goal.returns-clause-few_more
+returns-clause-few_more g c =
     let s = c.self.inside in
     let view : State g.row.K.Denot g.row.H.Denot = record { hasher = s.hasher; base = non_zero_u8_get s.level_base; format = s.page_format; root = s.root; root_hash = s.root_hash } in
     let lev = c.level-key_level.ensures ∙ ap (λ h. level_of h (non_zero_u8_get s.level_base)) c.hash-2.ensures in
     let few = upsert-few g.K.Ord.cmp g.met.K.Ord.total g.K.PartialEq.eq g.met.K.Ord.matches_eq g.H.Hasher-1.digest_of g.met.H.Hasher-1.respects_eq g.K.KeyBytes.bytes_of view c.self.invariant _ c.args.key c.new-digest.result (sym lev) in
-    subst (λ (v : State g.row.K.Denot g.row.H.Denot). v.root_hash ≢ None → missing c.set.new.self ≤ level c.set.new.self + level_of (g.H.Hasher-1.digest_of v.hasher c.args.key) v.base + 1) c.self.view_is
-    (λ ne. subst (λ (t : Tree g.row.K.Denot (List ℕ)). missing t ≤ level t + level_of (g.H.Hasher-1.digest_of s.hasher c.args.key) (non_zero_u8_get s.level_base) + 1) (sym c.in_ok-set.ensures.done)
-    (subst (λ (m : ℕ). missing (tree_set g.K.Ord.cmp c.level-key_level.result c.args.key c.new-digest.result s.root) ≤ level (tree_set g.K.Ord.cmp c.level-key_level.result c.args.key c.new-digest.result s.root) + m + 1) lev (few ne)))
+    subst (λ (v : State g.row.K.Denot g.row.H.Denot). missing c.set.new.self ≤ missing v.root + (level c.set.new.self + level_of (g.H.Hasher-1.digest_of v.hasher c.args.key) v.base + 1)) c.self.view_is
+    (subst (λ (t : Tree g.row.K.Denot (List ℕ)). missing t ≤ missing s.root + (level t + level_of (g.H.Hasher-1.digest_of s.hasher c.args.key) (non_zero_u8_get s.level_base) + 1)) (sym c.in_ok-set.ensures.done)
+    (subst (λ (m : ℕ). missing (tree_set g.K.Ord.cmp c.level-key_level.result c.args.key c.new-digest.result s.root) ≤ missing s.root + (level (tree_set g.K.Ord.cmp c.level-key_level.result c.args.key c.new-digest.result s.root) + m + 1)) lev few))
+
+pub returns-clause-few : goal.returns-clause-few
+returns-clause-few g c =
+    let sound = subst (IsSound g.K.Ord.cmp g.H.Hasher-1.digest_of g.K.KeyBytes.bytes_of) c.self.view_is c.self.invariant in
+    λ ne. omega (arith, returns-clause-few_more g c, none_of_hashed c.args.self.now.format g.K.KeyBytes.bytes_of c.args.self.now.root c.args.self.now.root_hash sound.root_hash_holds sound.caches ne)
