@@ -6,11 +6,25 @@ use std::alloc::{AllocError, Global};
 
 /// A value that can be joined with others of its type, so that replicas that hold different values for a key come to hold the
 /// same one. Every implementation proves that the order, the grouping and the repetition of the joined values don't matter.
+///
+/// A number joins to the greater one, and `()` to itself; a [`Replica`](crate::Replica) of the latter is a set of keys:
+///
+/// ```rust
+/// let both = 3.join(alloc, &5)?; // 5
+/// ```
+///
+/// A replica joins two values at each [`put`](crate::Replica::put) of a key that is there, and at each row of a pull whose key it
+/// has, so a join should cost about what a copy of the value does.
 pub trait Join: Eq {
     /// The join of two values, up to equality.
     ghost join_of: { Self → Self → Self };
 
-    /// The join of both values. It is refused only where memory is.
+    /// The join of both values, which stay as they are.
+    ///
+    /// # Errors
+    ///
+    /// `AllocError` where memory for the join is refused, and nowhere else. The joins of numbers and of `()` take none and are
+    /// never refused.
     fn join(&self, alloc: Global, other: &Self) -> Result<Self, AllocError>
         ensures { IfOk result (λ both. Self.eq both (join_of self.now other.now) ≡ true) };
 
@@ -27,7 +41,10 @@ impl Join for u64 {
 
     ghost joining = { max_joining };
 
-    fn join(&self, _alloc: Global, other: &Self) -> Result<Self, AllocError> {
+    /// The greater number. It is never refused.
+    fn join(&self, _alloc: Global, other: &Self) -> Result<Self, AllocError>
+        ensures { result ≡ Ok (max self.now other.now) }
+    {
         Ok((*self).max(*other))
     }
 }
@@ -40,7 +57,10 @@ impl Join for () {
 
     ghost joining = { record { idempotent = λ a. refl; commutative = λ a b. refl; associative = λ a b c. refl; respects = λ a b c d e f. refl } };
 
-    fn join(&self, _alloc: Global, _other: &Self) -> Result<Self, AllocError> {
+    /// The one value. It is never refused.
+    fn join(&self, _alloc: Global, _other: &Self) -> Result<Self, AllocError>
+        ensures { IsOk result }
+    {
         Ok(())
     }
 }

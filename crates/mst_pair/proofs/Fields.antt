@@ -5,8 +5,8 @@ use Rattle.std.proofs.lemmas.List.Elements.{All-weaker}
 use Rattle.std.proofs.lemmas.Bool.Decides.{nat_tests}
 use Rattle.mst_pair.specs.Requests.{Request, put, del, keys, root, pages, diff, pull, same, turns, set_format, IsSpelled, IsBad, space, fields, IsKey, IsKeyByte, IsNumber, name_text}
 use Rattle.mst_pair.specs.Parsing.{HasNoSpace, IsRowText, IsSpelledBy}
-use Rattle.mst_pair.specs.declared.pair.ReplicaName.{ReplicaName}
-use Rattle.mst_pair.specs.declared.pair.ReplicaName.TheVariants.{A, B}
+use Rattle.mst_pair.specs.declared.engine.ReplicaName.{ReplicaName}
+use Rattle.mst_pair.specs.declared.engine.ReplicaName.TheVariants.{A, B}
 
 no_space_head : (b : ℕ) (xs : List ℕ) → HasNoSpace (b ∷ xs) → b ≢ space
 no_space_head b xs none = grind (arith, nat_tests)

@@ -27,7 +27,7 @@ use Rattle.merkle_search_tree.proofs.TreeOf.{is_tree_of}
 use Rattle.merkle_replica.specs.Contents.{Contents, digests}
 use Rattle.mst_pair.specs.Pages.{key_digest, number_digest, key_level, tree, page_ranges, root_digest, HasDefaults}
 use Rattle.mst_pair.specs.Replies.{text_line, range_text, ranges_text, end_line}
-use Rattle.mst_pair.specs.State.{Text, Row, text_order}
+use Rattle.mst_pair.specs.Replicas.{Text, TextRow, text_order}
 use Rattle.merkle_search_tree.specs.declared.builder.PageFormat.{PageFormat}
 
 -- equal texts have equal bytes
@@ -47,7 +47,7 @@ pages_are format c (hasher, base, same_format) sound digested =
     is_tree_of key_level (λ k. level_low (key_digest k) 16) text_order (λ x y e. ap (λ bytes. level_of (siphash128 zero_key bytes) 16) (same_text x y e)) c.tree.root (digests number_digest c.rows) canonical map_is
 
 -- so the digest of the root page is that of the tree of the rows
-pub root_is : (format : PageFormat) (t : Tree Text (List ℕ)) (rows : List Row) → SamePages text_order t (tree rows) → page_digest format string_bytes t ≡ root_digest format rows
+pub root_is : (format : PageFormat) (t : Tree Text (List ℕ)) (rows : List TextRow) → SamePages text_order t (tree rows) → page_digest format string_bytes t ≡ root_digest format rows
 root_is format t rows same = same_digest text_order format string_bytes same_text t (tree rows) same
 
 -- equal ranges are shown alike
@@ -58,5 +58,5 @@ same_lines (e ∷ es) [] s = absurd s
 same_lines (e ∷ es) (f ∷ fs) s = λ i. text_line (same_text e.first f.first s.0.0.0 i ++ codes " " ++ same_text e.last f.last s.0.0.1 i) ++ same_lines es fs s.1 i
 
 -- and the page ranges are shown as those of the tree of the rows
-pub ranges_are : (format : PageFormat) (t : Tree Text (List ℕ)) (rows : List Row) → SamePages text_order t (tree rows) → ranges_text (map span_of (ranges_of format string_bytes t)) ≡ ranges_text (map span_of (page_ranges format rows))
+pub ranges_are : (format : PageFormat) (t : Tree Text (List ℕ)) (rows : List TextRow) → SamePages text_order t (tree rows) → ranges_text (map span_of (ranges_of format string_bytes t)) ≡ ranges_text (map span_of (page_ranges format rows))
 ranges_are format t rows same = ap (λ lines. lines ++ end_line) (same_lines (ranges_of format string_bytes t) (page_ranges format rows) (same_ranges text_order format string_bytes same_text t (tree rows) same))

@@ -4,7 +4,7 @@ use Rattle.std.specs.List.{flat_map}
 use Rattle.merkle_replica.specs.Answers.{spans_of, answer_of}
 use Rattle.merkle_replica.specs.Pulls.{Answer}
 use Rattle.mst_pair.specs.Replies.{range_text, ranges_text, joined_text, turns_text, end_line}
-use Rattle.mst_pair.specs.State.{Text}
+use Rattle.mst_pair.specs.Replicas.{Text}
 use Rattle.merkle_replica.specs.declared.pull.Pulled.{Pulled}
 
 -- the lines of items that are seen as others

@@ -2,13 +2,13 @@
 use Rattle.std.proofs.Common.{◌≡◌, ◌≤◌, ℕ, List, ◌∷◌, ◌++◌, take, length, length-append, arith, subst, sym, inl, inr, codes, refl}
 use Rattle.std.proofs.lemmas.Bool.{cases_lt}
 use Rattle.std.proofs.Math.ListN.{length-take}
-use Rattle.mst_pair.specs.State.{State}
+use Rattle.mst_pair.specs.Replicas.{Replicas}
 use Rattle.mst_pair.specs.Engine.{Step}
 use Rattle.mst_pair.specs.Requests.{Request, put, del, keys, root, pages, diff, pull, same, turns, set_format, IsSpelled, name_text, space}
-use Rattle.mst_pair.specs.declared.pair.ReplicaName.{ReplicaName}
+use Rattle.mst_pair.specs.declared.engine.ReplicaName.{ReplicaName}
 use Rattle.merkle_search_tree.specs.declared.builder.PageFormat.TheVariants.{V1, V2}
 use Rattle.mst_pair.proofs.Kept.{take_short}
-use Rattle.mst_pair.specs.declared.pair.ReplicaName.TheVariants.{A, B}
+use Rattle.mst_pair.specs.declared.engine.ReplicaName.TheVariants.{A, B}
 
 name_is_short : (name : ReplicaName) → length (name_text name) ≡ 1
 name_is_short A = refl
@@ -40,7 +40,7 @@ spelled_is_short (set_format V1) line e = subst (λ l. length l ≤ 282) (sym e)
 spelled_is_short (set_format V2) line e = subst (λ l. length l ≤ 282) (sym e) (omega arith)
 
 -- a line gets the replies that its first 283 bytes get
-pub step_of_kept : (old : State) (line reply : List ℕ) (new : State) → Step old (take 283 line) reply new → Step old line reply new
+pub step_of_kept : (old : Replicas) (line reply : List ℕ) (new : Replicas) → Step old (take 283 line) reply new → Step old line reply new
 step_of_kept old line reply new step = elim (cases_lt (length line) 283) [
   | inl short ↦ let e = take_short line 283 short in subst (λ l. Step old l reply new) e step
   | inr long ↦ elim step [

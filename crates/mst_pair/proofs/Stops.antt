@@ -10,21 +10,21 @@ use Rattle.merkle_replica.specs.Contents.{Contents}
 use Rattle.mst_pair.specs.Engine.{MayAsk, StopsPulling, StopsAfter}
 use Rattle.mst_pair.specs.Pages.{HasPageRanges, HasDefaults}
 use Rattle.merkle_replica.specs.Pulls.{HasRanges, IsAnswerFor}
-use Rattle.mst_pair.specs.State.{Text, Row, text_order}
+use Rattle.mst_pair.specs.Replicas.{Text, TextRow, text_order}
 use Rattle.merkle_replica.specs.declared.pull.Pulled.{Pulled}
 use Rattle.merkle_replica.specs.declared.pull.PullError.{PullError}
 use Rattle.merkle_replica.specs.declared.pull.PullError.TheVariants.{Memory, Partly}
 
 -- the lists that are the page ranges of rows, under a key of SipHash, a level base and a page format
-abbrev pub Ranges : List ℕ → ℕ → PageFormat → List Row → List (Entry Text (List ℕ)) → Type 0
+abbrev pub Ranges : List ℕ → ℕ → PageFormat → List TextRow → List (Entry Text (List ℕ)) → Type 0
 Ranges = HasRanges text_order (λ h key. siphash128 h (string_bytes key)) (λ h n. siphash128 h (to_le_bytes w64 n)) string_bytes
 
 -- those under the hasher, the level base and the page format of a replica
-abbrev pub RangesUnder : Contents Text ℕ (List ℕ) → List Row → List (Entry Text (List ℕ)) → Type 0
+abbrev pub RangesUnder : Contents Text ℕ (List ℕ) → List TextRow → List (Entry Text (List ℕ)) → Type 0
 RangesUnder c = Ranges c.tree.hasher c.tree.base c.tree.format
 
 -- what holds of the lists of two replicas with the defaults holds of those of the engine
-pub under_defaults : (P : (List Row → List (Entry Text (List ℕ)) → Type 0) → (List Row → List (Entry Text (List ℕ)) → Type 0) → Type 0) (format : PageFormat) (a b : Contents Text ℕ (List ℕ))
+pub under_defaults : (P : (List TextRow → List (Entry Text (List ℕ)) → Type 0) → (List TextRow → List (Entry Text (List ℕ)) → Type 0) → Type 0) (format : PageFormat) (a b : Contents Text ℕ (List ℕ))
     → HasDefaults format a → HasDefaults format b → P (RangesUnder a) (RangesUnder b) → P (HasPageRanges format) (HasPageRanges format)
 under_defaults P format a b da db p =
     subst (λ r. P (HasPageRanges format) r) (λ i. Ranges (db.0 i) (db.1 i) (db.2 i)) (subst (λ r. P r (RangesUnder b)) (λ i. Ranges (da.0 i) (da.1 i) (da.2 i)) p)
@@ -45,11 +45,11 @@ on_err_from_both Q R P (Ok x) f h i = tt
 on_err_from_both Q R P (Err e) f h i = f e h i
 
 -- a refused pull
-pub stops_pulling : (format : PageFormat) (local peer : List Row) (fault : PullError Text) (after : List Row) → IsRefused text_order nat_eq max (HasPageRanges format) (HasPageRanges format) local peer fault after → StopsPulling format local peer after
+pub stops_pulling : (format : PageFormat) (local peer : List TextRow) (fault : PullError Text) (after : List TextRow) → IsRefused text_order nat_eq max (HasPageRanges format) (HasPageRanges format) local peer fault after → StopsPulling format local peer after
 stops_pulling format local peer Memory after same = inl same
 stops_pulling format local peer (Partly pulled done) after part = inr (answer_of pulled, done, part)
 
 -- refused pulls by turns
-pub stops_after : (format : PageFormat) (finished : List (Pulled Text)) (fault : PullError Text) (local peer local' peer' : List Row) → StopsByTurns text_order nat_eq max (HasPageRanges format) (HasPageRanges format) finished fault local peer local' peer' → StopsAfter format (map answer_of finished) local peer local' peer'
+pub stops_after : (format : PageFormat) (finished : List (Pulled Text)) (fault : PullError Text) (local peer local' peer' : List TextRow) → StopsByTurns text_order nat_eq max (HasPageRanges format) (HasPageRanges format) finished fault local peer local' peer' → StopsAfter format (map answer_of finished) local peer local' peer'
 stops_after format [] fault local peer local' peer' (refused, same) = (stops_pulling format local peer fault local' refused, same)
 stops_after format (pulled ∷ finished) fault local peer local' peer' (after, made, rest) = (after, made, stops_after format finished fault peer after peer' local' rest)

@@ -26,9 +26,9 @@ told_unless true told = None
 told_unless false told = told
 
 -- an error marks a device as failed, and nothing else does
-abbrev pub Marks : {A E : Type 0} → Result A E → Bool → Bool → Type 0
-Marks (Ok x) old new = new ≡ old
-Marks (Err e) old new = new ≡ true
+abbrev pub MarksFailure : {A E : Type 0} → Result A E → Bool → Bool → Type 0
+MarksFailure (Ok x) old new = new ≡ old
+MarksFailure (Err e) old new = new ≡ true
 
 -- a beginning of bs was written
 abbrev pub WritesPart : Option (List ℕ) → Option (List ℕ) → List ℕ → Type 0

@@ -8,31 +8,31 @@ use Rattle.mst_pair.specs.Pages.{page_ranges, root_digest, HasPageRanges}
 use Rattle.merkle_replica.specs.Pulls.{Answer, IsAnswerFor, IsPull, IsPartOfPull, IsByTurns}
 use Rattle.mst_pair.specs.Replies.{text_line, rows_text, ranges_text, pull_text, turns_text}
 use Rattle.mst_pair.specs.Requests.{Request, put, del, keys, root, pages, diff, pull, same, turns, set_format, IsSpelled, IsBad}
-use Rattle.mst_pair.specs.State.{Text, Row, State, HasNoRow, text_order, rows, other_rows, JoinsRow, DeletesRow}
+use Rattle.mst_pair.specs.Replicas.{Text, TextRow, Replicas, HasNoRow, text_order, rows, other_rows, JoinsRow, DeletesRow}
 
 -- ranges that local may ask of the peer: any that meet the interval laws of `diff` and its laws on trees, on the page ranges of both
-abbrev pub MayAsk : PageFormat → List Row → List Row → List (Span Text) → Type 0
+abbrev pub MayAsk : PageFormat → List TextRow → List TextRow → List (Span Text) → Type 0
 MayAsk format = IsAnswerFor text_order nat_eq max (HasPageRanges format) (HasPageRanges format)
 
 -- local pulled from the peer, with this answer
-abbrev pub Pulls : PageFormat → List Row → List Row → Answer Text → List Row → Type 0
+abbrev pub Pulls : PageFormat → List TextRow → List TextRow → Answer Text → List TextRow → Type 0
 Pulls format = IsPull text_order nat_eq max (HasPageRanges format) (HasPageRanges format)
 
 -- memory was refused to a pull: nothing changed, or the first rows in the ranges were joined
-abbrev pub StopsPulling : PageFormat → List Row → List Row → List Row → Type 0
+abbrev pub StopsPulling : PageFormat → List TextRow → List TextRow → List TextRow → Type 0
 StopsPulling format local peer after = (after ≡ local) ⊎ ((answer : Answer Text) × (done : ℕ) × IsPartOfPull text_order nat_eq max (HasPageRanges format) (HasPageRanges format) local peer answer done after)
 
 -- pulls by turns, local first, with these answers
-abbrev pub TakesTurns : PageFormat → List (Answer Text) → List Row → List Row → List Row → List Row → Type 0
-TakesTurns format answers local peer local' peer' = (met : List (List Row × List Row)) × IsByTurns text_order nat_eq max (HasPageRanges format) (HasPageRanges format) answers local peer local' peer' met
+abbrev pub TakesTurns : PageFormat → List (Answer Text) → List TextRow → List TextRow → List TextRow → List TextRow → Type 0
+TakesTurns format answers local peer local' peer' = (met : List (List TextRow × List TextRow)) × IsByTurns text_order nat_eq max (HasPageRanges format) (HasPageRanges format) answers local peer local' peer' met
 
 -- pulls by turns, local first, of which those with these answers were made, and memory was refused to the next
-abbrev pub StopsAfter : PageFormat → List (Answer Text) → List Row → List Row → List Row → List Row → Type 0
+abbrev pub StopsAfter : PageFormat → List (Answer Text) → List TextRow → List TextRow → List TextRow → List TextRow → Type 0
 StopsAfter format [] local peer local' peer' = StopsPulling format local peer local' × (peer' ≡ peer)
-StopsAfter format (answer ∷ answers) local peer local' peer' = (after : List Row) × Pulls format local peer answer after × StopsAfter format answers peer after peer' local'
+StopsAfter format (answer ∷ answers) local peer local' peer' = (after : List TextRow) × Pulls format local peer answer after × StopsAfter format answers peer after peer' local'
 
 -- memory was refused to d pulls by turns, local first: fewer whole pulls were made, and then one stopped
-abbrev pub StopsInTurns : PageFormat → ℕ → List Row → List Row → List Row → List Row → Type 0
+abbrev pub StopsInTurns : PageFormat → ℕ → List TextRow → List TextRow → List TextRow → List TextRow → Type 0
 StopsInTurns format d local peer local' peer' = (answers : List (Answer Text)) × (length answers < d) × StopsAfter format answers local peer local' peer'
 
 -- the reply where memory was refused
@@ -40,7 +40,7 @@ abbrev pub no_memory : List ℕ
 no_memory = text_line (codes "no memory")
 
 -- memory was refused, and nothing changed
-abbrev pub LacksMemory : State → List ℕ → State → Type 0
+abbrev pub LacksMemory : Replicas → List ℕ → Replicas → Type 0
 LacksMemory old reply new = (reply ≡ no_memory) × (new ≡ old)
 
 -- the reply to `del`: whether a row was taken out
@@ -48,7 +48,7 @@ abbrev pub deleted_text : Bool → List ℕ
 deleted_text found = text_line (if found then (codes "ok") else (codes "absent"))
 
 -- from old, a request may get this reply and leave new
-abbrev pub Answers : State → Request → List ℕ → State → Type 0
+abbrev pub Answers : Replicas → Request → List ℕ → Replicas → Type 0
 Answers old (put name key n) reply new = ((reply ≡ text_line (codes "ok")) × JoinsRow (rows old name) (rows new name) key n × (other_rows new name ≡ other_rows old name) × (new.format ≡ old.format)) ⊎ LacksMemory old reply new
 Answers old (del name key) reply new = ((found : Bool) × (reply ≡ deleted_text found) × DeletesRow (rows old name) (rows new name) key found × (other_rows new name ≡ other_rows old name) × (new.format ≡ old.format)) ⊎ LacksMemory old reply new
 Answers old (keys name) reply new = (reply ≡ rows_text (rows old name)) × (new ≡ old)
@@ -69,5 +69,5 @@ Answers old (set_format format) reply new =
     ⊎ ((HasNoRow old → ⊥) × (reply ≡ text_line (codes "not empty")) × (new ≡ old))
 
 -- from old, a line may get this reply and leave new
-abbrev pub Step : State → List ℕ → List ℕ → State → Type 0
+abbrev pub Step : Replicas → List ℕ → List ℕ → Replicas → Type 0
 Step old line reply new = ((q : Request) × IsSpelled q line × Answers old q reply new) ⊎ (IsBad line × (reply ≡ text_line (codes "bad line")) × (new ≡ old))

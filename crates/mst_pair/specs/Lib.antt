@@ -1,6 +1,6 @@
 pub mod Devices
 pub mod Lines
-pub mod State
+pub mod Replicas
 pub mod Requests
 pub mod Parsing
 pub mod Pages

@@ -10,7 +10,7 @@ use Rattle.merkle_search_tree.specs.Tree.{Tree}
 use Rattle.merkle_search_tree.specs.TreeOf.{tree_of}
 use Rattle.merkle_search_tree.specs.declared.builder.PageFormat.{PageFormat}
 use Rattle.merkle_replica.specs.Contents.{Contents, digests}
-use Rattle.mst_pair.specs.State.{Text, Row, text_order}
+use Rattle.mst_pair.specs.Replicas.{Text, TextRow, text_order}
 
 -- the digest of a key: that of its bytes
 abbrev pub key_digest : Text → List ℕ
@@ -25,19 +25,19 @@ abbrev pub key_level : Text → ℕ
 key_level key = level_of (key_digest key) 16
 
 -- the tree of the keys and the digests of their numbers
-abbrev pub tree : List Row → Tree Text (List ℕ)
+abbrev pub tree : List TextRow → Tree Text (List ℕ)
 tree rows = tree_of key_level (digests number_digest rows)
 
 -- its page ranges
-abbrev pub page_ranges : PageFormat → List Row → List (Entry Text (List ℕ))
+abbrev pub page_ranges : PageFormat → List TextRow → List (Entry Text (List ℕ))
 page_ranges format rows = ranges_of format string_bytes (tree rows)
 
 -- the digest of its root page
-abbrev pub root_digest : PageFormat → List Row → List ℕ
+abbrev pub root_digest : PageFormat → List TextRow → List ℕ
 root_digest format rows = page_digest format string_bytes (tree rows)
 
 -- these entries are the page ranges, up to equal keys
-abbrev pub HasPageRanges : PageFormat → List Row → List (Entry Text (List ℕ)) → Type 0
+abbrev pub HasPageRanges : PageFormat → List TextRow → List (Entry Text (List ℕ)) → Type 0
 HasPageRanges format rows entries = IsRangesOf text_order key_digest 16 format string_bytes (digests number_digest rows) entries
 
 -- the replica has the default hasher and level base, and this page format

@@ -5,7 +5,7 @@ use Rattle.std.specs.Fmt.{decimal}
 use Rattle.key_order.specs.Interval.{Span}
 use Rattle.mst_pair.specs.Lines.{newline}
 use Rattle.merkle_replica.specs.Pulls.{Answer}
-use Rattle.mst_pair.specs.State.{Text, Row}
+use Rattle.mst_pair.specs.Replicas.{Text, TextRow}
 
 -- a text as a line of a reply
 abbrev pub text_line : List ℕ → List ℕ
@@ -16,11 +16,11 @@ abbrev pub end_line : List ℕ
 end_line = text_line (codes "end")
 
 -- a row as a line: the key, and the number in decimal without leading zeros
-abbrev pub row_text : Row → List ℕ
+abbrev pub row_text : TextRow → List ℕ
 row_text row = text_line (string_bytes row.0 ++ codes " " ++ decimal row.1)
 
 -- rows, a line for each
-abbrev pub rows_text : List Row → List ℕ
+abbrev pub rows_text : List TextRow → List ℕ
 rows_text rows = flat_map row_text rows ++ end_line
 
 -- a range of keys as a line: its first and its last key

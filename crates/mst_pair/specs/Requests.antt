@@ -4,8 +4,8 @@ use Rattle.std.specs.List.{join_with_byte}
 use Rattle.std.specs.Str.Parse.{IsNumeral, digits_value}
 use Rattle.merkle_search_tree.specs.declared.builder.PageFormat.{PageFormat}
 use Rattle.merkle_search_tree.specs.declared.builder.PageFormat.TheVariants.{V1, V2}
-use Rattle.mst_pair.specs.declared.pair.ReplicaName.{ReplicaName}
-use Rattle.mst_pair.specs.declared.pair.ReplicaName.TheVariants.{A, B}
+use Rattle.mst_pair.specs.declared.engine.ReplicaName.{ReplicaName}
+use Rattle.mst_pair.specs.declared.engine.ReplicaName.TheVariants.{A, B}
 
 -- a request for each command
 pub data Request : Type 0 where

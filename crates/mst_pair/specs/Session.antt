@@ -3,7 +3,7 @@ use Rattle.std.specs.Prelude.{◌≡◌, ℕ, List, ◌++◌, Option, Result, Ok
 use Rattle.std.specs.Io.KnownBytes.{Appends}
 use Rattle.mst_pair.specs.Devices.{AppendsOrHides}
 use Rattle.mst_pair.specs.Lines.{parts, whole_lines, lines_of}
-use Rattle.mst_pair.specs.State.{State, start}
+use Rattle.mst_pair.specs.Replicas.{Replicas, start}
 use Rattle.mst_pair.specs.Run.{Run, Replies, RepliesCut}
 
 -- how many bytes of a line are kept
@@ -11,12 +11,12 @@ abbrev pub kept_bytes : ℕ
 kept_bytes = 283
 
 -- the whole lines of the input are answered, and the first bytes of the rest are kept
-pub record Reached (input written : List ℕ) (state : State) (kept : List ℕ) : Type 0 where
+pub record Reached (input written : List ℕ) (state : Replicas) (kept : List ℕ) : Type 0 where
   pub run : Run start (whole_lines input) written state
   pub kept_is : kept ≡ take kept_bytes (parts input).rest
 
 -- a call that goes on to this input, with `written` before it
-abbrev pub GoesOn : {A E : Type 0} → Result A E → List ℕ → List ℕ → Option (List ℕ) → Option (List ℕ) → State → List ℕ → Type 0
+abbrev pub GoesOn : {A E : Type 0} → Result A E → List ℕ → List ℕ → Option (List ℕ) → Option (List ℕ) → Replicas → List ℕ → Type 0
 GoesOn (Ok x) input written taken taken' state kept = (more : List ℕ) × Appends taken taken' more × Reached input (written ++ more) state kept
 GoesOn (Err e) input written taken taken' state kept = (more : List ℕ) × AppendsOrHides taken taken' more × RepliesCut (lines_of input) (written ++ more)
 

@@ -1,147 +1,165 @@
-//! What the two replicas answer to a line.
-ghost use Rattle.std.specs.Prelude.{◌≡◌, ℕ, List};
-ghost use Rattle.mst_pair.specs.Devices.{Writes, Marks};
-ghost use Rattle.mst_pair.specs.Engine.{Answers, Step};
-ghost use Rattle.mst_pair.specs.Parsing.{request_of};
-ghost use Rattle.mst_pair.specs.Requests.{put, del, root, pages, diff, pull, same, turns, set_format};
-ghost use Rattle.mst_pair.specs.State.{State, start};
+//! The engine: two replicas, and what the lines do to them.
+ghost use Rattle.std.specs.Prelude.{◌≡◌, ◌↔◌, [], if◌then◌else◌, map, length, OnOk, OnErr, IfOk, IsTrue};
+ghost use Rattle.merkle_replica.specs.Answers.{spans_of, answer_of};
+ghost use Rattle.mst_pair.specs.Engine.{MayAsk, Pulls, StopsPulling, TakesTurns, StopsInTurns};
+ghost use Rattle.mst_pair.specs.Pages.{root_digest};
+ghost use Rattle.mst_pair.specs.Replicas.{Replicas, start, rows, other_rows, HasNoRow, JoinsRow, DeletesRow};
 
-use crate::pair::{Pair, ReplicaName};
-use crate::parse::{Command, parse};
-use crate::reply::{write_list, write_no_memory, write_pull, write_root};
-use crate::sink::{Sink, write_all};
-use crate::source::Failed;
-use merkle_search_tree::builder::PageFormat;
-use std::alloc::Global;
+use crate::text_replica::{TextReplica, root_hash_of};
+use merkle_digest::RootHash;
+use merkle_replica::{PullError, Pulled, Replica, TurnsError, pull_by_turns};
+use merkle_search_tree::builder::{Builder, PageFormat};
+use std::alloc::{AllocError, Global};
 use std::marker::Model;
 
-/// The two replicas that lines are carried out on.
+/// The name of a replica: `a` or `b`.
+#[derive(Clone, Copy, Debug, PartialEq, Eq)]
+pub enum ReplicaName {
+    A,
+    B,
+}
+
+/// The two replicas that lines are carried out on, the page format of their trees, and what makes room for what they hold. A contract
+/// sees their rows and the format.
 #[derive(Drop)]
 pub struct Engine {
-    pair: Pair,
+    alloc: Global,
+    pub(crate) a: TextReplica,
+    pub(crate) b: TextReplica,
+    format: PageFormat,
 }
 
 impl Model for Engine {
-    ghost Value = { State };
+    ghost use Rattle.mst_pair.specs.Pages.{HasDefaults};
+    ghost use Rattle.mst_pair.specs.Replicas.{Replicas};
 
-    ghost view = { λ e. e.pair };
+    ghost Value = { Replicas };
+
+    ghost view = { λ e. record { a = e.a.rows; b = e.b.rows; format = e.format } };
+
+    ghost invariant = { λ e. HasDefaults e.format e.a × HasDefaults e.format e.b };
 }
 
 impl Engine {
-    /// Two empty replicas. It takes no memory.
+    /// Two empty replicas in format 1. It takes no memory.
     pub fn new(alloc: Global) -> Self
         ensures { result ≡ start }
     {
         Engine {
-            pair: Pair::new(alloc),
+            alloc,
+            a: Replica::new(alloc, Builder::default()),
+            b: Replica::new(alloc, Builder::default()),
+            format: PageFormat::V1,
         }
     }
 
-    /// Carries out a line, and writes the reply. What the reply needs is made before its first byte is written.
-    pub fn answer<W: Sink>(&mut self, line: &[u8], writer: &mut W) -> Result<(), Failed>
-        ensures bytes { (reply : List ℕ) × Step self.old line.now reply self.new × Writes result (W.taken writer.old) (W.taken writer.new) reply }
-        ensures failed { Marks result (W.has_failed writer.old) (W.has_failed writer.new) }
+    /// Makes both replicas anew in a page format, where neither has a row, and answers whether it did. It takes no memory.
+    pub fn set_format(&mut self, format: PageFormat) -> bool
+        ensures empty { IsTrue result ↔ HasNoRow self.old }
+        ensures new { self.new ≡ (if result then record { a = []; b = []; format = format } else self.old) }
     {
-        match parse(line) {
-            Some(command) => self.carry_out(command, writer),
-            None => write_all(writer, b"bad line\n"),
+        if !self.a.rows().is_empty() || !self.b.rows().is_empty() {
+            return false;
+        }
+        self.a = Replica::new(self.alloc, Builder::default().with_page_format(format));
+        self.b = Replica::new(self.alloc, Builder::default().with_page_format(format));
+        self.format = format;
+        true
+    }
+
+    /// The rows of a replica, ascending by key.
+    pub fn rows(&self, name: ReplicaName) -> &[(String, u64)]
+        ensures { result.now ≡ rows self.now name }
+    {
+        match name {
+            ReplicaName::A => self.a.rows(),
+            ReplicaName::B => self.b.rows(),
         }
     }
 
-    fn carry_out<W: Sink>(&mut self, command: Command<'_>, writer: &mut W) -> Result<(), Failed>
-        ensures bytes { (reply : List ℕ) × Answers self.old (request_of command.entry) reply self.new × Writes result (W.taken writer.old) (W.taken writer.new) reply }
-        ensures failed { Marks result (W.has_failed writer.old) (W.has_failed writer.new) }
+    /// Joins a row into a replica. Where memory is refused, nothing changes.
+    #[tactic(auto, using(crate::proofs::Pages::same_clone))]
+    pub fn join_row(&mut self, name: ReplicaName, key: &str, number: u64) -> Result<(), AllocError>
+        ensures ok { OnOk result (JoinsRow (rows self.old name) (rows self.new name) key.now number) }
+        ensures other { other_rows self.new name ≡ other_rows self.old name }
+        ensures format { self.new.format ≡ self.old.format }
+        ensures err { OnErr result (self.new ≡ self.old) }
     {
-        match command {
-            Command::Put(name, key, number) => self.put(name, key, number, writer),
-            Command::Del(name, key) => self.del(name, key, writer),
-            Command::Keys(name) => write_list(self.pair.rows(name), writer),
-            Command::Root(name) => write_root(&self.pair.root_hash(name), writer),
-            Command::Pages(name) => self.pair.write_pages(name, writer),
-            Command::Diff(name) => self.diff(name, writer),
-            Command::Pull(name) => self.pull(name, writer),
-            Command::Same => self.same(writer),
-            Command::Turns(count) => self.turns(count, writer),
-            Command::Format(format) => self.set_format(format, writer),
+        let key = String::from_str(self.alloc, key)?;
+        match name {
+            ReplicaName::A => self.a.put(key, number),
+            ReplicaName::B => self.b.put(key, number),
         }
     }
 
-    fn put<W: Sink>(
-        &mut self,
-        name: ReplicaName,
-        key: &str,
-        number: u64,
-        writer: &mut W,
-    ) -> Result<(), Failed>
-        ensures bytes { (reply : List ℕ) × Answers self.old (put name key.now number) reply self.new × Writes result (W.taken writer.old) (W.taken writer.new) reply }
-        ensures failed { Marks result (W.has_failed writer.old) (W.has_failed writer.new) }
+    /// Takes the row of a key out of a replica, and answers whether there was one; a pull may bring it back. Where memory is refused,
+    /// nothing changes.
+    pub fn delete_row(&mut self, name: ReplicaName, key: &str) -> Result<bool, AllocError>
+        ensures ok { IfOk result (λ found. DeletesRow (rows self.old name) (rows self.new name) key.now found) }
+        ensures other { other_rows self.new name ≡ other_rows self.old name }
+        ensures format { self.new.format ≡ self.old.format }
+        ensures err { OnErr result (self.new ≡ self.old) }
     {
-        match self.pair.put(name, key, number) {
-            Ok(()) => write_all(writer, b"ok\n"),
-            Err(_) => write_no_memory(writer),
+        let text = String::from_str(self.alloc, key)?;
+        match name {
+            ReplicaName::A => self.a.del(&text),
+            ReplicaName::B => self.b.del(&text),
         }
     }
 
-    fn del<W: Sink>(&mut self, name: ReplicaName, key: &str, writer: &mut W) -> Result<(), Failed>
-        ensures bytes { (reply : List ℕ) × Answers self.old (del name key.now) reply self.new × Writes result (W.taken writer.old) (W.taken writer.new) reply }
-        ensures failed { Marks result (W.has_failed writer.old) (W.has_failed writer.new) }
+    /// The root hash of a replica.
+    pub fn root_hash(&mut self, name: ReplicaName) -> RootHash
+        ensures digest { result ≡ root_digest self.old.format (rows self.old name) }
+        ensures same { self.new ≡ self.old }
     {
-        match self.pair.del(name, key) {
-            Ok(true) => write_all(writer, b"ok\n"),
-            Ok(false) => write_all(writer, b"absent\n"),
-            Err(_) => write_no_memory(writer),
+        match name {
+            ReplicaName::A => root_hash_of(&mut self.a),
+            ReplicaName::B => root_hash_of(&mut self.b),
         }
     }
 
-    fn diff<W: Sink>(&mut self, name: ReplicaName, writer: &mut W) -> Result<(), Failed>
-        ensures bytes { (reply : List ℕ) × Answers self.old (diff name) reply self.new × Writes result (W.taken writer.old) (W.taken writer.new) reply }
-        ensures failed { Marks result (W.has_failed writer.old) (W.has_failed writer.new) }
+    /// The ranges of keys that a replica may ask the other for.
+    #[tactic(auto, using(crate::proofs::Pages::same_clone))]
+    pub fn ranges_to_ask(&mut self, name: ReplicaName) -> Result<Vec<(String, String)>, AllocError>
+        ensures ranges { IfOk result (λ found. MayAsk self.old.format (rows self.old name) (other_rows self.old name) (spans_of found.items)) }
+        ensures same { self.new ≡ self.old }
     {
-        match self.pair.ask(name) {
-            Ok(ranges) => write_list(&ranges, writer),
-            Err(_) => write_no_memory(writer),
+        match name {
+            ReplicaName::A => self.a.ranges_to_ask(&mut self.b),
+            ReplicaName::B => self.b.ranges_to_ask(&mut self.a),
         }
     }
 
-    fn pull<W: Sink>(&mut self, name: ReplicaName, writer: &mut W) -> Result<(), Failed>
-        ensures bytes { (reply : List ℕ) × Answers self.old (pull name) reply self.new × Writes result (W.taken writer.old) (W.taken writer.new) reply }
-        ensures failed { Marks result (W.has_failed writer.old) (W.has_failed writer.new) }
+    /// Has a replica pull from the other.
+    #[tactic(auto, using(crate::proofs::Pages::same_clone))]
+    pub fn pull(&mut self, name: ReplicaName) -> Result<Pulled<String>, PullError<String>>
+        ensures ok { IfOk result (λ pulled. Pulls self.old.format (rows self.old name) (other_rows self.old name) (answer_of pulled) (rows self.new name)) }
+        ensures err { OnErr result (StopsPulling self.old.format (rows self.old name) (other_rows self.old name) (rows self.new name)) }
+        ensures other { other_rows self.new name ≡ other_rows self.old name }
+        ensures format { self.new.format ≡ self.old.format }
     {
-        match self.pair.pull(name) {
-            Ok(pulled) => write_pull(&pulled, writer),
-            Err(_) => write_no_memory(writer),
+        match name {
+            ReplicaName::A => self.a.pull(&mut self.b),
+            ReplicaName::B => self.b.pull(&mut self.a),
         }
     }
 
-    fn same<W: Sink>(&mut self, writer: &mut W) -> Result<(), Failed>
-        ensures bytes { (reply : List ℕ) × Answers self.old same reply self.new × Writes result (W.taken writer.old) (W.taken writer.new) reply }
-        ensures failed { Marks result (W.has_failed writer.old) (W.has_failed writer.new) }
+    /// Whether the root hashes are equal.
+    pub fn is_same(&mut self) -> bool
+        ensures value { IsTrue result ↔ (root_digest self.old.format self.old.a ≡ root_digest self.old.format self.old.b) }
+        ensures same { self.new ≡ self.old }
     {
-        if self.pair.is_same() {
-            write_all(writer, b"same\n")
-        } else {
-            write_all(writer, b"differ\n")
-        }
+        root_hash_of(&mut self.a) == root_hash_of(&mut self.b)
     }
 
-    fn turns<W: Sink>(&mut self, count: u8, writer: &mut W) -> Result<(), Failed>
-        ensures bytes { (reply : List ℕ) × Answers self.old (turns count) reply self.new × Writes result (W.taken writer.old) (W.taken writer.new) reply }
-        ensures failed { Marks result (W.has_failed writer.old) (W.has_failed writer.new) }
+    /// Has the replicas pull from each other by turns, `a` first.
+    #[tactic(auto, using(crate::proofs::Pages::same_clone))]
+    pub fn take_turns(&mut self, count: u8) -> Result<Vec<Pulled<String>>, TurnsError<String>>
+        ensures length { IfOk result (λ all. length all.items ≡ count) }
+        ensures format { self.new.format ≡ self.old.format }
+        ensures ok { IfOk result (λ all. TakesTurns self.old.format (map answer_of all.items) self.old.a self.old.b self.new.a self.new.b) }
+        ensures err { OnErr result (StopsInTurns self.old.format count self.old.a self.old.b self.new.a self.new.b) }
     {
-        match self.pair.take_turns(count) {
-            Ok(all) => write_list(&all, writer),
-            Err(_) => write_no_memory(writer),
-        }
-    }
-
-    fn set_format<W: Sink>(&mut self, format: PageFormat, writer: &mut W) -> Result<(), Failed>
-        ensures bytes { (reply : List ℕ) × Answers self.old (set_format format) reply self.new × Writes result (W.taken writer.old) (W.taken writer.new) reply }
-        ensures failed { Marks result (W.has_failed writer.old) (W.has_failed writer.new) }
-    {
-        if self.pair.set_format(format) {
-            write_all(writer, b"ok\n")
-        } else {
-            write_all(writer, b"not empty\n")
-        }
+        pull_by_turns(self.alloc, &mut self.a, &mut self.b, usize::from(count))
     }
 }

@@ -8,10 +8,10 @@
 //! The replicas are those of the crate `merkle_replica`, whose public names are here too.
 #![tactic(auto)]
 
+mod answers;
 mod engine;
 mod line;
 mod number;
-mod pair;
 mod parse;
 mod pending;
 mod reply;

@@ -1,6 +1,6 @@
 //! Text that is put together before it is written.
 ghost use Rattle.std.specs.Prelude.{◌≡◌, ℕ, List, []};
-ghost use Rattle.mst_pair.specs.Devices.{Writes, Passes, Marks};
+ghost use Rattle.mst_pair.specs.Devices.{Writes, Passes, MarksFailure};
 
 use crate::sink::{Sink, write_all};
 use crate::source::Failed;
@@ -34,7 +34,7 @@ impl Pending {
     /// Adds text behind the one that is pending. Where there is no room, all of it is written first.
     pub fn write<W: Sink>(&mut self, text: &str, writer: &mut W) -> Result<(), Failed>
         ensures bytes { Passes result (W.taken writer.old) (W.taken writer.new) self.old text.now self.new }
-        ensures failed { Marks result (W.has_failed writer.old) (W.has_failed writer.new) }
+        ensures failed { MarksFailure result (W.has_failed writer.old) (W.has_failed writer.new) }
     {
         match self.text.try_push_str(text) {
             Ok(()) => Ok(()),
@@ -49,7 +49,7 @@ impl Pending {
     pub fn flush<W: Sink>(&mut self, writer: &mut W) -> Result<(), Failed>
         ensures bytes { Writes result (W.taken writer.old) (W.taken writer.new) self.old }
         ensures empty { self.new ≡ [] }
-        ensures failed { Marks result (W.has_failed writer.old) (W.has_failed writer.new) }
+        ensures failed { MarksFailure result (W.has_failed writer.old) (W.has_failed writer.new) }
     {
         let result = write_all(writer, self.text.as_str().as_bytes());
         self.text.clear();

@@ -1,16 +1,20 @@
 //! Replies of many lines.
-ghost use Rattle.std.specs.Prelude.{◌≡◌, ◌++◌, ℕ, List, codes, string_bytes};
+ghost use Rattle.std.specs.Prelude.{◌≡◌, ◌⊎◌, ◌++◌, ℕ, List, map, codes, string_bytes};
 ghost use Rattle.std.specs.Fmt.{decimal};
 ghost use Rattle.std.specs.List.{flat_map};
 ghost use Rattle.merkle_digest.specs.Digest.{base64_of};
+ghost use Rattle.merkle_diff.specs.Entry.{span_of};
+ghost use Rattle.merkle_search_tree.specs.declared.builder.PageFormat.{PageFormat};
 ghost use Rattle.merkle_replica.specs.Answers.{answer_of};
-ghost use Rattle.mst_pair.specs.Devices.{Writes, Passes, Marks};
+ghost use Rattle.mst_pair.specs.Devices.{Writes, Passes, MarksFailure};
 ghost use Rattle.mst_pair.specs.Engine.{no_memory};
-ghost use Rattle.mst_pair.specs.Replies.{text_line, end_line, row_text, range_text, joined_text, pull_text};
+ghost use Rattle.mst_pair.specs.Pages.{HasDefaults, page_ranges};
+ghost use Rattle.mst_pair.specs.Replies.{text_line, end_line, row_text, range_text, ranges_text, joined_text, pull_text};
 
 use crate::pending::Pending;
 use crate::sink::{Sink, write_all};
 use crate::source::Failed;
+use crate::text_replica::{TextReplica, shows_its_rows};
 use base64::engine::general_purpose::STANDARD;
 use itoa::Buffer;
 use merkle_diff::PageRange;
@@ -25,7 +29,7 @@ pub trait ReplyLine {
     /// Adds the line behind the text that is pending.
     fn write_line<W: Sink>(&self, pending: &mut Pending, writer: &mut W) -> Result<(), Failed>
         ensures bytes { Passes result (W.taken writer.old) (W.taken writer.new) pending.old (line_text self.now) pending.new }
-        ensures failed { Marks result (W.has_failed writer.old) (W.has_failed writer.new) };
+        ensures failed { MarksFailure result (W.has_failed writer.old) (W.has_failed writer.new) };
 }
 
 /// A row: its key and its number.
@@ -69,7 +73,7 @@ impl ReplyLine for Pulled<String> {
 /// Writes that memory was refused.
 pub fn write_no_memory<W: Sink>(writer: &mut W) -> Result<(), Failed>
     ensures bytes { Writes result (W.taken writer.old) (W.taken writer.new) no_memory }
-    ensures failed { Marks result (W.has_failed writer.old) (W.has_failed writer.new) }
+    ensures failed { MarksFailure result (W.has_failed writer.old) (W.has_failed writer.new) }
 {
     write_all(writer, b"no memory\n")
 }
@@ -80,7 +84,7 @@ const ROOT_LINE: usize = 25;
 /// Writes a root hash in base64.
 pub fn write_root<W: Sink>(hash: &RootHash, writer: &mut W) -> Result<(), Failed>
     ensures bytes { Writes result (W.taken writer.old) (W.taken writer.new) (text_line (base64_of hash.now)) }
-    ensures failed { Marks result (W.has_failed writer.old) (W.has_failed writer.new) }
+    ensures failed { MarksFailure result (W.has_failed writer.old) (W.has_failed writer.new) }
 {
     let mut line = [b'\n'; ROOT_LINE];
     let _ = STANDARD.encode_slice(hash.as_bytes(), &mut line);
@@ -90,7 +94,7 @@ pub fn write_root<W: Sink>(hash: &RootHash, writer: &mut W) -> Result<(), Failed
 /// Writes a line for each item, and the line `end`.
 pub fn write_list<T: ReplyLine, W: Sink>(items: &[T], writer: &mut W) -> Result<(), Failed>
     ensures bytes { Writes result (W.taken writer.old) (W.taken writer.new) (flat_map T.line_text items.now ++ end_line) }
-    ensures failed { Marks result (W.has_failed writer.old) (W.has_failed writer.new) }
+    ensures failed { MarksFailure result (W.has_failed writer.old) (W.has_failed writer.new) }
 {
     let mut pending = Pending::new();
     add_list(items, &mut pending, writer)?;
@@ -100,12 +104,29 @@ pub fn write_list<T: ReplyLine, W: Sink>(items: &[T], writer: &mut W) -> Result<
 /// Writes the ranges of a pull, the line `end`, and how many rows it joined.
 pub fn write_pull<W: Sink>(pulled: &Pulled<String>, writer: &mut W) -> Result<(), Failed>
     ensures bytes { Writes result (W.taken writer.old) (W.taken writer.new) (pull_text (answer_of pulled.now)) }
-    ensures failed { Marks result (W.has_failed writer.old) (W.has_failed writer.new) }
+    ensures failed { MarksFailure result (W.has_failed writer.old) (W.has_failed writer.new) }
 {
     let mut pending = Pending::new();
     add_list(&pulled.ranges, &mut pending, writer)?;
     pulled.write_line(&mut pending, writer)?;
     pending.flush(writer)
+}
+
+/// Writes the range of each page of a replica, and the line `end`. Pages that lack a digest get it.
+pub fn write_pages<W: Sink>(replica: &mut TextReplica, writer: &mut W) -> Result<(), Failed>
+    ensures bytes { (format : PageFormat) → HasDefaults format replica.old →
+        (reply : List ℕ) × ((reply ≡ ranges_text (map span_of (page_ranges format replica.old.rows))) ⊎ (reply ≡ no_memory)) × Writes result (W.taken writer.old) (W.taken writer.new) reply }
+    ensures failed { MarksFailure result (W.has_failed writer.old) (W.has_failed writer.new) }
+    ensures rows { replica.new.rows ≡ replica.old.rows }
+    ensures defaults { (format : PageFormat) → HasDefaults format replica.old → HasDefaults format replica.new }
+{
+    replica.hash();
+    shows_its_rows(replica);
+    match replica.tree().serialise_page_ranges() {
+        Ok(Some(ranges)) => write_list(&ranges, writer),
+        Ok(None) => unreachable!(),
+        Err(_) => write_no_memory(writer),
+    }
 }
 
 fn add_list<T: ReplyLine, W: Sink>(
@@ -114,7 +135,7 @@ fn add_list<T: ReplyLine, W: Sink>(
     writer: &mut W,
 ) -> Result<(), Failed>
     ensures bytes { Passes result (W.taken writer.old) (W.taken writer.new) pending.old (flat_map T.line_text items.now ++ end_line) pending.new }
-    ensures failed { Marks result (W.has_failed writer.old) (W.has_failed writer.new) }
+    ensures failed { MarksFailure result (W.has_failed writer.old) (W.has_failed writer.new) }
 {
     add_lines(items, pending, writer)?;
     pending.write("end\n", writer)
@@ -126,7 +147,7 @@ fn add_lines<T: ReplyLine, W: Sink>(
     writer: &mut W,
 ) -> Result<(), Failed>
     ensures bytes { Passes result (W.taken writer.old) (W.taken writer.new) pending.old (flat_map T.line_text items.now) pending.new }
-    ensures failed { Marks result (W.has_failed writer.old) (W.has_failed writer.new) }
+    ensures failed { MarksFailure result (W.has_failed writer.old) (W.has_failed writer.new) }
 {
     'showing: for item in items {
         item.write_line(pending, writer)?;
@@ -141,7 +162,7 @@ fn write_fields<W: Sink>(
     writer: &mut W,
 ) -> Result<(), Failed>
     ensures bytes { Passes result (W.taken writer.old) (W.taken writer.new) pending.old (text_line (first.now ++ codes " " ++ second.now)) pending.new }
-    ensures failed { Marks result (W.has_failed writer.old) (W.has_failed writer.new) }
+    ensures failed { MarksFailure result (W.has_failed writer.old) (W.has_failed writer.new) }
 {
     pending.write(first, writer)?;
     pending.write(" ", writer)?;

@@ -1,6 +1,6 @@
 //! A run, from a source to a sink.
 ghost use Rattle.std.specs.Prelude.{◌≡◌, ◌↔◌, false, true, OnOk, IsErrOf};
-ghost use Rattle.mst_pair.specs.Run.{Ends, fault_text};
+ghost use Rattle.mst_pair.specs.Run.{RunEnds, fault_text};
 
 use crate::session::Session;
 use crate::sink::Sink;
@@ -48,7 +48,7 @@ pub fn run<S: Source, W: Sink>(
 ) -> Result<(), RunFault>
     requires reader_works { S.has_failed reader.old ≡ false }
     requires writer_works { W.has_failed writer.old ≡ false }
-    ensures bytes { Ends result (S.left reader.old) (S.left reader.new) (W.taken writer.old) (W.taken writer.new) }
+    ensures bytes { RunEnds result (S.left reader.old) (S.left reader.new) (W.taken writer.old) (W.taken writer.new) }
     ensures read_fault { IsErrOf result RunFault.Read ↔ (S.has_failed reader.new ≡ true) }
     ensures write_fault { IsErrOf result RunFault.Write ↔ (W.has_failed writer.new ≡ true) }
     ensures flushed { OnOk result (W.is_flushed writer.new ≡ true) }

@@ -1,6 +1,6 @@
 //! An engine and the line that it is being given.
 ghost use Rattle.std.specs.Prelude.{◌≡◌, ℕ, List, [], ◌++◌, OnOk, true};
-ghost use Rattle.mst_pair.specs.Devices.{Marks};
+ghost use Rattle.mst_pair.specs.Devices.{MarksFailure};
 ghost use Rattle.mst_pair.specs.Session.{Reached, GoesOn, Finishes};
 
 use crate::engine::Engine;
@@ -30,7 +30,7 @@ impl Session {
     pub fn feed<W: Sink>(&mut self, bytes: &[u8], writer: &mut W) -> Result<(), Failed>
         ensures bytes { (input written : List ℕ) → Reached input written self.old.engine self.old.line →
             GoesOn result (input ++ bytes.now) written (W.taken writer.old) (W.taken writer.new) self.new.engine self.new.line }
-        ensures failed { Marks result (W.has_failed writer.old) (W.has_failed writer.new) }
+        ensures failed { MarksFailure result (W.has_failed writer.old) (W.has_failed writer.new) }
     {
         'taking: for byte in bytes {
             if *byte == b'\n' {
@@ -48,7 +48,7 @@ impl Session {
         ensures bytes { (input written : List ℕ) → Reached input written self.old.engine self.old.line →
             Finishes result input written (W.taken writer.old) (W.taken writer.new) }
         ensures flushed { OnOk result (W.is_flushed writer.new ≡ true) }
-        ensures failed { Marks result (W.has_failed writer.old) (W.has_failed writer.new) }
+        ensures failed { MarksFailure result (W.has_failed writer.old) (W.has_failed writer.new) }
     {
         if !self.line.as_slice().is_empty() {
             self.engine.answer(self.line.as_slice(), writer)?;

@@ -1,7 +1,7 @@
 //! What a run writes to.
 ghost use Rattle.std.specs.Prelude.{◌≡◌, ℕ, ◌<◌, ◌≤◌, List, Option, Bool, true, false, OnOk, OnErr, IfOk, length, take};
 ghost use Rattle.std.specs.Io.KnownBytes.{Appends, Keeps};
-ghost use Rattle.mst_pair.specs.Devices.{KeepsOrHides, told_unless, Writes, Marks};
+ghost use Rattle.mst_pair.specs.Devices.{KeepsOrHides, told_unless, Writes, MarksFailure};
 
 use crate::source::Failed;
 use std::io::Write;
@@ -27,14 +27,14 @@ pub trait Sink {
         ensures some { IfOk result (λ n. 0 < length bytes.now → 0 < n) }
         ensures bytes { IfOk result (λ n. Appends (taken self.old) (taken self.new) (take n bytes.now)) }
         ensures error { OnErr result (KeepsOrHides (taken self.old) (taken self.new)) }
-        ensures failed { Marks result (has_failed self.old) (has_failed self.new) };
+        ensures failed { MarksFailure result (has_failed self.old) (has_failed self.new) };
 
     /// Hands on all that was taken. Errors are as at `write`.
     fn flush(&mut self) -> Result<(), Failed>
         ensures ok { OnOk result (Keeps (taken self.old) (taken self.new)) }
         ensures flushed { OnOk result (is_flushed self.new ≡ true) }
         ensures error { OnErr result (KeepsOrHides (taken self.old) (taken self.new)) }
-        ensures failed { Marks result (has_failed self.old) (has_failed self.new) };
+        ensures failed { MarksFailure result (has_failed self.old) (has_failed self.new) };
 
     /// Whether a call ever answered an error.
     fn failed(&self) -> bool
@@ -111,7 +111,7 @@ impl<W: Write> Sink for ToWrite<W> {
 /// Writes all the bytes, or at an error a beginning of them.
 pub(crate) fn write_all<W: Sink>(writer: &mut W, bytes: &[u8]) -> Result<(), Failed>
     ensures bytes { Writes result (W.taken writer.old) (W.taken writer.new) bytes.now }
-    ensures failed { Marks result (W.has_failed writer.old) (W.has_failed writer.new) }
+    ensures failed { MarksFailure result (W.has_failed writer.old) (W.has_failed writer.new) }
 {
     let mut rest = bytes;
     'writing: while !rest.is_empty() {

@@ -1,7 +1,7 @@
 //! What a run reads from.
 ghost use Rattle.std.specs.Prelude.{◌≡◌, ℕ, ◌<◌, ◌≤◌, List, Option, Bool, true, false, OnErr, IfOk, length, take};
 ghost use Rattle.std.specs.Io.KnownBytes.{Consumes, IsAtEnd};
-ghost use Rattle.mst_pair.specs.Devices.{KeepsOrHides, told_unless, Marks};
+ghost use Rattle.mst_pair.specs.Devices.{KeepsOrHides, told_unless, MarksFailure};
 
 use std::io::Read;
 
@@ -31,7 +31,7 @@ pub trait Source {
         ensures end { IfOk result (λ n. n ≡ 0 → 0 < length buf.new → IsAtEnd (left self.new)) }
         ensures falls { IfOk result (λ n. 0 < n → reads_left self.new < reads_left self.old) }
         ensures error { OnErr result (KeepsOrHides (left self.old) (left self.new)) }
-        ensures failed { Marks result (has_failed self.old) (has_failed self.new) };
+        ensures failed { MarksFailure result (has_failed self.old) (has_failed self.new) };
 
     /// Whether a read ever answered an error.
     fn failed(&self) -> bool

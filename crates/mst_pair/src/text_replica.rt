@@ -1,17 +1,12 @@
 //! A replica of the program: a map from texts to numbers, with the default hasher and level base.
-ghost use Rattle.std.specs.Prelude.{◌≡◌, ◌⊎◌, ℕ, List, map, string_bytes};
+ghost use Rattle.std.specs.Prelude.{◌≡◌, map, string_bytes};
 ghost use Rattle.merkle_diff.specs.Entry.{span_of};
 ghost use Rattle.merkle_search_tree.specs.Ranges.{ranges_of};
 ghost use Rattle.merkle_search_tree.specs.Stream.{page_digest};
 ghost use Rattle.merkle_search_tree.specs.declared.builder.PageFormat.{PageFormat};
-ghost use Rattle.mst_pair.specs.Devices.{Writes, Marks};
-ghost use Rattle.mst_pair.specs.Engine.{no_memory};
 ghost use Rattle.mst_pair.specs.Pages.{HasDefaults, root_digest, page_ranges};
 ghost use Rattle.mst_pair.specs.Replies.{ranges_text};
 
-use crate::reply::{write_list, write_no_memory};
-use crate::sink::Sink;
-use crate::source::Failed;
 use merkle_digest::{PageDigest, RootHash, SipHasher};
 use merkle_replica::Replica;
 use merkle_search_tree::laws::every_tree_is_sound;
@@ -33,24 +28,8 @@ pub fn root_hash_of(replica: &mut TextReplica) -> RootHash
     }
 }
 
-/// Writes the range of each page of a replica, and the line `end`. Pages that lack a digest get it.
-pub fn write_pages<W: Sink>(replica: &mut TextReplica, writer: &mut W) -> Result<(), Failed>
-    ensures bytes { (format : PageFormat) → HasDefaults format replica.old → (reply : List ℕ) × ((reply ≡ ranges_text (map span_of (page_ranges format replica.old.rows))) ⊎ (reply ≡ no_memory)) × Writes result (W.taken writer.old) (W.taken writer.new) reply }
-    ensures failed { Marks result (W.has_failed writer.old) (W.has_failed writer.new) }
-    ensures rows { replica.new.rows ≡ replica.old.rows }
-    ensures defaults { (format : PageFormat) → HasDefaults format replica.old → HasDefaults format replica.new }
-{
-    replica.hash();
-    shows_its_rows(replica);
-    match replica.tree().serialise_page_ranges() {
-        Ok(Some(ranges)) => write_list(&ranges, writer),
-        Ok(None) => unreachable!(),
-        Err(_) => write_no_memory(writer),
-    }
-}
-
 /// The pages of a replica are those of the tree of its rows.
-fn shows_its_rows(replica: &TextReplica)
+pub fn shows_its_rows(replica: &TextReplica)
     ensures root { (format : PageFormat) → HasDefaults format replica.now → page_digest replica.now.tree.format string_bytes replica.now.tree.root ≡ root_digest format replica.now.rows }
     ensures ranges { (format : PageFormat) → HasDefaults format replica.now → ranges_text (map span_of (ranges_of replica.now.tree.format string_bytes replica.now.tree.root)) ≡ ranges_text (map span_of (page_ranges format replica.now.rows)) }
 {

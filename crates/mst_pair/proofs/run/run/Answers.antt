@@ -2,9 +2,9 @@ use Rattle.std.proofs.Common.{rules, ◌≡◌, ◌∙◌, ℕ, List, [], ◌++�
 use Rattle.std.proofs.lemmas.Bool.Decides.{nat_tests}
 use Rattle.std.specs.Io.KnownBytes.{Consumes, Appends, IsAtEnd}
 use Rattle.std.proofs.KnownBytes.{Appends-trans, Consumes-trans}
-use Rattle.mst_pair.specs.Run.{Ends}
+use Rattle.mst_pair.specs.Run.{RunEnds}
 use Rattle.mst_pair.specs.Session.{GoesOn, Finishes}
-use Rattle.mst_pair.specs.State.{State}
+use Rattle.mst_pair.specs.Replicas.{Replicas}
 use Rattle.mst_pair.specs.declared.run.RunFault.{RunFault}
 use Rattle.mst_pair.specs.declared.run.RunFault.TheVariants.{Read, Write}
 use Rattle.mst_pair.proofs.Devices.{appends_or_hides_after}
@@ -26,20 +26,20 @@ passed_on (Err f) fault is same = ap (λ e. Err e) (is ∙ same)
 
 -- the rest is answered
 ends_finished : {A E : Type 0} (r : Result A E) (q : Result A RunFault) (left left' taken mid taken' : Option (List ℕ)) (input written : List ℕ) → MatchResult r (λ x. q ≡ Ok x) (λ e. IsErrAnd q (λ f. f ≡ Write))
-    → Consumes left left' input → IsAtEnd left' → Appends taken mid written → Finishes r input written mid taken' → Ends q left left' taken taken'
+    → Consumes left left' input → IsAtEnd left' → Appends taken mid written → Finishes r input written mid taken' → RunEnds q left left' taken taken'
 ends_finished (Ok x) q left left' taken mid taken' input written same consumed end before (more, after, replies) =
-    subst (λ w. Ends w left left' taken taken') (sym same) (input, written ++ more, consumed, end, Appends-trans taken mid taken' written more before after, replies)
+    subst (λ w. RunEnds w left left' taken taken') (sym same) (input, written ++ more, consumed, end, Appends-trans taken mid taken' written more before after, replies)
 ends_finished (Err e) (Ok x) left left' taken mid taken' input written never consumed end before finished = absurd never
 ends_finished (Err e) (Err Read) left left' taken mid taken' input written other consumed end before finished = absurd (cc)
 ends_finished (Err e) (Err Write) left left' taken mid taken' input written same consumed end before (more, hides, cut) =
     (input, written ++ more, consumed, appends_or_hides_after taken mid taken' written more before hides, cut)
 
 -- what was read is not all answered
-ends_cut : {A B E : Type 0} (r : Result A E) (q : Result B RunFault) (left left' taken mid taken' : Option (List ℕ)) (input written : List ℕ) (state : State) (kept : List ℕ) → q ≡ Err Write → IsErr r
-    → Consumes left left' input → Appends taken mid written → GoesOn r input written mid taken' state kept → Ends q left left' taken taken'
+ends_cut : {A B E : Type 0} (r : Result A E) (q : Result B RunFault) (left left' taken mid taken' : Option (List ℕ)) (input written : List ℕ) (state : Replicas) (kept : List ℕ) → q ≡ Err Write → IsErr r
+    → Consumes left left' input → Appends taken mid written → GoesOn r input written mid taken' state kept → RunEnds q left left' taken taken'
 ends_cut (Ok x) q left left' taken mid taken' input written state kept fault failed consumed before goes = absurd (cc)
 ends_cut (Err e) q left left' taken mid taken' input written state kept fault failed consumed before (more, hides, cut) =
-    subst (λ w. Ends w left left' taken taken') (sym fault) (input, written ++ more, consumed, appends_or_hides_after taken mid taken' written more before hides, cut)
+    subst (λ w. RunEnds w left left' taken taken') (sym fault) (input, written ++ more, consumed, appends_or_hides_after taken mid taken' written more before hides, cut)
 
 pub returns-then-count-eq0-clause-bytes : goal.returns-then-count-eq0-clause-bytes
 returns-then-count-eq0-clause-bytes g c =

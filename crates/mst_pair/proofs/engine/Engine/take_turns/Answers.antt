@@ -3,9 +3,9 @@ use Rattle.std.proofs.lemmas.Result.{IfOk-weaker}
 use Rattle.std.proofs.lemmas.List.{length-map}
 use Rattle.merkle_replica.specs.Answers.{answer_of, StopsByTurns}
 use Rattle.merkle_replica.specs.Pulls.{IsByTurns}
-use Rattle.mst_pair.specs.State.{text_order}
+use Rattle.mst_pair.specs.Replicas.{text_order}
 use Rattle.mst_pair.proofs.Stops.{under_defaults, on_err_from_both, stops_after}
-use Rattle.mst_pair.proofs.pair.Pair.take_turns.Goals as goal
+use Rattle.mst_pair.proofs.engine.Engine.take_turns.Goals as goal
 
 pub returns-clause-ok : goal.returns-clause-ok
 returns-clause-ok c = rw (← c.self.view_is) (IfOk-weaker c.pull_by_turns.result _ _

@@ -7,8 +7,8 @@ use Rattle.key_order.specs.Join.{IsJoin}
 use Rattle.key_order.specs.Map.{has_key, del}
 use Rattle.merkle_search_tree.specs.declared.builder.PageFormat.{PageFormat}
 use Rattle.merkle_search_tree.specs.declared.builder.PageFormat.TheVariants.{V1}
-use Rattle.mst_pair.specs.declared.pair.ReplicaName.{ReplicaName}
-use Rattle.mst_pair.specs.declared.pair.ReplicaName.TheVariants.{A, B}
+use Rattle.mst_pair.specs.declared.engine.ReplicaName.{ReplicaName}
+use Rattle.mst_pair.specs.declared.engine.ReplicaName.TheVariants.{A, B}
 
 -- a text, as a replica keeps it
 abbrev pub Text : Type 0
@@ -19,37 +19,37 @@ abbrev pub text_order : Text → Text → Ordering
 text_order = string_cmp
 
 -- a key, and its number
-abbrev pub Row : Type 0
-Row = Text × ℕ
+abbrev pub TextRow : Type 0
+TextRow = Text × ℕ
 
 -- the rows of each replica, ascending by key, and the page format of both
-pub record State : Type 0 where
-  pub a : List Row
-  pub b : List Row
+pub record Replicas : Type 0 where
+  pub a : List TextRow
+  pub b : List TextRow
   pub format : PageFormat
 
 -- both replicas are empty, in format 1
-abbrev pub start : State
+abbrev pub start : Replicas
 start = record { a = []; b = []; format = V1 }
 
 -- neither replica has a row
-abbrev pub HasNoRow : State → Type 0
+abbrev pub HasNoRow : Replicas → Type 0
 HasNoRow s = (s.a ≡ []) × (s.b ≡ [])
 
 -- the rows of the replica of that name
-abbrev pub rows : State → ReplicaName → List Row
+abbrev pub rows : Replicas → ReplicaName → List TextRow
 rows s A = s.a
 rows s B = s.b
 
 -- the rows of the other replica
-abbrev pub other_rows : State → ReplicaName → List Row
+abbrev pub other_rows : Replicas → ReplicaName → List TextRow
 other_rows s A = s.b
 other_rows s B = s.a
 
 -- new is the join of old with the one row of the key with these bytes and the number n: where the key is there, the greater number stays
-abbrev pub JoinsRow : List Row → List Row → List ℕ → ℕ → Type 0
+abbrev pub JoinsRow : List TextRow → List TextRow → List ℕ → ℕ → Type 0
 JoinsRow old new key n = (text : Text) × (string_bytes text ≡ key) × IsJoin text_order nat_eq max old ((text, n) ∷ []) new
 
 -- new is old without the row of the key with these bytes, and found tells whether there was one
-abbrev pub DeletesRow : List Row → List Row → List ℕ → Bool → Type 0
+abbrev pub DeletesRow : List TextRow → List TextRow → List ℕ → Bool → Type 0
 DeletesRow old new key found = (text : Text) × (string_bytes text ≡ key) × (new ≡ del text_order old text) × (found ≡ has_key text_order old text)

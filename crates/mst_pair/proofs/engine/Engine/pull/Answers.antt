@@ -2,9 +2,9 @@ use Rattle.std.proofs.Common.{max, nat_eq}
 use Rattle.std.proofs.lemmas.Result.{IfOk-weaker}
 use Rattle.merkle_replica.specs.Answers.{answer_of, IsRefused}
 use Rattle.merkle_replica.specs.Pulls.{IsPull}
-use Rattle.mst_pair.specs.State.{text_order}
+use Rattle.mst_pair.specs.Replicas.{text_order}
 use Rattle.mst_pair.proofs.Stops.{under_defaults, on_err_from, stops_pulling}
-use Rattle.mst_pair.proofs.pair.Pair.pull.Goals as goal
+use Rattle.mst_pair.proofs.engine.Engine.pull.Goals as goal
 
 pub returns-in-A-clause-ok : goal.returns-in-A-clause-ok
 returns-in-A-clause-ok c = rw (c.in-A.is, ← c.self.view_is) (IfOk-weaker c.pull.result _ _

@@ -1,7 +1,7 @@
 use Rattle.std.proofs.lemmas.Result.{IfOk-weaker}
 use Rattle.merkle_replica.specs.Answers.{spans_of}
 use Rattle.mst_pair.proofs.Stops.{may_ask}
-use Rattle.mst_pair.proofs.pair.Pair.ask.Goals as goal
+use Rattle.mst_pair.proofs.engine.Engine.ranges_to_ask.Goals as goal
 
 pub returns-in-A-clause-ranges : goal.returns-in-A-clause-ranges
 returns-in-A-clause-ranges c =
