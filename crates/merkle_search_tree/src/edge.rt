@@ -17,6 +17,13 @@ impl<K: Drop, D: Drop> PageOf<K, D> {
         self.nodes.push(node)?;
         Ok(())
     }
+
+    /// Gives up the room beyond the nodes, as far as memory is at hand for it.
+    fn fit_room(&mut self)
+        ensures { self.new ≡ self.old }
+    {
+        self.nodes.shrink_to_fit();
+    }
 }
 
 /// The level of the last open page, and 256 where there is none.
@@ -57,6 +64,7 @@ fn close<K: Drop, D: Drop>(
     'close: while last_level(edge) < bound {
         match edge.pop() {
             Some(mut page) => {
+                page.fit_room();
                 page.hang_high(held);
                 held = Some(Box::new(alloc, page)?);
             }
