@@ -1,6 +1,9 @@
 //! Trees that are loaded from rows in key order, by the trees that upserts of the same rows make.
 
+use crate::page_ranges::{DIFFERENCES, SPANS};
+use crate::removals::TREES;
 use crate::root_pages::root_copy;
+use crate::shapes::{LACKING, SHAPES};
 use crate::trees::{Tree, hasher, keys_of, nodes, numbers_of, tree, value_at};
 use crate::upserts::UPSERTS;
 use merkle_digest::SipHasher;
@@ -71,20 +74,34 @@ fn are_equal(alloc: Global, left: &Tree, right: &Tree) -> Result<bool, AllocErro
     Ok(are_forgotten && root_copy(alloc, left)?.page == root_copy(alloc, right)?.page)
 }
 
+/// Whether the keys of a text make the same pages loaded, both ways, and upserted in the text's order.
+fn loads_as_upserted(alloc: Global, text: &str) -> Result<bool, Fail> {
+    let keys = keys_of(alloc, text)?;
+    let upserted = tree(alloc, &keys)?;
+    let is_loaded = are_equal(alloc, &loaded(alloc, &keys)?, &upserted)?;
+    Ok(is_loaded && are_equal(alloc, &loaded_slice(alloc, &keys)?, &upserted)?)
+}
+
+/// The keys with which a line of a table begins, up to `=` or `|`.
+fn keys_before(line: &str) -> &str {
+    match line.split_once(['=', '|']) {
+        Some((keys, _)) => keys,
+        None => line,
+    }
+}
+
+/// The tables whose lines begin with the keys of a tree.
+const TABLES: [&str; 6] = [UPSERTS, TREES, SHAPES, LACKING, SPANS, DIFFERENCES];
+
 #[test]
 fn loads_make_the_pages_that_upserts_make(rt: HostRuntime) -> Result<(), Fail> {
-    let alloc = rt.alloc();
-    for line in UPSERTS.lines() {
-        let keys = keys_of(alloc, line)?;
-        let upserted = tree(alloc, &keys)?;
-        assert!(rt;
-            are_equal(alloc, &loaded(alloc, &keys)?, &upserted)?,
-            "at {line}"
-        );
-        assert!(rt;
-            are_equal(alloc, &loaded_slice(alloc, &keys)?, &upserted)?,
-            "at {line}"
-        );
+    for table in TABLES {
+        for line in table.lines() {
+            assert!(rt;
+                loads_as_upserted(rt.alloc(), keys_before(line))?,
+                "at {line}"
+            );
+        }
     }
     Ok(())
 }

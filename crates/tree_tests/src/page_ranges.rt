@@ -6,7 +6,7 @@ use std::alloc::{AllocError, Global};
 use std::test::Fail;
 
 /// A line for each: the keys of a tree with their levels, how many pages it has, and their spans.
-const SPANS: &str = "\
+pub const SPANS: &str = "\
 2:64 6:20 4:20 3:52 5:64 | 4 | 2-6 3-4 4-4 6-6\n\
 7:2 11:2 3:1 4:1 6:1 2:0 5:0 15:1 42:0 | 6 | 2-42 2-6 2-2 5-5 15-42 42-42\n\
 1:1 4:1 2:0 3:0 | 2 | 1-4 2-3\n\
@@ -16,7 +16,7 @@ const SPANS: &str = "\
 ";
 
 /// A line for each: the keys of a local and of a peer's tree with their levels, and the ranges to ask the peer for.
-const DIFFERENCES: &str = "\
+pub const DIFFERENCES: &str = "\
 1:0 2:0 3:1 4:0 | 1:0 2:0 3:1 5:0 | 2-5\n\
 1:0 5:0 9:0 | 1:0 9:0 | 1-9\n\
 1:0 9:0 | 5:0 |\n\

@@ -57,7 +57,7 @@ fn lacks_without(
 }
 
 /// A line for each tree: its keys with their levels.
-const TREES: &str = "\
+pub const TREES: &str = "\
 65:0\n\
 65:0 66:0\n\
 65:0 66:1\n\

@@ -67,6 +67,18 @@ fn squares(alloc: Global, format: PageFormat, size: u64) -> Result<Squares, Fail
     Ok(tree)
 }
 
+/// The same keys and values in format 1, loaded in key order.
+fn loaded(alloc: Global, size: u64) -> Result<Squares, Fail> {
+    let mut rows = Vec::new(alloc);
+    for i in 0..size {
+        rows.push((format!(in alloc; "k{i:04}")?, i.wrapping_mul(i)))?;
+    }
+    match MerkleSearchTree::from_ascending(alloc, Builder::default(), rows) {
+        Ok(tree) => Ok(tree),
+        Err(_) => Err(Fail::from("refused")),
+    }
+}
+
 /// The number of page ranges of a hashed tree, and the spans of the first six, each after a space.
 fn ranges(alloc: Global, tree: &Squares) -> Result<String, Fail> {
     let ranges = tree.serialise_page_ranges()?.ok_or("not hashed")?;
@@ -77,9 +89,8 @@ fn ranges(alloc: Global, tree: &Squares) -> Result<String, Fail> {
     Ok(text)
 }
 
-/// The line of the default tree of that many keys.
-fn line_of(alloc: Global, size: u64) -> Result<String, Fail> {
-    let mut tree = squares(alloc, PageFormat::V1, size)?;
+/// The line of a tree of that many keys.
+fn line_of(alloc: Global, size: u64, mut tree: Squares) -> Result<String, Fail> {
     let mut line = format!(in alloc; "{size} {}", tree.root_hash())?;
     line.push_str(ranges(alloc, &tree)?.as_str())?;
     Ok(line)
@@ -93,8 +104,12 @@ fn size_of(line: &str) -> Result<u64, Fail> {
 
 #[test]
 fn roots_and_ranges_are_those_of_the_rust_crate(rt: HostRuntime) -> Result<(), Fail> {
+    let alloc = rt.alloc();
     for line in RUST_ROOTS.lines() {
-        assert_eq!(rt; line_of(rt.alloc(), size_of(line)?)?.as_str(), line);
+        let size = size_of(line)?;
+        let upserted = squares(alloc, PageFormat::V1, size)?;
+        assert_eq!(rt; line_of(alloc, size, upserted)?.as_str(), line);
+        assert_eq!(rt; line_of(alloc, size, loaded(alloc, size)?)?.as_str(), line);
     }
     Ok(())
 }

@@ -11,7 +11,7 @@ use std::test::Fail;
 
 /// A line for each tree: its keys with their levels, in the order in which they are upserted, then `=` and its pages. A page is a space,
 /// or `^` for a high page, its level, and in brackets its nodes with the page below each before it; the high page follows.
-const SHAPES: &str = "\
+pub const SHAPES: &str = "\
 = 0()\n\
 1:1 2:1 4:0 3:2= 2( 1( 1 2) 3)^0( 4)\n\
 4:1 3:0 1:0 2:1= 1( 0( 1) 2 0( 3) 4)\n\
@@ -19,7 +19,7 @@ const SHAPES: &str = "\
 ";
 
 /// Lines as above, for the tree of all keys but the last, hashed, and then the last. A page without a digest has a `?`.
-const LACKING: &str = "\
+pub const LACKING: &str = "\
 0:0 1:1= ?1( 0( 0) 1)\n\
 1:0 0:1= ?1( 0)^0( 1)\n\
 0:1 1:0 2:1= ?1( 0 0( 1) 2)\n\
