@@ -13,3 +13,4 @@ pub mod Within
 pub mod Pulling
 pub mod FromStreams
 pub mod Small
+pub mod Merging

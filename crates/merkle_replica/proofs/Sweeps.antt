@@ -1,14 +1,27 @@
 -- A sweep over ascending ranges by ascending rows finds the rows within the ranges.
-use Rattle.std.proofs.Common.{◌≡◌, ℕ, zero, suc, ◌+◌, ◌<◌, Bool, true, false, not, ◌&&◌, ◌||◌, cond, List, [], ◌∷◌, ◌++◌, length, get_or, drop, add-one, refl, sym, ◌∙◌, ap, arith}
-use Rattle.std.specs.List.{AllByRecursion}
+use Rattle.std.proofs.Common.{◌≡◌, ℕ, zero, suc, ◌+◌, ◌<◌, ◌≤◌, Bool, true, false, not, ◌&&◌, ◌||◌, cond, List, [], ◌∷◌, ◌++◌, length, get_or, take, drop, add-one, refl, sym, ◌∙◌, ap, arith}
+use Rattle.std.specs.List.{AllByRecursion, AllWithin}
+use Rattle.std.specs.List.Sorted.{IsPartitionedBy}
+use Rattle.std.specs.Ordering.{is_gt}
 use Rattle.std.specs.Cmp.{IsTotalOrder}
 use Rattle.std.specs.declared.cmp.Ordering.{Ordering}
 use Rattle.key_order.specs.Order.{Upto, Below, upto, below}
-use Rattle.key_order.specs.Interval.{Span, IsApart, is_in, is_covered}
+use Rattle.key_order.specs.Interval.{Span, IsApart, IsOrdered, is_in, is_covered}
 use Rattle.key_order.specs.Map.{IsMap, rows_at, rows_in}
-use Rattle.key_order.proofs.Orders.{turned, turned', up_low, low_up, low_is_up, up_self}
+use Rattle.key_order.proofs.Orders.{turned, turned', up_low, low_up, low_low, low_is_up, up_self}
 use Rattle.merkle_replica.specs.Answers.{spans_of}
 use Rattle.merkle_replica.specs.Sweep.{ranges_from, begins_upto}
+
+not_not : (a : Bool) → not (not a) ≡ a
+not_not true = refl
+not_not false = refl
+
+-- P holds of the elements up to a place
+pub all_taken : {X : Type 0} (p : X → Bool) (xs : List X) (n : ℕ) → n ≤ length xs → AllWithin (λ x. p x ≡ true) xs 0 n → AllByRecursion (λ x. p x ≡ true) (take n xs)
+all_taken p [] zero h w = tt
+all_taken p (x ∷ xs) zero h w = tt
+all_taken p [] (suc n) h w = tt
+all_taken p (x ∷ xs) (suc n) h w = (w 0 x (omega arith) (omega arith), all_taken p xs n (omega arith) (λ j d from to. w (suc j) d (omega arith) (omega arith)))
 
 or_false : (a : Bool) → a || false ≡ a
 or_false true = refl
@@ -33,6 +46,9 @@ or_else false b h = h
 module _ {K : Type 0} (cmp : K → K → Ordering) (o : IsTotalOrder cmp) where
   upto_true : (a b : K) → Upto cmp a b → upto cmp a b ≡ true
   upto_true a b h = ap not h
+
+  upto_from : (a b : K) → upto cmp a b ≡ true → Upto cmp a b
+  upto_from a b h = sym (not_not (is_gt (cmp a b))) ∙ ap not h
 
   upto_false : (a b : K) → Below cmp b a → upto cmp a b ≡ false
   upto_false a b h = ap not (sym (turned cmp o a b) ∙ h)
@@ -130,7 +146,65 @@ module _ {K : Type 0} (cmp : K → K → Ordering) (o : IsTotalOrder cmp) where
     before_row [] more r m = tt
     before_row (q ∷ front) more r m = (here_below front more q.0 r m.0, before_row front more r m.1)
 
-  -- the ranges from a place on
+  -- where a row is in the ranges, there is a range
+  pub some_range : {V : Type 0} (rs : List (K × K)) (rows : List (K × V)) → 0 < length (rows_in cmp (spans_of rs) rows) → 0 < length rs
+  some_range (r ∷ rs) rows h = omega arith
+  some_range [] [] h = h
+  some_range [] (r ∷ rows) h = some_range [] rows h
+
+  -- ---- a place found by halving
+
+  module _ {V : Type 0} where
+    at_each : (rows : List (K × V)) (j : ℕ) (d : K × V) (k : K) → AllByRecursion (λ s. Below cmp k s.0) rows → j < length rows → Below cmp k (get_or rows j d).0
+    at_each [] j d k all inside = absurd (omega arith)
+    at_each (r ∷ rows) zero d k all inside = all.0
+    at_each (r ∷ rows) (suc j) d k all inside = at_each rows j d k all.1 (omega arith)
+
+    -- of two rows of a map the one before is lower
+    pub rows_rise : (rows : List (K × V)) (i j : ℕ) (x y : K × V) → IsMap cmp rows → i < j → j < length rows → Below cmp (get_or rows i x).0 (get_or rows j y).0
+    rows_rise [] i j x y m s t = absurd (omega arith)
+    rows_rise (r ∷ rs) i zero x y m s t = absurd (omega arith)
+    rows_rise (r ∷ rs) zero (suc j) x y m s t = at_each rs j y r.0 m.0 (omega arith)
+    rows_rise (r ∷ rs) (suc i) (suc j) x y m s t = rows_rise rs i j x y m.1 (omega arith) (omega arith)
+
+    -- along a map the rows below a key come first
+    pub falls_along : (rows : List (K × V)) (k : K) → IsMap cmp rows → IsPartitionedBy (λ r. below cmp r.0 k) rows
+    falls_along [] k m i j d le inside h = absurd (omega arith)
+    falls_along (r ∷ rows) k m zero zero d le inside h = h
+    falls_along (r ∷ rows) k m zero (suc j) d le inside h = low_low cmp o r.0 (get_or rows j d).0 k (at_each rows j d r.0 m.0 (omega arith)) h
+    falls_along (r ∷ rows) k m (suc i) zero d le inside h = absurd (omega arith)
+    falls_along (r ∷ rows) k m (suc i) (suc j) d le inside h = falls_along rows k m.1 i j d (omega arith) (omega arith) h
+
+    pub all_left : (k : K) (rows : List (K × V)) (n : ℕ) → AllWithin (λ r. below cmp r.0 k ≡ false) rows n (length rows) → AllByRecursion (λ r. Upto cmp k r.0) (drop n rows)
+    all_left k [] zero w = tt
+    all_left k (r ∷ rows) zero w = (not_below r.0 k (w 0 r (omega arith) (omega arith)), all_left k rows zero (λ j d from to. w (suc j) d (omega arith) (omega arith)))
+    all_left k [] (suc n) w = tt
+    all_left k (r ∷ rows) (suc n) w = all_left k rows n (λ j d from to. w (suc j) d (omega arith) (omega arith))
+
+  -- ---- the ranges from a place on
+
+  -- the first of the ranges, where there is one, begins at the key or below it
+  pub first_upto : (ss : List (Span K)) (n : ℕ) (k : K) → IsApart cmp ss → AllByRecursion (IsOrdered cmp) ss → begins_upto cmp k (drop n ss) ≡ true → begins_upto cmp k ss ≡ true
+  first_upto ss zero k a d h = h
+  first_upto [] (suc n) k a d h = h
+  first_upto (s ∷ ss) (suc n) k a d h = upto_true s.first k (low_is_up cmp o s.first k (up_low cmp o s.first s.last k d.0 (behind ss n a.0 h)))
+    where
+      behind : (ts : List (Span K)) (m : ℕ) → AllByRecursion (λ t. Below cmp s.last t.first) ts → begins_upto cmp k (drop m ts) ≡ true → Below cmp s.last k
+      behind [] zero b e = absurd (cc)
+      behind [] (suc m) b e = absurd (cc)
+      behind (t ∷ ts) zero b e = low_up cmp o s.last t.first k b.0 (upto_from t.first k e)
+      behind (t ∷ ts) (suc m) b e = behind ts m b.1 e
+
+  module _ {V : Type 0} where
+    -- rows below the first bound are below each key that the first range begins at or below
+    pub first_low : (rs : List (K × K)) (d : K × K) (k : K) (rows : List (K × V)) → begins_upto cmp k (spans_of rs) ≡ true → AllByRecursion (λ s. Below cmp s.0 (get_or rs 0 d).0) rows → AllByRecursion (λ s. Below cmp s.0 k) rows
+    first_low [] d k rows h all = absurd (cc)
+    first_low (q ∷ rs) d k rows h all = go rows all
+      where
+        go : (xs : List (K × V)) → AllByRecursion (λ s. Below cmp s.0 q.0) xs → AllByRecursion (λ s. Below cmp s.0 k) xs
+        go [] b = tt
+        go (x ∷ xs) b = (low_up cmp o x.0 q.0 k b.0 (upto_from q.0 k h), go xs b.1)
+
   spans_at : (rs : List (K × K)) (i : ℕ) (r d : K × K) → i < length rs → r ≡ get_or rs i d → drop i (spans_of rs) ≡ record { first = r.0; last = r.1 } ∷ drop (suc i) (spans_of rs)
   spans_at [] i r d h e = absurd (omega arith)
   spans_at (q ∷ rs) zero r d h e = ap (λ (x : K × K). record { first = x.0; last = x.1 } ∷ spans_of rs) (sym e)

@@ -3,6 +3,7 @@ pub mod Pulls
 pub mod Faithful
 pub mod Answers
 pub mod Places
+pub mod Parted
 pub mod Sweep
 pub use Rattle.key_order.specs.Order
 pub use Rattle.key_order.specs.Interval

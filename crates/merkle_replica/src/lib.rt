@@ -7,6 +7,7 @@
 
 mod join;
 pub mod laws;
+mod merge;
 mod pull;
 mod replica;
 mod sweep;

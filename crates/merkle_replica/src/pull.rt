@@ -17,7 +17,6 @@ ghost use Rattle.merkle_replica.specs.Answers.{spans_of, answer_of, IsRefused, I
 
 use crate::join::Join;
 use crate::replica::Replica;
-use crate::sweep::{count_within, seek};
 use merkle_diff::{DiffRange, diff};
 use merkle_digest::{Hasher, KeyBytes};
 use merkle_search_tree::laws::{every_tree_is_sound, page_ranges_are_tree_shaped};
@@ -79,7 +78,9 @@ impl<
     /// Hashes both trees, and joins each row of the peer whose key is in a range of keys in which the trees differ, one after the
     /// other in key order, each key cloned when its turn comes. The peer's rows stay.
     ///
-    /// A value that is new here is copied by joining it with itself. The bounds of the ranges are copied before a row is joined.
+    /// A value that is new here is copied by joining it with itself. The bounds of the ranges are copied, and room for all rows is made,
+    /// before a row is joined. Own rows below the first range stay where they are; those from it on are moved out of the way and back
+    /// in one pass, so a pull costs no more a row where it joins many. Where it joins none, none moves.
     ///
     /// Replicas of equal rows whose trees are in different page formats don't look the same, as far as no digests collide: a pull then
     /// asks for ranges, and joins what is there already. Whatever it joins is right all the same, and no row is lost.
@@ -118,7 +119,7 @@ impl<
             Ok(ranges) => ranges,
             Err(_) => return Err(PullError::Memory),
         };
-        match self.join_within(peer, &ranges) {
+        match self.join_within(peer.rows(), &ranges) {
             Ok(joined) => Ok(Pulled { ranges, joined }),
             Err(cut) => {
                 if cut.done == 0 {
@@ -133,51 +134,13 @@ impl<
             }
         }
     }
-
-    /// Joins the peer's rows in the ranges, one after the other in key order, and answers how many they are.
-    fn join_within(&mut self, peer: &Replica<K, V, H, N>, ranges: &[(K, K)]) -> Result<usize, Cut>
-        requires clones { (a b : K) → K.is_clone a b → Same K.cmp a b }
-        requires apart { IsApart K.cmp (spans_of ranges.now) }
-        ensures all { IfOk result (λ joined. IsDone K.cmp V.eq V.join_of (rows_in K.cmp (spans_of ranges.now) peer.now.rows) self.old.rows joined self.new.rows) }
-        ensures cut { IfErr result (λ cut. IsCut K.cmp V.eq V.join_of (rows_in K.cmp (spans_of ranges.now) peer.now.rows) self.old.rows cut.done cut.joined self.new.rows) }
-        ensures setup { SameSetup self.old self.new }
-    {
-        self.rows_ascend();
-        let rows = peer.rows();
-        let mut at = 0;
-        let mut done = 0;
-        'joining: for row in rows {
-            let (next, found) = seek(ranges, at, &row.0);
-            at = next;
-            if found {
-                if self.take_row(row).is_err() {
-                    let joined = count_within(ranges, rows);
-                    return Err(Cut { done, joined });
-                }
-                done += 1;
-            }
-        }
-        Ok(done)
-    }
-
-    /// Takes a row over: the key cloned, and the value joined with itself.
-    fn take_row(&mut self, row: &(K, V)) -> Result<(), AllocError>
-        requires clones { (a b : K) → K.is_clone a b → Same K.cmp a b }
-        ensures joined { OnOk result (IsJoin K.cmp V.eq V.join_of self.old.rows (row.now ∷ []) self.new.rows) }
-        ensures unchanged { OnErr result (self.new ≡ self.old) }
-        ensures setup { SameSetup self.old self.new }
-    {
-        let key = row.0.clone()?;
-        let value = row.1.join(self.alloc, &row.1)?;
-        self.put(key, value)
-    }
 }
 
 /// How far a pull came: the first `done` of the `joined` rows in the ranges are joined.
 #[derive(Clone, Copy)]
-struct Cut {
-    done: usize,
-    joined: usize,
+pub(crate) struct Cut {
+    pub(crate) done: usize,
+    pub(crate) joined: usize,
 }
 
 /// The ranges that `local` may ask of `peer`, where both are hashed, with bounds of their own.

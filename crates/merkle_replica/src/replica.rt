@@ -8,6 +8,8 @@ ghost use Rattle.merkle_replica.specs.Contents.{IsEmpty, SameSetup, digests};
 ghost use Rattle.merkle_replica.specs.Places.{IsPlaceOf, IsGapFor};
 
 use crate::join::Join;
+use crate::merge::join_all;
+use crate::pull::Cut;
 use crate::value_hasher::ValueHasher;
 use merkle_digest::{Hasher, KeyBytes, RootHash};
 use merkle_search_tree::builder::Builder;
@@ -253,6 +255,31 @@ impl<
             Ok(tree) => Ok(Replica { alloc, rows, tree }),
             Err(why) => Err(RowsRefused { rows, why }),
         }
+    }
+}
+
+impl<
+    K: Ord + KeyBytes + Clone + Drop,
+    V: Join + Drop,
+    H: Hasher<N, K> + Hasher<N, V>,
+    const N: usize,
+> Replica<K, V, H, N> {
+    ghost use Rattle.std.specs.List.{AllByRecursion};
+    ghost use Rattle.key_order.specs.Interval.{IsApart, IsOrdered};
+    ghost use Rattle.key_order.specs.Map.{rows_in};
+    ghost use Rattle.merkle_replica.specs.Answers.{spans_of, IsDone, IsCut};
+
+    /// Joins the rows of `theirs` in the ranges, in one pass over both, and answers how many they are.
+    pub(crate) fn join_within(&mut self, theirs: &[(K, V)], ranges: &[(K, K)]) -> Result<usize, Cut>
+        requires clones { (a b : K) → K.is_clone a b → Same K.cmp a b }
+        requires apart { IsApart K.cmp (spans_of ranges.now) }
+        requires ordered { AllByRecursion (IsOrdered K.cmp) (spans_of ranges.now) }
+        requires ascending { IsMap K.cmp theirs.now }
+        ensures all { IfOk result (λ joined. IsDone K.cmp V.eq V.join_of (rows_in K.cmp (spans_of ranges.now) theirs.now) self.old.rows joined self.new.rows) }
+        ensures cut { IfErr result (λ cut. IsCut K.cmp V.eq V.join_of (rows_in K.cmp (spans_of ranges.now) theirs.now) self.old.rows cut.done cut.joined self.new.rows) }
+        ensures setup { SameSetup self.old self.new }
+    {
+        join_all(self.alloc, &mut self.rows, &mut self.tree, theirs, ranges)
     }
 }
 

@@ -1,6 +1,7 @@
 //! Rows within ascending ranges, found by one walk over both.
-ghost use Rattle.std.specs.Prelude.{◌≡◌, ◌≤◌, length, drop};
-ghost use Rattle.key_order.specs.Order.{upto, below};
+ghost use Rattle.std.specs.Prelude.{◌≡◌, ◌≤◌, length, take, drop};
+ghost use Rattle.std.specs.List.{AllByRecursion};
+ghost use Rattle.key_order.specs.Order.{Upto, Below, upto, below};
 ghost use Rattle.key_order.specs.Interval.{IsApart};
 ghost use Rattle.key_order.specs.Map.{IsMap, rows_in};
 ghost use Rattle.merkle_replica.specs.Answers.{spans_of};
@@ -37,6 +38,20 @@ pub fn count_within<K: Ord, V>(ranges: &[(K, K)], rows: &[(K, V)]) -> usize
         }
     }
     count
+}
+
+/// How many of the ascending rows are below the key. It finds the place by halving.
+pub fn first_from<K: Ord, V>(rows: &[(K, V)], key: &K) -> usize
+    requires { IsMap K.cmp rows.now }
+    ensures inside { result ≤ length rows.now }
+    ensures below { AllByRecursion (λ row. Below K.cmp row.0 key.now) (take result rows.now) }
+    ensures rest { AllByRecursion (λ row. Upto K.cmp key.now row.0) (drop result rows.now) }
+{
+    rows.partition_point(
+        |row: &(K, V)| -> bool
+            ensures { result ≡ below K.cmp row.now.0 key.entry.now }
+        { row.0 < *key },
+    )
 }
 
 /// Whether `a` is at most `b`.

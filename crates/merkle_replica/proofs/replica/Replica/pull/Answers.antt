@@ -1,12 +1,12 @@
-use Rattle.std.proofs.Common.{arith}
+use Rattle.std.proofs.Common.{◌∙◌, arith}
 use Rattle.merkle_replica.specs.Answers.{spans_of}
 use Rattle.merkle_replica.proofs.Pulling.{covers_rows, pull_from, part_from}
 use Rattle.merkle_replica.proofs.replica.Replica.pull.Goals as goal
 
 pub returns-in-Ok-join_within-clause-done : goal.returns-in-Ok-join_within-clause-done
 returns-in-Ok-join_within-clause-done g c =
-    pull_from g.K.Ord.cmp g.V.PartialEq.eq g.V.Join.join_of g.H.Hasher-1.digest_of g.H.Hasher-2.digest_of g.K.KeyBytes.bytes_of c.args.self.now c.args.peer.now c.in-Ok.ranges.items c.deref.result.now c.ranges_to_ask.new.self.rows c.ranges_to_ask.new.peer.rows c.join_within.new.self.rows c.in-Ok-join_within.joined
-    c.deref.ensures.value c.ranges_to_ask.ensures.rows c.ranges_to_ask.ensures.peer_rows c.in-Ok.ensures.answer c.in-Ok-join_within.ensures.all
+    pull_from g.K.Ord.cmp g.V.PartialEq.eq g.V.Join.join_of g.H.Hasher-1.digest_of g.H.Hasher-2.digest_of g.K.KeyBytes.bytes_of c.args.self.now c.args.peer.now c.in-Ok.ranges.items c.deref.result.now c.ranges_to_ask.new.self.rows c.rows.result.now c.join_within.new.self.rows c.in-Ok-join_within.joined
+    c.deref.ensures.value c.ranges_to_ask.ensures.rows (c.rows.ensures.rows ∙ c.ranges_to_ask.ensures.peer_rows) c.in-Ok.ensures.answer c.in-Ok-join_within.ensures.all
 
 pub returns-in-Ok-join_within-clause-covers : goal.returns-in-Ok-join_within-clause-covers
 returns-in-Ok-join_within-clause-covers g c =
@@ -17,5 +17,5 @@ returns-in-Ok-join_within-clause-covers g c =
 
 pub returns-else-cut-eq0-clause-refused : goal.returns-else-cut-eq0-clause-refused
 returns-else-cut-eq0-clause-refused g c =
-    part_from g.K.Ord.cmp g.V.PartialEq.eq g.V.Join.join_of g.H.Hasher-1.digest_of g.H.Hasher-2.digest_of g.K.KeyBytes.bytes_of c.args.self.now c.args.peer.now c.in-Ok.ranges.items c.deref.result.now c.ranges_to_ask.new.self.rows c.ranges_to_ask.new.peer.rows c.join_within.new.self.rows c.in-Err-join_within.cut.done c.in-Err-join_within.cut.joined
-    c.deref.ensures.value c.ranges_to_ask.ensures.rows c.ranges_to_ask.ensures.peer_rows c.in-Ok.ensures.answer (omega arith) c.in-Err-join_within.ensures.cut
+    part_from g.K.Ord.cmp g.V.PartialEq.eq g.V.Join.join_of g.H.Hasher-1.digest_of g.H.Hasher-2.digest_of g.K.KeyBytes.bytes_of c.args.self.now c.args.peer.now c.in-Ok.ranges.items c.deref.result.now c.ranges_to_ask.new.self.rows c.rows.result.now c.join_within.new.self.rows c.in-Err-join_within.cut.done c.in-Err-join_within.cut.joined
+    c.deref.ensures.value c.ranges_to_ask.ensures.rows (c.rows.ensures.rows ∙ c.ranges_to_ask.ensures.peer_rows) c.in-Ok.ensures.answer (omega arith) c.in-Err-join_within.ensures.cut

@@ -1,0 +1,160 @@
+-- Rows in two lists, and a row that is joined between them.
+use Rattle.std.proofs.Common.{◌≡◌, ℕ, zero, suc, ◌+◌, ◌<◌, Bool, true, false, List, [], ◌∷◌, ◌++◌, length, reverse, take, get_or, set as list_set, refl, ap, sym, subst, ◌∙◌, arith, length-append}
+use Rattle.std.proofs.lemmas.List.{reverse-append}
+use Rattle.std.specs.List.{AllByRecursion, AllWithin, insert}
+use Rattle.std.specs.Ordering.{is_eq, is_lt, ordering_reverse}
+use Rattle.std.specs.Cmp.{IsTotalOrder}
+use Rattle.std.specs.declared.cmp.Ordering.{Ordering}
+use Rattle.std.specs.declared.cmp.Ordering.TheVariants.{Less, Equal, Greater}
+use Rattle.key_order.specs.Order.{Below, Upto, Same}
+use Rattle.key_order.specs.Map.{IsMap}
+use Rattle.key_order.proofs.Orders.{low_low, low_up, up_low, up_up, low_is_up, same_up, up_self}
+use Rattle.std.specs.Cmp.{IsEquivalence}
+use Rattle.key_order.specs.Join.{IsJoin, IsJoining}
+use Rattle.merkle_replica.specs.Answers.{IsCut}
+use Rattle.merkle_replica.proofs.Joined.{join_none}
+use Rattle.merkle_replica.specs.Places.{IsPlaceOf, IsGapFor}
+use Rattle.merkle_replica.specs.Parted.{whole, FirstNotBelow, first_is}
+
+is_less' : (r : Ordering) → is_lt r ≡ true → r ≡ Less
+is_less' Less h = refl
+is_less' Equal h = cc
+is_less' Greater h = cc
+
+greater : (r : Ordering) → (r ≡ Less → ⊥) → is_eq r ≡ false → r ≡ Greater
+greater Less n h = absurd (n refl)
+greater Equal n h = cc
+greater Greater n h = refl
+
+equal-of : (r : Ordering) → is_eq r ≡ true → r ≡ Equal
+equal-of Less h = cc
+equal-of Equal h = refl
+equal-of Greater h = cc
+
+module _ {X : Type 0} where
+  -- a list up to its last element
+  pub last-parts : (xs : List X) (n : ℕ) (d z : X) → suc n ≡ length xs → (init : List X) × (xs ≡ init ++ get_or xs n d ∷ []) × (list_set xs n z ≡ init ++ z ∷ [])
+  last-parts [] n d z e = absurd (omega (arith, e))
+  last-parts (x ∷ []) zero d z e = ([], refl, refl)
+  last-parts (x ∷ []) (suc n) d z e = absurd (omega (arith, e))
+  last-parts (x ∷ y ∷ ys) zero d z e = absurd (omega (arith, e))
+  last-parts (x ∷ y ∷ ys) (suc n) d z e = let r = last-parts (y ∷ ys) n d z (omega (arith, e)) in (x ∷ r.0, ap (λ t. x ∷ t) r.1, ap (λ t. x ∷ t) r.2)
+
+  pub insert-between : (xs ys : List X) (y : X) → insert (xs ++ ys) (length xs) y ≡ (xs ++ y ∷ []) ++ ys
+  insert-between [] [] y = refl
+  insert-between [] (z ∷ ys) y = refl
+  insert-between (x ∷ xs) ys y = ap (λ t. x ∷ t) (insert-between xs ys y)
+
+  pub set-between : (xs ys : List X) (y z : X) → list_set (xs ++ y ∷ ys) (length xs) z ≡ xs ++ z ∷ ys
+  set-between [] ys y z = refl
+  set-between (x ∷ xs) ys y z = ap (λ t. x ∷ t) (set-between xs ys y z)
+
+  pub get-between : (xs ys : List X) (y d : X) → get_or (xs ++ y ∷ ys) (length xs) d ≡ y
+  get-between [] ys y d = refl
+  get-between (x ∷ xs) ys y d = get-between xs ys y d
+
+  within-front : (P : X → Type 0) (xs ys : List X) → AllByRecursion P xs → AllWithin P (xs ++ ys) 0 (length xs)
+  within-front P [] ys a j d from to = absurd (omega arith)
+  within-front P (x ∷ xs) ys a zero d from to = a.0
+  within-front P (x ∷ xs) ys a (suc j) d from to = within-front P xs ys a.1 j d (omega arith) (omega arith)
+
+  within-all : (P : X → Type 0) (ys : List X) → AllByRecursion P ys → (j : ℕ) (d : X) → j < length ys → P (get_or ys j d)
+  within-all P [] a j d to = absurd (omega arith)
+  within-all P (y ∷ ys) a zero d to = a.0
+  within-all P (y ∷ ys) a (suc j) d to = within-all P ys a.1 j d (omega arith)
+
+  within-back : (P : X → Type 0) (xs ys : List X) → AllByRecursion P ys → AllWithin P (xs ++ ys) (length xs) (length (xs ++ ys))
+  within-back P [] ys a j d from to = within-all P ys a j d to
+  within-back P (x ∷ xs) ys a zero d from to = absurd (omega arith)
+  within-back P (x ∷ xs) ys a (suc j) d from to = within-back P xs ys a j d (omega arith) (omega arith)
+
+  pub weaker : (P Q : X → Type 0) → ((x : X) → P x → Q x) → (xs : List X) → AllByRecursion P xs → AllByRecursion Q xs
+  weaker P Q f [] a = tt
+  weaker P Q f (x ∷ xs) a = (f x a.0, weaker P Q f xs a.1)
+
+  pub all-last : (P : X → Type 0) (xs : List X) (y : X) → AllByRecursion P xs → P y → AllByRecursion P (xs ++ y ∷ [])
+  all-last P [] y a b = (b, tt)
+  all-last P (x ∷ xs) y a b = (a.0, all-last P xs y a.1 b)
+
+module _ {K V : Type 0} (cmp : K → K → Ordering) (o : IsTotalOrder cmp) where
+  map-behind : (xs ys : List (K × V)) → IsMap cmp (xs ++ ys) → IsMap cmp ys
+  map-behind [] ys m = m
+  map-behind (x ∷ xs) ys m = map-behind xs ys m.1
+
+  -- whether the last row in the second list has the key
+  pub next-is : (key : K) (back : List (K × V)) (n : ℕ) (r : K × V) → suc n ≡ length back → r ≡ get_or back n r → first_is cmp key (reverse back) ≡ is_eq (cmp r.0 key)
+  next-is key back n r e read =
+      let p = last-parts back n r r e in
+      ap (λ t. first_is cmp key (reverse t)) p.1 ∙ ap (first_is cmp key) (reverse-append p.0 (get_or back n r ∷ [])) ∙ ap (λ (q : K × V). is_eq (cmp q.0 key)) (sym read)
+
+  pub next-none : (key : K) (back : List (K × V)) → length back ≡ 0 → first_is cmp key (reverse back) ≡ false
+  next-none key [] e = refl
+  next-none key (r ∷ rs) e = absurd (omega (arith, e))
+
+  -- the row at the place has the key: another value there
+  pub at-next : (front back : List (K × V)) (n : ℕ) (key : K) (r d : K × V) (v : V) → suc n ≡ length back → r ≡ get_or back n r → first_is cmp key (reverse back) ≡ true
+      → IsPlaceOf cmp key (whole front back) (length front) × (r ≡ get_or (whole front back) (length front) r) × (whole front (list_set back n (r.0, v)) ≡ list_set (whole front back) (length front) (r.0, v))
+  at-next front back n key r d v e read is =
+      let p = last-parts back n r (r.0, v) e in
+      let same : cmp r.0 key ≡ Equal = equal-of (cmp r.0 key) (sym (next-is key back n r e read) ∙ is) in
+      let b : back ≡ p.0 ++ r ∷ [] = p.1 ∙ ap (λ x. p.0 ++ x ∷ []) (sym read) in
+      let w : whole front back ≡ front ++ r ∷ reverse p.0 = ap (λ t. front ++ reverse t) b ∙ ap (λ t. front ++ t) (reverse-append p.0 (r ∷ [])) in
+      let u : whole front (list_set back n (r.0, v)) ≡ front ++ (r.0, v) ∷ reverse p.0 = ap (λ t. front ++ reverse t) p.2 ∙ ap (λ t. front ++ t) (reverse-append p.0 ((r.0, v) ∷ [])) in
+      let at : (x : K × V) → get_or (whole front back) (length front) x ≡ r = λ x. ap (λ t. get_or t (length front) x) w ∙ get-between front (reverse p.0) r x in
+      let l : length (whole front back) ≡ length front + suc (length (reverse p.0)) = ap length w ∙ length-append front (r ∷ reverse p.0) in (
+        record { in_range = omega (arith, l); here = λ x. ap (λ (q : K × V). cmp q.0 key) (at x) ∙ same },
+        sym (at r),
+        u ∙ sym (set-between front (reverse p.0) r (r.0, v)) ∙ ap (λ t. list_set t (length front) (r.0, v)) (sym w),
+      )
+
+  highs : (key : K) (rows : List (K × V)) → IsMap cmp rows → FirstNotBelow cmp key rows → first_is cmp key rows ≡ false → AllByRecursion (λ s. cmp s.0 key ≡ Greater) rows
+  highs key [] m n f = tt
+  highs key (r ∷ rs) m n f =
+      let g : cmp r.0 key ≡ Greater = greater (cmp r.0 key) n f in
+      let less : cmp key r.0 ≡ Less = o.antisymm key r.0 ∙ ap ordering_reverse g in
+      (g, weaker (λ s. Below cmp r.0 s.0) (λ s. cmp s.0 key ≡ Greater) (λ s b. o.antisymm s.0 key ∙ ap ordering_reverse (is_less' (cmp key s.0) (low_low cmp o key r.0 s.0 (ap is_lt less) b))) rs m.0)
+
+  -- no row has the key: a new one at the place
+  pub at-gap : (front back : List (K × V)) (key : K) (v : V) → AllByRecursion (λ s. Below cmp s.0 key) front → IsMap cmp (whole front back) → FirstNotBelow cmp key (reverse back) → first_is cmp key (reverse back) ≡ false
+      → IsGapFor cmp key (whole front back) (length front) × (whole (front ++ (key, v) ∷ []) back ≡ insert (whole front back) (length front) (key, v))
+  at-gap front back key v low m n f =
+      let l : length (whole front back) ≡ length front + length (reverse back) = length-append front (reverse back) in (
+        record {
+          in_range = omega (arith, l);
+          lower = within-front (λ s. cmp s.0 key ≡ Less) front (reverse back) (weaker (λ s. Below cmp s.0 key) (λ s. cmp s.0 key ≡ Less) (λ s b. is_less' (cmp s.0 key) b) front low);
+          higher = within-back (λ s. cmp s.0 key ≡ Greater) front (reverse back) (highs key (reverse back) (map-behind front (reverse back) m) n f);
+        },
+        sym (insert-between front (reverse back) (key, v)),
+      )
+
+  pub low-upto : (key : K) (rows : List (K × V)) → AllByRecursion (λ s. Below cmp s.0 key) rows → AllByRecursion (λ s. Upto cmp s.0 key) rows
+  low-upto key = weaker (λ s. Below cmp s.0 key) (λ s. Upto cmp s.0 key) (λ s b. low_is_up cmp o s.0 key b)
+
+  pub upto-last : (key : K) (rows : List (K × V)) (v : V) → AllByRecursion (λ s. Below cmp s.0 key) rows → AllByRecursion (λ s. Upto cmp s.0 key) (rows ++ (key, v) ∷ [])
+  upto-last key rows v low = all-last (λ s. Upto cmp s.0 key) rows (key, v) (low-upto key rows low) (up_self cmp o key)
+
+  pub upto-same : (k l : K) (rows : List (K × V)) → Same cmp k l → AllByRecursion (λ s. Upto cmp s.0 k) rows → AllByRecursion (λ s. Upto cmp s.0 l) rows
+  upto-same k l rows e = weaker (λ s. Upto cmp s.0 k) (λ s. Upto cmp s.0 l) (λ s u. up_up cmp o s.0 k l u (same_up cmp o k l e)) rows
+
+  pub low-same : (k l : K) (rows : List (K × V)) → Same cmp k l → AllByRecursion (λ s. Below cmp s.0 k) rows → AllByRecursion (λ s. Below cmp s.0 l) rows
+  low-same k l rows e = weaker (λ s. Below cmp s.0 k) (λ s. Below cmp s.0 l) (λ s u. low_up cmp o s.0 k l u (same_up cmp o k l e)) rows
+
+  pub upto-low : (k l : K) (rows : List (K × V)) → Below cmp k l → AllByRecursion (λ s. Upto cmp s.0 k) rows → AllByRecursion (λ s. Below cmp s.0 l) rows
+  upto-low k l rows e = weaker (λ s. Upto cmp s.0 k) (λ s. Below cmp s.0 l) (λ s u. up_low cmp o s.0 k l u e) rows
+
+  pub next-some : (key : K) (back : List (K × V)) → first_is cmp key (reverse back) ≡ true → 0 < length back
+  next-some key [] e = absurd (cc)
+  next-some key (r ∷ rs) e = omega arith
+
+  -- no row is joined yet
+  pub cut-none : (eq : V → V → Bool) (e : IsEquivalence eq) (join : V → V → V) (j : IsJoining eq join) (wanted old now : List (K × V)) (joined : ℕ) → joined ≡ length wanted → 0 < joined → now ≡ old → IsMap cmp old → IsCut cmp eq join wanted old 0 joined now
+  cut-none eq e join j wanted old now joined n s p m = record {
+    counted = n;
+    not_all = s;
+    joins = subst (λ t. IsJoin cmp eq join old t now) (sym (none wanted)) (subst (IsJoin cmp eq join old []) (sym p) (join_none cmp o eq e join j old m));
+    unchanged = λ z. p;
+  }
+    where
+      none : (xs : List (K × V)) → take 0 xs ≡ []
+      none [] = refl
+      none (x ∷ xs) = refl

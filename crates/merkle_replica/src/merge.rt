@@ -1,0 +1,216 @@
+//! Joining many rows in one pass: the own rows are parted at a place that moves up, those before it in their list and those from
+//! it on in a second one, the last row first.
+
+ghost use Rattle.std.specs.Prelude.{◌≡◌, ◌≤◌, ◌<◌, ◌+◌, [], ◌∷◌, ◌++◌, reverse, IfOk, IfErr, OnOk, OnErr};
+ghost use Rattle.std.specs.Vec.{vec_len, vec_capacity};
+ghost use Rattle.std.specs.List.{AllByRecursion};
+ghost use Rattle.key_order.specs.Order.{Same, Below, Upto};
+ghost use Rattle.key_order.specs.Interval.{IsApart, IsOrdered};
+ghost use Rattle.key_order.specs.Map.{IsMap, rows_in};
+ghost use Rattle.key_order.specs.Join.{IsJoin};
+ghost use Rattle.merkle_replica.specs.Contents.{IsKept};
+ghost use Rattle.merkle_replica.specs.Answers.{spans_of, IsDone, IsCut};
+ghost use Rattle.merkle_replica.specs.Parted.{whole, FirstNotBelow, first_is};
+
+use crate::join::Join;
+use crate::pull::Cut;
+use crate::sweep::{count_within, first_from, seek};
+use merkle_digest::{Hasher, KeyBytes};
+use merkle_search_tree::MerkleSearchTree;
+use std::alloc::{AllocError, Global};
+use std::cmp::Ordering;
+
+/// Makes room for `more` rows, and takes off the rows from the key on, the last one first. Refused, the rows stay.
+fn part<K: Ord, V>(rows: &mut Vec<(K, V)>, key: &K, more: usize) -> Result<Vec<(K, V)>, AllocError>
+    requires ascending { IsMap K.cmp rows.old.items }
+    ensures whole { IfOk result (λ back. whole rows.new.items back.items ≡ rows.old.items) }
+    ensures below { OnOk result (AllByRecursion (λ s. Below K.cmp s.0 key.now) rows.new.items) }
+    ensures room { IfOk result (λ back. vec_len rows.new + vec_len back + more ≤ vec_capacity rows.new) }
+    ensures unchanged { OnErr result (rows.new.items ≡ rows.old.items) }
+{
+    rows.reserve(more)?;
+    let at = first_from(rows, key);
+    let mut back = rows.split_off(at)?;
+    back.reverse();
+    Ok(back)
+}
+
+/// Moves all elements to another list, the last one first. It takes no memory.
+fn turn_over<T>(from: &mut Vec<T>, into: &mut Vec<T>)
+    requires room { vec_len from.old + vec_len into.old ≤ vec_capacity into.old }
+    ensures moved { into.new.items ≡ into.old.items ++ reverse from.old.items }
+{
+    'turning: while let Some(element) = from.pop() {
+        match into.push(element) {
+            Ok(()) => {}
+            Err(_) => unreachable!(),
+        }
+    }
+}
+
+/// Moves the place up to the first row that isn't below the key.
+fn pass<K: Ord, V>(front: &mut Vec<(K, V)>, back: &mut Vec<(K, V)>, key: &K)
+    requires room { vec_len front.old + vec_len back.old ≤ vec_capacity front.old }
+    requires below { AllByRecursion (λ s. Below K.cmp s.0 key.now) front.old.items }
+    ensures whole { whole front.new.items back.new.items ≡ whole front.old.items back.old.items }
+    ensures below { AllByRecursion (λ s. Below K.cmp s.0 key.now) front.new.items }
+    ensures next { FirstNotBelow K.cmp key.now (reverse back.new.items) }
+    ensures len { vec_len front.new + vec_len back.new ≡ vec_len front.old + vec_len back.old }
+    ensures capacity { vec_capacity front.old ≤ vec_capacity front.new }
+{
+    'passing: while let Some(row) = back.pop() {
+        match row.0.cmp(key) {
+            Ordering::Less => match front.push(row) {
+                Ok(()) => {}
+                Err(_) => unreachable!(),
+            },
+            _ => {
+                match back.push(row) {
+                    Ok(()) => {}
+                    Err(_) => unreachable!(),
+                }
+                return;
+            }
+        }
+    }
+}
+
+/// Whether the row at the place has the key.
+fn is_next<K: Ord, V>(back: &[(K, V)], key: &K) -> bool
+    ensures { result ≡ first_is K.cmp key.now (reverse back.now) }
+{
+    match back.last() {
+        Some(row) => match row.0.cmp(key) {
+            Ordering::Equal => true,
+            _ => false,
+        },
+        None => false,
+    }
+}
+
+/// Joins a row at the place, to which all rows before it are below its key.
+fn join_here<K, V, H, const N: usize>(
+    alloc: Global,
+    front: &mut Vec<(K, V)>,
+    back: &mut Vec<(K, V)>,
+    tree: &mut MerkleSearchTree<K, V, H, N>,
+    key: K,
+    value: V,
+) -> Result<(), AllocError>
+where
+    K: Ord + KeyBytes + Clone + Drop,
+    V: Join + Drop,
+    H: Hasher<N, K> + Hasher<N, V>,
+    requires clones { (a b : K) → K.is_clone a b → Same K.cmp a b }
+    requires kept { IsKept K.cmp ⟦<H as Hasher<N, V>>⟧.digest_of (record { rows = whole front.old.items back.old.items; tree = tree.old }) }
+    requires below { AllByRecursion (λ s. Below K.cmp s.0 key) front.old.items }
+    requires room { vec_len front.old + vec_len back.old < vec_capacity front.old }
+    ensures kept { IsKept K.cmp ⟦<H as Hasher<N, V>>⟧.digest_of (record { rows = whole front.new.items back.new.items; tree = tree.new }) }
+    ensures joined { OnOk result (IsJoin K.cmp V.eq V.join_of (whole front.old.items back.old.items) ((key, value) ∷ []) (whole front.new.items back.new.items)) }
+    ensures unchanged { OnErr result (whole front.new.items back.new.items ≡ whole front.old.items back.old.items) }
+    ensures upto { OnOk result (AllByRecursion (λ s. Upto K.cmp s.0 key) front.new.items) }
+    ensures len { vec_len front.new + vec_len back.new ≤ vec_len front.old + vec_len back.old + 1 }
+    ensures capacity { vec_capacity front.old ≤ vec_capacity front.new }
+    ensures hasher { tree.new.hasher ≡ tree.old.hasher }
+    ensures base { tree.new.base ≡ tree.old.base }
+    ensures format { tree.new.format ≡ tree.old.format }
+{
+    pass(front, back, &key);
+    if is_next(back, &key) {
+        let at = back.len() - 1;
+        let stored = back[at].1.join(alloc, &value)?;
+        if tree.upsert(key, &stored).is_err() {
+            return Err(AllocError);
+        }
+        back[at].1 = stored;
+        return Ok(());
+    }
+    let own = key.clone()?;
+    if tree.upsert(own, &value).is_err() {
+        return Err(AllocError);
+    }
+    match front.push((key, value)) {
+        Ok(()) => Ok(()),
+        Err(_) => unreachable!(),
+    }
+}
+
+/// Takes a row over: the key cloned, and the value joined with itself.
+fn take_row<K, V, H, const N: usize>(
+    alloc: Global,
+    front: &mut Vec<(K, V)>,
+    back: &mut Vec<(K, V)>,
+    tree: &mut MerkleSearchTree<K, V, H, N>,
+    row: &(K, V),
+) -> Result<(), AllocError>
+where
+    K: Ord + KeyBytes + Clone + Drop,
+    V: Join + Drop,
+    H: Hasher<N, K> + Hasher<N, V>,
+    requires clones { (a b : K) → K.is_clone a b → Same K.cmp a b }
+    requires kept { IsKept K.cmp ⟦<H as Hasher<N, V>>⟧.digest_of (record { rows = whole front.old.items back.old.items; tree = tree.old }) }
+    requires below { AllByRecursion (λ s. Below K.cmp s.0 row.now.0) front.old.items }
+    requires room { vec_len front.old + vec_len back.old < vec_capacity front.old }
+    ensures kept { IsKept K.cmp ⟦<H as Hasher<N, V>>⟧.digest_of (record { rows = whole front.new.items back.new.items; tree = tree.new }) }
+    ensures joined { OnOk result (IsJoin K.cmp V.eq V.join_of (whole front.old.items back.old.items) (row.now ∷ []) (whole front.new.items back.new.items)) }
+    ensures unchanged { OnErr result (whole front.new.items back.new.items ≡ whole front.old.items back.old.items) }
+    ensures upto { OnOk result (AllByRecursion (λ s. Upto K.cmp s.0 row.now.0) front.new.items) }
+    ensures len { vec_len front.new + vec_len back.new ≤ vec_len front.old + vec_len back.old + 1 }
+    ensures capacity { vec_capacity front.old ≤ vec_capacity front.new }
+    ensures hasher { tree.new.hasher ≡ tree.old.hasher }
+    ensures base { tree.new.base ≡ tree.old.base }
+    ensures format { tree.new.format ≡ tree.old.format }
+{
+    let key = row.0.clone()?;
+    let value = row.1.join(alloc, &row.1)?;
+    join_here(alloc, front, back, tree, key, value)
+}
+
+/// Joins the rows of `theirs` in the ranges with `rows`, of which those below the first range stay where they are.
+pub(crate) fn join_all<K, V, H, const N: usize>(
+    alloc: Global,
+    rows: &mut Vec<(K, V)>,
+    tree: &mut MerkleSearchTree<K, V, H, N>,
+    theirs: &[(K, V)],
+    ranges: &[(K, K)],
+) -> Result<usize, Cut>
+where
+    K: Ord + KeyBytes + Clone + Drop,
+    V: Join + Drop,
+    H: Hasher<N, K> + Hasher<N, V>,
+    requires clones { (a b : K) → K.is_clone a b → Same K.cmp a b }
+    requires apart { IsApart K.cmp (spans_of ranges.now) }
+    requires ordered { AllByRecursion (IsOrdered K.cmp) (spans_of ranges.now) }
+    requires ascending { IsMap K.cmp theirs.now }
+    requires kept { IsKept K.cmp ⟦<H as Hasher<N, V>>⟧.digest_of (record { rows = rows.old.items; tree = tree.old }) }
+    ensures kept { IsKept K.cmp ⟦<H as Hasher<N, V>>⟧.digest_of (record { rows = rows.new.items; tree = tree.new }) }
+    ensures all { IfOk result (λ joined. IsDone K.cmp V.eq V.join_of (rows_in K.cmp (spans_of ranges.now) theirs.now) rows.old.items joined rows.new.items) }
+    ensures cut { IfErr result (λ cut. IsCut K.cmp V.eq V.join_of (rows_in K.cmp (spans_of ranges.now) theirs.now) rows.old.items cut.done cut.joined rows.new.items) }
+    ensures hasher { tree.new.hasher ≡ tree.old.hasher }
+    ensures base { tree.new.base ≡ tree.old.base }
+    ensures format { tree.new.format ≡ tree.old.format }
+{
+    let joined = count_within(ranges, theirs);
+    if joined == 0 {
+        return Ok(0);
+    }
+    let mut back = match part(rows, &ranges[0].0, joined) {
+        Ok(back) => back,
+        Err(_) => return Err(Cut { done: 0, joined }),
+    };
+    let mut at = 0;
+    let mut done = 0;
+    'joining: for row in theirs {
+        let (next, found) = seek(ranges, at, &row.0);
+        at = next;
+        if found {
+            if take_row(alloc, rows, &mut back, tree, row).is_err() {
+                turn_over(&mut back, rows);
+                return Err(Cut { done, joined });
+            }
+            done += 1;
+        }
+    }
+    turn_over(&mut back, rows);
+    Ok(done)
+}
