@@ -1,5 +1,5 @@
-//! Times of the operations that peers of a Merkle search tree make: inserting keys, loading them in key order, the root hash, the list
-//! of page ranges, the differences of two lists, and the cut of good ranges out of a bad one.
+//! Times of the operations that peers of a Merkle search tree make: inserting keys, loading them in key order, the root hash, the page
+//! ranges as a list and one at a time, the differences of two lists, and the cut of good ranges out of a bad one.
 //!
 //! Without arguments it prints what the trees of the sample keys answer, which is the same on every machine:
 //! `n ROOT_LOCAL ROOT_PEER RANGES_LOCAL RANGES_PEER DIFF_PEER DIFF_THIRD`, for 100, 1,000 and 10,000 keys. `--time N..` prints a

@@ -44,6 +44,21 @@ pub fn ranges(tree: &Tree) -> Result<Vec<PageRange<'_, String>>, Fault>
     }
 }
 
+/// How many page ranges the tree, which is hashed, gives one at a time.
+pub fn count_ranges(tree: &Tree) -> Result<usize, Fault>
+    requires { tree.now.root_hash ≢ None }
+{
+    let ranges = match tree.page_range_iter()? {
+        Some(ranges) => ranges,
+        None => unreachable!(),
+    };
+    let mut count: usize = 0;
+    for _ in ranges {
+        count = count.saturating_add(1);
+    }
+    Ok(count)
+}
+
 /// What peers hold of the sample: the local tree, the peer's tree, and a third, which has the local keys, and the value 2 at the first
 /// of every ten.
 #[derive(Drop)]

@@ -6,7 +6,7 @@ use crate::clock::{Best, now, rounds};
 use crate::fault::Fault;
 use crate::keys::{LOCAL_SEED, copies, keys};
 use crate::loads::LoadTimes;
-use crate::sample::{Sample, Tree, ranges, tree_of};
+use crate::sample::{Sample, Tree, count_ranges, ranges, tree_of};
 use merkle_diff::diff;
 use std::alloc::Global;
 use std::io::Write;
@@ -19,6 +19,7 @@ struct Times {
     loads: LoadTimes,
     root: Best,
     serialise: Best,
+    iterate: Best,
     diff_same: Best,
     diff_other: Best,
     diff_some: Best,
@@ -50,6 +51,7 @@ impl Times {
             loads: LoadTimes::new(),
             root: Best::new(),
             serialise: Best::new(),
+            iterate: Best::new(),
             diff_same: Best::new(),
             diff_other: Best::new(),
             diff_some: Best::new(),
@@ -67,7 +69,10 @@ impl Times {
         self.root.note_since(rt, start)?;
         let start = now(rt)?;
         let _listed = ranges(&tree)?;
-        self.serialise.note_since(rt, start)
+        self.serialise.note_since(rt, start)?;
+        let start = now(rt)?;
+        let _count = count_ranges(&tree)?;
+        self.iterate.note_since(rt, start)
     }
 
     /// Makes all rounds of the operations on one tree of `count` keys.
@@ -117,12 +122,13 @@ fn write_line<W: Write>(count: usize, times: &Times, out: &mut W) -> Result<(), 
     let load_root = times.loads.with_root.each(count);
     let root = times.root.each(count);
     let serialise = times.serialise.each(count);
+    let iterate = times.iterate.each(count);
     let same = times.diff_same.each(count);
     let other = times.diff_other.each(count);
     let some = times.diff_some.each(count);
     writeln!(
         out,
-        "{count} {insert} {load} {load_root} {root} {serialise} {same} {other} {some}"
+        "{count} {insert} {load} {load_root} {root} {serialise} {iterate} {same} {other} {some}"
     )
     .map_err(|_| Fault::Output)
 }
@@ -136,7 +142,7 @@ pub fn write_table<R: Clock, W: Write>(
 ) -> Result<(), Fault> {
     writeln!(
         out,
-        "keys insert_ns load_ns load_root_ns root_ns serialise_ns diff_same_ns diff_other_ns diff_some_ns"
+        "keys insert_ns load_ns load_root_ns root_ns serialise_ns iterate_ns diff_same_ns diff_other_ns diff_some_ns"
     )
     .map_err(|_| Fault::Output)?;
     for count in counts {
