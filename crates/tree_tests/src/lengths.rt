@@ -1,6 +1,6 @@
 //! Trees whose value digests have no byte, one byte or 200 bytes.
 
-use crate::trees::value_at;
+use crate::trees::{gives_its_list, value_at};
 use merkle_digest::{Hasher, PageDigest, RootHash, Sip24};
 use merkle_search_tree::MerkleSearchTree;
 use merkle_search_tree::builder::{Builder, PageFormat};
@@ -144,6 +144,7 @@ fn levels_go_up_to_255(rt: HostRuntime) -> Result<(), Fail> {
         tree.serialise_page_ranges()?.ok_or("not hashed")?.len(),
         256
     );
+    assert!(rt; gives_its_list(&tree)?);
     Ok(())
 }
 

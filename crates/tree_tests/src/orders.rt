@@ -1,6 +1,6 @@
 //! Keys whose order or equality is not that of their bytes.
 
-use crate::trees::value_at;
+use crate::trees::{gives_its_list, value_at};
 use merkle_digest::SipHasher;
 use merkle_search_tree::MerkleSearchTree;
 use merkle_search_tree::builder::Builder;
@@ -50,6 +50,7 @@ fn goes_by_the_order_of_the_keys(rt: HostRuntime) -> Result<(), Fail> {
     tree.root_hash();
     assert_eq!(rt; numbers(rt.alloc(), &tree)?.as_str(), " 3 2 1");
     assert_eq!(rt; spans(rt.alloc(), &tree)?.as_str(), " 3-1");
+    assert!(rt; gives_its_list(&tree)?);
     Ok(())
 }
 

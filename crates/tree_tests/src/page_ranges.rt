@@ -1,7 +1,8 @@
 //! Page ranges and counts of digests, by tables that were worked out by hand.
 
-use crate::trees::{Tree, tree_of};
+use crate::trees::{Tree, gives_its_list, tree_of};
 use merkle_diff::{DiffRange, PageRange, diff};
+use merkle_search_tree::PageRangeIter;
 use std::alloc::{AllocError, Global};
 use std::test::Fail;
 
@@ -43,6 +44,20 @@ fn ranges<'a>(tree: &'a Tree) -> Result<Vec<PageRange<'a, [u8; 2]>>, Fail> {
     Ok(tree.serialise_page_ranges()?.ok_or("not hashed")?)
 }
 
+/// The page ranges of a hashed tree, one at a time.
+fn ranges_in_turn<'a>(tree: &'a Tree) -> Result<PageRangeIter<'a, 32, [u8; 2]>, Fail> {
+    Ok(tree.page_range_iter()?.ok_or("not hashed")?)
+}
+
+/// The spans of the page ranges of a hashed tree, which come one at a time.
+fn spans_in_turn(alloc: Global, tree: &Tree) -> Result<String, Fail> {
+    let mut spans = String::new(alloc);
+    for range in ranges_in_turn(tree)? {
+        spans.push_str(span(alloc, range.start(), range.end())?.as_str())?;
+    }
+    Ok(spans)
+}
+
 /// The spans of the page ranges of a hashed tree.
 fn spans(alloc: Global, tree: &Tree) -> Result<String, Fail> {
     let mut spans = String::new(alloc);
@@ -72,7 +87,12 @@ fn is_as_in(alloc: Global, line: &str) -> Result<bool, Fail> {
     let (keys, count, wanted) = parts(line).ok_or("no spans")?;
     let mut tree = tree_of(alloc, keys)?;
     let pages = count.trim().parse::<usize>()?;
-    Ok(has_pages(&mut tree, pages) && spans(alloc, &tree)?.as_str() == wanted)
+    Ok(
+        has_pages(&mut tree, pages)
+            && spans(alloc, &tree)?.as_str() == wanted
+            && spans_in_turn(alloc, &tree)?.as_str() == wanted
+            && gives_its_list(&tree)?,
+    )
 }
 
 #[test]
@@ -87,6 +107,7 @@ fn spans_are_those_of_the_table(rt: HostRuntime) -> Result<(), Fail> {
 fn a_tree_has_page_ranges_once_it_is_hashed(rt: HostRuntime) -> Result<(), Fail> {
     let tree = tree_of(rt.alloc(), "7:3")?;
     assert!(rt; tree.serialise_page_ranges()?.is_none());
+    assert!(rt; tree.page_range_iter()?.is_none());
     Ok(())
 }
 
@@ -99,10 +120,19 @@ fn differences<'a>(
     Ok(diff(alloc, ranges(local)?, ranges(peer)?)?)
 }
 
-/// The spans of the ranges of keys to ask the peer for.
-fn spans_to_fetch(alloc: Global, local: &Tree, peer: &Tree) -> Result<String, Fail> {
+/// The same by page ranges that come one at a time.
+fn differences_in_turn<'a>(
+    alloc: Global,
+    local: &'a Tree,
+    peer: &'a Tree,
+) -> Result<Vec<DiffRange<'a, [u8; 2]>>, Fail> {
+    Ok(diff(alloc, ranges_in_turn(local)?, ranges_in_turn(peer)?)?)
+}
+
+/// The spans of ranges of keys.
+fn spans_of(alloc: Global, found: &[DiffRange<'_, [u8; 2]>]) -> Result<String, Fail> {
     let mut spans = String::new(alloc);
-    for range in &differences(alloc, local, peer)? {
+    for range in found {
         spans.push_str(span(alloc, range.start(), range.end())?.as_str())?;
     }
     Ok(spans)
@@ -120,7 +150,12 @@ fn differs_as_in(alloc: Global, line: &str) -> Result<bool, Fail> {
     let (local, peer, wanted) = parts(line).ok_or("no ranges")?;
     let local = hashed_tree_of(alloc, local)?;
     let peer = hashed_tree_of(alloc, peer)?;
-    Ok(spans_to_fetch(alloc, &local, &peer)?.as_str() == wanted)
+    let found = differences(alloc, &local, &peer)?;
+    let found_in_turn = differences_in_turn(alloc, &local, &peer)?;
+    Ok(
+        spans_of(alloc, &found)?.as_str() == wanted
+            && spans_of(alloc, &found_in_turn)?.as_str() == wanted,
+    )
 }
 
 #[test]

@@ -5,6 +5,7 @@ use crate::root_pages::root_copy;
 use crate::trees::{Tree, copy, defined_root, hashed, nodes, put, tree, value_at};
 use merkle_diff::{PageRange, PageRangeSnapshot};
 use merkle_digest::RootHash;
+use merkle_search_tree::PageRangeIter;
 use std::alloc::{AllocError, Global};
 use testing::{Value, number_key};
 
@@ -174,12 +175,18 @@ fn lists_nodes(alloc: Global) -> Result<bool, AllocError> {
     Ok(nodes(alloc, &tree)?.as_str() == " 2=2 3=3 4=4 5=5 6=6 7=7 11=11 15=15 42=42")
 }
 
+/// Whether a page range has these numbers as its first and its last key.
+fn has_span(range: &PageRange<'_, [u8; 2]>, span: &(u16, u16)) -> bool {
+    *range.start() == number_key(span.0) && *range.end() == number_key(span.1)
+}
+
 /// Whether these page ranges have the spans of the pages of the nine keys.
 fn are_of_nine(ranges: &[PageRange<'_, [u8; 2]>]) -> bool {
     ranges.len() == SPANS_OF_NINE.len()
-        && ranges.iter().zip(&SPANS_OF_NINE).all(|(range, span)| {
-            *range.start() == number_key(span.0) && *range.end() == number_key(span.1)
-        })
+        && ranges
+            .iter()
+            .zip(&SPANS_OF_NINE)
+            .all(|(range, span)| has_span(range, span))
 }
 
 /// Whether the tree of the nine keys lists its page ranges.
@@ -188,6 +195,41 @@ fn lists_ranges(alloc: Global) -> Result<bool, AllocError> {
     match tree.serialise_page_ranges()? {
         None => Ok(false),
         Some(ranges) => Ok(are_of_nine(&ranges)),
+    }
+}
+
+/// Whether these page ranges, which come one at a time, have the spans of the pages of the nine keys.
+fn come_as_of_nine(ranges: PageRangeIter<'_, 32, [u8; 2]>) -> bool {
+    let mut ranges = ranges;
+    let mut is_right = true;
+    for span in &SPANS_OF_NINE {
+        is_right = is_right && ranges.next().is_some_and(|range| has_span(&range, span));
+    }
+    is_right && ranges.next().is_none()
+}
+
+/// Whether the tree of the nine keys gives its page ranges one at a time, or is refused with all digests as before.
+fn gives_ranges(alloc: Global) -> Result<bool, AllocError> {
+    let tree = nine(alloc)?;
+    let before = seen(alloc, &tree)?;
+    match tree.page_range_iter() {
+        Ok(None) => Ok(false),
+        Ok(Some(ranges)) => Ok(come_as_of_nine(ranges)),
+        Err(_) => is_as_before(alloc, &tree, &before),
+    }
+}
+
+/// Whether a tree without keys gives no iterator before it is hashed, and one without page ranges afterwards.
+fn gives_none(alloc: Global) -> Result<bool, AllocError> {
+    let mut tree = tree(alloc, &[])?;
+    let is_none_before = matches!(tree.page_range_iter(), Ok(None));
+    tree.root_hash();
+    match tree.page_range_iter() {
+        Ok(Some(ranges)) => {
+            let mut ranges = ranges;
+            Ok(is_none_before && ranges.next().is_none())
+        }
+        _ => Ok(false),
     }
 }
 
@@ -216,10 +258,12 @@ fn copies_the_tree(alloc: Global) -> Result<bool, AllocError> {
 }
 
 /// Whether each call gives what is right.
-fn answers(alloc: Global) -> [Result<bool, AllocError>; 5] {
+fn answers(alloc: Global) -> [Result<bool, AllocError>; 7] {
     [
         lists_nodes(alloc),
         lists_ranges(alloc),
+        gives_ranges(alloc),
+        gives_none(alloc),
         copies_nodes(alloc),
         copies_the_root_page(alloc),
         copies_the_tree(alloc),

@@ -3,7 +3,9 @@
 
 use crate::root_pages::root_copy;
 use crate::shapes::pages_of;
-use crate::trees::{FORMATS, Tree, copy, defined_root, empty, keys_of, put, tree, tree_in};
+use crate::trees::{
+    FORMATS, Tree, copy, defined_root, empty, gives_its_list, keys_of, put, tree, tree_in,
+};
 use merkle_search_tree::builder::PageFormat;
 use std::alloc::{AllocError, Global};
 use std::test::Fail;
@@ -156,6 +158,7 @@ fn joins_pages_of_one_level(rt: HostRuntime) -> Result<(), Fail> {
             && *ranges[i].end() == number_key(wanted[i].1);
         assert!(rt; is_wanted, "at {i}");
     }
+    assert!(rt; gives_its_list(&tree)?);
     Ok(())
 }
 

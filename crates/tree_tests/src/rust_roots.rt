@@ -1,6 +1,7 @@
 //! Root hashes and page ranges in format 1 against answers of the Rust crate merkle-search-tree 0.8.0, and root hashes in format 2
 //! against those of a second program.
 
+use crate::trees::gives_its_list;
 use merkle_digest::SipHasher;
 use merkle_search_tree::MerkleSearchTree;
 use merkle_search_tree::builder::{Builder, PageFormat};
@@ -89,9 +90,12 @@ fn ranges(alloc: Global, tree: &Squares) -> Result<String, Fail> {
     Ok(text)
 }
 
-/// The line of a tree of that many keys.
+/// The line of a tree of that many keys, which gives one at a time the page ranges that it lists.
 fn line_of(alloc: Global, size: u64, mut tree: Squares) -> Result<String, Fail> {
     let mut line = format!(in alloc; "{size} {}", tree.root_hash())?;
+    if !gives_its_list(&tree)? {
+        return Err(Fail::from("other ranges"));
+    }
     line.push_str(ranges(alloc, &tree)?.as_str())?;
     Ok(line)
 }

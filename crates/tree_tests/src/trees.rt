@@ -1,7 +1,7 @@
 //! Trees whose keys stand on given levels.
 
 use crate::defined::defined_root_hash;
-use merkle_digest::{Hasher, RootHash, ValueDigest};
+use merkle_digest::{Hasher, KeyBytes, RootHash, ValueDigest};
 use merkle_search_tree::MerkleSearchTree;
 use merkle_search_tree::builder::{Builder, PageFormat};
 use std::alloc::{AllocError, Global};
@@ -99,6 +99,17 @@ pub fn hashed(alloc: Global, keys: &[(u16, u8)]) -> Result<Tree, AllocError> {
 /// A copy of a tree.
 pub fn copy(tree: &Tree) -> Result<Tree, AllocError> {
     tree.try_clone()
+}
+
+/// Whether a tree gives one at a time the page ranges that it lists, or neither where it isn't hashed.
+pub fn gives_its_list<K: Ord + KeyBytes, V, H: Hasher<N, K>, const N: usize>(
+    tree: &MerkleSearchTree<K, V, H, N>,
+) -> Result<bool, AllocError> {
+    match (tree.page_range_iter()?, tree.serialise_page_ranges()?) {
+        (Some(ranges), Some(list)) => Ok(ranges.eq(list)),
+        (None, None) => Ok(true),
+        _ => Ok(false),
+    }
 }
 
 /// The nodes of a tree in their order: for each, a space, its key, `=` and the first byte of its value digest.
