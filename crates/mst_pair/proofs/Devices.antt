@@ -23,9 +23,9 @@ appends_or_hides_after (Some x) None (Some z) bs cs p q = absurd p
 appends_or_hides_after (Some x) (Some y) (Some z) bs cs p q = q ∙ ap (λ l. l ++ cs) p ∙ append_assoc x bs cs
 
 pub consumes_then_hides : (a b c : Option (List ℕ)) (bs : List ℕ) → Consumes a b bs → KeepsOrHides b c → ConsumesOrHides a c bs
-consumes_then_hides a b None bs p q = tt
-consumes_then_hides None b (Some z) bs p q = tt
-consumes_then_hides (Some x) None (Some z) bs p q = absurd p
+consumes_then_hides None b c bs p q = tt
+consumes_then_hides (Some x) None c bs p q = absurd p
+consumes_then_hides (Some x) (Some y) None bs p q = (y, p)
 consumes_then_hides (Some x) (Some y) (Some z) bs p q = p ∙ ap (λ l. bs ++ l) (sym q)
 
 -- two writes one after the other

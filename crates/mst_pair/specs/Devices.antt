@@ -1,6 +1,8 @@
 -- What a device tells of its bytes before and after a call. `None`: it tells nothing.
 use Rattle.std.specs.Prelude.{◌≡◌, ℕ, List, ◌++◌, Option, None, Some, Bool, true, false, ⊤, Result, Ok, Err}
 use Rattle.std.specs.Io.KnownBytes.{Appends}
+use Rattle.mst_pair.specs.declared.sink.ToWrite.{ToWrite}
+use Rattle.mst_pair.specs.declared.source.FromRead.{FromRead}
 
 -- the bytes stay as they were, or are told no more
 abbrev pub KeepsOrHides : Option (List ℕ) → Option (List ℕ) → Type 0
@@ -8,10 +10,10 @@ KeepsOrHides old None = ⊤
 KeepsOrHides None (Some ys) = ⊤
 KeepsOrHides (Some xs) (Some ys) = ys ≡ xs
 
--- the bytes begin with bs and lose them, or are told no more
+-- the bytes begin with bs and lose them, and those behind bs may be told no more
 abbrev pub ConsumesOrHides : Option (List ℕ) → Option (List ℕ) → List ℕ → Type 0
-ConsumesOrHides old None bs = ⊤
-ConsumesOrHides None (Some ys) bs = ⊤
+ConsumesOrHides None new bs = ⊤
+ConsumesOrHides (Some xs) None bs = (rest : List ℕ) × (xs ≡ bs ++ rest)
 ConsumesOrHides (Some xs) (Some ys) bs = xs ≡ bs ++ ys
 
 -- the bytes grow by bs, or are told no more
@@ -20,10 +22,13 @@ AppendsOrHides old None bs = ⊤
 AppendsOrHides None (Some ys) bs = ⊤
 AppendsOrHides (Some xs) (Some ys) bs = ys ≡ xs ++ bs
 
--- what a reader or writer of std tells, until it has failed
-abbrev pub told_unless : Bool → Option (List ℕ) → Option (List ℕ)
-told_unless true told = None
-told_unless false told = told
+-- the reader that a source reads from
+abbrev pub reader_inside : {R : Type 0} → FromRead R → R
+reader_inside source = source.inner
+
+-- the writer that a sink writes to
+abbrev pub writer_inside : {W : Type 0} → ToWrite W → W
+writer_inside sink = sink.inner
 
 -- an error marks a device as failed, and nothing else does
 abbrev pub MarksFailure : {A E : Type 0} → Result A E → Bool → Bool → Type 0

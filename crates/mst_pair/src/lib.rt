@@ -1,7 +1,14 @@
 //! Two replicas of a map from texts to numbers, and the engine that serves them: from the bytes of an input
 //! to the bytes of the replies.
 //!
-//! [`run::run`] reads lines from a [`source::Source`] and writes the reply to each line to a [`sink::Sink`].
+//! [`run::run`] reads lines from a [`source::Source`] and writes the reply to each line to a [`sink::Sink`]:
+//!
+//! ```rust
+//! let mut source = FromRead::new(rt.stdin());
+//! let mut sink = ToWrite::new(rt.stdout());
+//! run(rt.alloc(), &mut source, &mut sink)?;
+//! ```
+//!
 //! `specs/` says what the lines of an input are (`Lines`), what each line asks for (`Requests`), what it is
 //! answered (`Engine`), and what a whole run reads and writes (`Run`).
 //!

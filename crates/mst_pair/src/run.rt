@@ -6,8 +6,10 @@ use crate::session::Session;
 use crate::sink::Sink;
 use crate::source::Source;
 use std::alloc::Global;
+use std::error::Error;
+use std::fmt;
 
-/// Why a run ended before its input did.
+/// Why a run ended before its input did. It is an `Error`, so that `?` converts it to the error of a program.
 #[derive(Clone, Copy, Debug, PartialEq, Eq)]
 pub enum RunFault {
     /// The source answered an error.
@@ -17,7 +19,7 @@ pub enum RunFault {
 }
 
 impl RunFault {
-    /// What the program says of the fault.
+    /// What the program says of the fault: `mst_pair: read failed` or `mst_pair: write failed`.
     pub fn text(&self) -> &'static str
         ensures { result.now ≡ fault_text self.now }
     {
@@ -28,13 +30,32 @@ impl RunFault {
     }
 }
 
+/// The text of the fault.
+impl fmt::Display for RunFault {
+    fn fmt<W: fmt::Write>(&self, f: &mut fmt::Formatter<W>) -> fmt::Result {
+        f.write_str(self.text())
+    }
+}
+
+impl Error for RunFault {}
+
 /// How many bytes are read at once at most.
 const CHUNK: usize = 8192;
 
-/// Answers each line that the source gives, from two empty replicas, and flushes the sink at the end.
+/// Answers each line that the source gives, from two empty replicas in page format 1, and flushes the sink at the end.
 ///
-/// The reply to a line is written before the next line is carried out. Memory is taken for new rows alone; where it is
-/// refused, the reply is `no memory` and the run goes on.
+/// The reply to a line is written before the next line is carried out. Where a line needs memory that is refused, its reply is
+/// `no memory` and the run goes on; `put`, `del`, `pages`, `diff`, `pull` and `turns` may need some, and the other lines never do.
+/// Beside the rows and the pages of their trees a run holds 12 KiB: 8192 bytes that were read and 4096 that are to be written.
+///
+/// A run over text in memory:
+///
+/// ```rust
+/// let mut source = FromRead::new(b"put a k 1\nkeys a\n".as_slice());
+/// let mut sink = ToWrite::new(Vec::new(alloc));
+/// run(alloc, &mut source, &mut sink)?;
+/// let replies = sink.into_inner(); // ok, k 1 and end, each in its line
+/// ```
 ///
 /// # Errors
 ///

@@ -1,12 +1,14 @@
 //! What a run writes to.
 ghost use Rattle.std.specs.Prelude.{◌≡◌, ℕ, ◌<◌, ◌≤◌, List, Option, Bool, true, false, OnOk, OnErr, IfOk, length, take};
 ghost use Rattle.std.specs.Io.KnownBytes.{Appends, Keeps};
-ghost use Rattle.mst_pair.specs.Devices.{KeepsOrHides, told_unless, Writes, MarksFailure};
+ghost use Rattle.mst_pair.specs.Devices.{KeepsOrHides, Writes, MarksFailure, writer_inside};
 
 use crate::source::Failed;
 use std::io::Write;
 
 /// Takes bytes.
+///
+/// [`run`](crate::run::run) writes up to 4096 bytes at once. [`ToWrite`] makes a sink of each writer of the standard library.
 pub trait Sink {
     /// The bytes taken so far, where the sink tells them.
     ghost taken: { Self → Option (List ℕ) };
@@ -20,8 +22,10 @@ pub trait Sink {
     /// Takes some bytes from the front of `bytes`, and answers how many: at most their count, and 0 only
     /// where there are none.
     ///
-    /// An error leaves the bytes taken as they were, or the sink tells them no more. It marks the sink as failed,
-    /// and nothing else does.
+    /// # Errors
+    ///
+    /// `Failed` where the sink can't be written to. The bytes taken stay as they were, or the sink tells them no more. It marks the
+    /// sink as failed, and nothing else does.
     fn write(&mut self, bytes: &[u8]) -> Result<usize, Failed>
         ensures bound { IfOk result (λ n. n ≤ length bytes.now) }
         ensures some { IfOk result (λ n. 0 < length bytes.now → 0 < n) }
@@ -29,7 +33,11 @@ pub trait Sink {
         ensures error { OnErr result (KeepsOrHides (taken self.old) (taken self.new)) }
         ensures failed { MarksFailure result (has_failed self.old) (has_failed self.new) };
 
-    /// Hands on all that was taken. Errors are as at `write`.
+    /// Hands on all that was taken.
+    ///
+    /// # Errors
+    ///
+    /// As at `write`.
     fn flush(&mut self) -> Result<(), Failed>
         ensures ok { OnOk result (Keeps (taken self.old) (taken self.new)) }
         ensures flushed { OnOk result (is_flushed self.new ≡ true) }
@@ -43,8 +51,13 @@ pub trait Sink {
 
 /// A sink over a writer of std.
 ///
-/// It tells the bytes that the writer tells, and none once it has failed. Where the writer takes none of some
-/// bytes, that is a failure. Once a call has failed, so does each later one.
+/// It tells the bytes that the writer tells. Where the writer takes none of some bytes, that is a failure. Once a call has failed, so
+/// does each later one.
+///
+/// ```rust
+/// let mut sink = ToWrite::new(&mut replies); // a Vec<u8>
+/// run(alloc, &mut source, &mut sink)?;
+/// ```
 #[derive(Drop)]
 pub struct ToWrite<W> {
     inner: W,
@@ -53,8 +66,9 @@ pub struct ToWrite<W> {
 }
 
 impl<W: Write> ToWrite<W> {
-    /// A sink that has not failed.
+    /// A sink that writes to this writer and has not failed.
     pub fn new(inner: W) -> Self
+        ensures inside { writer_inside result ≡ inner }
         ensures not_failed { ⟦<ToWrite<W> as Sink>⟧.has_failed result ≡ false }
         ensures told { ⟦<ToWrite<W> as Sink>⟧.taken result ≡ W.contents inner }
     {
@@ -64,10 +78,18 @@ impl<W: Write> ToWrite<W> {
             failed: false,
         }
     }
+
+    /// The writer, as the last write or flush left it.
+    pub fn into_inner(self) -> W
+        ensures inside { result ≡ writer_inside self }
+        ensures told { W.contents result ≡ ⟦<ToWrite<W> as Sink>⟧.taken self }
+    {
+        self.inner
+    }
 }
 
 impl<W: Write> Sink for ToWrite<W> {
-    ghost taken = { λ s. told_unless s.failed (W.contents s.inner) };
+    ghost taken = { λ s. W.contents s.inner };
 
     ghost has_failed = { λ s. s.failed };
 

@@ -1,7 +1,7 @@
 //! What a run reads from.
-ghost use Rattle.std.specs.Prelude.{◌≡◌, ℕ, ◌<◌, ◌≤◌, List, Option, Bool, true, false, OnErr, IfOk, length, take};
-ghost use Rattle.std.specs.Io.KnownBytes.{Consumes, IsAtEnd};
-ghost use Rattle.mst_pair.specs.Devices.{KeepsOrHides, told_unless, MarksFailure};
+ghost use Rattle.std.specs.Prelude.{◌≡◌, ℕ, ◌+◌, ◌<◌, ◌≤◌, List, Option, Bool, true, false, OnErr, IfOk, length, take};
+ghost use Rattle.std.specs.Io.KnownBytes.{Consumes, Keeps, IsAtEnd};
+ghost use Rattle.mst_pair.specs.Devices.{KeepsOrHides, MarksFailure, reader_inside};
 
 use std::io::Read;
 
@@ -10,6 +10,8 @@ use std::io::Read;
 pub struct Failed;
 
 /// Gives bytes until its end.
+///
+/// [`run`](crate::run::run) reads up to 8192 bytes at once. [`FromRead`] makes a source of each reader of the standard library.
 pub trait Source {
     /// The bytes left, where the source tells them.
     ghost left: { Self → Option (List ℕ) };
@@ -23,8 +25,10 @@ pub trait Source {
     /// Moves some bytes from the front of the bytes left to the front of `buf`, and answers how many: at most
     /// the length of `buf`, and 0 for a `buf` with room only at the end.
     ///
-    /// An error leaves the bytes as they were, or the source tells them no more. It marks the source as failed,
-    /// and nothing else does.
+    /// # Errors
+    ///
+    /// `Failed` where the source can't be read. The bytes stay as they were, or the source tells them no more. It marks the source
+    /// as failed, and nothing else does.
     fn read(&mut self, buf: &mut [u8]) -> Result<usize, Failed>
         ensures bound { IfOk result (λ n. n ≤ length buf.new) }
         ensures bytes { IfOk result (λ n. Consumes (left self.old) (left self.new) (take n buf.new)) }
@@ -40,8 +44,13 @@ pub trait Source {
 
 /// A source over a reader of std.
 ///
-/// It tells the bytes that the reader tells, and none once it has failed. Each call of `read` takes one of the reads that it was
-/// given, 18446744073709551615 unless stated otherwise, and after these it fails; so it does at each read once a read has failed.
+/// It tells the bytes that the reader tells. Each call of `read` takes one of the reads that it was given, 18446744073709551615
+/// unless stated otherwise, and after these it fails; so it does at each read once a read has failed.
+///
+/// ```rust
+/// let mut source = FromRead::new(b"keys a\n".as_slice());
+/// run(alloc, &mut source, &mut sink)?;
+/// ```
 #[derive(Drop)]
 pub struct FromRead<R> {
     inner: R,
@@ -50,8 +59,9 @@ pub struct FromRead<R> {
 }
 
 impl<R: Read> FromRead<R> {
-    /// A source that has not failed and has all its reads left.
+    /// A source that reads from this reader, has not failed and has 18446744073709551615 reads left.
     pub fn new(inner: R) -> Self
+        ensures inside { reader_inside result ≡ inner }
         ensures not_failed { ⟦<FromRead<R> as Source>⟧.has_failed result ≡ false }
         ensures told { ⟦<FromRead<R> as Source>⟧.left result ≡ R.remaining inner }
         ensures reads { ⟦<FromRead<R> as Source>⟧.reads_left result ≡ u64.MAX }
@@ -59,8 +69,9 @@ impl<R: Read> FromRead<R> {
         FromRead::with_reads(inner, u64::MAX)
     }
 
-    /// A source that has not failed and fails after so many reads.
+    /// A source that reads from this reader, has not failed, and fails after so many reads.
     pub fn with_reads(inner: R, reads: u64) -> Self
+        ensures inside { reader_inside result ≡ inner }
         ensures not_failed { ⟦<FromRead<R> as Source>⟧.has_failed result ≡ false }
         ensures told { ⟦<FromRead<R> as Source>⟧.left result ≡ R.remaining inner }
         ensures reads { ⟦<FromRead<R> as Source>⟧.reads_left result ≡ reads }
@@ -71,16 +82,40 @@ impl<R: Read> FromRead<R> {
             failed: false,
         }
     }
+
+    /// The reader, as the last read left it.
+    pub fn into_inner(self) -> R
+        ensures inside { result ≡ reader_inside self }
+        ensures told { R.remaining result ≡ ⟦<FromRead<R> as Source>⟧.left self }
+    {
+        self.inner
+    }
 }
 
 impl<R: Read> Source for FromRead<R> {
-    ghost left = { λ s. told_unless s.failed (R.remaining s.inner) };
+    ghost left = { λ s. R.remaining s.inner };
 
     ghost reads_left = { λ s. s.reads_left };
 
     ghost has_failed = { λ s. s.failed };
 
-    fn read(&mut self, buf: &mut [u8]) -> Result<usize, Failed> {
+    /// Reads from the reader once, where it has not failed and a read is left.
+    ///
+    /// # Errors
+    ///
+    /// `Failed` where the reader answers an error, a call has failed before, or no read is left. The reader then has what it had.
+    fn read(&mut self, buf: &mut [u8]) -> Result<usize, Failed>
+        ensures bound { IfOk result (λ n. n ≤ length buf.new) }
+        ensures bytes { IfOk result (λ n. Consumes (R.remaining (reader_inside self.old)) (R.remaining (reader_inside self.new)) (take n buf.new)) }
+        ensures end { IfOk result (λ n. n ≡ 0 → 0 < length buf.new → IsAtEnd (R.remaining (reader_inside self.new))) }
+        ensures error { OnErr result (Keeps (R.remaining (reader_inside self.old)) (R.remaining (reader_inside self.new))) }
+        ensures failed { MarksFailure result (⟦<FromRead<R> as Source>⟧.has_failed self.old) (⟦<FromRead<R> as Source>⟧.has_failed self.new) }
+
+        // Each call takes one of the reads, but where a call has failed or no read is left.
+        ensures takes { let left = ⟦<FromRead<R> as Source>⟧.reads_left in
+            ⟦<FromRead<R> as Source>⟧.has_failed self.old ≡ false → 0 < left self.old → left self.old ≡ left self.new + 1 }
+        ensures falls { IfOk result (λ n. 0 < n → ⟦<FromRead<R> as Source>⟧.reads_left self.new < ⟦<FromRead<R> as Source>⟧.reads_left self.old) }
+    {
         if self.failed || self.reads_left == 0 {
             self.failed = true;
             return Err(Failed);

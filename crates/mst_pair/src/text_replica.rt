@@ -31,7 +31,8 @@ pub fn root_hash_of(replica: &mut TextReplica) -> RootHash
 /// The pages of a replica are those of the tree of its rows.
 pub fn shows_its_rows(replica: &TextReplica)
     ensures root { (format : PageFormat) → HasDefaults format replica.now → page_digest replica.now.tree.format string_bytes replica.now.tree.root ≡ root_digest format replica.now.rows }
-    ensures ranges { (format : PageFormat) → HasDefaults format replica.now → ranges_text (map span_of (ranges_of replica.now.tree.format string_bytes replica.now.tree.root)) ≡ ranges_text (map span_of (page_ranges format replica.now.rows)) }
+    ensures ranges { (format : PageFormat) → HasDefaults format replica.now →
+        ranges_text (map span_of (ranges_of replica.now.tree.format string_bytes replica.now.tree.root)) ≡ ranges_text (map span_of (page_ranges format replica.now.rows)) }
 {
     every_tree_is_sound(replica.tree());
 }

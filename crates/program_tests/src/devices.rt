@@ -1,5 +1,5 @@
 //! Devices that fail where a test says so.
-ghost use Rattle.std.specs.Prelude.{Some, length};
+ghost use Rattle.std.specs.Prelude.{◌≤◌, Some, IfOk, length};
 
 use arrayvec::ArrayVec;
 use mst_pair::sink::Sink;
@@ -111,5 +111,47 @@ impl Write for CannotFlush {
 
     fn flush(&mut self) -> io::Result<()> {
         Err(io::Error::from(ErrorKind::Other))
+    }
+}
+
+/// A device of std that answers by a list: how many bytes it moves, or an error where there is none.
+#[derive(Drop)]
+pub struct Listed<'a> {
+    pub answers: &'a [Option<usize>],
+}
+
+impl Listed<'_> {
+    /// The next answer of the list, for so many bytes; no byte where the list is over.
+    fn answer(&mut self, room: usize) -> io::Result<usize>
+        ensures { IfOk result (λ count. count ≤ room) }
+    {
+        match self.answers.split_first() {
+            Some((Some(count), rest)) => {
+                self.answers = rest;
+                Ok((*count).min(room))
+            }
+            Some((None, rest)) => {
+                self.answers = rest;
+                Err(io::Error::from(ErrorKind::Other))
+            }
+            None => Ok(0),
+        }
+    }
+}
+
+impl Read for Listed<'_> {
+    fn read(&mut self, buf: &mut [u8]) -> io::Result<usize> {
+        self.answer(buf.len())
+    }
+}
+
+impl Write for Listed<'_> {
+    fn write(&mut self, buf: &[u8]) -> io::Result<usize> {
+        self.answer(buf.len())
+    }
+
+    fn flush(&mut self) -> io::Result<()> {
+        self.answer(0)?;
+        Ok(())
     }
 }

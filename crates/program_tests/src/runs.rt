@@ -341,9 +341,15 @@ fn stays_failed(rt: HostRuntime) {
 }
 
 #[test]
-fn names_its_faults(rt: HostRuntime) {
-    assert_eq!(rt; RunFault::Read.text(), "mst_pair: read failed");
-    assert_eq!(rt; RunFault::Write.text(), "mst_pair: write failed");
+fn names_its_faults(rt: HostRuntime) -> Result<(), Fail> {
+    for (fault, text) in [
+        (RunFault::Read, "mst_pair: read failed"),
+        (RunFault::Write, "mst_pair: write failed"),
+    ] {
+        assert_eq!(rt; fault.text(), text);
+        assert_eq!(rt; format!(in rt.alloc(); "{fault}")?.as_str(), text);
+    }
+    Ok(())
 }
 
 /// The replies to `PULLS` where one of its lines was refused memory: a put, the line `diff a`, the first pull before it
