@@ -243,7 +243,7 @@ fn counted_ranges<'a>(
 }
 
 #[test]
-fn a_refused_clone_of_a_key_is_want_of_memory(rt: HostRuntime) -> Result<(), Fail> {
+fn try_clone_wants_memory_where_a_clone_of_a_key_is_refused(rt: HostRuntime) -> Result<(), Fail> {
     let alloc = rt.alloc();
     let clones_left = Cell::new(0);
     let snapshot = PageRangeSnapshot::from_owned(alloc, counted_ranges(alloc, &clones_left)?)?;
