@@ -1,5 +1,6 @@
 use crate::{Digest, PageDigest, RootHash, ValueDigest};
 use std::cmp::Ordering;
+use std::io::{Cursor, Write};
 use std::test::Fail;
 
 /// The bytes of the text `bananas` and the end of its line.
@@ -26,6 +27,15 @@ fn printed_digests(rt: HostRuntime) -> Result<(), Fail> {
         "YmFuYW5hcwpiYW5hbmFzCg=="
     );
     assert_eq!(rt; Digest::new([]).to_string(alloc)?.as_str(), "");
+    Ok(())
+}
+
+#[test]
+fn printing_takes_no_memory(rt: HostRuntime) -> Result<(), Fail> {
+    let mut text = [0; 24];
+    let mut room = Cursor::new(&mut text[..]);
+    write!(room, "{}", RootHash::new(PageDigest::new(TWICE)))?;
+    assert_eq!(rt; &text, b"YmFuYW5hcwpiYW5hbmFzCg==");
     Ok(())
 }
 
