@@ -140,18 +140,35 @@ fn cuts_long_lists(rt: HostRuntime) -> Result<(), Fail> {
     Ok(())
 }
 
+/// Bad ranges, good ones, and what is left.
+const REFUSED: [(&[Bounds], &[Bounds], &[Bounds]); 6] = [
+    (&[(4, 10)], &[(5, 8)], &[(4, 5), (8, 10)]),
+    (&[(4, 10)], &[(4, 6), (6, 10)], &[]),
+    (&[(4, 10)], &[(4, 6), (6, 8)], &[(8, 10)]),
+    (&[(2, 15)], &[(2, 2), (5, 5), (15, 15)], &[(2, 15)]),
+    (
+        &[(4, 10), (20, 30)],
+        &[(5, 8), (20, 22)],
+        &[(4, 5), (8, 10), (22, 30)],
+    ),
+    (&[(0, 0), (4, 4), (1, 4)], &[(2, 42)], &[(0, 0), (1, 2)]),
+];
+
+/// Asserts that a cut is these ranges, or want of memory.
+fn expect(rt: &impl Abort, found: Result<Vec<DiffRange<'_, u64>>, AllocError>, left: &[Bounds]) {
+    if let Ok(found) = found {
+        assert_eq!(rt; found.len(), left.len());
+        for (range, want) in found.iter().zip(left) {
+            assert_eq!(rt; (*range.start(), *range.end()), *want);
+        }
+    }
+}
+
 // Under `rt try --test --fail-alloc N` the Nth request for memory is refused: the cut is right, or it is want of memory.
 #[test]
 fn cuts_or_wants_memory(rt: HostRuntime) {
-    let bad = [(4, 10), (20, 30)];
-    let good = [(5, 8), (20, 22)];
-    for found in [cut(rt.alloc(), &bad, &good), built(rt.alloc(), &bad, &good)] {
-        if let Ok(found) = found {
-            let left = [(4, 5), (8, 10), (22, 30)];
-            assert_eq!(rt; found.len(), left.len());
-            for (range, want) in found.iter().zip(left.iter()) {
-                assert_eq!(rt; (*range.start(), *range.end()), *want);
-            }
-        }
+    for (bad, good, left) in REFUSED {
+        expect(&rt, cut(rt.alloc(), bad, good), left);
+        expect(&rt, built(rt.alloc(), bad, good), left);
     }
 }

@@ -1,6 +1,6 @@
 //! `diff`, by answers that were worked out by hand and by those of the Rust crate.
 use super::rust_answers::RUST_ANSWERS;
-use super::texts::{Row, difference, ranges, rows};
+use super::texts::{Bounds, Row, difference, ranges, rows};
 use crate::{PageRange, diff};
 use merkle_digest::PageDigest;
 use std::alloc::{AllocError, Global};
@@ -90,24 +90,46 @@ fn answers_on_100_000_equal_ranges(rt: HostRuntime) -> Result<(), Fail> {
     Ok(())
 }
 
+/// A local list, the peer's list, and the ranges.
+const REFUSED: [(&[Row], &[Row], &[Bounds]); 3] = [
+    (
+        &[(1, 4, 1), (1, 2, 2), (4, 4, 3)],
+        &[(1, 5, 4), (1, 2, 2), (5, 5, 5)],
+        &[(2, 5)],
+    ),
+    (
+        &[(2, 15, 1), (2, 6, 2), (2, 2, 3), (5, 5, 4), (15, 15, 5)],
+        &[(2, 11, 42), (2, 6, 2), (2, 2, 3), (5, 5, 4)],
+        &[],
+    ),
+    (
+        &[(0, 10, 9), (2, 6, 2), (4, 8, 3)],
+        &[(0, 10, 1), (2, 6, 2), (4, 8, 3)],
+        &[(0, 2), (8, 10)],
+    ),
+];
+
+/// Asserts that the ranges to ask for are these, or want of memory.
+fn expect(rt: &impl Abort, alloc: Global, local: &[Row], peer: &[Row], answer: &[Bounds]) {
+    if let Ok(found) = difference(alloc, local, peer) {
+        assert_eq!(rt; found.as_slice(), answer);
+    }
+}
+
 // Under `rt try --test --fail-alloc N` the Nth request for memory is refused: the answer is right, or it is want of memory.
 #[test]
 fn answers_or_wants_memory(rt: HostRuntime) {
-    for (local, peer, answer) in [
-        (
-            &[(1, 4, 1), (1, 2, 2), (4, 4, 3)],
-            &[(1, 5, 4), (1, 2, 2), (5, 5, 5)],
-            &[(2, 5)][..],
-        ),
-        (
-            &[(0, 10, 9), (2, 6, 2), (4, 8, 3)],
-            &[(0, 10, 1), (2, 6, 2), (4, 8, 3)],
-            &[(0, 2), (8, 10)][..],
-        ),
-    ] {
-        if let Ok(found) = difference(rt.alloc(), local, peer) {
-            assert_eq!(rt; found.as_slice(), answer);
-        }
+    for (local, peer, answer) in REFUSED {
+        expect(&rt, rt.alloc(), local, peer, answer);
+    }
+}
+
+// So it is on many ranges.
+#[test]
+fn answers_on_nested_ranges_or_wants_memory(rt: HostRuntime) {
+    if let (Ok(local), Ok(peer)) = (nested(rt.alloc(), 2), nested(rt.alloc(), 1)) {
+        expect(&rt, rt.alloc(), &local, &peer, &[(0, 200_000)]);
+        expect(&rt, rt.alloc(), &peer, &peer, &[]);
     }
 }
 

@@ -49,6 +49,28 @@ fn merges_as_worked_out(rt: HostRuntime) -> Result<(), Fail> {
     Ok(())
 }
 
+/// Ranges that are inserted, and what they become.
+const REFUSED: [(&[Bounds], &[Bounds]); 3] = [
+    (&[(0, 0), (4, 4), (1, 4)], &[(0, 0), (1, 4)]),
+    (&[(0, 2), (2, 42)], &[(0, 42)]),
+    (&[(2, 15), (2, 6), (2, 6)], &[(2, 15)]),
+];
+
+// Under `rt try --test --fail-alloc N` the Nth request for memory is refused: then an insert is. The merge takes none.
+#[test]
+fn merges_or_wants_memory(rt: HostRuntime) -> Result<(), Fail> {
+    for (list, merge) in REFUSED {
+        if let Ok(list) = inserted(rt.alloc(), list) {
+            let merged = list.into_vec()?;
+            assert_eq!(rt; merged.len(), merge.len());
+            for (range, want) in merged.iter().zip(merge) {
+                assert_eq!(rt; (*range.start(), *range.end()), *want);
+            }
+        }
+    }
+    Ok(())
+}
+
 #[test]
 fn leaves_no_two_that_meet(rt: HostRuntime) -> Result<(), Fail> {
     let mut pairs = Vec::new(rt.alloc());
