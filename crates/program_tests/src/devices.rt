@@ -155,3 +155,62 @@ impl Write for Listed<'_> {
         Ok(())
     }
 }
+
+/// A reader of std that gives the bytes of `left`, one at a time, and then its end or an error.
+#[derive(Drop)]
+pub struct ByteReader<'a> {
+    pub left: &'a [u8],
+    pub fails: bool,
+}
+
+impl Read for ByteReader<'_> {
+    fn read(&mut self, buf: &mut [u8]) -> io::Result<usize> {
+        let Some((first, rest)) = self.left.split_first() else {
+            return if self.fails {
+                Err(io::Error::from(ErrorKind::Other))
+            } else {
+                Ok(0)
+            };
+        };
+        let Some(place) = buf.first_mut() else {
+            return Ok(0);
+        };
+        *place = *first;
+        self.left = rest;
+        Ok(1)
+    }
+}
+
+/// A writer of std that takes `room` bytes, one at a time; then it answers an error, or that it takes none.
+#[derive(Drop)]
+pub struct ByteWriter {
+    pub taken: ArrayVec<u8, 16>,
+    pub room: usize,
+    pub takes_none: bool,
+    pub refuses_flush: bool,
+}
+
+impl Write for ByteWriter {
+    fn write(&mut self, buf: &[u8]) -> io::Result<usize> {
+        let Some(first) = buf.first() else {
+            return Ok(0);
+        };
+        if self.room > 0 && self.taken.try_push(*first).is_ok() {
+            self.room -= 1;
+            return Ok(1);
+        }
+        if self.takes_none {
+            Ok(0)
+        } else {
+            Err(io::Error::from(ErrorKind::Other))
+        }
+    }
+
+    fn flush(&mut self) -> io::Result<()> {
+        if self.refuses_flush {
+            Err(io::Error::from(ErrorKind::Other))
+        } else {
+            Ok(())
+        }
+    }
+}

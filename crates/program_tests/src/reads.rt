@@ -38,7 +38,9 @@ fn answers_an_error_only_where_its_device_does(rt: HostRuntime) {
         assert_eq!(rt; reader.read(&mut [0; 4]), wanted);
         assert_eq!(rt; writer.write(b"four"), wanted);
     }
-    let mut writer = ToWrite::new(Listed { answers: &answers[3..] });
+    let mut writer = ToWrite::new(Listed {
+        answers: &answers[3..],
+    });
     assert_eq!(rt; writer.flush(), Ok(()));
     assert_eq!(rt; writer.flush(), Err(Failed));
 }
