@@ -61,3 +61,16 @@ fn a_refused_pull_has_joined_the_first_rows(rt: HostRuntime) {
         assert!(rt; has_first(&peer, 3));
     }
 }
+
+/// The digest of the page stream of no byte.
+const OF_NO_ROW: [u8; 16] = [
+    0x50, 0x49, 0xd7, 0x47, 0x80, 0xa3, 0xe0, 0x7d, 0x42, 0x02, 0xab, 0x47, 0xd4, 0xce, 0xf2, 0xf4,
+];
+
+#[test]
+fn a_new_replica_takes_no_memory(rt: HostRuntime) {
+    let mut replica = Texts::new(rt.alloc(), Builder::default());
+    assert!(rt; replica.rows().is_empty());
+    replica.hash();
+    assert!(rt; *replica.root_hash().as_bytes() == OF_NO_ROW);
+}
