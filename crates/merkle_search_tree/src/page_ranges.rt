@@ -38,6 +38,20 @@ fn first_key_below<K, D>(held: &Option<Box<PageOf<K, D>>>) -> Option<&K>
     }
 }
 
+/// The first key of a page and those below it, where levels fall: on level 0 that of its first node, since no page is below.
+fn least_key<K, D>(page: &PageOf<K, D>) -> Option<&K>
+    requires { LevelsFall page.now }
+    ensures { option_map (λ key. key.now) result ≡ first_of (pairs page.now) }
+{
+    if page.level > 0 {
+        return first_key(page);
+    }
+    match page.nodes.first() {
+        None => None,
+        Some(node) => Some(&node.key),
+    }
+}
+
 /// The last key of a page and those below it.
 #[cycle(last)]
 pub(crate) fn last_key<K, D>(page: &PageOf<K, D>) -> Option<&K>
@@ -80,14 +94,15 @@ impl<K: Ord, D> PageOf<K, D> {
 
     /// The range of a page that has one, as [`page_range`](Self::page_range) gives it. It compares no keys.
     pub(crate) fn hashed_range(&self) -> PageRange<'_, K>
-        requires { HasRange K.cmp self.now }
+        requires falls { LevelsFall self.now }
+        requires range { HasRange K.cmp self.now }
         ensures { as_list (range_of K.cmp self.now) ≡ entry result ∷ [] }
     {
         let digest = match &self.tree_hash {
             Some(digest) => digest,
             None => unreachable!(),
         };
-        let first = match first_key(self) {
+        let first = match least_key(self) {
             Some(key) => key,
             None => unreachable!(),
         };
