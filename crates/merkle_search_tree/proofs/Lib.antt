@@ -29,6 +29,7 @@ pub mod Loadings
 pub mod Replays
 pub mod Equals
 pub mod Copies
+pub mod Alike
 pub mod Paths
 pub mod Fill
 pub mod RangeKeys

@@ -1,17 +1,41 @@
 //! Copies of pages and nodes.
 
-ghost use Rattle.std.specs.Prelude.{◌≡◌, IfOk};
+ghost use Rattle.std.specs.Prelude.{◌≡◌, true, IfOk};
 ghost use Rattle.merkle_search_tree.specs.Tree.{held_of};
 ghost use Rattle.merkle_search_tree.specs.Copy.{IsCopy, HeldIsCopy, NodeIsCopy};
 
-use crate::page::{NodeOf, PageOf};
+use crate::page::{Node, NodeOf, Page, PageOf};
 use merkle_digest::PageDigest;
 use std::alloc::{AllocError, Global};
+
+impl<const N: usize, K: Clone + PartialEq> Node<N, K> {
+    /// A copy of the node, of the page below it and of all cached digests there, with clones of the keys. Where a clone of a key is
+    /// equal to the key, the copy is equal to the node. The answer is `AllocError` where memory is refused.
+    pub fn try_clone(&self, alloc: Global) -> Result<Self, AllocError>
+        ensures copy { IfOk result (λ copy. NodeIsCopy K.is_clone (λ digest copied. copied ≡ digest) self.now copy) }
+        ensures equal { ((key clone : K) → K.is_clone key clone → K.eq key clone ≡ true)
+            → IfOk result (λ copy. (⟦<Node<N, K> as PartialEq>⟧.eq self.now copy ≡ true) × (⟦<Node<N, K> as PartialEq>⟧.eq copy self.now ≡ true)) }
+    {
+        self.copied(alloc)
+    }
+}
+
+impl<const N: usize, K: Clone + PartialEq> Page<N, K> {
+    /// A copy of the page, of those below it and of all cached digests, with clones of the keys. Where a clone of a key is equal to the
+    /// key, the copy is equal to the page. The answer is `AllocError` where memory is refused.
+    pub fn try_clone(&self, alloc: Global) -> Result<Self, AllocError>
+        ensures copy { IfOk result (λ copy. IsCopy K.is_clone (λ digest copied. copied ≡ digest) self.now copy) }
+        ensures equal { ((key clone : K) → K.is_clone key clone → K.eq key clone ≡ true)
+            → IfOk result (λ copy. (⟦<Page<N, K> as PartialEq>⟧.eq self.now copy ≡ true) × (⟦<Page<N, K> as PartialEq>⟧.eq copy self.now ≡ true)) }
+    {
+        self.copied(alloc)
+    }
+}
 
 impl<K: Clone, D: Clone> NodeOf<K, D> {
     /// A copy of the node, of the page below it and of all cached digests there.
     #[cycle(copy)]
-    pub fn try_clone(&self, alloc: Global) -> Result<Self, AllocError>
+    fn copied(&self, alloc: Global) -> Result<Self, AllocError>
         ensures { IfOk result (λ copy. NodeIsCopy K.is_clone D.is_clone self.now copy) }
     {
         let lt_pointer = copy_below(alloc, &self.lt_pointer)?;
@@ -26,13 +50,13 @@ impl<K: Clone, D: Clone> NodeOf<K, D> {
 impl<K: Clone, D: Clone> PageOf<K, D> {
     /// A copy of the page, of those below it and of all cached digests.
     #[cycle(copy)]
-    pub fn try_clone(&self, alloc: Global) -> Result<Self, AllocError>
+    fn copied(&self, alloc: Global) -> Result<Self, AllocError>
         ensures { IfOk result (λ copy. IsCopy K.is_clone D.is_clone self.now copy) }
     {
         let mut nodes = Vec::with_capacity(alloc, self.nodes.len())?;
         'nodes: for i in 0..self.nodes.len() {
             let node = &self.nodes[i];
-            nodes.push(node.try_clone(alloc)?)?;
+            nodes.push(node.copied(alloc)?)?;
         }
         let high_page = copy_below(alloc, &self.high_page)?;
         Ok(PageOf {
@@ -56,7 +80,7 @@ fn copy_below<K: Clone, D: Clone>(
         None => return Ok(None),
         Some(page) => page,
     };
-    let copy = page.try_clone(alloc)?;
+    let copy = page.copied(alloc)?;
     Ok(Some(Box::new(alloc, copy)?))
 }
 

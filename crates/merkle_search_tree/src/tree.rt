@@ -4,7 +4,7 @@ ghost use Rattle.std.specs.Prelude.{◌≡◌, ◌≢◌, ℕ, ◌+◌, ◌^◌,
 ghost use Rattle.std.specs.Option.{option_map};
 ghost use Rattle.std.specs.Int.NonZero.{non_zero_u8_get};
 ghost use Rattle.key_order.specs.Order.{Same};
-ghost use Rattle.key_order.specs.Map.{set, has_key};
+ghost use Rattle.key_order.specs.Map.{SameMap, set, has_key};
 ghost use Rattle.merkle_digest.specs.Level.{level_of};
 ghost use Rattle.merkle_digest.specs.SipHash.{zero_key};
 ghost use Rattle.merkle_search_tree.specs.Tree.{page, high, nothing};
@@ -81,6 +81,7 @@ impl<K: Ord + KeyBytes, V, H: Hasher<N, K>, const N: usize> MerkleSearchTree<K, 
     /// The empty tree with this hasher, level base 16, and format 1. It takes no memory.
     ///
     /// Deprecated: use [`Builder`](crate::builder::Builder).
+    #[deprecated]
     pub fn new_with_hasher(alloc: Global, hasher: H) -> Self
         ensures { IsNew hasher 16 V1 result }
     {
@@ -268,7 +269,7 @@ impl<K: Ord + KeyBytes, V, H: Hasher<N, K>, const N: usize> MerkleSearchTree<K, 
     /// `post_visit_page`, and then all calls at the high page. The first call that answers false is the last one.
     ///
     /// It takes no memory of its own.
-    pub fn in_order_traversal<T: Visitor<K, ValueDigest<N>>>(&self, visitor: &mut T)
+    pub fn in_order_traversal<T: Visitor<N, K>>(&self, visitor: &mut T)
         ensures visited { (all : Bool) × Visits T.step visitor.old (events_of false self.now.root) all visitor.new }
     {
         let _ = traverse_page(&self.root, false, visitor);
@@ -281,14 +282,17 @@ impl<K: Ord + KeyBytes + Clone, V, H: Hasher<N, K> + Clone, const N: usize> Merk
     H,
     N,
 > {
-    /// A tree with equal pages, all cached digests included, and the same hasher, level base, page format and cached root hash.
+    /// A tree of an equal map, with equal pages, all cached digests included, a clone of the hasher, and the same level base, page format
+    /// and cached root hash. The answer is `AllocError` where memory is refused.
     pub fn try_clone(&self) -> Result<Self, AllocError>
-        // A clone equals its original.
+        // A clone of a key equals the key, and a clone of a hasher gives the digests that the hasher gives.
         requires keys { (a b : K) → K.is_clone a b → Same K.cmp a b }
-        requires hashers { (a b : H) → H.is_clone a b → b ≡ a }
+        requires hashers { (a b : H) → H.is_clone a b → (k : K) → H.digest_of b k ≡ H.digest_of a k }
 
+        ensures map { IfOk result (λ copy. SameMap K.cmp (λ d e. d ≡ e) (map_of self.now) (map_of copy)) }
         ensures pages { IfOk result (λ copy. IsCopy (Same K.cmp) (λ d e. d ≡ e) self.now.root copy.root) }
-        ensures hasher { IfOk result (λ copy. copy.hasher ≡ self.now.hasher) }
+        ensures hasher { IfOk result (λ copy. H.is_clone self.now.hasher copy.hasher) }
+        ensures digests { IfOk result (λ copy. (k : K) → H.digest_of copy.hasher k ≡ H.digest_of self.now.hasher k) }
         ensures base { IfOk result (λ copy. copy.base ≡ self.now.base) }
         ensures format { IfOk result (λ copy. copy.format ≡ self.now.format) }
         ensures root_hash { IfOk result (λ copy. copy.root_hash ≡ self.now.root_hash) }

@@ -1,47 +1,47 @@
 //! Visitors, which a traversal of a tree calls at each of its pages and nodes.
 
-ghost use Rattle.std.specs.Prelude.{Bool};
+ghost use Rattle.std.specs.Prelude.{Bool, List, ℕ};
 ghost use Rattle.merkle_search_tree.specs.Tree.{held_of};
 ghost use Rattle.merkle_search_tree.specs.Events.{Event, visit_page, pre_visit_node, visit_node, post_visit_node, post_visit_page, events_of, held_events};
 ghost use Rattle.merkle_search_tree.specs.Traversal.{Visits, node_events};
 
-use crate::page::{NodeOf, PageOf};
+use crate::page::{Node, Page};
 
 /// What [`in_order_traversal`](crate::MerkleSearchTree::in_order_traversal) calls at the pages and nodes of a tree, one after the
 /// other. Each call answers whether the traversal goes on.
 ///
-/// A visitor of a [`MerkleSearchTree`](crate::MerkleSearchTree) whose value digests have `N` bytes is a
-/// `Visitor<K, ValueDigest<N>>`.
-pub trait Visitor<K, D> {
+/// `N` is how many bytes the tree's value digests have, and `K` the type of its keys. A visitor keeps no references to nodes or pages
+/// of the tree, only what it copies or clones of them.
+pub trait Visitor<const N: usize, K> {
     /// The steps of the visitor: what it holds before a call, the call with its arguments, the answer, and what it holds
     /// afterwards.
-    ghost step: { Self → Event K D → Bool → Self → Type 0 };
+    ghost step: { Self → Event K (List ℕ) → Bool → Self → Type 0 };
 
     /// Called at a node, before the page below it.
-    fn pre_visit_node(&mut self, node: &NodeOf<K, D>) -> bool
+    fn pre_visit_node(&mut self, node: &Node<N, K>) -> bool
         ensures { step self.old (pre_visit_node node.now) result self.new };
 
     /// Called at a node, after the page below it: so the nodes come in ascending key order.
-    fn visit_node(&mut self, node: &NodeOf<K, D>) -> bool
+    fn visit_node(&mut self, node: &Node<N, K>) -> bool
         ensures { step self.old (visit_node node.now) result self.new };
 
     /// Called at a node, after `visit_node`.
-    fn post_visit_node(&mut self, node: &NodeOf<K, D>) -> bool
+    fn post_visit_node(&mut self, node: &Node<N, K>) -> bool
         ensures { step self.old (post_visit_node node.now) result self.new };
 
     /// Called at a page, before its nodes. `high_page` says whether the page is the high page of another.
-    fn visit_page(&mut self, page: &PageOf<K, D>, high_page: bool) -> bool
+    fn visit_page(&mut self, page: &Page<N, K>, high_page: bool) -> bool
         ensures { step self.old (visit_page page.now high_page) result self.new };
 
     /// Called at a page, after its nodes and before its high page.
-    fn post_visit_page(&mut self, page: &PageOf<K, D>) -> bool
+    fn post_visit_page(&mut self, page: &Page<N, K>) -> bool
         ensures { step self.old (post_visit_page page.now) result self.new };
 }
 
 /// Calls a visitor at a page and all below it, and answers whether each call answered true.
 #[cycle(traverse)]
-pub(crate) fn traverse_page<K, D, T: Visitor<K, D>>(
-    page: &PageOf<K, D>,
+pub(crate) fn traverse_page<const N: usize, K, T: Visitor<N, K>>(
+    page: &Page<N, K>,
     high_page: bool,
     visitor: &mut T,
 ) -> bool
@@ -63,7 +63,7 @@ pub(crate) fn traverse_page<K, D, T: Visitor<K, D>>(
 
 /// Calls a visitor at a node and the page below it, and answers whether each call answered true.
 #[cycle(traverse)]
-fn traverse_node<K, D, T: Visitor<K, D>>(node: &NodeOf<K, D>, visitor: &mut T) -> bool
+fn traverse_node<const N: usize, K, T: Visitor<N, K>>(node: &Node<N, K>, visitor: &mut T) -> bool
     ensures { Visits T.step visitor.old (node_events node.now) result visitor.new }
 {
     if !visitor.pre_visit_node(node) {
@@ -80,8 +80,8 @@ fn traverse_node<K, D, T: Visitor<K, D>>(node: &NodeOf<K, D>, visitor: &mut T) -
 
 /// Calls a visitor at what a pointer holds, and answers whether each call answered true.
 #[cycle(traverse)]
-fn traverse_below<K, D, T: Visitor<K, D>>(
-    held: &Option<Box<PageOf<K, D>>>,
+fn traverse_below<const N: usize, K, T: Visitor<N, K>>(
+    held: &Option<Box<Page<N, K>>>,
     high_page: bool,
     visitor: &mut T,
 ) -> bool

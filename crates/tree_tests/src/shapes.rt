@@ -3,9 +3,8 @@
 ghost use Rattle.std.specs.Prelude.{◌≡◌};
 
 use crate::trees::{Tree, hashed, keys_of, put, tree_of};
-use merkle_digest::ValueDigest;
 use merkle_search_tree::visitor::Visitor;
-use merkle_search_tree::{NodeOf, PageOf};
+use merkle_search_tree::{Node, Page};
 use std::alloc::{AllocError, Global};
 use std::test::Fail;
 
@@ -13,8 +12,13 @@ use std::test::Fail;
 /// or `^` for a high page, its level, and in brackets its nodes with the page below each before it; the high page follows.
 pub const SHAPES: &str = "\
 = 0()\n\
+1:1 2:1 4:0= 1( 1 2)^0( 4)\n\
 1:1 2:1 4:0 3:2= 2( 1( 1 2) 3)^0( 4)\n\
+4:1 3:0= 1( 0( 3) 4)\n\
+4:1 3:0 1:0= 1( 0( 1 3) 4)\n\
 4:1 3:0 1:0 2:1= 1( 0( 1) 2 0( 3) 4)\n\
+2:64 6:20 4:20= 64( 2)^20( 4 6)\n\
+2:64 6:20 4:20 3:52= 64( 2)^52( 3)^20( 4 6)\n\
 2:64 6:20 4:20 3:52 5:64= 64( 2 52( 3)^20( 4) 5)^20( 6)\n\
 ";
 
@@ -46,23 +50,23 @@ impl Shape {
     }
 }
 
-impl Visitor<[u8; 2], ValueDigest<32>> for Shape {
+impl Visitor<32, [u8; 2]> for Shape {
     ghost step = { λ before call answer after. after.alloc ≡ before.alloc };
 
-    fn pre_visit_node(&mut self, _node: &NodeOf<[u8; 2], ValueDigest<32>>) -> bool {
+    fn pre_visit_node(&mut self, _node: &Node<32, [u8; 2]>) -> bool {
         true
     }
 
-    fn visit_node(&mut self, node: &NodeOf<[u8; 2], ValueDigest<32>>) -> bool {
+    fn visit_node(&mut self, node: &Node<32, [u8; 2]>) -> bool {
         let number = u16::from_be_bytes(*node.key());
         self.write(format!(in self.alloc; " {number}"))
     }
 
-    fn post_visit_node(&mut self, _node: &NodeOf<[u8; 2], ValueDigest<32>>) -> bool {
+    fn post_visit_node(&mut self, _node: &Node<32, [u8; 2]>) -> bool {
         true
     }
 
-    fn visit_page(&mut self, page: &PageOf<[u8; 2], ValueDigest<32>>, high_page: bool) -> bool {
+    fn visit_page(&mut self, page: &Page<32, [u8; 2]>, high_page: bool) -> bool {
         let mark = if high_page { "^" } else { " " };
         let lacks = if self.shows_lacking && page.hash().is_none() {
             "?"
@@ -72,7 +76,7 @@ impl Visitor<[u8; 2], ValueDigest<32>> for Shape {
         self.write(format!(in self.alloc; "{mark}{lacks}{}(", page.level()))
     }
 
-    fn post_visit_page(&mut self, _page: &PageOf<[u8; 2], ValueDigest<32>>) -> bool {
+    fn post_visit_page(&mut self, _page: &Page<32, [u8; 2]>) -> bool {
         self.text.push_str(")").is_ok()
     }
 }

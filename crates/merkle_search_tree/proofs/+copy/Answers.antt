@@ -7,8 +7,8 @@ use Rattle.merkle_search_tree.specs.Copy.{IsCopy, NodeIsCopy}
 use Rattle.merkle_search_tree.proofs.Copies.{copy-row}
 use Rattle.merkle_search_tree.proofs.+copy.Goals as goal
 
-pub page::PageOf::try_clone-returns : goal.page::PageOf::try_clone-returns
-page::PageOf::try_clone-returns g t c =
+pub page::PageOf::copied-returns : goal.page::PageOf::copied-returns
+page::PageOf::copied-returns g t c =
     let s = c.self.inside in
     let R = g.K.Clone.is_clone in
     let S = g.D.Clone.is_clone in
@@ -17,14 +17,14 @@ page::PageOf::try_clone-returns g t c =
     subst (λ (u : Tree g.row.K.Denot g.row.D.Denot). IsCopy R S u (page s.level c.in_ok-copy_digest.field-0 (row c.nodes.nodes.items (held_of c.in_ok-high_page.high_page)))) c.self.view_is
     (refl, sym c.in_ok-copy_digest.ensures, copy-row R S s.nodes.items c.nodes.nodes.items (held_of s.high_page) (held_of c.in_ok-high_page.high_page) zip c.in_ok-high_page.ensures)
 
-pub page::PageOf::try_clone-nodes-preserved : goal.page::PageOf::try_clone-nodes-preserved
-page::PageOf::try_clone-nodes-preserved g t c =
+pub page::PageOf::copied-nodes-preserved : goal.page::PageOf::copied-nodes-preserved
+page::PageOf::copied-nodes-preserved g t c =
     let es = c.self.inside.nodes.items in
     let R : Node g.row.K.Denot g.row.D.Denot → Node g.row.K.Denot g.row.D.Denot → Type 0 = NodeIsCopy g.K.Clone.is_clone g.D.Clone.is_clone in
     let x = c.index-node.result.now in
-    let copy = c.in_ok-try_clone.field-0 in
+    let copy = c.in_ok-copied.field-0 in
     let within : c.nodes.i < length es = omega (arith, c.nodes-test.true, c.len-i-end.ensures, c.self.inside.nodes.ok.0) in
-    let zip = AllZip-push R (take c.nodes.i es) c.nodes.nodes.items x copy c.nodes.invariant c.in_ok-try_clone.ensures in
+    let zip = AllZip-push R (take c.nodes.i es) c.nodes.nodes.items x copy c.nodes.invariant c.in_ok-copied.ensures in
     let more : take c.nodes.i es ++ x ∷ [] ≡ take (c.nodes.i + 1) es = ap (λ (y : Node g.row.K.Denot g.row.D.Denot). take c.nodes.i es ++ y ∷ []) c.index-node.ensures ∙ sym (take_more es c.nodes.i x within) in
     subst (λ (ys : List (Node g.row.K.Denot g.row.D.Denot)). AllZip R (take (c.nodes.i + 1) es) ys) (sym c.in_ok-push.ensures.items)
     (subst (λ (xs : List (Node g.row.K.Denot g.row.D.Denot)). AllZip R xs (c.nodes.nodes.items ++ copy ∷ [])) more zip)

@@ -3,5 +3,5 @@ use Rattle.std.specs.List.{AllZip}
 use Rattle.merkle_search_tree.specs.Copy.{NodeIsCopy}
 use Rattle.merkle_search_tree.proofs.+copy.Given as goal
 
-abbrev pub invariant-page::PageOf::try_clone-nodes : goal.invariant-page::PageOf::try_clone-nodes
-invariant-page::PageOf::try_clone-nodes g l = AllZip (NodeIsCopy g.K.Clone.is_clone g.D.Clone.is_clone) (take l.i l.self-inside.nodes.items) l.nodes.items
+abbrev pub invariant-page::PageOf::copied-nodes : goal.invariant-page::PageOf::copied-nodes
+invariant-page::PageOf::copied-nodes g l = AllZip (NodeIsCopy g.K.Clone.is_clone g.D.Clone.is_clone) (take l.i l.self-inside.nodes.items) l.nodes.items

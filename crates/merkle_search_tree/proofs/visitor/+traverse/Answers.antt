@@ -1,4 +1,4 @@
-use Rattle.std.proofs.Common.{true, ap, subst, sym, ◌∙◌}
+use Rattle.std.proofs.Common.{true, ap, subst, sym, ◌∙◌, List, ℕ}
 use Rattle.merkle_search_tree.specs.Tree.{Node, page, row, held_of}
 use Rattle.merkle_search_tree.specs.Events.{held_events}
 use Rattle.merkle_search_tree.specs.Traversal.{Visits, over}
@@ -48,18 +48,18 @@ traverse_node-returns-then-not-pre_visit_node g t c = refused c.pre_visit_node.e
 
 pub traverse_node-returns-then-not-traverse_below : goal.traverse_node-returns-then-not-traverse_below
 traverse_node-returns-then-not-traverse_below g t c =
-    below-refused c.args.node.now (held_of c.node.inside.lt_pointer) (ap (λ (n : Node g.row.K.Denot g.row.D.Denot). n.lt) c.node.view_is)
+    below-refused c.args.node.now (held_of c.node.inside.lt_pointer) (ap (λ (n : Node g.row.K.Denot (List ℕ)). n.lt) c.node.view_is)
     c.pre_visit_node.new.self c.pre_visit_node.ensures c.if-not-pre_visit_node.false c.traverse_below.ensures c.if-not-traverse_below.true
 
 pub traverse_node-returns-then-not-visit_node : goal.traverse_node-returns-then-not-visit_node
 traverse_node-returns-then-not-visit_node g t c =
-    below-answered c.args.node.now (held_of c.node.inside.lt_pointer) (ap (λ (n : Node g.row.K.Denot g.row.D.Denot). n.lt) c.node.view_is)
+    below-answered c.args.node.now (held_of c.node.inside.lt_pointer) (ap (λ (n : Node g.row.K.Denot (List ℕ)). n.lt) c.node.view_is)
     c.pre_visit_node.new.self c.pre_visit_node.ensures c.if-not-pre_visit_node.false c.traverse_below.new.visitor c.traverse_below.ensures c.if-not-traverse_below.false
     (refused c.visit_node.ensures c.if-not-visit_node.true)
 
 pub traverse_node-returns : goal.traverse_node-returns
 traverse_node-returns g t c =
-    below-answered c.args.node.now (held_of c.node.inside.lt_pointer) (ap (λ (n : Node g.row.K.Denot g.row.D.Denot). n.lt) c.node.view_is)
+    below-answered c.args.node.now (held_of c.node.inside.lt_pointer) (ap (λ (n : Node g.row.K.Denot (List ℕ)). n.lt) c.node.view_is)
     c.pre_visit_node.new.self c.pre_visit_node.ensures c.if-not-pre_visit_node.false c.traverse_below.new.visitor c.traverse_below.ensures c.if-not-traverse_below.false
     (answered c.visit_node.new.self c.visit_node.ensures c.if-not-visit_node.false (one c.post_visit_node.ensures))
 
