@@ -8,7 +8,7 @@ use Rattle.merkle_search_tree.specs.declared.updates.Update.TheVariants.{Remove}
 use Rattle.key_order.specs.Map.{has_key, entry}
 use Rattle.key_order.proofs.Dels.{entry-there, entry-absent}
 use Rattle.merkle_search_tree.specs.declared.updates.Update.{Update}
-use Rattle.merkle_search_tree.specs.Updates.{map_after, map_after_one, hashed_after, hashed_after_one}
+use Rattle.merkle_search_tree.specs.Updates.{map_after, map_after_one, hashed_after, hashed_after_one, IsAcceptedIfFree, FreeAreAccepted}
 
 module _ {K V : Type 0} where
   pub map_after-more : (cmp : K → K → Ordering) (digest_of : V → List ℕ) (m : List (K × List ℕ)) (us : List (Update K V)) (u : Update K V) (bs : List Bool) (a : Bool)
@@ -25,6 +25,13 @@ module _ {K V : Type 0} where
   hashed_after-more cmp digest_of m hashed (v ∷ us) u [] a e = absurd (omega (arith, e))
   hashed_after-more cmp digest_of m hashed (v ∷ us) u (b ∷ bs) a e =
       hashed_after-more cmp digest_of (map_after_one cmp digest_of m v b) (hashed_after_one cmp digest_of m hashed v b) us u bs a (omega (arith, e))
+
+  pub free-more : (cmp : K → K → Ordering) (digest_of : V → List ℕ) (m : List (K × List ℕ)) (us : List (Update K V)) (u : Update K V) (bs : List Bool) (a : Bool)
+      → length bs ≡ length us → FreeAreAccepted cmp digest_of m us bs → IsAcceptedIfFree cmp digest_of (map_after cmp digest_of m us bs) u a → FreeAreAccepted cmp digest_of m (us ++ u ∷ []) (bs ++ a ∷ [])
+  free-more cmp digest_of m [] u [] a e h f = (f, tt)
+  free-more cmp digest_of m [] u (b ∷ bs) a e h f = absurd (omega (arith, e))
+  free-more cmp digest_of m (v ∷ us) u [] a e h f = absurd (omega (arith, e))
+  free-more cmp digest_of m (v ∷ us) u (b ∷ bs) a e h f = (h.0, free-more cmp digest_of (map_after_one cmp digest_of m v b) us u bs a (omega (arith, e)) h.1 f)
 
 -- a removal forgets the root hash exactly where its key is there
 module _ {K D : Type 0} (cmp : K → K → Ordering) (k : K) where

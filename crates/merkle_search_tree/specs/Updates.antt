@@ -1,5 +1,5 @@
 -- What a list of updates leads to, each of which was accepted or not.
-use Rattle.std.specs.Prelude.{ℕ, Bool, true, false, List, [], ◌∷◌, if◌then◌else◌}
+use Rattle.std.specs.Prelude.{◌≡◌, ⊤, ℕ, Bool, true, false, List, [], ◌∷◌, if◌then◌else◌}
 use Rattle.std.specs.declared.cmp.Ordering.{Ordering}
 use Rattle.key_order.specs.Map.{set, has_key, del}
 use Rattle.merkle_search_tree.specs.declared.updates.Update.{Update}
@@ -35,3 +35,15 @@ module _ {K V : Type 0} (cmp : K → K → Ordering) (digest_of : V → List ℕ
   hashed_after m hashed [] accepted = hashed
   hashed_after m hashed (u ∷ us) [] = hashed
   hashed_after m hashed (u ∷ us) (a ∷ accepted) = hashed_after (map_after_one m u a) (hashed_after_one m hashed u a) us accepted
+
+  -- an update that takes no memory was accepted: an upsert of a key that the map has, a removal of a key that it hasn't, and hashing
+  abbrev pub IsAcceptedIfFree : List (K × List ℕ) → Update K V → Bool → Type 0
+  IsAcceptedIfFree m (Upsert k v) accepted = has_key cmp m k ≡ true → accepted ≡ true
+  IsAcceptedIfFree m (Remove k) accepted = has_key cmp m k ≡ false → accepted ≡ true
+  IsAcceptedIfFree m RootHash accepted = accepted ≡ true
+
+  -- so was each of the updates, from the map m on
+  abbrev pub FreeAreAccepted : List (K × List ℕ) → List (Update K V) → List Bool → Type 0
+  FreeAreAccepted m [] accepted = ⊤
+  FreeAreAccepted m (u ∷ us) [] = ⊤
+  FreeAreAccepted m (u ∷ us) (a ∷ accepted) = IsAcceptedIfFree m u a × FreeAreAccepted (map_after_one m u a) us accepted

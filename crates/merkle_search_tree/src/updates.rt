@@ -8,7 +8,7 @@ ghost use Rattle.merkle_search_tree.specs.Ranges.{ranges_of};
 ghost use Rattle.merkle_search_tree.specs.State.{map_of};
 ghost use Rattle.merkle_search_tree.specs.Stream.{page_digest};
 ghost use Rattle.merkle_search_tree.specs.TreeOf.{tree_of};
-ghost use Rattle.merkle_search_tree.specs.Updates.{map_after, map_after_one, hashed_after, hashed_after_one};
+ghost use Rattle.merkle_search_tree.specs.Updates.{map_after, map_after_one, hashed_after, hashed_after_one, IsAcceptedIfFree, FreeAreAccepted};
 
 use crate::builder::Builder;
 use crate::laws::{a_hashed_tree_has_every_digest, every_tree_is_sound};
@@ -38,6 +38,7 @@ where
     H: Hasher<N, K> + Hasher<N, V>,
     ensures map { map_of tree.new ≡ map_after_one K.cmp (⟦<H as Hasher<N, V>>⟧.digest_of tree.old.hasher) (map_of tree.old) update result }
     ensures hashed { is_some tree.new.root_hash ≡ hashed_after_one K.cmp (⟦<H as Hasher<N, V>>⟧.digest_of tree.old.hasher) (map_of tree.old) (is_some tree.old.root_hash) update result }
+    ensures free { IsAcceptedIfFree K.cmp (⟦<H as Hasher<N, V>>⟧.digest_of tree.old.hasher) (map_of tree.old) update result }
     ensures hasher { tree.new.hasher ≡ tree.old.hasher }
     ensures base { tree.new.base ≡ tree.old.base }
     ensures format { tree.new.format ≡ tree.old.format }
@@ -53,8 +54,8 @@ where
 }
 
 /// The tree that the updates lead to, in order, from the empty tree of the builder on, and for each update whether it was accepted.
-/// An upsert or a removal is refused only for want of memory; its key and value are given up then, and it changes nothing. Where the
-/// room for the answers is refused, no update is carried out.
+/// An upsert or a removal is refused only for want of memory; its key and value are given up then, and it changes nothing. An upsert of
+/// a key that is there, a removal of one that isn't, and each `RootHash` is accepted. Where the room for the answers is refused, no update is carried out.
 ///
 /// Whatever the updates, the pages of the tree are the one tree of the map of the accepted updates, apart from cached digests. So are
 /// its page ranges; and where after the last `RootHash` no upsert is accepted, and no removal of a key that is there, the tree is
@@ -69,6 +70,7 @@ where
     V: Eq + Drop,
     H: Hasher<N, K> + Hasher<N, V> + Drop,
     ensures answers { IfOk result (λ r. length r.1.items ≡ length updates.items) }
+    ensures free { IfOk result (λ r. FreeAreAccepted K.cmp (⟦<H as Hasher<N, V>>⟧.digest_of builder.hasher) [] updates.items r.1.items) }
     ensures map { IfOk result (λ r. map_of r.0 ≡ map_after K.cmp (⟦<H as Hasher<N, V>>⟧.digest_of builder.hasher) [] updates.items r.1.items) }
     ensures pages { IfOk result (λ r. SamePages K.cmp r.0.root (tree_of (λ k. level_of (⟦<H as Hasher<N, K>>⟧.digest_of builder.hasher k) builder.base)
         (map_after K.cmp (⟦<H as Hasher<N, V>>⟧.digest_of builder.hasher) [] updates.items r.1.items))) }

@@ -1,13 +1,21 @@
-use Rattle.std.proofs.Common.{is_some, ap, sym, ◌∙◌}
+use Rattle.std.proofs.Common.{is_some, refl, ap, sym, ◌∙◌}
 use Rattle.merkle_search_tree.specs.State.{map_of}
 use Rattle.merkle_search_tree.specs.Updates.{hashed_after_one}
 use Rattle.merkle_search_tree.specs.declared.updates.Update.TheVariants.{Remove}
-use Rattle.merkle_search_tree.proofs.Fill.{pairs-filled}
 use Rattle.merkle_search_tree.proofs.Replays.{removal_result}
 use Rattle.merkle_search_tree.proofs.updates.carry_out.Goals as goal
 
 pub returns-in-RootHash-clause-map : goal.returns-in-RootHash-clause-map
-returns-in-RootHash-clause-map g c = rw (c.root_hash_counted.ensures.tree, c.in-RootHash.is) (pairs-filled c.args.tree.now.format g.K.KeyBytes.bytes_of c.args.tree.now.root)
+returns-in-RootHash-clause-map g c = rw c.in-RootHash.is c.root_hash_counted.ensures.map
+
+pub returns-in-RootHash-clause-free : goal.returns-in-RootHash-clause-free
+returns-in-RootHash-clause-free g c = rw c.in-RootHash.is refl
+
+pub returns-in-Upsert-clause-free : goal.returns-in-Upsert-clause-free
+returns-in-Upsert-clause-free g c = rw c.in-Upsert.is (λ e. c.is_ok.ensures.value ∙ c.upsert.ensures.succeeds e)
+
+pub returns-in-Remove-clause-free : goal.returns-in-Remove-clause-free
+returns-in-Remove-clause-free g c = rw c.in-Remove.is (λ e. c.is_ok-in-Remove.ensures.value ∙ c.remove.ensures.succeeds_absent e)
 
 pub returns-in-Remove-clause-hashed : goal.returns-in-Remove-clause-hashed
 returns-in-Remove-clause-hashed g c =

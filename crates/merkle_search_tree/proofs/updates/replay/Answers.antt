@@ -7,8 +7,8 @@ use Rattle.merkle_search_tree.specs.Cache.{missing}
 use Rattle.merkle_search_tree.specs.Stream.{page_digest}
 use Rattle.merkle_search_tree.specs.State.{map_of}
 use Rattle.merkle_search_tree.specs.TreeOf.{tree_of}
-use Rattle.merkle_search_tree.specs.Updates.{map_after, map_after_one, hashed_after, hashed_after_one}
-use Rattle.merkle_search_tree.proofs.Replays.{map_after-more, hashed_after-more, hashed_is}
+use Rattle.merkle_search_tree.specs.Updates.{map_after, map_after_one, hashed_after, hashed_after_one, IsAcceptedIfFree, FreeAreAccepted}
+use Rattle.merkle_search_tree.proofs.Replays.{map_after-more, hashed_after-more, free-more, hashed_is}
 use Rattle.merkle_search_tree.proofs.Same.{same_digest}
 use Rattle.merkle_search_tree.proofs.SameRanges.{same_ranges}
 use Rattle.merkle_search_tree.proofs.Sound.{same_bytes}
@@ -29,6 +29,10 @@ updates-preserved g c =
           let short = ap length steps in
           omega arith;
       answers = ap length c.in_ok-push.ensures.items ∙ length-append c.updates.accepted.items (c.carry_out.result ∷ []) ∙ ap (λ (n : ℕ). n + 1) kept.answers ∙ sym (length-append c.updates.yielded (u ∷ []));
+      free = subst (FreeAreAccepted cmp (d c.args.builder.hasher) [] (c.updates.yielded ++ u ∷ [])) (sym c.in_ok-push.ensures.items)
+          (free-more cmp (d c.args.builder.hasher) [] c.updates.yielded u c.updates.accepted.items c.carry_out.result kept.answers kept.free
+          (subst (λ (m : List (g.row.K.Denot × List ℕ)). IsAcceptedIfFree cmp (d c.args.builder.hasher) m u c.carry_out.result) kept.map
+          (subst (λ h. IsAcceptedIfFree cmp (d h) (map_of c.updates.tree) u c.carry_out.result) kept.hasher c.carry_out.ensures.free)));
       map = c.carry_out.ensures.map
           ∙ ap (λ h. map_after_one cmp (d h) (map_of c.updates.tree) u c.carry_out.result) kept.hasher
           ∙ ap (λ m. map_after_one cmp (d c.args.builder.hasher) m u c.carry_out.result) kept.map
@@ -48,6 +52,10 @@ updates-preserved g c =
 all_done : {X : Type 0} (done left all : List X) → done ++ left ≡ all → length left ≡ 0 → done ≡ all
 all_done done [] all e h = sym (append-nil done) ∙ e
 all_done done (x ∷ left) all e h = absurd (omega (arith, h))
+
+pub returns-clause-free : goal.returns-clause-free
+returns-clause-free g c =
+    subst (λ (us : List _). FreeAreAccepted g.K.Ord.cmp (g.H.Hasher-2.digest_of c.args.builder.hasher) [] us c.updates.accepted.items) (all_done _ _ _ c.updates.invariant.left (sym c.updates.invariant.count ∙ c.in-None.ensures.steps.0)) c.updates.invariant.free
 
 pub returns-clause-pages : goal.returns-clause-pages
 returns-clause-pages g c =
