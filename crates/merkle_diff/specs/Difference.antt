@@ -1,5 +1,5 @@
 -- What `diff` answers on a local and a peer list.
-use Rattle.std.specs.Prelude.{◌≡◌, if◌then◌else◌, List, [], ◌∷◌, ◌++◌, ◌⊎◌, None}
+use Rattle.std.specs.Prelude.{◌≡◌, if◌then◌else◌, List, [], ◌∷◌, ◌++◌, ◌⊎◌, None, ⊤}
 use Rattle.std.specs.List.{AllByRecursion}
 use Rattle.std.specs.declared.cmp.Ordering.{Ordering}
 use Rattle.key_order.specs.Order.{AnyByRecursion, Below, Same, upto}
@@ -96,3 +96,9 @@ module _ {K D : Type 0} (cmp : K → K → Ordering) where
   -- the first entries are such that a range may be answered: the peer's begins and ends before local's, or holds it
   abbrev pub MayAnswer : Entry K D → Entry K D → Type 0
   MayAnswer a b = (Below cmp b.first a.first × Below cmp b.last a.last) ⊎ EntryWithin cmp a b
+
+  -- a range may be answered on the two lists: the peer has an entry, and local has none, or the first entries are so
+  abbrev pub MayAsk : List (Entry K D) → List (Entry K D) → Type 0
+  MayAsk ls [] = ⊥
+  MayAsk [] (b ∷ ps) = ⊤
+  MayAsk (a ∷ ls) (b ∷ ps) = MayAnswer a b

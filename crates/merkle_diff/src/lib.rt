@@ -8,9 +8,11 @@
 //! Keys are compared by their order alone, and borrowed, never cloned, but where a snapshot is made of borrowed ranges.
 #![tactic(auto)]
 
+mod at_hand;
 mod diff_builder;
 mod diff_range;
 mod difference;
+pub mod laws;
 mod lookahead;
 mod marks;
 mod merge;
@@ -24,6 +26,7 @@ mod reduce;
 mod tests;
 mod walk;
 
+pub use at_hand::{diff_lists, diff_snapshots};
 pub use diff_range::DiffRange;
 pub use difference::diff;
 pub use owned_page_range::OwnedPageRange;
@@ -33,7 +36,7 @@ pub use page_range_snapshot::{PageRangeSnapshot, SnapshotIter};
 /// What `diff` is made of: lists of ranges, their merge, and the cut of good ranges out of bad ones.
 pub mod parts {
     pub use crate::diff_builder::DiffListBuilder;
-    pub use crate::merge::merge_overlapping;
+    pub use crate::merge::{merge_overlapping, sort_by_start};
     pub use crate::range_list::RangeList;
     pub use crate::reduce::reduce_sync_range;
 }

@@ -1,5 +1,6 @@
 //! Ranges that meet become one.
-ghost use Rattle.std.specs.Prelude.{◌≡◌, ◌≤◌, length, take, IsPermutation};
+ghost use Rattle.std.specs.Prelude.{◌≡◌, ◌≤◌, ◌↔◌, length, take, IsPermutation};
+ghost use Rattle.key_order.specs.Interval.{IsApart, IsCovered};
 ghost use Rattle.merkle_diff.specs.DiffRange.{spans};
 ghost use Rattle.merkle_diff.specs.Merge.{IsMerge, IsAscendingByStart};
 ghost use Rattle.merkle_diff.specs.Sweep.{swept};
@@ -31,17 +32,20 @@ fn merge_to_front<'a, K: Ord>(ranges: &mut [DiffRange<'a, K>]) -> usize
     kept + 1
 }
 
-/// Merges ranges that ascend by their starts, in place: those that meet become one. It takes no memory.
+/// Merges ranges that ascend by their starts, as [`sort_by_start`] leaves them, in place: those that meet become one. So the same keys
+/// are in the ranges, and no two of them meet. It takes no memory.
 pub fn merge_overlapping<'a, K: Ord>(ranges: &mut Vec<DiffRange<'a, K>>)
     requires { IsAscendingByStart K.cmp (spans ranges.old.items) }
-    ensures { IsMerge K.cmp (spans ranges.old.items) (spans ranges.new.items) }
+    ensures merged { IsMerge K.cmp (spans ranges.old.items) (spans ranges.new.items) }
+    ensures same_keys { (k : K) → IsCovered K.cmp k (spans ranges.old.items) ↔ IsCovered K.cmp k (spans ranges.new.items) }
+    ensures apart { IsApart K.cmp (spans ranges.new.items) }
 {
     let kept = merge_to_front(ranges.as_mut_slice());
     ranges.truncate(kept);
 }
 
-/// Sorts the ranges by their starts. It takes no memory.
-fn sort_by_start<'a, K: Ord>(ranges: &mut Vec<DiffRange<'a, K>>)
+/// Sorts the ranges by their starts, in place. It takes no memory.
+pub fn sort_by_start<'a, K: Ord>(ranges: &mut Vec<DiffRange<'a, K>>)
     ensures same { IsPermutation ranges.old.items ranges.new.items }
     ensures sorted { IsAscendingByStart K.cmp (spans ranges.new.items) }
 {

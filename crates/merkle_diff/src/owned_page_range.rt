@@ -2,7 +2,7 @@
 ghost use Rattle.std.proofs.Common.{rules};
 ghost use Rattle.std.specs.Cmp.Rules.{comparing};
 ghost use Rattle.std.specs.Ordering.{on};
-ghost use Rattle.std.specs.Prelude.{◌≡◌, ◌↔◌, IfOk, IfSome, IsOk, IsSome};
+ghost use Rattle.std.specs.Prelude.{◌≡◌, ◌↔◌, true, IfOk, IfSome, IsOk, IsSome};
 ghost use Rattle.key_order.specs.Order.{Same, Upto};
 
 use crate::page_range::PageRange;
@@ -109,6 +109,7 @@ impl<K: Ord + Clone> OwnedPageRange<K> {
     pub fn try_clone(&self, alloc: Global) -> Result<OwnedPageRange<K>, AllocError>
         requires clones { (a b : K) → K.is_clone a b → Same K.cmp a b }
         ensures same { IfOk result (λ copy. SameEntry K.cmp (owned_entry self.now) (owned_entry copy)) }
+        ensures equal { IfOk result (λ copy. (⟦<OwnedPageRange<K> as PartialEq>⟧.eq self.now copy ≡ true) × (⟦<OwnedPageRange<K> as PartialEq>⟧.eq copy self.now ≡ true)) }
         ensures succeeds { K.is_infallible (owned_entry self.now).first → K.is_infallible (owned_entry self.now).last → IsOk result }
     {
         OwnedPageRange::from_range(alloc, self.as_page_range())

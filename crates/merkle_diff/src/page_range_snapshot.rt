@@ -6,7 +6,7 @@ ghost use Rattle.std.specs.Cmp.Rules.{comparing};
 ghost use Rattle.std.specs.Iterator.{IsFiniteIterable, UpTo, YieldsFirstBy, item_count};
 ghost use Rattle.std.specs.Iterator.SizeHint.{IsWithinCount};
 ghost use Rattle.std.specs.Ordering.{on};
-ghost use Rattle.std.specs.Prelude.{◌≡◌, IfOk, IfSome, IsOkAnd, length};
+ghost use Rattle.std.specs.Prelude.{◌≡◌, true, IfOk, IfSome, IsOkAnd, length};
 ghost use Rattle.key_order.specs.Order.{Same};
 ghost use Rattle.merkle_diff.specs.Iterable.{Gives};
 ghost use Rattle.merkle_diff.specs.OwnedPageRange.{owned_entries};
@@ -21,22 +21,24 @@ use std::alloc::{AllocError, Global};
 use std::iter::FusedIterator;
 
 /// The page ranges of a tree at one point in time, with keys of their own: the tree can change while a snapshot of it is kept,
-/// sent to a peer, or compared with another by [`diff`](crate::diff).
+/// sent to a peer, or compared with another by [`diff_snapshots`](crate::diff_snapshots).
+///
+/// It keeps the allocator that it was made with.
 #[derive(Drop)]
 pub struct PageRangeSnapshot<K: Ord> {
+    alloc: Global,
     ranges: Vec<OwnedPageRange<K>>,
 }
 
 impl<K: Ord> PageRangeSnapshot<K> {
-    /// The snapshot of `ranges`, in their order. It moves the keys and takes over the vector, so it never fails and does not use
-    /// the allocator.
+    /// The snapshot of `ranges`, in their order. It moves the keys and takes over the vector, so it never fails and takes no memory.
     pub fn from_owned(
-        _alloc: Global,
+        alloc: Global,
         ranges: Vec<OwnedPageRange<K>>,
     ) -> Result<PageRangeSnapshot<K>, AllocError>
         ensures { IsOkAnd result (λ snapshot. snapshot_entries snapshot ≡ owned_entries ranges.items) }
     {
-        Ok(PageRangeSnapshot { ranges })
+        Ok(PageRangeSnapshot { alloc, ranges })
     }
 
     /// The ranges that the snapshot was made from, in order, with their keys borrowed.
@@ -58,6 +60,7 @@ impl<K: Ord + Drop> PageRangeSnapshot<K> {
             × (snapshot_entries snapshot ≡ owned_entries ranges)) }
     {
         Ok(PageRangeSnapshot {
+            alloc,
             ranges: iter.into_iter().collect(alloc)?,
         })
     }
@@ -95,11 +98,12 @@ impl<K: Ord + Clone> PageRangeSnapshot<K> {
     }
 
     /// An equal snapshot, with clones of the keys. The answer is `AllocError` where memory is refused.
-    pub fn try_clone(&self, alloc: Global) -> Result<PageRangeSnapshot<K>, AllocError>
+    pub fn try_clone(&self) -> Result<PageRangeSnapshot<K>, AllocError>
         requires clones { (a b : K) → K.is_clone a b → Same K.cmp a b }
-        ensures { IfOk result (λ copy. SameEntries K.cmp (snapshot_entries self.now) (snapshot_entries copy)) }
+        ensures same { IfOk result (λ copy. SameEntries K.cmp (snapshot_entries self.now) (snapshot_entries copy)) }
+        ensures equal { IfOk result (λ copy. (⟦<PageRangeSnapshot<K> as PartialEq>⟧.eq self.now copy ≡ true) × (⟦<PageRangeSnapshot<K> as PartialEq>⟧.eq copy self.now ≡ true)) }
     {
-        PageRangeSnapshot::collect_ranges(alloc, self.iter())
+        PageRangeSnapshot::collect_ranges(self.alloc, self.iter())
     }
 }
 

@@ -1,6 +1,6 @@
 //! Ranges in any order.
-ghost use Rattle.std.specs.Prelude.{◌≡◌, [], ◌∷◌, ◌++◌, OnOk, OnErr, IsOkAnd};
-ghost use Rattle.key_order.specs.Interval.{IsApart};
+ghost use Rattle.std.specs.Prelude.{◌≡◌, ◌↔◌, [], ◌∷◌, ◌++◌, OnOk, OnErr, IsOkAnd};
+ghost use Rattle.key_order.specs.Interval.{IsApart, IsCovered};
 ghost use Rattle.key_order.specs.Order.{Upto};
 
 use crate::diff_range::DiffRange;
@@ -37,10 +37,11 @@ impl<'a, K: Ord> RangeList<'a, K> {
         Ok(())
     }
 
-    /// The merge of the ranges: ascending, those that meet as one, so that no two of the answer meet. It takes no memory, and always
-    /// succeeds.
+    /// The merge of the ranges: ascending, those that meet as one, so that the same keys are in it, and no two of its ranges meet. It takes
+    /// no memory, and always succeeds.
     pub fn into_vec(self) -> Result<Vec<DiffRange<'a, K>>, AllocError>
         ensures merged { IsOkAnd result (λ ranges. IsMerge K.cmp (inserted self.entry) (spans ranges.items)) }
+        ensures same_keys { IsOkAnd result (λ ranges. (k : K) → IsCovered K.cmp k (inserted self.entry) ↔ IsCovered K.cmp k (spans ranges.items)) }
         ensures apart { IsOkAnd result (λ ranges. IsApart K.cmp (spans ranges.items)) }
     {
         Ok(merged(self.ranges))

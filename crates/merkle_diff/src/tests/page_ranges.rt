@@ -36,3 +36,14 @@ fn holds_what_is_within(rt: HostRuntime) {
         assert_eq!(rt; holds, want, "{inner:?} in {outer:?}");
     }
 }
+
+#[test]
+fn clones_are_equal_and_the_digest_comes_back(rt: HostRuntime) -> Result<(), Fail> {
+    let range = PageRange::new(&1, &9, PageDigest::new([7; 16]));
+    let copy = range.clone()?;
+    assert!(rt; copy == range);
+    assert!(rt; copy.into_hash() == PageDigest::new([7; 16]));
+    let range = DiffRange::new(&1, &9);
+    assert!(rt; range.clone()? == range);
+    Ok(())
+}

@@ -1,7 +1,7 @@
 //! Range lists, by answers that were worked out by hand.
 use super::texts::{Bounds, bounds_of, ranges};
 use crate::DiffRange;
-use crate::parts::{DiffListBuilder, RangeList};
+use crate::parts::{DiffListBuilder, RangeList, merge_overlapping, sort_by_start};
 use std::alloc::{AllocError, Global};
 use std::test::Fail;
 
@@ -34,6 +34,22 @@ fn inserted<'a>(alloc: Global, ranges: &'a [Bounds]) -> Result<RangeList<'a, u64
     Ok(list)
 }
 
+/// The same ranges, merged in place.
+fn merged_in_place<'a>(
+    alloc: Global,
+    bounds: &'a [Bounds],
+) -> Result<Vec<DiffRange<'a, u64>>, AllocError> {
+    let mut ranges = Vec::new(alloc);
+    for range in bounds {
+        if range.0 <= range.1 {
+            ranges.push(DiffRange::new(&range.0, &range.1))?;
+        }
+    }
+    sort_by_start(&mut ranges);
+    merge_overlapping(&mut ranges);
+    Ok(ranges)
+}
+
 #[test]
 fn merges_as_worked_out(rt: HostRuntime) -> Result<(), Fail> {
     for line in MERGES.lines() {
@@ -45,6 +61,7 @@ fn merges_as_worked_out(rt: HostRuntime) -> Result<(), Fail> {
             ranges(rt.alloc(), merge)?,
             "at {line}"
         );
+        assert!(rt; merged_in_place(rt.alloc(), &list)? == merged, "at {line}");
     }
     Ok(())
 }

@@ -1,9 +1,6 @@
-ghost use Rattle.std.specs.Prelude.{◌≡◌, IfOk};
-ghost use Rattle.merkle_diff.specs.DiffRange.{spans};
-ghost use Rattle.merkle_diff.specs.Difference.{IsDifference};
-ghost use Rattle.merkle_diff.specs.PageRangeSnapshot.{snapshot_entries};
+ghost use Rattle.std.specs.Prelude.{◌≡◌};
 
-use crate::{DiffRange, OwnedPageRange, PageRange, PageRangeSnapshot, diff};
+use crate::{OwnedPageRange, PageRange, PageRangeSnapshot, diff_snapshots};
 use merkle_digest::PageDigest;
 use std::alloc::{AllocError, Global};
 use std::cell::Cell;
@@ -61,7 +58,7 @@ fn ranges_come_back(alloc: Global) -> Result<bool, AllocError> {
 /// Whether clones are equal to their originals.
 fn clones_are_equal(alloc: Global) -> Result<bool, AllocError> {
     let original = snapshot(alloc)?;
-    let mut equal = original.try_clone(alloc)? == original;
+    let mut equal = original.try_clone()? == original;
     for range in owned(alloc)? {
         equal = equal && range.try_clone(alloc)? == range;
         equal = equal && OwnedPageRange::from_range(alloc, range.as_page_range())? == range;
@@ -176,26 +173,15 @@ fn other_ranges_make_an_unequal_snapshot(rt: HostRuntime) -> Result<(), Fail> {
     Ok(())
 }
 
-/// What `diff` answers on two snapshots has the interval laws on the lists that they were made from.
-fn diff_of_snapshots<'p, K: Ord>(
-    alloc: Global,
-    local: &'p PageRangeSnapshot<K>,
-    peer: &'p PageRangeSnapshot<K>,
-) -> Result<Vec<DiffRange<'p, K>>, AllocError>
-    ensures { IfOk result (λ found. IsDifference K.cmp (snapshot_entries local.now) (snapshot_entries peer.now) (spans found.items)) }
-{
-    diff(alloc, local.iter(), peer.iter())
-}
-
 #[test]
 fn snapshots_differ_where_their_digests_do(rt: HostRuntime) -> Result<(), Fail> {
     let alloc = rt.alloc();
     let local = PageRangeSnapshot::from_ranges(alloc, borrowed(alloc, &[(5u8, 5, 1)])?)?;
     let peer = PageRangeSnapshot::from_ranges(alloc, borrowed(alloc, &[(5u8, 5, 2)])?)?;
-    let found = diff_of_snapshots(alloc, &local, &peer)?;
+    let found = diff_snapshots(alloc, &local, &peer)?;
     assert_eq!(rt; found.len(), 1);
     assert_eq!(rt; (*found[0].start(), *found[0].end()), (5, 5));
-    assert!(rt; diff_of_snapshots(alloc, &local, &local)?.is_empty());
+    assert!(rt; diff_snapshots(alloc, &local, &local)?.is_empty());
     Ok(())
 }
 
@@ -249,7 +235,7 @@ fn try_clone_wants_memory_where_a_clone_of_a_key_is_refused(rt: HostRuntime) -> 
     let snapshot = PageRangeSnapshot::from_owned(alloc, counted_ranges(alloc, &clones_left)?)?;
     for left in 0..6 {
         clones_left.set(left);
-        let clone = snapshot.try_clone(alloc);
+        let clone = snapshot.try_clone();
         assert_eq!(rt; clone.is_ok(), left >= 4, "{left} clones");
         if let Ok(clone) = clone {
             assert!(rt; clone == snapshot);

@@ -1,0 +1,176 @@
+-- The walk has one answer: two answers on the same lists have the same spans.
+use Rattle.std.proofs.Common.{◌≡◌, ◌≢◌, Bool, true, false, if◌then◌else◌, List, [], ◌∷◌, ◌++◌, map, Option, Some, refl, sym, ◌∙◌, ap, subst, inl, inr}
+use Rattle.std.proofs.lemmas.List.Concat.{flat_map-cons}
+use Rattle.std.specs.Cmp.{IsTotalOrder, alike_right}
+use Rattle.std.specs.List.{AllByRecursion, flat_map}
+use Rattle.std.specs.declared.cmp.Ordering.{Ordering}
+use Rattle.key_order.specs.Order.{AnyByRecursion, Same, below}
+use Rattle.key_order.specs.Interval.{Span, SameSpan, meets}
+use Rattle.key_order.proofs.Orders.{low_up, up_low, up_up, same_up, same_down}
+use Rattle.merkle_diff.specs.Cut.{piece, cut_one, pieces_left}
+use Rattle.merkle_diff.specs.Difference.{IsByWalk}
+use Rattle.merkle_diff.specs.Entry.{Entry, span_of}
+use Rattle.merkle_diff.specs.Merge.{AreThose, IsMerge, Opens, Closes, SameSpans}
+use Rattle.merkle_diff.proofs.Each.{any-map, each-with}
+use Rattle.merkle_diff.proofs.OrderTests.{same_trans, same_back}
+use Rattle.merkle_diff.proofs.Unique.{SameKeys, merge-unique, same-back}
+use Rattle.merkle_diff.specs.Walk.{Walk, no_peer, outside, held, no_local, between, agrees, differs, Mark, Bad, Good, bad_of, good_of, bad_marks, front_within, after_within}
+
+never : {b : Bool} → b ≡ false → b ≡ true → ⊥
+never e f = let g : true ≡ false = sym f ∙ e in absurd (cc)
+
+module _ {K D : Type 0} (cmp : K → K → Ordering) where
+  -- a walk of a span over the same lists makes the same marks
+  same_walk : {R : Span K} {last : Option (Span K)} {P L P1 L1 P2 L2 : List (Entry K D)} {ms ns : List (Mark K)} → Walk cmp R last P L ms P1 L1 → Walk cmp R last P L ns P2 L2
+      → (ms ≡ ns) × (P1 ≡ P2) × (L1 ≡ L2)
+  same_walk no_peer no_peer = (refl, refl, refl)
+  same_walk (outside e1) (outside e2) = (refl, refl, refl)
+  same_walk (outside e1) (held e2 f2 h2) = absurd (never e1 e2)
+  same_walk (outside e1) (no_local e2) = absurd (never e1 e2)
+  same_walk (outside e1) (between e2 f2 h2) = absurd (never e1 e2)
+  same_walk (outside e1) (agrees e2 f2 h2 w2 v2) = absurd (never e1 e2)
+  same_walk (outside e1) (differs e2 f2 h2 w2 v2) = absurd (never e1 e2)
+  same_walk (held e1 f1 h1) (outside e2) = absurd (never e2 e1)
+  same_walk (held e1 f1 h1) (held e2 f2 h2) = (refl, refl, refl)
+  same_walk (held e1 f1 h1) (between e2 f2 h2) = absurd (never h2 h1)
+  same_walk (held e1 f1 h1) (agrees e2 f2 h2 w2 v2) = absurd (never f1 f2)
+  same_walk (held e1 f1 h1) (differs e2 f2 h2 w2 v2) = absurd (never f1 f2)
+  same_walk (no_local e1) (outside e2) = absurd (never e2 e1)
+  same_walk (no_local e1) (no_local e2) = (refl, refl, refl)
+  same_walk (between e1 f1 h1) (outside e2) = absurd (never e2 e1)
+  same_walk (between e1 f1 h1) (held e2 f2 h2) = absurd (never h1 h2)
+  same_walk (between e1 f1 h1) (between e2 f2 h2) = (refl, refl, refl)
+  same_walk (between e1 f1 h1) (agrees e2 f2 h2 w2 v2) = absurd (never f1 f2)
+  same_walk (between e1 f1 h1) (differs e2 f2 h2 w2 v2) = absurd (never f1 f2)
+  same_walk (agrees e1 f1 h1 w1 v1) (outside e2) = absurd (never e2 e1)
+  same_walk (agrees e1 f1 h1 w1 v1) (held e2 f2 h2) = absurd (never f2 f1)
+  same_walk (agrees e1 f1 h1 w1 v1) (between e2 f2 h2) = absurd (never f2 f1)
+  same_walk {R = R} (agrees {p = p} {P' = P'} {L' = L'} {inner = inner} e1 f1 h1 w1 v1) (agrees {P' = Q} {P'' = P2} {L'' = L2} {after = after} e2 f2 h2 w2 v2) =
+      let i = same_walk w1 w2 in
+      let j = same_walk v1 (subst (λ (q : List (Entry K D)). Walk cmp R (Some (span_of p)) (after_within cmp (span_of p) q) L' after P2 L2) (sym i.1) (subst (λ (q : List (Entry K D)). Walk cmp R (Some (span_of p)) (after_within cmp (span_of p) Q) q after P2 L2) (sym i.2) v2)) in
+      (λ k. Good (span_of p) ∷ (i.0 k ++ (bad_marks cmp (front_within cmp (span_of p) (i.1 k)) ++ j.0 k)), j.1, j.2)
+  same_walk (agrees e1 f1 h1 w1 v1) (differs e2 f2 h2 w2 v2) = absurd (h2 h1)
+  same_walk (differs e1 f1 h1 w1 v1) (outside e2) = absurd (never e2 e1)
+  same_walk (differs e1 f1 h1 w1 v1) (held e2 f2 h2) = absurd (never f2 f1)
+  same_walk (differs e1 f1 h1 w1 v1) (between e2 f2 h2) = absurd (never f2 f1)
+  same_walk (differs e1 f1 h1 w1 v1) (agrees e2 f2 h2 w2 v2) = absurd (h1 h2)
+  same_walk {R = R} (differs {p = p} {P' = P'} {L' = L'} {inner = inner} e1 f1 h1 w1 v1) (differs {P' = Q} {P'' = P2} {L'' = L2} {after = after} e2 f2 h2 w2 v2) =
+      let i = same_walk w1 w2 in
+      let j = same_walk v1 (subst (λ (q : List (Entry K D)). Walk cmp R (Some (span_of p)) (after_within cmp (span_of p) q) L' after P2 L2) (sym i.1) (subst (λ (q : List (Entry K D)). Walk cmp R (Some (span_of p)) (after_within cmp (span_of p) Q) q after P2 L2) (sym i.2) v2)) in
+      (λ k. Bad (span_of p) ∷ (i.0 k ++ (bad_marks cmp (front_within cmp (span_of p) (i.1 k)) ++ j.0 k)), j.1, j.2)
+
+module _ {K : Type 0} (cmp : K → K → Ordering) (o : IsTotalOrder cmp) where
+  cmp-same : (a b c d : K) → Same cmp a b → Same cmp c d → cmp a c ≡ cmp b d
+  cmp-same a b c d e f = o.congr a b c e ∙ alike_right o c d b f
+
+  spans-append : (xs ys us vs : List (Span K)) → SameSpans cmp xs us → SameSpans cmp ys vs → SameSpans cmp (xs ++ ys) (us ++ vs)
+  spans-append [] ys [] vs e f = f
+  spans-append [] ys (u ∷ us) vs e f = absurd e
+  spans-append (x ∷ xs) ys [] vs e f = absurd e
+  spans-append (x ∷ xs) ys (u ∷ us) vs e f = (e.0, spans-append xs ys us vs e.1 f)
+
+  piece-same : (a b c d : K) → Same cmp a b → Same cmp c d → SameSpans cmp (piece cmp a c) (piece cmp b d)
+  piece-same a b c d e f = by (below cmp a c) (below cmp b d) (rw (cmp-same a b c d e f) refl)
+    where
+      by : (p q : Bool) → p ≡ q → SameSpans cmp (if p then (record { first = a; last = c } ∷ []) else []) (if q then (record { first = b; last = d } ∷ []) else [])
+      by true true r = ((e, f), tt)
+      by false false r = tt
+      by true false r = absurd (cc)
+      by false true r = absurd (cc)
+
+  cut-same : (g h s t : Span K) → SameSpan cmp g h → SameSpan cmp s t → SameSpans cmp (cut_one cmp g s) (cut_one cmp h t)
+  cut-same g h s t e f = by (meets cmp g s) (meets cmp h t) (rw (cmp-same g.first h.first s.last t.last e.0 f.1, cmp-same s.first t.first g.last h.last f.0 e.1) refl)
+    where
+      by : (p q : Bool) → p ≡ q → SameSpans cmp (if p then (piece cmp s.first g.first ++ piece cmp g.last s.last) else (s ∷ [])) (if q then (piece cmp t.first h.first ++ piece cmp h.last t.last) else (t ∷ []))
+      by true true r =
+          spans-append (piece cmp s.first g.first) (piece cmp g.last s.last) (piece cmp t.first h.first) (piece cmp h.last t.last) (piece-same s.first t.first g.first h.first f.0 e.0) (piece-same g.last h.last s.last t.last e.1 f.1)
+      by false false r = (f, tt)
+      by true false r = absurd (cc)
+      by false true r = absurd (cc)
+
+  flat-same : (g h : Span K) → SameSpan cmp g h → (xs ys : List (Span K)) → SameSpans cmp xs ys → SameSpans cmp (flat_map (cut_one cmp g) xs) (flat_map (cut_one cmp h) ys)
+  flat-same g h e [] [] f = tt
+  flat-same g h e [] (y ∷ ys) f = absurd f
+  flat-same g h e (x ∷ xs) [] f = absurd f
+  flat-same g h e (x ∷ xs) (y ∷ ys) f =
+      rw (flat_map-cons (cut_one cmp g) x xs, flat_map-cons (cut_one cmp h) y ys)
+      (spans-append (cut_one cmp g x) (flat_map (cut_one cmp g) xs) (cut_one cmp h y) (flat_map (cut_one cmp h) ys) (cut-same g h x y e f.0) (flat-same g h e xs ys f.1))
+
+  left-same : (good fine : List (Span K)) → SameSpans cmp good fine → (bad poor : List (Span K)) → SameSpans cmp bad poor → SameSpans cmp (pieces_left cmp bad good) (pieces_left cmp poor fine)
+  left-same [] [] e bad poor f = f
+  left-same [] (h ∷ fine) e bad poor f = absurd e
+  left-same (g ∷ good) [] e bad poor f = absurd e
+  left-same (g ∷ good) (h ∷ fine) e bad poor f = left-same good fine e.1 (flat_map (cut_one cmp g) bad) (flat_map (cut_one cmp h) poor) (flat-same g h e.0 bad poor f)
+
+  any-same : (P Q : K → Type 0) → ((a b : K) → Same cmp a b → P a → Q b) → (ks js : List K) → SameKeys cmp o ks js → AnyByRecursion P ks → AnyByRecursion Q js
+  any-same P Q f [] js e h = absurd h
+  any-same P Q f (k ∷ ks) [] e h = absurd e
+  any-same P Q f (k ∷ ks) (j ∷ js) e (inl h) = inl (f k j e.0 h)
+  any-same P Q f (k ∷ ks) (j ∷ js) e (inr h) = inr (any-same P Q f ks js e.1 h)
+
+  all-same : (P Q : K → Type 0) → ((a b : K) → Same cmp a b → P a → Q b) → (ks js : List K) → SameKeys cmp o ks js → AllByRecursion P ks → AllByRecursion Q js
+  all-same P Q f [] [] e h = tt
+  all-same P Q f [] (j ∷ js) e h = absurd e
+  all-same P Q f (k ∷ ks) [] e h = absurd e
+  all-same P Q f (k ∷ ks) (j ∷ js) e h = (f k j e.0 h.0, all-same P Q f ks js e.1 h.1)
+
+  those-same : (P Q : K → Type 0) → ((a b : K) → Same cmp a b → P a → Q b) → ((a b : K) → Same cmp a b → Q b → P a) → (from to ks : List K) → SameKeys cmp o from to → AreThose cmp from P ks → AreThose cmp to Q ks
+  those-same P Q p q from to ks e m = record {
+    ascends = m.ascends;
+    sound = each-with (λ k. AnyByRecursion (λ j. Same cmp k j × P j) from) (λ k. AnyByRecursion (λ j. Same cmp k j × Q j) to) ks
+        (λ k h. any-same (λ j. Same cmp k j × P j) (λ j. Same cmp k j × Q j) (λ a b f i. (same_trans cmp o k a b i.0 f, p a b f i.1)) from to e h) m.sound;
+    complete = all-same (λ j. P j → AnyByRecursion (Same cmp j) ks) (λ j. Q j → AnyByRecursion (Same cmp j) ks)
+        (λ a b f g i. any-map (Same cmp a) (Same cmp b) ks (λ x r. same_trans cmp o b a x (same_back cmp o a b f) r) (g (q a b f i))) from to e m.complete;
+  }
+
+  firsts-same : (xs ys : List (Span K)) → SameSpans cmp xs ys → SameKeys cmp o (map (λ s. s.first) xs) (map (λ s. s.first) ys)
+  firsts-same [] [] e = tt
+  firsts-same [] (y ∷ ys) e = absurd e
+  firsts-same (x ∷ xs) [] e = absurd e
+  firsts-same (x ∷ xs) (y ∷ ys) e = (e.0.0, firsts-same xs ys e.1)
+
+  lasts-same : (xs ys : List (Span K)) → SameSpans cmp xs ys → SameKeys cmp o (map (λ s. s.last) xs) (map (λ s. s.last) ys)
+  lasts-same [] [] e = tt
+  lasts-same [] (y ∷ ys) e = absurd e
+  lasts-same (x ∷ xs) [] e = absurd e
+  lasts-same (x ∷ xs) (y ∷ ys) e = (e.0.1, lasts-same xs ys e.1)
+
+  opens-same : (xs ys : List (Span K)) → SameSpans cmp xs ys → (a b : K) → Same cmp a b → Opens cmp xs a → Opens cmp ys b
+  opens-same [] [] e a b f h = tt
+  opens-same [] (y ∷ ys) e a b f h = absurd e
+  opens-same (x ∷ xs) [] e a b f h = absurd e
+  opens-same (x ∷ xs) (y ∷ ys) e a b f h = (
+    λ w. h.0 (
+      low_up cmp o x.first b a (up_low cmp o x.first y.first b (same_up cmp o x.first y.first e.0.0) w.0) (same_down cmp o a b f),
+      up_up cmp o a b x.last (same_up cmp o a b f) (up_up cmp o b y.last x.last w.1 (same_down cmp o x.last y.last e.0.1)),
+    ),
+    opens-same xs ys e.1 a b f h.1,
+  )
+
+  closes-same : (xs ys : List (Span K)) → SameSpans cmp xs ys → (a b : K) → Same cmp a b → Closes cmp xs a → Closes cmp ys b
+  closes-same [] [] e a b f h = tt
+  closes-same [] (y ∷ ys) e a b f h = absurd e
+  closes-same (x ∷ xs) [] e a b f h = absurd e
+  closes-same (x ∷ xs) (y ∷ ys) e a b f h = (
+    λ w. h.0 (
+      up_up cmp o x.first b a (up_up cmp o x.first y.first b (same_up cmp o x.first y.first e.0.0) w.0) (same_down cmp o a b f),
+      up_low cmp o a b x.last (same_up cmp o a b f) (low_up cmp o b y.last x.last w.1 (same_down cmp o x.last y.last e.0.1)),
+    ),
+    closes-same xs ys e.1 a b f h.1,
+  )
+
+  merge-same : (xs ys merged : List (Span K)) → SameSpans cmp xs ys → IsMerge cmp xs merged → IsMerge cmp ys merged
+  merge-same xs ys merged e m = record {
+    starts = those-same (Opens cmp xs) (Opens cmp ys) (opens-same xs ys e) (λ a b f. opens-same ys xs (same-back cmp o xs ys e) b a (same_back cmp o a b f)) (map (λ s. s.first) xs) (map (λ s. s.first) ys) (map (λ s. s.first) merged) (firsts-same xs ys e) m.starts;
+    ends = those-same (Closes cmp xs) (Closes cmp ys) (closes-same xs ys e) (λ a b f. closes-same ys xs (same-back cmp o xs ys e) b a (same_back cmp o a b f)) (map (λ s. s.last) xs) (map (λ s. s.last) ys) (map (λ s. s.last) merged) (lasts-same xs ys e) m.ends;
+  }
+
+module _ {K D : Type 0} (cmp : K → K → Ordering) (o : IsTotalOrder cmp) where
+  -- two answers by the walk on the same lists have the same spans
+  pub one_answer : (ls ps : List (Entry K D)) (xs ys : List (Span K)) → IsByWalk cmp ls ps xs → IsByWalk cmp ls ps ys → SameSpans cmp xs ys
+  one_answer ls [] xs ys e f = rw (e, f) tt
+  one_answer ls (p ∷ ps) xs ys (ms, P, L, bad, good, w, m, n, c) (ns, P', L', poor, fine, w', m', n', c') =
+      let same = same_walk cmp w w' in
+      let bads = merge-unique cmp o (bad_of ms) bad poor m (subst (λ (q : List (Mark K)). IsMerge cmp (bad_of q) poor) (sym same.0) m') in
+      let goods = merge-unique cmp o (good_of ms) good fine n (subst (λ (q : List (Mark K)). IsMerge cmp (good_of q) fine) (sym same.0) n') in
+      merge-unique cmp o (pieces_left cmp poor fine) xs ys (merge-same cmp o (pieces_left cmp bad good) (pieces_left cmp poor fine) xs (left-same cmp o good fine goods bad poor bads) c) c'

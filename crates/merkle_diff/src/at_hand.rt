@@ -1,0 +1,40 @@
+//! `diff` of two lists that are at hand: what its contract says of any iterators, said of these lists.
+ghost use Rattle.std.specs.Prelude.{◌≡◌, [], IfOk, IsOkAnd, OnErr};
+ghost use Rattle.merkle_diff.specs.DiffRange.{spans};
+ghost use Rattle.merkle_diff.specs.Difference.{IsAnswer, MayAsk};
+ghost use Rattle.merkle_diff.specs.PageRange.{entries};
+ghost use Rattle.merkle_diff.specs.PageRangeSnapshot.{snapshot_entries};
+
+use crate::diff_range::DiffRange;
+use crate::difference::diff;
+use crate::page_range::PageRange;
+use crate::page_range_snapshot::PageRangeSnapshot;
+use std::alloc::{AllocError, Global};
+
+/// The ranges of keys that `local` may ask of `peer`, as [`diff`](crate::diff) answers them. It is refused only where a range may be
+/// answered; else the answer is the empty list.
+pub fn diff_lists<'p, K: Ord>(
+    alloc: Global,
+    local: Vec<PageRange<'p, K>>,
+    peer: Vec<PageRange<'p, K>>,
+) -> Result<Vec<DiffRange<'p, K>>, AllocError>
+    ensures answer { IfOk result (λ found. IsAnswer K.cmp (entries local.entry.items) (entries peer.entry.items) (spans found.items)) }
+    ensures memory { OnErr result (MayAsk K.cmp (entries local.entry.items) (entries peer.entry.items)) }
+    ensures nothing { ¬ (MayAsk K.cmp (entries local.entry.items) (entries peer.entry.items)) → IsOkAnd result (λ found. spans found.items ≡ []) }
+{
+    diff(alloc, local, peer)
+}
+
+/// The ranges of keys that the side of the snapshot `local` may ask of that of `peer`, as [`diff`](crate::diff) answers them. It is
+/// refused only where a range may be answered; else the answer is the empty list.
+pub fn diff_snapshots<'p, K: Ord>(
+    alloc: Global,
+    local: &'p PageRangeSnapshot<K>,
+    peer: &'p PageRangeSnapshot<K>,
+) -> Result<Vec<DiffRange<'p, K>>, AllocError>
+    ensures answer { IfOk result (λ found. IsAnswer K.cmp (snapshot_entries local.now) (snapshot_entries peer.now) (spans found.items)) }
+    ensures memory { OnErr result (MayAsk K.cmp (snapshot_entries local.now) (snapshot_entries peer.now)) }
+    ensures nothing { ¬ (MayAsk K.cmp (snapshot_entries local.now) (snapshot_entries peer.now)) → IsOkAnd result (λ found. spans found.items ≡ []) }
+{
+    diff(alloc, local.iter(), peer.iter())
+}
