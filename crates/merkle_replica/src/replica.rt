@@ -1,8 +1,11 @@
 //! A replica: a map from keys to values, with the tree of their digests.
-ghost use Rattle.std.specs.Prelude.{◌≡◌, OnOk, OnErr, IfOk, IfErr, [], ◌∷◌, None};
+ghost use Rattle.std.specs.Prelude.{◌≡◌, ◌+◌, ◌≤◌, OnOk, OnErr, IfOk, IfErr, [], ◌∷◌, None};
 ghost use Rattle.key_order.specs.Order.{Same};
 ghost use Rattle.key_order.specs.Map.{IsMap, SameMap};
 ghost use Rattle.key_order.specs.Join.{IsJoin};
+ghost use Rattle.merkle_digest.specs.Level.{level_of};
+ghost use Rattle.merkle_search_tree.specs.Cache.{missing};
+ghost use Rattle.merkle_search_tree.specs.Page.{level};
 ghost use Rattle.merkle_search_tree.specs.State.{map_of};
 ghost use Rattle.merkle_replica.specs.Contents.{IsEmpty, SameSetup, digests};
 ghost use Rattle.merkle_replica.specs.Places.{IsPlaceOf, IsGapFor};
@@ -148,6 +151,9 @@ impl<
         ensures joined { OnOk result (IsJoin K.cmp V.eq V.join_of self.old.rows ((key, value) ∷ []) self.new.rows) }
         ensures unchanged { OnErr result (self.new ≡ self.old) }
         ensures setup { SameSetup self.old self.new }
+
+        // Few digests of the tree are dropped.
+        ensures few_more { OnOk result (missing self.new.tree.root ≤ missing self.old.tree.root + (level self.new.tree.root + level_of (⟦<H as Hasher<N, K>>⟧.digest_of self.old.tree.hasher key) self.old.tree.base + 1)) }
     {
         match place(&self.rows, &key) {
             Ok(at) => {

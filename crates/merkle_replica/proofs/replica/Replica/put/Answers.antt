@@ -1,6 +1,10 @@
-use Rattle.std.proofs.Common.{◌≡◌, [], ◌∷◌, set as list_set, sym, ◌∙◌, ap, subst}
+use Rattle.std.proofs.Common.{◌≡◌, ℕ, ◌+◌, ◌≤◌, List, [], ◌∷◌, set as list_set, sym, ◌∙◌, ap, subst}
 use Rattle.std.specs.List.{insert}
+use Rattle.std.specs.Ordering.{is_eq}
 use Rattle.std.specs.Cmp.{tied_itself, tied_back}
+use Rattle.merkle_digest.specs.Level.{level_of}
+use Rattle.merkle_search_tree.specs.Cache.{missing}
+use Rattle.merkle_search_tree.specs.Page.{level}
 use Rattle.key_order.specs.Join.{IsJoin}
 use Rattle.key_order.specs.Map.{set}
 use Rattle.merkle_replica.specs.Places.{IsPlaceOf, IsGapFor}
@@ -43,3 +47,18 @@ returns-in-Ok-insert-clause-joined g c =
     subst (λ r. IsJoin g.K.Ord.cmp g.V.PartialEq.eq g.V.Join.join_of r.rows ((c.args.key, c.args.value) ∷ []) c.insert.new.self.items) c.self.view_is
     (subst (IsJoin g.K.Ord.cmp g.V.PartialEq.eq g.V.Join.join_of rows ((c.args.key, c.args.value) ∷ [])) (sym now)
     (joins_new g.K.Ord.cmp g.met.K.Ord.total g.V.PartialEq.eq g.met.V.Eq.laws g.V.Join.join_of g.met.V.Join.joining rows c.in-Err.at c.args.key c.args.value c.self.invariant.ascending gap))
+
+pub returns-else-is_err-clause-few_more : goal.returns-else-is_err-clause-few_more
+returns-else-is_err-clause-few_more g c =
+    subst (λ r. missing c.upsert.new.self.root ≤ missing r.tree.root + (level c.upsert.new.self.root + level_of (g.H.Hasher-1.digest_of r.tree.hasher c.args.key) r.tree.base + 1)) c.self.view_is
+    (went c.upsert.result (sym c.is_err.ensures.value ∙ c.if-is_err.false) c.upsert.ensures.few_more)
+
+pub returns-in-Ok-insert-clause-few_more : goal.returns-in-Ok-insert-clause-few_more
+returns-in-Ok-insert-clause-few_more g c =
+    let tree = c.self.inside.tree in
+    let root = c.upsert-in-Err.new.self.root in
+    let own = c.in_ok-own-in-Err.own in
+    let same = g.met.H.Hasher-1.respects_eq tree.hasher c.args.key own (g.met.K.Ord.matches_eq c.args.key own ∙ ap is_eq (c.requires.clones c.args.key own c.in_ok-own-in-Err.ensures.cases)) in
+    subst (λ r. missing root ≤ missing r.tree.root + (level root + level_of (g.H.Hasher-1.digest_of r.tree.hasher c.args.key) r.tree.base + 1)) c.self.view_is
+    (subst (λ (digest : List ℕ). missing root ≤ missing tree.root + (level root + level_of digest tree.base + 1)) (sym same)
+    (went c.upsert-in-Err.result (sym c.is_err-in-Err.ensures.value ∙ c.if-is_err-2.false) c.upsert-in-Err.ensures.few_more))
