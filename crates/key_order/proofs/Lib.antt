@@ -3,8 +3,11 @@ pub mod Orders
 pub mod Spans
 pub mod Maps
 pub mod Values
+pub mod Keys
 pub mod Sets
 pub mod Dels
 pub mod Joins
 pub mod Places
 pub mod Numbers
+pub mod Greater
+pub mod Clones

@@ -6,9 +6,9 @@ use Rattle.std.specs.Cmp.{IsTotalOrder, IsEquivalence}
 use Rattle.std.specs.declared.cmp.Ordering.{Ordering}
 use Rattle.key_order.specs.Order.{Below, Same, Upto, upto}
 use Rattle.key_order.specs.Interval.{Span, IsIn, IsCovered, is_covered}
-use Rattle.key_order.specs.Map.{SameValue, IsPresent, IsMap, get, SameMap}
+use Rattle.key_order.specs.Map.{SameValue, IsPresent, IsMap, get}
 use Rattle.key_order.specs.Join.{joined, IsJoin, IsJoining}
-use Rattle.key_order.proofs.Maps.{get_at, same_by_get}
+use Rattle.key_order.proofs.Maps.{get_at}
 use Rattle.key_order.proofs.Orders.{up_up, same_up, same_down, up_self, either, low_is_up}
 use Rattle.key_order.proofs.Spans.{is_covered-same, test_from_covered}
 use Rattle.key_order.proofs.Values.{Eq, back, on, comm}
@@ -240,8 +240,3 @@ module _ {K V D P T : Type 0} (cmp : K → K → Ordering) (o : IsTotalOrder cmp
       let w = four a b a1 b2 a3 b4 q1 q2 q3 q4 t1 t2 t3 t4 aa ab g1.0 g2.0 g3.0 g4.0 in
       let r = then_stay qs a3 b4 a' b' m4 (Join a b) t3.joins.ascending t4.joins.ascending w.0 w.1 more in
       (record { ascending = r.0.0; values = r.0.1 }, record { ascending = r.1.0; values = r.1.1 })
-
-  -- two joins of the same maps are the same, place by place
-  pub one_join : (a b c d : Rows) → IsJoin cmp eq join a b c → IsJoin cmp eq join a b d → SameMap cmp (λ x y. eq x y ≡ true) c d
-  one_join a b c d h i = same_by_get cmp o (λ x y. eq x y ≡ true) c d h.ascending i.ascending
-      (λ k. on eq e join j (get cmp c k) (Join a b k) (get cmp d k) (h.values k) (back eq e join j (get cmp d k) (Join a b k) (i.values k)))
