@@ -2,3 +2,4 @@ pub mod Digest
 pub mod Level
 pub mod SipHash
 pub mod Sip24
+pub mod Parts

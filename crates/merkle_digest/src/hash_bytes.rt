@@ -72,6 +72,34 @@ impl<const M: usize> HashBytes for [u8; M] {
     }
 }
 
+/// The bytes themselves.
+impl HashBytes for &[u8] {
+    ghost fed_bytes = { λ bytes. bytes.now };
+
+    ghost fed_bytes_respect_eq = { λ a b equal. same_text a.now b.now (sym equal) };
+
+    #[inline(always)]
+    fn feed(&self, sip: &mut Sip24) {
+        sip.write(self);
+    }
+}
+
+/// The byte 1 for true, and 0 for false.
+impl HashBytes for bool {
+    ghost use Rattle.std.specs.Prelude.{cond};
+    ghost use Rattle.merkle_digest.specs.Parts.{same_test};
+
+    ghost fed_bytes = { λ test. cond test 1 0 ∷ [] };
+
+    ghost fed_bytes_respect_eq = { λ a b equal. ap (λ test. cond test 1 0 ∷ []) (same_test a b equal) };
+
+    #[inline(always)]
+    fn feed(&self, sip: &mut Sip24) {
+        let byte = if *self { 1 } else { 0 };
+        sip.write(&[byte]);
+    }
+}
+
 /// The byte itself.
 impl HashBytes for u8 {
     ghost fed_bytes = { λ n. n ∷ [] };
@@ -140,4 +168,20 @@ impl HashBytes for () {
 
     #[inline(always)]
     fn feed(&self, _sip: &mut Sip24) {}
+}
+
+/// The bytes of the first, and then those of the second: where neither says how long it is, unequal pairs can feed equal bytes, as
+/// the texts `ab`, `c` and `a`, `bc` do.
+impl<A: HashBytes, B: HashBytes> HashBytes for (A, B) {
+    ghost use Rattle.merkle_digest.specs.Parts.{both_parts};
+
+    ghost fed_bytes = { λ pair. A.fed_bytes pair.0 ++ B.fed_bytes pair.1 };
+
+    ghost fed_bytes_respect_eq = { λ a b equal. λ i. A.fed_bytes_respect_eq a.0 b.0 (both_parts (A.eq a.0 b.0) (B.eq a.1 b.1) equal).0 i ++ B.fed_bytes_respect_eq a.1 b.1 (both_parts (A.eq a.0 b.0) (B.eq a.1 b.1) equal).1 i };
+
+    #[inline(always)]
+    fn feed(&self, sip: &mut Sip24) {
+        self.0.feed(sip);
+        self.1.feed(sip);
+    }
 }

@@ -18,7 +18,12 @@ fn bytes_that_are_fed(rt: HostRuntime) -> Result<(), Fail> {
     expect_fed(&rt, &String::from_str(rt.alloc(), "plátanos")?, &text);
     expect_fed(&rt, &text, &text);
     expect_fed(&rt, &text.to_vec(rt.alloc())?, &text);
+    expect_fed(&rt, &text.as_slice(), &text);
     expect_fed(&rt, &(), &[]);
+    expect_fed(&rt, &true, &[1]);
+    expect_fed(&rt, &false, &[0]);
+    expect_fed(&rt, &(7u8, "ab"), &[7, 0x61, 0x62]);
+    expect_fed(&rt, &("ab", (false, 258u16)), &[0x61, 0x62, 0, 2, 1]);
     expect_fed(&rt, &7u8, &[7]);
     expect_fed(&rt, &4660u16, &[0x34, 0x12]);
     expect_fed(&rt, &0x0403_0201u32, &[1, 2, 3, 4]);
