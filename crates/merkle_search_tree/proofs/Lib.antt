@@ -40,3 +40,4 @@ pub mod RangeEnds
 pub mod Listing
 pub mod NoDifference
 mod Visiting
+pub mod Visited

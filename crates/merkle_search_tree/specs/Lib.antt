@@ -32,3 +32,4 @@ pub mod Edge
 pub mod Loading
 pub mod Updates
 pub mod Listing
+pub mod Visited

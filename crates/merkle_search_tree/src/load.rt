@@ -138,6 +138,8 @@ impl<
     /// clones of their keys.
     ///
     /// Refused, at the first row that doesn't ascend or for want of memory, the builder is given up.
+    ///
+    /// For keys that are texts or bytes, `key_order::proofs::Clones` has the lemmas that prove its condition on clones.
     pub fn from_ascending_slice(
         alloc: Global,
         builder: Builder<H>,

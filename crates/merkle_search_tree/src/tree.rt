@@ -284,6 +284,8 @@ impl<K: Ord + KeyBytes + Clone, V, H: Hasher<N, K> + Clone, const N: usize> Merk
 > {
     /// A tree of an equal map, with equal pages, all cached digests included, a clone of the hasher, and the same level base, page format
     /// and cached root hash. The answer is `AllocError` where memory is refused.
+    ///
+    /// For keys that are texts or bytes, `key_order::proofs::Clones` has the lemmas that prove its condition on clones.
     pub fn try_clone(&self) -> Result<Self, AllocError>
         // A clone of a key equals the key, and a clone of a hasher gives the digests that the hasher gives.
         requires keys { (a b : K) → K.is_clone a b → Same K.cmp a b }

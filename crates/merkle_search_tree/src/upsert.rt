@@ -10,13 +10,14 @@ use crate::page::{NodeOf, PageOf};
 use crate::spare::Spare;
 use crate::split::split_off_lt;
 use crate::spot::search;
-use std::alloc::Global;
+use std::alloc::{AllocError, Global};
 use std::cmp::Ordering;
+use std::error::Error;
 use std::marker::Model;
-use std::mem;
+use std::{fmt, mem};
 
 /// An upsert that was refused for want of memory. It holds the key, and nothing in the tree has changed.
-#[derive(Drop)]
+#[derive(Debug, Drop)]
 pub struct UpsertRefused<K> {
     pub(crate) key: K,
 }
@@ -33,6 +34,21 @@ impl<K> UpsertRefused<K> {
         ensures { result ≡ self }
     {
         self.key
+    }
+}
+
+impl<K> fmt::Display for UpsertRefused<K> {
+    fn fmt<W: fmt::Write>(&self, f: &mut fmt::Formatter<W>) -> fmt::Result {
+        write!(f, "memory was refused, and the key was not set")
+    }
+}
+
+impl<K: fmt::Debug + Drop> Error for UpsertRefused<K> {}
+
+/// Gives the key up.
+impl<K: Drop> From<UpsertRefused<K>> for AllocError {
+    fn from(_refused: UpsertRefused<K>) -> Self {
+        AllocError
     }
 }
 
