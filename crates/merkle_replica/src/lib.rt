@@ -5,6 +5,8 @@
 //! faithful (`Faithful`).
 #![tactic(auto)]
 
+mod faults;
+mod greatest;
 mod join;
 pub mod laws;
 mod merge;
@@ -14,6 +16,7 @@ mod sweep;
 mod turns;
 mod value_hasher;
 
+pub use greatest::Greatest;
 pub use join::Join;
 pub use pull::{PullError, Pulled};
 pub use replica::{Replica, RowsRefused};

@@ -23,7 +23,7 @@ use merkle_search_tree::laws::{every_tree_is_sound, page_ranges_are_tree_shaped}
 use std::alloc::{AllocError, Global};
 
 /// What a pull did.
-#[derive(Drop)]
+#[derive(Debug, Drop)]
 pub struct Pulled<K> {
     /// The ranges of keys that were asked for, ascending, each with its first and its last key.
     pub ranges: Vec<(K, K)>,
@@ -32,7 +32,7 @@ pub struct Pulled<K> {
 }
 
 /// Why a pull stopped: memory was refused.
-#[derive(Drop)]
+#[derive(Debug, Drop)]
 pub enum PullError<K> {
     /// No row was joined, and the rows are unchanged. Pages may have got their digests.
     Memory,
@@ -54,6 +54,8 @@ impl<
     /// The ranges of keys that a pull from the peer asks for: ascending, each with its first and its last key, in which the two trees
     /// differ. It hashes both trees, and copies the bounds of the ranges. Want of memory leaves the rows as they are; pages may have
     /// got their digests then.
+    ///
+    /// For keys that are texts or bytes, `key_order::proofs::Clones` has the lemmas that prove its condition on clones.
     pub fn ranges_to_ask(
         &mut self,
         peer: &mut Replica<K, V, H, N>,
@@ -84,6 +86,8 @@ impl<
     ///
     /// Replicas of equal rows whose trees are in different page formats don't look the same, as far as no digests collide: a pull then
     /// asks for ranges, and joins what is there already. Whatever it joins is right all the same, and no row is lost.
+    ///
+    /// For keys that are texts or bytes, `key_order::proofs::Clones` has the lemmas that prove its condition on clones.
     pub fn pull(&mut self, peer: &mut Replica<K, V, H, N>) -> Result<Pulled<K>, PullError<K>>
         // A clone of a key equals its original.
         requires clones { (a b : K) → K.is_clone a b → Same K.cmp a b }

@@ -144,6 +144,8 @@ impl<
     /// halving, and moves the rows behind a new one up by one.
     ///
     /// Where memory is refused, the replica is unchanged, and key and value are given up.
+    ///
+    /// For keys that are texts or bytes, `key_order::proofs::Clones` has the lemmas that prove its condition on clones.
     pub fn put(&mut self, key: K, value: V) -> Result<(), AllocError>
         // A clone of a key equals its original.
         requires clones { (a b : K) → K.is_clone a b → Same K.cmp a b }
@@ -239,6 +241,8 @@ impl<
     ///
     /// The tree is built in one pass, as [`MerkleSearchTree::from_ascending_slice`] says. Refused, at the first row that doesn't
     /// ascend or for want of memory, it hands the rows back, and the builder is given up.
+    ///
+    /// For keys that are texts or bytes, `key_order::proofs::Clones` has the lemmas that prove its condition on clones.
     pub fn from_rows(
         alloc: Global,
         builder: Builder<H>,

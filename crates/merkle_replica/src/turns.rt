@@ -15,7 +15,7 @@ use merkle_digest::{Hasher, KeyBytes};
 use std::alloc::Global;
 
 /// Why pulls by turns stopped: memory was refused.
-#[derive(Drop)]
+#[derive(Debug, Drop)]
 pub struct TurnsError<K> {
     /// The pulls that were made, in order.
     pub finished: Vec<Pulled<K>>,
@@ -28,6 +28,8 @@ pub struct TurnsError<K> {
 ///
 /// Four pulls or more leave both replicas with the join of their maps, while no digests collide: with fewer, a row of one replica
 /// can be missing in the other.
+///
+/// For keys that are texts or bytes, `key_order::proofs::Clones` has the lemmas that prove its condition on clones.
 pub fn pull_by_turns<
     K: Ord + KeyBytes + Clone + Drop,
     V: Join + Drop,

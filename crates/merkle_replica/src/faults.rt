@@ -1,0 +1,33 @@
+//! What the errors of pulls say.
+
+use crate::pull::PullError;
+use crate::turns::TurnsError;
+use std::error::Error;
+use std::fmt;
+
+/// Says that memory was refused, and how many rows were joined before.
+impl<K> fmt::Display for PullError<K> {
+    fn fmt<W: fmt::Write>(&self, f: &mut fmt::Formatter<W>) -> fmt::Result {
+        match self {
+            PullError::Memory => write!(f, "memory was refused before a row was joined"),
+            PullError::Partly { pulled, done } => {
+                write!(
+                    f,
+                    "memory was refused after {done} of {} rows",
+                    pulled.joined
+                )
+            }
+        }
+    }
+}
+
+impl<K: fmt::Debug + Drop> Error for PullError<K> {}
+
+/// Says how many pulls were made before the one that was refused, and what that one says.
+impl<K> fmt::Display for TurnsError<K> {
+    fn fmt<W: fmt::Write>(&self, f: &mut fmt::Formatter<W>) -> fmt::Result {
+        write!(f, "after {} pulls {}", self.finished.len(), self.fault)
+    }
+}
+
+impl<K: fmt::Debug + Drop> Error for TurnsError<K> {}
