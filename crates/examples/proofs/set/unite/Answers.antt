@@ -1,0 +1,13 @@
+use Rattle.std.specs.Prelude.{string_cmp}
+use Rattle.std.specs.String.{string_cmp_total}
+use Rattle.std.specs.declared.alloc.Global.{Global}
+use Rattle.key_order.proofs.Joins.{join_has}
+use Rattle.examples.proofs.Outcomes.{on_ok, sync_like}
+use Rattle.examples.proofs.set.unite.Goals as goal
+
+-- the joins have the names of both
+pub returns : goal.returns
+returns c =
+    let has = join_has (string_cmp {Z = Global}) string_cmp_total _ _ c.args.a.now.rows c.args.b.now.rows in record {
+      union = on_ok c.sync.result _ _ (sync_like _ _ _ _ _ _ c.args.a.now.tree _ _ _ _ c.args.a.now.rows c.args.b.now.rows c.sync.new.a.rows c.sync.new.b.rows (λ x y h. h) (λ j. (has c.sync.new.a.rows j.first, has c.sync.new.b.rows j.second))) c.sync.ensures.same;
+    }

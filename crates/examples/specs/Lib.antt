@@ -1,0 +1,5 @@
+pub mod Sync
+pub mod Texts
+pub mod Set
+pub mod Register
+pub mod RegisterLaws

@@ -1,0 +1,17 @@
+-- Registers that keep what was written last.
+use Rattle.std.specs.Prelude.{◌≡◌, ℕ, List, ◌++◌, Some}
+use Rattle.std.specs.Int.{w64, to_le_bytes}
+use Rattle.std.specs.Ordering.{ord_max}
+use Rattle.std.specs.declared.cmp.Ordering.{Ordering}
+use Rattle.key_order.specs.Map.{get}
+use Rattle.key_order.specs.Join.{joined}
+use Rattle.examples.specs.Texts.{Text, text_order}
+use Rattle.examples.specs.declared.register.Register.{Register}
+
+-- the bytes of its three numbers
+abbrev pub register_bytes : Register → List ℕ
+register_bytes r = to_le_bytes w64 r.time ++ to_le_bytes w64 r.writer ++ to_le_bytes w64 r.value
+
+-- of this name there is then the later of the register that was there, if any, and the one that is written
+abbrev pub IsWritten : (Register → Register → Ordering) → List (Text × Register) → Text → Register → List (Text × Register) → Type 0
+IsWritten cmp rows name register after = get text_order after name ≡ joined (ord_max cmp) (get text_order rows name) (Some register)

@@ -1,0 +1,49 @@
+-- Replicas whose keys are texts, under SipHash.
+use Rattle.std.specs.Prelude.{◌≡◌, ℕ, Bool, List, string_bytes, string_cmp}
+use Rattle.std.specs.declared.alloc.Global.{Global}
+use Rattle.std.specs.declared.cmp.Ordering.{Ordering}
+use Rattle.std.specs.declared.string.String.{String}
+use Rattle.merkle_digest.specs.SipHash.{siphash128, zero_key}
+use Rattle.merkle_search_tree.specs.Canonical.{IsTreeOf}
+use Rattle.merkle_search_tree.specs.State.{State}
+use Rattle.merkle_search_tree.specs.Stream.{page_digest}
+use Rattle.merkle_search_tree.specs.Tree.{Tree}
+use Rattle.merkle_search_tree.specs.declared.builder.PageFormat.{PageFormat}
+use Rattle.merkle_search_tree.specs.declared.builder.PageFormat.TheVariants.{V1}
+use Rattle.merkle_replica.specs.Contents.{digests}
+use Rattle.merkle_replica.specs.Faithful.{IsFaithful}
+use Rattle.examples.specs.Sync.{IsSync}
+
+-- a text, as a replica keeps it
+abbrev pub Text : Type 0
+Text = String Global
+
+-- texts are in the order of their bytes
+abbrev pub text_order : Text → Text → Ordering
+text_order = string_cmp
+
+-- the digest of a text under a key of SipHash
+abbrev pub text_digest : List ℕ → Text → List ℕ
+text_digest key text = siphash128 key (string_bytes text)
+
+-- SipHash under the zero key, level base 16, and format 1
+pub record HasDefaults {K : Type 0} (tree : State K (List ℕ)) : Type 0 where
+  pub hasher : tree.hasher ≡ zero_key
+  pub base : tree.base ≡ 16
+  pub format : tree.format ≡ V1
+
+module _ {V : Type 0} (fed_bytes : V → List ℕ) where
+  -- the digest of a value that feeds these bytes
+  abbrev pub value_digest : List ℕ → V → List ℕ
+  value_digest key value = siphash128 key (fed_bytes value)
+
+  -- under this key of SipHash, level base and page format, the digest is that of the root page of the tree of the rows
+  abbrev pub IsRootHashOf : List ℕ → ℕ → PageFormat → List (Text × V) → List ℕ → Type 0
+  IsRootHashOf key base format rows digest =
+      (t : Tree Text (List ℕ)) × IsTreeOf text_order (text_digest key) base t (digests (value_digest key) rows) × (digest ≡ page_digest format string_bytes t)
+
+  module _ (eq : V → V → Bool) (join : V → V → V) where
+    -- four pulls by turns, and the outcome where digests are faithful in the maps before each pull
+    abbrev pub IsTextSync : State Text (List ℕ) → Type 0 → List (Text × V) → List (Text × V) → List (Text × V) → List (Text × V) → Type 0
+    IsTextSync tree Outcome =
+        IsSync text_order text_digest value_digest string_bytes eq join tree (IsFaithful text_order text_digest value_digest string_bytes eq tree.hasher tree.base tree.format) Outcome

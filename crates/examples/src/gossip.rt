@@ -1,0 +1,69 @@
+//! Gossip: peers compare root hashes, and page ranges only where those differ.
+ghost use Rattle.std.specs.Prelude.{◌≡◌, [], IfOk, IsOkAnd};
+ghost use Rattle.key_order.specs.Order.{Same};
+ghost use Rattle.key_order.specs.Map.{SameMap};
+ghost use Rattle.merkle_search_tree.specs.State.{map_of};
+ghost use Rattle.merkle_search_tree.specs.Stream.{page_digest};
+ghost use Rattle.merkle_replica.specs.Answers.{spans_of};
+ghost use Rattle.merkle_replica.specs.Contents.{SameSetup};
+ghost use Rattle.merkle_replica.specs.Pulls.{IsAnswerFor, HasRanges};
+
+use merkle_digest::{Hasher, KeyBytes};
+use merkle_replica::{Join, Replica};
+use merkle_search_tree::laws::equal_maps_have_equal_pages;
+use std::alloc::{AllocError, Global};
+
+/// The ranges of keys that a replica asks a peer for: none where their root hashes are equal, for which no page range is listed;
+/// else those in which the page ranges of both trees differ.
+///
+/// # Errors
+///
+/// Want of memory, for page ranges alone: the rows stay.
+pub fn ranges_to_ask<
+    K: Ord + KeyBytes + Clone + Drop,
+    V: Join + Drop,
+    H: Hasher<N, K> + Hasher<N, V>,
+    const N: usize,
+>(
+    alloc: Global,
+    local: &mut Replica<K, V, H, N>,
+    peer: &mut Replica<K, V, H, N>,
+) -> Result<Vec<(K, K)>, AllocError>
+    // A clone of a key equals its original.
+    requires clones { (a b : K) → K.is_clone a b → Same K.cmp a b }
+
+    ensures quiet { page_digest local.old.tree.format K.bytes_of local.old.tree.root ≡ page_digest peer.old.tree.format K.bytes_of peer.old.tree.root → IsOkAnd result (λ ranges. ranges.items ≡ []) }
+    ensures answer { ¬ (page_digest local.old.tree.format K.bytes_of local.old.tree.root ≡ page_digest peer.old.tree.format K.bytes_of peer.old.tree.root) → IfOk result (λ ranges. IsAnswerFor K.cmp V.eq V.join_of
+        (HasRanges K.cmp ⟦<H as Hasher<N, K>>⟧.digest_of ⟦<H as Hasher<N, V>>⟧.digest_of K.bytes_of local.old.tree.hasher local.old.tree.base local.old.tree.format)
+        (HasRanges K.cmp ⟦<H as Hasher<N, K>>⟧.digest_of ⟦<H as Hasher<N, V>>⟧.digest_of K.bytes_of peer.old.tree.hasher peer.old.tree.base peer.old.tree.format)
+        local.old.rows peer.old.rows (spans_of ranges.items)) }
+    ensures rows { local.new.rows ≡ local.old.rows }
+    ensures peer_rows { peer.new.rows ≡ peer.old.rows }
+{
+    if local.root_hash() == peer.root_hash() {
+        return Ok(Vec::new(alloc));
+    }
+    local.ranges_to_ask(peer)
+}
+
+/// Replicas of equal maps, with one hasher, level base and page format, ask each other for nothing and take no memory for it.
+pub fn equal_maps_ask_for_nothing<
+    K: Ord + KeyBytes + Clone + Drop,
+    V: Join + Drop,
+    H: Hasher<N, K> + Hasher<N, V>,
+    const N: usize,
+>(
+    alloc: Global,
+    local: &mut Replica<K, V, H, N>,
+    peer: &mut Replica<K, V, H, N>,
+) -> Result<Vec<(K, K)>, AllocError>
+    // A clone of a key equals its original.
+    requires clones { (a b : K) → K.is_clone a b → Same K.cmp a b }
+
+    requires one_setup { SameSetup local.old peer.old }
+    requires equal_maps { SameMap K.cmp (λ d e. d ≡ e) (map_of local.old.tree) (map_of peer.old.tree) }
+    ensures nothing { IsOkAnd result (λ ranges. ranges.items ≡ []) }
+{
+    equal_maps_have_equal_pages(local.tree(), peer.tree());
+    ranges_to_ask(alloc, local, peer)
+}

@@ -1,0 +1,11 @@
+//! Users' code over replicas and trees, each example with its theorem, proved from the public contracts of the crates that it uses.
+#![tactic(auto)]
+
+pub mod gossip;
+pub mod readme;
+pub mod register;
+pub mod set;
+pub mod store;
+pub mod sync;
+#[cfg(test)]
+mod tests;

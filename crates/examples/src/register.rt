@@ -1,0 +1,84 @@
+//! Registers of which the last writer wins.
+ghost use Rattle.std.specs.Prelude.{◌≡◌, OnOk, OnErr};
+ghost use Rattle.std.specs.Cmp.Rules.{comparing};
+ghost use Rattle.std.proofs.Common.{rules};
+ghost use Rattle.merkle_digest.specs.Sip24.{Holds};
+ghost use Rattle.merkle_replica.specs.Contents.{SameSetup};
+ghost use Rattle.examples.specs.Register.{IsWritten};
+
+use crate::store::Store;
+use merkle_digest::{HashBytes, Sip24};
+use merkle_replica::{Greatest, Join};
+use std::alloc::{AllocError, Global};
+
+/// What was written last: at this time, by this writer, this value. Of two registers the one with the greater time is the later; at
+/// one time that of the greater writer, and of one writer the greater value, so that replicas never disagree.
+#[derive(Clone, Copy, Debug, PartialEq, Eq, PartialOrd, Ord)]
+pub struct Register {
+    pub time: u64,
+    pub writer: u64,
+    pub value: u64,
+}
+
+/// The three numbers, eight bytes each.
+impl HashBytes for Register {
+    ghost use Rattle.examples.specs.Register.{register_bytes};
+    ghost use Rattle.examples.specs.RegisterLaws.{same_bytes};
+
+    ghost fed_bytes = { register_bytes };
+
+    ghost fed_bytes_respect_eq = { same_bytes };
+
+    fn feed(&self, sip: &mut Sip24) {
+        self.time.feed(sip);
+        self.writer.feed(sip);
+        self.value.feed(sip);
+    }
+}
+
+/// The later of two registers. It takes no memory.
+impl Join for Register {
+    ghost use Rattle.std.specs.Ordering.{ord_max};
+    ghost use Rattle.key_order.proofs.Greater.{greater_joining};
+
+    ghost join_of = { ord_max ⟦<Register as Ord>⟧.cmp };
+
+    ghost joining = { greater_joining ⟦<Register as Ord>⟧.cmp (Prim.search (comparing, rules)) ⟦<Register as PartialEq>⟧.eq (Prim.search (comparing, rules)) };
+
+    fn join(&self, _alloc: Global, other: &Self) -> Result<Self, AllocError> {
+        Ok((*self).max(*other))
+    }
+}
+
+/// Registers by name.
+pub type Registers = Store<Register>;
+
+/// Writes a register: it then holds the later of what it held and what is written.
+///
+/// # Errors
+///
+/// Want of memory, which leaves all registers as they were.
+#[tactic(auto, using(key_order::proofs::Clones::string_clone))]
+pub fn write(registers: &mut Registers, name: String, register: Register) -> Result<(), AllocError>
+    ensures latest { OnOk result (IsWritten ⟦<Register as Ord>⟧.cmp registers.old.rows name register registers.new.rows) }
+    ensures unchanged { OnErr result (registers.new ≡ registers.old) }
+    ensures setup { SameSetup registers.old registers.new }
+{
+    registers.put(name, register)
+}
+
+/// Registers without a type of their own: a time, and a value.
+pub type Stamped = Store<Greatest<(u64, u64)>>;
+
+/// Writes a value at a time: the pair that is greater stays.
+///
+/// # Errors
+///
+/// Want of memory, which leaves all registers as they were.
+#[tactic(auto, using(key_order::proofs::Clones::string_clone))]
+pub fn stamp(registers: &mut Stamped, name: String, time: u64, value: u64) -> Result<(), AllocError>
+    ensures unchanged { OnErr result (registers.new ≡ registers.old) }
+    ensures setup { SameSetup registers.old registers.new }
+{
+    registers.put(name, Greatest((time, value)))
+}

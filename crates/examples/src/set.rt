@@ -1,0 +1,42 @@
+//! A set of names that only grows: a replica with `()` for values.
+ghost use Rattle.std.specs.Prelude.{◌≡◌, [], ◌∷◌, OnOk, OnErr};
+ghost use Rattle.merkle_replica.specs.Contents.{SameSetup};
+ghost use Rattle.examples.specs.Set.{IsUnion};
+ghost use Rattle.examples.specs.Texts.{IsTextSync};
+
+use crate::store::Store;
+use crate::sync::sync;
+use merkle_digest::HashBytes;
+use merkle_replica::{Join, TurnsError};
+use std::alloc::{AllocError, Global};
+
+/// A set of names.
+pub type Names = Store<()>;
+
+/// Adds a name, where it isn't there yet.
+///
+/// # Errors
+///
+/// Want of memory, which leaves the set as it was.
+#[tactic(auto, using(key_order::proofs::Clones::string_clone))]
+pub fn add(names: &mut Names, name: String) -> Result<(), AllocError>
+    ensures added { OnOk result (IsUnion names.old.rows ((name, tt) ∷ []) names.new.rows) }
+    ensures unchanged { OnErr result (names.new ≡ names.old) }
+    ensures setup { SameSetup names.old names.new }
+{
+    names.put(name, ())
+}
+
+/// Leaves both sets with the union of their names, while digests are faithful in the sets before each of the four pulls.
+///
+/// # Errors
+///
+/// Want of memory: no name is lost.
+#[tactic(auto, using(key_order::proofs::Clones::string_clone))]
+pub fn unite(alloc: Global, a: &mut Names, b: &mut Names) -> Result<(), TurnsError<String>>
+    requires one_setup { SameSetup a.old b.old }
+    ensures union { OnOk result (IsTextSync ⟦<() as HashBytes>⟧.fed_bytes ⟦<() as PartialEq>⟧.eq ⟦<() as Join>⟧.join_of a.old.tree
+        (IsUnion a.old.rows b.old.rows a.new.rows × IsUnion a.old.rows b.old.rows b.new.rows) a.old.rows b.old.rows a.new.rows b.new.rows) }
+{
+    sync(alloc, a, b)
+}

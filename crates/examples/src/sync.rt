@@ -1,0 +1,69 @@
+//! A sync: four pulls by turns, after which two replicas hold the same map.
+ghost use Rattle.std.specs.Prelude.{◌≡◌, OnOk};
+ghost use Rattle.key_order.specs.Order.{Same};
+ghost use Rattle.merkle_search_tree.specs.declared.builder.PageFormat.TheVariants.{V2};
+ghost use Rattle.merkle_replica.specs.Contents.{SameSetup};
+ghost use Rattle.merkle_replica.specs.Faithful.{IsFaithful, IsCollisionFree};
+ghost use Rattle.examples.specs.Sync.{IsSync, AreJoined};
+
+use merkle_digest::{Hasher, KeyBytes, KeyBytesExact};
+use merkle_replica::laws::no_collision_is_enough;
+use merkle_replica::{Join, Replica, TurnsError, pull_by_turns};
+use std::alloc::Global;
+
+/// Brings two replicas of one hasher, level base and page format to the same map, the join of both: while digests are faithful in
+/// the maps before each of the four pulls.
+///
+/// # Errors
+///
+/// Want of memory: each pull that was made until then stays.
+pub fn sync<
+    K: Ord + KeyBytes + Clone + Drop,
+    V: Join + Drop,
+    H: Hasher<N, K> + Hasher<N, V>,
+    const N: usize,
+>(
+    alloc: Global,
+    a: &mut Replica<K, V, H, N>,
+    b: &mut Replica<K, V, H, N>,
+) -> Result<(), TurnsError<K>>
+    // A clone of a key equals its original.
+    requires clones { (x y : K) → K.is_clone x y → Same K.cmp x y }
+
+    requires one_setup { SameSetup a.old b.old }
+    ensures same { OnOk result (IsSync K.cmp ⟦<H as Hasher<N, K>>⟧.digest_of ⟦<H as Hasher<N, V>>⟧.digest_of K.bytes_of V.eq V.join_of a.old.tree
+        (IsFaithful K.cmp ⟦<H as Hasher<N, K>>⟧.digest_of ⟦<H as Hasher<N, V>>⟧.digest_of K.bytes_of V.eq a.old.tree.hasher a.old.tree.base a.old.tree.format)
+        (AreJoined K.cmp V.eq V.join_of a.old.rows b.old.rows a.new.rows b.new.rows) a.old.rows b.old.rows a.new.rows b.new.rows) }
+{
+    pull_by_turns(alloc, a, b, 4)?;
+    Ok(())
+}
+
+/// The same in page format 2, for keys that their bytes tell apart: it is enough that no two unequal page streams have one digest and
+/// that equal digests of values mean equal values, in the maps before each of the four pulls.
+///
+/// # Errors
+///
+/// Want of memory: each pull that was made until then stays.
+pub fn sync_exact<
+    K: Ord + KeyBytesExact + Clone + Drop,
+    V: Join + Drop,
+    H: Hasher<N, K> + Hasher<N, V>,
+    const N: usize,
+>(
+    alloc: Global,
+    a: &mut Replica<K, V, H, N>,
+    b: &mut Replica<K, V, H, N>,
+) -> Result<(), TurnsError<K>>
+    // A clone of a key equals its original.
+    requires clones { (x y : K) → K.is_clone x y → Same K.cmp x y }
+
+    requires one_setup { SameSetup a.old b.old }
+    requires format_2 { a.old.tree.format ≡ V2 }
+    ensures same { OnOk result (IsSync K.cmp ⟦<H as Hasher<N, K>>⟧.digest_of ⟦<H as Hasher<N, V>>⟧.digest_of K.bytes_of V.eq V.join_of a.old.tree
+        (IsCollisionFree K.cmp ⟦<H as Hasher<N, K>>⟧.digest_of ⟦<H as Hasher<N, V>>⟧.digest_of K.bytes_of V.eq N a.old.tree.hasher a.old.tree.base)
+        (AreJoined K.cmp V.eq V.join_of a.old.rows b.old.rows a.new.rows b.new.rows) a.old.rows b.old.rows a.new.rows b.new.rows) }
+{
+    no_collision_is_enough::<K, V, H, N>();
+    sync(alloc, a, b)
+}
