@@ -3,15 +3,21 @@
 
 #[cfg(test)]
 mod build_orders;
+#[cfg(test)]
+mod counter;
 pub mod defined;
 #[cfg(test)]
 mod equal_pages;
 #[cfg(test)]
 mod formats;
 #[cfg(test)]
+mod kinds;
+#[cfg(test)]
 mod lengths;
 #[cfg(test)]
 mod loads;
+#[cfg(test)]
+mod no_memory;
 #[cfg(test)]
 mod orders;
 #[cfg(test)]

@@ -26,9 +26,10 @@ const NINE: [(u16, u8); 9] = [
 const SPANS_OF_NINE: [(u16, u16); 6] = [(2, 42), (2, 6), (2, 2), (5, 5), (15, 42), (42, 42)];
 
 /// Keys on their levels, of which the last is upserted into the tree of the others.
-const GROWTHS: [&[(u16, u8)]; 3] = [
+const GROWTHS: [&[(u16, u8)]; 4] = [
     &[(1, 1), (2, 1), (5, 0), (4, 2)],
     &[(2, 64), (6, 20), (4, 20), (3, 52), (5, 64)],
+    &[(2, 64), (6, 20), (4, 20), (3, 52), (5, 64), (1, 0)],
     &[
         (7, 2),
         (11, 2),
@@ -115,17 +116,31 @@ fn is_out_or_unchanged(
     }
 }
 
-/// Whether the removal of a key whose gaps both have a page of one level is right, or refused with everything as before. The page of
-/// the lower gap has no room, so that it has to grow.
-fn joins_or_keeps_pages(alloc: Global) -> Result<bool, AllocError> {
-    let keys = [(2, 64), (5, 64), (4, 20), (6, 20), (3, 52)];
-    let others = [(2, 64), (4, 20), (6, 20), (3, 52)];
-    is_out_or_unchanged(alloc, &keys, 5, &others)
-}
+/// Keys on their levels, and one of them, whose removal moves nodes to a page that has no room for them; the others.
+const REMOVALS: [(&[(u16, u8)], u16, &[(u16, u8)]); 3] = [
+    // both gaps of the key have a page of level 20, below pages of levels 52 and 20
+    (
+        &[(2, 64), (5, 64), (4, 20), (6, 20), (3, 52)],
+        5,
+        &[(2, 64), (4, 20), (6, 20), (3, 52)],
+    ),
+    // both gaps have a page of level 1, between whose nodes pages of level 0 are joined
+    (
+        &[(1, 1), (0, 0), (2, 0), (5, 2), (6, 0), (7, 1), (8, 0)],
+        5,
+        &[(1, 1), (0, 0), (2, 0), (6, 0), (7, 1), (8, 0)],
+    ),
+    (&[(1, 0), (2, 1), (3, 0)], 2, &[(1, 0), (3, 0)]),
+];
 
 #[test]
 fn a_refused_removal_changes_nothing(rt: HostRuntime) {
-    assert!(rt; joins_or_keeps_pages(rt.alloc()) != Ok(false));
+    for (keys, key, others) in REMOVALS {
+        assert!(rt;
+            is_out_or_unchanged(rt.alloc(), keys, key, others) != Ok(false),
+            "key {key}"
+        );
+    }
 }
 
 /// Whether the nodes are right after upserts of 1, 2, 1 with another value, and 3, of which the last may be refused.

@@ -8,6 +8,7 @@ ghost use Rattle.testing.specs.LevelBytes.{level_at, level_byte, value_byte, byt
 
 use super::{LevelHasher, Value, level_digest, level_of, value_digest};
 use crate::descending::DescendingNumber;
+use crate::keys::CaselessText;
 use merkle_digest::{Digest, Hasher};
 
 impl Hasher<32, [u8; 2]> for LevelHasher<[u8; 2]> {
@@ -42,6 +43,18 @@ impl Hasher<32, DescendingNumber> for LevelHasher<DescendingNumber> {
     ghost fits = { lit< tt };
 
     fn hash(&self, key: &DescendingNumber) -> Digest<32> {
+        level_digest(level_of(&self.levels, key))
+    }
+}
+
+impl Hasher<32, CaselessText> for LevelHasher<CaselessText> {
+    ghost digest_of = { λ hasher key. bytes_from (level_byte (level_at ⟦<CaselessText as PartialEq>⟧.eq hasher key)) 32 0 };
+
+    ghost respects_eq = { λ hasher a b equal. ap (λ level. bytes_from (level_byte level) 32 0) (level_at-same ⟦<CaselessText as PartialEq>⟧.eq (Prim.search (comparing, rules)) hasher a b equal) };
+
+    ghost fits = { lit< tt };
+
+    fn hash(&self, key: &CaselessText) -> Digest<32> {
         level_digest(level_of(&self.levels, key))
     }
 }
