@@ -1,0 +1,49 @@
+-- What a tree of byte strings is, and what the calls do to it.
+use Rattle.std.specs.Prelude.{◌≡◌, ℕ, Bool, List, Option, None, Some, map}
+use Rattle.std.specs.Global.{Vec}
+use Rattle.std.specs.Cmp.Lexicographic.{slice_cmp}
+use Rattle.std.specs.Ordering.{nat_cmp}
+use Rattle.std.specs.declared.cmp.Ordering.{Ordering}
+use Rattle.key_order.specs.Order.{Same}
+use Rattle.key_order.specs.Map.{set, del, has_key}
+use Rattle.merkle_digest.specs.SipHash.{siphash128}
+use Rattle.merkle_search_tree.specs.Copy.{IsCopy}
+use Rattle.merkle_search_tree.specs.State.{State, map_of}
+
+-- a tree whose keys are byte strings and whose hasher is a key of SipHash
+abbrev pub ByteState : Type 0
+ByteState = State (Vec ℕ) (List ℕ)
+
+-- the bytes of a key
+abbrev pub bytes_of : Vec ℕ → List ℕ
+bytes_of key = key.items
+
+-- byte strings in the order of their bytes
+abbrev pub bytes_cmp : List ℕ → List ℕ → Ordering
+bytes_cmp = slice_cmp nat_cmp
+
+-- the map of a tree: its keys in order, each with the digest of its value
+abbrev pub rows_of : ByteState → List (List ℕ × List ℕ)
+rows_of s = map (λ r. (r.0.items, r.1)) (map_of s)
+
+-- the hasher, the level base and the page format stay
+pub record SameSettings (old new : ByteState) : Type 0 where
+  pub hasher : new.hasher ≡ old.hasher
+  pub base : new.base ≡ old.base
+  pub format : new.format ≡ old.format
+
+-- the map has the key with the digest of the value
+pub record IsSet (key value : List ℕ) (old new : ByteState) : Type 0 where
+  pub rows : rows_of new ≡ set bytes_cmp (rows_of old) key (siphash128 old.hasher value)
+  pub settings : SameSettings old new
+
+-- the map no longer has the key, and whether it had it was answered
+pub record IsDel (key : List ℕ) (found : Bool) (old new : ByteState) : Type 0 where
+  pub rows : rows_of new ≡ del bytes_cmp (rows_of old) key
+  pub answer : found ≡ has_key bytes_cmp (rows_of old) key
+  pub settings : SameSettings old new
+
+-- the pages are equal, cached digests included
+pub record IsCopied (old copy : ByteState) : Type 0 where
+  pub pages : IsCopy (λ (a b : Vec ℕ). Same bytes_cmp a.items b.items) (λ d e. d ≡ e) old.root copy.root
+  pub settings : SameSettings old copy

@@ -1,0 +1,131 @@
+//! What a handle holds: a tree of byte strings.
+ghost use Rattle.std.specs.Prelude.{◌≡◌, OnOk, OnErr, IfOk};
+ghost use Rattle.std.specs.Int.NonZero.{non_zero_u8_get};
+ghost use Rattle.merkle_search_tree.specs.State.{IsNew};
+ghost use Rattle.merkle_search_tree.specs.Stream.{page_digest};
+ghost use Rattle.mst_c.specs.Trees.{bytes_of, rows_of, IsSet, IsDel, IsCopied, SameSettings};
+
+use crate::byte_hasher::ByteHasher;
+use crate::wire::{WireError, decode_rows, encode};
+use merkle_search_tree::builder::{Builder, PageFormat};
+use merkle_search_tree::{LoadRefused, MerkleSearchTree};
+use std::alloc::{AllocError, Global};
+use std::num::NonZeroU8;
+
+type Tree = MerkleSearchTree<Vec<u8>, [u8; 16], ByteHasher, 16>;
+
+/// A tree from byte strings to digests of byte strings, with its hasher and level base at hand.
+#[derive(Drop)]
+pub struct ByteTree {
+    pub tree: Tree,
+    hasher: ByteHasher,
+    level_base: NonZeroU8,
+    ghost same_hasher: { hasher ≡ tree.hasher },
+    ghost same_base: { non_zero_u8_get level_base ≡ tree.base },
+}
+
+impl ByteTree {
+    /// The empty tree with this key of SipHash, level base and page format.
+    pub fn new(
+        alloc: Global,
+        key: &[u8; 16],
+        level_base: NonZeroU8,
+        page_format: PageFormat,
+    ) -> ByteTree
+        ensures { IsNew key.now (non_zero_u8_get level_base) page_format result.tree }
+    {
+        let tree = Builder::default()
+            .with_hasher(ByteHasher::new(key))
+            .with_level_base(level_base)
+            .with_page_format(page_format)
+            .build(alloc);
+        ByteTree {
+            tree,
+            hasher: ByteHasher::new(key),
+            level_base,
+        }
+    }
+
+    /// Sets a key to the digest of a value. Refused, the tree is as before.
+    pub fn upsert(&mut self, alloc: Global, key: &[u8], value: &[u8]) -> Result<(), AllocError>
+        ensures done { OnOk result (IsSet key.now value.now self.old.tree self.new.tree) }
+        ensures unchanged { OnErr result (self.new ≡ self.old) }
+    {
+        let own_key = Vec::from_slice(alloc, key)?;
+        let digest = self.hasher.hash_bytes(value);
+        match self.tree.upsert(own_key, &digest) {
+            Ok(()) => Ok(()),
+            Err(_) => Err(AllocError),
+        }
+    }
+
+    /// Takes a key out, and answers whether it was there. Refused, the tree is as before.
+    pub fn remove(&mut self, alloc: Global, key: &[u8]) -> Result<bool, AllocError>
+        ensures done { IfOk result (λ found. IsDel key.now found self.old.tree self.new.tree) }
+        ensures unchanged { OnErr result (self.new ≡ self.old) }
+    {
+        let own_key = Vec::from_slice(alloc, key)?;
+        match self.tree.remove(&own_key)? {
+            None => Ok(false),
+            Some(_) => Ok(true),
+        }
+    }
+
+    /// Makes these rows the map, in place of the map that the tree has. Refused, the tree is as before.
+    pub fn load(&mut self, alloc: Global, rows: &[u8]) -> Result<(), WireError>
+        ensures settings { SameSettings self.old.tree self.new.tree }
+        ensures unchanged { OnErr result (self.new ≡ self.old) }
+    {
+        let pairs = decode_rows(alloc, &self.hasher, rows)?;
+        let builder = Builder::default()
+            .with_hasher(self.hasher.clone()?)
+            .with_level_base(self.level_base)
+            .with_page_format(self.tree.page_format());
+        match MerkleSearchTree::from_ascending(alloc, builder, pairs) {
+            Ok(tree) => {
+                self.tree = tree;
+                Ok(())
+            }
+            Err(LoadRefused::Memory) => Err(WireError::Memory),
+            Err(LoadRefused::NotAscending(_)) => Err(WireError::Malformed),
+        }
+    }
+
+    /// How many keys the tree has.
+    pub fn count(&self) -> Result<usize, AllocError> {
+        let mut count: usize = 0;
+        'nodes: for _ in self.tree.node_iter()? {
+            count = count.saturating_add(1);
+        }
+        Ok(count)
+    }
+
+    /// The ranges of all pages, as bytes.
+    pub fn page_ranges(&mut self, alloc: Global) -> Result<Vec<u8>, AllocError> {
+        let _ = self.tree.root_hash_counted();
+        match self.tree.serialise_page_ranges()? {
+            Some(ranges) => encode(alloc, &ranges),
+            None => encode(alloc, &[]),
+        }
+    }
+
+    /// A tree with equal pages and the same settings.
+    pub fn try_clone(&self) -> Result<ByteTree, AllocError>
+        ensures { IfOk result (λ copy. IsCopied self.now.tree copy.tree) }
+    {
+        Ok(ByteTree {
+            tree: self.tree.try_clone()?,
+            hasher: self.hasher.clone()?,
+            level_base: self.level_base,
+        })
+    }
+
+    /// The digest of the root page.
+    pub fn root_hash(&mut self) -> [u8; 16]
+        ensures digest { result ≡ page_digest self.old.tree.format bytes_of self.old.tree.root }
+        ensures rows { rows_of self.new.tree ≡ rows_of self.old.tree }
+    {
+        let (digest, _) = self.tree.root_hash_counted();
+        *digest.as_bytes()
+    }
+}

@@ -1,0 +1,15 @@
+//! Merkle search trees for callers in C. A handle has a tree of byte strings, or none; each call answers a status.
+//!
+//! A caller passes pointers that are not null, and slices as a pointer and a length. `c/mst.c` tests that, and is what programs call.
+#![tactic(auto)]
+
+mod byte_hasher;
+mod byte_tree;
+mod bytes16;
+mod handle;
+mod parts;
+mod status;
+mod summaries;
+mod trees;
+mod updates;
+mod wire;

@@ -1,0 +1,150 @@
+//! Calls that answer what a tree holds as digests, and compare two such answers.
+ghost use Rattle.std.specs.Prelude.{◌≡◌, ◌≢◌, None, IfSome};
+ghost use Rattle.merkle_search_tree.specs.Stream.{page_digest};
+ghost use Rattle.mst_c.specs.Handles.{Holds, Changes};
+ghost use Rattle.mst_c.specs.Trees.{bytes_of, rows_of};
+
+use crate::bytes16::MstBytes16;
+use crate::handle::MstTree;
+use crate::status::{ABSENT, ARGUMENT, DONE, MALFORMED, MEMORY, SHORT};
+use crate::wire::{WireError, differences, entry_of, front_of, is_list};
+use core::mem;
+use std::alloc::Global;
+
+/// Writes the root hash of a tree.
+///
+/// `DONE`; `ARGUMENT` where the handle has no tree, and `digest` is as before.
+#[unsafe(no_mangle)]
+pub extern "C" fn mst_proved_tree_root_hash(
+    alloc: Global,
+    handle: &mut MstTree,
+    digest: &mut MstBytes16,
+) -> u32
+    ensures digest { result ≡ 0 → Holds handle.old.tree (λ s. digest.new.bytes ≡ page_digest s.format bytes_of s.root) }
+    ensures rows { result ≡ 0 → Changes handle.old.tree handle.new.tree (λ s t. rows_of t ≡ rows_of s) }
+    ensures unchanged { result ≢ 0 → handle.new.tree ≡ handle.old.tree }
+{
+    match mem::replace_with(handle, alloc, root_hash) {
+        Some(bytes) => {
+            digest.bytes = bytes;
+            DONE
+        }
+        None => ARGUMENT,
+    }
+}
+
+fn root_hash(handle: MstTree, alloc: Global) -> (MstTree, Option<[u8; 16]>)
+    ensures digest { IfSome result.1 (λ bytes. Holds handle.tree (λ s. bytes ≡ page_digest s.format bytes_of s.root)) }
+    ensures rows { IfSome result.1 (λ bytes. Changes handle.tree result.0.tree (λ s t. rows_of t ≡ rows_of s)) }
+    ensures unchanged { result.1 ≡ None → result.0.tree ≡ handle.tree }
+{
+    let Some(mut held) = handle.into_box() else {
+        return (MstTree::empty(alloc), None);
+    };
+    let bytes = held.root_hash();
+    (MstTree::of_box(held), Some(bytes))
+}
+
+/// Puts bytes at the front of `out`, and their count at `needed`: `DONE`, or `SHORT` where `out` is too short, and is as before then.
+fn put_bytes(bytes: &[u8], out: &mut [u8], needed: &mut usize) -> u32 {
+    *needed = bytes.len();
+    if out.len() < bytes.len() {
+        return SHORT;
+    }
+    let (front, _) = out.split_at_mut(bytes.len());
+    front.copy_from_slice(bytes);
+    DONE
+}
+
+/// Writes the page ranges of a tree to `out`, and how many bytes they are to `needed`.
+///
+/// `DONE`; `SHORT` where `out` is too short; `MEMORY`; `ARGUMENT` where the handle has no tree.
+#[unsafe(no_mangle)]
+pub extern "C" fn mst_proved_tree_page_ranges(
+    alloc: Global,
+    handle: &mut MstTree,
+    out: &mut [u8],
+    needed: &mut usize,
+) -> u32 {
+    match mem::replace_with(handle, alloc, page_ranges) {
+        Ok(bytes) => put_bytes(bytes.as_slice(), out, needed),
+        Err(status) => status,
+    }
+}
+
+fn page_ranges(handle: MstTree, alloc: Global) -> (MstTree, Result<Vec<u8>, u32>) {
+    let Some(mut held) = handle.into_box() else {
+        return (MstTree::empty(alloc), Err(ARGUMENT));
+    };
+    let bytes = held.page_ranges(alloc).map_err(|_| MEMORY);
+    (MstTree::of_box(held), bytes)
+}
+
+/// Writes to `out` the ranges of keys that local may ask of the peer, by their page ranges, and how many bytes they are to `needed`.
+///
+/// `DONE`; `SHORT` where `out` is too short; `MEMORY`; `MALFORMED` where a list isn't one of page ranges.
+#[unsafe(no_mangle)]
+pub extern "C" fn mst_proved_diff(
+    alloc: Global,
+    local: &[u8],
+    peer: &[u8],
+    out: &mut [u8],
+    needed: &mut usize,
+) -> u32 {
+    match differences(alloc, local, peer) {
+        Ok(bytes) => put_bytes(bytes.as_slice(), out, needed),
+        Err(WireError::Memory) => MEMORY,
+        Err(WireError::Malformed) => MALFORMED,
+    }
+}
+
+/// Where the parts of an entry lie in its list.
+#[repr(C)]
+#[derive(Drop)]
+pub struct MstSpot {
+    pub first_at: usize,
+    pub first_len: usize,
+    pub last_at: usize,
+    pub last_len: usize,
+    /// Where the 16 bytes of the digest begin, in a list of page ranges; else 0.
+    pub digest_at: usize,
+}
+
+/// Writes where the parts of the entry at `at` lie, and moves `at` behind it. An `at` of 0 is the first entry, and there the whole
+/// list is read once to see that it is one.
+///
+/// `DONE`; `ABSENT` behind the last entry; `MALFORMED` where the list is none; `ARGUMENT` where `at` is outside of the list.
+#[unsafe(no_mangle)]
+pub extern "C" fn mst_proved_ranges_next(list: &[u8], at: &mut usize, spot: &mut MstSpot) -> u32 {
+    let Some((has_digests, count, body)) = front_of(list) else {
+        return MALFORMED;
+    };
+    if *at == 0 && !is_list(has_digests, count, body) {
+        return MALFORMED;
+    }
+    let start = if *at == 0 {
+        list.len().saturating_sub(body.len())
+    } else {
+        *at
+    };
+    let Some((_, rest)) = list.split_at_checked(start) else {
+        return ARGUMENT;
+    };
+    if rest.is_empty() {
+        return ABSENT;
+    }
+    let Some((first, last, behind)) = entry_of(has_digests, rest) else {
+        return MALFORMED;
+    };
+    spot.first_at = start.saturating_add(8);
+    spot.first_len = first.len();
+    spot.last_at = spot.first_at.saturating_add(first.len()).saturating_add(8);
+    spot.last_len = last.len();
+    spot.digest_at = if has_digests {
+        spot.last_at.saturating_add(last.len())
+    } else {
+        0
+    };
+    *at = list.len().saturating_sub(behind.len());
+    DONE
+}

@@ -1,0 +1,141 @@
+//! Calls that make trees, copy them, let them go and count their keys.
+ghost use Rattle.std.specs.Prelude.{◌≡◌, ◌≢◌, None};
+ghost use Rattle.std.specs.Int.NonZero.{non_zero_u8_get};
+ghost use Rattle.merkle_search_tree.specs.State.{IsNew};
+ghost use Rattle.merkle_search_tree.specs.declared.builder.PageFormat.TheVariants.{V1, V2};
+ghost use Rattle.mst_c.specs.Handles.{Holds, Changes};
+
+use crate::byte_tree::ByteTree;
+use crate::bytes16::MstBytes16;
+use crate::handle::MstTree;
+use crate::status::{ARGUMENT, DONE, MEMORY};
+use core::mem;
+use merkle_search_tree::builder::PageFormat;
+use std::alloc::Global;
+use std::num::NonZeroU8;
+
+/// Gives a handle that has no tree the empty tree with this key of SipHash, level base and page format.
+///
+/// `DONE`; `MEMORY`; `ARGUMENT` where the handle has a tree, the base is 0, or the format isn't 1 or 2. Refused, the handle is as before.
+#[unsafe(no_mangle)]
+pub extern "C" fn mst_proved_tree_new(
+    alloc: Global,
+    handle: &mut MstTree,
+    key: &MstBytes16,
+    level_base: u8,
+    page_format: u8,
+) -> u32
+    ensures v1 { result ≡ 0 → page_format ≡ 1 → Holds handle.new.tree (IsNew key.now.bytes level_base V1) }
+    ensures v2 { result ≡ 0 → page_format ≡ 2 → Holds handle.new.tree (IsNew key.now.bytes level_base V2) }
+    ensures unchanged { result ≢ 0 → handle.new.tree ≡ handle.old.tree }
+{
+    let Some(base) = NonZeroU8::new(level_base) else {
+        return ARGUMENT;
+    };
+    if page_format == 1 {
+        mem::replace_with(
+            handle,
+            (
+                alloc,
+                ByteTree::new(alloc, &key.bytes, base, PageFormat::V1),
+            ),
+            put,
+        )
+    } else if page_format == 2 {
+        mem::replace_with(
+            handle,
+            (
+                alloc,
+                ByteTree::new(alloc, &key.bytes, base, PageFormat::V2),
+            ),
+            put,
+        )
+    } else {
+        ARGUMENT
+    }
+}
+
+/// Gives a handle that has no tree this one.
+fn put(handle: MstTree, asked: (Global, ByteTree)) -> (MstTree, u32)
+    ensures done { result.1 ≡ 0 → Holds result.0.tree (λ s. s ≡ asked.1.tree) }
+    ensures unchanged { result.1 ≢ 0 → result.0.tree ≡ handle.tree }
+{
+    let (alloc, tree) = asked;
+    if let Some(held) = handle.into_box() {
+        return (MstTree::of_box(held), ARGUMENT);
+    }
+    match Box::new(alloc, tree) {
+        Ok(boxed) => (MstTree::of_box(boxed), DONE),
+        Err(_) => (MstTree::empty(alloc), MEMORY),
+    }
+}
+
+/// Gives a handle that has no tree a copy of another handle's.
+///
+/// `DONE`; `MEMORY`; `ARGUMENT` where `handle` has no tree, or `copy` has one. Refused, both are as before.
+#[unsafe(no_mangle)]
+pub extern "C" fn mst_proved_tree_clone(
+    alloc: Global,
+    handle: &mut MstTree,
+    copy: &mut MstTree,
+) -> u32
+    ensures original { handle.new.tree ≡ handle.old.tree }
+    ensures unchanged { result ≢ 0 → copy.new.tree ≡ copy.old.tree }
+{
+    match mem::replace_with(handle, alloc, copy_of) {
+        Ok(tree) => mem::replace_with(copy, (alloc, tree), put),
+        Err(status) => status,
+    }
+}
+
+/// A copy of the tree of a handle.
+fn copy_of(handle: MstTree, alloc: Global) -> (MstTree, Result<ByteTree, u32>)
+    ensures original { result.0.tree ≡ handle.tree }
+{
+    let Some(held) = handle.into_box() else {
+        return (MstTree::empty(alloc), Err(ARGUMENT));
+    };
+    let copy = held.try_clone().map_err(|_| MEMORY);
+    (MstTree::of_box(held), copy)
+}
+
+/// Lets the tree of a handle go, and leaves the handle without one.
+#[unsafe(no_mangle)]
+pub extern "C" fn mst_proved_tree_free(alloc: Global, handle: &mut MstTree)
+    ensures { handle.new.tree ≡ None }
+{
+    mem::replace_with(handle, alloc, free);
+}
+
+fn free(handle: MstTree, alloc: Global) -> (MstTree, ())
+    ensures { result.0.tree ≡ None }
+{
+    drop(handle.into_box());
+    (MstTree::empty(alloc), ())
+}
+
+/// Writes how many keys a tree has.
+///
+/// `DONE`; `MEMORY`; `ARGUMENT` where the handle has no tree. Refused, `count` is as before.
+#[unsafe(no_mangle)]
+pub extern "C" fn mst_proved_tree_len(alloc: Global, handle: &mut MstTree, count: &mut usize) -> u32
+    ensures tree { handle.new.tree ≡ handle.old.tree }
+{
+    match mem::replace_with(handle, alloc, count_of) {
+        Ok(found) => {
+            *count = found;
+            DONE
+        }
+        Err(status) => status,
+    }
+}
+
+fn count_of(handle: MstTree, alloc: Global) -> (MstTree, Result<usize, u32>)
+    ensures tree { result.0.tree ≡ handle.tree }
+{
+    let Some(held) = handle.into_box() else {
+        return (MstTree::empty(alloc), Err(ARGUMENT));
+    };
+    let count = held.count().map_err(|_| MEMORY);
+    (MstTree::of_box(held), count)
+}

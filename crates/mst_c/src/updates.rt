@@ -1,0 +1,92 @@
+//! Calls that change the map of a tree.
+ghost use Rattle.std.specs.Prelude.{◌≡◌, ◌≢◌, true, false};
+ghost use Rattle.mst_c.specs.Handles.{Changes};
+ghost use Rattle.mst_c.specs.Trees.{IsSet, IsDel, SameSettings};
+
+use crate::handle::MstTree;
+use crate::status::{ABSENT, ARGUMENT, DONE, MALFORMED, MEMORY};
+use crate::wire::WireError;
+use core::mem;
+use std::alloc::Global;
+
+/// Sets a key to the digest of a value.
+///
+/// `DONE`; `MEMORY`; `ARGUMENT` where the handle has no tree. Refused, the tree is as before.
+#[unsafe(no_mangle)]
+pub extern "C" fn mst_proved_tree_upsert(
+    alloc: Global,
+    handle: &mut MstTree,
+    key: &[u8],
+    value: &[u8],
+) -> u32
+    ensures done { result ≡ 0 → Changes handle.old.tree handle.new.tree (IsSet key.now value.now) }
+    ensures unchanged { result ≢ 0 → handle.new.tree ≡ handle.old.tree }
+{
+    mem::replace_with(handle, (alloc, key, value), upsert)
+}
+
+fn upsert(handle: MstTree, row: (Global, &[u8], &[u8])) -> (MstTree, u32)
+    ensures done { result.1 ≡ 0 → Changes handle.tree result.0.tree (IsSet row.entry.1.now row.entry.2.now) }
+    ensures unchanged { result.1 ≢ 0 → result.0.tree ≡ handle.tree }
+{
+    let Some(mut held) = handle.into_box() else {
+        return (MstTree::empty(row.0), ARGUMENT);
+    };
+    match held.upsert(row.0, row.1, row.2) {
+        Ok(()) => (MstTree::of_box(held), DONE),
+        Err(_) => (MstTree::of_box(held), MEMORY),
+    }
+}
+
+/// Takes a key out.
+///
+/// `DONE`; `ABSENT` where the tree has no such key; `MEMORY`; `ARGUMENT` where the handle has no tree. Refused, the tree is as before.
+#[unsafe(no_mangle)]
+pub extern "C" fn mst_proved_tree_remove(alloc: Global, handle: &mut MstTree, key: &[u8]) -> u32
+    ensures done { result ≡ 0 → Changes handle.old.tree handle.new.tree (IsDel key.now true) }
+    ensures absent { result ≡ 5 → Changes handle.old.tree handle.new.tree (IsDel key.now false) }
+    ensures unchanged { result ≢ 0 → result ≢ 5 → handle.new.tree ≡ handle.old.tree }
+{
+    mem::replace_with(handle, (alloc, key), remove)
+}
+
+fn remove(handle: MstTree, asked: (Global, &[u8])) -> (MstTree, u32)
+    ensures done { result.1 ≡ 0 → Changes handle.tree result.0.tree (IsDel asked.entry.1.now true) }
+    ensures absent { result.1 ≡ 5 → Changes handle.tree result.0.tree (IsDel asked.entry.1.now false) }
+    ensures unchanged { result.1 ≢ 0 → result.1 ≢ 5 → result.0.tree ≡ handle.tree }
+{
+    let Some(mut held) = handle.into_box() else {
+        return (MstTree::empty(asked.0), ARGUMENT);
+    };
+    match held.remove(asked.0, asked.1) {
+        Ok(true) => (MstTree::of_box(held), DONE),
+        Ok(false) => (MstTree::of_box(held), ABSENT),
+        Err(_) => (MstTree::of_box(held), MEMORY),
+    }
+}
+
+/// Makes these rows the map of a tree, in place of the map that it has.
+///
+/// `DONE`; `MEMORY`; `MALFORMED` where the bytes are no list of rows, or the rows don't ascend strictly by key; `ARGUMENT` where the
+/// handle has no tree. Refused, the tree is as before.
+#[unsafe(no_mangle)]
+pub extern "C" fn mst_proved_tree_load(alloc: Global, handle: &mut MstTree, rows: &[u8]) -> u32
+    ensures done { result ≡ 0 → Changes handle.old.tree handle.new.tree SameSettings }
+    ensures unchanged { result ≢ 0 → handle.new.tree ≡ handle.old.tree }
+{
+    mem::replace_with(handle, (alloc, rows), load)
+}
+
+fn load(handle: MstTree, asked: (Global, &[u8])) -> (MstTree, u32)
+    ensures done { result.1 ≡ 0 → Changes handle.tree result.0.tree SameSettings }
+    ensures unchanged { result.1 ≢ 0 → result.0.tree ≡ handle.tree }
+{
+    let Some(mut held) = handle.into_box() else {
+        return (MstTree::empty(asked.0), ARGUMENT);
+    };
+    match held.load(asked.0, asked.1) {
+        Ok(()) => (MstTree::of_box(held), DONE),
+        Err(WireError::Memory) => (MstTree::of_box(held), MEMORY),
+        Err(WireError::Malformed) => (MstTree::of_box(held), MALFORMED),
+    }
+}
