@@ -1,0 +1,108 @@
+/* Merkle search trees: a map from byte strings to the digests of byte strings, whose root hash depends on the map alone, and what two
+ * stores need to bring each other up to date by a few hundred bytes.
+ *
+ * Every call answers one of the statuses below, and none aborts. A call that doesn't answer MST_DONE (or MST_ABSENT) leaves the tree
+ * as it was; only what `needed` points to may have changed. A null pointer where the call needs one is MST_BAD_ARGUMENT; where a
+ * length is 0, its pointer may be null.
+ *
+ * What the caller owes, since no call can test it: a length is at most that of the memory behind its pointer; a handle is changed by
+ * these calls alone, is copied by mst_tree_clone and not by `=`, and is used by one thread at a time; what a call writes to doesn't
+ * overlap what it reads; malloc, realloc and free are those of one allocator, and no call is made from a signal handler. */
+#ifndef MST_H
+#define MST_H
+
+#include <stddef.h>
+#include <stdint.h>
+
+#ifdef __cplusplus
+extern "C" {
+#endif
+
+enum {
+    MST_DONE = 0,         /* the call did what it is for */
+    MST_NO_MEMORY = 1,    /* memory was refused; the same call may be made again */
+    MST_MALFORMED = 2,    /* the bytes that were given are no such list */
+    MST_TOO_SHORT = 3,    /* `out` is too short, and is as before; *needed says how many bytes it takes */
+    MST_BAD_ARGUMENT = 4, /* an argument isn't one that the call takes */
+    MST_ABSENT = 5        /* there is no such key, or no further range */
+};
+
+/* A handle: a tree, or none. It has none when its one member is null, as MST_NO_TREE makes it. */
+struct mst_tree { void *at; };
+#define MST_NO_TREE {0}
+
+/* Gives a handle that has no tree the empty tree, which mst_tree_free lets go: keys and values are hashed by SipHash-2-4-128 under
+ * the key of 16 zero bytes, the level base is 16 and the page format 1; so its root hashes are those of the Rust crate
+ * merkle-search-tree for keys and values whose `Hash` feeds their bytes alone. MST_BAD_ARGUMENT where the handle has a tree;
+ * MST_NO_MEMORY. One request for memory. */
+int mst_tree_new(struct mst_tree *out);
+
+/* The same with a key of SipHash, a level base from 1 to 255, and a page format, 1 or 2. Peers that compare trees need the same
+ * three. MST_BAD_ARGUMENT for any other base or format, too. */
+int mst_tree_new_with(struct mst_tree *out, const uint8_t key[16], uint8_t level_base, uint8_t page_format);
+
+/* Gives `out`, which has no tree, a copy of the tree, which mst_tree_free lets go. MST_BAD_ARGUMENT where `tree` has none or `out` has
+ * one; MST_NO_MEMORY. Time and memory in proportion to the tree. */
+int mst_tree_clone(struct mst_tree *tree, struct mst_tree *out);
+
+/* Lets the tree of a handle go, and leaves the handle without one, so that to free it twice does no harm. */
+void mst_tree_free(struct mst_tree *tree);
+
+/* Sets a key to the digest of a value. The key is copied; the value is hashed where it lies, and not kept. MST_NO_MEMORY;
+ * MST_BAD_ARGUMENT where the handle has no tree. Time in proportion to the logarithm of the number of keys, on average. */
+int mst_tree_upsert(struct mst_tree *tree, const uint8_t *key, size_t key_len, const uint8_t *value, size_t value_len);
+
+/* Takes a key out. MST_ABSENT where the tree has no such key, and then it is as before; MST_NO_MEMORY; MST_BAD_ARGUMENT. Time as for
+ * mst_tree_upsert. */
+int mst_tree_remove(struct mst_tree *tree, const uint8_t *key, size_t key_len);
+
+/* Makes these rows the map of a tree, in place of the one that it has; the key of SipHash, the level base and the page format stay.
+ * The rows come as a list of rows (below) and ascend strictly by key, in the order of their bytes; MST_MALFORMED where they don't, or
+ * where it is no such list. MST_NO_MEMORY; MST_BAD_ARGUMENT. Each row is read once, and each page written once. */
+int mst_tree_load(struct mst_tree *tree, const uint8_t *rows, size_t rows_len);
+
+/* Writes how many keys a tree has, which it counts. MST_NO_MEMORY; MST_BAD_ARGUMENT. */
+int mst_tree_len(struct mst_tree *tree, size_t *out);
+
+/* Writes the root hash. Trees of one map have one root hash, in whatever order their keys came. It hashes the pages that changed
+ * since the last call, and takes no memory. MST_BAD_ARGUMENT where the handle has no tree. */
+int mst_tree_root_hash(struct mst_tree *tree, uint8_t out[16]);
+
+/* Writes the page ranges of a tree as a list (below), which may be sent to a peer as it is, and how many bytes they are. To learn
+ * that number alone, give an `out_len` of 0. MST_TOO_SHORT; MST_NO_MEMORY; MST_BAD_ARGUMENT. Time and memory in proportion to the
+ * pages. */
+int mst_tree_page_ranges(struct mst_tree *tree, uint8_t *out, size_t out_len, size_t *needed);
+
+/* Compares two lists of page ranges, one's own and a peer's, and writes the ranges of keys to ask the peer for, as a list of key
+ * ranges, and how many bytes that is. The peer's list may be any bytes. MST_TOO_SHORT; MST_MALFORMED where one of them is no list of
+ * page ranges; MST_NO_MEMORY; MST_BAD_ARGUMENT. */
+int mst_diff(const uint8_t *local, size_t local_len, const uint8_t *peer, size_t peer_len, uint8_t *out, size_t out_len,
+             size_t *needed);
+
+/* A range of a list: its first and its last key, both in it, and the 16 bytes of its page's digest (null in a list of key ranges).
+ * The pointers are into the list. */
+struct mst_range {
+    const uint8_t *first;
+    size_t first_len;
+    const uint8_t *last;
+    size_t last_len;
+    const uint8_t *digest;
+};
+
+/* Goes to the next range of a list of page ranges or key ranges, without copying or taking memory. *at is where it stands: 0 before
+ * the first, where the whole list is read once. MST_ABSENT behind the last; MST_MALFORMED where the bytes are no such list;
+ * MST_BAD_ARGUMENT where *at is outside of it. */
+int mst_ranges_next(const uint8_t *list, size_t list_len, size_t *at, struct mst_range *out);
+
+/* Lists, byte by byte. A number is eight bytes, the lowest first. A string is its length, a number, and its bytes.
+ *
+ *   page ranges   the four bytes "MSTp", how many ranges there are, and each range: first key, last key, 16 bytes of digest
+ *   key ranges    the four bytes "MSTk", how many ranges there are, and each range: first key, last key
+ *   rows          the four bytes "MSTr", how many rows there are, and each row: key, value
+ *
+ * Keys are strings. In a list of page ranges no first key is above its last key. Nothing follows the last entry. */
+
+#ifdef __cplusplus
+}
+#endif
+#endif
