@@ -1,5 +1,5 @@
 -- What a device tells of its bytes before and after a call. `None`: it tells nothing.
-use Rattle.std.specs.Prelude.{◌≡◌, ℕ, List, ◌++◌, Option, None, Some, Bool, true, false, ⊤, Result, Ok, Err}
+use Rattle.std.specs.Prelude.{◌≡◌, ℕ, List, ◌++◌, Option, None, Some, Bool, true, ⊤, Result, Ok, Err}
 use Rattle.std.specs.Io.KnownBytes.{Appends}
 use Rattle.mst_pair.specs.declared.sink.ToWrite.{ToWrite}
 use Rattle.mst_pair.specs.declared.source.FromRead.{FromRead}

@@ -1,9 +1,9 @@
 //! What the two replicas answer to a line.
-ghost use Rattle.std.specs.Prelude.{◌≡◌, ℕ, List};
+ghost use Rattle.std.specs.Prelude.{ℕ, List};
 ghost use Rattle.mst_pair.specs.Devices.{Writes, MarksFailure};
 ghost use Rattle.mst_pair.specs.Engine.{Answers, Step};
 ghost use Rattle.mst_pair.specs.Parsing.{request_of};
-ghost use Rattle.mst_pair.specs.Requests.{put, del, root, pages, diff, pull, same, turns, set_format};
+ghost use Rattle.mst_pair.specs.Requests.{put, del, pages, diff, pull, same, turns, set_format};
 
 use crate::engine::{Engine, ReplicaName};
 use crate::parse::{Command, parse};
