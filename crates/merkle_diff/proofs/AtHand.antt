@@ -5,7 +5,7 @@ use Rattle.std.specs.Cmp.{IsTotalOrder}
 use Rattle.std.specs.declared.cmp.Ordering.{Ordering}
 use Rattle.key_order.specs.Interval.{Span}
 use Rattle.key_order.specs.Order.{Upto, Below}
-use Rattle.key_order.proofs.Orders.{either, low_is_up, same_up, same_down, up_up}
+use Rattle.key_order.proofs.Orders.{either, low_is_up, same_up, same_down}
 use Rattle.merkle_diff.specs.Difference.{IsByFirsts, IsByTable, MayAnswer, MayAsk}
 use Rattle.merkle_diff.specs.Entry.{Entry}
 

@@ -1,7 +1,7 @@
 //! Trees of short and long digests, of numbers in the reversed order, and of texts that may be equal but for case: each call at them, by
 //! a table that was worked out by hand.
 
-use crate::counter::Counter;
+use crate::tally::Tally;
 use crate::trees::value_at;
 use merkle_diff::diff;
 use merkle_digest::{Hasher, KeyBytes};
@@ -222,9 +222,9 @@ fn counts<K: Ord + KeyBytes, const N: usize>(tree: &TreeOf<K, N>) -> (usize, usi
 where
     LevelHasher<K>: Hasher<N, K>,
 {
-    let mut counter = Counter::new();
-    tree.in_order_traversal(&mut counter);
-    counter.counts()
+    let mut tally = Tally::new();
+    tree.in_order_traversal(&mut tally);
+    tally.counts()
 }
 
 /// Whether the five keys make the tree of a table, upserted or loaded.

@@ -1,5 +1,6 @@
 //! Trees whose value digests have no byte, one byte or 200 bytes.
 
+use crate::counts::count_nodes;
 use crate::trees::{gives_its_list, value_at};
 use merkle_digest::{Hasher, PageDigest, RootHash, Sip24};
 use merkle_search_tree::MerkleSearchTree;
@@ -145,6 +146,7 @@ fn levels_go_up_to_255(rt: HostRuntime) -> Result<(), Fail> {
         256
     );
     assert!(rt; gives_its_list(&tree)?);
+    assert_eq!(rt; count_nodes(&tree), 256);
     Ok(())
 }
 

@@ -4,12 +4,14 @@
 #[cfg(test)]
 mod build_orders;
 #[cfg(test)]
-mod counter;
+mod counts;
 pub mod defined;
 #[cfg(test)]
 mod equal_pages;
 #[cfg(test)]
 mod formats;
+#[cfg(test)]
+mod hashers;
 #[cfg(test)]
 mod kinds;
 #[cfg(test)]
@@ -29,6 +31,8 @@ mod refusals;
 #[cfg(test)]
 mod removals;
 #[cfg(test)]
+mod replays;
+#[cfg(test)]
 mod root_pages;
 #[cfg(test)]
 mod rust_roots;
@@ -36,6 +40,8 @@ mod rust_roots;
 mod shapes;
 #[cfg(test)]
 mod snapshots;
+#[cfg(test)]
+mod tally;
 #[cfg(test)]
 mod traversals;
 #[cfg(test)]

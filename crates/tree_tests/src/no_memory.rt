@@ -1,6 +1,6 @@
 //! Calls that take no memory. They succeed with every request for memory refused, once the tree that they are made at is there.
 
-use crate::counter::Counter;
+use crate::tally::Tally;
 use crate::trees::{Tree, defined_root, put, tree};
 use merkle_digest::{RootHash, SipHasher};
 use merkle_search_tree::MerkleSearchTree;
@@ -60,9 +60,9 @@ fn expect_answers(rt: &impl Abort, tree: &mut Tree, wanted: &RootHash) -> Result
     assert!(rt; tree.serialise_page_ranges()?.is_none());
     assert!(rt; *tree.root_hash() == *wanted);
     assert_eq!(rt; tree.find_counted(&number_key(8)).0, 1);
-    let mut counter = Counter::new();
-    tree.in_order_traversal(&mut counter);
-    assert_eq!(rt; counter.counts(), (6, 2, 9));
+    let mut tally = Tally::new();
+    tree.in_order_traversal(&mut tally);
+    assert_eq!(rt; tally.counts(), (6, 2, 9));
     put(tree, 5)?;
     assert!(rt; *tree.root_hash() == *wanted);
     assert!(rt; tree.remove(&number_key(8))?.is_none());

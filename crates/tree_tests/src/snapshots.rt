@@ -47,10 +47,19 @@ fn spans_to_fetch(
 }
 
 #[test]
+fn a_new_tree_lists_no_page_ranges(rt: HostRuntime) -> Result<(), Fail> {
+    let mut tree: Tree = MerkleSearchTree::with_defaults(rt.alloc());
+    assert!(rt; tree.serialise_page_ranges()?.is_none());
+    assert!(rt; snapshot(rt.alloc(), &mut tree)?.iter().next().is_none());
+    Ok(())
+}
+
+#[test]
 fn snapshots_keep_what_they_saw(rt: HostRuntime) -> Result<(), Fail> {
     let (local, local_root) = seen_before(rt.alloc(), 42)?;
     let (peer, peer_root) = seen_before(rt.alloc(), 24)?;
     assert!(rt; local_root == peer_root);
+    assert_eq!(rt; (local.iter().len(), peer.iter().len()), (1, 1));
     let spans = spans_to_fetch(rt.alloc(), &local, &peer)?;
     assert_eq!(rt; spans.as_str(), " bananas-bananas");
     assert_eq!(rt; spans_to_fetch(rt.alloc(), &local, &local)?.as_str(), "");

@@ -2,7 +2,7 @@
 
 ghost use Rattle.std.specs.Prelude.{◌≡◌};
 
-use merkle_digest::{SipHasher, ValueDigest};
+use merkle_digest::SipHasher;
 use merkle_search_tree::builder::Builder;
 use merkle_search_tree::visitor::Visitor;
 use merkle_search_tree::{MerkleSearchTree, Node, Page};
@@ -40,7 +40,7 @@ impl Recorder {
     }
 }
 
-impl Visitor<[u8; 2], ValueDigest<16>> for Recorder {
+impl Visitor<16, [u8; 2]> for Recorder {
     ghost step = { λ before call answer after. after.last ≡ before.last };
 
     fn pre_visit_node(&mut self, node: &Node<16, [u8; 2]>) -> bool {
@@ -77,13 +77,8 @@ fn first_number(page: &Page<16, [u8; 2]>) -> Option<u16> {
     }
 }
 
-/// The calls of a traversal of the tree of these keys with this level base, upserted in this order.
-fn calls_of(
-    alloc: Global,
-    level_base: u8,
-    keys: &[u16],
-    last: Option<Call>,
-) -> Result<Vec<Call>, Fail> {
+/// The tree of these keys with this level base, upserted in this order.
+fn tree_of(alloc: Global, level_base: u8, keys: &[u16]) -> Result<Tree, Fail> {
     let Some(base) = NonZeroU8::new(level_base) else {
         return Err(Fail::from("a level base of 0"));
     };
@@ -93,6 +88,17 @@ fn calls_of(
             return Err(Fail::from("no memory"));
         }
     }
+    Ok(tree)
+}
+
+/// The calls of a traversal of the tree of these keys with this level base, upserted in this order.
+fn calls_of(
+    alloc: Global,
+    level_base: u8,
+    keys: &[u16],
+    last: Option<Call>,
+) -> Result<Vec<Call>, Fail> {
+    let tree = tree_of(alloc, level_base, keys)?;
     let mut recorder = Recorder {
         calls: Vec::new(alloc),
         last,
@@ -175,5 +181,40 @@ fn a_false_answer_ends_the_traversal(rt: HostRuntime) -> Result<(), Fail> {
         let calls = calls_of(rt.alloc(), 4, &[1, 0], Some(TWO_PAGES[i]))?;
         assert!(rt; calls.as_slice() == &TWO_PAGES[..i + 1]);
     }
+    Ok(())
+}
+
+/// The keys in the order in which a traversal visits their nodes.
+fn visited(alloc: Global, keys: &[u16]) -> Result<Vec<u16>, Fail> {
+    let mut numbers = Vec::new(alloc);
+    for call in &calls_of(alloc, 16, keys, None)? {
+        if let Call::VisitNode(number) = call {
+            numbers.push(*number)?;
+        }
+    }
+    Ok(numbers)
+}
+
+/// The keys in the order in which the iteration gives their nodes.
+fn iterated(alloc: Global, keys: &[u16]) -> Result<Vec<u16>, Fail> {
+    let mut numbers = Vec::new(alloc);
+    let tree = tree_of(alloc, 16, keys)?;
+    for node in tree.node_iter()? {
+        numbers.push(number_of(node))?;
+    }
+    Ok(numbers)
+}
+
+#[test]
+fn nodes_come_in_the_order_of_their_keys(rt: HostRuntime) -> Result<(), Fail> {
+    let alloc = rt.alloc();
+    let nine = [107, 461, 6, 29, 34, 0, 30, 524, 525];
+    let ascending = [0, 6, 29, 30, 34, 107, 461, 524, 525];
+    assert!(rt; visited(alloc, &nine)?.as_slice() == ascending.as_slice());
+    assert!(rt; iterated(alloc, &nine)?.as_slice() == ascending.as_slice());
+    let mixed: Vec<u16> = (0..64u16).map(|i| i.wrapping_mul(37) % 64).collect(alloc)?;
+    let ascending: Vec<u16> = (0..64u16).collect(alloc)?;
+    assert!(rt; visited(alloc, &mixed)? == ascending);
+    assert!(rt; iterated(alloc, &mixed)? == ascending);
     Ok(())
 }

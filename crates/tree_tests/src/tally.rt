@@ -1,22 +1,22 @@
-//! A visitor that counts.
+//! A visitor that counts pages, high pages and nodes.
 
 ghost use Rattle.std.specs.Prelude.{⊤};
 
 use merkle_search_tree::visitor::Visitor;
-use merkle_search_tree::{NodeOf, PageOf};
+use merkle_search_tree::{Node, Page};
 
 /// Counts the pages, the high pages and the nodes of a tree, and takes no memory.
 #[derive(Drop)]
-pub struct Counter {
+pub struct Tally {
     pages: usize,
     high_pages: usize,
     nodes: usize,
 }
 
-impl Counter {
-    /// A counter that has seen nothing.
+impl Tally {
+    /// A tally that has seen nothing.
     pub fn new() -> Self {
-        Counter {
+        Tally {
             pages: 0,
             high_pages: 0,
             nodes: 0,
@@ -29,23 +29,23 @@ impl Counter {
     }
 }
 
-impl<K, D> Visitor<K, D> for Counter {
+impl<const N: usize, K> Visitor<N, K> for Tally {
     ghost step = { λ before call answer after. ⊤ };
 
-    fn pre_visit_node(&mut self, _node: &NodeOf<K, D>) -> bool {
+    fn pre_visit_node(&mut self, _node: &Node<N, K>) -> bool {
         true
     }
 
-    fn visit_node(&mut self, _node: &NodeOf<K, D>) -> bool {
+    fn visit_node(&mut self, _node: &Node<N, K>) -> bool {
         self.nodes = self.nodes.saturating_add(1);
         true
     }
 
-    fn post_visit_node(&mut self, _node: &NodeOf<K, D>) -> bool {
+    fn post_visit_node(&mut self, _node: &Node<N, K>) -> bool {
         true
     }
 
-    fn visit_page(&mut self, _page: &PageOf<K, D>, high_page: bool) -> bool {
+    fn visit_page(&mut self, _page: &Page<N, K>, high_page: bool) -> bool {
         self.pages = self.pages.saturating_add(1);
         if high_page {
             self.high_pages = self.high_pages.saturating_add(1);
@@ -53,7 +53,7 @@ impl<K, D> Visitor<K, D> for Counter {
         true
     }
 
-    fn post_visit_page(&mut self, _page: &PageOf<K, D>) -> bool {
+    fn post_visit_page(&mut self, _page: &Page<N, K>) -> bool {
         true
     }
 }
