@@ -14,10 +14,11 @@ use Rattle.merkle_diff.proofs.SameAnswers.{difference-same, spares-same}
 use Rattle.merkle_search_tree.specs.Ranges.{ranges_of}
 use Rattle.merkle_search_tree.specs.Sound.{IsSound}
 use Rattle.merkle_search_tree.specs.State.{map_of}
-use Rattle.merkle_replica.specs.Contents.{Contents, digests}
+use Rattle.merkle_replica.specs.Contents.{Contents, SameSetup, digests}
+use Rattle.merkle_replica.specs.Steps.{IsAnswerTo}
 use Rattle.merkle_replica.specs.Pulls.{IsAnswerFor}
 use Rattle.merkle_replica.specs.Answers.{spans_of}
-use Rattle.merkle_replica.proofs.Turning.{Of}
+use Rattle.merkle_replica.proofs.Turning.{Of, same_of}
 
 module _ {K : Type 0} (cmp : K → K → Ordering) where
   more_same : (xs ys : List (Span K)) (s t : Span K) → SameSpans cmp xs ys → SameSpan cmp s t → SameSpans cmp (xs ++ s ∷ []) (ys ++ t ∷ [])
@@ -48,3 +49,21 @@ module _ {K V H : Type 0} (cmp : K → K → Ordering) (eq : V → V → Bool) (
         interval_laws = difference-same cmp o ls ps found own same d.interval_laws;
         laws_on_trees = spares-same cmp o ls ps found own same (d.laws_on_trees (subst (IsTreeShaped cmp) (sym e) tl) (subst (IsTreeShaped cmp) (sym f) tp));
       }
+
+  -- what `diff` answers to a list that came is an answer to it, with bounds of its own
+  pub answer_to : (local : Contents K V H) (ls ps theirs : List (Entry K (List ℕ))) (found own : List (Span K)) → SameMap cmp (λ d e. d ≡ e) (map_of local.tree) (digests (vd local.tree.hasher) local.rows) → IsSound cmp kd bo local.tree
+      → IsTreeShaped cmp (ranges_of local.tree.format bo local.tree.root) → ls ≡ ranges_of local.tree.format bo local.tree.root → ps ≡ theirs → IsAnswer cmp ls ps found → SameSpans cmp found own → IsAnswerTo cmp (Of cmp eq join kd vd bo local) local.rows theirs own
+  answer_to local ls ps theirs found own kl sl tl e f d same =
+      subst (λ qs. IsAnswerTo cmp (Of cmp eq join kd vd bo local) local.rows qs own) f
+      (record {
+        local_list = ls;
+        of_local = (local.tree.root, (sl.canonical, kl), e);
+        interval_laws = difference-same cmp o ls ps found own same d.interval_laws;
+        laws_on_trees = λ tp. spares-same cmp o ls ps found own same (d.laws_on_trees (subst (IsTreeShaped cmp) (sym e) tl) tp);
+      })
+
+  -- an answer of a replica that was hashed is one of it as it was
+  pub answered_to : (local local' : Contents K V H) (theirs : List (Entry K (List ℕ))) (found : List (Span K)) → local'.rows ≡ local.rows → SameSetup local local' → IsAnswerTo cmp (Of cmp eq join kd vd bo local') local'.rows theirs found → IsAnswerTo cmp (Of cmp eq join kd vd bo local) local.rows theirs found
+  answered_to local local' theirs found r s a =
+      subst (λ q. IsAnswerTo cmp q local.rows theirs found) (same_of cmp eq join kd vd bo local local' s)
+      (subst (λ q. IsAnswerTo cmp (Of cmp eq join kd vd bo local') q theirs found) r a)

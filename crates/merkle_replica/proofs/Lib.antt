@@ -14,3 +14,6 @@ pub mod Pulling
 pub mod FromStreams
 pub mod Small
 pub mod Merging
+pub mod Gathering
+pub mod Ranging
+pub mod Sorting

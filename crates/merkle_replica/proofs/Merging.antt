@@ -8,12 +8,13 @@ use Rattle.std.specs.declared.cmp.Ordering.{Ordering}
 use Rattle.std.specs.declared.cmp.Ordering.TheVariants.{Less, Equal, Greater}
 use Rattle.key_order.specs.Order.{Below, Upto, Same}
 use Rattle.key_order.specs.Map.{IsMap}
-use Rattle.key_order.proofs.Orders.{low_low, low_up, up_low, up_up, low_is_up, same_up, up_self}
+use Rattle.key_order.proofs.Orders.{low_low, low_up, same_up}
 use Rattle.std.specs.Cmp.{IsEquivalence}
 use Rattle.key_order.specs.Join.{IsJoin, IsJoining}
 use Rattle.merkle_replica.specs.Answers.{IsCut}
 use Rattle.merkle_replica.proofs.Joined.{join_none}
 use Rattle.merkle_replica.specs.Places.{IsPlaceOf, IsGapFor}
+use Rattle.merkle_replica.specs.Puts.{IsRising}
 use Rattle.merkle_replica.specs.Parted.{whole, FirstNotBelow, first_is}
 
 is_less' : (r : Ordering) → is_lt r ≡ true → r ≡ Less
@@ -40,10 +41,10 @@ module _ {X : Type 0} where
   last-parts (x ∷ y ∷ ys) zero d z e = absurd (omega (arith, e))
   last-parts (x ∷ y ∷ ys) (suc n) d z e = let r = last-parts (y ∷ ys) n d z (omega (arith, e)) in (x ∷ r.0, ap (λ t. x ∷ t) r.1, ap (λ t. x ∷ t) r.2)
 
-  pub insert-between : (xs ys : List X) (y : X) → insert (xs ++ ys) (length xs) y ≡ (xs ++ y ∷ []) ++ ys
-  insert-between [] [] y = refl
-  insert-between [] (z ∷ ys) y = refl
-  insert-between (x ∷ xs) ys y = ap (λ t. x ∷ t) (insert-between xs ys y)
+  insert-here : (xs ys : List X) (y : X) → insert (xs ++ ys) (length xs) y ≡ xs ++ y ∷ ys
+  insert-here [] [] y = refl
+  insert-here [] (z ∷ ys) y = refl
+  insert-here (x ∷ xs) ys y = ap (λ t. x ∷ t) (insert-here xs ys y)
 
   pub set-between : (xs ys : List X) (y z : X) → list_set (xs ++ y ∷ ys) (length xs) z ≡ xs ++ z ∷ ys
   set-between [] ys y z = refl
@@ -71,10 +72,6 @@ module _ {X : Type 0} where
   pub weaker : (P Q : X → Type 0) → ((x : X) → P x → Q x) → (xs : List X) → AllByRecursion P xs → AllByRecursion Q xs
   weaker P Q f [] a = tt
   weaker P Q f (x ∷ xs) a = (f x a.0, weaker P Q f xs a.1)
-
-  pub all-last : (P : X → Type 0) (xs : List X) (y : X) → AllByRecursion P xs → P y → AllByRecursion P (xs ++ y ∷ [])
-  all-last P [] y a b = (b, tt)
-  all-last P (x ∷ xs) y a b = (a.0, all-last P xs y a.1 b)
 
 module _ {K V : Type 0} (cmp : K → K → Ordering) (o : IsTotalOrder cmp) where
   map-behind : (xs ys : List (K × V)) → IsMap cmp (xs ++ ys) → IsMap cmp ys
@@ -116,7 +113,7 @@ module _ {K V : Type 0} (cmp : K → K → Ordering) (o : IsTotalOrder cmp) wher
 
   -- no row has the key: a new one at the place
   pub at-gap : (front back : List (K × V)) (key : K) (v : V) → AllByRecursion (λ s. Below cmp s.0 key) front → IsMap cmp (whole front back) → FirstNotBelow cmp key (reverse back) → first_is cmp key (reverse back) ≡ false
-      → IsGapFor cmp key (whole front back) (length front) × (whole (front ++ (key, v) ∷ []) back ≡ insert (whole front back) (length front) (key, v))
+      → IsGapFor cmp key (whole front back) (length front) × (whole front (back ++ (key, v) ∷ []) ≡ insert (whole front back) (length front) (key, v))
   at-gap front back key v low m n f =
       let l : length (whole front back) ≡ length front + length (reverse back) = length-append front (reverse back) in (
         record {
@@ -124,23 +121,25 @@ module _ {K V : Type 0} (cmp : K → K → Ordering) (o : IsTotalOrder cmp) wher
           lower = within-front (λ s. cmp s.0 key ≡ Less) front (reverse back) (weaker (λ s. Below cmp s.0 key) (λ s. cmp s.0 key ≡ Less) (λ s b. is_less' (cmp s.0 key) b) front low);
           higher = within-back (λ s. cmp s.0 key ≡ Greater) front (reverse back) (highs key (reverse back) (map-behind front (reverse back) m) n f);
         },
-        sym (insert-between front (reverse back) (key, v)),
+        ap (λ t. front ++ t) (reverse-append back ((key, v) ∷ [])) ∙ sym (insert-here front (reverse back) (key, v)),
       )
 
-  pub low-upto : (key : K) (rows : List (K × V)) → AllByRecursion (λ s. Below cmp s.0 key) rows → AllByRecursion (λ s. Upto cmp s.0 key) rows
-  low-upto key = weaker (λ s. Below cmp s.0 key) (λ s. Upto cmp s.0 key) (λ s b. low_is_up cmp o s.0 key b)
-
-  pub upto-last : (key : K) (rows : List (K × V)) (v : V) → AllByRecursion (λ s. Below cmp s.0 key) rows → AllByRecursion (λ s. Upto cmp s.0 key) (rows ++ (key, v) ∷ [])
-  upto-last key rows v low = all-last (λ s. Upto cmp s.0 key) rows (key, v) (low-upto key rows low) (up_self cmp o key)
-
-  pub upto-same : (k l : K) (rows : List (K × V)) → Same cmp k l → AllByRecursion (λ s. Upto cmp s.0 k) rows → AllByRecursion (λ s. Upto cmp s.0 l) rows
-  upto-same k l rows e = weaker (λ s. Upto cmp s.0 k) (λ s. Upto cmp s.0 l) (λ s u. up_up cmp o s.0 k l u (same_up cmp o k l e)) rows
+  pub low-further : (k l : K) (rows : List (K × V)) → Upto cmp k l → AllByRecursion (λ s. Below cmp s.0 k) rows → AllByRecursion (λ s. Below cmp s.0 l) rows
+  low-further k l rows e = weaker (λ s. Below cmp s.0 k) (λ s. Below cmp s.0 l) (λ s u. low_up cmp o s.0 k l u e) rows
 
   pub low-same : (k l : K) (rows : List (K × V)) → Same cmp k l → AllByRecursion (λ s. Below cmp s.0 k) rows → AllByRecursion (λ s. Below cmp s.0 l) rows
-  low-same k l rows e = weaker (λ s. Below cmp s.0 k) (λ s. Below cmp s.0 l) (λ s u. low_up cmp o s.0 k l u (same_up cmp o k l e)) rows
+  low-same k l rows e = low-further k l rows (same_up cmp o k l e)
 
-  pub upto-low : (k l : K) (rows : List (K × V)) → Below cmp k l → AllByRecursion (λ s. Upto cmp s.0 k) rows → AllByRecursion (λ s. Below cmp s.0 l) rows
-  upto-low k l rows e = weaker (λ s. Upto cmp s.0 k) (λ s. Below cmp s.0 l) (λ s u. up_low cmp o s.0 k l u e) rows
+  -- rows below a key are below all that don't fall behind it
+  pub low-all : (k : K) (front rows : List (K × V)) → AllByRecursion (λ s. Below cmp s.0 k) front → AllByRecursion (λ r. Upto cmp k r.0) rows → AllByRecursion (λ r. AllByRecursion (λ s. Below cmp s.0 r.0) front) rows
+  low-all k front rows low = weaker (λ r. Upto cmp k r.0) (λ r. AllByRecursion (λ s. Below cmp s.0 r.0) front) (λ r u. low-further k r.0 front u low) rows
+
+  -- rows below the first of rising rows are below all of these
+  pub low_first : (theirs : List (K × V)) (r : K × V) (front : List (K × V)) → r ≡ get_or theirs 0 r → IsRising cmp theirs → AllByRecursion (λ s. Below cmp s.0 r.0) front → AllByRecursion (λ t. AllByRecursion (λ s. Below cmp s.0 t.0) front) theirs
+  low_first [] r front e up low = tt
+  low_first (t ∷ theirs) r front e up low =
+      let here : AllByRecursion (λ s. Below cmp s.0 t.0) front = subst (λ (q : K × V). AllByRecursion (λ s. Below cmp s.0 q.0) front) e low in
+      (here, low-all t.0 front theirs here up.0)
 
   pub next-some : (key : K) (back : List (K × V)) → first_is cmp key (reverse back) ≡ true → 0 < length back
   next-some key [] e = absurd (cc)

@@ -1,5 +1,5 @@
 -- A pull from what it asks and what it joins.
-use Rattle.std.proofs.Common.{◌≡◌, ℕ, ◌≤◌, Bool, List, [], ◌∷◌, Some, refl, subst}
+use Rattle.std.proofs.Common.{◌≡◌, ℕ, ◌≤◌, Bool, List, [], ◌∷◌, Some, length, refl, sym, subst}
 use Rattle.std.specs.Cmp.{IsTotalOrder}
 use Rattle.std.specs.declared.cmp.Ordering.{Ordering}
 use Rattle.key_order.specs.Interval.{Span, IsCovered}
@@ -8,7 +8,13 @@ use Rattle.merkle_search_tree.specs.Page.{pairs}
 use Rattle.merkle_search_tree.specs.Ranges.{IsPageOf}
 use Rattle.merkle_search_tree.specs.Stream.{page_digest}
 use Rattle.merkle_search_tree.specs.declared.builder.PageFormat.{PageFormat}
-use Rattle.merkle_search_tree.proofs.Listing.{lists}
+use Rattle.key_order.specs.Join.{IsJoin}
+use Rattle.merkle_diff.specs.Entry.{Entry}
+use Rattle.merkle_diff.specs.TreeShape.{IsTreeShaped}
+use Rattle.merkle_digest.specs.Level.{level_of}
+use Rattle.merkle_search_tree.proofs.Listing.{lists, ascends}
+use Rattle.merkle_search_tree.proofs.RangeShape.{tree_shaped}
+use Rattle.merkle_replica.specs.Steps.{IsAnswerTo}
 use Rattle.merkle_replica.specs.Contents.{Contents, SameSetup, digests}
 use Rattle.merkle_replica.specs.Pulls.{IsAnswerFor, IsPull, IsPartOfPull, HasRanges}
 use Rattle.merkle_search_tree.specs.Faithful.{HasFaithfulPages}
@@ -66,3 +72,22 @@ module _ {K V H : Type 0} (cmp : K → K → Ordering) (eq : V → V → Bool) (
       span_digests b [] h = tt
       span_digests [] (r ∷ rs) h = h
       span_digests (s ∷ ss) (r ∷ rs) h = rw (last_digests (vd hl) r.0 rs, last_digests (vd hp) s.0 ss) h
+
+  -- the steps of a pull, where the list that came is that of the peer's rows and the rows that came are those in the ranges
+  pub steps_pull : IsTotalOrder cmp → (hl hp : H) (bl bp : ℕ) (fl fp : PageFormat) (local peer after : List (K × V)) (theirs : List (Entry K (List ℕ))) (found : List (Span K)) → IsMap cmp peer
+      → HasRanges cmp kd vd bo hp bp fp peer theirs → IsAnswerTo cmp (HasRanges cmp kd vd bo hl bl fl) local theirs found → IsJoin cmp eq join local (rows_in cmp found peer) after
+      → IsPull cmp eq join (HasRanges cmp kd vd bo hl bl fl) (HasRanges cmp kd vd bo hp bp fp) local peer (record { ranges = found; joined = length (rows_in cmp found peer) }) after
+  steps_pull o hl hp bl bp fl fp local peer after theirs found ap (t, is, e) a j =
+      let up = ascends cmp o (λ d c. d ≡ c) (pairs t) (digests (vd hp) peer) is.1 (ascending_digests cmp o (vd hp) peer ap) in
+      record {
+        answered = record {
+          local_list = a.local_list;
+          peer_list = theirs;
+          of_local = a.of_local;
+          of_peer = (t, is, e);
+          interval_laws = a.interval_laws;
+          laws_on_trees = a.laws_on_trees (subst (IsTreeShaped cmp) (sym e) (tree_shaped cmp o (λ k. level_of (kd hp k) bp) fp bo t is.0 up));
+        };
+        counted = refl;
+        joins = j;
+      }

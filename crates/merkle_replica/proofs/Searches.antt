@@ -1,7 +1,7 @@
 -- A search by halving among rows, and an edit at the place that it finds.
 use Rattle.std.proofs.Common.{◌≡◌, ℕ, Bool, true, false, List, [], ◌∷◌, length, get_or, set as list_set, Some, Result, Ok, Err, IfOk, IfErr, sym, ◌∙◌, ap, subst}
 use Rattle.std.specs.List.{insert}
-use Rattle.std.specs.Result.{is_err, OnOk, OnErr}
+use Rattle.std.specs.Result.{is_err, is_ok, OnOk, OnErr}
 use Rattle.std.specs.List.Sorted.{IsSearchInRange, IsBinarySearchResult}
 use Rattle.std.specs.Cmp.{IsTotalOrder, IsEquivalence}
 use Rattle.std.specs.declared.cmp.Ordering.{Ordering}
@@ -48,6 +48,11 @@ module _ {K V : Type 0} (cmp : K → K → Ordering) (o : IsTotalOrder cmp) wher
 pub went : {T E P : Type 0} (r : Result T E) → is_err r ≡ false → OnOk r P → P
 went (Ok x) n p = p
 went (Err x) n p = cc
+
+-- the same by the other test
+pub went_well : {T E P : Type 0} (r : Result T E) → is_ok r ≡ true → OnOk r P → P
+went_well (Ok x) n p = p
+went_well (Err x) n p = cc
 
 -- and where it is one
 pub refused : {T E P : Type 0} (r : Result T E) → is_err r ≡ true → OnErr r P → P

@@ -44,7 +44,7 @@ or_else true b h = refl
 or_else false b h = h
 
 module _ {K : Type 0} (cmp : K → K → Ordering) (o : IsTotalOrder cmp) where
-  upto_true : (a b : K) → Upto cmp a b → upto cmp a b ≡ true
+  pub upto_true : (a b : K) → Upto cmp a b → upto cmp a b ≡ true
   upto_true a b h = ap not h
 
   upto_from : (a b : K) → upto cmp a b ≡ true → Upto cmp a b

@@ -23,14 +23,14 @@ module _ {K : Type 0} (cmp : K → K → Ordering) (o : IsTotalOrder cmp) where
     pub apart : IsApart cmp left
     pub rest : rows_in cmp ss rows ≡ seen ++ rows_in cmp left (drop i rows)
 
-  left_all : {V : Type 0} (ss : List (Span K)) (rows : List (K × V)) → IsApart cmp ss → Left ss rows [] ss 0
+  pub left_all : {V : Type 0} (ss : List (Span K)) (rows : List (K × V)) → IsApart cmp ss → Left ss rows [] ss 0
   left_all ss rows a = record { apart = a; rest = refl }
 
   module _ {V : Type 0} (ss : List (Span K)) (rows seen : List (K × V)) (left next : List (Span K)) (i : ℕ) (r : K × V) (m : IsMap cmp rows) (inside : i < length rows) (read : r ≡ get_or rows i r) (l : Left ss rows seen left i) (sought : next ≡ ranges_from cmp r.0 left) where
     here : drop i rows ≡ r ∷ drop (suc i) rows
     here = from_place cmp o rows i r inside ∙ ap (λ q. q ∷ drop (suc i) rows) (sym read)
 
-    apart_next : IsApart cmp next
+    pub apart_next : IsApart cmp next
     apart_next = subst (IsApart cmp) (sym sought) (apart_from cmp o left r.0 l.apart)
 
     -- the walk has come to r
@@ -40,10 +40,10 @@ module _ {K : Type 0} (cmp : K → K → Ordering) (o : IsTotalOrder cmp) where
         (ap (rows_in cmp left) here ∙ swept cmp o left next r (drop (suc i) rows) l.apart (subst (IsMap cmp) here (map_drop cmp o rows i m)) sought)
 
     -- a row that is found, though not yet taken
-    still : begins_upto cmp r.0 next ≡ true → rows_in cmp ss rows ≡ seen ++ r ∷ rows_in cmp next (drop (suc i) rows)
+    pub still : begins_upto cmp r.0 next ≡ true → rows_in cmp ss rows ≡ seen ++ r ∷ rows_in cmp next (drop (suc i) rows)
     still b = rw b at at_row
 
-    passes : begins_upto cmp r.0 next ≡ false → Left ss rows seen next (suc i)
+    pub passes : begins_upto cmp r.0 next ≡ false → Left ss rows seen next (suc i)
     passes b = record { apart = apart_next; rest = rw b at at_row }
 
     takes_row : begins_upto cmp r.0 next ≡ true → Left ss rows (seen ++ r ∷ []) next (suc i)
@@ -52,7 +52,7 @@ module _ {K : Type 0} (cmp : K → K → Ordering) (o : IsTotalOrder cmp) where
     below_row : begins_upto cmp r.0 next ≡ true → AllByRecursion (λ s. Below cmp s.0 r.0) seen
     below_row b = before_row cmp o seen (rows_in cmp next (drop (suc i) rows)) r (subst (IsMap cmp) (still b) (map_at cmp o (λ k. is_covered cmp k ss) rows m))
 
-  left_none : {V : Type 0} (ss : List (Span K)) (rows seen : List (K × V)) (left : List (Span K)) (i : ℕ) → length rows ≤ i → Left ss rows seen left i → rows_in cmp ss rows ≡ seen
+  pub left_none : {V : Type 0} (ss : List (Span K)) (rows seen : List (K × V)) (left : List (Span K)) (i : ℕ) → length rows ≤ i → Left ss rows seen left i → rows_in cmp ss rows ≡ seen
   left_none ss rows seen left i e l = l.rest ∙ ap (λ t. seen ++ rows_in cmp left t) (drop_all i rows e) ∙ append-nil seen
 
   -- the walk has counted the rows that it has seen

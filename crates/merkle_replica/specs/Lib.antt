@@ -3,7 +3,9 @@ pub mod Pulls
 pub mod Faithful
 pub mod Answers
 pub mod Places
+pub mod Puts
 pub mod Parted
+pub mod Steps
 pub mod Sweep
 pub use Rattle.key_order.specs.Order
 pub use Rattle.key_order.specs.Interval

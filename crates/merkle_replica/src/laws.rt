@@ -3,13 +3,16 @@
 ghost use Rattle.std.specs.Prelude.{◌≡◌, ℕ, ◌≤◌, List, Some, length};
 ghost use Rattle.std.specs.List.{AllByRecursion};
 ghost use Rattle.key_order.specs.Interval.{Span, IsCovered};
-ghost use Rattle.key_order.specs.Map.{IsMap, get};
+ghost use Rattle.key_order.specs.Map.{IsMap, get, rows_in};
 ghost use Rattle.key_order.specs.Join.{IsJoin};
 ghost use Rattle.merkle_search_tree.specs.Faithful.{IsSmall, NoCollision};
 ghost use Rattle.merkle_search_tree.specs.declared.builder.PageFormat.TheVariants.{V2};
 ghost use Rattle.merkle_replica.specs.Contents.{digests};
 ghost use Rattle.merkle_replica.specs.Faithful.{SpanHolds, IsFaithful, IsCollisionFree};
-ghost use Rattle.merkle_replica.specs.Pulls.{Answer, IsAnswerFor, IsByTurns, HasRanges};
+ghost use Rattle.merkle_replica.specs.Pulls.{Answer, IsAnswerFor, IsPull, IsByTurns, HasRanges};
+ghost use Rattle.merkle_replica.specs.Steps.{IsAnswerTo};
+ghost use Rattle.merkle_diff.specs.Entry.{Entry};
+ghost use Rattle.merkle_search_tree.specs.declared.builder.PageFormat.{PageFormat};
 
 use crate::join::Join;
 use crate::replica::Replica;
@@ -71,3 +74,23 @@ pub fn a_replica_in_memory_is_small<
 {
     a_tree_in_memory_is_small(replica.tree());
 }
+
+/// The three steps of a pull are a pull, whatever lies between them: where the ranges are an answer to the page ranges of the peer's
+/// rows, and the peer's rows in them were joined. So coverage and convergence hold of such steps as of pulls, under any hashers, level
+/// bases and page formats.
+pub fn steps_are_a_pull<
+    K: Ord + KeyBytes,
+    V: Join,
+    H: Hasher<N, K> + Hasher<N, V>,
+    const N: usize,
+>()
+    ensures { (local_hasher peer_hasher : H) (local_base peer_base : ℕ) (local_format peer_format : PageFormat) (local peer after : List (K × V)) (theirs : List (Entry K (List ℕ))) (found : List (Span K))
+        → IsMap K.cmp peer
+        → HasRanges K.cmp ⟦<H as Hasher<N, K>>⟧.digest_of ⟦<H as Hasher<N, V>>⟧.digest_of K.bytes_of peer_hasher peer_base peer_format peer theirs
+        → IsAnswerTo K.cmp (HasRanges K.cmp ⟦<H as Hasher<N, K>>⟧.digest_of ⟦<H as Hasher<N, V>>⟧.digest_of K.bytes_of local_hasher local_base local_format) local theirs found
+        → IsJoin K.cmp V.eq V.join_of local (rows_in K.cmp found peer) after
+        → IsPull K.cmp V.eq V.join_of
+        (HasRanges K.cmp ⟦<H as Hasher<N, K>>⟧.digest_of ⟦<H as Hasher<N, V>>⟧.digest_of K.bytes_of local_hasher local_base local_format)
+        (HasRanges K.cmp ⟦<H as Hasher<N, K>>⟧.digest_of ⟦<H as Hasher<N, V>>⟧.digest_of K.bytes_of peer_hasher peer_base peer_format)
+        local peer (record { ranges = found; joined = length (rows_in K.cmp found peer) }) after }
+{}

@@ -2,7 +2,7 @@
 //!
 //! A [`Replica`] keeps its rows with the Merkle search tree of the digests of its values (`Contents`). Replicas pull from each
 //! other what their trees show to differ (`Pulls`), and after four pulls by turns hold the join of their maps while digests are
-//! faithful (`Faithful`).
+//! faithful (`Faithful`). A pull can also be made in three steps, with whatever lies between two machines between them (`Steps`).
 #![tactic(auto)]
 
 mod faults;
@@ -11,7 +11,10 @@ mod join;
 pub mod laws;
 mod merge;
 mod pull;
+mod puts;
 mod replica;
+mod rows_within;
+mod steps;
 mod sweep;
 mod turns;
 mod value_hasher;
@@ -19,6 +22,9 @@ mod value_hasher;
 pub use greatest::Greatest;
 pub use join::Join;
 pub use pull::{PullError, Pulled};
+pub use puts::PutsCut;
 pub use replica::{Replica, RowsRefused};
+pub use rows_within::RowsWithin;
+pub use steps::JoinRefused;
 pub use turns::{TurnsError, pull_by_turns};
 pub use value_hasher::ValueHasher;

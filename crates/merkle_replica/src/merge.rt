@@ -4,12 +4,13 @@
 ghost use Rattle.std.specs.Prelude.{◌≡◌, ◌≤◌, ◌<◌, ◌+◌, [], ◌∷◌, ◌++◌, reverse, IfOk, IfErr, OnOk, OnErr};
 ghost use Rattle.std.specs.Vec.{vec_len, vec_capacity};
 ghost use Rattle.std.specs.List.{AllByRecursion};
-ghost use Rattle.key_order.specs.Order.{Same, Below, Upto};
+ghost use Rattle.key_order.specs.Order.{Same, Below};
 ghost use Rattle.key_order.specs.Interval.{IsApart, IsOrdered};
 ghost use Rattle.key_order.specs.Map.{IsMap, rows_in};
 ghost use Rattle.key_order.specs.Join.{IsJoin};
 ghost use Rattle.merkle_replica.specs.Contents.{IsKept};
 ghost use Rattle.merkle_replica.specs.Answers.{spans_of, IsDone, IsCut};
+ghost use Rattle.merkle_replica.specs.Puts.{IsRising, HasGathered, IsGatheredTo};
 ghost use Rattle.merkle_replica.specs.Parted.{whole, FirstNotBelow, first_is};
 
 use crate::join::Join;
@@ -88,7 +89,7 @@ fn is_next<K: Ord, V>(back: &[(K, V)], key: &K) -> bool
     }
 }
 
-/// Joins a row at the place, to which all rows before it are below its key.
+/// Joins a row, below which all rows before the place are, and leaves the place at it.
 fn join_here<K, V, H, const N: usize>(
     alloc: Global,
     front: &mut Vec<(K, V)>,
@@ -108,7 +109,7 @@ where
     ensures kept { IsKept K.cmp ⟦<H as Hasher<N, V>>⟧.digest_of (record { rows = whole front.new.items back.new.items; tree = tree.new }) }
     ensures joined { OnOk result (IsJoin K.cmp V.eq V.join_of (whole front.old.items back.old.items) ((key, value) ∷ []) (whole front.new.items back.new.items)) }
     ensures unchanged { OnErr result (whole front.new.items back.new.items ≡ whole front.old.items back.old.items) }
-    ensures upto { OnOk result (AllByRecursion (λ s. Upto K.cmp s.0 key) front.new.items) }
+    ensures below { AllByRecursion (λ s. Below K.cmp s.0 key) front.new.items }
     ensures len { vec_len front.new + vec_len back.new ≤ vec_len front.old + vec_len back.old + 1 }
     ensures capacity { vec_capacity front.old ≤ vec_capacity front.new }
     ensures hasher { tree.new.hasher ≡ tree.old.hasher }
@@ -125,11 +126,13 @@ where
         back[at].1 = stored;
         return Ok(());
     }
+    // A new row waits behind the place, so that the next one may have its key.
+    back.reserve_exact(1)?;
     let own = key.clone()?;
     if tree.upsert(own, &value).is_err() {
         return Err(AllocError);
     }
-    match front.push((key, value)) {
+    match back.push((key, value)) {
         Ok(()) => Ok(()),
         Err(_) => unreachable!(),
     }
@@ -154,7 +157,7 @@ where
     ensures kept { IsKept K.cmp ⟦<H as Hasher<N, V>>⟧.digest_of (record { rows = whole front.new.items back.new.items; tree = tree.new }) }
     ensures joined { OnOk result (IsJoin K.cmp V.eq V.join_of (whole front.old.items back.old.items) (row.now ∷ []) (whole front.new.items back.new.items)) }
     ensures unchanged { OnErr result (whole front.new.items back.new.items ≡ whole front.old.items back.old.items) }
-    ensures upto { OnOk result (AllByRecursion (λ s. Upto K.cmp s.0 row.now.0) front.new.items) }
+    ensures below { OnOk result (AllByRecursion (λ s. Below K.cmp s.0 row.now.0) front.new.items) }
     ensures len { vec_len front.new + vec_len back.new ≤ vec_len front.old + vec_len back.old + 1 }
     ensures capacity { vec_capacity front.old ≤ vec_capacity front.new }
     ensures hasher { tree.new.hasher ≡ tree.old.hasher }
@@ -213,4 +216,46 @@ where
     }
     turn_over(&mut back, rows);
     Ok(done)
+}
+
+/// Joins rows that don't fall with `rows`, of which those below the first stay where they are. Refused, it answers how many of them
+/// are joined.
+pub(crate) fn join_owned<K, V, H, const N: usize>(
+    alloc: Global,
+    rows: &mut Vec<(K, V)>,
+    tree: &mut MerkleSearchTree<K, V, H, N>,
+    theirs: Vec<(K, V)>,
+) -> Result<(), usize>
+where
+    K: Ord + KeyBytes + Clone + Drop,
+    V: Join + Drop,
+    H: Hasher<N, K> + Hasher<N, V>,
+    requires clones { (a b : K) → K.is_clone a b → Same K.cmp a b }
+    requires rising { IsRising K.cmp theirs.items }
+    requires kept { IsKept K.cmp ⟦<H as Hasher<N, V>>⟧.digest_of (record { rows = rows.old.items; tree = tree.old }) }
+    ensures kept { IsKept K.cmp ⟦<H as Hasher<N, V>>⟧.digest_of (record { rows = rows.new.items; tree = tree.new }) }
+    ensures all { OnOk result (HasGathered K.cmp V.eq V.join_of rows.old.items theirs.items rows.new.items) }
+    ensures cut { IfErr result (λ done. IsGatheredTo K.cmp V.eq V.join_of rows.old.items theirs.items done rows.new.items) }
+    ensures hasher { tree.new.hasher ≡ tree.old.hasher }
+    ensures base { tree.new.base ≡ tree.old.base }
+    ensures format { tree.new.format ≡ tree.old.format }
+{
+    let joined = theirs.len();
+    if joined == 0 {
+        return Ok(());
+    }
+    let mut back = match part(rows, &theirs[0].0, joined) {
+        Ok(back) => back,
+        Err(_) => return Err(0),
+    };
+    let mut done = 0;
+    'joining: for row in theirs {
+        if join_here(alloc, rows, &mut back, tree, row.0, row.1).is_err() {
+            turn_over(&mut back, rows);
+            return Err(done);
+        }
+        done += 1;
+    }
+    turn_over(&mut back, rows);
+    Ok(())
 }

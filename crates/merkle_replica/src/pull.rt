@@ -6,6 +6,7 @@ ghost use Rattle.key_order.specs.Map.{get, rows_in};
 ghost use Rattle.key_order.specs.Join.{IsJoin};
 ghost use Rattle.merkle_diff.specs.DiffRange.{spans};
 ghost use Rattle.merkle_diff.specs.Merge.{SameSpans};
+ghost use Rattle.merkle_diff.specs.PageRangeSnapshot.{snapshot_entries};
 ghost use Rattle.merkle_search_tree.specs.Faithful.{HasFaithfulPages};
 ghost use Rattle.merkle_search_tree.specs.Page.{pairs};
 ghost use Rattle.merkle_search_tree.specs.Ranges.{IsPageOf};
@@ -13,11 +14,12 @@ ghost use Rattle.merkle_search_tree.specs.Stream.{page_digest};
 ghost use Rattle.merkle_replica.specs.Contents.{SameSetup, digests};
 ghost use Rattle.merkle_replica.specs.Pulls.{IsAnswerFor, IsPull, HasRanges};
 ghost use Rattle.merkle_replica.specs.Faithful.{SpanHolds};
-ghost use Rattle.merkle_replica.specs.Answers.{spans_of, answer_of, IsRefused, IsDone, IsCut};
+ghost use Rattle.merkle_replica.specs.Answers.{spans_of, answer_of, IsRefused};
+ghost use Rattle.merkle_replica.specs.Steps.{IsAnswerTo};
 
 use crate::join::Join;
 use crate::replica::Replica;
-use merkle_diff::{DiffRange, diff};
+use merkle_diff::{DiffRange, PageRangeSnapshot, diff};
 use merkle_digest::{Hasher, KeyBytes};
 use merkle_search_tree::laws::{every_tree_is_sound, page_ranges_are_tree_shaped};
 use std::alloc::{AllocError, Global};
@@ -179,6 +181,33 @@ fn ask<
         None => unreachable!(),
     };
     let found = diff(alloc, ours, theirs)?;
+    own_bounds(alloc, &found)
+}
+
+/// The ranges that `local`, which is hashed, may ask of a peer that sent these page ranges, with bounds of their own.
+pub(crate) fn ask_of<
+    K: Ord + KeyBytes + Clone + Drop,
+    V: Join + Drop,
+    H: Hasher<N, K> + Hasher<N, V>,
+    const N: usize,
+>(
+    alloc: Global,
+    local: &Replica<K, V, H, N>,
+    theirs: &PageRangeSnapshot<K>,
+) -> Result<Vec<(K, K)>, AllocError>
+    requires clones { (a b : K) → K.is_clone a b → Same K.cmp a b }
+    requires hashed { IsSome local.now.tree.root_hash }
+    ensures { IfOk result (λ ranges. IsAnswerTo K.cmp
+        (HasRanges K.cmp ⟦<H as Hasher<N, K>>⟧.digest_of ⟦<H as Hasher<N, V>>⟧.digest_of K.bytes_of local.now.tree.hasher local.now.tree.base local.now.tree.format)
+        local.now.rows (snapshot_entries theirs.now) (spans_of ranges.items)) }
+{
+    every_tree_is_sound(local.tree());
+    page_ranges_are_tree_shaped(local.tree());
+    let ours = match local.tree().serialise_page_ranges()? {
+        Some(ours) => ours,
+        None => unreachable!(),
+    };
+    let found = diff(alloc, ours, theirs.iter())?;
     own_bounds(alloc, &found)
 }
 

@@ -11,7 +11,7 @@ ghost use Rattle.merkle_replica.specs.Contents.{IsEmpty, SameSetup, digests};
 ghost use Rattle.merkle_replica.specs.Places.{IsPlaceOf, IsGapFor};
 
 use crate::join::Join;
-use crate::merge::join_all;
+use crate::merge::{join_all, join_owned};
 use crate::pull::Cut;
 use crate::value_hasher::ValueHasher;
 use merkle_digest::{Hasher, KeyBytes, RootHash};
@@ -141,7 +141,8 @@ impl<
     const N: usize,
 > Replica<K, V, H, N> {
     /// Joins a row: a new key is added, and a key that is there holds the join of both values. It finds the key's place by
-    /// halving, and moves the rows behind a new one up by one.
+    /// halving, and moves the rows behind a new one up by one: at a random place half of them, which takes 7 µs at 25,000 rows, 39 at
+    /// 100,000 and 761 at a million. [`put_all`](Self::put_all) is for many rows.
     ///
     /// Where memory is refused, the replica is unchanged, and key and value are given up.
     ///
@@ -278,6 +279,7 @@ impl<
     ghost use Rattle.key_order.specs.Interval.{IsApart, IsOrdered};
     ghost use Rattle.key_order.specs.Map.{rows_in};
     ghost use Rattle.merkle_replica.specs.Answers.{spans_of, IsDone, IsCut};
+    ghost use Rattle.merkle_replica.specs.Puts.{IsRising, HasGathered, IsGatheredTo};
 
     /// Joins the rows of `theirs` in the ranges, in one pass over both, and answers how many they are.
     pub(crate) fn join_within(&mut self, theirs: &[(K, V)], ranges: &[(K, K)]) -> Result<usize, Cut>
@@ -290,6 +292,17 @@ impl<
         ensures setup { SameSetup self.old self.new }
     {
         join_all(self.alloc, &mut self.rows, &mut self.tree, theirs, ranges)
+    }
+
+    /// Joins rows whose keys don't fall, in one pass over both. Refused, it answers how many of them are joined.
+    pub(crate) fn join_rising(&mut self, theirs: Vec<(K, V)>) -> Result<(), usize>
+        requires clones { (a b : K) → K.is_clone a b → Same K.cmp a b }
+        requires rising { IsRising K.cmp theirs.items }
+        ensures all { OnOk result (HasGathered K.cmp V.eq V.join_of self.old.rows theirs.items self.new.rows) }
+        ensures cut { IfErr result (λ done. IsGatheredTo K.cmp V.eq V.join_of self.old.rows theirs.items done self.new.rows) }
+        ensures setup { SameSetup self.old self.new }
+    {
+        join_owned(self.alloc, &mut self.rows, &mut self.tree, theirs)
     }
 }
 

@@ -55,14 +55,14 @@ pub fn first_from<K: Ord, V>(rows: &[(K, V)], key: &K) -> usize
 }
 
 /// Whether `a` is at most `b`.
-fn is_upto<K: Ord>(a: &K, b: &K) -> bool
+pub fn is_upto<K: Ord>(a: &K, b: &K) -> bool
     ensures { result ≡ upto K.cmp a.now b.now }
 {
     a <= b
 }
 
 /// Whether `a` is below `b`.
-fn is_below<K: Ord>(a: &K, b: &K) -> bool
+pub fn is_below<K: Ord>(a: &K, b: &K) -> bool
     ensures { result ≡ below K.cmp a.now b.now }
 {
     a < b

@@ -3,13 +3,14 @@ use Rattle.std.specs.List.{AllByRecursion}
 use Rattle.key_order.specs.Map.{rows_in}
 use Rattle.key_order.specs.Order.{Below}
 use Rattle.merkle_replica.specs.Answers.{spans_of, IsDone, IsCut}
+use Rattle.key_order.proofs.Orders.{low_is_up}
 use Rattle.merkle_replica.specs.Contents.{IsKept}
 use Rattle.merkle_replica.specs.Parted.{whole}
 use Rattle.merkle_replica.proofs.Searches.{went, refused}
 use Rattle.merkle_replica.proofs.Within.{Joins, joins_none, joins_past, joins_more, cut_short, all_done}
 use Rattle.merkle_replica.specs.Sweep.{begins_upto}
 use Rattle.merkle_replica.proofs.Sweeps.{rows_rise, first_upto, first_low, some_range}
-use Rattle.merkle_replica.proofs.Merging.{cut-none, upto-low}
+use Rattle.merkle_replica.proofs.Merging.{cut-none, low-further}
 use Rattle.merkle_replica.proofs.merge.join_all.Goals as goal
 use Rattle.merkle_replica.proofs.merge.join_all.Goals.{then-found+else-is_err, else-found}
 
@@ -98,9 +99,9 @@ joining-preserved g c =
             few = omega arith;
             kept = w.take_row.ensures.kept;
             low = λ j d p q b.
-                let up = went w.take_row.result (sym w.is_err.ensures.value ∙ w.if-is_err.false) w.take_row.ensures.upto in
+                let low = went w.take_row.result (sym w.is_err.ensures.value ∙ w.if-is_err.false) w.take_row.ensures.below in
                 let rise = rows_rise g.K.Ord.cmp g.met.K.Ord.total theirs i j row d c.requires.ascending (omega (arith, p)) q in
-                upto-low g.K.Ord.cmp g.met.K.Ord.total row.0 (get_or theirs j d).0 w.take_row.new.front.items (subst (λ (r : g.row.K.Denot × g.row.V.Denot). Below g.K.Ord.cmp r.0 (get_or theirs j d).0) (sym c.row-item.is) rise) up;
+                low-further g.K.Ord.cmp g.met.K.Ord.total row.0 (get_or theirs j d).0 w.take_row.new.front.items (low_is_up g.K.Ord.cmp g.met.K.Ord.total row.0 (get_or theirs j d).0 (subst (λ (r : g.row.K.Denot × g.row.V.Denot). Below g.K.Ord.cmp r.0 (get_or theirs j d).0) (sym c.row-item.is) rise)) low;
             room = omega (arith, c.joining.invariant.room, w.take_row.ensures.len, w.take_row.ensures.capacity);
             hasher = w.take_row.ensures.hasher ∙ c.joining.invariant.hasher;
             base = w.take_row.ensures.base ∙ c.joining.invariant.base;

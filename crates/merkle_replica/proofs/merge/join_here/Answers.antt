@@ -1,6 +1,4 @@
-use Rattle.std.proofs.Common.{◌≡◌, ◌-◌, suc, [], ◌∷◌, length, reverse, true, false, set as list_set, ap, sym, subst, ◌∙◌, arith}
-use Rattle.std.specs.List.{AllByRecursion}
-use Rattle.key_order.specs.Order.{Upto}
+use Rattle.std.proofs.Common.{◌≡◌, ◌-◌, suc, [], ◌∷◌, ◌++◌, length, reverse, true, false, set as list_set, ap, sym, subst, ◌∙◌, arith}
 use Rattle.std.specs.Cmp.{tied_itself, tied_back}
 use Rattle.key_order.specs.Join.{IsJoin}
 use Rattle.key_order.specs.Map.{IsMap}
@@ -8,7 +6,7 @@ use Rattle.merkle_replica.specs.Contents.{IsKept}
 use Rattle.merkle_replica.specs.Parted.{whole, first_is}
 use Rattle.merkle_replica.proofs.Follows.{kept_set}
 use Rattle.merkle_replica.proofs.Searches.{set_there, set_new, joins_there, joins_new, went}
-use Rattle.merkle_replica.proofs.Merging.{at-next, at-gap, low-upto, upto-last, next-some}
+use Rattle.merkle_replica.proofs.Merging.{at-next, at-gap, next-some}
 use Rattle.merkle_replica.proofs.merge.join_here.Goals as goal
 
 pub returns-then-is_next-clause-kept : goal.returns-then-is_next-clause-kept
@@ -50,9 +48,6 @@ returns-then-is_next-clause-joined g c =
     (subst (IsJoin cmp eq join (whole F B) ((key, c.args.value) ∷ [])) (sym (p.2 ∙ set_there cmp o (whole F B) (length F) x key c.in_ok-stored.stored up p.0 p.1))
     (joins_there cmp o eq g.met.V.Eq.laws join g.met.V.Join.joining (whole F B) (length F) y key c.args.value c.in_ok-stored.stored up q.0 q.1 c.in_ok-stored.ensures))
 
-pub returns-then-is_next-clause-upto : goal.returns-then-is_next-clause-upto
-returns-then-is_next-clause-upto g c = low-upto g.K.Ord.cmp g.met.K.Ord.total c.args.key c.pass.new.front.items c.pass.ensures.below
-
 pub returns-clause-kept : goal.returns-clause-kept
 returns-clause-kept g c =
     let cmp = g.K.Ord.cmp in
@@ -64,7 +59,7 @@ returns-clause-kept g c =
     let kept : IsKept cmp g.H.Hasher-2.digest_of (record { rows = whole F B; tree = c.args.tree.now }) = subst (λ w. IsKept cmp g.H.Hasher-2.digest_of (record { rows = w; tree = c.args.tree.now })) (sym c.pass.ensures.whole) c.requires.kept in
     let p = at-gap cmp o F B key c.args.value c.pass.ensures.below kept.ascending c.pass.ensures.next is in
     kept_set cmp g.H.Hasher-2.digest_of o (whole F B) _ c.args.tree.now c.upsert-2.new.self c.in_ok-own.own key c.args.value
-    (ap (λ xs. whole xs B) c.in-Ok.ensures.items ∙ p.1 ∙ set_new cmp o (whole F B) (length F) key c.args.value p.0)
+    (ap (whole F) (c.in-Ok.ensures.items ∙ ap (λ xs. xs ++ (key, c.args.value) ∷ []) c.reserve_exact.ensures.items) ∙ p.1 ∙ set_new cmp o (whole F B) (length F) key c.args.value p.0)
     (went c.upsert-2.result (sym c.is_err-2.ensures.value ∙ c.if-is_err-2.false) c.upsert-2.ensures.set)
     c.upsert-2.ensures.hasher (tied_back o key c.in_ok-own.own (c.requires.clones key c.in_ok-own.own c.in_ok-own.ensures.cases)) kept
 
@@ -80,10 +75,6 @@ returns-clause-joined g c =
     let is : first_is cmp key (reverse B) ≡ false = ap (λ xs. first_is cmp key (reverse xs)) (sym c.deref.ensures.value) ∙ sym c.is_next.ensures ∙ c.if-is_next.false in
     let up : IsMap cmp (whole F B) = subst (IsMap cmp) (sym c.pass.ensures.whole) c.requires.kept.ascending in
     let p = at-gap cmp o F B key c.args.value c.pass.ensures.below up c.pass.ensures.next is in
-    subst (λ w. IsJoin cmp eq join w ((key, c.args.value) ∷ []) (whole c.push.new.self.items B)) c.pass.ensures.whole
-    (subst (IsJoin cmp eq join (whole F B) ((key, c.args.value) ∷ [])) (sym (ap (λ xs. whole xs B) c.in-Ok.ensures.items ∙ p.1 ∙ set_new cmp o (whole F B) (length F) key c.args.value p.0))
+    subst (λ w. IsJoin cmp eq join w ((key, c.args.value) ∷ []) (whole F c.push.new.self.items)) c.pass.ensures.whole
+    (subst (IsJoin cmp eq join (whole F B) ((key, c.args.value) ∷ [])) (sym (ap (whole F) (c.in-Ok.ensures.items ∙ ap (λ xs. xs ++ (key, c.args.value) ∷ []) c.reserve_exact.ensures.items) ∙ p.1 ∙ set_new cmp o (whole F B) (length F) key c.args.value p.0))
     (joins_new cmp o eq g.met.V.Eq.laws join g.met.V.Join.joining (whole F B) (length F) key c.args.value up p.0))
-
-pub returns-clause-upto : goal.returns-clause-upto
-returns-clause-upto g c =
-    subst (λ xs. AllByRecursion (λ s. Upto g.K.Ord.cmp s.0 c.args.key) xs) (sym c.in-Ok.ensures.items) (upto-last g.K.Ord.cmp g.met.K.Ord.total c.args.key c.pass.new.front.items c.args.value c.pass.ensures.below)

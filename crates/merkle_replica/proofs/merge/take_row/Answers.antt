@@ -3,7 +3,7 @@ use Rattle.std.proofs.lemmas.Result.{on_ok_weaker}
 use Rattle.std.specs.Cmp.{tied_back}
 use Rattle.merkle_replica.specs.Parted.{whole}
 use Rattle.merkle_replica.proofs.Joined.{join_like}
-use Rattle.merkle_replica.proofs.Merging.{upto-same}
+use Rattle.merkle_replica.proofs.Merging.{low-same}
 use Rattle.merkle_replica.proofs.merge.take_row.Goals as goal
 
 -- the copy has an equal key and an equal value
@@ -18,10 +18,10 @@ returns-clause-joined g c =
     (g.met.V.Eq.laws.congr value (g.V.Join.join_of row.1 row.1) row.1 c.in_ok-value.ensures ∙ g.met.V.Join.joining.idempotent row.1) p)
     c.join_here.ensures.joined
 
-pub returns-clause-upto : goal.returns-clause-upto
-returns-clause-upto g c =
+pub returns-clause-below : goal.returns-clause-below
+returns-clause-below g c =
     let row = c.args.row.now in
     let key = c.in_ok-key.key in
     on_ok_weaker c.join_here.result
-    (λ p. upto-same g.K.Ord.cmp g.met.K.Ord.total key row.0 c.join_here.new.front.items (tied_back g.met.K.Ord.total row.0 key (c.requires.clones row.0 key c.in_ok-key.ensures.cases)) p)
-    c.join_here.ensures.upto
+    (λ p. low-same g.K.Ord.cmp g.met.K.Ord.total key row.0 c.join_here.new.front.items (tied_back g.met.K.Ord.total row.0 key (c.requires.clones row.0 key c.in_ok-key.ensures.cases)) c.join_here.ensures.below)
+    c.join_here.ensures.joined

@@ -1,0 +1,42 @@
+-- Rows in any order, put one after the other.
+use Rattle.std.specs.Prelude.{◌≡◌, ℕ, ◌<◌, Bool, true, cond, List, [], ◌∷◌, length, take, Option, Some, None, ⊤, ◌⊎◌}
+use Rattle.std.specs.List.{AllByRecursion}
+use Rattle.std.specs.List.Sorted.{IsPermutation}
+use Rattle.std.specs.declared.cmp.Ordering.{Ordering}
+use Rattle.std.specs.Ordering.{is_eq}
+use Rattle.key_order.specs.Order.{Upto}
+use Rattle.key_order.specs.Map.{SameValue, IsMap, get}
+use Rattle.key_order.specs.Join.{joined, IsJoin}
+
+module _ {K V : Type 0} (cmp : K → K → Ordering) where
+  -- no key is below one before it
+  abbrev pub IsRising : List (K × V) → Type 0
+  IsRising [] = ⊤
+  IsRising (r ∷ rs) = AllByRecursion (λ s. Upto cmp r.0 s.0) rs × IsRising rs
+
+module _ {K V : Type 0} (cmp : K → K → Ordering) (eq : V → V → Bool) (join : V → V → V) where
+  -- the rows put one after the other into the map `before`
+  abbrev pub IsPuts : List (K × V) → List (K × V) → List (K × V) → Type 0
+  IsPuts before [] after = IsJoin cmp eq join before [] after
+  IsPuts before (r ∷ rs) after = (mid : List (K × V)) × IsJoin cmp eq join before (r ∷ []) mid × IsPuts mid rs after
+
+  -- the join of the values that the rows have for a key
+  abbrev pub gathered : List (K × V) → K → Option V
+  gathered [] k = None
+  gathered (r ∷ rs) k = joined join (cond (is_eq (cmp r.0 k)) (Some r.1) None) (gathered rs k)
+
+  -- `after` is a map that has for each key the join of its value before and of all values that the rows have for it
+  pub record HasGathered (before rows after : List (K × V)) : Type 0 where
+    pub ascending : IsMap cmp after
+    pub values : (k : K) → SameValue (λ x y. eq x y ≡ true) (get cmp after k) (joined join (get cmp before k) (gathered rows k))
+
+  -- the first `done` of the rows are gathered, and not all
+  pub record IsGatheredTo (before rows : List (K × V)) (done : ℕ) (after : List (K × V)) : Type 0 where
+    pub not_all : done < length rows
+    pub gathers : HasGathered before (take done rows) after
+    pub unchanged : done ≡ 0 → after ≡ before
+
+  -- no row is put, or the first `done` of the rows in key order are, and not all
+  abbrev pub IsPutsTo : List (K × V) → List (K × V) → ℕ → List (K × V) → Type 0
+  IsPutsTo before rows done after =
+      ((done ≡ 0) × (after ≡ before)) ⊎ ((sorted : List (K × V)) × IsPermutation rows sorted × IsRising cmp sorted × (done < length sorted) × IsPuts before (take done sorted) after)

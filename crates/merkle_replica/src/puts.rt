@@ -1,0 +1,55 @@
+//! Many rows put at once.
+ghost use Rattle.std.specs.Prelude.{◌≡◌, OnOk, IfErr};
+ghost use Rattle.key_order.specs.Order.{Same};
+ghost use Rattle.merkle_replica.specs.Contents.{SameSetup};
+ghost use Rattle.merkle_replica.specs.Puts.{IsPuts, IsPutsTo};
+
+use crate::join::Join;
+use crate::replica::Replica;
+use merkle_digest::{Hasher, KeyBytes};
+use std::cmp::Ordering;
+
+/// Memory was refused before all rows were put.
+#[derive(Clone, Copy)]
+pub struct PutsCut {
+    /// How many of the rows are joined, the first in key order. At 0 the rows are unchanged.
+    pub done: usize,
+}
+
+impl<
+    K: Ord + KeyBytes + Clone + Drop,
+    V: Join + Drop,
+    H: Hasher<N, K> + Hasher<N, V>,
+    const N: usize,
+> Replica<K, V, H, N> {
+    /// Joins rows in any order, as if each were put, one after the other. It sorts them by key, and joins them in one pass: room for all
+    /// of them is made first, and own rows from the first of them on are moved out of the way and back. A put of each moves the rows
+    /// behind it instead, so this is for many rows.
+    ///
+    /// Where memory is refused, the first rows in key order are joined, and the others are given up.
+    pub fn put_all(&mut self, rows: Vec<(K, V)>) -> Result<(), PutsCut>
+        // A clone of a key equals its original.
+        requires clones { (a b : K) → K.is_clone a b → Same K.cmp a b }
+
+        ensures joined { OnOk result (IsPuts K.cmp V.eq V.join_of self.old.rows rows.items self.new.rows) }
+        ensures cut { IfErr result (λ cut. IsPutsTo K.cmp V.eq V.join_of self.old.rows rows.items cut.done self.new.rows) }
+        ensures setup { SameSetup self.old self.new }
+    {
+        self.rows_ascend();
+        let mut sorted = rows;
+        let is_sorted = sorted
+            .sort_by(
+                |a: &(K, V), b: &(K, V)| -> Ordering
+                    ensures { result ≡ K.cmp a.now.0 b.now.0 }
+                { a.0.cmp(&b.0) },
+            )
+            .is_ok();
+        if !is_sorted {
+            return Err(PutsCut { done: 0 });
+        }
+        match self.join_rising(sorted) {
+            Ok(()) => Ok(()),
+            Err(done) => Err(PutsCut { done }),
+        }
+    }
+}

@@ -1,0 +1,105 @@
+//! The three steps of a pull, each on its own side of a wire: the ranges to ask for, the rows in them, and their join.
+ghost use Rattle.std.specs.Prelude.{◌≡◌, ◌↔◌, IsSome, IfSome, IfOk, IfErr, OnOk, IsTrue};
+ghost use Rattle.key_order.specs.Order.{Same};
+ghost use Rattle.key_order.specs.Map.{IsMap, rows_in};
+ghost use Rattle.key_order.specs.Join.{IsJoin};
+ghost use Rattle.merkle_diff.specs.PageRangeSnapshot.{snapshot_entries};
+ghost use Rattle.merkle_replica.specs.Answers.{spans_of};
+ghost use Rattle.merkle_replica.specs.Contents.{SameSetup};
+ghost use Rattle.merkle_replica.specs.Pulls.{HasRanges};
+ghost use Rattle.merkle_replica.specs.Steps.{AreRanges, IsAnswerTo, IsJoinRefused};
+
+use crate::join::Join;
+use crate::pull::ask_of;
+use crate::replica::Replica;
+use crate::rows_within::{RowsWithin, are_ranges};
+use crate::sweep::is_below;
+use merkle_diff::PageRangeSnapshot;
+use merkle_digest::{Hasher, KeyBytes};
+use std::alloc::AllocError;
+
+/// Why rows that came were not all joined.
+#[derive(Drop)]
+pub enum JoinRefused<K, V> {
+    /// A key is not above the one before it. The rows are handed back, and none of them is joined.
+    NotAscending(Vec<(K, V)>),
+    /// Memory was refused: the first rows are joined, this many and not all, and the others are given up.
+    Memory(usize),
+}
+
+impl<
+    K: Ord + KeyBytes + Clone + Drop,
+    V: Join + Drop,
+    H: Hasher<N, K> + Hasher<N, V>,
+    const N: usize,
+> Replica<K, V, H, N> {
+    /// The first step of a pull: the ranges of keys to ask a peer for that sent these page ranges, ascending, each with its first and
+    /// its last key. Any list will do; where it is that of the peer's tree, the ranges are those of a pull.
+    ///
+    /// It hashes the tree, and copies the bounds of the ranges. Want of memory leaves the rows as they are; pages may have got their
+    /// digests then.
+    pub fn ranges_to_ask_of(
+        &mut self,
+        theirs: &PageRangeSnapshot<K>,
+    ) -> Result<Vec<(K, K)>, AllocError>
+        // A clone of a key equals its original.
+        requires clones { (a b : K) → K.is_clone a b → Same K.cmp a b }
+
+        ensures answer { IfOk result (λ ranges. IsAnswerTo K.cmp
+            (HasRanges K.cmp ⟦<H as Hasher<N, K>>⟧.digest_of ⟦<H as Hasher<N, V>>⟧.digest_of K.bytes_of self.old.tree.hasher self.old.tree.base self.old.tree.format)
+            self.old.rows (snapshot_entries theirs.now) (spans_of ranges.items)) }
+        ensures rows { self.new.rows ≡ self.old.rows }
+        ensures setup { SameSetup self.old self.new }
+    {
+        self.hash();
+        ask_of(self.alloc, self, theirs)
+    }
+
+    /// The second step of a pull, on the peer's side: its rows in these ranges, in ascending key order, without memory. `None` where a
+    /// range ends before it starts, or doesn't start behind the end of the one before it.
+    pub fn rows_within<'a>(&'a self, ranges: &'a [(K, K)]) -> Option<RowsWithin<'a, K, V>>
+        ensures some { IsSome result ↔ AreRanges K.cmp (spans_of ranges.now) }
+        ensures rows { IfSome result (λ rows. rows ≡ rows_in K.cmp (spans_of ranges.now) self.now.rows) }
+    {
+        if are_ranges(ranges) {
+            Some(RowsWithin::new(self.rows(), ranges))
+        } else {
+            None
+        }
+    }
+
+    /// The third step of a pull: joins rows that came, strictly ascending by key, in one pass. Rows that don't ascend are handed back.
+    ///
+    /// Room for all of them is made before the first is joined. Own rows below the first of them stay where they are; those from it on
+    /// are moved out of the way and back.
+    pub fn join_rows(&mut self, rows: Vec<(K, V)>) -> Result<(), JoinRefused<K, V>>
+        // A clone of a key equals its original.
+        requires clones { (a b : K) → K.is_clone a b → Same K.cmp a b }
+
+        ensures ascending { OnOk result (IsMap K.cmp rows.items) }
+        ensures joined { OnOk result (IsJoin K.cmp V.eq V.join_of self.old.rows rows.items self.new.rows) }
+        ensures refused { IfErr result (λ why. IsJoinRefused K.cmp V.eq V.join_of self.old.rows rows.items why self.new.rows) }
+        ensures setup { SameSetup self.old self.new }
+    {
+        if !ascend(&rows) {
+            return Err(JoinRefused::NotAscending(rows));
+        }
+        match self.join_rising(rows) {
+            Ok(()) => Ok(()),
+            Err(done) => Err(JoinRefused::Memory(done)),
+        }
+    }
+}
+
+/// Whether each key is above the one before it.
+fn ascend<K: Ord, V>(rows: &[(K, V)]) -> bool
+    ensures { IsTrue result ↔ IsMap K.cmp rows.now }
+{
+    'testing: for i in 1..rows.len() {
+        let (before, row) = (&rows[i - 1], &rows[i]);
+        if !is_below(&before.0, &row.0) {
+            return false;
+        }
+    }
+    true
+}
