@@ -1,12 +1,7 @@
 -- The tree of a replica of the program is the tree of its rows.
-use Rattle.std.proofs.Common.{◌≡◌, ℕ, List, [], ◌∷◌, ◌++◌, map, ap, sym, subst, refl, codes, string_bytes}
+use Rattle.std.proofs.Common.{◌≡◌, ℕ, List, [], ◌∷◌, ◌++◌, map, ap, subst, refl, codes, string_bytes}
 use Rattle.std.specs.Int.{w64, to_le_bytes}
 use Rattle.std.specs.List.{flat_map}
-use Rattle.std.specs.Cmp.{tied_itself}
-use Rattle.std.specs.Cmp.Lexicographic.{slice_cmp}
-use Rattle.std.specs.Ordering.{nat_cmp}
-use Rattle.std.specs.declared.cmp.Ordering.TheVariants.{Equal}
-use Rattle.std.proofs.lemmas.Cmp.{nat_list_cmp_total}
 use Rattle.std.proofs.lemmas.Map.Lookups.{exact_bytes}
 use Rattle.key_order.specs.Order.{Same}
 use Rattle.key_order.specs.Map.{SameMap}
@@ -33,10 +28,6 @@ use Rattle.merkle_search_tree.specs.declared.builder.PageFormat.{PageFormat}
 -- equal texts have equal bytes
 same_text : (x y : Text) → Same text_order x y → string_bytes x ≡ string_bytes y
 same_text x y e = exact_bytes (string_bytes x) (string_bytes y) e
-
--- a clone of a text is equal to it
-pub same_clone : (x y : Text) → string_bytes y ≡ string_bytes x → Same text_order x y
-same_clone x y e = subst (λ bytes. slice_cmp nat_cmp (string_bytes x) bytes ≡ Equal) (sym e) (tied_itself nat_list_cmp_total (string_bytes x))
 
 -- the pages are the tree of the rows, apart from caches
 pub pages_are : (format : PageFormat) (c : Contents Text ℕ (List ℕ)) → HasDefaults format c → IsSound text_order (λ h k. siphash128 h (string_bytes k)) string_bytes c.tree
