@@ -3,3 +3,4 @@ pub mod Texts
 pub mod Set
 pub mod Register
 pub mod RegisterLaws
+pub mod Gossip

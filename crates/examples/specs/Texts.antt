@@ -1,5 +1,5 @@
 -- Replicas whose keys are texts, under SipHash.
-use Rattle.std.specs.Prelude.{◌≡◌, ℕ, Bool, List, string_bytes, string_cmp}
+use Rattle.std.specs.Prelude.{◌≡◌, ℕ, List, string_bytes, string_cmp}
 use Rattle.std.specs.declared.alloc.Global.{Global}
 use Rattle.std.specs.declared.cmp.Ordering.{Ordering}
 use Rattle.std.specs.declared.string.String.{String}
@@ -11,8 +11,6 @@ use Rattle.merkle_search_tree.specs.Tree.{Tree}
 use Rattle.merkle_search_tree.specs.declared.builder.PageFormat.{PageFormat}
 use Rattle.merkle_search_tree.specs.declared.builder.PageFormat.TheVariants.{V1}
 use Rattle.merkle_replica.specs.Contents.{digests}
-use Rattle.merkle_replica.specs.Faithful.{IsFaithful}
-use Rattle.examples.specs.Sync.{IsSync}
 
 -- a text, as a replica keeps it
 abbrev pub Text : Type 0
@@ -41,9 +39,3 @@ module _ {V : Type 0} (fed_bytes : V → List ℕ) where
   abbrev pub IsRootHashOf : List ℕ → ℕ → PageFormat → List (Text × V) → List ℕ → Type 0
   IsRootHashOf key base format rows digest =
       (t : Tree Text (List ℕ)) × IsTreeOf text_order (text_digest key) base t (digests (value_digest key) rows) × (digest ≡ page_digest format string_bytes t)
-
-  module _ (eq : V → V → Bool) (join : V → V → V) where
-    -- four pulls by turns, and the outcome where digests are faithful in the maps before each pull
-    abbrev pub IsTextSync : State Text (List ℕ) → Type 0 → List (Text × V) → List (Text × V) → List (Text × V) → List (Text × V) → Type 0
-    IsTextSync tree Outcome =
-        IsSync text_order text_digest value_digest string_bytes eq join tree (IsFaithful text_order text_digest value_digest string_bytes eq tree.hasher tree.base tree.format) Outcome

@@ -3,10 +3,9 @@ ghost use Rattle.std.specs.Prelude.{◌≡◌, [], IfOk, IsOkAnd};
 ghost use Rattle.key_order.specs.Order.{Same};
 ghost use Rattle.key_order.specs.Map.{SameMap};
 ghost use Rattle.merkle_search_tree.specs.State.{map_of};
-ghost use Rattle.merkle_search_tree.specs.Stream.{page_digest};
 ghost use Rattle.merkle_replica.specs.Answers.{spans_of};
 ghost use Rattle.merkle_replica.specs.Contents.{SameSetup};
-ghost use Rattle.merkle_replica.specs.Pulls.{IsAnswerFor, HasRanges};
+ghost use Rattle.examples.specs.Gossip.{HaveOneRootHash, MayAsk};
 
 use merkle_digest::{Hasher, KeyBytes};
 use merkle_replica::{Join, Replica};
@@ -32,11 +31,9 @@ pub fn ranges_to_ask<
     // A clone of a key equals its original.
     requires clones { (a b : K) → K.is_clone a b → Same K.cmp a b }
 
-    ensures quiet { page_digest local.old.tree.format K.bytes_of local.old.tree.root ≡ page_digest peer.old.tree.format K.bytes_of peer.old.tree.root → IsOkAnd result (λ ranges. ranges.items ≡ []) }
-    ensures answer { ¬ (page_digest local.old.tree.format K.bytes_of local.old.tree.root ≡ page_digest peer.old.tree.format K.bytes_of peer.old.tree.root) → IfOk result (λ ranges. IsAnswerFor K.cmp V.eq V.join_of
-        (HasRanges K.cmp ⟦<H as Hasher<N, K>>⟧.digest_of ⟦<H as Hasher<N, V>>⟧.digest_of K.bytes_of local.old.tree.hasher local.old.tree.base local.old.tree.format)
-        (HasRanges K.cmp ⟦<H as Hasher<N, K>>⟧.digest_of ⟦<H as Hasher<N, V>>⟧.digest_of K.bytes_of peer.old.tree.hasher peer.old.tree.base peer.old.tree.format)
-        local.old.rows peer.old.rows (spans_of ranges.items)) }
+    ensures quiet { HaveOneRootHash K.bytes_of local.old.tree peer.old.tree → IsOkAnd result (λ ranges. ranges.items ≡ []) }
+    ensures answer { ¬ (HaveOneRootHash K.bytes_of local.old.tree peer.old.tree) → IfOk result (λ ranges.
+        MayAsk K.cmp ⟦<H as Hasher<N, K>>⟧.digest_of ⟦<H as Hasher<N, V>>⟧.digest_of K.bytes_of V.eq V.join_of local.old peer.old (spans_of ranges.items)) }
     ensures rows { local.new.rows ≡ local.old.rows }
     ensures peer_rows { peer.new.rows ≡ peer.old.rows }
 {

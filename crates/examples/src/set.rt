@@ -1,8 +1,9 @@
 //! A set of names that only grows: a replica with `()` for values.
-ghost use Rattle.std.specs.Prelude.{◌≡◌, [], ◌∷◌, OnOk, OnErr};
+ghost use Rattle.std.specs.Prelude.{◌≡◌, [], ◌∷◌, OnOk, OnErr, string_bytes};
 ghost use Rattle.merkle_replica.specs.Contents.{SameSetup};
 ghost use Rattle.examples.specs.Set.{IsUnion};
-ghost use Rattle.examples.specs.Texts.{IsTextSync};
+ghost use Rattle.examples.specs.Sync.{IsFaithfulSync};
+ghost use Rattle.examples.specs.Texts.{text_order, text_digest, value_digest};
 
 use crate::store::Store;
 use crate::sync::sync;
@@ -35,8 +36,8 @@ pub fn add(names: &mut Names, name: String) -> Result<(), AllocError>
 #[tactic(auto, using(key_order::proofs::Clones::string_clone))]
 pub fn unite(alloc: Global, a: &mut Names, b: &mut Names) -> Result<(), TurnsError<String>>
     requires one_setup { SameSetup a.old b.old }
-    ensures union { OnOk result (IsTextSync ⟦<() as HashBytes>⟧.fed_bytes ⟦<() as PartialEq>⟧.eq ⟦<() as Join>⟧.join_of a.old.tree
-        (IsUnion a.old.rows b.old.rows a.new.rows × IsUnion a.old.rows b.old.rows b.new.rows) a.old.rows b.old.rows a.new.rows b.new.rows) }
+    ensures union { OnOk result (IsFaithfulSync text_order text_digest (value_digest ⟦<() as HashBytes>⟧.fed_bytes) string_bytes ⟦<() as PartialEq>⟧.eq ⟦<() as Join>⟧.join_of
+        (IsUnion a.old.rows b.old.rows a.new.rows × IsUnion a.old.rows b.old.rows b.new.rows) a.old b.old a.new b.new) }
 {
     sync(alloc, a, b)
 }

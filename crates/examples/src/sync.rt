@@ -3,8 +3,7 @@ ghost use Rattle.std.specs.Prelude.{◌≡◌, OnOk};
 ghost use Rattle.key_order.specs.Order.{Same};
 ghost use Rattle.merkle_search_tree.specs.declared.builder.PageFormat.TheVariants.{V2};
 ghost use Rattle.merkle_replica.specs.Contents.{SameSetup};
-ghost use Rattle.merkle_replica.specs.Faithful.{IsFaithful, IsCollisionFree};
-ghost use Rattle.examples.specs.Sync.{IsSync, AreJoined};
+ghost use Rattle.examples.specs.Sync.{IsFaithfulSync, IsExactSync, AreJoined};
 
 use merkle_digest::{Hasher, KeyBytes, KeyBytesExact};
 use merkle_replica::laws::no_collision_is_enough;
@@ -31,9 +30,8 @@ pub fn sync<
     requires clones { (x y : K) → K.is_clone x y → Same K.cmp x y }
 
     requires one_setup { SameSetup a.old b.old }
-    ensures same { OnOk result (IsSync K.cmp ⟦<H as Hasher<N, K>>⟧.digest_of ⟦<H as Hasher<N, V>>⟧.digest_of K.bytes_of V.eq V.join_of a.old.tree
-        (IsFaithful K.cmp ⟦<H as Hasher<N, K>>⟧.digest_of ⟦<H as Hasher<N, V>>⟧.digest_of K.bytes_of V.eq a.old.tree.hasher a.old.tree.base a.old.tree.format)
-        (AreJoined K.cmp V.eq V.join_of a.old.rows b.old.rows a.new.rows b.new.rows) a.old.rows b.old.rows a.new.rows b.new.rows) }
+    ensures same { OnOk result (IsFaithfulSync K.cmp ⟦<H as Hasher<N, K>>⟧.digest_of ⟦<H as Hasher<N, V>>⟧.digest_of K.bytes_of V.eq V.join_of
+        (AreJoined K.cmp V.eq V.join_of a.old.rows b.old.rows a.new.rows b.new.rows) a.old b.old a.new b.new) }
 {
     pull_by_turns(alloc, a, b, 4)?;
     Ok(())
@@ -60,9 +58,8 @@ pub fn sync_exact<
 
     requires one_setup { SameSetup a.old b.old }
     requires format_2 { a.old.tree.format ≡ V2 }
-    ensures same { OnOk result (IsSync K.cmp ⟦<H as Hasher<N, K>>⟧.digest_of ⟦<H as Hasher<N, V>>⟧.digest_of K.bytes_of V.eq V.join_of a.old.tree
-        (IsCollisionFree K.cmp ⟦<H as Hasher<N, K>>⟧.digest_of ⟦<H as Hasher<N, V>>⟧.digest_of K.bytes_of V.eq N a.old.tree.hasher a.old.tree.base)
-        (AreJoined K.cmp V.eq V.join_of a.old.rows b.old.rows a.new.rows b.new.rows) a.old.rows b.old.rows a.new.rows b.new.rows) }
+    ensures same { OnOk result (IsExactSync K.cmp ⟦<H as Hasher<N, K>>⟧.digest_of ⟦<H as Hasher<N, V>>⟧.digest_of K.bytes_of V.eq V.join_of N
+        (AreJoined K.cmp V.eq V.join_of a.old.rows b.old.rows a.new.rows b.new.rows) a.old b.old a.new b.new) }
 {
     no_collision_is_enough::<K, V, H, N>();
     sync(alloc, a, b)
