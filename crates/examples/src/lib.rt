@@ -9,3 +9,4 @@ pub mod store;
 pub mod sync;
 #[cfg(test)]
 mod tests;
+pub mod wire;

@@ -5,6 +5,7 @@ mod register;
 mod set;
 mod store;
 mod sync;
+mod wire;
 
 use std::alloc::{AllocError, Global};
 

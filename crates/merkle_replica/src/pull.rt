@@ -203,7 +203,7 @@ pub(crate) fn ask_of<
 {
     every_tree_is_sound(local.tree());
     page_ranges_are_tree_shaped(local.tree());
-    let ours = match local.tree().serialise_page_ranges()? {
+    let ours = match local.tree().page_range_iter()? {
         Some(ours) => ours,
         None => unreachable!(),
     };

@@ -14,6 +14,8 @@ pub enum Task {
     Times(Vec<usize>),
     /// Print the times of cutting out so many ranges each.
     CutTimes(Vec<usize>),
+    /// Print the times of pulls from replicas of so many rows each.
+    PullTimes(Vec<usize>),
 }
 
 /// The number that the word spells in decimal digits, where it is one below 2 ^ 64.
@@ -46,6 +48,7 @@ pub fn task_of(alloc: Global, words: &[String]) -> Result<Task, Fault> {
     match option.as_str() {
         "--time" => Ok(Task::Times(counts(alloc, numbers)?)),
         "--time-cut" => Ok(Task::CutTimes(counts(alloc, numbers)?)),
+        "--time-pull" => Ok(Task::PullTimes(counts(alloc, numbers)?)),
         _ => Err(Fault::Usage),
     }
 }

@@ -1,10 +1,10 @@
 //! Times of the operations that peers of a Merkle search tree make: inserting keys, loading them in key order, the root hash, the page
-//! ranges as a list and one at a time, the differences of two lists, and the cut of good ranges out of a bad one.
+//! ranges as a list and one at a time, the differences of two lists, the cut of good ranges out of a bad one, and pulls.
 //!
 //! Without arguments it prints what the trees of the sample keys answer, which is the same on every machine:
 //! `n ROOT_LOCAL ROOT_PEER RANGES_LOCAL RANGES_PEER DIFF_PEER DIFF_THIRD`, for 100, 1,000 and 10,000 keys. `--time N..` prints a
-//! table of times for each number of keys, and `--time-cut N..` one for each number of ranges to cut out. It ends with status 2 and a
-//! usage line on standard error where the arguments are none of these, and with status 1 and one line there where memory is refused,
+//! table of times for each number of keys, `--time-cut N..` one for each number of ranges to cut out, and `--time-pull N..` one for each
+//! number of rows to pull. It ends with status 2 and a usage line on standard error where the arguments are none of these, and with status 1 and one line there where memory is refused,
 //! or the clock or the output fails.
 #![tactic(auto)]
 
@@ -15,6 +15,7 @@ mod cut;
 mod fault;
 mod keys;
 mod loads;
+mod pulls;
 mod sample;
 mod times;
 
@@ -26,7 +27,7 @@ use std::rt::{Clock, Env};
 use std::{env, io};
 
 /// What the program is called with.
-const USAGE: &str = "usage: mst_bench [--time N.. | --time-cut N..]";
+const USAGE: &str = "usage: mst_bench [--time N.. | --time-cut N.. | --time-pull N..]";
 
 /// Does what the arguments ask for, and prints it.
 fn run<R: AllocGlobal + Clock + Env + Print>(rt: &R) -> Result<(), Fault> {
@@ -41,6 +42,7 @@ fn run<R: AllocGlobal + Clock + Env + Print>(rt: &R) -> Result<(), Fault> {
         Task::Answers => answers::write_lines(alloc, &mut out)?,
         Task::Times(counts) => times::write_table(rt, alloc, &counts, &mut out)?,
         Task::CutTimes(counts) => cut::write_table(rt, alloc, &counts, &mut out)?,
+        Task::PullTimes(counts) => pulls::write_table(rt, alloc, &counts, &mut out)?,
     }
     out.flush().map_err(|_| Fault::Output)
 }

@@ -1,6 +1,5 @@
 use Rattle.std.proofs.Common.{◌∙◌, ap, subst}
 use Rattle.std.proofs.lemmas.Result.{IfOk-weaker}
-use Rattle.std.proofs.IntoIterSteps.{All-taken}
 use Rattle.merkle_diff.specs.DiffRange.{spans}
 use Rattle.merkle_diff.specs.Merge.{SameSpans}
 use Rattle.merkle_diff.specs.PageRange.{entry, entries}
@@ -13,7 +12,7 @@ use Rattle.merkle_replica.proofs.pull.ask_of.Goals as goal
 pub returns : goal.returns
 returns g c =
     let h = c.in_ok-found.ensures.answer in
-    let e = ap entries (All-taken h.2.0 h.0 h.2.2 ∙ h.2.1.0) ∙ (rw c.in-Some.is at c.in_ok-ours.ensures.ranges) in
+    let e = drained entry (λ es. es) h.2.0 h.0 h.2.2 ∙ h.2.1 ∙ (rw c.in-Some.is at c.in_ok-ours.ensures.ranges) in
     let f = drained entry entries_left h.3.0 h.1 h.3.2 ∙ ap entries_left h.3.1 ∙ c.iter.ensures in
     IfOk-weaker c.own_bounds.result _ _
     (λ r s. answer_to g.K.Ord.cmp g.V.PartialEq.eq g.V.Join.join_of g.H.Hasher-1.digest_of g.H.Hasher-2.digest_of g.K.KeyBytes.bytes_of g.met.K.Ord.total c.args.local.now

@@ -1,0 +1,102 @@
+//! The times of pulls between replicas.
+
+use crate::clock::{Best, now, rounds};
+use crate::fault::Fault;
+use crate::keys::{LOCAL_SEED, PEER_SEED, keys};
+use merkle_digest::SipHasher;
+use merkle_replica::Replica;
+use merkle_search_tree::builder::Builder;
+use std::alloc::Global;
+use std::io::Write;
+use std::rt::Clock;
+
+/// A replica of the default settings.
+type Numbers = Replica<String, u64, SipHasher, 16>;
+
+/// The replica of the first `count` keys of a seed, not hashed: at every tenth key in their order the value `tenth`, else 1. The keys
+/// are different, so that rows are refused only for want of memory.
+#[tactic(auto, using(key_order::proofs::Clones::string_clone))]
+fn replica(alloc: Global, seed: u64, count: usize, tenth: u64) -> Result<Numbers, Fault> {
+    let mut sorted = keys(alloc, seed, count)?;
+    sorted.sort_unstable();
+    let mut rows = Vec::with_capacity(alloc, sorted.len())?;
+    for (i, key) in sorted.into_iter().enumerate() {
+        let value = if i % 10 == 0 { tenth } else { 1 };
+        rows.push((key, value))?;
+    }
+    match Replica::from_rows(alloc, Builder::default(), rows) {
+        Ok(replica) => Ok(replica),
+        Err(_) => Err(Fault::Memory),
+    }
+}
+
+/// Times a pull, the hashing of both trees included.
+#[tactic(auto, using(key_order::proofs::Clones::string_clone))]
+fn time_pull<R: Clock>(
+    rt: &R,
+    local: &mut Numbers,
+    peer: &mut Numbers,
+    best: &mut Best,
+) -> Result<(), Fault> {
+    let start = now(rt)?;
+    let pulled = local.pull(peer);
+    best.note_since(rt, start)?;
+    match pulled {
+        Ok(_) => Ok(()),
+        Err(_) => Err(Fault::Memory),
+    }
+}
+
+/// The best times of pulls from a peer with so many rows: into a replica without rows, into one with as many other keys, and into one
+/// with the same keys, of which every tenth has another value.
+#[derive(Drop)]
+struct PullTimes {
+    into_empty: Best,
+    among_others: Best,
+    of_every_tenth: Best,
+}
+
+impl PullTimes {
+    /// The best times of no rounds.
+    fn new() -> Self {
+        PullTimes {
+            into_empty: Best::new(),
+            among_others: Best::new(),
+            of_every_tenth: Best::new(),
+        }
+    }
+
+    /// Makes one round of the three pulls, each between replicas that are made before.
+    fn note_round<R: Clock>(&mut self, rt: &R, alloc: Global, count: usize) -> Result<(), Fault> {
+        let mut peer = replica(alloc, PEER_SEED, count, 2)?;
+        let mut empty = Replica::new(alloc, Builder::default());
+        time_pull(rt, &mut empty, &mut peer, &mut self.into_empty)?;
+        let mut peer = replica(alloc, PEER_SEED, count, 2)?;
+        let mut others = replica(alloc, LOCAL_SEED, count, 1)?;
+        time_pull(rt, &mut others, &mut peer, &mut self.among_others)?;
+        let mut peer = replica(alloc, PEER_SEED, count, 2)?;
+        let mut same = replica(alloc, PEER_SEED, count, 1)?;
+        time_pull(rt, &mut same, &mut peer, &mut self.of_every_tenth)
+    }
+}
+
+/// Writes the table of pulls: a line of names, and one for each number of the peer's rows, in nanoseconds a row of the peer.
+pub fn write_table<R: Clock, W: Write>(
+    rt: &R,
+    alloc: Global,
+    counts: &[usize],
+    out: &mut W,
+) -> Result<(), Fault> {
+    writeln!(out, "rows pull_empty_ns pull_other_ns pull_tenth_ns").map_err(|_| Fault::Output)?;
+    for count in counts {
+        let mut times = PullTimes::new();
+        for _ in 0..rounds(*count) {
+            times.note_round(rt, alloc, *count)?;
+        }
+        let empty = times.into_empty.each(*count);
+        let others = times.among_others.each(*count);
+        let tenth = times.of_every_tenth.each(*count);
+        writeln!(out, "{count} {empty} {others} {tenth}").map_err(|_| Fault::Output)?;
+    }
+    Ok(())
+}
