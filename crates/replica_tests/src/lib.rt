@@ -12,9 +12,13 @@ mod memory;
 #[cfg(test)]
 mod mixed_formats;
 #[cfg(test)]
+mod puts;
+#[cfg(test)]
 mod random_pairs;
 #[cfg(test)]
 mod refusals;
+#[cfg(test)]
+mod steps;
 #[cfg(test)]
 mod text;
 #[cfg(test)]

@@ -7,7 +7,7 @@ use std::test::Fail;
 
 /// The keys of a set and of its peer, and what a pull by the set does: the ranges asked for, a blank before each, how many rows of the
 /// peer are in them, and the keys afterwards.
-type Case = (
+pub type Case = (
     &'static str,
     &'static str,
     &'static str,
@@ -16,7 +16,7 @@ type Case = (
 );
 
 /// By the first and the last key of both sides. Equal sets don't look the same, so all is asked for.
-const CASES: [Case; 8] = [
+pub const CASES: [Case; 8] = [
     ("1 4 5", "1 4 5", " 1-5", 3, "1 4 5"),
     ("1 4 5", "3 7", "", 0, "1 4 5"),
     ("3 7", "1 4 5", " 1-3", 1, "1 3 7"),
@@ -28,7 +28,7 @@ const CASES: [Case; 8] = [
 ];
 
 /// Whether a set has the keys of a text and no others.
-fn is_set_of(alloc: Global, replica: &Numbers, keys: &str) -> Result<bool, Fail> {
+pub fn is_set_of(alloc: Global, replica: &Numbers, keys: &str) -> Result<bool, Fail> {
     Ok(shown(alloc, replica)?.as_str().trim_start() == keys)
 }
 
