@@ -20,7 +20,7 @@ use denote.Struct.Owning.{shape, to}
 use Rattle.core.proofs.alloc.Calls.{α, token, Fits, handle_tells}
 use Rattle.core.proofs.atomic.Steps.{Ptr-Good}
 use Rattle.std.proofs.GlobalToken.{dealloc_token-Testable}
-use Rattle.std_alloc.proofs.BoxSteps.Form.{Bx, D, τ, P, handle, word, box_ty}
+use Rattle.std_alloc.proofs.BoxSteps.Form.{Bx, τ, P, handle, word, box_ty}
 use Rattle.std_alloc.proofs.BoxSteps.Steps.{box_out, box_in}
 use Rattle.std_alloc.proofs.ResultValues.{and_tt}
 use Rattle.std_heap.specs.contracts.Global as Global

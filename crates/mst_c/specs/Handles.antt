@@ -1,5 +1,5 @@
 -- What the calls do to the tree of a handle.
-use Rattle.std.specs.Prelude.{◌≡◌, ℕ, Bool, List, Option, None, Some}
+use Rattle.std.specs.Prelude.{Option, None, Some}
 use Rattle.mst_c.specs.Trees.{ByteState}
 use Rattle.mst_c.specs.declared.byte_tree.ByteTree.{ByteTree}
 

@@ -1,3 +1,4 @@
 pub mod Handles
 pub mod Owned
 pub mod Trees
+pub mod Wire

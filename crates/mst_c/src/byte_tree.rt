@@ -1,8 +1,10 @@
 //! What a handle holds: a tree of byte strings.
-ghost use Rattle.std.specs.Prelude.{◌≡◌, OnOk, OnErr, IfOk};
+ghost use Rattle.std.specs.Prelude.{◌≡◌, ◌≢◌, None, OnOk, OnErr, IfOk};
 ghost use Rattle.std.specs.Int.NonZero.{non_zero_u8_get};
 ghost use Rattle.merkle_search_tree.specs.State.{IsNew};
 ghost use Rattle.merkle_search_tree.specs.Stream.{page_digest};
+ghost use Rattle.merkle_search_tree.specs.Ranges.{ranges_of};
+ghost use Rattle.mst_c.specs.Wire.{page_ranges_bytes};
 ghost use Rattle.mst_c.specs.Trees.{bytes_of, rows_of, IsSet, IsDel, IsCopied, SameSettings};
 
 use crate::byte_hasher::ByteHasher;
@@ -101,8 +103,11 @@ impl ByteTree {
     }
 
     /// The ranges of all pages, as bytes.
-    pub fn page_ranges(&mut self, alloc: Global) -> Result<Vec<u8>, AllocError> {
-        let _ = self.tree.root_hash_counted();
+    pub fn page_ranges(&mut self, alloc: Global) -> Result<Vec<u8>, AllocError>
+        ensures ranges { IfOk result (λ out. out.items ≡ page_ranges_bytes (ranges_of self.new.tree.format bytes_of self.new.tree.root)) }
+        ensures rows { rows_of self.new.tree ≡ rows_of self.old.tree }
+    {
+        let _ = self.root_hash();
         match self.tree.serialise_page_ranges()? {
             Some(ranges) => encode(alloc, &ranges),
             None => encode(alloc, &[]),
@@ -124,6 +129,7 @@ impl ByteTree {
     pub fn root_hash(&mut self) -> [u8; 16]
         ensures digest { result ≡ page_digest self.old.tree.format bytes_of self.old.tree.root }
         ensures rows { rows_of self.new.tree ≡ rows_of self.old.tree }
+        ensures hashed { self.new.tree.root_hash ≢ None }
     {
         let (digest, _) = self.tree.root_hash_counted();
         *digest.as_bytes()

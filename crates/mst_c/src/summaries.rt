@@ -1,6 +1,8 @@
 //! Calls that answer what a tree holds as digests, and compare two such answers.
-ghost use Rattle.std.specs.Prelude.{◌≡◌, ◌≢◌, None, IfSome};
+ghost use Rattle.std.specs.Prelude.{◌≡◌, ◌≢◌, None, IfSome, IfOk, IfErr, take, length};
 ghost use Rattle.merkle_search_tree.specs.Stream.{page_digest};
+ghost use Rattle.merkle_search_tree.specs.Ranges.{ranges_of};
+ghost use Rattle.mst_c.specs.Wire.{page_ranges_bytes};
 ghost use Rattle.mst_c.specs.Handles.{Holds, Changes};
 ghost use Rattle.mst_c.specs.Trees.{bytes_of, rows_of};
 
@@ -46,7 +48,11 @@ fn root_hash(handle: MstTree, alloc: Global) -> (MstTree, Option<[u8; 16]>)
 }
 
 /// Puts bytes at the front of `out`, and their count at `needed`: `DONE`, or `SHORT` where `out` is too short, and is as before then.
-fn put_bytes(bytes: &[u8], out: &mut [u8], needed: &mut usize) -> u32 {
+fn put_bytes(bytes: &[u8], out: &mut [u8], needed: &mut usize) -> u32
+    ensures done { result ≡ 0 → take (length bytes.now) out.new ≡ bytes.now }
+    ensures needed { needed.new ≡ length bytes.now }
+    ensures short { result ≢ 0 → out.new ≡ out.old }
+{
     *needed = bytes.len();
     if out.len() < bytes.len() {
         return SHORT;
@@ -65,19 +71,26 @@ pub extern "C" fn mst_proved_tree_page_ranges(
     handle: &mut MstTree,
     out: &mut [u8],
     needed: &mut usize,
-) -> u32 {
+) -> u32
+    ensures done { result ≡ 0 → Holds handle.new.tree (λ s. take needed.new out.new ≡ page_ranges_bytes (ranges_of s.format bytes_of s.root)) }
+{
     match mem::replace_with(handle, alloc, page_ranges) {
         Ok(bytes) => put_bytes(bytes.as_slice(), out, needed),
         Err(status) => status,
     }
 }
 
-fn page_ranges(handle: MstTree, alloc: Global) -> (MstTree, Result<Vec<u8>, u32>) {
+fn page_ranges(handle: MstTree, alloc: Global) -> (MstTree, Result<Vec<u8>, u32>)
+    ensures ranges { IfOk result.1 (λ out. Holds result.0.tree (λ s. out.items ≡ page_ranges_bytes (ranges_of s.format bytes_of s.root))) }
+    ensures refused { IfErr result.1 (λ status. status ≢ 0) }
+{
     let Some(mut held) = handle.into_box() else {
         return (MstTree::empty(alloc), Err(ARGUMENT));
     };
-    let bytes = held.page_ranges(alloc).map_err(|_| MEMORY);
-    (MstTree::of_box(held), bytes)
+    match held.page_ranges(alloc) {
+        Ok(bytes) => (MstTree::of_box(held), Ok(bytes)),
+        Err(_) => (MstTree::of_box(held), Err(MEMORY)),
+    }
 }
 
 /// Writes to `out` the ranges of keys that local may ask of the peer, by their page ranges, and how many bytes they are to `needed`.

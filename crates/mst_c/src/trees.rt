@@ -1,9 +1,10 @@
 //! Calls that make trees, copy them, let them go and count their keys.
-ghost use Rattle.std.specs.Prelude.{◌≡◌, ◌≢◌, None};
+ghost use Rattle.std.specs.Prelude.{◌≡◌, ◌≢◌, None, IfOk, IfErr};
 ghost use Rattle.std.specs.Int.NonZero.{non_zero_u8_get};
 ghost use Rattle.merkle_search_tree.specs.State.{IsNew};
 ghost use Rattle.merkle_search_tree.specs.declared.builder.PageFormat.TheVariants.{V1, V2};
 ghost use Rattle.mst_c.specs.Handles.{Holds, Changes};
+ghost use Rattle.mst_c.specs.Trees.{IsCopied};
 
 use crate::byte_tree::ByteTree;
 use crate::bytes16::MstBytes16;
@@ -27,6 +28,7 @@ pub extern "C" fn mst_proved_tree_new(
 ) -> u32
     ensures v1 { result ≡ 0 → page_format ≡ 1 → Holds handle.new.tree (IsNew key.now.bytes level_base V1) }
     ensures v2 { result ≡ 0 → page_format ≡ 2 → Holds handle.new.tree (IsNew key.now.bytes level_base V2) }
+    ensures empty { result ≡ 0 → handle.old.tree ≡ None }
     ensures unchanged { result ≢ 0 → handle.new.tree ≡ handle.old.tree }
 {
     let Some(base) = NonZeroU8::new(level_base) else {
@@ -58,6 +60,7 @@ pub extern "C" fn mst_proved_tree_new(
 /// Gives a handle that has no tree this one.
 fn put(handle: MstTree, asked: (Global, ByteTree)) -> (MstTree, u32)
     ensures done { result.1 ≡ 0 → Holds result.0.tree (λ s. s ≡ asked.1.tree) }
+    ensures empty { result.1 ≡ 0 → handle.tree ≡ None }
     ensures unchanged { result.1 ≢ 0 → result.0.tree ≡ handle.tree }
 {
     let (alloc, tree) = asked;
@@ -79,7 +82,9 @@ pub extern "C" fn mst_proved_tree_clone(
     handle: &mut MstTree,
     copy: &mut MstTree,
 ) -> u32
+    ensures copied { result ≡ 0 → Changes handle.old.tree copy.new.tree IsCopied }
     ensures original { handle.new.tree ≡ handle.old.tree }
+    ensures empty { result ≡ 0 → copy.old.tree ≡ None }
     ensures unchanged { result ≢ 0 → copy.new.tree ≡ copy.old.tree }
 {
     match mem::replace_with(handle, alloc, copy_of) {
@@ -90,13 +95,17 @@ pub extern "C" fn mst_proved_tree_clone(
 
 /// A copy of the tree of a handle.
 fn copy_of(handle: MstTree, alloc: Global) -> (MstTree, Result<ByteTree, u32>)
+    ensures copied { IfOk result.1 (λ copy. Holds handle.tree (λ s. IsCopied s copy.tree)) }
     ensures original { result.0.tree ≡ handle.tree }
+    ensures refused { IfErr result.1 (λ status. status ≢ 0) }
 {
     let Some(held) = handle.into_box() else {
         return (MstTree::empty(alloc), Err(ARGUMENT));
     };
-    let copy = held.try_clone().map_err(|_| MEMORY);
-    (MstTree::of_box(held), copy)
+    match held.try_clone() {
+        Ok(copy) => (MstTree::of_box(held), Ok(copy)),
+        Err(_) => (MstTree::of_box(held), Err(MEMORY)),
+    }
 }
 
 /// Lets the tree of a handle go, and leaves the handle without one.

@@ -4,6 +4,11 @@
 //! its length and its bytes, and behind them, in a list of page ranges, the 16 bytes of the page's digest. A number is eight bytes,
 //! the lowest first.
 
+ghost use Rattle.std.specs.Prelude.{◌≡◌, ◌++◌, OnOk, IfOk};
+ghost use Rattle.merkle_diff.specs.DiffRange.{span, spans};
+ghost use Rattle.merkle_diff.specs.PageRange.{entry, entries};
+ghost use Rattle.mst_c.specs.Wire.{number_bytes, text_bytes, entry_bytes, span_bytes, page_ranges_bytes, key_ranges_bytes};
+
 use crate::byte_hasher::ByteHasher;
 use merkle_diff::{DiffRange, OwnedPageRange, PageRange, PageRangeSnapshot, diff};
 use merkle_digest::PageDigest;
@@ -31,40 +36,67 @@ impl From<AllocError> for WireError {
     }
 }
 
-/// Writes a number.
-fn put_number(number: usize, out: &mut Vec<u8>) -> Result<(), AllocError> {
-    out.extend_from_slice(&(number as u64).to_le_bytes())?;
-    Ok(())
+/// Writes bytes.
+fn put(bytes: &[u8], out: &mut Vec<u8>) -> Result<(), AllocError>
+    ensures { OnOk result (out.new.items ≡ out.old.items ++ bytes.now) }
+{
+    out.extend_from_slice(bytes)
 }
 
-/// Writes a key.
-fn put_key(key: &[u8], out: &mut Vec<u8>) -> Result<(), AllocError> {
-    put_number(key.len(), out)?;
-    out.extend_from_slice(key)?;
-    Ok(())
+/// Writes a number.
+fn put_number(number: usize, out: &mut Vec<u8>) -> Result<(), AllocError>
+    ensures { OnOk result (out.new.items ≡ out.old.items ++ number_bytes number) }
+{
+    put(&(number as u64).to_le_bytes(), out)
+}
+
+/// Writes a string.
+fn put_text(text: &[u8], out: &mut Vec<u8>) -> Result<(), AllocError>
+    ensures { OnOk result (out.new.items ≡ out.old.items ++ text_bytes text.now) }
+{
+    put_number(text.len(), out)?;
+    put(text, out)
+}
+
+/// Writes a page range.
+fn put_range(range: &PageRange<'_, Vec<u8>>, out: &mut Vec<u8>) -> Result<(), AllocError>
+    ensures { OnOk result (out.new.items ≡ out.old.items ++ entry_bytes (entry range.now)) }
+{
+    put_text(range.start().as_slice(), out)?;
+    put_text(range.end().as_slice(), out)?;
+    put(range.hash().as_bytes(), out)
+}
+
+/// Writes a range of keys.
+fn put_found(range: &DiffRange<'_, Vec<u8>>, out: &mut Vec<u8>) -> Result<(), AllocError>
+    ensures { OnOk result (out.new.items ≡ out.old.items ++ span_bytes (span range.now)) }
+{
+    put_text(range.start().as_slice(), out)?;
+    put_text(range.end().as_slice(), out)
 }
 
 /// The page ranges as bytes.
-pub fn encode(alloc: Global, ranges: &[PageRange<'_, Vec<u8>>]) -> Result<Vec<u8>, AllocError> {
+pub fn encode(alloc: Global, ranges: &[PageRange<'_, Vec<u8>>]) -> Result<Vec<u8>, AllocError>
+    ensures { IfOk result (λ out. out.items ≡ page_ranges_bytes (entries ranges.now)) }
+{
     let mut out = Vec::new(alloc);
-    out.extend_from_slice(&PAGE_RANGES)?;
+    put(&PAGE_RANGES, &mut out)?;
     put_number(ranges.len(), &mut out)?;
-    'ranges: for range in ranges {
-        put_key(range.start().as_slice(), &mut out)?;
-        put_key(range.end().as_slice(), &mut out)?;
-        out.extend_from_slice(range.hash().as_bytes())?;
+    'entries: for range in ranges {
+        put_range(range, &mut out)?;
     }
     Ok(out)
 }
 
 /// The ranges of keys as bytes.
-fn encode_found(alloc: Global, found: &[DiffRange<'_, Vec<u8>>]) -> Result<Vec<u8>, AllocError> {
+fn encode_found(alloc: Global, found: &[DiffRange<'_, Vec<u8>>]) -> Result<Vec<u8>, AllocError>
+    ensures { IfOk result (λ out. out.items ≡ key_ranges_bytes (spans found.now)) }
+{
     let mut out = Vec::new(alloc);
-    out.extend_from_slice(&KEY_RANGES)?;
+    put(&KEY_RANGES, &mut out)?;
     put_number(found.len(), &mut out)?;
-    'ranges: for range in found {
-        put_key(range.start().as_slice(), &mut out)?;
-        put_key(range.end().as_slice(), &mut out)?;
+    'entries: for range in found {
+        put_found(range, &mut out)?;
     }
     Ok(out)
 }

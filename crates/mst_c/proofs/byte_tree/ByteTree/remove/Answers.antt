@@ -1,4 +1,4 @@
-use Rattle.std.proofs.Common.{◌≡◌, refl, sym, ap, ◌∙◌, map, lit<}
+use Rattle.std.proofs.Common.{sym, ap, ◌∙◌, map}
 use Rattle.key_order.specs.Map.{del, has_key}
 use Rattle.merkle_search_tree.specs.State.{map_of}
 use Rattle.mst_c.specs.Trees.{bytes_cmp, rows_of}

@@ -1,5 +1,4 @@
-use Rattle.std.proofs.Common.{◌≡◌, refl, sym, ap, ◌∙◌, map, lit<}
-use Rattle.merkle_search_tree.specs.State.{map_of}
+use Rattle.std.proofs.Common.{ap, ◌∙◌, map}
 use Rattle.merkle_search_tree.proofs.Fill.{pairs-filled}
 use Rattle.mst_c.specs.Trees.{bytes_of, rows_of}
 use Rattle.mst_c.proofs.Bytes.{by_bytes}

@@ -1,4 +1,4 @@
-use Rattle.std.proofs.Common.{◌≡◌, refl, sym, ap, ◌∙◌, map, lit<}
+use Rattle.std.proofs.Common.{lit<}
 use Rattle.mst_c.proofs.Bytes.{tied_clones}
 use Rattle.mst_c.proofs.byte_tree.ByteTree.try_clone.Goals as goal
 

@@ -1,4 +1,4 @@
-use Rattle.std.proofs.Common.{◌≡◌, OnOk, refl, sym, ap, subst, ◌∙◌, map}
+use Rattle.std.proofs.Common.{◌≡◌, OnOk, ap, subst, ◌∙◌, map}
 use Rattle.key_order.specs.Map.{set}
 use Rattle.merkle_digest.specs.SipHash.{siphash128}
 use Rattle.merkle_search_tree.specs.State.{map_of}

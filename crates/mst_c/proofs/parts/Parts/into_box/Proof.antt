@@ -1,13 +1,12 @@
 -- What the parts own goes to the box.
 use Rattle.std.proofs.Common.{◌≡◌, List, [], ◌∷◌, ◌++◌, refl, sym, ap, subst}
 use lib.Dec.{T}
-use mir.Syntax.{a_type}
 use mir.MapTy.{inst_fn}
 use mir.Val.{Val, vptr, has_ty, WT}
 use base.Logic.{SProp, ent, id⊢}
 use base.Fml.{ftrue, fsep, flft}
 use prog.Wp.{WpFn}
-use types.Kit.{‵, raw, ◌⊛◌, at_ret, some, later, ◌$◌, ◌∵◌, !, qed, move, drop, keep, use1, join, split, split3, pick, rewrite, fsplit, fjoin, feq_i, suffices, await, done}
+use types.Kit.{‵, raw, ◌⊛◌, at_ret, some, later, ◌$◌, ◌∵◌, !, qed, move, drop, use1, join, split, split3, pick, rewrite, fsplit, fjoin, feq_i, suffices, await, done}
 use types.Part.{whole, sub}
 use types.Run.{stop, fld, no_more, and_then, of_opd, first, blocks, exec, returns, enter}
 use types.ByLocal.{alloc_all, pass_all, free_all, look_at, get, get_in, sets, lands_last, env}
@@ -22,11 +21,10 @@ use denote.Steps.{heard, nothing, only}
 use denote.Triple.Call.{calls_at_last}
 use denote.Triple.Spec.{triple_of}
 use denote.Triple.Walked.{Stays, stay_dropped, walk_of, ends_at, says}
-use Rattle.core.proofs.alloc.Calls.{token, Goes-blank}
+use Rattle.core.proofs.alloc.Calls.{Goes-blank}
 use Rattle.core.proofs.alloc.Shapes.{after}
 use Rattle.core.proofs.atomic.Steps.{fm}
 use Rattle.std.proofs.raw_atomic.Walks.{proved_at}
-use Rattle.std_alloc.specs.Box.Ownership.{box_owns}
 use Rattle.std_alloc.proofs.BoxSteps.Form.{Bx, D, R, P, B, args, box_ty, word, box_typed}
 use Rattle.std_alloc.proofs.BoxSteps.Steps.{box_out, box_in}
 use Rattle.std_alloc.specs.contracts.boxed.Box.from_raw as callee

@@ -1,0 +1,43 @@
+-- Page ranges, and ranges of keys, as bytes.
+use Rattle.std.specs.Prelude.{ℕ, List, [], ◌∷◌, ◌++◌, length}
+use Rattle.std.specs.Global.{Vec}
+use Rattle.std.specs.List.{flat_map}
+use Rattle.std.specs.Int.{w64, to_le_bytes}
+use Rattle.key_order.specs.Interval.{Span}
+use Rattle.merkle_diff.specs.Entry.{Entry}
+
+-- a number as eight bytes, the lowest first
+abbrev pub number_bytes : ℕ → List ℕ
+number_bytes = to_le_bytes w64
+
+-- a string as its length and its bytes
+abbrev pub text_bytes : List ℕ → List ℕ
+text_bytes text = number_bytes (length text) ++ text
+
+-- an entry of a list of page ranges
+abbrev pub entry_bytes : Entry (Vec ℕ) (List ℕ) → List ℕ
+entry_bytes e = text_bytes e.first.items ++ (text_bytes e.last.items ++ e.digest)
+
+-- an entry of a list of key ranges
+abbrev pub span_bytes : Span (Vec ℕ) → List ℕ
+span_bytes s = text_bytes s.first.items ++ text_bytes s.last.items
+
+-- a list: its mark, the number of its entries, and the entries one after the other
+abbrev pub list_bytes : {X : Type 0} → List ℕ → (X → List ℕ) → List X → List ℕ
+list_bytes mark bytes xs = mark ++ (number_bytes (length xs) ++ flat_map bytes xs)
+
+-- the mark of a list of page ranges, "MSTp"
+abbrev pub page_mark : List ℕ
+page_mark = 77 ∷ 83 ∷ 84 ∷ 112 ∷ []
+
+-- the mark of a list of key ranges, "MSTk"
+abbrev pub key_mark : List ℕ
+key_mark = 77 ∷ 83 ∷ 84 ∷ 107 ∷ []
+
+-- a list of page ranges
+abbrev pub page_ranges_bytes : List (Entry (Vec ℕ) (List ℕ)) → List ℕ
+page_ranges_bytes = list_bytes page_mark entry_bytes
+
+-- a list of key ranges
+abbrev pub key_ranges_bytes : List (Span (Vec ℕ)) → List ℕ
+key_ranges_bytes = list_bytes key_mark span_bytes
