@@ -2,7 +2,7 @@
 
 use crate::clock::{Best, now, rounds};
 use crate::fault::Fault;
-use crate::keys::{LOCAL_SEED, PEER_SEED, keys};
+use crate::keys::{LOCAL_SEED, keys};
 use merkle_digest::SipHasher;
 use merkle_replica::Replica;
 use merkle_search_tree::builder::Builder;
@@ -13,16 +13,24 @@ use std::rt::Clock;
 /// A replica of the default settings.
 type Numbers = Replica<String, u64, SipHasher, 16>;
 
-/// The replica of the first `count` keys of a seed, not hashed: at every tenth key in their order the value `tenth`, else 1. The keys
-/// are different, so that rows are refused only for want of memory.
-#[tactic(auto, using(key_order::proofs::Clones::string_clone))]
-fn replica(alloc: Global, seed: u64, count: usize, tenth: u64) -> Result<Numbers, Fault> {
-    let mut sorted = keys(alloc, seed, count)?;
+/// The keys of a peer with `count` rows and one, at the even places, and between each two of them one of the replica that pulls, in key
+/// order: so the peer's keys span the replica's.
+fn sorted_keys(alloc: Global, count: usize) -> Result<Vec<String>, Fault> {
+    let mut sorted = keys(alloc, LOCAL_SEED, count.saturating_mul(2).saturating_add(1))?;
     sorted.sort_unstable();
-    let mut rows = Vec::with_capacity(alloc, sorted.len())?;
-    for (i, key) in sorted.into_iter().enumerate() {
-        let value = if i % 10 == 0 { tenth } else { 1 };
-        rows.push((key, value))?;
+    Ok(sorted)
+}
+
+/// The replica of every second of these keys, from the first or the second on, not hashed: at every tenth of its rows the value `tenth`,
+/// else 1. The keys are different and ascend, so that rows are refused only for want of memory.
+#[tactic(auto, using(key_order::proofs::Clones::string_clone))]
+fn replica(alloc: Global, sorted: &[String], parity: usize, tenth: u64) -> Result<Numbers, Fault> {
+    let mut rows = Vec::new(alloc);
+    for (place, key) in sorted.iter().enumerate() {
+        if place % 2 == parity {
+            let value = if place % 20 == parity { tenth } else { 1 };
+            rows.push((key.clone()?, value))?;
+        }
     }
     match Replica::from_rows(alloc, Builder::default(), rows) {
         Ok(replica) => Ok(replica),
@@ -67,15 +75,20 @@ impl PullTimes {
     }
 
     /// Makes one round of the three pulls, each between replicas that are made before.
-    fn note_round<R: Clock>(&mut self, rt: &R, alloc: Global, count: usize) -> Result<(), Fault> {
-        let mut peer = replica(alloc, PEER_SEED, count, 2)?;
+    fn note_round<R: Clock>(
+        &mut self,
+        rt: &R,
+        alloc: Global,
+        sorted: &[String],
+    ) -> Result<(), Fault> {
+        let mut peer = replica(alloc, sorted, 0, 2)?;
         let mut empty = Replica::new(alloc, Builder::default());
         time_pull(rt, &mut empty, &mut peer, &mut self.into_empty)?;
-        let mut peer = replica(alloc, PEER_SEED, count, 2)?;
-        let mut others = replica(alloc, LOCAL_SEED, count, 1)?;
+        let mut peer = replica(alloc, sorted, 0, 2)?;
+        let mut others = replica(alloc, sorted, 1, 1)?;
         time_pull(rt, &mut others, &mut peer, &mut self.among_others)?;
-        let mut peer = replica(alloc, PEER_SEED, count, 2)?;
-        let mut same = replica(alloc, PEER_SEED, count, 1)?;
+        let mut peer = replica(alloc, sorted, 0, 2)?;
+        let mut same = replica(alloc, sorted, 0, 1)?;
         time_pull(rt, &mut same, &mut peer, &mut self.of_every_tenth)
     }
 }
@@ -89,9 +102,10 @@ pub fn write_table<R: Clock, W: Write>(
 ) -> Result<(), Fault> {
     writeln!(out, "rows pull_empty_ns pull_other_ns pull_tenth_ns").map_err(|_| Fault::Output)?;
     for count in counts {
+        let sorted = sorted_keys(alloc, *count)?;
         let mut times = PullTimes::new();
         for _ in 0..rounds(*count) {
-            times.note_round(rt, alloc, *count)?;
+            times.note_round(rt, alloc, &sorted)?;
         }
         let empty = times.into_empty.each(*count);
         let others = times.among_others.each(*count);
