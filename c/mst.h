@@ -31,7 +31,7 @@ enum {
 struct mst_tree { void *at; };
 #define MST_NO_TREE {0}
 
-/* Gives a handle that has no tree the empty tree, which mst_tree_free lets go: keys and values are hashed by SipHash-2-4-128 under
+/* Gives a handle that has no tree, as MST_NO_TREE makes it, the empty tree, which mst_tree_free lets go: keys and values are hashed by SipHash-2-4-128 under
  * the key of 16 zero bytes, the level base is 16 and the page format 1; so its root hashes are those of the Rust crate
  * merkle-search-tree for keys and values whose `Hash` feeds their bytes alone. MST_BAD_ARGUMENT where the handle has a tree;
  * MST_NO_MEMORY. One request for memory. */
