@@ -60,5 +60,12 @@ returns-clause-few_more g c =
 
 pub returns-clause-few : goal.returns-clause-few
 returns-clause-few g c =
+    let s = c.self.inside in
+    let view : State g.row.K.Denot g.row.H.Denot = record { hasher = s.hasher; base = non_zero_u8_get s.level_base; format = s.page_format; root = s.root; root_hash = s.root_hash } in
+    let lev = c.level-key_level.ensures ∙ ap (λ h. level_of h (non_zero_u8_get s.level_base)) c.hash-2.ensures in
+    let few = upsert-few g.K.Ord.cmp g.met.K.Ord.total g.K.PartialEq.eq g.met.K.Ord.matches_eq g.H.Hasher-1.digest_of g.met.H.Hasher-1.respects_eq g.K.KeyBytes.bytes_of view c.self.invariant _ c.args.key c.new-digest.result (sym lev) in
+    let few_more = subst (λ (v : State g.row.K.Denot g.row.H.Denot). missing c.set.new.self ≤ missing v.root + (level c.set.new.self + level_of (g.H.Hasher-1.digest_of v.hasher c.args.key) v.base + 1)) c.self.view_is
+    (subst (λ (t : Tree g.row.K.Denot (List ℕ)). missing t ≤ missing s.root + (level t + level_of (g.H.Hasher-1.digest_of s.hasher c.args.key) (non_zero_u8_get s.level_base) + 1)) (sym c.in_ok-set.ensures.done)
+    (subst (λ (m : ℕ). missing (tree_set g.K.Ord.cmp c.level-key_level.result c.args.key c.new-digest.result s.root) ≤ missing s.root + (level (tree_set g.K.Ord.cmp c.level-key_level.result c.args.key c.new-digest.result s.root) + m + 1)) lev few)) in
     let sound = subst (IsSound g.K.Ord.cmp g.H.Hasher-1.digest_of g.K.KeyBytes.bytes_of) c.self.view_is c.self.invariant in
-    λ ne. omega (arith, returns-clause-few_more g c, none_of_hashed c.args.self.now.format g.K.KeyBytes.bytes_of c.args.self.now.root c.args.self.now.root_hash sound.root_hash_holds sound.caches ne)
+    λ ne. omega (arith, few_more, none_of_hashed c.args.self.now.format g.K.KeyBytes.bytes_of c.args.self.now.root c.args.self.now.root_hash sound.root_hash_holds sound.caches ne)
