@@ -1,9 +1,9 @@
 /* Merkle search trees: a map from byte strings to the digests of byte strings, whose root hash depends on the map alone, and what two
- * stores need to bring each other up to date by a few hundred bytes.
+ * stores need to bring each other up to date by the ranges of their pages, one for some sixteen keys.
  *
- * Every call answers one of the statuses below, and none aborts. A call that doesn't answer MST_DONE (or MST_ABSENT) leaves the tree
- * as it was; only what `needed` points to may have changed. A null pointer where the call needs one is MST_BAD_ARGUMENT; where a
- * length is 0, its pointer may be null.
+ * Every call but mst_tree_free answers one of the statuses below, and none aborts. A call that doesn't answer MST_DONE (or
+ * MST_ABSENT) leaves the tree as it was; only what `needed` points to may have changed. A null pointer where the call needs one is
+ * MST_BAD_ARGUMENT; where a length is 0, its pointer may be null.
  *
  * What the caller owes, since no call can test it: a length is at most that of the memory behind its pointer; a handle is changed by
  * these calls alone, is copied by mst_tree_clone and not by `=`, and is used by one thread at a time; what a call writes to doesn't
@@ -31,21 +31,22 @@ enum {
 struct mst_tree { void *at; };
 #define MST_NO_TREE {0}
 
-/* Gives a handle that has no tree, as MST_NO_TREE makes it, the empty tree, which mst_tree_free lets go: keys and values are hashed by SipHash-2-4-128 under
- * the key of 16 zero bytes, the level base is 16 and the page format 1; so its root hashes are those of the Rust crate
- * merkle-search-tree for keys and values whose `Hash` feeds their bytes alone. MST_BAD_ARGUMENT where the handle has a tree;
- * MST_NO_MEMORY. One request for memory. */
+/* Gives a handle that has no tree, as MST_NO_TREE makes it, the empty tree, which mst_tree_free lets go: keys and values are hashed
+ * by SipHash-2-4-128 under the key of 16 zero bytes, the level base is 16 and the page format 1; so its root hashes are those of the
+ * Rust crate merkle-search-tree for keys and values whose `Hash` feeds their bytes alone. MST_BAD_ARGUMENT where the handle has a
+ * tree; MST_NO_MEMORY. One request for memory. */
 int mst_tree_new(struct mst_tree *out);
 
 /* The same with a key of SipHash, a level base from 1 to 255, and a page format, 1 or 2. Peers that compare trees need the same
- * three. MST_BAD_ARGUMENT for any other base or format, too. */
+ * three. MST_BAD_ARGUMENT for any other base or format, too; MST_NO_MEMORY. One request for memory. */
 int mst_tree_new_with(struct mst_tree *out, const uint8_t key[16], uint8_t level_base, uint8_t page_format);
 
 /* Gives `out`, which has no tree, a copy of the tree, which mst_tree_free lets go. MST_BAD_ARGUMENT where `tree` has none or `out` has
  * one; MST_NO_MEMORY. Time and memory in proportion to the tree. */
 int mst_tree_clone(struct mst_tree *tree, struct mst_tree *out);
 
-/* Lets the tree of a handle go, and leaves the handle without one, so that to free it twice does no harm. */
+/* Lets the tree of a handle go, and leaves the handle without one, so that to free it twice does no harm. Time in proportion to
+ * the tree. */
 void mst_tree_free(struct mst_tree *tree);
 
 /* Sets a key to the digest of a value. The key is copied; the value is hashed where it lies, and not kept. MST_NO_MEMORY;
@@ -75,7 +76,8 @@ int mst_tree_page_ranges(struct mst_tree *tree, uint8_t *out, size_t out_len, si
 
 /* Compares two lists of page ranges, one's own and a peer's, and writes the ranges of keys to ask the peer for, as a list of key
  * ranges, and how many bytes that is. The peer's list may be any bytes. MST_TOO_SHORT; MST_MALFORMED where one of them is no list of
- * page ranges; MST_NO_MEMORY; MST_BAD_ARGUMENT. */
+ * page ranges; MST_NO_MEMORY; MST_BAD_ARGUMENT. Memory in proportion to both lists, and time too but for a sort of the ranges in
+ * which they differ. */
 int mst_diff(const uint8_t *local, size_t local_len, const uint8_t *peer, size_t peer_len, uint8_t *out, size_t out_len,
              size_t *needed);
 
