@@ -7,7 +7,7 @@ use Rattle.merkle_search_tree.specs.Tree.{Tree, page, Row, high, node, Held, bel
 use Rattle.merkle_search_tree.specs.Page.{pairs, row_pairs, held_pairs, row_nodes, nodes_of}
 use Rattle.merkle_search_tree.specs.Upsert.{place, lower, upper, held_lower, held_upper, as_held, kept, kept_beside}
 use Rattle.merkle_search_tree.specs.Chain.{row_length, page_length, high_of, first_of, with_high, with_first, row_take, row_drop, row_of_page}
-use Rattle.merkle_search_tree.specs.Cut.{gap, row_place, cut_place, IsCut, CutFits, CutsFit}
+use Rattle.merkle_search_tree.specs.Cut.{gap, row_place, cut_place, CutsNodes, CutFits, CutsFit}
 use Rattle.merkle_search_tree.specs.declared.cut.Cut.{Cut}
 use Rattle.merkle_search_tree.proofs.Sides.{map-first, map-rest}
 use Rattle.merkle_search_tree.proofs.Hung.{length-first, length-drop, some-held, some-kept}
@@ -115,7 +115,7 @@ module _ {K D : Type 0} (cmp : K → K → Ordering) (k : K) where
   page_place (page l c r) = row_place-nodes r
 
   -- the cuts of a page's path: its own, and those of what stands in its gap
-  pub cuts-more : (t : Tree K D) (at : ℕ) (c : Cut K D) (cs : List (Cut K D)) → at ≡ row_place cmp k (row_of_page t) → IsCut (page_length t) c → cut_place (page_length t) c ≡ at
+  pub cuts-more : (t : Tree K D) (at : ℕ) (c : Cut K D) (cs : List (Cut K D)) → at ≡ row_place cmp k (row_of_page t) → CutsNodes (page_length t) c → cut_place (page_length t) c ≡ at
       → CutsFit cmp k (first_of (row_drop at (row_of_page t))) cs → CutsFit cmp k (below t) (c ∷ cs)
   cuts-more (page l o r) at c cs p a q f = ((a, q ∙ p), subst (λ h. CutsFit cmp k h cs) (sym (gap-at cmp k r at p)) f)
 

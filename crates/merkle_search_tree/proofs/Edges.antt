@@ -102,10 +102,6 @@ module _ {K D : Type 0} where
     edge-low b [] a = omega arith
     edge-low b (t ∷ ts) a = omega (arith, edge-low (level t) ts a.2, a.0)
 
-    -- nothing is closed yet
-    pub closes-none : (n : ℕ) (ts : List (Tree K D)) → IsEdge lev 256 ts → Closes lev n ts ts nothing
-    closes-none n ts a = (a, (tt, tt), (tt, tt), append-nil (edge_pairs ts))
-
     -- the last open page is closed
     pub closes-more : (n : ℕ) (ts us vs : List (Tree K D)) (t u : Tree K D) (h : Held K D) → us ≡ vs ++ t ∷ [] → level t < n → u ≡ remade 0 t (with_high h (row_of_page t)) → Closes lev n ts us h → Closes lev n ts vs (below u)
     closes-more n ts us vs t u h e s q a =

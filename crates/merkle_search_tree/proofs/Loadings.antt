@@ -14,7 +14,7 @@ use Rattle.merkle_search_tree.specs.Edge.{is_above}
 use Rattle.merkle_search_tree.specs.Loading.{row_count, digests_of, IsRefused, LoadFails}
 use Rattle.merkle_search_tree.specs.declared.load.LoadRefused.{LoadRefused}
 use Rattle.merkle_search_tree.specs.declared.load.LoadRefused.TheVariants.{Memory, NotAscending}
-use Rattle.merkle_search_tree.proofs.Copies.{same-append, same_is_map}
+use Rattle.merkle_search_tree.proofs.SameMaps.{same-append, same_is_map}
 use Rattle.merkle_search_tree.proofs.Listing.{ascends}
 
 module _ {K X : Type 0} (cmp : K → K → Ordering) where

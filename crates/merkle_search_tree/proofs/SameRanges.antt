@@ -10,14 +10,14 @@ use Rattle.merkle_search_tree.specs.Page.{pairs, row_pairs, held_pairs}
 use Rattle.merkle_search_tree.specs.Stream.{page_digest}
 use Rattle.merkle_search_tree.specs.Canonical.{SamePages, SameRow, SameHeld}
 use Rattle.merkle_search_tree.specs.Ranges.{entry_of, ranges_of, row_ranges, held_ranges}
-use Rattle.merkle_search_tree.proofs.Copies.{same-append}
+use Rattle.merkle_search_tree.proofs.SameMaps.{same-append}
 use Rattle.merkle_search_tree.proofs.Same.{same_digest}
 use Rattle.merkle_search_tree.specs.declared.builder.PageFormat.{PageFormat}
 
 module _ {K : Type 0} (cmp : K → K → Ordering) where
   mutual
     pub same-pairs : (t t' : Tree K (List ℕ)) → SamePages cmp t t' → SameMap cmp (λ d e. d ≡ e) (pairs t) (pairs t')
-    same-pairs (page l c r) (page l' c' r') s = row_same-pairs r r' s.1
+    same-pairs (page l c r) (page l' c' r') s = row_same-pairs r r' s.2
 
     row_same-pairs : (r r' : Row K (List ℕ)) → SameRow cmp r r' → SameMap cmp (λ d e. d ≡ e) (row_pairs r) (row_pairs r')
     row_same-pairs (high h) (high h') s = held_same-pairs h h' s
@@ -58,7 +58,7 @@ module _ {K : Type 0} (cmp : K → K → Ordering) where
           let d = page_digest format bytes_of (page l c r) in
           let d' = page_digest format bytes_of (page l' c' r') in
           same-entries-append (entry_of (row_pairs r) d) (row_ranges format bytes_of r) (entry_of (row_pairs r') d') (row_ranges format bytes_of r')
-          (same_entry_of (row_pairs r) (row_pairs r') d d' (row_same-pairs r r' s.1) (same_digest cmp format bytes_of respects (page l c r) (page l' c' r') s)) (row_same_ranges r r' s.1)
+          (same_entry_of (row_pairs r) (row_pairs r') d d' (row_same-pairs r r' s.2) (same_digest cmp format bytes_of respects (page l c r) (page l' c' r') s)) (row_same_ranges r r' s.2)
 
       row_same_ranges : (r r' : Row K (List ℕ)) → SameRow cmp r r' → SameEntries cmp (row_ranges format bytes_of r) (row_ranges format bytes_of r')
       row_same_ranges (high h) (high h') s = held_same_ranges h h' s

@@ -21,16 +21,6 @@ module _ {K D : Type 0} where
   join_none nothing = refl
   join_none (below (page l c r)) = refl
 
-  row_under-is : (l : ℕ) (c : Option (List ℕ)) (r s : Row K D) → row_under (page l c r) l (row_append r) s ≡ row_append (high (below (page l c r))) s
-  row_under-is l c r (high h) = refl
-  row_under-is l c r (node h k d s) = refl
-
-  pub join_less : (l m : ℕ) (c d : Option (List ℕ)) (r s : Row K D) → nat_cmp l m ≡ Less
-      → held_join (below (page l c r)) (below (page m d s)) ≡ below (page m None (row_append (high (below (page l c r))) s))
-  join_less l m c d r s q =
-      ap (λ o. below (match_ordering o (page m None (row_under (page l c r) l (row_append r) s)) (page l None (row_append r s)) (page l None (row_append r (high (below (page m d s))))))) q
-      ∙ ap (λ t. below (page m None t)) (row_under-is l c r s)
-
   pub join_equal : (l m : ℕ) (c d : Option (List ℕ)) (r s : Row K D) → nat_cmp l m ≡ Equal → held_join (below (page l c r)) (below (page m d s)) ≡ below (page l None (row_append r s))
   join_equal l m c d r s q =
       ap (λ o. below (match_ordering o (page m None (row_under (page l c r) l (row_append r) s)) (page l None (row_append r s)) (page l None (row_append r (high (below (page m d s))))))) q

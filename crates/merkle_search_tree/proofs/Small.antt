@@ -58,8 +58,8 @@ module _ {K : Type 0} (bytes_of : K → List ℕ) (n : ℕ) where
     mutual
       -- each page of a tree with the same pages has few nodes
       pub pages_few : (t u : Tree K (List ℕ)) → SamePages cmp t u → IsHeldInMemory bytes_of n u → (s : Tree K (List ℕ)) → IsPageIn s t → length (nodes_of s) < 2 ^ 64
-      pages_few (page l c r) (page l' c' r') same a s (inl e) = subst (λ x. length (nodes_of x) < 2 ^ 64) (sym e) (subst (λ m. m < 2 ^ 64) (sym (same_count cmp r r' same.1)) a.0)
-      pages_few (page l c r) (page l' c' r') same a s (inr i) = row_few r r' same.1 a.1 s i
+      pages_few (page l c r) (page l' c' r') same a s (inl e) = subst (λ x. length (nodes_of x) < 2 ^ 64) (sym e) (subst (λ m. m < 2 ^ 64) (sym (same_count cmp r r' same.2)) a.0)
+      pages_few (page l c r) (page l' c' r') same a s (inr i) = row_few r r' same.2 a.1 s i
 
       row_few : (r r' : Row K (List ℕ)) → SameRow cmp r r' → RowIsHeld bytes_of n r' → (s : Tree K (List ℕ)) → IsPageInRow s r → length (nodes_of s) < 2 ^ 64
       row_few (high h) (high h') same a s i = held_few h h' same a s i

@@ -101,7 +101,7 @@ module _ {K D : Type 0} (lev : K → ℕ) (cmp : K → K → Ordering) (respects
     pub unique_tree : (t t' : Tree K D) → IsCanonical lev t → IsCanonical lev t' → HasNode t → HasNode t' → SameMap cmp (λ d e. d ≡ e) (pairs t) (pairs t') → SamePages cmp t t'
     unique_tree (page l c r) (page l' c' r') p p' n n' s =
         let e : l ≡ l' = same_level (page l c r) (page l' c' r') p p' n n' s in
-        (e, unique_row l r r' p (subst (λ m. IsRow lev m r') (sym e) p') s)
+        (e, tt, unique_row l r r' p (subst (λ m. IsRow lev m r') (sym e) p') s)
 
     pub unique_row : (l : ℕ) (r r' : Row K D) → IsRow lev l r → IsRow lev l r' → SameMap cmp (λ d e. d ≡ e) (row_pairs r) (row_pairs r') → SameRow cmp r r'
     unique_row l (high h) (high h') p p' s = unique_held l h h' p p' s
@@ -119,7 +119,7 @@ module _ {K D : Type 0} (lev : K → ℕ) (cmp : K → K → Ordering) (respects
 
   -- two roots of equal maps are the same, apart from the caches
   pub unique_root : (t t' : Tree K D) → IsCanonicalRoot lev t → IsCanonicalRoot lev t' → SameMap cmp (λ d e. d ≡ e) (pairs t) (pairs t') → SamePages cmp t t'
-  unique_root (page l c (high nothing)) (page l' c' (high nothing)) p p' s = (omega arith, tt)
+  unique_root (page l c (high nothing)) (page l' c' (high nothing)) p p' s = (omega arith, tt, tt)
   unique_root (page l c (high (below t))) t' p p' s = absurd p
   unique_root (page l c (high nothing)) (page l' c' (high (below t'))) p p' s = absurd p'
   unique_root (page l c (high nothing)) (page l' c' (node h' k' d' r')) p p' s = none_first (page l' c' (node h' k' d' r')) tt s

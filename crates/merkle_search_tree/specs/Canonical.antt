@@ -6,6 +6,7 @@ use Rattle.key_order.specs.Map.{SameMap}
 use Rattle.merkle_digest.specs.Level.{level_of}
 use Rattle.merkle_search_tree.specs.Tree.{Tree, page, Row, high, node, Held, nothing, below}
 use Rattle.merkle_search_tree.specs.Page.{level, pairs}
+use Rattle.merkle_search_tree.specs.Alike.{AreAlike, RowsAreAlike, HeldAreAlike}
 
 module _ {K D : Type 0} where
   -- the page has a node of its own
@@ -34,22 +35,15 @@ module _ {K D : Type 0} (lev : K → ℕ) where
   IsCanonicalRoot (page l c (node h k d r)) = IsRow l (node h k d r)
 
 module _ {K D : Type 0} (cmp : K → K → Ordering) where
-  abbrev mutual
-    -- the pages are the same apart from caches, up to equal keys
-    pub SamePages : Tree K D → Tree K D → Type 0
-    SamePages (page l c r) (page l' c' r') = (l ≡ l') × SameRow r r'
+  -- the pages are the same apart from caches, up to equal keys
+  abbrev pub SamePages : Tree K D → Tree K D → Type 0
+  SamePages = AreAlike (λ c d. ⊤) (Same cmp) (λ d e. d ≡ e)
 
-    pub SameRow : Row K D → Row K D → Type 0
-    SameRow (high h) (high h') = SameHeld h h'
-    SameRow (high h) (node h' k' d' r') = ⊥
-    SameRow (node h k d r) (high h') = ⊥
-    SameRow (node h k d r) (node h' k' d' r') = SameHeld h h' × Same cmp k k' × (d ≡ d') × SameRow r r'
+  abbrev pub SameRow : Row K D → Row K D → Type 0
+  SameRow = RowsAreAlike (λ c d. ⊤) (Same cmp) (λ d e. d ≡ e)
 
-    pub SameHeld : Held K D → Held K D → Type 0
-    SameHeld nothing nothing = ⊤
-    SameHeld nothing (below t) = ⊥
-    SameHeld (below t) nothing = ⊥
-    SameHeld (below t) (below t') = SamePages t t'
+  abbrev pub SameHeld : Held K D → Held K D → Type 0
+  SameHeld = HeldAreAlike (λ c d. ⊤) (Same cmp) (λ d e. d ≡ e)
 
   -- the page t is the tree of the map m, where digest_of gives the digests of keys: the pages are canonical, and their map is m
   abbrev pub IsTreeOf : (K → List ℕ) → ℕ → Tree K D → List (K × D) → Type 0

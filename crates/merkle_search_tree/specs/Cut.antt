@@ -16,10 +16,10 @@ module _ {K D : Type 0} where
   cut_place n End = n
 
   -- a cut of n nodes: behind the start there is a node, and a cut inside has nodes on both sides, and room for those behind it
-  abbrev pub IsCut : ℕ → Cut K D → Type 0
-  IsCut n Start = 0 < n
-  IsCut n (Inside i s) = (0 < i) × (i < n) × (s.nodes.items ≡ []) × (n - i ≤ vec_capacity s.nodes)
-  IsCut n End = ⊤
+  abbrev pub CutsNodes : ℕ → Cut K D → Type 0
+  CutsNodes n Start = 0 < n
+  CutsNodes n (Inside i s) = (0 < i) × (i < n) × (s.nodes.items ≡ []) × (n - i ≤ vec_capacity s.nodes)
+  CutsNodes n End = ⊤
 
 module _ {K D : Type 0} (cmp : K → K → Ordering) (at : K) where
   -- what stands in the key's gap of a row
@@ -34,7 +34,7 @@ module _ {K D : Type 0} (cmp : K → K → Ordering) (at : K) where
 
   -- a row's cut at the key's gap
   abbrev pub CutFits : Row K D → Cut K D → Type 0
-  CutFits r c = IsCut (row_length r) c × (cut_place (row_length r) c ≡ row_place r)
+  CutFits r c = CutsNodes (row_length r) c × (cut_place (row_length r) c ≡ row_place r)
 
   -- the cuts are those of the key's path, the topmost first
   abbrev pub CutsFit : Held K D → List (Cut K D) → Type 0

@@ -1,5 +1,5 @@
 -- How many pages stand below one another.
-use Rattle.std.specs.Prelude.{ℕ, zero, suc, max}
+use Rattle.std.specs.Prelude.{ℕ, suc, max}
 use Rattle.merkle_search_tree.specs.Tree.{Tree, page, Row, high, node, Held, nothing, below}
 
 module _ {K D : Type 0} where

@@ -3,6 +3,7 @@ pub mod TreeCode
 pub mod TreeFalls
 pub mod Page
 pub mod Depth
+pub mod Alike
 pub mod Canonical
 pub mod TreeOf
 pub mod Stream

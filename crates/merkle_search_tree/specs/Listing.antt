@@ -1,11 +1,15 @@
 -- What a list of page ranges says of the map of its tree.
-use Rattle.std.specs.Prelude.{◌≡◌, List, [], ◌∷◌, ⊤}
+use Rattle.std.specs.Prelude.{◌≡◌, ℕ, List, [], ◌∷◌, ⊤}
 use Rattle.std.specs.List.{AllByRecursion}
 use Rattle.std.specs.declared.cmp.Ordering.{Ordering}
 use Rattle.key_order.specs.Order.{Same}
 use Rattle.key_order.specs.Interval.{is_in}
 use Rattle.key_order.specs.Map.{SameMap, last_key, rows_at}
 use Rattle.merkle_diff.specs.Entry.{Entry, span_of}
+use Rattle.merkle_search_tree.specs.Page.{pairs}
+use Rattle.merkle_search_tree.specs.Ranges.{IsPageOf}
+use Rattle.merkle_search_tree.specs.Stream.{page_digest}
+use Rattle.merkle_search_tree.specs.declared.builder.PageFormat.{PageFormat}
 
 module _ {K D P : Type 0} (cmp : K → K → Ordering) where
   -- the first entry spans the whole map, and only the empty map has no entry
@@ -24,3 +28,7 @@ module _ {K D P : Type 0} (cmp : K → K → Ordering) where
     pub record IsListing (m : List (K × D)) (es : List (Entry K P)) : Type 0 where
       pub whole : IsWhole m es
       pub pages : AllByRecursion (λ e. (t : T) × IsPageOf t m × (dig t ≡ e.digest) × SameMap cmp (λ d c. d ≡ c) (pairs t) (entry_rows e m)) es
+
+-- `es` lists pages of the tree of the map m, with their digests in a format
+abbrev pub ListsPages : {K : Type 0} → (K → K → Ordering) → (K → List ℕ) → ℕ → PageFormat → (K → List ℕ) → List (K × List ℕ) → List (Entry K (List ℕ)) → Type 0
+ListsPages cmp digest_of base format bytes_of m es = IsListing cmp (IsPageOf cmp digest_of base) (page_digest format bytes_of) pairs m es

@@ -1,5 +1,6 @@
 -- The tree of a map, as a function of the map and the levels of its keys.
 use Rattle.std.specs.Prelude.{ℕ, zero, suc, Bool, false, ◌||◌, ◌==◌, List, [], ◌∷◌, ◌++◌, None, if◌then◌else◌}
+use Rattle.merkle_digest.specs.Level.{level_of}
 use Rattle.merkle_search_tree.specs.Tree.{Tree, page, Row, high, node, Held, nothing, below}
 
 module _ {K D : Type 0} where
@@ -27,3 +28,7 @@ module _ {K D : Type 0} (lev : K → ℕ) where
   -- the root page of a map, whose levels are at most 255
   unfoldable pub tree_of : List (K × D) → Tree K D
   tree_of ps = root_of (gap_of 256 ps)
+
+-- the tree that a map defines under a level base, where digest_of gives the digests of its keys
+abbrev pub defined_tree : {K D : Type 0} → (K → List ℕ) → ℕ → List (K × D) → Tree K D
+defined_tree digest_of base m = tree_of (λ k. level_of (digest_of k) base) m

@@ -1,7 +1,11 @@
 -- What a list of updates leads to, each of which was accepted or not.
-use Rattle.std.specs.Prelude.{◌≡◌, ⊤, ℕ, Bool, true, false, List, [], ◌∷◌, if◌then◌else◌}
+use Rattle.std.specs.Prelude.{◌≡◌, ⊤, ℕ, Bool, true, false, List, [], ◌∷◌, Option, Some, None, if◌then◌else◌}
 use Rattle.std.specs.declared.cmp.Ordering.{Ordering}
 use Rattle.key_order.specs.Map.{set, has_key, del}
+use Rattle.merkle_search_tree.specs.Settings.{Settings}
+use Rattle.merkle_search_tree.specs.Stream.{page_digest}
+use Rattle.merkle_search_tree.specs.Tree.{Tree}
+use Rattle.merkle_search_tree.specs.TreeOf.{defined_tree}
 use Rattle.merkle_search_tree.specs.declared.updates.Update.{Update}
 use Rattle.merkle_search_tree.specs.declared.updates.Update.TheVariants.{Upsert, Remove, RootHash}
 
@@ -47,3 +51,13 @@ module _ {K V : Type 0} (cmp : K → K → Ordering) (digest_of : V → List ℕ
   FreeAreAccepted m [] accepted = ⊤
   FreeAreAccepted m (u ∷ us) [] = ⊤
   FreeAreAccepted m (u ∷ us) (a ∷ accepted) = IsAcceptedIfFree m u a × FreeAreAccepted (map_after_one m u a) us accepted
+
+module _ {K V H : Type 0} (cmp : K → K → Ordering) (key_digest : H → K → List ℕ) (value_digest : H → V → List ℕ) where
+  -- the tree that the updates lead to, from the empty one of a builder on: that of the map after them
+  abbrev pub tree_after : Settings H → List (Update K V) → List Bool → Tree K (List ℕ)
+  tree_after s us accepted = defined_tree (key_digest s.hasher) s.base (map_after cmp (value_digest s.hasher) [] us accepted)
+
+  -- the root hash that is cached then: the digest of that tree's root page, where the tree is hashed
+  abbrev pub root_hash_after : (K → List ℕ) → Settings H → List (Update K V) → List Bool → Option (List ℕ)
+  root_hash_after bytes_of s us accepted =
+      if (hashed_after cmp (value_digest s.hasher) [] false us accepted) then (Some (page_digest s.format bytes_of (tree_after s us accepted))) else None

@@ -25,6 +25,13 @@ pub enum PageFormat {
 }
 
 /// Makes trees with a hasher, a level base and a page format. A contract sees the three.
+///
+/// ```rust
+/// let tree: Tree = Builder::default()
+///     .with_level_base(base)
+///     .with_page_format(PageFormat::V2)
+///     .build(alloc);
+/// ```
 #[derive(Drop)]
 pub struct Builder<H> {
     pub(crate) hasher: H,
@@ -57,7 +64,11 @@ impl Default for Builder<SipHasher> {
 }
 
 impl<H: Clone> Builder<H> {
-    /// A builder with a clone of the hasher, and the same level base and page format. It takes no memory but what the clone of the hasher takes.
+    /// A builder with a clone of the hasher, and the same level base and page format.
+    ///
+    /// # Errors
+    ///
+    /// `AllocError` where the clone of the hasher is refused memory; nothing else takes any.
     pub fn try_clone(&self) -> Result<Self, AllocError>
         ensures hasher { IfOk result (λ copy. H.is_clone self.now.hasher copy.hasher) }
         ensures base { IfOk result (λ copy. copy.base ≡ self.now.base) }
@@ -87,7 +98,7 @@ impl<H> Builder<H> {
     }
 
     /// The builder with this level base, from 1 to 255: the branching factor of its trees, roughly. A greater base makes fewer
-    /// levels and larger pages.
+    /// levels and larger pages. Peers that compare their trees take one base.
     pub fn with_level_base(self, level_base: NonZeroU8) -> Self
         ensures { result ≡ record { hasher = self.hasher; base = non_zero_u8_get level_base; format = self.format } }
     {

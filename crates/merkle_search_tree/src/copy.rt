@@ -9,8 +9,12 @@ use merkle_digest::PageDigest;
 use std::alloc::{AllocError, Global};
 
 impl<const N: usize, K: Clone + PartialEq> Node<N, K> {
-    /// A copy of the node, of the page below it and of all cached digests there, with clones of the keys. Where a clone of a key is
-    /// equal to the key, the copy is equal to the node. The answer is `AllocError` where memory is refused.
+    /// A copy of the node, of the page below it and of all cached digests there, with clones of the keys, one for each key. Where a
+    /// clone of a key is equal to the key, the copy is equal to the node.
+    ///
+    /// # Errors
+    ///
+    /// `AllocError` where memory is refused: for a page or its nodes, or for the clone of a key.
     pub fn try_clone(&self, alloc: Global) -> Result<Self, AllocError>
         ensures copy { IfOk result (λ copy. NodeIsCopy K.is_clone (λ digest copied. copied ≡ digest) self.now copy) }
         ensures equal { ((key clone : K) → K.is_clone key clone → K.eq key clone ≡ true)
@@ -21,8 +25,12 @@ impl<const N: usize, K: Clone + PartialEq> Node<N, K> {
 }
 
 impl<const N: usize, K: Clone + PartialEq> Page<N, K> {
-    /// A copy of the page, of those below it and of all cached digests, with clones of the keys. Where a clone of a key is equal to the
-    /// key, the copy is equal to the page. The answer is `AllocError` where memory is refused.
+    /// A copy of the page, of those below it and of all cached digests, with clones of the keys, one for each key. Where a clone of a key
+    /// is equal to the key, the copy is equal to the page.
+    ///
+    /// # Errors
+    ///
+    /// `AllocError` where memory is refused: for a page or its nodes, or for the clone of a key.
     pub fn try_clone(&self, alloc: Global) -> Result<Self, AllocError>
         ensures copy { IfOk result (λ copy. IsCopy K.is_clone (λ digest copied. copied ≡ digest) self.now copy) }
         ensures equal { ((key clone : K) → K.is_clone key clone → K.eq key clone ≡ true)

@@ -5,7 +5,7 @@ ghost use Rattle.key_order.specs.Map.{IsMap};
 ghost use Rattle.merkle_search_tree.specs.Page.{held_pairs};
 ghost use Rattle.merkle_search_tree.specs.Tree.{held_of};
 ghost use Rattle.merkle_search_tree.specs.Chain.{first_of, row_drop, row_of_page};
-ghost use Rattle.merkle_search_tree.specs.Cut.{cut_place, IsCut, CutsFit};
+ghost use Rattle.merkle_search_tree.specs.Cut.{cut_place, CutsNodes, CutsFit};
 
 use crate::page::PageOf;
 use crate::spare::Spare;
@@ -27,7 +27,7 @@ pub(crate) enum Cut<K, D> {
 fn cut_at<K: Drop, D: Drop>(alloc: Global, at: usize, len: usize) -> Result<Cut<K, D>, AllocError>
     requires { at ≤ len }
     ensures place { IfOk result (λ cut. cut_place len cut ≡ at) }
-    ensures cuts { IfOk result (IsCut len) }
+    ensures cuts { IfOk result (CutsNodes len) }
 {
     if at == len {
         return Ok(Cut::End);

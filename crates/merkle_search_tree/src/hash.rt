@@ -8,7 +8,8 @@ ghost use Rattle.merkle_search_tree.specs.Cache.{CachesHold, HeldCachesHold, mis
 
 use crate::builder::PageFormat;
 use crate::page::{Page, PageOf};
-use merkle_digest::{KeyBytes, PageDigest, Sip24};
+use crate::tree::MerkleSearchTree;
+use merkle_digest::{Hasher, KeyBytes, PageDigest, RootHash, Sip24};
 
 impl<K, D> PageOf<K, D> {
     /// How many pages lack a digest, this one and those below it, but at most `usize::MAX`.
@@ -132,4 +133,55 @@ fn write_key(format: PageFormat, bytes: &[u8], sip: &mut Sip24)
         PageFormat::V2 => sip.write(&u64::to_le_bytes(bytes.len() as u64)),
     }
     sip.write(bytes);
+}
+
+impl<K: Ord + KeyBytes, V, H: Hasher<N, K>, const N: usize> MerkleSearchTree<K, V, H, N> {
+    ghost use Rattle.std.specs.Prelude.{◌≢◌, Some, None, ⊤};
+    ghost use Rattle.merkle_search_tree.specs.Hashed.{IsHashed};
+    ghost use Rattle.merkle_search_tree.specs.State.{map_of};
+    ghost use Rattle.merkle_search_tree.specs.contracts.tree.MerkleSearchTree.{the_row};
+    ghost use Rattle.std.specs.Borrow.{sem};
+    ghost use mathlib.Core.Option.{none};
+    ghost use denote.Follow.{follows_so};
+    ghost use denote.Param.{number};
+
+    /// How many pages lack a digest, but at most `usize::MAX`: none of a hashed tree. It looks at every page, and takes no memory.
+    pub fn pages_to_hash(&self) -> usize
+        ensures count { result ≡ min (missing self.now.root) (2 ^ 64 - 1) }
+        ensures hashed { self.now.root_hash ≢ None → result ≡ 0 }
+    {
+        self.root.missing()
+    }
+
+    /// The digest of the root page: SipHash-2-4-128 of its stream under the zero key, whatever the tree's own hasher is. It
+    /// fills in the digests that pages lack, changes nothing else, and takes no memory. Trees of equal maps have equal root hashes, under
+    /// one hasher, level base and page format; the converse holds only as far as no digests collide, and in format 1 streams can be equal, too.
+    ///
+    /// Of the pages that lack a digest it hashes the nodes, one page after the other; below a page that has one it doesn't look.
+    pub fn root_hash(&mut self) -> &RootHash
+        ensures* tree { let row = the_row K.row V.row H.row (number N) K.Ord.own K.PartialEq K.PartialOrd.own K.KeyBytes.own H.Hasher in
+            sem 𝓛 (follows_so row row self.entry.ghost_name none (λ _ _. ⊤) (IsHashed K.bytes_of self.old)) }
+        ensures digest { result.now ≡ page_digest self.old.format K.bytes_of self.old.root }
+    {
+        let _ = self.root_hash_counted();
+        match &self.root_hash {
+            Some(digest) => digest,
+            None => unreachable!(),
+        }
+    }
+
+    /// The root hash, as [`root_hash`](Self::root_hash) gives it, and how many pages were hashed in this call: one for each page
+    /// that lacked a digest, but at most `usize::MAX`.
+    pub fn root_hash_counted(&mut self) -> (RootHash, usize)
+        ensures tree { self.new ≡ record self.old { root = filled self.old.format K.bytes_of self.old.root; root_hash = Some (page_digest self.old.format K.bytes_of self.old.root) } }
+        ensures map { map_of self.new ≡ map_of self.old }
+        ensures digest { result.0 ≡ page_digest self.old.format K.bytes_of self.old.root }
+        ensures count { result.1 ≡ min (missing self.old.root) (2 ^ 64 - 1) }
+        ensures hashed { missing self.new.root ≡ 0 }
+    {
+        let (digest, hashed) = self.root.fill(self.page_format);
+        let bytes = *digest.as_bytes();
+        self.root_hash = Some(RootHash::new(digest));
+        (RootHash::new(PageDigest::new(bytes)), hashed)
+    }
 }

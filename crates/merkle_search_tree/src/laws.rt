@@ -3,21 +3,22 @@
 
 ghost use Rattle.std.specs.Prelude.{◌≡◌, ◌+◌, ◌≤◌, ⊤, ℕ, List, [], MatchOption};
 ghost use Rattle.key_order.specs.Interval.{Span};
+ghost use Rattle.key_order.specs.Order.{Same};
 ghost use Rattle.key_order.specs.Map.{IsMap, SameMap};
 ghost use Rattle.merkle_digest.specs.Level.{level_of};
 ghost use Rattle.merkle_diff.specs.Difference.{IsDifference, SparesAgreed};
 ghost use Rattle.merkle_diff.specs.Entry.{Entry};
 ghost use Rattle.merkle_diff.specs.SameEntries.{SameEntries};
 ghost use Rattle.merkle_diff.specs.TreeShape.{IsTreeShaped};
-ghost use Rattle.merkle_search_tree.specs.Cache.{missing};
+ghost use Rattle.merkle_search_tree.specs.Cache.{missing, filled};
 ghost use Rattle.merkle_search_tree.specs.Depth.{depth};
-ghost use Rattle.merkle_search_tree.specs.Listing.{IsListing};
+ghost use Rattle.merkle_search_tree.specs.Listing.{ListsPages};
 ghost use Rattle.merkle_search_tree.specs.Page.{level, pairs};
 ghost use Rattle.merkle_search_tree.specs.Ranges.{IsPageOf, IsRangesOf, ranges_of};
 ghost use Rattle.merkle_search_tree.specs.Canonical.{SamePages, IsTreeOf};
 ghost use Rattle.merkle_search_tree.specs.Faithful.{IsSmall, NoCollision, HasFaithfulPages};
 ghost use Rattle.merkle_search_tree.specs.Tree.{Tree};
-ghost use Rattle.merkle_search_tree.specs.TreeOf.{tree_of};
+ghost use Rattle.merkle_search_tree.specs.TreeOf.{defined_tree};
 ghost use Rattle.merkle_search_tree.specs.declared.builder.PageFormat.{PageFormat};
 ghost use Rattle.merkle_search_tree.specs.declared.builder.PageFormat.TheVariants.{V2};
 ghost use Rattle.merkle_search_tree.specs.Stream.{page_digest};
@@ -34,9 +35,11 @@ pub fn every_tree_is_sound<K: Ord + KeyBytes, V, H: Hasher<N, K>, const N: usize
     tree: &MerkleSearchTree<K, V, H, N>,
 )
     ensures sound { IsSound K.cmp H.digest_of K.bytes_of tree.now }
-    ensures defined { SamePages K.cmp tree.now.root (tree_of (λ k. level_of (H.digest_of tree.now.hasher k) tree.now.base) (map_of tree.now)) }
-    ensures digest { page_digest tree.now.format K.bytes_of tree.now.root ≡ page_digest tree.now.format K.bytes_of (tree_of (λ k. level_of (H.digest_of tree.now.hasher k) tree.now.base) (map_of tree.now)) }
-    ensures ranges { SameEntries K.cmp (ranges_of tree.now.format K.bytes_of tree.now.root) (ranges_of tree.now.format K.bytes_of (tree_of (λ k. level_of (H.digest_of tree.now.hasher k) tree.now.base) (map_of tree.now))) }
+    ensures defined { SamePages K.cmp tree.now.root (defined_tree (H.digest_of tree.now.hasher) tree.now.base (map_of tree.now)) }
+    ensures digest { page_digest tree.now.format K.bytes_of tree.now.root
+        ≡ page_digest tree.now.format K.bytes_of (defined_tree (H.digest_of tree.now.hasher) tree.now.base (map_of tree.now)) }
+    ensures ranges { SameEntries K.cmp (ranges_of tree.now.format K.bytes_of tree.now.root)
+        (ranges_of tree.now.format K.bytes_of (defined_tree (H.digest_of tree.now.hasher) tree.now.base (map_of tree.now))) }
 {
     let _ = &tree.root;
 }
@@ -51,10 +54,28 @@ pub fn a_tree_is_at_most_256_pages_deep<K: Ord + KeyBytes, V, H: Hasher<N, K>, c
     let _ = &tree.root;
 }
 
-/// A map has one tree: under any hasher and level base there is one, and trees of equal maps have equal pages apart from caches, and,
-/// in any page format, root pages of equal digest and equal page ranges.
+/// Keys that the order doesn't tell apart have equal bytes.
+pub fn equal_keys_have_equal_bytes<K: Ord + KeyBytes>()
+    ensures { (a b : K) → Same K.cmp a b → K.bytes_of a ≡ K.bytes_of b }
+{}
+
+/// Keys that the order doesn't tell apart are on one level, under any hasher and level base, and a level is at most 255.
+pub fn equal_keys_are_on_one_level<K: Ord, H: Hasher<N, K>, const N: usize>()
+    ensures level { (hasher : H) (base : ℕ) (a b : K) → Same K.cmp a b → level_of (H.digest_of hasher a) base ≡ level_of (H.digest_of hasher b) base }
+    ensures most { (digest : List ℕ) (base : ℕ) → level_of digest base ≤ 255 }
+{}
+
+/// Filling in the digests that pages lack leaves the map as it is, in any page format.
+pub fn filled_pages_keep_their_map<K: KeyBytes>()
+    ensures { (format : PageFormat) (t : Tree K (List ℕ)) → pairs (filled format K.bytes_of t) ≡ pairs t }
+{}
+
+/// A map has one tree: under any hasher and level base there is one, and any other has its pages apart from caches; trees of equal maps
+/// have equal pages, and, in any page format, root pages of equal digest and equal page ranges.
 pub fn a_map_has_one_tree<K: Ord + KeyBytes, H: Hasher<N, K>, const N: usize>()
-    ensures defined { (hasher : H) (base : ℕ) (m : List (K × List ℕ)) → IsTreeOf K.cmp (H.digest_of hasher) base (tree_of (λ k. level_of (H.digest_of hasher k) base) m) m }
+    ensures defined { (hasher : H) (base : ℕ) (m : List (K × List ℕ)) → IsTreeOf K.cmp (H.digest_of hasher) base (defined_tree (H.digest_of hasher) base m) m }
+    ensures only { (hasher : H) (base : ℕ) (m : List (K × List ℕ)) (t : Tree K (List ℕ))
+        → IsTreeOf K.cmp (H.digest_of hasher) base t m → SamePages K.cmp t (defined_tree (H.digest_of hasher) base m) }
     ensures pages { (hasher : H) (base : ℕ) (a b : List (K × List ℕ)) (t u : Tree K (List ℕ)) → SameMap K.cmp (λ d e. d ≡ e) a b
         → IsTreeOf K.cmp (H.digest_of hasher) base t a → IsTreeOf K.cmp (H.digest_of hasher) base u b → SamePages K.cmp t u }
     ensures digests { (hasher : H) (base : ℕ) (format : PageFormat) (a b : List (K × List ℕ)) (t u : Tree K (List ℕ)) → SameMap K.cmp (λ d e. d ≡ e) a b
@@ -75,7 +96,7 @@ pub fn page_ranges_of_a_map<K: Ord + KeyBytes, H: Hasher<N, K>, const N: usize>(
     ensures shaped { (hasher : H) (base : ℕ) (format : PageFormat) (m : List (K × List ℕ)) (es : List (Entry K (List ℕ))) → IsMap K.cmp m
         → IsRangesOf K.cmp (H.digest_of hasher) base format K.bytes_of m es → IsTreeShaped K.cmp es }
     ensures listing { (hasher : H) (base : ℕ) (format : PageFormat) (m : List (K × List ℕ)) (es : List (Entry K (List ℕ))) → IsMap K.cmp m
-        → IsRangesOf K.cmp (H.digest_of hasher) base format K.bytes_of m es → IsListing K.cmp (IsPageOf K.cmp (H.digest_of hasher) base) (page_digest format K.bytes_of) pairs m es }
+        → IsRangesOf K.cmp (H.digest_of hasher) base format K.bytes_of m es → ListsPages K.cmp (H.digest_of hasher) base format K.bytes_of m es }
 {}
 
 /// Trees of equal maps, under one hasher and level base, have equal pages apart from caches, and, in one page format, equal root
@@ -118,7 +139,7 @@ pub fn page_ranges_are_tree_shaped<K: Ord + KeyBytes, V, H: Hasher<N, K>, const 
 pub fn page_ranges_list_the_map<K: Ord + KeyBytes, V, H: Hasher<N, K>, const N: usize>(
     tree: &MerkleSearchTree<K, V, H, N>,
 )
-    ensures { IsListing K.cmp (IsPageOf K.cmp (H.digest_of tree.now.hasher) tree.now.base) (page_digest tree.now.format K.bytes_of) pairs (map_of tree.now) (ranges_of tree.now.format K.bytes_of tree.now.root) }
+    ensures { ListsPages K.cmp (H.digest_of tree.now.hasher) tree.now.base tree.now.format K.bytes_of (map_of tree.now) (ranges_of tree.now.format K.bytes_of tree.now.root) }
 {
     let _ = &tree.root;
 }

@@ -26,6 +26,7 @@ mod spare;
 mod split;
 mod spot;
 mod tree;
+mod tree_ranges;
 pub mod updates;
 mod upsert;
 pub mod visitor;

@@ -74,7 +74,11 @@ fn finished<K: Ord + KeyBytes + Drop, V, H: Hasher<N, K> + Drop, const N: usize>
     loading: Loading<K, ValueDigest<N>>,
 ) -> Result<MerkleSearchTree<K, V, H, N>, LoadRefused>
     requires { IsLoading K.cmp H.digest_of builder loading }
-    ensures tree { IfOk result (λ tree. (map_of tree ≡ edge_pairs loading.edge.items) × (tree.hasher ≡ builder.hasher) × (tree.base ≡ builder.base) × (tree.format ≡ builder.format) × (tree.root_hash ≡ None)) }
+    ensures map { IfOk result (λ tree. map_of tree ≡ edge_pairs loading.edge.items) }
+    ensures hasher { IfOk result (λ tree. tree.hasher ≡ builder.hasher) }
+    ensures base { IfOk result (λ tree. tree.base ≡ builder.base) }
+    ensures format { IfOk result (λ tree. tree.format ≡ builder.format) }
+    ensures not_hashed { IfOk result (λ tree. tree.root_hash ≡ None) }
     ensures refused { IfErr result (λ fault. fault ≡ Memory) }
 {
     let root = root_of(alloc, loading.edge)?;
@@ -94,8 +98,12 @@ impl<
     /// page is written once. Memory is taken for the pages and their nodes, and for a list of the pages to which nodes are still
     /// added, at most one for each level.
     ///
-    /// The rows have to end. They are taken to their end, unless they are refused, at the first that doesn't ascend or for want of
-    /// memory: then the rows and the builder are given up.
+    /// The rows have to end, and are taken to their end unless they are refused.
+    ///
+    /// # Errors
+    ///
+    /// [`LoadRefused::NotAscending`] at the first row whose key isn't above that of the row before it, with its place, and
+    /// [`LoadRefused::Memory`] where memory is refused. The rows and the builder are then given up.
     pub fn from_ascending<T>(
         alloc: Global,
         builder: Builder<H>,
@@ -135,9 +143,12 @@ impl<
     const N: usize,
 > MerkleSearchTree<K, V, H, N> {
     /// The tree of rows that stay where they are and ascend strictly by key, as [`from_ascending`](Self::from_ascending) builds it, with
-    /// clones of their keys.
+    /// clones of their keys. It costs what that does, and a clone of each key.
     ///
-    /// Refused, at the first row that doesn't ascend or for want of memory, the builder is given up.
+    /// # Errors
+    ///
+    /// [`LoadRefused::NotAscending`] at the first row whose key isn't above that of the row before it, with its place, and
+    /// [`LoadRefused::Memory`] where memory is refused, for a clone of a key too. The builder is then given up.
     ///
     /// For keys that are texts or bytes, `key_order::proofs::Clones` has the lemmas that prove its condition on clones.
     pub fn from_ascending_slice(

@@ -16,7 +16,7 @@ use std::marker::Model;
 pub type NodeIter<'a, const N: usize, K> = NodeIterOf<'a, K, ValueDigest<N>>;
 
 /// The nodes of a tree in ascending key order. A contract sees the list of those that are left. It has room for a page of each
-/// level, so that `next` takes no memory.
+/// level, so that `next` takes no memory, and it looks at each page once.
 ///
 /// `D` is the type of the value digests: callers name the alias [`NodeIter`].
 #[derive(Drop)]

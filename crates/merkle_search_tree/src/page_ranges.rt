@@ -79,7 +79,8 @@ fn last_key_below<K, D>(held: &Option<Box<PageOf<K, D>>>) -> Option<&K>
 
 impl<K: Ord, D> PageOf<K, D> {
     /// From the first to the last key of the page and those below it, with the cached digest of the page. `None` without a node,
-    /// without a cached digest, or where that first key is above the last.
+    /// without a cached digest, or where that first key is above the last. It looks at the pages on the way down to these two keys,
+    /// compares them once, and takes no memory.
     pub fn page_range(&self) -> Option<PageRange<'_, K>>
         ensures { option_map entry result ≡ range_of K.cmp self.now }
     {

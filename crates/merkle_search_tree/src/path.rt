@@ -22,8 +22,10 @@ pub(crate) fn pass<'a, K, D>(
 ) -> Option<(&'a NodeOf<K, D>, &'a Option<Box<PageOf<K, D>>>)>
     requires { PathFits (vec_capacity path.old) 0 path.old.items }
     ensures fits { PathFits (vec_capacity path.new) 0 path.new.items }
-    ensures nodes { MatchOption result ((rest_of path.old.items ≡ []) × (rest_of path.new.items ≡ [])) (λ passed. rest_of path.old.items ≡ passed.0.now ∷ (held_in_order (held_of passed.1.now) ++ rest_of path.new.items)) }
-    ensures pages { MatchOption result ((pages_left path.old.items ≡ []) × (pages_left path.new.items ≡ [])) (λ passed. pages_left path.old.items ≡ held_pages (held_of passed.1.now) ++ pages_left path.new.items) }
+    ensures nodes { MatchOption result ((rest_of path.old.items ≡ []) × (rest_of path.new.items ≡ []))
+        (λ passed. rest_of path.old.items ≡ passed.0.now ∷ (held_in_order (held_of passed.1.now) ++ rest_of path.new.items)) }
+    ensures pages { MatchOption result ((pages_left path.old.items ≡ []) × (pages_left path.new.items ≡ []))
+        (λ passed. pages_left path.old.items ≡ held_pages (held_of passed.1.now) ++ pages_left path.new.items) }
     ensures room { IfSome result (λ passed. HasRoom (vec_len path.new) (vec_capacity path.new) (held_of passed.1.now)) }
 {
     let visit = path.pop()?;

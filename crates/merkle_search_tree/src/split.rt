@@ -8,7 +8,7 @@ ghost use Rattle.merkle_search_tree.specs.Page.{held_pairs};
 ghost use Rattle.merkle_search_tree.specs.Tree.{Held, below, nothing, held_of};
 ghost use Rattle.merkle_search_tree.specs.Upsert.{held_lower, held_upper};
 ghost use Rattle.merkle_search_tree.specs.Chain.{page_length, high_of, first_of, with_high, with_first, row_take, row_drop, row_of_page, remade};
-ghost use Rattle.merkle_search_tree.specs.Cut.{gap, IsCut, CutFits};
+ghost use Rattle.merkle_search_tree.specs.Cut.{gap, CutsNodes, CutFits};
 ghost use Rattle.merkle_search_tree.specs.Split.{HaveRoom, InParts};
 
 use crate::chain::Chain;
@@ -87,11 +87,12 @@ impl<K: Drop, D: Drop> Sides<K, D> {
         mut page: Box<PageOf<K, D>>,
         cut: Cut<K, D>,
     ) -> Option<Box<PageOf<K, D>>>
-        requires cuts { IsCut (page_length page.value) cut }
+        requires cuts { CutsNodes (page_length page.value) cut }
         requires room { HaveRoom 1 self.old }
         ensures room { (more : ℕ) → HaveRoom (suc more) self.old → HaveRoom more self.new }
         ensures gap { (cmp : K → K → Ordering) (key : K) → CutFits cmp key (row_of_page page.value) cut → held_of result ≡ gap cmp key (row_of_page page.value) }
-        ensures parts { (cmp : K → K → Ordering) (key : K) (whole : Held K D) → CutFits cmp key (row_of_page page.value) cut → InParts cmp key whole (below page.value) self.old → InParts cmp key whole (held_of result) self.new }
+        ensures parts { (cmp : K → K → Ordering) (key : K) (whole : Held K D) → CutFits cmp key (row_of_page page.value) cut → InParts cmp key whole (below page.value) self.old
+            → InParts cmp key whole (held_of result) self.new }
     {
         match cut {
             Cut::Start => {

@@ -20,12 +20,10 @@ ghost use Rattle.merkle_search_tree.specs.declared.builder.PageFormat.TheVariant
 use crate::builder::{Builder, PageFormat};
 use crate::node_iter::NodeIter;
 use crate::page::Page;
-use crate::page_range_iter::PageRangeIter;
 use crate::spot::search;
 use crate::upsert::UpsertRefused;
 use crate::visitor::{Visitor, traverse_page};
-use merkle_diff::PageRange;
-use merkle_digest::{Hasher, KeyBytes, PageDigest, RootHash, SipHasher, ValueDigest, level};
+use merkle_digest::{Hasher, KeyBytes, RootHash, SipHasher, ValueDigest, level};
 use std::alloc::{AllocError, Global};
 use std::marker::{Model, PhantomData};
 use std::num::NonZeroU8;
@@ -34,6 +32,20 @@ use std::num::NonZeroU8;
 /// from keys to digests of values, whose pages depend on the map, the hasher and the level base alone, and not on the order in
 /// which keys came. Its root hash depends on the page format too.
 ///
+/// `K` is the type of the keys, `V` that of the values, of which only digests are kept, and `H` the hasher, whose digests have `N`
+/// bytes. A tree is made by a [`Builder`], or from rows that ascend:
+///
+/// ```rust
+/// type Tree = MerkleSearchTree<String, u64, SipHasher, 16>;
+///
+/// let mut tree: Tree = MerkleSearchTree::with_defaults(alloc);
+/// tree.upsert(key, &42)?;
+/// let digest = tree.root_hash().clone()?;
+/// ```
+///
+/// At most 256 pages stand below one another, one for each level. With a hasher that spreads its digests evenly, and the level base b,
+/// about one key in b is above level 0, and one in 256 above level 1; at base 16 a page so has about 16 nodes.
+///
 /// A contract sees the tree as its hasher, its level base, its page format, its root page with all caches, and its cached root hash. Of every
 /// tree it holds that the keys ascend, that the pages are the tree of the map, that each cached digest is that of its page with
 /// every page below it cached too, and that a cached root hash is the digest of the root page.
@@ -41,12 +53,12 @@ use std::num::NonZeroU8;
 /// The tree keeps the allocator that it was made with.
 #[derive(Drop)]
 pub struct MerkleSearchTree<K: Ord + KeyBytes, V, H: Hasher<N, K>, const N: usize> {
-    alloc: Global,
+    pub(crate) alloc: Global,
     hasher: H,
     level_base: NonZeroU8,
-    page_format: PageFormat,
+    pub(crate) page_format: PageFormat,
     pub(crate) root: Page<N, K>,
-    root_hash: Option<RootHash>,
+    pub(crate) root_hash: Option<RootHash>,
     value_type: PhantomData<V>,
 }
 
@@ -62,7 +74,8 @@ impl<K: Ord + KeyBytes, V, H: Hasher<N, K>, const N: usize> Model for MerkleSear
 
     ghost use Rattle.merkle_search_tree.specs.Sound.{IsSound};
 
-    ghost invariant = { λ a. IsSound K.cmp H.digest_of K.bytes_of (record { hasher = a.hasher; base = non_zero_u8_get a.level_base; format = a.page_format; root = a.root; root_hash = a.root_hash }) };
+    ghost invariant = { λ a. IsSound K.cmp H.digest_of K.bytes_of
+        (record { hasher = a.hasher; base = non_zero_u8_get a.level_base; format = a.page_format; root = a.root; root_hash = a.root_hash }) };
 }
 
 impl<K: Ord + KeyBytes, V, const N: usize> MerkleSearchTree<K, V, SipHasher, N>
@@ -136,8 +149,8 @@ impl<K: Ord + KeyBytes, V, H: Hasher<N, K>, const N: usize> MerkleSearchTree<K, 
         self.page_format
     }
 
-    /// The digest of the root page, where it is cached: `None` for a new tree, and after every accepted upsert until the tree is
-    /// hashed again.
+    /// The digest of the root page, where it is cached: `None` for a new tree, and after every accepted upsert and every removal of a
+    /// key that was there, until the tree is hashed again. It takes no memory.
     pub fn root_hash_cached(&self) -> Option<&RootHash>
         ensures cached { option_map (λ digest. digest.now) result ≡ self.now.root_hash }
         ensures digest { IfSome result (λ digest. digest.now ≡ page_digest self.now.format K.bytes_of self.now.root) }
@@ -155,107 +168,18 @@ impl<K: Ord + KeyBytes, V, H: Hasher<N, K>, const N: usize> MerkleSearchTree<K, 
         (spot.at, spot.compared)
     }
 
-    /// The nodes of all pages, in ascending key order: as many items as the tree has keys. The memory that the iteration takes,
-    /// room for one page more than the level of the root, is taken here.
+    /// The nodes of all pages, in ascending key order: as many items as the tree has keys. It looks at each page once, and compares
+    /// no keys.
+    ///
+    /// # Errors
+    ///
+    /// `AllocError` where memory is refused for room for the pages on the way down, one more than the level of the root. The iteration
+    /// itself takes none.
     pub fn node_iter(&self) -> Result<NodeIter<'_, N, K>, AllocError>
         ensures nodes { IfOk result (λ rest. rest ≡ nodes_in_order self.now.root) }
         ensures map { IfOk result (λ rest. map pair_of rest ≡ map_of self.now) }
     {
         NodeIter::new(self.alloc, &self.root)
-    }
-}
-
-impl<K: Ord + KeyBytes, V, H: Hasher<N, K>, const N: usize> MerkleSearchTree<K, V, H, N> {
-    ghost use Rattle.std.specs.Prelude.{◌≡◌, ◌≢◌, ◌-◌, ◌^◌, min, Some, None, ⊤};
-    ghost use Rattle.merkle_search_tree.specs.Cache.{missing, filled};
-    ghost use Rattle.merkle_search_tree.specs.Hashed.{IsHashed};
-    ghost use Rattle.merkle_search_tree.specs.contracts.tree.MerkleSearchTree.{the_row};
-    ghost use Rattle.std.specs.Borrow.{sem};
-    ghost use mathlib.Core.Option.{none};
-    ghost use denote.Follow.{follows_so};
-    ghost use denote.Param.{number};
-
-    /// How many pages lack a digest, but at most `usize::MAX`: none of a hashed tree.
-    pub fn pages_to_hash(&self) -> usize
-        ensures count { result ≡ min (missing self.now.root) (2 ^ 64 - 1) }
-        ensures hashed { self.now.root_hash ≢ None → result ≡ 0 }
-    {
-        self.root.missing()
-    }
-
-    /// The digest of the root page: SipHash-2-4-128 of its stream under the zero key, whatever the tree's own hasher is. It
-    /// fills in the digests that pages lack, changes nothing else, and takes no memory. Trees of equal maps have equal root hashes, under one hasher,
-    /// level base and page format; the converse holds only as far as no digests collide, and in format 1 streams can be equal, too.
-    pub fn root_hash(&mut self) -> &RootHash
-        ensures* tree { sem 𝓛 (follows_so (the_row K.row V.row H.row (number N) K.Ord.own K.PartialEq K.PartialOrd.own K.KeyBytes.own H.Hasher) (the_row K.row V.row H.row (number N) K.Ord.own K.PartialEq K.PartialOrd.own K.KeyBytes.own H.Hasher) self.entry.ghost_name none (λ _ _. ⊤)
-            (IsHashed K.bytes_of self.old)) }
-        ensures digest { result.now ≡ page_digest self.old.format K.bytes_of self.old.root }
-    {
-        let _ = self.root_hash_counted();
-        match &self.root_hash {
-            Some(digest) => digest,
-            None => unreachable!(),
-        }
-    }
-
-    /// The root hash, as [`root_hash`](Self::root_hash) gives it, and how many pages were hashed in this call: one for each page
-    /// that lacked a digest, but at most `usize::MAX`.
-    pub fn root_hash_counted(&mut self) -> (RootHash, usize)
-        ensures tree { self.new ≡ record self.old { root = filled self.old.format K.bytes_of self.old.root; root_hash = Some (page_digest self.old.format K.bytes_of self.old.root) } }
-        ensures map { map_of self.new ≡ map_of self.old }
-        ensures digest { result.0 ≡ page_digest self.old.format K.bytes_of self.old.root }
-        ensures count { result.1 ≡ min (missing self.old.root) (2 ^ 64 - 1) }
-        ensures hashed { missing self.new.root ≡ 0 }
-    {
-        let (digest, hashed) = self.root.fill(self.page_format);
-        let bytes = *digest.as_bytes();
-        self.root_hash = Some(RootHash::new(digest));
-        (RootHash::new(PageDigest::new(bytes)), hashed)
-    }
-}
-
-impl<K: Ord + KeyBytes, V, H: Hasher<N, K>, const N: usize> MerkleSearchTree<K, V, H, N> {
-    ghost use Rattle.std.specs.Prelude.{◌≡◌, ◌≢◌, None, [], IfOk, IfSome, IsOk, MatchOption};
-    ghost use Rattle.merkle_diff.specs.PageRange.{entries};
-    ghost use Rattle.merkle_search_tree.specs.Ranges.{ranges_of};
-    ghost use Rattle.merkle_search_tree.specs.State.{map_of};
-
-    /// The ranges of all pages, each with its digest, where the tree is hashed; else `None`. The range of a page comes before those
-    /// of the pages below it, and that of the root first, so that peers can compare what they hold by
-    /// [`diff`](merkle_diff::diff). Neither `None` nor the empty list of a tree without keys takes memory.
-    pub fn serialise_page_ranges(&self) -> Result<Option<Vec<PageRange<'_, K>>>, AllocError>
-        ensures hashed { IfOk result (λ found. IfSome found (λ list. self.now.root_hash ≢ None)) }
-        ensures ranges { IfOk result (λ found. MatchOption found (self.now.root_hash ≡ None) (λ list. entries list.items ≡ ranges_of self.now.format K.bytes_of self.now.root)) }
-        ensures not_hashed { self.now.root_hash ≡ None → IsOk result }
-        ensures empty { map_of self.now ≡ [] → IsOk result }
-    {
-        if self.root_hash.is_none() {
-            return Ok(None);
-        }
-        let mut list = Vec::new(self.alloc);
-        if self.root.nodes().is_empty() {
-            return Ok(Some(list));
-        }
-        self.root.list_ranges(&mut list)?;
-        Ok(Some(list))
-    }
-
-    /// The ranges of all pages, as [`serialise_page_ranges`](Self::serialise_page_ranges) lists them, one at a time; `None` where the
-    /// tree isn't hashed. The memory that the iteration takes, room for one page more than the level of the root, is taken here;
-    /// neither `None` nor the iterator of a tree without keys takes memory.
-    pub fn page_range_iter(&self) -> Result<Option<PageRangeIter<'_, N, K>>, AllocError>
-        ensures hashed { IfOk result (λ found. IfSome found (λ rest. self.now.root_hash ≢ None)) }
-        ensures ranges { IfOk result (λ found. MatchOption found (self.now.root_hash ≡ None) (λ rest. rest ≡ ranges_of self.now.format K.bytes_of self.now.root)) }
-        ensures not_hashed { self.now.root_hash ≡ None → IsOk result }
-        ensures empty { map_of self.now ≡ [] → IsOk result }
-    {
-        if self.root_hash.is_none() {
-            return Ok(None);
-        }
-        if self.root.nodes().is_empty() {
-            return Ok(Some(PageRangeIter::none(self.alloc)));
-        }
-        Ok(Some(PageRangeIter::new(self.alloc, &self.root)?))
     }
 }
 
@@ -268,7 +192,8 @@ impl<K: Ord + KeyBytes, V, H: Hasher<N, K>, const N: usize> MerkleSearchTree<K, 
     /// `pre_visit_node`, then all calls at the page below the node, then `visit_node` and `post_visit_node`; then
     /// `post_visit_page`, and then all calls at the high page. The first call that answers false is the last one.
     ///
-    /// It takes no memory of its own.
+    /// It makes at most three calls for each node and two for each page, compares no keys, and takes no memory of its own. Its recursion
+    /// is as deep as the tree, at most 256 pages.
     pub fn in_order_traversal<T: Visitor<N, K>>(&self, visitor: &mut T)
         ensures visited { (all : Bool) × Visits T.step visitor.old (events_of false self.now.root) all visitor.new }
     {
@@ -283,7 +208,11 @@ impl<K: Ord + KeyBytes + Clone, V, H: Hasher<N, K> + Clone, const N: usize> Merk
     N,
 > {
     /// A tree of an equal map, with equal pages, all cached digests included, a clone of the hasher, and the same level base, page format
-    /// and cached root hash. The answer is `AllocError` where memory is refused.
+    /// and cached root hash. It clones each key once, and hashes nothing.
+    ///
+    /// # Errors
+    ///
+    /// `AllocError` where memory is refused: for a page or its nodes, or for the clone of a key or of the hasher.
     ///
     /// For keys that are texts or bytes, `key_order::proofs::Clones` has the lemmas that prove its condition on clones.
     pub fn try_clone(&self) -> Result<Self, AllocError>
@@ -324,8 +253,16 @@ impl<
     /// then, and the upsert is accepted.
     ///
     /// Accepted, it drops the cached root hash and the cached digest of each page whose subtree then holds the key, even where
-    /// the digest stays the same. It is refused only for want of memory: the key is handed back, and the pages, all cached
-    /// digests and the cached root hash are as before.
+    /// the digest stays the same.
+    ///
+    /// It hashes the key and the value once. On each page of the key's path it compares the key with at most as many keys as the number
+    /// of the page's nodes has binary digits. Where the key is new, it moves the nodes behind it in the page of its level, and parts at
+    /// most one page of each lower level.
+    ///
+    /// # Errors
+    ///
+    /// [`UpsertRefused`] where memory is refused, and nowhere else: it holds the key, and the pages, all cached digests and the cached root
+    /// hash are as before.
     pub fn upsert(&mut self, key: K, value: &V) -> Result<(), UpsertRefused<K>>
         // The map has the key with the digest of the value.
         ensures set { OnOk result (map_of self.new ≡ set K.cmp (map_of self.old) key (⟦<H as Hasher<N, V>>⟧.digest_of self.old.hasher value.now)) }
@@ -333,8 +270,10 @@ impl<
         // No digest over the key is left, and few others are dropped: few are missing in a tree that was hashed.
         ensures forgotten { OnOk result (self.new.root_hash ≡ None) }
         ensures dropped { OnOk result (KeyUncached K.cmp key self.new.root) }
-        ensures few_more { OnOk result (missing self.new.root ≤ missing self.old.root + (level self.new.root + level_of (⟦<H as Hasher<N, K>>⟧.digest_of self.old.hasher key) self.old.base + 1)) }
-        ensures few { OnOk result (self.old.root_hash ≢ None → missing self.new.root ≤ level self.new.root + level_of (⟦<H as Hasher<N, K>>⟧.digest_of self.old.hasher key) self.old.base + 1) }
+        ensures few_more { OnOk result (missing self.new.root
+            ≤ missing self.old.root + (level self.new.root + level_of (⟦<H as Hasher<N, K>>⟧.digest_of self.old.hasher key) self.old.base + 1)) }
+        ensures few { OnOk result (self.old.root_hash ≢ None → missing self.new.root
+            ≤ level self.new.root + level_of (⟦<H as Hasher<N, K>>⟧.digest_of self.old.hasher key) self.old.base + 1) }
 
         ensures hasher { self.new.hasher ≡ self.old.hasher }
         ensures base { self.new.base ≡ self.old.base }
@@ -373,9 +312,11 @@ impl<K: Ord + KeyBytes + Drop, V, H: Hasher<N, K>, const N: usize> MerkleSearchT
     /// of one level that are joined the nodes of the upper one; no page is copied. The depth of its recursion is the number of pages
     /// above the key and along the joint.
     ///
-    /// It is refused only for want of memory; the pages, all cached digests and the cached root hash are then as before. Memory is
-    /// taken for no more than the nodes that come to a page of their own level, and none where no equal key is there, or where the gap
-    /// before the key or the gap after it is empty.
+    /// # Errors
+    ///
+    /// `AllocError` where memory is refused, and nowhere else; the pages, all cached digests and the cached root hash are then as
+    /// before. Memory is taken for no more than the nodes that come to a page of their own level, and none where no equal key is
+    /// there, or where the gap before the key or the gap after it is empty.
     pub fn remove(&mut self, key: &K) -> Result<Option<(K, ValueDigest<N>)>, AllocError>
         // The map no longer has the key, and what it had there is handed out.
         ensures map { OnOk result (map_of self.new ≡ del K.cmp (map_of self.old) key.now) }

@@ -1,14 +1,11 @@
 //! A tree's whole life: updates carried out one after the other, from the empty tree on.
 
-ghost use Rattle.std.specs.Prelude.{◌≡◌, IfOk, length, is_some, Some, None, false, [], if◌then◌else◌};
-ghost use Rattle.merkle_digest.specs.Level.{level_of};
+ghost use Rattle.std.specs.Prelude.{◌≡◌, IfOk, length, is_some, [], false};
 ghost use Rattle.merkle_diff.specs.SameEntries.{SameEntries};
 ghost use Rattle.merkle_search_tree.specs.Canonical.{SamePages};
 ghost use Rattle.merkle_search_tree.specs.Ranges.{ranges_of};
 ghost use Rattle.merkle_search_tree.specs.State.{map_of};
-ghost use Rattle.merkle_search_tree.specs.Stream.{page_digest};
-ghost use Rattle.merkle_search_tree.specs.TreeOf.{tree_of};
-ghost use Rattle.merkle_search_tree.specs.Updates.{map_after, map_after_one, hashed_after, hashed_after_one, IsAcceptedIfFree, FreeAreAccepted};
+ghost use Rattle.merkle_search_tree.specs.Updates.{map_after, map_after_one, hashed_after_one, tree_after, root_hash_after, IsAcceptedIfFree, FreeAreAccepted};
 
 use crate::builder::Builder;
 use crate::laws::{a_hashed_tree_has_every_digest, every_tree_is_sound};
@@ -55,11 +52,15 @@ where
 
 /// The tree that the updates lead to, in order, from the empty tree of the builder on, and for each update whether it was accepted.
 /// An upsert or a removal is refused only for want of memory; its key and value are given up then, and it changes nothing. An upsert of
-/// a key that is there, a removal of one that isn't, and each `RootHash` is accepted. Where the room for the answers is refused, no update is carried out.
+/// a key that is there, a removal of one that isn't, and each `RootHash` is accepted. It costs what the updates cost.
 ///
 /// Whatever the updates, the pages of the tree are the one tree of the map of the accepted updates, apart from cached digests. So are
 /// its page ranges; and where after the last `RootHash` no upsert is accepted, and no removal of a key that is there, the tree is
 /// hashed, and its root hash is the digest of that one tree.
+///
+/// # Errors
+///
+/// `AllocError` where memory is refused for the answers, one `bool` an update; no update is carried out then.
 pub fn replay<K, V, H, const N: usize>(
     alloc: Global,
     builder: Builder<H>,
@@ -72,13 +73,12 @@ where
     ensures answers { IfOk result (λ r. length r.1.items ≡ length updates.items) }
     ensures free { IfOk result (λ r. FreeAreAccepted K.cmp (⟦<H as Hasher<N, V>>⟧.digest_of builder.hasher) [] updates.items r.1.items) }
     ensures map { IfOk result (λ r. map_of r.0 ≡ map_after K.cmp (⟦<H as Hasher<N, V>>⟧.digest_of builder.hasher) [] updates.items r.1.items) }
-    ensures pages { IfOk result (λ r. SamePages K.cmp r.0.root (tree_of (λ k. level_of (⟦<H as Hasher<N, K>>⟧.digest_of builder.hasher k) builder.base)
-        (map_after K.cmp (⟦<H as Hasher<N, V>>⟧.digest_of builder.hasher) [] updates.items r.1.items))) }
-    ensures ranges { IfOk result (λ r. SameEntries K.cmp (ranges_of builder.format K.bytes_of r.0.root) (ranges_of builder.format K.bytes_of (tree_of (λ k. level_of (⟦<H as Hasher<N, K>>⟧.digest_of builder.hasher k) builder.base)
-        (map_after K.cmp (⟦<H as Hasher<N, V>>⟧.digest_of builder.hasher) [] updates.items r.1.items)))) }
-    ensures root_hash { IfOk result (λ r. r.0.root_hash ≡ (if hashed_after K.cmp (⟦<H as Hasher<N, V>>⟧.digest_of builder.hasher) [] false updates.items r.1.items
-        then Some (page_digest builder.format K.bytes_of (tree_of (λ k. level_of (⟦<H as Hasher<N, K>>⟧.digest_of builder.hasher k) builder.base)
-        (map_after K.cmp (⟦<H as Hasher<N, V>>⟧.digest_of builder.hasher) [] updates.items r.1.items))) else None)) }
+    ensures pages { IfOk result (λ r. SamePages K.cmp r.0.root
+        (tree_after K.cmp ⟦<H as Hasher<N, K>>⟧.digest_of ⟦<H as Hasher<N, V>>⟧.digest_of builder updates.items r.1.items)) }
+    ensures ranges { IfOk result (λ r. SameEntries K.cmp (ranges_of builder.format K.bytes_of r.0.root) (ranges_of builder.format K.bytes_of
+        (tree_after K.cmp ⟦<H as Hasher<N, K>>⟧.digest_of ⟦<H as Hasher<N, V>>⟧.digest_of builder updates.items r.1.items))) }
+    ensures root_hash { IfOk result (λ r. r.0.root_hash
+        ≡ root_hash_after K.cmp ⟦<H as Hasher<N, K>>⟧.digest_of ⟦<H as Hasher<N, V>>⟧.digest_of K.bytes_of builder updates.items r.1.items) }
     ensures hasher { IfOk result (λ r. r.0.hasher ≡ builder.hasher) }
     ensures base { IfOk result (λ r. r.0.base ≡ builder.base) }
     ensures format { IfOk result (λ r. r.0.format ≡ builder.format) }

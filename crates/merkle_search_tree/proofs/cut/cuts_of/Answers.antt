@@ -5,7 +5,7 @@ use Rattle.merkle_search_tree.specs.Page.{held_pairs, nodes_of}
 use Rattle.merkle_search_tree.specs.Search.{NodesAscend}
 use Rattle.merkle_search_tree.specs.Upsert.{place}
 use Rattle.merkle_search_tree.specs.Chain.{page_length, first_of, row_drop, row_of_page}
-use Rattle.merkle_search_tree.specs.Cut.{IsCut, cut_place, CutsFit}
+use Rattle.merkle_search_tree.specs.Cut.{CutsNodes, cut_place, CutsFit}
 use Rattle.merkle_search_tree.proofs.Rows.{row_nodes-row}
 use Rattle.merkle_search_tree.proofs.Search.{page-ascends}
 use Rattle.merkle_search_tree.proofs.Cuts.{page_place, page_length-nodes, cuts-more, page_held-map, page_held-size}
@@ -52,7 +52,7 @@ path-preserved g c =
       λ cs f.
           subst (λ xs. CutsFit cmp key (held_of c.args.held.now) xs) (sym (append_assoc c.path.cuts.items (cut ∷ []) cs) ∙ ap (λ xs. xs ++ cs) (sym c.in_ok-push.ensures.items))
           (c.path.invariant.1 (cut ∷ cs) (subst (λ h. CutsFit cmp key h (cut ∷ cs)) (sym is)
-          (cuts-more cmp key t at cut cs found (subst (λ n. IsCut n cut) len c.in_ok-cut.ensures.cuts) (subst (λ n. cut_place n cut ≡ at) len c.in_ok-cut.ensures.place) (subst (λ h. CutsFit cmp key h cs) rest f)))),
+          (cuts-more cmp key t at cut cs found (subst (λ n. CutsNodes n cut) len c.in_ok-cut.ensures.cuts) (subst (λ n. cut_place n cut ≡ at) len c.in_ok-cut.ensures.place) (subst (λ h. CutsFit cmp key h cs) rest f)))),
     )
 
 pub returns : goal.returns

@@ -2,7 +2,7 @@ use Rattle.std.proofs.Common.{◌≡◌, length, ap, sym, subst, ◌∙◌, arit
 use Rattle.std.specs.Box.{with_value}
 use Rattle.merkle_search_tree.specs.Tree.{Tree, nothing}
 use Rattle.merkle_search_tree.specs.Chain.{page_length, high_of, first_of, with_high, with_first, row_drop, row_take, row_of_page, remade}
-use Rattle.merkle_search_tree.specs.Cut.{IsCut, CutFits}
+use Rattle.merkle_search_tree.specs.Cut.{CutsNodes, CutFits}
 use Rattle.merkle_search_tree.proofs.Hung.{page_length-is, remade-first, first-remade, length_remade}
 use Rattle.merkle_search_tree.proofs.Cuts.{gap-all, gap-at}
 use Rattle.merkle_search_tree.proofs.Apart.{parts-start, parts-end, parts-inside}
@@ -12,7 +12,7 @@ pub take_first-first-requires-in-Inside : goal.take_first-first-requires-in-Insi
 take_first-first-requires-in-Inside g c =
     let t = c.args.page.value in
     let i = c.in-Inside.at in
-    let cut = subst (IsCut (page_length t)) c.in-Inside.is c.requires.cuts in
+    let cut = subst (CutsNodes (page_length t)) c.in-Inside.is c.requires.cuts in
     let goes = c.deref_mut-in-Inside-2.ensures.value ∙ c.part-upper.ensures.goes ∙ ap (λ (x : Tree g.row.K.Denot g.row.D.Denot). remade 1 x (row_drop i (row_of_page x))) c.deref_mut-in-Inside.ensures.value in
     omega (arith, ap page_length goes, length_remade t i, cut.1)
 
@@ -22,7 +22,7 @@ returns-in-Start-clause-parts g c = λ cmp key whole fits inv.
     let at = (subst (CutFits cmp key (row_of_page t)) c.in-Start.is fits).1 in
     let page = c.deref_mut.ensures.value in
     let left = c.take_first-first.ensures.taken ∙ ap (λ (x : Tree g.row.K.Denot g.row.D.Denot). first_of (row_of_page x)) page ∙ sym (gap-at cmp key (row_of_page t) 0 at) in
-    parts-start cmp key whole _ t left _ _ _ _ _ _ _ _ (with_value c.args.page c.take_first-first.new.self) at (subst (IsCut (page_length t)) c.in-Start.is c.requires.cuts)
+    parts-start cmp key whole _ t left _ _ _ _ _ _ _ _ (with_value c.args.page c.take_first-first.new.self) at (subst (CutsNodes (page_length t)) c.in-Start.is c.requires.cuts)
     (c.take_first-first.ensures.left ∙ ap (λ (x : Tree g.row.K.Denot g.row.D.Denot). remade 0 x (with_first nothing (row_of_page x))) page)
     (ap (λ p. p.items) c.forget.ensures.pages) (omega (arith, c.forget.ensures.stale, c.args.self.now.below.pages.ok.0)) c.push.ensures.pages c.push.ensures.stale inv
 

@@ -23,5 +23,5 @@ returns-clause-map g c =
     let kept = c.rows.invariant in
     let rows = rows-map d g.K.Ord.cmp c.rows.yielded (subst (IsMap g.K.Ord.cmp) kept.held kept.loading.ascending) in
     IfOk-weaker c.finished.result _ _
-    (λ tree t. (c.rows.yielded, (c.into_iter-key-iterator.result, c.into_iter-key-iterator.ensures.into_iter_gives, (c.next.new.self, (c.rows.key-iterator, c.rows.yielded_by, c.in-None.ensures.steps))), rows, t.0 ∙ kept.held))
-    c.finished.ensures.tree
+    (λ tree t. (c.rows.yielded, (c.into_iter-key-iterator.result, c.into_iter-key-iterator.ensures.into_iter_gives, (c.next.new.self, (c.rows.key-iterator, c.rows.yielded_by, c.in-None.ensures.steps))), rows, t ∙ kept.held))
+    c.finished.ensures.map

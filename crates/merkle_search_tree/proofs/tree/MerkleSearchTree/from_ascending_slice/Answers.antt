@@ -43,8 +43,8 @@ returns-clause-map g c =
     let rows = c.args.rows.now in
     let all : take c.rows.key-index rows ≡ rows = take_all c.rows.key-index rows (omega (arith, c.rows-test.false)) in
     IfOk-weaker c.finished.result _ _
-    (λ tree t. subst (λ ps. Holds d g.K.Ord.cmp g.met.K.Ord.total ps rows) (sym t.0) (subst (Holds d g.K.Ord.cmp g.met.K.Ord.total (edge_pairs c.rows.loading.edge.items)) all c.rows.invariant.held))
-    c.finished.ensures.tree
+    (λ tree t. subst (λ ps. Holds d g.K.Ord.cmp g.met.K.Ord.total ps rows) (sym t) (subst (Holds d g.K.Ord.cmp g.met.K.Ord.total (edge_pairs c.rows.loading.edge.items)) all c.rows.invariant.held))
+    c.finished.ensures.map
 
 pub returns-clause-ascending : goal.returns-clause-ascending
 returns-clause-ascending g c =
@@ -54,4 +54,4 @@ returns-clause-ascending g c =
     let kept = c.rows.invariant in
     IfOk-weaker c.finished.result _ _
     (λ tree t. subst (IsMap g.K.Ord.cmp) all (holds-map d g.K.Ord.cmp g.met.K.Ord.total (edge_pairs c.rows.loading.edge.items) (take c.rows.key-index rows) kept.held kept.loading.ascending))
-    c.finished.ensures.tree
+    c.finished.ensures.map

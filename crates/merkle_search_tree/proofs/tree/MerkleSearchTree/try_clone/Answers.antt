@@ -3,7 +3,8 @@ use Rattle.key_order.specs.Order.{Same}
 use Rattle.std.specs.Int.NonZero.{non_zero_u8_get}
 use Rattle.merkle_search_tree.specs.Copy.{IsCopy}
 use Rattle.merkle_search_tree.specs.State.{State}
-use Rattle.merkle_search_tree.proofs.Copies.{copy-pairs, copy-weaker}
+use Rattle.merkle_search_tree.proofs.Copies.{copy-same, copy-weaker}
+use Rattle.merkle_search_tree.proofs.SameRanges.{same-pairs}
 use Rattle.merkle_search_tree.proofs.Sound.{copy_sound}
 use Rattle.merkle_search_tree.proofs.tree.MerkleSearchTree.try_clone.Goals as goal
 
@@ -21,4 +22,4 @@ returns-clause-pages g c =
     (copy-weaker g.K.Clone.is_clone (Same g.K.Ord.cmp) c.requires.keys _ (λ d e. d ≡ e) (λ x y e. sym e) c.self.inside.root c.in_ok-root.root c.in_ok-root.ensures.copy)
 
 pub returns-clause-map : goal.returns-clause-map
-returns-clause-map g c = copy-pairs g.K.Ord.cmp c.args.self.now.root c.in_ok-root.root (returns-clause-pages g c)
+returns-clause-map g c = same-pairs g.K.Ord.cmp c.args.self.now.root c.in_ok-root.root (copy-same g.K.Ord.cmp c.args.self.now.root c.in_ok-root.root (returns-clause-pages g c))
