@@ -1,8 +1,8 @@
 /* Merkle search trees: a map from byte strings to the digests of byte strings, whose root hash depends on the map alone, and what two
  * stores need to bring each other up to date by the ranges of their pages, one for some sixteen keys.
  *
- * Every call but mst_tree_free answers one of the statuses below, and none aborts. A call that doesn't answer MST_DONE (or
- * MST_ABSENT) leaves the tree as it was; only what `needed` points to may have changed. A null pointer where the call needs one is
+ * Every call but mst_tree_free answers one of the statuses below, and none aborts. A call that doesn't answer MST_DONE leaves the map
+ * as it was, and what it would write to; only what `needed` points to may have changed. A null pointer where the call needs one is
  * MST_BAD_ARGUMENT; where a length is 0, its pointer may be null.
  *
  * What the caller owes, since no call can test it: a length is at most that of the memory behind its pointer; a handle is changed by
@@ -27,30 +27,35 @@ enum {
     MST_ABSENT = 5        /* there is no such key, or no further range */
 };
 
-/* A handle: a tree, or none. It has none when its one member is null, as MST_NO_TREE makes it. */
+/* A handle: a tree, or none. It has none when its one member is null, as the initializer MST_NO_TREE makes it; a handle whose member
+ * was never set must not be given to a call. */
 struct mst_tree { void *at; };
 #define MST_NO_TREE {0}
 
-/* Gives a handle that has no tree, as MST_NO_TREE makes it, the empty tree, which mst_tree_free lets go: keys and values are hashed
- * by SipHash-2-4-128 under the key of 16 zero bytes, the level base is 16 and the page format 1; so its root hashes are those of the
- * Rust crate merkle-search-tree for keys and values whose `Hash` feeds their bytes alone. MST_BAD_ARGUMENT where the handle has a
- * tree; MST_NO_MEMORY. One request for memory. */
+/* Gives a handle that has no tree the empty tree; mst_tree_free lets it go. Keys and values are hashed by SipHash-2-4-128 under the
+ * key of 16 zero bytes, the level base is 16 and the page format 1, so that its root hashes are those of the Rust crate
+ * merkle-search-tree for keys and values whose `Hash` feeds their bytes alone. MST_BAD_ARGUMENT where the handle has a tree;
+ * MST_NO_MEMORY. One request for memory. */
 int mst_tree_new(struct mst_tree *out);
 
-/* The same with a key of SipHash, a level base from 1 to 255, and a page format, 1 or 2. Peers that compare trees need the same
- * three. MST_BAD_ARGUMENT for any other base or format, too; MST_NO_MEMORY. One request for memory. */
+/* The same with a key of SipHash, a level base and a page format, which peers that compare trees have in common: mst_diff can't tell
+ * that they haven't, and asks for nearly all. The level base is from 1 to 255; one key in so many stands a level higher, so a lesser
+ * one makes more and smaller pages. The page format is 1, or 2, in which what a page digest is made of can be read in one way only:
+ * take 2 where no peer needs root hashes of the Rust crate. MST_BAD_ARGUMENT for any other base or format, too; MST_NO_MEMORY. One
+ * request for memory. */
 int mst_tree_new_with(struct mst_tree *out, const uint8_t key[16], uint8_t level_base, uint8_t page_format);
 
 /* Gives `out`, which has no tree, a copy of the tree, which mst_tree_free lets go. MST_BAD_ARGUMENT where `tree` has none or `out` has
  * one; MST_NO_MEMORY. Time and memory in proportion to the tree. */
 int mst_tree_clone(struct mst_tree *tree, struct mst_tree *out);
 
-/* Lets the tree of a handle go, and leaves the handle without one, so that to free it twice does no harm. Time in proportion to
- * the tree. */
+/* Lets the tree of a handle go, and leaves the handle without one, so that to free it twice does no harm; a null pointer does
+ * none either. Time in proportion to the tree. */
 void mst_tree_free(struct mst_tree *tree);
 
-/* Sets a key to the digest of a value. The key is copied; the value is hashed where it lies, and not kept. MST_NO_MEMORY;
- * MST_BAD_ARGUMENT where the handle has no tree. Time in proportion to the logarithm of the number of keys, on average. */
+/* Sets a key to the digest of a value. Both may be empty, and have any bytes. The key is copied; the value is hashed where it lies,
+ * and not kept. MST_NO_MEMORY; MST_BAD_ARGUMENT where the handle has no tree. Time in proportion to the logarithm of the number of
+ * keys, on average. */
 int mst_tree_upsert(struct mst_tree *tree, const uint8_t *key, size_t key_len, const uint8_t *value, size_t value_len);
 
 /* Takes a key out. MST_ABSENT where the tree has no such key, and then it is as before; MST_NO_MEMORY; MST_BAD_ARGUMENT. Time as for
@@ -58,11 +63,13 @@ int mst_tree_upsert(struct mst_tree *tree, const uint8_t *key, size_t key_len, c
 int mst_tree_remove(struct mst_tree *tree, const uint8_t *key, size_t key_len);
 
 /* Makes these rows the map of a tree, in place of the one that it has; the key of SipHash, the level base and the page format stay.
- * The rows come as a list of rows (below) and ascend strictly by key, in the order of their bytes; MST_MALFORMED where they don't, or
- * where it is no such list. MST_NO_MEMORY; MST_BAD_ARGUMENT. Each row is read once, and each page written once. */
+ * The rows come as a list of rows (below) and ascend strictly by key, as memcmp orders them and each key before those that it begins;
+ * MST_MALFORMED where they don't, or where it is no such list. MST_NO_MEMORY; MST_BAD_ARGUMENT. Each row is read once, and each page
+ * written once. */
 int mst_tree_load(struct mst_tree *tree, const uint8_t *rows, size_t rows_len);
 
-/* Writes how many keys a tree has, which it counts. MST_NO_MEMORY; MST_BAD_ARGUMENT. */
+/* Writes how many keys a tree has. It counts them, in time in proportion to the tree, and takes memory for the path on which it goes.
+ * MST_NO_MEMORY; MST_BAD_ARGUMENT. */
 int mst_tree_len(struct mst_tree *tree, size_t *out);
 
 /* Writes the root hash. Trees of one map have one root hash, in whatever order their keys came. It hashes the pages that changed
@@ -70,14 +77,15 @@ int mst_tree_len(struct mst_tree *tree, size_t *out);
 int mst_tree_root_hash(struct mst_tree *tree, uint8_t out[16]);
 
 /* Writes the page ranges of a tree as a list (below), which may be sent to a peer as it is, and how many bytes they are. To learn
- * that number alone, give an `out_len` of 0. MST_TOO_SHORT; MST_NO_MEMORY; MST_BAD_ARGUMENT. Time and memory in proportion to the
- * pages. */
+ * that number alone, give an `out_len` of 0, which answers MST_TOO_SHORT. It hashes what mst_tree_root_hash would. MST_TOO_SHORT;
+ * MST_NO_MEMORY; MST_BAD_ARGUMENT. Time and memory in proportion to the pages. */
 int mst_tree_page_ranges(struct mst_tree *tree, uint8_t *out, size_t out_len, size_t *needed);
 
 /* Compares two lists of page ranges, one's own and a peer's, and writes the ranges of keys to ask the peer for, as a list of key
- * ranges, and how many bytes that is. The peer's list may be any bytes. MST_TOO_SHORT; MST_MALFORMED where one of them is no list of
- * page ranges; MST_NO_MEMORY; MST_BAD_ARGUMENT. Memory in proportion to both lists, and time too but for a sort of the ranges in
- * which they differ. */
+ * ranges, and how many bytes that is (an `out_len` of 0 as above). The ranges ascend, and no two meet. They may hold many more keys
+ * than differ, and there may be none though the root hashes differ: pulls by turns go on until the root hashes are equal. The peer's
+ * list may be any bytes. MST_TOO_SHORT; MST_MALFORMED where one of them is no list of page ranges; MST_NO_MEMORY; MST_BAD_ARGUMENT.
+ * Memory in proportion to both lists, and time too but for a sort of the ranges in which they differ. */
 int mst_diff(const uint8_t *local, size_t local_len, const uint8_t *peer, size_t peer_len, uint8_t *out, size_t out_len,
              size_t *needed);
 
@@ -92,8 +100,9 @@ struct mst_range {
 };
 
 /* Goes to the next range of a list of page ranges or key ranges, without copying or taking memory. *at is where it stands: 0 before
- * the first, where the whole list is read once. MST_ABSENT behind the last; MST_MALFORMED where the bytes are no such list;
- * MST_BAD_ARGUMENT where *at is outside of it. */
+ * the first, where the whole list is read once, and then what the call before left there. MST_ABSENT behind the last; MST_MALFORMED
+ * where the bytes are no such list (that a first key is above a last one isn't looked for); MST_BAD_ARGUMENT where *at is outside of
+ * it. */
 int mst_ranges_next(const uint8_t *list, size_t list_len, size_t *at, struct mst_range *out);
 
 /* Lists, byte by byte. A number is eight bytes, the lowest first. A string is its length, a number, and its bytes.
@@ -102,7 +111,8 @@ int mst_ranges_next(const uint8_t *list, size_t list_len, size_t *at, struct mst
  *   key ranges    the four bytes "MSTk", how many ranges there are, and each range: first key, last key
  *   rows          the four bytes "MSTr", how many rows there are, and each row: key, value
  *
- * Keys are strings. In a list of page ranges no first key is above its last key. Nothing follows the last entry. */
+ * Keys and values are strings. In a list of page ranges no first key is above its last key; in a list of key ranges that a peer
+ * sent, one may be, and holds no key. Nothing follows the last entry. Each list may be sent as it is. */
 
 #ifdef __cplusplus
 }
