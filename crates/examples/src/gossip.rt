@@ -4,11 +4,12 @@ ghost use Rattle.key_order.specs.Order.{Same};
 ghost use Rattle.key_order.specs.Map.{SameMap};
 ghost use Rattle.merkle_search_tree.specs.State.{map_of};
 ghost use Rattle.merkle_replica.specs.Answers.{spans_of};
-ghost use Rattle.merkle_replica.specs.Contents.{SameSetup};
-ghost use Rattle.examples.specs.Gossip.{HaveOneRootHash, MayAsk};
+ghost use Rattle.merkle_replica.specs.Contents.{SameSetup, side};
+ghost use Rattle.merkle_replica.specs.Pulls.{IsAnswerFor};
+ghost use Rattle.examples.specs.Gossip.{HaveOneRootHash};
 
 use merkle_digest::{Hasher, KeyBytes};
-use merkle_replica::{Join, Replica};
+use merkle_replica::{Join, Lawful, Replica};
 use merkle_search_tree::laws::equal_maps_have_equal_pages;
 use std::alloc::{AllocError, Global};
 
@@ -33,7 +34,7 @@ pub fn ranges_to_ask<
 
     ensures quiet { HaveOneRootHash K.bytes_of local.old.tree peer.old.tree → IsOkAnd result (λ ranges. ranges.items ≡ []) }
     ensures answer { ¬ (HaveOneRootHash K.bytes_of local.old.tree peer.old.tree) → IfOk result (λ ranges.
-        MayAsk K.cmp ⟦<H as Hasher<N, K>>⟧.digest_of ⟦<H as Hasher<N, V>>⟧.digest_of K.bytes_of V.eq V.join_of local.old peer.old (spans_of ranges.items)) }
+        IsAnswerFor ⟦<H as Lawful<N, K, V>>⟧.laws (side local.old) (side peer.old) (spans_of ranges.items)) }
     ensures rows { local.new.rows ≡ local.old.rows }
     ensures peer_rows { peer.new.rows ≡ peer.old.rows }
 {

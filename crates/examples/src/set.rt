@@ -1,14 +1,13 @@
 //! A set of names that only grows: a replica with `()` for values.
-ghost use Rattle.std.specs.Prelude.{◌≡◌, [], ◌∷◌, OnOk, OnErr, string_bytes};
+ghost use Rattle.std.specs.Prelude.{◌≡◌, [], ◌∷◌, OnOk, OnErr};
 ghost use Rattle.merkle_replica.specs.Contents.{SameSetup};
 ghost use Rattle.examples.specs.Set.{IsUnion};
 ghost use Rattle.examples.specs.Sync.{IsFaithfulSync};
-ghost use Rattle.examples.specs.Texts.{text_order, text_digest, value_digest};
 
 use crate::store::Store;
 use crate::sync::sync;
-use merkle_digest::HashBytes;
-use merkle_replica::{Join, TurnsError};
+use merkle_digest::SipHasher;
+use merkle_replica::{Lawful, TurnsError};
 use std::alloc::{AllocError, Global};
 
 /// A set of names.
@@ -28,15 +27,14 @@ pub fn add(names: &mut Names, name: String) -> Result<(), AllocError>
     names.put(name, ())
 }
 
-/// Leaves both sets with the union of their names, while digests are faithful in the sets before each of the four pulls.
+/// Leaves both sets with the union of their names, while digests are faithful in what is met before each of the four pulls.
 ///
 /// # Errors
 ///
 /// Want of memory: no name is lost.
 #[tactic(auto, using(key_order::proofs::Clones::string_clone))]
 pub fn unite(alloc: Global, a: &mut Names, b: &mut Names) -> Result<(), TurnsError<String>>
-    requires one_setup { SameSetup a.old b.old }
-    ensures union { OnOk result (IsFaithfulSync text_order text_digest (value_digest ⟦<() as HashBytes>⟧.fed_bytes) string_bytes ⟦<() as PartialEq>⟧.eq ⟦<() as Join>⟧.join_of
+    ensures union { OnOk result (IsFaithfulSync ⟦<SipHasher as Lawful<16, String, ()>>⟧.laws
         (IsUnion a.old.rows b.old.rows a.new.rows × IsUnion a.old.rows b.old.rows b.new.rows) a.old b.old a.new b.new) }
 {
     sync(alloc, a, b)

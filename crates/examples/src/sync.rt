@@ -7,11 +7,10 @@ ghost use Rattle.examples.specs.Sync.{IsFaithfulSync, IsExactSync, AreJoined};
 
 use merkle_digest::{Hasher, KeyBytes, KeyBytesExact};
 use merkle_replica::laws::no_collision_is_enough;
-use merkle_replica::{Join, Replica, TurnsError, pull_by_turns};
+use merkle_replica::{Join, Lawful, Replica, TurnsError, pull_by_turns};
 use std::alloc::Global;
 
-/// Brings two replicas of one hasher, level base and page format to the same map, the join of both: while digests are faithful in
-/// the maps before each of the four pulls.
+/// Brings two replicas to the same map, the join of both: while digests are faithful in what is met before each of the four pulls.
 ///
 /// # Errors
 ///
@@ -29,16 +28,15 @@ pub fn sync<
     // A clone of a key equals its original.
     requires clones { (x y : K) → K.is_clone x y → Same K.cmp x y }
 
-    requires one_setup { SameSetup a.old b.old }
-    ensures same { OnOk result (IsFaithfulSync K.cmp ⟦<H as Hasher<N, K>>⟧.digest_of ⟦<H as Hasher<N, V>>⟧.digest_of K.bytes_of V.eq V.join_of
+    ensures same { OnOk result (IsFaithfulSync ⟦<H as Lawful<N, K, V>>⟧.laws
         (AreJoined K.cmp V.eq V.join_of a.old.rows b.old.rows a.new.rows b.new.rows) a.old b.old a.new b.new) }
 {
     pull_by_turns(alloc, a, b, 4)?;
     Ok(())
 }
 
-/// The same in page format 2, for keys that their bytes tell apart: it is enough that no two unequal page streams have one digest and
-/// that equal digests of values mean equal values, in the maps before each of the four pulls.
+/// The same for replicas of one hasher and level base in page format 2, for keys that their bytes tell apart: it is enough that no two
+/// unequal page streams have one digest and that equal digests of values mean equal values, in what is met before each of the four pulls.
 ///
 /// # Errors
 ///
@@ -58,7 +56,7 @@ pub fn sync_exact<
 
     requires one_setup { SameSetup a.old b.old }
     requires format_2 { a.old.tree.format ≡ V2 }
-    ensures same { OnOk result (IsExactSync K.cmp ⟦<H as Hasher<N, K>>⟧.digest_of ⟦<H as Hasher<N, V>>⟧.digest_of K.bytes_of V.eq V.join_of N
+    ensures same { OnOk result (IsExactSync ⟦<H as Lawful<N, K, V>>⟧.laws N
         (AreJoined K.cmp V.eq V.join_of a.old.rows b.old.rows a.new.rows b.new.rows) a.old b.old a.new b.new) }
 {
     no_collision_is_enough::<K, V, H, N>();

@@ -1,5 +1,5 @@
 -- What `diff` answers on the page ranges of two replicas is an answer for them, with bounds of its own.
-use Rattle.std.proofs.Common.{◌≡◌, ℕ, ◌+◌, ◌<◌, Bool, List, [], ◌∷◌, ◌++◌, length, take, get_or, map, sym, ◌∙◌, ap, subst}
+use Rattle.std.proofs.Common.{◌≡◌, ℕ, ◌+◌, ◌<◌, List, [], ◌∷◌, ◌++◌, length, take, get_or, map, sym, ◌∙◌, ap, subst}
 use Rattle.std.proofs.lemmas.List.{take_more, map-append}
 use Rattle.std.specs.Cmp.{IsTotalOrder}
 use Rattle.std.specs.declared.cmp.Ordering.{Ordering}
@@ -14,11 +14,11 @@ use Rattle.merkle_diff.proofs.SameAnswers.{difference-same, spares-same}
 use Rattle.merkle_search_tree.specs.Ranges.{ranges_of}
 use Rattle.merkle_search_tree.specs.Sound.{IsSound}
 use Rattle.merkle_search_tree.specs.State.{map_of}
-use Rattle.merkle_replica.specs.Contents.{Contents, SameSetup, digests}
+use Rattle.merkle_replica.specs.Laws.{Laws}
+use Rattle.merkle_replica.specs.Contents.{Contents, side, tree_map}
 use Rattle.merkle_replica.specs.Steps.{IsAnswerTo}
 use Rattle.merkle_replica.specs.Pulls.{IsAnswerFor}
 use Rattle.merkle_replica.specs.Answers.{spans_of}
-use Rattle.merkle_replica.proofs.Turning.{Of, same_of}
 
 module _ {K : Type 0} (cmp : K → K → Ordering) where
   more_same : (xs ys : List (Span K)) (s t : Span K) → SameSpans cmp xs ys → SameSpan cmp s t → SameSpans cmp (xs ++ s ∷ []) (ys ++ t ∷ [])
@@ -36,34 +36,29 @@ module _ {K : Type 0} (cmp : K → K → Ordering) where
       (subst (SameSpans cmp (map f (take i found) ++ f x ∷ [])) (sym (ap spans_of r ∙ map-append _ rs ((first, last) ∷ [])))
       (more_same (map f (take i found)) (spans_of rs) (f x) (record { first = first; last = last }) s (k, l)))
 
-module _ {K V H : Type 0} (cmp : K → K → Ordering) (eq : V → V → Bool) (join : V → V → V) (kd : H → K → List ℕ) (vd : H → V → List ℕ) (bo : K → List ℕ) (o : IsTotalOrder cmp) where
-  pub answer_for : (local peer : Contents K V H) (ls ps : List (Entry K (List ℕ))) (found own : List (Span K)) → SameMap cmp (λ d e. d ≡ e) (map_of local.tree) (digests (vd local.tree.hasher) local.rows) → SameMap cmp (λ d e. d ≡ e) (map_of peer.tree) (digests (vd peer.tree.hasher) peer.rows) → IsSound cmp kd bo local.tree → IsSound cmp kd bo peer.tree
-      → IsTreeShaped cmp (ranges_of local.tree.format bo local.tree.root) → IsTreeShaped cmp (ranges_of peer.tree.format bo peer.tree.root) → ls ≡ ranges_of local.tree.format bo local.tree.root → ps ≡ ranges_of peer.tree.format bo peer.tree.root → IsAnswer cmp ls ps found → SameSpans cmp found own
-      → IsAnswerFor cmp eq join (Of cmp eq join kd vd bo local) (Of cmp eq join kd vd bo peer) local.rows peer.rows own
+module _ {K V H : Type 0} (laws : Laws K V H) (o : IsTotalOrder laws.cmp) where
+  pub answer_for : (local peer : Contents K V H) (ls ps : List (Entry K (List ℕ))) (found own : List (Span K)) → SameMap laws.cmp (λ d e. d ≡ e) (map_of local.tree) (tree_map laws (side local)) → SameMap laws.cmp (λ d e. d ≡ e) (map_of peer.tree) (tree_map laws (side peer))
+      → IsSound laws.cmp laws.key_digest laws.bytes_of local.tree → IsSound laws.cmp laws.key_digest laws.bytes_of peer.tree
+      → IsTreeShaped laws.cmp (ranges_of local.tree.format laws.bytes_of local.tree.root) → IsTreeShaped laws.cmp (ranges_of peer.tree.format laws.bytes_of peer.tree.root)
+      → ls ≡ ranges_of local.tree.format laws.bytes_of local.tree.root → ps ≡ ranges_of peer.tree.format laws.bytes_of peer.tree.root → IsAnswer laws.cmp ls ps found → SameSpans laws.cmp found own → IsAnswerFor laws (side local) (side peer) own
   answer_for local peer ls ps found own kl kp sl sp tl tp e f d same =
       record {
         local_list = ls;
         peer_list = ps;
         of_local = (local.tree.root, (sl.canonical, kl), e);
         of_peer = (peer.tree.root, (sp.canonical, kp), f);
-        interval_laws = difference-same cmp o ls ps found own same d.interval_laws;
-        laws_on_trees = spares-same cmp o ls ps found own same (d.laws_on_trees (subst (IsTreeShaped cmp) (sym e) tl) (subst (IsTreeShaped cmp) (sym f) tp));
+        interval_laws = difference-same laws.cmp o ls ps found own same d.interval_laws;
+        laws_on_trees = spares-same laws.cmp o ls ps found own same (d.laws_on_trees (subst (IsTreeShaped laws.cmp) (sym e) tl) (subst (IsTreeShaped laws.cmp) (sym f) tp));
       }
 
   -- what `diff` answers to a list that came is an answer to it, with bounds of its own
-  pub answer_to : (local : Contents K V H) (ls ps theirs : List (Entry K (List ℕ))) (found own : List (Span K)) → SameMap cmp (λ d e. d ≡ e) (map_of local.tree) (digests (vd local.tree.hasher) local.rows) → IsSound cmp kd bo local.tree
-      → IsTreeShaped cmp (ranges_of local.tree.format bo local.tree.root) → ls ≡ ranges_of local.tree.format bo local.tree.root → ps ≡ theirs → IsAnswer cmp ls ps found → SameSpans cmp found own → IsAnswerTo cmp (Of cmp eq join kd vd bo local) local.rows theirs own
+  pub answer_to : (local : Contents K V H) (ls ps theirs : List (Entry K (List ℕ))) (found own : List (Span K)) → SameMap laws.cmp (λ d e. d ≡ e) (map_of local.tree) (tree_map laws (side local)) → IsSound laws.cmp laws.key_digest laws.bytes_of local.tree
+      → IsTreeShaped laws.cmp (ranges_of local.tree.format laws.bytes_of local.tree.root) → ls ≡ ranges_of local.tree.format laws.bytes_of local.tree.root → ps ≡ theirs → IsAnswer laws.cmp ls ps found → SameSpans laws.cmp found own → IsAnswerTo laws (side local) theirs own
   answer_to local ls ps theirs found own kl sl tl e f d same =
-      subst (λ qs. IsAnswerTo cmp (Of cmp eq join kd vd bo local) local.rows qs own) f
+      subst (λ qs. IsAnswerTo laws (side local) qs own) f
       (record {
         local_list = ls;
         of_local = (local.tree.root, (sl.canonical, kl), e);
-        interval_laws = difference-same cmp o ls ps found own same d.interval_laws;
-        laws_on_trees = λ tp. spares-same cmp o ls ps found own same (d.laws_on_trees (subst (IsTreeShaped cmp) (sym e) tl) tp);
+        interval_laws = difference-same laws.cmp o ls ps found own same d.interval_laws;
+        laws_on_trees = λ tp. spares-same laws.cmp o ls ps found own same (d.laws_on_trees (subst (IsTreeShaped laws.cmp) (sym e) tl) tp);
       })
-
-  -- an answer of a replica that was hashed is one of it as it was
-  pub answered_to : (local local' : Contents K V H) (theirs : List (Entry K (List ℕ))) (found : List (Span K)) → local'.rows ≡ local.rows → SameSetup local local' → IsAnswerTo cmp (Of cmp eq join kd vd bo local') local'.rows theirs found → IsAnswerTo cmp (Of cmp eq join kd vd bo local) local.rows theirs found
-  answered_to local local' theirs found r s a =
-      subst (λ q. IsAnswerTo cmp q local.rows theirs found) (same_of cmp eq join kd vd bo local local' s)
-      (subst (λ q. IsAnswerTo cmp (Of cmp eq join kd vd bo local') q theirs found) r a)

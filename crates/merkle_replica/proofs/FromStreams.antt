@@ -1,53 +1,61 @@
 -- Coverage and convergence in format 2, from what the law on streams says of pages.
-use Rattle.std.proofs.Common.{◌≡◌, ℕ, ◌≤◌, Bool, List, [], ◌∷◌, Some, length}
-use Rattle.std.specs.List.{AllByRecursion}
+use Rattle.std.proofs.Common.{◌≡◌, ℕ, ◌≤◌, List, [], ◌∷◌, length, sym, ◌∙◌, subst}
 use Rattle.std.specs.Cmp.{IsTotalOrder, IsEquivalence}
-use Rattle.std.specs.declared.cmp.Ordering.{Ordering}
-use Rattle.key_order.specs.Interval.{Span, IsCovered}
-use Rattle.key_order.specs.Map.{IsMap, get}
-use Rattle.key_order.specs.Join.{IsJoin, IsJoining}
-use Rattle.merkle_diff.specs.Entry.{Entry}
+use Rattle.key_order.specs.Interval.{Span}
+use Rattle.key_order.specs.Map.{IsMap}
+use Rattle.key_order.specs.Join.{IsJoining}
 use Rattle.merkle_search_tree.specs.Faithful.{IsSmall, NoCollision, HasFaithfulPages}
 use Rattle.merkle_search_tree.specs.Page.{pairs}
-use Rattle.merkle_search_tree.specs.Ranges.{IsPageOf, IsRangesOf}
+use Rattle.merkle_search_tree.specs.Ranges.{IsPageOf}
 use Rattle.merkle_search_tree.specs.Stream.{page_digest}
+use Rattle.merkle_search_tree.specs.declared.builder.PageFormat.{PageFormat}
 use Rattle.merkle_search_tree.specs.declared.builder.PageFormat.TheVariants.{V2}
-use Rattle.merkle_search_tree.proofs.Listing.{lists}
-use Rattle.merkle_replica.specs.Contents.{digests}
-use Rattle.merkle_replica.specs.Faithful.{SpanHolds, IsFaithful, IsCollisionFree}
-use Rattle.merkle_replica.specs.Pulls.{Answer, IsAnswerFor, IsByTurns, HasRanges}
+use Rattle.merkle_replica.specs.Laws.{Laws}
+use Rattle.merkle_replica.specs.Contents.{Side, with_rows, tree_map}
+use Rattle.merkle_replica.specs.Faithful.{SpanHolds, HaveFaithfulPages, IsFaithful, AllFaithful, MissesNone, AreAlike, HasSmallMap, NoStreamsCollide, IsCollisionFree, AllCollisionFree}
+use Rattle.merkle_replica.specs.Pulls.{Answer, IsAnswerFor, IsByTurns, HoldTheJoin}
 use Rattle.merkle_replica.proofs.Converging.{converges}
-use Rattle.merkle_replica.proofs.Pulling.{covers_rows}
+use Rattle.merkle_replica.proofs.Pulling.{covers_sides}
 
-module _ {K V H : Type 0} (cmp : K → K → Ordering) (kd : H → K → List ℕ) (vd : H → V → List ℕ) (bo : K → List ℕ) (eq : V → V → Bool) (n : ℕ) (hasher : H) (base : ℕ) where
-  -- the ranges of the tree in format 2
-  abbrev Ranges : List (K × V) → List (Entry K (List ℕ)) → Type 0
-  Ranges = HasRanges cmp kd vd bo hasher base V2
+module _ {K V H : Type 0} (laws : Laws K V H) (n : ℕ) where
+  -- what the law on streams says of these maps
+  abbrev PagesTell : H → ℕ → List (K × List ℕ) → List (K × List ℕ) → Type 0
+  PagesTell hasher base m w =
+      IsSmall laws.cmp (laws.key_digest hasher) base laws.bytes_of n m → IsSmall laws.cmp (laws.key_digest hasher) base laws.bytes_of n w → NoCollision laws.cmp (laws.key_digest hasher) base V2 laws.bytes_of m w
+      → HasFaithfulPages laws.cmp (IsPageOf laws.cmp (laws.key_digest hasher) base) (IsPageOf laws.cmp (laws.key_digest hasher) base) (page_digest V2 laws.bytes_of) (page_digest V2 laws.bytes_of) pairs m w
 
-  -- what the law on streams says of these two maps
-  abbrev PagesTell : List (K × V) → List (K × V) → Type 0
-  PagesTell a b = IsSmall cmp (kd hasher) base bo n (digests (vd hasher) a) → IsSmall cmp (kd hasher) base bo n (digests (vd hasher) b) → NoCollision cmp (kd hasher) base V2 bo (digests (vd hasher) a) (digests (vd hasher) b)
-      → HasFaithfulPages cmp (IsPageOf cmp (kd hasher) base) (IsPageOf cmp (kd hasher) base) (page_digest V2 bo) (page_digest V2 bo) pairs (digests (vd hasher) a) (digests (vd hasher) b)
+  -- so of alike sides in format 2
+  faithful_pages : (a b : Side K V H) → PagesTell a.hasher a.base (tree_map laws a) (tree_map laws b) → AreAlike laws a b → a.format ≡ V2 → HasSmallMap laws n a → HasSmallMap laws n b → NoStreamsCollide laws a b → HaveFaithfulPages laws a b
+  faithful_pages a b tell alike format small_a small_b streams =
+      let of_a : V2 ≡ a.format = sym format in
+      let of_b : V2 ≡ b.format = sym format ∙ alike.format in
+      let settings : (laws.key_digest a.hasher, (a.base, (V2, V2))) ≡ (laws.key_digest b.hasher, (b.base, (a.format, b.format))) = λ i. (λ k. alike.keys k i, (alike.base i, (of_a i, of_b i))) in
+      subst (λ (q : (K → List ℕ) × (ℕ × (PageFormat × PageFormat))). IsSmall laws.cmp q.0 q.1.0 laws.bytes_of n (tree_map laws b)
+      → HasFaithfulPages laws.cmp (IsPageOf laws.cmp (laws.key_digest a.hasher) a.base) (IsPageOf laws.cmp q.0 q.1.0) (page_digest q.1.1.0 laws.bytes_of) (page_digest q.1.1.1 laws.bytes_of) pairs (tree_map laws a) (tree_map laws b))
+      settings (λ small. tell small_a small streams) small_b
 
   -- without collision digests are faithful
-  pub faithful_from : (a b : List (K × V)) → PagesTell a b → IsCollisionFree cmp kd vd bo eq n hasher base a b → IsFaithful cmp kd vd bo eq hasher base V2 a b
-  faithful_from a b tell free = record { same_pages = tell free.small_first free.small_second free.streams; same_values = free.same_values }
+  pub faithful_from : (a b : Side K V H) → PagesTell a.hasher a.base (tree_map laws a) (tree_map laws b) → AreAlike laws a b → a.format ≡ V2 → IsCollisionFree laws n a b → IsFaithful laws a b
+  faithful_from a b tell alike format free = record { same_pages = faithful_pages a b tell alike format free.small_first free.small_second free.streams; same_values = free.same_values }
 
-  all_faithful : ((a b : List (K × V)) → PagesTell a b) → (met : List (List (K × V) × List (K × V))) → AllByRecursion (λ maps. IsCollisionFree cmp kd vd bo eq n hasher base maps.0 maps.1) met
-      → AllByRecursion (λ maps. IsFaithful cmp kd vd bo eq hasher base V2 maps.0 maps.1) met
-  all_faithful tell [] free = tt
-  all_faithful tell (maps ∷ met) (here, rest) = (faithful_from maps.0 maps.1 (tell maps.0 maps.1) here, all_faithful tell met rest)
+  module _ (tell : (hasher : H) (base : ℕ) (m w : List (K × List ℕ)) → PagesTell hasher base m w) where
+    pub all_faithful : (answers : List (Answer K)) (a b : Side K V H) (a' b' : List (K × V)) (met : List (Side K V H × Side K V H)) → AreAlike laws a b → a.format ≡ V2 → IsByTurns laws answers a b a' b' met
+        → AllCollisionFree laws n met → AllFaithful laws met
+    all_faithful [] a b a' b' met alike format (u, v, w) free = subst (AllFaithful laws) (sym w) tt
+    all_faithful (q ∷ qs) a b a' b' met alike format (after, rest, w, t, more) free =
+        let (here, others) = subst (AllCollisionFree laws n) w free in
+        let back : AreAlike laws b (with_rows a after) = record { keys = λ k. sym (alike.keys k); base = sym alike.base; format = sym alike.format } in
+        subst (AllFaithful laws) (sym w)
+        (faithful_from a b (tell a.hasher a.base (tree_map laws a) (tree_map laws b)) alike format here, all_faithful qs b (with_rows a after) b' a' rest back (sym alike.format ∙ format) more others)
 
-  -- without collision four turns or more leave the join
-  pub converges_from : ((a b : List (K × V)) → PagesTell a b) → IsTotalOrder cmp → IsEquivalence eq → (join : V → V → V) → IsJoining eq join
-      → (answers : List (Answer K)) (a b a' b' : List (K × V)) (met : List (List (K × V) × List (K × V))) → IsMap cmp a → IsMap cmp b → IsByTurns cmp eq join Ranges Ranges answers a b a' b' met
-      → AllByRecursion (λ maps. IsCollisionFree cmp kd vd bo eq n hasher base maps.0 maps.1) met → 4 ≤ length answers → IsJoin cmp eq join a b a' × IsJoin cmp eq join a b b'
-  converges_from tell o e join j answers a b a' b' met aa ab turns free four =
-      converges cmp o (IsPageOf cmp (kd hasher) base) (page_digest V2 bo) pairs (IsRangesOf cmp (kd hasher) base V2 bo) (lists cmp o (kd hasher) base V2 bo) eq e join j (vd hasher) answers a b a' b' met aa ab turns (all_faithful tell met free) four
+    -- without collision four turns or more leave the join
+    pub converges_from : IsTotalOrder laws.cmp → IsEquivalence laws.eq → IsJoining laws.eq laws.join
+        → (answers : List (Answer K)) (a b : Side K V H) (a' b' : List (K × V)) (met : List (Side K V H × Side K V H)) → AreAlike laws a b → a.format ≡ V2 → IsMap laws.cmp a.rows → IsMap laws.cmp b.rows → IsByTurns laws answers a b a' b' met
+        → AllCollisionFree laws n met → 4 ≤ length answers → HoldTheJoin laws a b a' b'
+    converges_from o e j answers a b a' b' met alike format aa ab turns free =
+        converges laws o e j answers a b a' b' met aa ab turns (all_faithful answers a b a' b' met alike format turns free)
 
   -- coverage where no streams collide
-  pub covers_from : IsTotalOrder cmp → (join : V → V → V) (local peer : List (K × V)) (found : List (Span K)) → PagesTell local peer → IsMap cmp local → IsMap cmp peer → IsAnswerFor cmp eq join Ranges Ranges local peer found
-      → IsSmall cmp (kd hasher) base bo n (digests (vd hasher) local) → IsSmall cmp (kd hasher) base bo n (digests (vd hasher) peer) → NoCollision cmp (kd hasher) base V2 bo (digests (vd hasher) local) (digests (vd hasher) peer)
-      → SpanHolds cmp peer local → (k : K) (d : List ℕ) → get cmp (digests (vd hasher) peer) k ≡ Some d → ¬ (get cmp (digests (vd hasher) local) k ≡ Some d) → IsCovered cmp k found
-  covers_from o join local peer found tell al ap answered sl sp streams =
-      covers_rows cmp eq join kd vd bo o hasher hasher base base V2 V2 local peer found al ap answered (tell sl sp streams)
+  pub covers_from : IsTotalOrder laws.cmp → (local peer : Side K V H) (found : List (Span K)) → PagesTell local.hasher local.base (tree_map laws local) (tree_map laws peer) → AreAlike laws local peer → local.format ≡ V2
+      → IsMap laws.cmp local.rows → IsMap laws.cmp peer.rows → IsAnswerFor laws local peer found → HasSmallMap laws n local → HasSmallMap laws n peer → NoStreamsCollide laws local peer → SpanHolds laws.cmp peer.rows local.rows → MissesNone laws local peer found
+  covers_from o local peer found tell alike format al ap answered sl sp streams = covers_sides laws o local peer found al ap answered (faithful_pages local peer tell alike format sl sp streams)

@@ -7,6 +7,7 @@ pub mod Taken
 pub mod Bounds
 pub mod Cover
 pub mod Converging
+pub mod Sides
 pub mod Turning
 pub mod Asks
 pub mod Within

@@ -1,9 +1,11 @@
 -- What the calls of a replica answer, as pulls.
-use Rattle.std.specs.Prelude.{◌≡◌, ℕ, ◌<◌, Bool, List, [], ◌∷◌, map, length, take}
+use Rattle.std.specs.Prelude.{◌≡◌, ℕ, ◌<◌, Bool, List, [], ◌∷◌, map, length, take, ⊤}
 use Rattle.std.specs.declared.cmp.Ordering.{Ordering}
 use Rattle.key_order.specs.Interval.{Span}
 use Rattle.key_order.specs.Join.{IsJoin}
-use Rattle.merkle_diff.specs.Entry.{Entry}
+use Rattle.merkle_replica.specs.Laws.{Laws}
+use Rattle.merkle_replica.specs.Contents.{Side, with_rows}
+use Rattle.merkle_replica.specs.Faithful.{MissesNone}
 use Rattle.merkle_replica.specs.Pulls.{Answer, IsPull, IsPartOfPull}
 use Rattle.merkle_replica.specs.declared.pull.Pulled.{Pulled}
 use Rattle.merkle_replica.specs.declared.pull.PullError.{PullError}
@@ -17,17 +19,22 @@ spans_of = map (λ r. record { first = r.0; last = r.1 })
 abbrev pub answer_of : {K : Type 0} → Pulled K → Answer K
 answer_of p = record { ranges = spans_of p.ranges.items; joined = p.joined }
 
-module _ {K V P : Type 0} (cmp : K → K → Ordering) (eq : V → V → Bool) (join : V → V → V) where
+module _ {K V H : Type 0} (laws : Laws K V H) where
   -- a pull for which memory was refused: no row was joined, or the first ones were
-  abbrev pub IsRefused : (List (K × V) → List (Entry K P) → Type 0) → (List (K × V) → List (Entry K P) → Type 0) → List (K × V) → List (K × V) → PullError K → List (K × V) → Type 0
-  IsRefused LocalRanges PeerRanges local peer Memory after = after ≡ local
-  IsRefused LocalRanges PeerRanges local peer (Partly pulled done) after = IsPartOfPull cmp eq join LocalRanges PeerRanges local peer (answer_of pulled) done after
+  abbrev pub IsRefused : Side K V H → Side K V H → PullError K → List (K × V) → Type 0
+  IsRefused local peer Memory after = after ≡ local.rows
+  IsRefused local peer (Partly pulled done) after = IsPartOfPull laws local peer (answer_of pulled) done after
+
+  -- where the first rows were joined, the ranges miss no key
+  abbrev pub PartMissesNone : Side K V H → Side K V H → PullError K → Type 0
+  PartMissesNone local peer Memory = ⊤
+  PartMissesNone local peer (Partly pulled done) = MissesNone laws local peer (spans_of pulled.ranges.items)
 
   -- pulls by turns, local first: those of `finished` were made, and then the one whose turn it was met the fault
-  abbrev pub StopsByTurns : (List (K × V) → List (Entry K P) → Type 0) → (List (K × V) → List (Entry K P) → Type 0) → List (Pulled K) → PullError K → List (K × V) → List (K × V) → List (K × V) → List (K × V) → Type 0
-  StopsByTurns LocalRanges PeerRanges [] fault local peer local' peer' = IsRefused LocalRanges PeerRanges local peer fault local' × (peer' ≡ peer)
-  StopsByTurns LocalRanges PeerRanges (pulled ∷ finished) fault local peer local' peer' =
-      (after : List (K × V)) × IsPull cmp eq join LocalRanges PeerRanges local peer (answer_of pulled) after × StopsByTurns PeerRanges LocalRanges finished fault peer after peer' local'
+  abbrev pub StopsByTurns : List (Pulled K) → PullError K → Side K V H → Side K V H → List (K × V) → List (K × V) → Type 0
+  StopsByTurns [] fault local peer local' peer' = IsRefused local peer fault local' × (peer' ≡ peer.rows)
+  StopsByTurns (pulled ∷ finished) fault local peer local' peer' =
+      (after : List (K × V)) × IsPull laws local peer (answer_of pulled) after × StopsByTurns finished fault peer (with_rows local after) peer' local'
 
 module _ {K V : Type 0} (cmp : K → K → Ordering) (eq : V → V → Bool) (join : V → V → V) (wanted local : List (K × V)) where
   -- all of the wanted rows are joined

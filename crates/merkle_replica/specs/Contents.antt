@@ -1,11 +1,14 @@
 -- What a replica is seen as.
-use Rattle.std.specs.Prelude.{◌≡◌, ℕ, List, [], map}
+use Rattle.std.specs.Prelude.{◌≡◌, ℕ, List, [], map, Some}
 use Rattle.std.specs.Coded.{Coded, coded_list, coded×, code_by}
 use Rattle.std.specs.declared.cmp.Ordering.{Ordering}
 use Rattle.std.proofs.Common.{refl}
 use Rattle.key_order.specs.Map.{IsMap, SameMap}
+use Rattle.merkle_search_tree.specs.Cache.{filled}
+use Rattle.merkle_search_tree.specs.Stream.{page_digest}
 use Rattle.merkle_search_tree.specs.State.{State, state_code, map_of, IsNew}
 use Rattle.merkle_search_tree.specs.declared.builder.PageFormat.{PageFormat}
+use Rattle.merkle_replica.specs.Laws.{Laws}
 
 -- its rows, and its tree
 pub record Contents (K V H : Type 0) : Type 0 where
@@ -21,6 +24,24 @@ contents_code {K} {V} {H} k v h =
 abbrev pub digests : {K V D : Type 0} → (V → D) → List (K × V) → List (K × D)
 digests hash = map (λ r. (r.0, hash r.1))
 
+-- what pulls see of a replica: the hasher, the level base and the page format of its tree, and its rows
+pub record Side (K V H : Type 0) : Type 0 where
+  pub hasher : H
+  pub base : ℕ
+  pub format : PageFormat
+  pub rows : List (K × V)
+
+abbrev pub side : {K V H : Type 0} → Contents K V H → Side K V H
+side c = record { hasher = c.tree.hasher; base = c.tree.base; format = c.tree.format; rows = c.rows }
+
+-- the side with other rows
+abbrev pub with_rows : {K V H : Type 0} → Side K V H → List (K × V) → Side K V H
+with_rows s rows = record s { rows = rows }
+
+-- the map of a side's tree: its rows with each value replaced by its digest
+abbrev pub tree_map : {K V H : Type 0} → Laws K V H → Side K V H → List (K × List ℕ)
+tree_map laws s = digests (laws.value_digest s.hasher) s.rows
+
 -- the rows ascend by key, and the tree's map is the digests of the rows
 pub record IsKept {K V H : Type 0} (cmp : K → K → Ordering) (digest_of : H → V → List ℕ) (c : Contents K V H) : Type 0 where
   pub ascending : IsMap cmp c.rows
@@ -33,3 +54,7 @@ IsEmpty hasher base format c = (c.rows ≡ []) × IsNew hasher base format c.tre
 -- the hasher, the level base and the page format stay
 abbrev pub SameSetup : {K V H : Type 0} → Contents K V H → Contents K V H → Type 0
 SameSetup a b = (b.tree.hasher ≡ a.tree.hasher) × (b.tree.base ≡ a.tree.base) × (b.tree.format ≡ a.tree.format)
+
+-- the tree with every digest in place, and that of its root page as its root hash
+abbrev pub hashed : {K H : Type 0} → (K → List ℕ) → State K H → State K H
+hashed bytes_of tree = record tree { root = filled tree.format bytes_of tree.root; root_hash = Some (page_digest tree.format bytes_of tree.root) }

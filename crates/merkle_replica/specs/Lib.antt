@@ -1,3 +1,4 @@
+pub mod Laws
 pub mod Contents
 pub mod Pulls
 pub mod Faithful

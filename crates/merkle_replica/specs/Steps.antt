@@ -1,5 +1,5 @@
 -- The steps of a pull, each on its own side.
-use Rattle.std.specs.Prelude.{◌≡◌, ◌<◌, Bool, List, length, take}
+use Rattle.std.specs.Prelude.{◌≡◌, ℕ, ◌<◌, Bool, List, length, take}
 use Rattle.std.specs.List.{AllByRecursion}
 use Rattle.std.specs.declared.cmp.Ordering.{Ordering}
 use Rattle.key_order.specs.Interval.{Span, IsApart, IsOrdered}
@@ -8,6 +8,9 @@ use Rattle.key_order.specs.Join.{IsJoin}
 use Rattle.merkle_diff.specs.Entry.{Entry}
 use Rattle.merkle_diff.specs.Difference.{IsDifference, SparesAgreed}
 use Rattle.merkle_diff.specs.TreeShape.{IsTreeShaped}
+use Rattle.merkle_replica.specs.Laws.{Laws}
+use Rattle.merkle_replica.specs.Contents.{Side}
+use Rattle.merkle_replica.specs.Pulls.{HasRanges}
 use Rattle.merkle_replica.specs.declared.steps.JoinRefused.{JoinRefused}
 use Rattle.merkle_replica.specs.declared.steps.JoinRefused.TheVariants.{NotAscending, Memory}
 
@@ -16,13 +19,13 @@ module _ {K : Type 0} (cmp : K → K → Ordering) where
   abbrev pub AreRanges : List (Span K) → Type 0
   AreRanges ss = IsApart cmp ss × AllByRecursion (IsOrdered cmp) ss
 
-module _ {K V P : Type 0} (cmp : K → K → Ordering) where
+module _ {K V H : Type 0} (laws : Laws K V H) where
   -- `found` are ranges that local may ask of a peer that sent the list `theirs`
-  pub record IsAnswerTo (LocalRanges : List (K × V) → List (Entry K P) → Type 0) (local : List (K × V)) (theirs : List (Entry K P)) (found : List (Span K)) : Type 0 where
-    pub local_list : List (Entry K P)
-    pub of_local : LocalRanges local local_list
-    pub interval_laws : IsDifference cmp local_list theirs found
-    pub laws_on_trees : IsTreeShaped cmp theirs → SparesAgreed cmp local_list theirs found
+  pub record IsAnswerTo (local : Side K V H) (theirs : List (Entry K (List ℕ))) (found : List (Span K)) : Type 0 where
+    pub local_list : List (Entry K (List ℕ))
+    pub of_local : HasRanges laws local local_list
+    pub interval_laws : IsDifference laws.cmp local_list theirs found
+    pub laws_on_trees : IsTreeShaped laws.cmp theirs → SparesAgreed laws.cmp local_list theirs found
 
 module _ {K V : Type 0} (cmp : K → K → Ordering) (eq : V → V → Bool) (join : V → V → V) where
   -- rows that don't ascend are handed back, or memory was refused and the first ones are joined

@@ -8,6 +8,7 @@
 mod faults;
 mod greatest;
 mod join;
+mod lawful;
 pub mod laws;
 mod merge;
 mod pull;
@@ -21,6 +22,7 @@ mod value_hasher;
 
 pub use greatest::Greatest;
 pub use join::Join;
+pub use lawful::Lawful;
 pub use pull::{PullError, Pulled};
 pub use puts::PutsCut;
 pub use replica::{Replica, RowsRefused};

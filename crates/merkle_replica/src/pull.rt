@@ -1,23 +1,17 @@
 //! Pulls: a replica joins what its tree shows it to lack from a peer.
-ghost use Rattle.std.specs.Prelude.{◌≡◌, ℕ, List, [], ◌∷◌, IfOk, IfErr, OnOk, OnErr, IsSome, Some};
+ghost use Rattle.std.specs.Prelude.{◌≡◌, IfOk, IfErr, IsSome};
 ghost use Rattle.key_order.specs.Order.{Same};
-ghost use Rattle.key_order.specs.Interval.{IsCovered, IsApart};
-ghost use Rattle.key_order.specs.Map.{get, rows_in};
-ghost use Rattle.key_order.specs.Join.{IsJoin};
 ghost use Rattle.merkle_diff.specs.DiffRange.{spans};
 ghost use Rattle.merkle_diff.specs.Merge.{SameSpans};
 ghost use Rattle.merkle_diff.specs.PageRangeSnapshot.{snapshot_entries};
-ghost use Rattle.merkle_search_tree.specs.Faithful.{HasFaithfulPages};
-ghost use Rattle.merkle_search_tree.specs.Page.{pairs};
-ghost use Rattle.merkle_search_tree.specs.Ranges.{IsPageOf};
-ghost use Rattle.merkle_search_tree.specs.Stream.{page_digest};
-ghost use Rattle.merkle_replica.specs.Contents.{SameSetup, digests};
-ghost use Rattle.merkle_replica.specs.Pulls.{IsAnswerFor, IsPull, HasRanges};
-ghost use Rattle.merkle_replica.specs.Faithful.{SpanHolds};
-ghost use Rattle.merkle_replica.specs.Answers.{spans_of, answer_of, IsRefused};
+ghost use Rattle.merkle_replica.specs.Contents.{SameSetup, side};
+ghost use Rattle.merkle_replica.specs.Pulls.{IsAnswerFor, IsPull};
+ghost use Rattle.merkle_replica.specs.Faithful.{SpanHolds, HaveFaithfulPages, MissesNone};
+ghost use Rattle.merkle_replica.specs.Answers.{spans_of, answer_of, IsRefused, PartMissesNone};
 ghost use Rattle.merkle_replica.specs.Steps.{IsAnswerTo};
 
 use crate::join::Join;
+use crate::lawful::Lawful;
 use crate::replica::Replica;
 use merkle_diff::{DiffRange, PageRangeSnapshot, diff};
 use merkle_digest::{Hasher, KeyBytes};
@@ -65,10 +59,7 @@ impl<
         // A clone of a key equals its original.
         requires clones { (a b : K) → K.is_clone a b → Same K.cmp a b }
 
-        ensures answer { IfOk result (λ ranges. IsAnswerFor K.cmp V.eq V.join_of
-            (HasRanges K.cmp ⟦<H as Hasher<N, K>>⟧.digest_of ⟦<H as Hasher<N, V>>⟧.digest_of K.bytes_of self.old.tree.hasher self.old.tree.base self.old.tree.format)
-            (HasRanges K.cmp ⟦<H as Hasher<N, K>>⟧.digest_of ⟦<H as Hasher<N, V>>⟧.digest_of K.bytes_of peer.old.tree.hasher peer.old.tree.base peer.old.tree.format)
-            self.old.rows peer.old.rows (spans_of ranges.items)) }
+        ensures answer { IfOk result (λ ranges. IsAnswerFor ⟦<H as Lawful<N, K, V>>⟧.laws (side self.old) (side peer.old) (spans_of ranges.items)) }
         ensures rows { self.new.rows ≡ self.old.rows }
         ensures peer_rows { peer.new.rows ≡ peer.old.rows }
         ensures setup { SameSetup self.old self.new }
@@ -95,25 +86,17 @@ impl<
         requires clones { (a b : K) → K.is_clone a b → Same K.cmp a b }
 
         // The rows are the join with the peer's rows in the ranges.
-        ensures done { IfOk result (λ pulled. IsPull K.cmp V.eq V.join_of
-            (HasRanges K.cmp ⟦<H as Hasher<N, K>>⟧.digest_of ⟦<H as Hasher<N, V>>⟧.digest_of K.bytes_of self.old.tree.hasher self.old.tree.base self.old.tree.format)
-            (HasRanges K.cmp ⟦<H as Hasher<N, K>>⟧.digest_of ⟦<H as Hasher<N, V>>⟧.digest_of K.bytes_of peer.old.tree.hasher peer.old.tree.base peer.old.tree.format)
-            self.old.rows peer.old.rows (answer_of pulled) self.new.rows) }
-
-        // Coverage: where pages with equal digests have equal maps, and the peer's keys span the replica's, no key is missed.
-        ensures covers { IfOk result (λ pulled.
-            HasFaithfulPages K.cmp (IsPageOf K.cmp (⟦<H as Hasher<N, K>>⟧.digest_of self.old.tree.hasher) self.old.tree.base) (IsPageOf K.cmp (⟦<H as Hasher<N, K>>⟧.digest_of peer.old.tree.hasher) peer.old.tree.base) (page_digest self.old.tree.format K.bytes_of) (page_digest peer.old.tree.format K.bytes_of) pairs
-            (digests (⟦<H as Hasher<N, V>>⟧.digest_of self.old.tree.hasher) self.old.rows) (digests (⟦<H as Hasher<N, V>>⟧.digest_of peer.old.tree.hasher) peer.old.rows)
-            → SpanHolds K.cmp peer.old.rows self.old.rows
-            → (k : K) (d : List ℕ) → get K.cmp (digests (⟦<H as Hasher<N, V>>⟧.digest_of peer.old.tree.hasher) peer.old.rows) k ≡ Some d
-            → ¬ (get K.cmp (digests (⟦<H as Hasher<N, V>>⟧.digest_of self.old.tree.hasher) self.old.rows) k ≡ Some d)
-            → IsCovered K.cmp k (spans_of pulled.ranges.items)) }
+        ensures done { IfOk result (λ pulled. IsPull ⟦<H as Lawful<N, K, V>>⟧.laws (side self.old) (side peer.old) (answer_of pulled) self.new.rows) }
 
         // Refused, it has joined no row, or the first ones.
-        ensures refused { IfErr result (λ fault. IsRefused K.cmp V.eq V.join_of
-            (HasRanges K.cmp ⟦<H as Hasher<N, K>>⟧.digest_of ⟦<H as Hasher<N, V>>⟧.digest_of K.bytes_of self.old.tree.hasher self.old.tree.base self.old.tree.format)
-            (HasRanges K.cmp ⟦<H as Hasher<N, K>>⟧.digest_of ⟦<H as Hasher<N, V>>⟧.digest_of K.bytes_of peer.old.tree.hasher peer.old.tree.base peer.old.tree.format)
-            self.old.rows peer.old.rows fault self.new.rows) }
+        ensures refused { IfErr result (λ fault. IsRefused ⟦<H as Lawful<N, K, V>>⟧.laws (side self.old) (side peer.old) fault self.new.rows) }
+
+        // Coverage: where pages with equal digests have equal maps, and the peer's keys span the replica's, the ranges miss no key, also
+        // where the pull stopped behind the first rows.
+        ensures covers { let laws = ⟦<H as Lawful<N, K, V>>⟧.laws in IfOk result (λ pulled. HaveFaithfulPages laws (side self.old) (side peer.old)
+            → SpanHolds K.cmp peer.old.rows self.old.rows → MissesNone laws (side self.old) (side peer.old) (spans_of pulled.ranges.items)) }
+        ensures part_covers { let laws = ⟦<H as Lawful<N, K, V>>⟧.laws in IfErr result (λ fault. HaveFaithfulPages laws (side self.old) (side peer.old)
+            → SpanHolds K.cmp peer.old.rows self.old.rows → PartMissesNone laws (side self.old) (side peer.old) fault) }
 
         ensures peer_rows { peer.new.rows ≡ peer.old.rows }
         ensures setup { SameSetup self.old self.new }
@@ -163,10 +146,7 @@ fn ask<
     requires clones { (a b : K) → K.is_clone a b → Same K.cmp a b }
     requires local_hashed { IsSome local.now.tree.root_hash }
     requires peer_hashed { IsSome peer.now.tree.root_hash }
-    ensures { IfOk result (λ ranges. IsAnswerFor K.cmp V.eq V.join_of
-        (HasRanges K.cmp ⟦<H as Hasher<N, K>>⟧.digest_of ⟦<H as Hasher<N, V>>⟧.digest_of K.bytes_of local.now.tree.hasher local.now.tree.base local.now.tree.format)
-        (HasRanges K.cmp ⟦<H as Hasher<N, K>>⟧.digest_of ⟦<H as Hasher<N, V>>⟧.digest_of K.bytes_of peer.now.tree.hasher peer.now.tree.base peer.now.tree.format)
-        local.now.rows peer.now.rows (spans_of ranges.items)) }
+    ensures { IfOk result (λ ranges. IsAnswerFor ⟦<H as Lawful<N, K, V>>⟧.laws (side local.now) (side peer.now) (spans_of ranges.items)) }
 {
     every_tree_is_sound(local.tree());
     every_tree_is_sound(peer.tree());
@@ -197,9 +177,7 @@ pub(crate) fn ask_of<
 ) -> Result<Vec<(K, K)>, AllocError>
     requires clones { (a b : K) → K.is_clone a b → Same K.cmp a b }
     requires hashed { IsSome local.now.tree.root_hash }
-    ensures { IfOk result (λ ranges. IsAnswerTo K.cmp
-        (HasRanges K.cmp ⟦<H as Hasher<N, K>>⟧.digest_of ⟦<H as Hasher<N, V>>⟧.digest_of K.bytes_of local.now.tree.hasher local.now.tree.base local.now.tree.format)
-        local.now.rows (snapshot_entries theirs.now) (spans_of ranges.items)) }
+    ensures { IfOk result (λ ranges. IsAnswerTo ⟦<H as Lawful<N, K, V>>⟧.laws (side local.now) (snapshot_entries theirs.now) (spans_of ranges.items)) }
 {
     every_tree_is_sound(local.tree());
     page_ranges_are_tree_shaped(local.tree());

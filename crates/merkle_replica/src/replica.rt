@@ -101,9 +101,9 @@ impl<
     H: Hasher<N, K> + ValueHasher<N, V>,
     const N: usize,
 > Replica<K, V, H, N> {
-    ghost use Rattle.std.specs.Prelude.{◌≡◌, Some, ⊤};
-    ghost use Rattle.merkle_search_tree.specs.Cache.{filled};
+    ghost use Rattle.std.specs.Prelude.{◌≡◌, ⊤};
     ghost use Rattle.merkle_search_tree.specs.Stream.{page_digest};
+    ghost use Rattle.merkle_replica.specs.Contents.{hashed};
     ghost use Rattle.merkle_replica.specs.contracts.replica.Replica.{the_row};
     ghost use Rattle.std.specs.Borrow.{sem};
     ghost use mathlib.Core.Option.{none};
@@ -113,7 +113,7 @@ impl<
     /// Fills in the digests that pages of the tree lack, so that the tree is hashed then. It takes no memory.
     pub fn hash(&mut self)
         ensures rows { self.new.rows ≡ self.old.rows }
-        ensures tree { self.new.tree ≡ record self.old.tree { root = filled self.old.tree.format K.bytes_of self.old.tree.root; root_hash = Some (page_digest self.old.tree.format K.bytes_of self.old.tree.root) } }
+        ensures tree { self.new.tree ≡ hashed K.bytes_of self.old.tree }
     {
         let _ = self.tree.root_hash_counted();
     }
@@ -122,8 +122,8 @@ impl<
     /// memory. Replicas whose rows have equal keys and equal digests have equal root hashes, under one hasher, level base and page format; the
     /// converse holds only as far as no digests collide.
     pub fn root_hash(&mut self) -> &RootHash
-        ensures* hashed { sem 𝓛 (follows_so (the_row K.row V.row H.row (number N) K.Ord.own K.PartialEq K.PartialOrd.own K.KeyBytes.own K.Clone V.Join.own V.PartialEq H.Hasher H.ValueHasher) (the_row K.row V.row H.row (number N) K.Ord.own K.PartialEq K.PartialOrd.own K.KeyBytes.own K.Clone V.Join.own V.PartialEq H.Hasher H.ValueHasher) self.entry.ghost_name none (λ _ _. ⊤)
-            (λ t. (t.rows ≡ self.old.rows) × (t.tree ≡ record self.old.tree { root = filled self.old.tree.format K.bytes_of self.old.tree.root; root_hash = Some (page_digest self.old.tree.format K.bytes_of self.old.tree.root) }))) }
+        ensures* hashed { let row = the_row K.row V.row H.row (number N) K.Ord.own K.PartialEq K.PartialOrd.own K.KeyBytes.own K.Clone V.Join.own V.PartialEq H.Hasher H.ValueHasher in
+            sem 𝓛 (follows_so row row self.entry.ghost_name none (λ _ _. ⊤) (λ t. (t.rows ≡ self.old.rows) × (t.tree ≡ hashed K.bytes_of self.old.tree))) }
         ensures digest { result.now ≡ page_digest self.old.tree.format K.bytes_of self.old.tree.root }
     {
         self.hash();
@@ -156,7 +156,8 @@ impl<
         ensures setup { SameSetup self.old self.new }
 
         // Few digests of the tree are dropped.
-        ensures few_more { OnOk result (missing self.new.tree.root ≤ missing self.old.tree.root + (level self.new.tree.root + level_of (⟦<H as Hasher<N, K>>⟧.digest_of self.old.tree.hasher key) self.old.tree.base + 1)) }
+        ensures few_more { OnOk result (missing self.new.tree.root
+            ≤ missing self.old.tree.root + (level self.new.tree.root + level_of (⟦<H as Hasher<N, K>>⟧.digest_of self.old.tree.hasher key) self.old.tree.base + 1)) }
     {
         match place(&self.rows, &key) {
             Ok(at) => {

@@ -68,7 +68,8 @@ fn first_within<'a, K: Ord, V>(
 ) -> Option<(&'a (K, V), &'a [(K, V)], &'a [(K, K)])>
     requires ascending { IsMap K.cmp rows.now }
     requires apart { IsApart K.cmp (spans_of ranges.now) }
-    ensures gives { MatchOption result (rows_in K.cmp (spans_of ranges.now) rows.now ≡ []) (λ found. rows_in K.cmp (spans_of ranges.now) rows.now ≡ found.0.now ∷ rows_in K.cmp (spans_of found.2.now) found.1.now) }
+    ensures gives { MatchOption result (rows_in K.cmp (spans_of ranges.now) rows.now ≡ [])
+        (λ found. rows_in K.cmp (spans_of ranges.now) rows.now ≡ found.0.now ∷ rows_in K.cmp (spans_of found.2.now) found.1.now) }
     ensures ascending { IfSome result (λ found. IsMap K.cmp found.1.now) }
     ensures apart { IfSome result (λ found. IsApart K.cmp (spans_of found.2.now)) }
 {

@@ -5,11 +5,11 @@ ghost use Rattle.key_order.specs.Map.{IsMap, rows_in};
 ghost use Rattle.key_order.specs.Join.{IsJoin};
 ghost use Rattle.merkle_diff.specs.PageRangeSnapshot.{snapshot_entries};
 ghost use Rattle.merkle_replica.specs.Answers.{spans_of};
-ghost use Rattle.merkle_replica.specs.Contents.{SameSetup};
-ghost use Rattle.merkle_replica.specs.Pulls.{HasRanges};
+ghost use Rattle.merkle_replica.specs.Contents.{SameSetup, side};
 ghost use Rattle.merkle_replica.specs.Steps.{AreRanges, IsAnswerTo, IsJoinRefused};
 
 use crate::join::Join;
+use crate::lawful::Lawful;
 use crate::pull::ask_of;
 use crate::replica::Replica;
 use crate::rows_within::{RowsWithin, are_ranges};
@@ -45,9 +45,7 @@ impl<
         // A clone of a key equals its original.
         requires clones { (a b : K) → K.is_clone a b → Same K.cmp a b }
 
-        ensures answer { IfOk result (λ ranges. IsAnswerTo K.cmp
-            (HasRanges K.cmp ⟦<H as Hasher<N, K>>⟧.digest_of ⟦<H as Hasher<N, V>>⟧.digest_of K.bytes_of self.old.tree.hasher self.old.tree.base self.old.tree.format)
-            self.old.rows (snapshot_entries theirs.now) (spans_of ranges.items)) }
+        ensures answer { IfOk result (λ ranges. IsAnswerTo ⟦<H as Lawful<N, K, V>>⟧.laws (side self.old) (snapshot_entries theirs.now) (spans_of ranges.items)) }
         ensures rows { self.new.rows ≡ self.old.rows }
         ensures setup { SameSetup self.old self.new }
     {

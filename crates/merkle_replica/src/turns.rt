@@ -1,14 +1,13 @@
 //! Pulls by turns, by which two replicas come to hold the join of their maps.
 ghost use Rattle.std.specs.Prelude.{◌≡◌, ◌<◌, ◌≤◌, List, IfOk, IfErr, map, length};
-ghost use Rattle.std.specs.List.{AllByRecursion};
 ghost use Rattle.key_order.specs.Order.{Same};
-ghost use Rattle.key_order.specs.Join.{IsJoin};
-ghost use Rattle.merkle_replica.specs.Contents.{SameSetup};
-ghost use Rattle.merkle_replica.specs.Pulls.{IsByTurns, HasRanges};
-ghost use Rattle.merkle_replica.specs.Faithful.{IsFaithful};
+ghost use Rattle.merkle_replica.specs.Contents.{Side, SameSetup, side};
+ghost use Rattle.merkle_replica.specs.Pulls.{IsByTurns, HoldTheJoin};
+ghost use Rattle.merkle_replica.specs.Faithful.{AllFaithful};
 ghost use Rattle.merkle_replica.specs.Answers.{answer_of, StopsByTurns};
 
 use crate::join::Join;
+use crate::lawful::Lawful;
 use crate::pull::{PullError, Pulled};
 use crate::replica::Replica;
 use merkle_digest::{Hasher, KeyBytes};
@@ -27,7 +26,8 @@ pub struct TurnsError<K> {
 /// first: where it is refused, no pull is made, and the fault is [`PullError::Memory`].
 ///
 /// Four pulls or more leave both replicas with the join of their maps, while no digests collide: with fewer, a row of one replica
-/// can be missing in the other.
+/// can be missing in the other. That holds of any two hashers, level bases and page formats; but only replicas that digest alike spare
+/// each other what they share.
 ///
 /// For keys that are texts or bytes, `key_order::proofs::Clones` has the lemmas that prove its condition on clones.
 pub fn pull_by_turns<
@@ -46,22 +46,15 @@ pub fn pull_by_turns<
 
     ensures length { IfOk result (λ pulled. length pulled.items ≡ n) }
 
-    // The pulls by turns were made, and, convergence: where the replicas have one hasher, level base and page format and digests
-    // are faithful in the maps that were met, four turns or more leave both with the join of their maps.
-    ensures turns { IfOk result (λ pulled. (met : List (List (K × V) × List (K × V))) × IsByTurns K.cmp V.eq V.join_of
-        (HasRanges K.cmp ⟦<H as Hasher<N, K>>⟧.digest_of ⟦<H as Hasher<N, V>>⟧.digest_of K.bytes_of a.old.tree.hasher a.old.tree.base a.old.tree.format)
-        (HasRanges K.cmp ⟦<H as Hasher<N, K>>⟧.digest_of ⟦<H as Hasher<N, V>>⟧.digest_of K.bytes_of b.old.tree.hasher b.old.tree.base b.old.tree.format)
-        (map answer_of pulled.items) a.old.rows b.old.rows a.new.rows b.new.rows met
-        × (a.old.tree.hasher ≡ b.old.tree.hasher → a.old.tree.base ≡ b.old.tree.base → a.old.tree.format ≡ b.old.tree.format
-        → AllByRecursion (λ maps. IsFaithful K.cmp ⟦<H as Hasher<N, K>>⟧.digest_of ⟦<H as Hasher<N, V>>⟧.digest_of K.bytes_of V.eq a.old.tree.hasher a.old.tree.base a.old.tree.format maps.0 maps.1) met
-        → 4 ≤ n
-        → IsJoin K.cmp V.eq V.join_of a.old.rows b.old.rows a.new.rows × IsJoin K.cmp V.eq V.join_of a.old.rows b.old.rows b.new.rows)) }
+    // The pulls by turns were made, and, convergence: where digests are faithful in the sides that were met, four turns or more leave
+    // both with the join of their maps, whatever their hashers, level bases and page formats.
+    ensures turns { let laws = ⟦<H as Lawful<N, K, V>>⟧.laws in IfOk result (λ pulled. (met : List (Side K V H × Side K V H))
+        × IsByTurns laws (map answer_of pulled.items) (side a.old) (side b.old) a.new.rows b.new.rows met
+        × (AllFaithful laws met → 4 ≤ n → HoldTheJoin laws (side a.old) (side b.old) a.new.rows b.new.rows)) }
 
     // Stopped, it has made the pulls of `finished`, and then stands what the fault says.
-    ensures stopped { IfErr result (λ error. StopsByTurns K.cmp V.eq V.join_of
-        (HasRanges K.cmp ⟦<H as Hasher<N, K>>⟧.digest_of ⟦<H as Hasher<N, V>>⟧.digest_of K.bytes_of a.old.tree.hasher a.old.tree.base a.old.tree.format)
-        (HasRanges K.cmp ⟦<H as Hasher<N, K>>⟧.digest_of ⟦<H as Hasher<N, V>>⟧.digest_of K.bytes_of b.old.tree.hasher b.old.tree.base b.old.tree.format)
-        error.finished.items error.fault a.old.rows b.old.rows a.new.rows b.new.rows) }
+    ensures stopped { IfErr result (λ error. StopsByTurns ⟦<H as Lawful<N, K, V>>⟧.laws error.finished.items error.fault
+        (side a.old) (side b.old) a.new.rows b.new.rows) }
     ensures fewer { IfErr result (λ error. length error.finished.items < n) }
 
     ensures a_setup { SameSetup a.old a.new }

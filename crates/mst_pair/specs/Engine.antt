@@ -1,30 +1,31 @@
 -- The engine: what a line is answered, and the state that it leaves.
-use Rattle.std.specs.Prelude.{◌≡◌, ◌≢◌, ℕ, Bool, if◌then◌else◌, ◌<◌, List, [], ◌∷◌, ◌⊎◌, map, max, length, nat_eq, codes}
+use Rattle.std.specs.Prelude.{◌≡◌, ◌≢◌, ℕ, Bool, if◌then◌else◌, ◌<◌, List, [], ◌∷◌, ◌⊎◌, map, length, codes}
 use Rattle.key_order.specs.Interval.{Span}
 use Rattle.merkle_digest.specs.Digest.{base64_of}
 use Rattle.merkle_diff.specs.Entry.{span_of}
 use Rattle.merkle_search_tree.specs.declared.builder.PageFormat.{PageFormat}
-use Rattle.mst_pair.specs.Pages.{page_ranges, root_digest, HasPageRanges}
+use Rattle.mst_pair.specs.Pages.{page_ranges, root_digest, text_laws, side_of}
+use Rattle.merkle_replica.specs.Contents.{Side}
 use Rattle.merkle_replica.specs.Pulls.{Answer, IsAnswerFor, IsPull, IsPartOfPull, IsByTurns}
 use Rattle.mst_pair.specs.Replies.{text_line, rows_text, ranges_text, pull_text, turns_text}
 use Rattle.mst_pair.specs.Requests.{Request, put, del, keys, root, pages, diff, pull, same, turns, set_format, IsSpelled, IsBad}
-use Rattle.mst_pair.specs.Replicas.{Text, TextRow, Replicas, HasNoRow, text_order, rows, other_rows, JoinsRow, DeletesRow}
+use Rattle.mst_pair.specs.Replicas.{Text, TextRow, Replicas, HasNoRow, rows, other_rows, JoinsRow, DeletesRow}
 
 -- ranges that local may ask of the peer: any that meet the interval laws of `diff` and its laws on trees, on the page ranges of both
 abbrev pub MayAsk : PageFormat → List TextRow → List TextRow → List (Span Text) → Type 0
-MayAsk format = IsAnswerFor text_order nat_eq max (HasPageRanges format) (HasPageRanges format)
+MayAsk format local peer = IsAnswerFor text_laws (side_of format local) (side_of format peer)
 
 -- local pulled from the peer, with this answer
 abbrev pub Pulls : PageFormat → List TextRow → List TextRow → Answer Text → List TextRow → Type 0
-Pulls format = IsPull text_order nat_eq max (HasPageRanges format) (HasPageRanges format)
+Pulls format local peer = IsPull text_laws (side_of format local) (side_of format peer)
 
 -- memory was refused to a pull: nothing changed, or the first rows in the ranges were joined
 abbrev pub StopsPulling : PageFormat → List TextRow → List TextRow → List TextRow → Type 0
-StopsPulling format local peer after = (after ≡ local) ⊎ ((answer : Answer Text) × (done : ℕ) × IsPartOfPull text_order nat_eq max (HasPageRanges format) (HasPageRanges format) local peer answer done after)
+StopsPulling format local peer after = (after ≡ local) ⊎ ((answer : Answer Text) × (done : ℕ) × IsPartOfPull text_laws (side_of format local) (side_of format peer) answer done after)
 
 -- pulls by turns, local first, with these answers
 abbrev pub TakesTurns : PageFormat → List (Answer Text) → List TextRow → List TextRow → List TextRow → List TextRow → Type 0
-TakesTurns format answers local peer local' peer' = (met : List (List TextRow × List TextRow)) × IsByTurns text_order nat_eq max (HasPageRanges format) (HasPageRanges format) answers local peer local' peer' met
+TakesTurns format answers local peer local' peer' = (met : List (Side Text ℕ (List ℕ) × Side Text ℕ (List ℕ))) × IsByTurns text_laws answers (side_of format local) (side_of format peer) local' peer' met
 
 -- pulls by turns, local first, of which those with these answers were made, and memory was refused to the next
 abbrev pub StopsAfter : PageFormat → List (Answer Text) → List TextRow → List TextRow → List TextRow → List TextRow → Type 0

@@ -1,15 +1,16 @@
 -- The tree that shows what a replica holds, with the default hasher and level base, SipHash under the zero key and 16, in a page format.
-use Rattle.std.specs.Prelude.{◌≡◌, ℕ, List, string_bytes}
+use Rattle.std.specs.Prelude.{◌≡◌, ℕ, List, max, nat_eq, string_bytes}
 use Rattle.std.specs.Int.{w64, to_le_bytes}
 use Rattle.merkle_digest.specs.Level.{level_of}
 use Rattle.merkle_digest.specs.SipHash.{siphash128, zero_key}
 use Rattle.merkle_diff.specs.Entry.{Entry}
-use Rattle.merkle_search_tree.specs.Ranges.{IsRangesOf, ranges_of}
+use Rattle.merkle_search_tree.specs.Ranges.{ranges_of}
 use Rattle.merkle_search_tree.specs.Stream.{page_digest}
 use Rattle.merkle_search_tree.specs.Tree.{Tree}
 use Rattle.merkle_search_tree.specs.TreeOf.{tree_of}
 use Rattle.merkle_search_tree.specs.declared.builder.PageFormat.{PageFormat}
-use Rattle.merkle_replica.specs.Contents.{Contents, digests}
+use Rattle.merkle_replica.specs.Laws.{Laws}
+use Rattle.merkle_replica.specs.Contents.{Contents, Side, digests}
 use Rattle.mst_pair.specs.Replicas.{Text, TextRow, text_order}
 
 -- the digest of a key: that of its bytes
@@ -36,9 +37,20 @@ page_ranges format rows = ranges_of format string_bytes (tree rows)
 abbrev pub root_digest : PageFormat → List TextRow → List ℕ
 root_digest format rows = page_digest format string_bytes (tree rows)
 
--- these entries are the page ranges, up to equal keys
-abbrev pub HasPageRanges : PageFormat → List TextRow → List (Entry Text (List ℕ)) → Type 0
-HasPageRanges format rows entries = IsRangesOf text_order key_digest 16 format string_bytes (digests number_digest rows) entries
+-- what pulls need to know of texts and numbers, under SipHash
+abbrev pub text_laws : Laws Text ℕ (List ℕ)
+text_laws = record {
+  cmp = text_order;
+  bytes_of = string_bytes;
+  key_digest = λ h key. siphash128 h (string_bytes key);
+  eq = nat_eq;
+  join = max;
+  value_digest = λ h n. siphash128 h (to_le_bytes w64 n);
+}
+
+-- these rows in such a tree
+abbrev pub side_of : PageFormat → List TextRow → Side Text ℕ (List ℕ)
+side_of format rows = record { hasher = zero_key; base = 16; format = format; rows = rows }
 
 -- the replica has the default hasher and level base, and this page format
 abbrev pub HasDefaults : PageFormat → Contents Text ℕ (List ℕ) → Type 0

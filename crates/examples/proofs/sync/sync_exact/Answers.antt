@@ -1,11 +1,14 @@
-use Rattle.examples.proofs.Outcomes.{on_ok, exact_sync}
+use Rattle.merkle_replica.specs.Contents.{side}
+use Rattle.examples.proofs.Outcomes.{on_ok, sync_like, alike}
 use Rattle.examples.proofs.sync.sync_exact.Goals as goal
 
 -- where no streams collide, digests are faithful
 pub returns : goal.returns
 returns g c =
-    let a = c.args.a.now in record {
+    let a = c.args.a.now in
+    let b = c.args.b.now in record {
       same = on_ok c.sync.result _ _
-          (exact_sync g.K.Ord.cmp g.H.Hasher-1.digest_of g.H.Hasher-2.digest_of g.K.KeyBytes.bytes_of g.V.PartialEq.eq g.V.Join.join_of _ _ a c.args.b.now c.sync.new.a c.sync.new.b c.requires.format_2
-          (c.no_collision_is_enough.ensures.faithful a.tree.hasher a.tree.base)) c.sync.ensures.same;
+          (sync_like _ _ _ _ _ a b c.sync.new.a c.sync.new.b
+          (λ answers met turns. c.no_collision_is_enough.ensures.all_faithful answers (side a) (side b) c.sync.new.a.rows c.sync.new.b.rows met (alike _ a b c.requires.one_setup) c.requires.format_2 turns)
+          (λ joined. joined)) c.sync.ensures.same;
     }

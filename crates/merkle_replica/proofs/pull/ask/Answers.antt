@@ -6,6 +6,7 @@ use Rattle.merkle_diff.specs.PageRange.{entry, entries}
 use Rattle.merkle_diff.proofs.Snapshots.{drained}
 use Rattle.merkle_replica.specs.Answers.{spans_of}
 use Rattle.merkle_replica.proofs.Asks.{answer_for}
+use Rattle.merkle_replica.proofs.Sides.{laws_of}
 use Rattle.merkle_replica.proofs.pull.ask.Goals as goal
 
 pub returns : goal.returns
@@ -14,7 +15,7 @@ returns g c =
     let e = drained entry (λ es. es) h.2.0 h.0 h.2.2 ∙ h.2.1 ∙ (rw c.in-Some.is at c.in_ok-ours.ensures.ranges) in
     let f = drained entry (λ es. es) h.3.0 h.1 h.3.2 ∙ h.3.1 ∙ (rw c.in-Some-2.is at c.in_ok-theirs.ensures.ranges) in
     IfOk-weaker c.own_bounds.result _ _
-    (λ r s. answer_for g.K.Ord.cmp g.V.PartialEq.eq g.V.Join.join_of g.H.Hasher-1.digest_of g.H.Hasher-2.digest_of g.K.KeyBytes.bytes_of g.met.K.Ord.total c.args.local.now c.args.peer.now
+    (λ r s. answer_for (laws_of g.K.Ord.cmp g.K.KeyBytes.bytes_of g.H.Hasher-1.digest_of g.V.PartialEq.eq g.V.Join.join_of g.H.Hasher-2.digest_of) g.met.K.Ord.total c.args.local.now c.args.peer.now
     (entries h.0) (entries h.1) (spans c.in_ok-found.found.items) (spans_of r.items) c.tree.ensures.digests c.tree-2.ensures.digests
     (rw c.tree.ensures.tree at c.every_tree_is_sound.ensures.sound) (rw c.tree-2.ensures.tree at c.every_tree_is_sound-2.ensures.sound)
     (rw c.tree-3.ensures.tree at c.page_ranges_are_tree_shaped.ensures) (rw c.tree-4.ensures.tree at c.page_ranges_are_tree_shaped-2.ensures)

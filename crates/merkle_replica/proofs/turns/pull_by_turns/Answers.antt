@@ -1,14 +1,16 @@
 use Rattle.std.proofs.Common.{IfOk, IfErr, [], ◌∷◌, not, length, length-append, arith, refl, sym, ◌∙◌, ap, subst}
 use Rattle.std.proofs.lemmas.List.{length-map}
+use Rattle.merkle_replica.specs.Contents.{side}
 use Rattle.merkle_replica.specs.Answers.{answer_of, IsRefused}
 use Rattle.merkle_replica.specs.Pulls.{IsPull}
-use Rattle.merkle_replica.proofs.Turning.{starts, goes_a, goes_b, stops_a, stops_b, ends_converged, Of}
+use Rattle.merkle_replica.proofs.Sides.{laws_of}
+use Rattle.merkle_replica.proofs.Turning.{starts, goes_a, goes_b, stops_a, stops_b, ends_converged}
 use Rattle.merkle_replica.proofs.turns.pull_by_turns.Goals as goal
 use Rattle.merkle_replica.proofs.turns.pull_by_turns.Goals.{then-a_pulls, else-a_pulls}
 
 pub turning-init : goal.turning-init
 turning-init g c = record {
-  goes = rw c.in-Ok.ensures.items (starts g.K.Ord.cmp g.V.PartialEq.eq g.V.Join.join_of g.H.Hasher-1.digest_of g.H.Hasher-2.digest_of g.K.KeyBytes.bytes_of c.args.a.now c.args.b.now);
+  goes = rw c.in-Ok.ensures.items (starts (laws_of g.K.Ord.cmp g.K.KeyBytes.bytes_of g.H.Hasher-1.digest_of g.V.PartialEq.eq g.V.Join.join_of g.H.Hasher-2.digest_of) c.args.a.now c.args.b.now);
   taken = rw c.in-Ok.ensures.items refl;
   counted = c.in-Ok.ensures.len;
   room = c.in-Ok.ensures.capacity;
@@ -19,26 +21,24 @@ returns-clause-length g c = let t = c.turning.invariant.taken in omega arith
 
 pub returns-clause-turns : goal.returns-clause-turns
 returns-clause-turns g c =
-    let (met, turns, all) = ends_converged g.K.Ord.cmp g.V.PartialEq.eq g.V.Join.join_of g.H.Hasher-1.digest_of g.H.Hasher-2.digest_of g.K.KeyBytes.bytes_of g.met.K.Ord.total g.met.V.Eq.laws g.met.V.Join.joining
+    let (met, turns, all) = ends_converged (laws_of g.K.Ord.cmp g.K.KeyBytes.bytes_of g.H.Hasher-1.digest_of g.V.PartialEq.eq g.V.Join.join_of g.H.Hasher-2.digest_of) g.met.K.Ord.total g.met.V.Eq.laws g.met.V.Join.joining
     c.args.a.now c.args.b.now c.turning.all.items c.turning.a_pulls c.turning.a c.turning.b c.rows_ascend.ensures c.rows_ascend-2.ensures c.turning.invariant.goes in
-    (met, turns, λ h b p f n. all h b p f (let t = c.turning.invariant.taken in let k = length-map c.turning.all.items answer_of in omega arith))
+    (met, turns, λ f n. all f (let t = c.turning.invariant.taken in let k = length-map c.turning.all.items answer_of in omega arith))
 
 pub unreachable-requires : goal.unreachable-requires
 unreachable-requires g c = let t = c.turning.invariant.counted in let r = c.turning.invariant.room in let u = c.in-Err-push.ensures.full in absurd (omega arith)
 
 pub turning-preserved : goal.turning-preserved
 turning-preserved g c =
-    let kd = g.H.Hasher-1.digest_of in
-    let vd = g.H.Hasher-2.digest_of in
-    let of = Of g.K.Ord.cmp g.V.PartialEq.eq g.V.Join.join_of kd vd g.K.KeyBytes.bytes_of in
+    let laws = laws_of g.K.Ord.cmp g.K.KeyBytes.bytes_of g.H.Hasher-1.digest_of g.V.PartialEq.eq g.V.Join.join_of g.H.Hasher-2.digest_of in
     record {
       goes = elim c.if-a_pulls.branch [
         | then-a_pulls w ↦
-            let done = subst (λ r. IfOk r (λ pulled. IsPull g.K.Ord.cmp g.V.PartialEq.eq g.V.Join.join_of (of c.turning.a) (of c.turning.b) c.turning.a.rows c.turning.b.rows (answer_of pulled) w.pull-answer.new.self.rows)) (sym w.answer-is ∙ c.in-Ok-answer.is) w.pull-answer.ensures.done in
-            rw (w.a-is, w.b-is) (goes_a g.K.Ord.cmp g.V.PartialEq.eq g.V.Join.join_of kd vd g.K.KeyBytes.bytes_of c.args.a.now c.args.b.now c.turning.a c.turning.b w.pull-answer.new.self w.pull-answer.new.peer c.turning.all.items c.push.new.self.items c.in-Ok-answer.pulled c.turning.a_pulls (not c.turning.a_pulls) w.pull-answer.ensures.setup w.pull-answer.ensures.peer_setup refl c.in-Ok-push.ensures.items w.if-a_pulls.true c.turning.invariant.goes done w.pull-answer.ensures.peer_rows)
+            let done = subst (λ r. IfOk r (λ pulled. IsPull laws (side c.turning.a) (side c.turning.b) (answer_of pulled) w.pull-answer.new.self.rows)) (sym w.answer-is ∙ c.in-Ok-answer.is) w.pull-answer.ensures.done in
+            rw (w.a-is, w.b-is) (goes_a laws c.args.a.now c.args.b.now c.turning.a c.turning.b w.pull-answer.new.self w.pull-answer.new.peer c.turning.all.items c.push.new.self.items c.in-Ok-answer.pulled c.turning.a_pulls (not c.turning.a_pulls) w.pull-answer.ensures.setup w.pull-answer.ensures.peer_setup refl c.in-Ok-push.ensures.items w.if-a_pulls.true c.turning.invariant.goes done w.pull-answer.ensures.peer_rows)
         | else-a_pulls w ↦
-            let done = subst (λ r. IfOk r (λ pulled. IsPull g.K.Ord.cmp g.V.PartialEq.eq g.V.Join.join_of (of c.turning.b) (of c.turning.a) c.turning.b.rows c.turning.a.rows (answer_of pulled) w.pull-answer-else-a_pulls.new.self.rows)) (sym w.answer-is ∙ c.in-Ok-answer.is) w.pull-answer-else-a_pulls.ensures.done in
-            rw (w.a-is, w.b-is) (goes_b g.K.Ord.cmp g.V.PartialEq.eq g.V.Join.join_of kd vd g.K.KeyBytes.bytes_of c.args.a.now c.args.b.now c.turning.a c.turning.b w.pull-answer-else-a_pulls.new.peer w.pull-answer-else-a_pulls.new.self c.turning.all.items c.push.new.self.items c.in-Ok-answer.pulled c.turning.a_pulls (not c.turning.a_pulls) w.pull-answer-else-a_pulls.ensures.peer_setup w.pull-answer-else-a_pulls.ensures.setup refl c.in-Ok-push.ensures.items w.if-a_pulls.false c.turning.invariant.goes done w.pull-answer-else-a_pulls.ensures.peer_rows)
+            let done = subst (λ r. IfOk r (λ pulled. IsPull laws (side c.turning.b) (side c.turning.a) (answer_of pulled) w.pull-answer-else-a_pulls.new.self.rows)) (sym w.answer-is ∙ c.in-Ok-answer.is) w.pull-answer-else-a_pulls.ensures.done in
+            rw (w.a-is, w.b-is) (goes_b laws c.args.a.now c.args.b.now c.turning.a c.turning.b w.pull-answer-else-a_pulls.new.peer w.pull-answer-else-a_pulls.new.self c.turning.all.items c.push.new.self.items c.in-Ok-answer.pulled c.turning.a_pulls (not c.turning.a_pulls) w.pull-answer-else-a_pulls.ensures.peer_setup w.pull-answer-else-a_pulls.ensures.setup refl c.in-Ok-push.ensures.items w.if-a_pulls.false c.turning.invariant.goes done w.pull-answer-else-a_pulls.ensures.peer_rows)
       ];
       taken = let t = c.turning.invariant.taken in ap length c.in-Ok-push.ensures.items ∙ length-append c.turning.all.items (c.in-Ok-answer.pulled ∷ []) ∙ omega arith;
       counted = let t = c.turning.invariant.counted in let u = c.in-Ok-push.ensures.len in u ∙ omega arith;
@@ -47,14 +47,12 @@ turning-preserved g c =
 
 pub returns-in-Err-answer-clause-stopped : goal.returns-in-Err-answer-clause-stopped
 returns-in-Err-answer-clause-stopped g c =
-    let kd = g.H.Hasher-1.digest_of in
-    let vd = g.H.Hasher-2.digest_of in
-    let of = Of g.K.Ord.cmp g.V.PartialEq.eq g.V.Join.join_of kd vd g.K.KeyBytes.bytes_of in
+    let laws = laws_of g.K.Ord.cmp g.K.KeyBytes.bytes_of g.H.Hasher-1.digest_of g.V.PartialEq.eq g.V.Join.join_of g.H.Hasher-2.digest_of in
     elim c.if-a_pulls.branch [
       | then-a_pulls w ↦
-          let fault = subst (λ r. IfErr r (λ fault. IsRefused g.K.Ord.cmp g.V.PartialEq.eq g.V.Join.join_of (of c.turning.a) (of c.turning.b) c.turning.a.rows c.turning.b.rows fault w.pull-answer.new.self.rows)) (sym w.answer-is ∙ c.in-Err-answer.is) w.pull-answer.ensures.refused in
-          rw (w.a-is, w.b-is) (stops_a g.K.Ord.cmp g.V.PartialEq.eq g.V.Join.join_of kd vd g.K.KeyBytes.bytes_of c.args.a.now c.args.b.now c.turning.a c.turning.b w.pull-answer.new.self.rows w.pull-answer.new.peer.rows c.turning.all.items c.in-Err-answer.fault c.turning.a_pulls w.if-a_pulls.true c.turning.invariant.goes fault w.pull-answer.ensures.peer_rows)
+          let fault = subst (λ r. IfErr r (λ fault. IsRefused laws (side c.turning.a) (side c.turning.b) fault w.pull-answer.new.self.rows)) (sym w.answer-is ∙ c.in-Err-answer.is) w.pull-answer.ensures.refused in
+          rw (w.a-is, w.b-is) (stops_a laws c.args.a.now c.args.b.now c.turning.a c.turning.b w.pull-answer.new.self.rows w.pull-answer.new.peer.rows c.turning.all.items c.in-Err-answer.fault c.turning.a_pulls w.if-a_pulls.true c.turning.invariant.goes fault w.pull-answer.ensures.peer_rows)
       | else-a_pulls w ↦
-          let fault = subst (λ r. IfErr r (λ fault. IsRefused g.K.Ord.cmp g.V.PartialEq.eq g.V.Join.join_of (of c.turning.b) (of c.turning.a) c.turning.b.rows c.turning.a.rows fault w.pull-answer-else-a_pulls.new.self.rows)) (sym w.answer-is ∙ c.in-Err-answer.is) w.pull-answer-else-a_pulls.ensures.refused in
-          rw (w.a-is, w.b-is) (stops_b g.K.Ord.cmp g.V.PartialEq.eq g.V.Join.join_of kd vd g.K.KeyBytes.bytes_of c.args.a.now c.args.b.now c.turning.a c.turning.b w.pull-answer-else-a_pulls.new.peer.rows w.pull-answer-else-a_pulls.new.self.rows c.turning.all.items c.in-Err-answer.fault c.turning.a_pulls w.if-a_pulls.false c.turning.invariant.goes fault w.pull-answer-else-a_pulls.ensures.peer_rows)
+          let fault = subst (λ r. IfErr r (λ fault. IsRefused laws (side c.turning.b) (side c.turning.a) fault w.pull-answer-else-a_pulls.new.self.rows)) (sym w.answer-is ∙ c.in-Err-answer.is) w.pull-answer-else-a_pulls.ensures.refused in
+          rw (w.a-is, w.b-is) (stops_b laws c.args.a.now c.args.b.now c.turning.a c.turning.b w.pull-answer-else-a_pulls.new.peer.rows w.pull-answer-else-a_pulls.new.self.rows c.turning.all.items c.in-Err-answer.fault c.turning.a_pulls w.if-a_pulls.false c.turning.invariant.goes fault w.pull-answer-else-a_pulls.ensures.peer_rows)
     ]

@@ -1,21 +1,24 @@
 use Rattle.std.proofs.Common.{◌∙◌, arith}
 use Rattle.merkle_replica.specs.Answers.{spans_of}
-use Rattle.merkle_replica.proofs.Pulling.{covers_rows, pull_from, part_from}
+use Rattle.merkle_replica.specs.Contents.{side}
+use Rattle.merkle_replica.proofs.Pulling.{covers_sides, pull_from, part_from}
+use Rattle.merkle_replica.proofs.Sides.{laws_of}
 use Rattle.merkle_replica.proofs.replica.Replica.pull.Goals as goal
 
 pub returns-in-Ok-join_within-clause-done : goal.returns-in-Ok-join_within-clause-done
 returns-in-Ok-join_within-clause-done g c =
-    pull_from g.K.Ord.cmp g.V.PartialEq.eq g.V.Join.join_of g.H.Hasher-1.digest_of g.H.Hasher-2.digest_of g.K.KeyBytes.bytes_of c.args.self.now c.args.peer.now c.in-Ok.ranges.items c.deref.result.now c.ranges_to_ask.new.self.rows c.rows.result.now c.join_within.new.self.rows c.in-Ok-join_within.joined
+    pull_from (laws_of g.K.Ord.cmp g.K.KeyBytes.bytes_of g.H.Hasher-1.digest_of g.V.PartialEq.eq g.V.Join.join_of g.H.Hasher-2.digest_of) (side c.args.self.now) (side c.args.peer.now) c.in-Ok.ranges.items c.deref.result.now c.ranges_to_ask.new.self.rows c.rows.result.now c.join_within.new.self.rows c.in-Ok-join_within.joined
     c.deref.ensures.value c.ranges_to_ask.ensures.rows (c.rows.ensures.rows ∙ c.ranges_to_ask.ensures.peer_rows) c.in-Ok.ensures.answer c.in-Ok-join_within.ensures.all
 
 pub returns-in-Ok-join_within-clause-covers : goal.returns-in-Ok-join_within-clause-covers
 returns-in-Ok-join_within-clause-covers g c =
-    let local = c.args.self.now in
-    let peer = c.args.peer.now in
-    covers_rows g.K.Ord.cmp g.V.PartialEq.eq g.V.Join.join_of g.H.Hasher-1.digest_of g.H.Hasher-2.digest_of g.K.KeyBytes.bytes_of g.met.K.Ord.total local.tree.hasher peer.tree.hasher local.tree.base peer.tree.base local.tree.format peer.tree.format local.rows peer.rows
-    (spans_of c.in-Ok.ranges.items) c.rows_ascend.ensures c.rows_ascend-2.ensures c.in-Ok.ensures.answer
+    covers_sides (laws_of g.K.Ord.cmp g.K.KeyBytes.bytes_of g.H.Hasher-1.digest_of g.V.PartialEq.eq g.V.Join.join_of g.H.Hasher-2.digest_of) g.met.K.Ord.total (side c.args.self.now) (side c.args.peer.now) (spans_of c.in-Ok.ranges.items) c.rows_ascend.ensures c.rows_ascend-2.ensures c.in-Ok.ensures.answer
+
+pub returns-else-cut-eq0-clause-part_covers : goal.returns-else-cut-eq0-clause-part_covers
+returns-else-cut-eq0-clause-part_covers g c =
+    covers_sides (laws_of g.K.Ord.cmp g.K.KeyBytes.bytes_of g.H.Hasher-1.digest_of g.V.PartialEq.eq g.V.Join.join_of g.H.Hasher-2.digest_of) g.met.K.Ord.total (side c.args.self.now) (side c.args.peer.now) (spans_of c.in-Ok.ranges.items) c.rows_ascend.ensures c.rows_ascend-2.ensures c.in-Ok.ensures.answer
 
 pub returns-else-cut-eq0-clause-refused : goal.returns-else-cut-eq0-clause-refused
 returns-else-cut-eq0-clause-refused g c =
-    part_from g.K.Ord.cmp g.V.PartialEq.eq g.V.Join.join_of g.H.Hasher-1.digest_of g.H.Hasher-2.digest_of g.K.KeyBytes.bytes_of c.args.self.now c.args.peer.now c.in-Ok.ranges.items c.deref.result.now c.ranges_to_ask.new.self.rows c.rows.result.now c.join_within.new.self.rows c.in-Err-join_within.cut.done c.in-Err-join_within.cut.joined
+    part_from (laws_of g.K.Ord.cmp g.K.KeyBytes.bytes_of g.H.Hasher-1.digest_of g.V.PartialEq.eq g.V.Join.join_of g.H.Hasher-2.digest_of) (side c.args.self.now) (side c.args.peer.now) c.in-Ok.ranges.items c.deref.result.now c.ranges_to_ask.new.self.rows c.rows.result.now c.join_within.new.self.rows c.in-Err-join_within.cut.done c.in-Err-join_within.cut.joined
     c.deref.ensures.value c.ranges_to_ask.ensures.rows (c.rows.ensures.rows ∙ c.ranges_to_ask.ensures.peer_rows) c.in-Ok.ensures.answer (omega arith) c.in-Err-join_within.ensures.cut
