@@ -7,6 +7,8 @@ mod build_orders;
 mod counts;
 pub mod defined;
 #[cfg(test)]
+mod doc_lines;
+#[cfg(test)]
 mod equal_pages;
 #[cfg(test)]
 mod formats;
