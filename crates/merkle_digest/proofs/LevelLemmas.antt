@@ -1,4 +1,4 @@
--- The level of a digest, found by reading byte after byte, and its bound.
+-- The level of a digest, found by reading byte after byte.
 use Rattle.std.proofs.Common.{◌+◌, ◌⊎◌, inl, inr, ◌*◌, ◌%◌, min, cond, ◌≡◌, ◌≢◌, ℕ, zero, suc, ◌<◌, ◌≤◌, Bool, true, false, eqb, List, [], ◌∷◌, length, take, get_or, refl, sym, ◌∙◌, arith}
 use Rattle.std.proofs.lemmas.Bool.{eqb-true, eq-eqb, cases_lt}
 use Rattle.std.proofs.lemmas.List.{take_more}
@@ -73,8 +73,3 @@ level_of-all bytes base i level so_far whole counted =
     let at : zeros_at_front bytes ≡ i = zeros_at_front-all bytes i so_far whole in
     let end : eqb i (length bytes) ≡ true = eq-eqb i (length bytes) (sym whole) in
     rw (at, end) (counted ∙ omega arith)
-
--- a level fits a byte
-pub level_of-le : (bytes : List ℕ) (base : ℕ) → level_of bytes base ≤ 255
-unfolding level_of
-level_of-le bytes base = omega arith

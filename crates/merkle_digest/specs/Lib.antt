@@ -2,4 +2,3 @@ pub mod Digest
 pub mod Level
 pub mod SipHash
 pub mod Sip24
-pub mod Parts

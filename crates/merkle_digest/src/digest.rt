@@ -15,10 +15,10 @@ use std::fmt;
 use std::marker::Model;
 
 /// A digest of `N` bytes, as a [`Hasher`](crate::Hasher) makes it. A contract sees its bytes, so that two digests are equal
-/// exactly when their bytes are.
+/// exactly when their bytes are. `N` may be 0.
 ///
 /// Digests are ordered as byte arrays are, the first byte first, and print as the base64 encoding of their bytes in the
-/// standard alphabet, padded (RFC 4648, section 4). `N` may be 0.
+/// standard alphabet, padded (RFC 4648, section 4): 24 characters for 16 bytes. To compare two takes time linear in `N`.
 #[derive(Debug, Drop, Eq)]
 pub struct Digest<const N: usize> {
     bytes: [u8; N],

@@ -87,11 +87,11 @@ impl HashBytes for &[u8] {
 /// The byte 1 for true, and 0 for false.
 impl HashBytes for bool {
     ghost use Rattle.std.specs.Prelude.{cond};
-    ghost use Rattle.merkle_digest.specs.Parts.{same_test};
+    ghost use Rattle.std.specs.Cmp.{booleans_Decides};
 
     ghost fed_bytes = { λ test. cond test 1 0 ∷ [] };
 
-    ghost fed_bytes_respect_eq = { λ a b equal. ap (λ test. cond test 1 0 ∷ []) (same_test a b equal) };
+    ghost fed_bytes_respect_eq = { λ a b equal. ap (λ test. cond test 1 0 ∷ []) ((booleans_Decides a b).0 equal) };
 
     #[inline(always)]
     fn feed(&self, sip: &mut Sip24) {
@@ -173,11 +173,14 @@ impl HashBytes for () {
 /// The bytes of the first, and then those of the second: where neither says how long it is, unequal pairs can feed equal bytes, as
 /// the texts `ab`, `c` and `a`, `bc` do.
 impl<A: HashBytes, B: HashBytes> HashBytes for (A, B) {
-    ghost use Rattle.merkle_digest.specs.Parts.{both_parts};
+    ghost use Rattle.std.proofs.Common.{ap₂};
+    ghost use Rattle.std.proofs.lemmas.Bool.{and_parts};
 
     ghost fed_bytes = { λ pair. A.fed_bytes pair.0 ++ B.fed_bytes pair.1 };
 
-    ghost fed_bytes_respect_eq = { λ a b equal. λ i. A.fed_bytes_respect_eq a.0 b.0 (both_parts (A.eq a.0 b.0) (B.eq a.1 b.1) equal).0 i ++ B.fed_bytes_respect_eq a.1 b.1 (both_parts (A.eq a.0 b.0) (B.eq a.1 b.1) equal).1 i };
+    ghost fed_bytes_respect_eq = { λ a b equal.
+        let (first, second) = and_parts (A.eq a.0 b.0) (B.eq a.1 b.1) equal in
+        ap₂ (λ x y. x ++ y) (A.fed_bytes_respect_eq a.0 b.0 first) (B.fed_bytes_respect_eq a.1 b.1 second) };
 
     #[inline(always)]
     fn feed(&self, sip: &mut Sip24) {

@@ -10,7 +10,9 @@ use std::num::NonZeroU8;
 /// The level of a digest in a base, from 0 to 255: two for each zero byte at its front, and one more where the base divides the
 /// byte after them. A level above 255 counts as 255, and a digest of no bytes has level 0.
 ///
-/// In base 16 it is the number of zeros at the front of the digest's base 16 digits, the lower digit of each byte first.
+/// In base 16 it is the number of zeros at the front of the digest's base 16 digits, the lower digit of each byte first. So a key of a
+/// good hash function is on level 1 or above with a chance of about one in 16 (Auvolat and Taïani). It reads the digest up to its
+/// first byte that isn't zero.
 pub fn level<const N: usize>(digest: &Digest<N>, base: NonZeroU8) -> u8
     ensures { result ≡ level_of digest.now (non_zero_u8_get base) }
 {

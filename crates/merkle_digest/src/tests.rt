@@ -2,4 +2,5 @@ mod digests;
 mod fed_bytes;
 mod key_bytes;
 mod levels;
+mod shown;
 mod siphash;

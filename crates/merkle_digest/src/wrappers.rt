@@ -11,8 +11,8 @@ use std::alloc::AllocError;
 use std::fmt;
 use std::marker::Model;
 
-/// The digest of the root page of a tree, which stands for all that the tree holds: trees of equal keys and values have equal
-/// root hashes. The converse holds only as far as no digests collide.
+/// The digest of the root page of a tree, 16 bytes, which stands for all that the tree holds: trees of equal keys and values have equal
+/// root hashes. The converse holds only as far as no digests collide. It prints as a [`Digest`] does.
 #[derive(Debug, Drop, Eq)]
 pub struct RootHash {
     digest: Digest<16>,
@@ -85,7 +85,7 @@ impl fmt::Display for RootHash {
     }
 }
 
-/// The digest of a page: of its nodes and of every page below it.
+/// The digest of a page, 16 bytes: of its nodes and of every page below it. It prints as a [`Digest`] does.
 #[derive(Debug, Drop, Eq)]
 pub struct PageDigest {
     digest: Digest<16>,
@@ -166,7 +166,13 @@ impl fmt::Display for PageDigest {
     }
 }
 
-/// The digest of a value that a tree holds under a key.
+/// The digest of a value that a tree holds under a key: `N` bytes. It prints as a [`Digest`] does.
+///
+/// ```rust
+/// let hasher = SipHasher::new(&[0, 1, 2, 3, 4, 5, 6, 7, 8, 9, 10, 11, 12, 13, 14, 15]);
+/// let digest = ValueDigest::new(hasher.hash(&[0u8, 1, 2]));
+/// assert_eq!(rt; digest.to_string(alloc)?.as_str(), "nHC2DFJnqU5fM7awKYXtUQ==");
+/// ```
 #[derive(Debug, Drop, Eq)]
 pub struct ValueDigest<const N: usize> {
     digest: Digest<N>,
