@@ -18,11 +18,11 @@ pub mod Loops
 pub mod IntervalLaws
 pub mod TreeLaws
 pub mod SameAnswers
-pub mod AtHand
 pub mod OneAnswer
 pub mod FromWalk
 pub mod NoAnswer
 pub mod CutByMerge
 pub mod OnePass
 pub mod Snapshots
+pub mod AtHand
 pub mod EqualEntries

@@ -7,9 +7,10 @@ use Rattle.std.proofs.lemmas.List.Sorted.{IsPermutation-refl, IsPermutation-cons
 use Rattle.std.specs.declared.cmp.Ordering.{Ordering}
 use Rattle.key_order.specs.Interval.{Span, IsOrdered, IsIn, IsCovered, IsApart, IsWithin}
 use Rattle.key_order.specs.Order.{Upto, Below, AnyByRecursion, upto}
-use Rattle.merkle_diff.specs.Merge.{IsMerge, IsAscendingByStart, SameSpans}
+use Rattle.merkle_diff.specs.Merge.{IsMerge, SameSpans}
 use Rattle.merkle_diff.specs.Sweep.{greater, sweep, swept}
 use Rattle.key_order.proofs.Orders.{up_up, low_up, low_is_up, not_both, same_up, same_down}
+use Rattle.merkle_diff.proofs.Ascents.{IsAscendingByStart}
 use Rattle.merkle_diff.proofs.Merges.{swept-merge, up-greater, up-greater_2, low-top}
 use Rattle.merkle_diff.proofs.Ranges.{merge-permuted}
 use Rattle.merkle_diff.proofs.Unique.{merge-unique, in-same, apart-same, ordered-same}

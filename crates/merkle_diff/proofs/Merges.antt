@@ -5,9 +5,10 @@ use Rattle.std.specs.List.{AllByRecursion}
 use Rattle.std.specs.declared.cmp.Ordering.{Ordering}
 use Rattle.key_order.specs.Interval.{Span, IsOrdered}
 use Rattle.key_order.specs.Order.{Upto, Below, Same, AnyByRecursion, upto}
-use Rattle.merkle_diff.specs.Merge.{Opens, Closes, IsMerge, IsAscendingByStart}
+use Rattle.merkle_diff.specs.Merge.{Opens, Closes, IsMerge}
 use Rattle.merkle_diff.specs.Sweep.{greater, sweep, swept}
 use Rattle.key_order.proofs.Orders.{either, same_up, same_down, same_from, up_self, up_up, low_up, up_low, not_both, not_low_self, low_is_up}
+use Rattle.merkle_diff.proofs.Ascents.{IsAscendingByStart}
 use Rattle.merkle_diff.proofs.Each.{any-map, any-with, each-with, each-both, each-any, each-mapped}
 use Rattle.merkle_diff.proofs.OrderTests.{by_upto, by_above, same_trans}
 

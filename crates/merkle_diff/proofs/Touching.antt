@@ -6,8 +6,8 @@ use Rattle.std.specs.declared.cmp.Ordering.{Ordering}
 use Rattle.key_order.specs.Interval.{Span, IsOrdered, Meets, IsApart, meets}
 use Rattle.key_order.specs.Order.{Upto, Below, below}
 use Rattle.merkle_diff.specs.Cut.{piece, cut_one}
-use Rattle.merkle_diff.specs.Merge.{IsAscendingByStart}
 use Rattle.key_order.proofs.Orders.{up_up, low_is_up, up_self}
+use Rattle.merkle_diff.proofs.Ascents.{IsAscendingByStart}
 use Rattle.merkle_diff.proofs.Cuts.{each-piece}
 use Rattle.merkle_diff.proofs.Each.{each-with, each-append}
 use Rattle.merkle_diff.proofs.OrderTests.{meets_by}

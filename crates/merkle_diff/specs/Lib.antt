@@ -6,6 +6,7 @@ pub mod SameEntries
 pub mod PageRange
 pub mod OwnedPageRange
 pub mod PageRangeSnapshot
+pub mod SliceIter
 pub mod DiffRange
 pub mod RangeList
 pub mod DiffListBuilder

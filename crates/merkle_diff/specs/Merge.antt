@@ -6,11 +6,6 @@ use Rattle.key_order.specs.Order.{AnyByRecursion, Upto, Below, Same, IsAscending
 use Rattle.key_order.specs.Interval.{Span, SameSpan}
 
 module _ {K : Type 0} (cmp : K → K → Ordering) where
-  -- no start is above a later one
-  abbrev pub IsAscendingByStart : List (Span K) → Type 0
-  IsAscendingByStart [] = ⊤
-  IsAscendingByStart (s ∷ ss) = AllByRecursion (λ t. Upto cmp s.first t.first) ss × IsAscendingByStart ss
-
   -- no span of the list has first < k <= last
   abbrev pub Opens : List (Span K) → K → Type 0
   Opens ss k = AllByRecursion (λ s. ¬ (Below cmp s.first k × Upto cmp k s.last)) ss

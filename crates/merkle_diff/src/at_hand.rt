@@ -9,10 +9,14 @@ use crate::diff_range::DiffRange;
 use crate::difference::diff;
 use crate::page_range::PageRange;
 use crate::page_range_snapshot::PageRangeSnapshot;
+use crate::slice_iter::SliceIter;
 use std::alloc::{AllocError, Global};
 
-/// The ranges of keys that `local` may ask of `peer`, as [`diff`](crate::diff) answers them. It is refused only where a range may be
-/// answered; else the answer is the empty list.
+/// The ranges of keys that `local` may ask of `peer`, two vectors, as [`diff`](crate::diff) answers them.
+///
+/// # Errors
+///
+/// Want of memory, and only where a range may be answered; else the answer is the empty list.
 pub fn diff_lists<'p, K: Ord>(
     alloc: Global,
     local: Vec<PageRange<'p, K>>,
@@ -25,8 +29,29 @@ pub fn diff_lists<'p, K: Ord>(
     diff(alloc, local, peer)
 }
 
-/// The ranges of keys that the side of the snapshot `local` may ask of that of `peer`, as [`diff`](crate::diff) answers them. It is
-/// refused only where a range may be answered; else the answer is the empty list.
+/// The ranges of keys that `local` may ask of `peer`, two slices, as [`diff`](crate::diff) answers them. It copies one page range after
+/// the other, and takes no memory for that.
+///
+/// # Errors
+///
+/// Want of memory, and only where a range may be answered; else the answer is the empty list.
+pub fn diff_slices<'p, K: Ord>(
+    alloc: Global,
+    local: &[PageRange<'p, K>],
+    peer: &[PageRange<'p, K>],
+) -> Result<Vec<DiffRange<'p, K>>, AllocError>
+    ensures answer { IfOk result (λ found. IsAnswer K.cmp (entries local.entry.now) (entries peer.entry.now) (spans found.items)) }
+    ensures memory { OnErr result (MayAsk K.cmp (entries local.entry.now) (entries peer.entry.now)) }
+    ensures nothing { ¬ (MayAsk K.cmp (entries local.entry.now) (entries peer.entry.now)) → IsOkAnd result (λ found. spans found.items ≡ []) }
+{
+    diff(alloc, SliceIter::new(local), SliceIter::new(peer))
+}
+
+/// The ranges of keys that the side of the snapshot `local` may ask of that of `peer`, as [`diff`](crate::diff) answers them.
+///
+/// # Errors
+///
+/// Want of memory, and only where a range may be answered; else the answer is the empty list.
 pub fn diff_snapshots<'p, K: Ord>(
     alloc: Global,
     local: &'p PageRangeSnapshot<K>,

@@ -32,7 +32,11 @@ impl<'a, K: Ord> DiffListBuilder<'a, K> {
         }
     }
 
-    /// Marks the range from `start` to `end` inconsistent. Where memory is refused, the builder stays as it was.
+    /// Marks the range from `start` to `end`, both in it, inconsistent.
+    ///
+    /// # Errors
+    ///
+    /// Want of memory, which leaves the builder as it was.
     pub fn inconsistent(&mut self, start: &'a K, end: &'a K) -> Result<(), AllocError>
         requires { Upto K.cmp start.now end.now }
         ensures ok { OnOk result (inconsistent_spans self.new ≡ inconsistent_spans self.old ++ record { first = start.now; last = end.now } ∷ []) }
@@ -42,7 +46,11 @@ impl<'a, K: Ord> DiffListBuilder<'a, K> {
         self.inconsistent.insert(start, end)
     }
 
-    /// Marks the range from `start` to `end` consistent. Where memory is refused, the builder stays as it was.
+    /// Marks the range from `start` to `end`, both in it, consistent.
+    ///
+    /// # Errors
+    ///
+    /// Want of memory, which leaves the builder as it was.
     pub fn consistent(&mut self, start: &'a K, end: &'a K) -> Result<(), AllocError>
         requires { Upto K.cmp start.now end.now }
         ensures ok { OnOk result (consistent_spans self.new ≡ consistent_spans self.old ++ record { first = start.now; last = end.now } ∷ []) }
@@ -53,7 +61,11 @@ impl<'a, K: Ord> DiffListBuilder<'a, K> {
     }
 
     /// The ranges to ask for: the merge of the consistent ranges cut out of the merge of the inconsistent ones. They ascend, and no
-    /// two meet. Memory is taken only where ranges of both kinds were marked. Where it is refused, the builder is given up.
+    /// two meet. It takes a sort of both kinds, and one pass over them.
+    ///
+    /// # Errors
+    ///
+    /// Want of memory, with which the builder is given up. It is taken only where ranges of both kinds were marked.
     pub fn into_diff_vec(self) -> Result<Vec<DiffRange<'a, K>>, AllocError>
         ensures cut { IfOk result (λ found. IsDiffList K.cmp (inconsistent_spans self.entry) (consistent_spans self.entry) (spans found.items)) }
         ensures memory { OnErr result ((inconsistent_spans self.entry ≢ []) × (consistent_spans self.entry ≢ [])) }

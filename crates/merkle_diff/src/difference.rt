@@ -16,11 +16,33 @@ use crate::reduce::cut_apart;
 use crate::walk::{may_answer, walked};
 use std::alloc::{AllocError, Global};
 
-/// The ranges of keys that `local` may ask of `peer`, so that its keys become the peer's too. Both are taken to their end, unless
-/// memory is refused.
+/// The ranges of keys that `local` may ask of `peer`, so that its keys become the peer's too: ascending, each with its least and its
+/// greatest key, no two of which meet. The page ranges may be any, nested, equal, crossing or unordered.
 ///
-/// The page ranges may be any, nested, equal, crossing or unordered. No memory is taken where the peer has no page range, or
-/// where its first begins and ends behind local's first, or is within it and not equal to it: then there is nothing to ask for.
+/// ```rust
+/// let local = [
+///     PageRange::new(&1, &4, digest(1)),
+///     PageRange::new(&1, &2, digest(2)),
+///     PageRange::new(&4, &4, digest(3)),
+/// ];
+/// let peer = [
+///     PageRange::new(&1, &5, digest(4)),
+///     PageRange::new(&1, &2, digest(2)),
+///     PageRange::new(&5, &5, digest(5)),
+/// ];
+/// let found = diff(alloc, local, peer)?;
+/// assert_eq!(rt; (*found[0].start(), *found[0].end()), (2, 5));
+/// ```
+///
+/// Both are taken to their end, unless memory is refused. It takes one walk over both, and a sort of the ranges that the walk marks,
+/// at most one for each page range of the peer. Memory is taken for these and for the page ranges of the peer that are open, at most as
+/// many as are nested. [`diff_lists`](crate::diff_lists), [`diff_slices`](crate::diff_slices) and
+/// [`diff_snapshots`](crate::diff_snapshots) say what is promised of lists that the caller has at hand.
+///
+/// # Errors
+///
+/// Want of memory. None is taken where the peer has no page range, or where its first begins and ends behind local's first, or is
+/// within it and not equal to it: then there is nothing to ask for.
 pub fn diff<'p, T, U, K>(
     alloc: Global,
     local: T,

@@ -22,11 +22,12 @@ mod page_range;
 mod page_range_snapshot;
 mod range_list;
 mod reduce;
+mod slice_iter;
 #[cfg(test)]
 mod tests;
 mod walk;
 
-pub use at_hand::{diff_lists, diff_snapshots};
+pub use at_hand::{diff_lists, diff_slices, diff_snapshots};
 pub use diff_range::DiffRange;
 pub use difference::diff;
 pub use owned_page_range::OwnedPageRange;

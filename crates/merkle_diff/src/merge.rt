@@ -1,8 +1,8 @@
 //! Ranges that meet become one.
-ghost use Rattle.std.specs.Prelude.{◌≡◌, ◌≤◌, ◌↔◌, length, take, IsPermutation};
+ghost use Rattle.std.specs.Prelude.{◌≡◌, ◌≤◌, ◌↔◌, length, take, IsPermutation, IsSortedByKey};
 ghost use Rattle.key_order.specs.Interval.{IsApart, IsCovered};
-ghost use Rattle.merkle_diff.specs.DiffRange.{spans};
-ghost use Rattle.merkle_diff.specs.Merge.{IsMerge, IsAscendingByStart};
+ghost use Rattle.merkle_diff.specs.DiffRange.{span, spans};
+ghost use Rattle.merkle_diff.specs.Merge.{IsMerge};
 ghost use Rattle.merkle_diff.specs.Sweep.{swept};
 
 use crate::diff_range::DiffRange;
@@ -32,10 +32,12 @@ fn merge_to_front<'a, K: Ord>(ranges: &mut [DiffRange<'a, K>]) -> usize
     kept + 1
 }
 
-/// Merges ranges that ascend by their starts, as [`sort_by_start`] leaves them, in place: those that meet become one. So the same keys
-/// are in the ranges, and no two of them meet. It takes no memory.
+/// Merges ranges that ascend by their starts, in place: those that meet become one. So the same keys are in the ranges, and no two of
+/// them meet. It takes one pass over the ranges, and no memory.
+///
+/// Its condition is what [`sort_by_start`] ensures: std's own word for what a sort by key leaves.
 pub fn merge_overlapping<'a, K: Ord>(ranges: &mut Vec<DiffRange<'a, K>>)
-    requires { IsAscendingByStart K.cmp (spans ranges.old.items) }
+    requires { IsSortedByKey (λ r. (span r).first) K.cmp ranges.old.items }
     ensures merged { IsMerge K.cmp (spans ranges.old.items) (spans ranges.new.items) }
     ensures same_keys { (k : K) → IsCovered K.cmp k (spans ranges.old.items) ↔ IsCovered K.cmp k (spans ranges.new.items) }
     ensures apart { IsApart K.cmp (spans ranges.new.items) }
@@ -44,10 +46,10 @@ pub fn merge_overlapping<'a, K: Ord>(ranges: &mut Vec<DiffRange<'a, K>>)
     ranges.truncate(kept);
 }
 
-/// Sorts the ranges by their starts, in place. It takes no memory.
+/// Sorts the ranges by their starts, in place, in time n log n for n ranges. It takes no memory.
 pub fn sort_by_start<'a, K: Ord>(ranges: &mut Vec<DiffRange<'a, K>>)
     ensures same { IsPermutation ranges.old.items ranges.new.items }
-    ensures sorted { IsAscendingByStart K.cmp (spans ranges.new.items) }
+    ensures sorted { IsSortedByKey (λ r. (span r).first) K.cmp ranges.new.items }
 {
     ranges.sort_unstable_by_key(|range| range.start);
 }

@@ -83,9 +83,11 @@ impl<K: Ord + Clone> OwnedPageRange<K> {
     ghost use Rattle.merkle_diff.specs.PageRange.{entry};
     ghost use Rattle.merkle_diff.specs.SameEntries.{SameEntry};
 
-    /// The range with clones of its keys. The answer is `AllocError` where the clone of a key is refused, and only there.
+    /// The range with clones of its keys. The allocator is not used: a key is cloned on its own.
     ///
-    /// The allocator is not used: a key is cloned on its own.
+    /// # Errors
+    ///
+    /// `AllocError` where the clone of a key is refused, and only there.
     pub fn from_range(
         _alloc: Global,
         range: PageRange<'_, K>,
@@ -103,9 +105,11 @@ impl<K: Ord + Clone> OwnedPageRange<K> {
         })
     }
 
-    /// An equal range, with clones of the keys. The answer is `AllocError` where the clone of a key is refused, and only there.
+    /// An equal range, with clones of the keys. The allocator is not used: a key is cloned on its own.
     ///
-    /// The allocator is not used: a key is cloned on its own.
+    /// # Errors
+    ///
+    /// `AllocError` where the clone of a key is refused, and only there.
     pub fn try_clone(&self, alloc: Global) -> Result<OwnedPageRange<K>, AllocError>
         requires clones { (a b : K) → K.is_clone a b → Same K.cmp a b }
         ensures same { IfOk result (λ copy. SameEntry K.cmp (owned_entry self.now) (owned_entry copy)) }

@@ -23,6 +23,13 @@ use std::iter::FusedIterator;
 /// The page ranges of a tree at one point in time, with keys of their own: the tree can change while a snapshot of it is kept,
 /// sent to a peer, or compared with another by [`diff_snapshots`](crate::diff_snapshots).
 ///
+/// ```rust
+/// let snapshot = PageRangeSnapshot::from_owned(alloc, ranges)?;
+/// let copy = snapshot.try_clone()?;
+/// assert!(rt; copy == snapshot);
+/// assert!(rt; diff_snapshots(alloc, &copy, &snapshot)?.is_empty());
+/// ```
+///
 /// It keeps the allocator that it was made with.
 #[derive(Drop)]
 pub struct PageRangeSnapshot<K: Ord> {
@@ -31,7 +38,7 @@ pub struct PageRangeSnapshot<K: Ord> {
 }
 
 impl<K: Ord> PageRangeSnapshot<K> {
-    /// The snapshot of `ranges`, in their order. It moves the keys and takes over the vector, so it never fails and takes no memory.
+    /// The snapshot of `ranges`, in their order. It takes over the vector with its keys, so it always succeeds and takes no memory.
     pub fn from_owned(
         alloc: Global,
         ranges: Vec<OwnedPageRange<K>>,
@@ -50,8 +57,12 @@ impl<K: Ord> PageRangeSnapshot<K> {
 }
 
 impl<K: Ord + Drop> PageRangeSnapshot<K> {
-    /// The snapshot of the ranges that `iter` gives, in their order. The iterator has to end, and is taken to its end unless
-    /// memory is refused: then the answer is `AllocError`. The keys are moved.
+    /// The snapshot of the ranges that `iter` gives, in their order. The keys are moved. The iterator has to end, and is taken to its
+    /// end unless memory is refused.
+    ///
+    /// # Errors
+    ///
+    /// Want of memory, with which the ranges are given up.
     pub fn collect_owned<T>(alloc: Global, iter: T) -> Result<PageRangeSnapshot<K>, AllocError>
     where
         T: IntoIterator<Item = OwnedPageRange<K>>,
@@ -67,7 +78,11 @@ impl<K: Ord + Drop> PageRangeSnapshot<K> {
 }
 
 impl<K: Ord + Clone> PageRangeSnapshot<K> {
-    /// The snapshot of `ranges`, in their order, with clones of the keys. The answer is `AllocError` where memory is refused.
+    /// The snapshot of `ranges`, in their order, with clones of the keys.
+    ///
+    /// # Errors
+    ///
+    /// Want of memory, for the snapshot or for the clone of a key.
     pub fn from_ranges(
         alloc: Global,
         ranges: Vec<PageRange<'_, K>>,
@@ -79,7 +94,11 @@ impl<K: Ord + Clone> PageRangeSnapshot<K> {
     }
 
     /// The snapshot of the ranges that `iter` gives, in their order, with clones of the keys. The iterator has to end, and is
-    /// taken to its end unless memory is refused: then the answer is `AllocError`.
+    /// taken to its end unless memory is refused.
+    ///
+    /// # Errors
+    ///
+    /// Want of memory, for the snapshot or for the clone of a key.
     pub fn collect_ranges<'a, T>(alloc: Global, iter: T) -> Result<PageRangeSnapshot<K>, AllocError>
     where
         K: 'a,
@@ -97,7 +116,11 @@ impl<K: Ord + Clone> PageRangeSnapshot<K> {
         PageRangeSnapshot::from_owned(alloc, ranges)
     }
 
-    /// An equal snapshot, with clones of the keys. The answer is `AllocError` where memory is refused.
+    /// An equal snapshot, with clones of the keys.
+    ///
+    /// # Errors
+    ///
+    /// Want of memory, for the snapshot or for the clone of a key. This snapshot stays.
     pub fn try_clone(&self) -> Result<PageRangeSnapshot<K>, AllocError>
         requires clones { (a b : K) → K.is_clone a b → Same K.cmp a b }
         ensures same { IfOk result (λ copy. SameEntries K.cmp (snapshot_entries self.now) (snapshot_entries copy)) }

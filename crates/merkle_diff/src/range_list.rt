@@ -8,6 +8,16 @@ use crate::merge::merged;
 use std::alloc::{AllocError, Global};
 
 /// Ranges in any order, which become one list of ranges that don't meet.
+///
+/// ```rust
+/// let mut list = RangeList::new(alloc);
+/// list.insert(&12, &15)?;
+/// list.insert(&2, &8)?;
+/// list.insert(&7, &9)?;
+/// let merged = list.into_vec()?;
+/// assert_eq!(rt; (*merged[0].start(), *merged[0].end()), (2, 9));
+/// assert_eq!(rt; (*merged[1].start(), *merged[1].end()), (12, 15));
+/// ```
 #[derive(Drop)]
 pub struct RangeList<'a, K: Ord> {
     ranges: Vec<DiffRange<'a, K>>,
@@ -27,7 +37,11 @@ impl<'a, K: Ord> RangeList<'a, K> {
         }
     }
 
-    /// Inserts the range from `start` to `end`. Where memory is refused, the list stays as it was.
+    /// Inserts the range from `start` to `end`, both in it.
+    ///
+    /// # Errors
+    ///
+    /// Want of memory, which leaves the list as it was.
     pub fn insert(&mut self, start: &'a K, end: &'a K) -> Result<(), AllocError>
         requires { Upto K.cmp start.now end.now }
         ensures ok { OnOk result (inserted self.new ≡ inserted self.old ++ record { first = start.now; last = end.now } ∷ []) }
@@ -38,7 +52,7 @@ impl<'a, K: Ord> RangeList<'a, K> {
     }
 
     /// The merge of the ranges: ascending, those that meet as one, so that the same keys are in it, and no two of its ranges meet. It takes
-    /// no memory, and always succeeds.
+    /// a sort, and one pass over the ranges. It takes no memory, and always succeeds.
     pub fn into_vec(self) -> Result<Vec<DiffRange<'a, K>>, AllocError>
         ensures merged { IsOkAnd result (λ ranges. IsMerge K.cmp (inserted self.entry) (spans ranges.items)) }
         ensures same_keys { IsOkAnd result (λ ranges. (k : K) → IsCovered K.cmp k (inserted self.entry) ↔ IsCovered K.cmp k (spans ranges.items)) }

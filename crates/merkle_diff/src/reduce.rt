@@ -120,8 +120,11 @@ pub fn cut_apart<'a, K: Ord>(
 /// Cuts the good ranges, which may be in any order and meet, out of the bad ones, which ascend and no two of which meet.
 ///
 /// Of a bad range that a good one meets, what lies before and what lies behind the good one stay, with its bounds; in the answer,
-/// ranges that meet are one. The good ranges are sorted and merged, and then one pass over both lists is made. Memory is taken
-/// only where both lists have a range. Where it is refused, both lists are given up.
+/// ranges that meet are one. The good ranges are sorted and merged, and then one pass over both lists is made.
+///
+/// # Errors
+///
+/// Want of memory, with which both lists are given up. It is taken only where both lists have a range.
 pub fn reduce_sync_range<'a, K: Ord>(
     alloc: Global,
     bad: Vec<DiffRange<'a, K>>,

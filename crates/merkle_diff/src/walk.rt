@@ -1,6 +1,6 @@
 //! The walk over a peer's and a local list of page ranges, which marks ranges bad and good: a loop over the open ranges, the
 //! innermost last.
-ghost use Rattle.std.specs.Prelude.{◌≡◌, ◌↔◌, ◌≤◌, ◌<◌, ◌+◌, ◌∷◌, [], ◌++◌, if◌then◌else◌, IfSome, OnOk, IfOk, MatchOption, ◌*◌, vec_len, Some, None, IsTrue, IsSome, List};
+ghost use Rattle.std.specs.Prelude.{◌≡◌, ◌↔◌, ◌≤◌, ◌<◌, ◌∷◌, [], if◌then◌else◌, OnOk, IfOk, MatchOption, IsTrue};
 ghost use Rattle.key_order.specs.Interval.{is_within, Span};
 ghost use Rattle.merkle_diff.specs.Entry.{span_of};
 ghost use Rattle.merkle_diff.specs.DiffRange.{spans, span};

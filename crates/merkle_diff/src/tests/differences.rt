@@ -1,7 +1,7 @@
 //! `diff`, by answers that were worked out by hand and by those of the Rust crate.
 use super::rust_answers::RUST_ANSWERS;
-use super::texts::{Bounds, Row, difference, ranges, rows};
-use crate::{PageRange, diff};
+use super::texts::{Bounds, Row, bounds_of, difference, page_ranges, ranges, rows};
+use crate::{PageRange, diff, diff_slices};
 use merkle_digest::PageDigest;
 use std::alloc::{AllocError, Global};
 use std::process::Abort;
@@ -24,6 +24,14 @@ const WORKED_ANSWERS: &str = "\
 0-10:7 5-6:2 3-4:4 | 0-10:1 5-6:2 8-9:3 | 0-5 6-10
 ";
 
+/// What `diff_slices` answers.
+fn sliced(alloc: Global, local: &[Row], peer: &[Row]) -> Result<Vec<Bounds>, AllocError> {
+    let local = page_ranges(alloc, local)?;
+    let peer = page_ranges(alloc, peer)?;
+    let found = diff_slices(alloc, &local, &peer)?;
+    bounds_of(alloc, &found)
+}
+
 fn answers_as_told(rt: &impl Abort, alloc: Global, text: &str) -> Result<(), Fail> {
     for line in text.lines() {
         let (local, rest) = line.split_once('|').ok_or("no peer")?;
@@ -33,6 +41,8 @@ fn answers_as_told(rt: &impl Abort, alloc: Global, text: &str) -> Result<(), Fai
         let answer = ranges(alloc, answer)?;
         let found = difference(alloc, &local, &peer)?;
         assert_eq!(rt; found.as_slice(), answer.as_slice(), "at {line}");
+        let found = sliced(alloc, &local, &peer)?;
+        assert_eq!(rt; found.as_slice(), answer.as_slice(), "of slices, at {line}");
     }
     Ok(())
 }
@@ -146,6 +156,8 @@ fn nothing_to_ask_for_takes_no_memory(rt: HostRuntime) -> Result<(), Fail> {
         (page(&2, &8), page(&3, &7)),
         (page(&2, &8), page(&2, &7)),
     ] {
+        let found = diff_slices(rt.alloc(), local.as_slice(), peer.as_slice())?;
+        assert!(rt; found.is_empty());
         assert!(rt; diff(rt.alloc(), local, peer)?.is_empty());
     }
     Ok(())

@@ -1,7 +1,8 @@
 use Rattle.std.proofs.Common.{◌≡◌, ◌≤◌, length, drop, subst, sym, ap, ◌∙◌, arith}
 use Rattle.merkle_diff.specs.Merge.{IsMerge}
-use Rattle.merkle_diff.specs.DiffRange.{spans}
+use Rattle.merkle_diff.specs.DiffRange.{span, spans}
 use Rattle.merkle_diff.specs.Sweep.{swept}
+use Rattle.merkle_diff.proofs.Ascents.{ascends-by_start}
 use Rattle.merkle_diff.proofs.Merged.{merge-to, merge-from, merge-is_apart}
 use Rattle.merkle_diff.proofs.Merges.{swept-merge}
 use Rattle.merkle_diff.proofs.Ranges.{spans-ordered}
@@ -13,7 +14,7 @@ returns-clause-merged g c =
     let new = c.merge_to_front-kept.new.ranges in
     let kept = c.merge_to_front-kept.result in
     let items = c.args.ranges.now.items in
-    let m = swept-merge g.K.Ord.cmp g.met.K.Ord.total (spans items) c.requires (spans-ordered items) in
+    let m = swept-merge g.K.Ord.cmp g.met.K.Ord.total (spans items) (ascends-by_start g.K.Ord.cmp g.met.K.Ord.total span items c.requires) (spans-ordered items) in
     let short : kept ≤ length new = omega arith in
     let long : length new ≡ c.args.ranges.now.len = omega arith in
     let e = c.truncate.ensures.items ∙ take-filled kept c.args.ranges.now.len new (drop (length new) items) short long in
