@@ -3,7 +3,7 @@ use Rattle.std.proofs.Common.{List, OnOk, Result, Ok, Err, sym, ap}
 use Rattle.std.specs.List.{AllByRecursion}
 use Rattle.merkle_replica.specs.Laws.{Laws}
 use Rattle.merkle_replica.specs.Contents.{Contents, Side, SameSetup, side}
-use Rattle.merkle_replica.specs.Faithful.{AreAlike}
+use Rattle.merkle_replica.specs.Faithful.{AreSetAlike}
 use Rattle.merkle_replica.specs.Pulls.{Answer, IsByTurns}
 use Rattle.examples.specs.Sync.{IsSync}
 
@@ -25,5 +25,5 @@ module _ {K V H : Type 0} (laws : Laws K V H) where
   }
 
   -- replicas of one setup are alike
-  pub alike : (a b : Contents K V H) → SameSetup a b → AreAlike laws (side a) (side b)
+  pub alike : (a b : Contents K V H) → SameSetup a b → AreSetAlike laws (side a) (side b)
   alike a b s = record { keys = λ k. ap (λ h. laws.key_digest h k) (sym s.0); base = sym s.1; format = sym s.2 }

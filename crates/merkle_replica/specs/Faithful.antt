@@ -48,7 +48,7 @@ module _ {K V H : Type 0} (laws : Laws K V H) where
       (k : K) (d : List ℕ) → get laws.cmp (tree_map laws peer) k ≡ Some d → ¬ (get laws.cmp (tree_map laws local) k ≡ Some d) → IsCovered laws.cmp k found
 
   -- the sides give each key one digest, and have one level base and one page format
-  pub record AreAlike (a b : Side K V H) : Type 0 where
+  pub record AreSetAlike (a b : Side K V H) : Type 0 where
     pub keys : (k : K) → laws.key_digest a.hasher k ≡ laws.key_digest b.hasher k
     pub base : a.base ≡ b.base
     pub format : a.format ≡ b.format

@@ -7,7 +7,7 @@ ghost use Rattle.key_order.specs.Join.{IsJoin};
 ghost use Rattle.merkle_diff.specs.Entry.{Entry};
 ghost use Rattle.merkle_search_tree.specs.declared.builder.PageFormat.TheVariants.{V2};
 ghost use Rattle.merkle_replica.specs.Contents.{Side, side};
-ghost use Rattle.merkle_replica.specs.Faithful.{SpanHolds, IsFaithful, AllFaithful, MissesNone, AreAlike, HasSmallMap, NoStreamsCollide, IsCollisionFree, AllCollisionFree};
+ghost use Rattle.merkle_replica.specs.Faithful.{SpanHolds, IsFaithful, AllFaithful, MissesNone, AreSetAlike, HasSmallMap, NoStreamsCollide, IsCollisionFree, AllCollisionFree};
 ghost use Rattle.merkle_replica.specs.Pulls.{Answer, IsAnswerFor, IsPull, IsByTurns, HoldTheJoin, HasRanges};
 ghost use Rattle.merkle_replica.specs.Steps.{IsAnswerTo};
 
@@ -28,22 +28,22 @@ pub fn no_collision_is_enough<
 >()
     // Two sides without collision have faithful digests.
     ensures faithful { let laws = ⟦<H as Lawful<N, K, V>>⟧.laws in (a b : Side K V H)
-        → AreAlike laws a b → a.format ≡ V2 → IsCollisionFree laws N a b → IsFaithful laws a b }
+        → AreSetAlike laws a b → a.format ≡ V2 → IsCollisionFree laws N a b → IsFaithful laws a b }
 
     // So have all that pulls by turns meet.
     ensures all_faithful { let laws = ⟦<H as Lawful<N, K, V>>⟧.laws in (answers : List (Answer K)) (a b : Side K V H) (a' b' : List (K × V)) (met : List (Side K V H × Side K V H))
-        → AreAlike laws a b → a.format ≡ V2 → IsByTurns laws answers a b a' b' met
+        → AreSetAlike laws a b → a.format ≡ V2 → IsByTurns laws answers a b a' b' met
         → AllCollisionFree laws N met → AllFaithful laws met }
 
     // Coverage: where no streams collide and the peer's keys span the local ones, the ranges to ask the peer for miss no key.
     ensures covers { let laws = ⟦<H as Lawful<N, K, V>>⟧.laws in (local peer : Side K V H) (found : List (Span K))
-        → AreAlike laws local peer → local.format ≡ V2 → IsMap K.cmp local.rows → IsMap K.cmp peer.rows → IsAnswerFor laws local peer found
+        → AreSetAlike laws local peer → local.format ≡ V2 → IsMap K.cmp local.rows → IsMap K.cmp peer.rows → IsAnswerFor laws local peer found
         → HasSmallMap laws N local → HasSmallMap laws N peer → NoStreamsCollide laws local peer
         → SpanHolds K.cmp peer.rows local.rows → MissesNone laws local peer found }
 
     // Convergence: four pulls by turns or more, without collision in the sides met, leave both with the join of their maps.
     ensures converges { let laws = ⟦<H as Lawful<N, K, V>>⟧.laws in (answers : List (Answer K)) (a b : Side K V H) (a' b' : List (K × V)) (met : List (Side K V H × Side K V H))
-        → AreAlike laws a b → a.format ≡ V2 → IsMap K.cmp a.rows → IsMap K.cmp b.rows → IsByTurns laws answers a b a' b' met
+        → AreSetAlike laws a b → a.format ≡ V2 → IsMap K.cmp a.rows → IsMap K.cmp b.rows → IsByTurns laws answers a b a' b' met
         → AllCollisionFree laws N met → 4 ≤ length answers → HoldTheJoin laws a b a' b' }
 {
     exact_keys_make_pages_faithful::<K, H, N>();
