@@ -10,18 +10,10 @@ use Rattle.std.specs.declared.cmp.Ordering.TheVariants.{Less, Greater}
 use Rattle.std.proofs.lemmas.Cmp.{tied_itself}
 use Rattle.key_order.specs.Map.{set, del, has_key, entry, IsPresent}
 use Rattle.key_order.proofs.Dels.{entry-there, entry-absent}
-use Rattle.mst_c.specs.Trees.{bytes_cmp}
+use Rattle.mst_c.specs.Trees.{bytes_cmp, by_bytes, key_cmp}
 
 abbrev pub Row : Type 0
 Row = Vec ℕ × List ℕ
-
--- keys in the order of their bytes
-abbrev pub key_cmp : Vec ℕ → Vec ℕ → Ordering
-key_cmp a b = bytes_cmp a.items b.items
-
--- a row by the bytes of its key
-abbrev pub by_bytes : Row → List ℕ × List ℕ
-by_bytes r = (r.0.items, r.1)
 
 map_choice : (o : Ordering) (a b c : List Row) → map by_bytes (match_ordering o a b c) ≡ match_ordering o (map by_bytes a) (map by_bytes b) (map by_bytes c)
 map_choice Less a b c = refl

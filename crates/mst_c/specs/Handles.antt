@@ -1,5 +1,5 @@
 -- What the calls do to the tree of a handle.
-use Rattle.std.specs.Prelude.{Option, None, Some}
+use Rattle.std.specs.Prelude.{◌≡◌, ℕ, ◌<◌, ◌≤◌, List, take, length, Option, None, Some}
 use Rattle.mst_c.specs.Trees.{ByteState}
 use Rattle.mst_c.specs.declared.byte_tree.ByteTree.{ByteTree}
 
@@ -13,3 +13,11 @@ abbrev pub Changes : Option ByteTree → Option ByteTree → (ByteState → Byte
 Changes None new R = ⊥
 Changes (Some s) None R = ⊥
 Changes (Some s) (Some t) R = R s.tree t.tree
+
+-- of the first bytes of out, as many as needed, this holds
+abbrev pub IsWritten : List ℕ → ℕ → (List ℕ → Type 0) → Type 0
+IsWritten out needed P = (needed ≤ length out) × P (take needed out)
+
+-- there are such bytes, as many as needed, and out is shorter
+abbrev pub IsShort : List ℕ → ℕ → (List ℕ → Type 0) → Type 0
+IsShort out needed P = (length out < needed) × ((bytes : List ℕ) × P bytes × (needed ≡ length bytes))

@@ -22,15 +22,28 @@ bytes_of key = key.items
 abbrev pub bytes_cmp : List ℕ → List ℕ → Ordering
 bytes_cmp = slice_cmp nat_cmp
 
+-- keys in the order of their bytes
+abbrev pub key_cmp : Vec ℕ → Vec ℕ → Ordering
+key_cmp a b = bytes_cmp a.items b.items
+
+-- a row by the bytes of its key
+abbrev pub by_bytes : Vec ℕ × List ℕ → List ℕ × List ℕ
+by_bytes r = (r.0.items, r.1)
+
 -- the map of a tree: its keys in order, each with the digest of its value
 abbrev pub rows_of : ByteState → List (List ℕ × List ℕ)
-rows_of s = map (λ r. (r.0.items, r.1)) (map_of s)
+rows_of s = map by_bytes (map_of s)
 
 -- the hasher, the level base and the page format stay
 pub record SameSettings (old new : ByteState) : Type 0 where
   pub hasher : new.hasher ≡ old.hasher
   pub base : new.base ≡ old.base
   pub format : new.format ≡ old.format
+
+-- the map and the settings stay
+pub record SameRows (old new : ByteState) : Type 0 where
+  pub rows : rows_of new ≡ rows_of old
+  pub settings : SameSettings old new
 
 -- the map has the key with the digest of the value
 pub record IsSet (key value : List ℕ) (old new : ByteState) : Type 0 where

@@ -5,7 +5,7 @@ ghost use Rattle.merkle_search_tree.specs.State.{IsNew};
 ghost use Rattle.merkle_search_tree.specs.Stream.{page_digest};
 ghost use Rattle.merkle_search_tree.specs.Ranges.{ranges_of};
 ghost use Rattle.mst_c.specs.Wire.{page_ranges_bytes};
-ghost use Rattle.mst_c.specs.Trees.{bytes_of, rows_of, IsSet, IsDel, IsCopied, SameSettings};
+ghost use Rattle.mst_c.specs.Trees.{bytes_of, rows_of, SameRows, SameSettings, IsSet, IsDel, IsCopied};
 
 use crate::byte_hasher::ByteHasher;
 use crate::wire::{WireError, decode_rows, encode};
@@ -105,7 +105,7 @@ impl ByteTree {
     /// The ranges of all pages, as bytes.
     pub fn page_ranges(&mut self, alloc: Global) -> Result<Vec<u8>, AllocError>
         ensures ranges { IfOk result (λ out. out.items ≡ page_ranges_bytes (ranges_of self.new.tree.format bytes_of self.new.tree.root)) }
-        ensures rows { rows_of self.new.tree ≡ rows_of self.old.tree }
+        ensures kept { SameRows self.old.tree self.new.tree }
     {
         let _ = self.root_hash();
         match self.tree.serialise_page_ranges()? {
@@ -128,7 +128,7 @@ impl ByteTree {
     /// The digest of the root page.
     pub fn root_hash(&mut self) -> [u8; 16]
         ensures digest { result ≡ page_digest self.old.tree.format bytes_of self.old.tree.root }
-        ensures rows { rows_of self.new.tree ≡ rows_of self.old.tree }
+        ensures kept { SameRows self.old.tree self.new.tree }
         ensures hashed { self.new.tree.root_hash ≢ None }
     {
         let (digest, _) = self.tree.root_hash_counted();

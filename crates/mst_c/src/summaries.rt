@@ -1,10 +1,10 @@
 //! Calls that answer what a tree holds as digests, and compare two such answers.
-ghost use Rattle.std.specs.Prelude.{◌≡◌, ◌≢◌, None, IfSome, IfOk, IfErr, take, length};
+ghost use Rattle.std.specs.Prelude.{◌≡◌, ◌≢◌, ◌<◌, ◌≤◌, ◌↔◌, ◌⊎◌, None, Err, IfSome, IfOk, IfErr, take, length};
 ghost use Rattle.merkle_search_tree.specs.Stream.{page_digest};
 ghost use Rattle.merkle_search_tree.specs.Ranges.{ranges_of};
+ghost use Rattle.mst_c.specs.Handles.{Holds, Changes, IsWritten, IsShort};
 ghost use Rattle.mst_c.specs.Wire.{page_ranges_bytes};
-ghost use Rattle.mst_c.specs.Handles.{Holds, Changes};
-ghost use Rattle.mst_c.specs.Trees.{bytes_of, rows_of};
+ghost use Rattle.mst_c.specs.Trees.{bytes_of, SameRows};
 
 use crate::bytes16::MstBytes16;
 use crate::handle::MstTree;
@@ -23,8 +23,11 @@ pub extern "C" fn mst_proved_tree_root_hash(
     digest: &mut MstBytes16,
 ) -> u32
     ensures digest { result ≡ 0 → Holds handle.old.tree (λ s. digest.new.bytes ≡ page_digest s.format bytes_of s.root) }
-    ensures rows { result ≡ 0 → Changes handle.old.tree handle.new.tree (λ s t. rows_of t ≡ rows_of s) }
+    ensures kept { result ≡ 0 → Changes handle.old.tree handle.new.tree SameRows }
     ensures unchanged { result ≢ 0 → handle.new.tree ≡ handle.old.tree }
+    ensures refused { result ≢ 0 → digest.new.bytes ≡ digest.old.bytes }
+    ensures argument { (result ≡ 4) ↔ (handle.old.tree ≡ None) }
+    ensures status { (result ≡ 0) ⊎ (result ≡ 4) }
 {
     match mem::replace_with(handle, alloc, root_hash) {
         Some(bytes) => {
@@ -37,8 +40,9 @@ pub extern "C" fn mst_proved_tree_root_hash(
 
 fn root_hash(handle: MstTree, alloc: Global) -> (MstTree, Option<[u8; 16]>)
     ensures digest { IfSome result.1 (λ bytes. Holds handle.tree (λ s. bytes ≡ page_digest s.format bytes_of s.root)) }
-    ensures rows { IfSome result.1 (λ bytes. Changes handle.tree result.0.tree (λ s t. rows_of t ≡ rows_of s)) }
+    ensures kept { IfSome result.1 (λ bytes. Changes handle.tree result.0.tree SameRows) }
     ensures unchanged { result.1 ≡ None → result.0.tree ≡ handle.tree }
+    ensures argument { (result.1 ≡ None) ↔ (handle.tree ≡ None) }
 {
     let Some(mut held) = handle.into_box() else {
         return (MstTree::empty(alloc), None);
@@ -49,9 +53,11 @@ fn root_hash(handle: MstTree, alloc: Global) -> (MstTree, Option<[u8; 16]>)
 
 /// Puts bytes at the front of `out`, and their count at `needed`: `DONE`, or `SHORT` where `out` is too short, and is as before then.
 fn put_bytes(bytes: &[u8], out: &mut [u8], needed: &mut usize) -> u32
-    ensures done { result ≡ 0 → take (length bytes.now) out.new ≡ bytes.now }
+    ensures done { result ≡ 0 → (length bytes.now ≤ length out.new) × (take (length bytes.now) out.new ≡ bytes.now) }
     ensures needed { needed.new ≡ length bytes.now }
-    ensures short { result ≢ 0 → out.new ≡ out.old }
+    ensures short { (result ≡ 3) ↔ (length out.old < length bytes.now) }
+    ensures unchanged { result ≢ 0 → out.new ≡ out.old }
+    ensures status { (result ≡ 0) ⊎ (result ≡ 3) }
 {
     *needed = bytes.len();
     if out.len() < bytes.len() {
@@ -72,7 +78,12 @@ pub extern "C" fn mst_proved_tree_page_ranges(
     out: &mut [u8],
     needed: &mut usize,
 ) -> u32
-    ensures done { result ≡ 0 → Holds handle.new.tree (λ s. take needed.new out.new ≡ page_ranges_bytes (ranges_of s.format bytes_of s.root)) }
+    ensures done { result ≡ 0 → Holds handle.new.tree (λ s. IsWritten out.new needed.new (λ bytes. bytes ≡ page_ranges_bytes (ranges_of s.format bytes_of s.root))) }
+    ensures short { result ≡ 3 → Holds handle.new.tree (λ s. IsShort out.old needed.new (λ bytes. bytes ≡ page_ranges_bytes (ranges_of s.format bytes_of s.root))) }
+    ensures kept { result ≢ 4 → Changes handle.old.tree handle.new.tree SameRows }
+    ensures unchanged { result ≢ 0 → out.new ≡ out.old }
+    ensures argument { (result ≡ 4) ↔ (handle.old.tree ≡ None) }
+    ensures status { (result ≡ 0) ⊎ (result ≡ 1) ⊎ (result ≡ 3) ⊎ (result ≡ 4) }
 {
     match mem::replace_with(handle, alloc, page_ranges) {
         Ok(bytes) => put_bytes(bytes.as_slice(), out, needed),
@@ -82,7 +93,9 @@ pub extern "C" fn mst_proved_tree_page_ranges(
 
 fn page_ranges(handle: MstTree, alloc: Global) -> (MstTree, Result<Vec<u8>, u32>)
     ensures ranges { IfOk result.1 (λ out. Holds result.0.tree (λ s. out.items ≡ page_ranges_bytes (ranges_of s.format bytes_of s.root))) }
-    ensures refused { IfErr result.1 (λ status. status ≢ 0) }
+    ensures kept { handle.tree ≢ None → Changes handle.tree result.0.tree SameRows }
+    ensures argument { (result.1 ≡ Err 4) ↔ (handle.tree ≡ None) }
+    ensures refused { IfErr result.1 (λ status. (status ≡ 1) ⊎ (status ≡ 4)) }
 {
     let Some(mut held) = handle.into_box() else {
         return (MstTree::empty(alloc), Err(ARGUMENT));
@@ -103,7 +116,11 @@ pub extern "C" fn mst_proved_diff(
     peer: &[u8],
     out: &mut [u8],
     needed: &mut usize,
-) -> u32 {
+) -> u32
+    ensures short { result ≡ 3 → length out.old < needed.new }
+    ensures unchanged { result ≢ 0 → out.new ≡ out.old }
+    ensures status { (result ≡ 0) ⊎ (result ≡ 1) ⊎ (result ≡ 2) ⊎ (result ≡ 3) }
+{
     match differences(alloc, local, peer) {
         Ok(bytes) => put_bytes(bytes.as_slice(), out, needed),
         Err(WireError::Memory) => MEMORY,

@@ -1,5 +1,5 @@
 //! Calls that make trees, copy them, let them go and count their keys.
-ghost use Rattle.std.specs.Prelude.{◌≡◌, ◌≢◌, None, IfOk, IfErr};
+ghost use Rattle.std.specs.Prelude.{◌≡◌, ◌≢◌, ◌↔◌, ◌⊎◌, None, Err, IfOk, IfErr};
 ghost use Rattle.std.specs.Int.NonZero.{non_zero_u8_get};
 ghost use Rattle.merkle_search_tree.specs.State.{IsNew};
 ghost use Rattle.merkle_search_tree.specs.declared.builder.PageFormat.TheVariants.{V1, V2};
@@ -28,8 +28,12 @@ pub extern "C" fn mst_proved_tree_new(
 ) -> u32
     ensures v1 { result ≡ 0 → page_format ≡ 1 → Holds handle.new.tree (IsNew key.now.bytes level_base V1) }
     ensures v2 { result ≡ 0 → page_format ≡ 2 → Holds handle.new.tree (IsNew key.now.bytes level_base V2) }
-    ensures empty { result ≡ 0 → handle.old.tree ≡ None }
+    ensures empty { result ≢ 4 → handle.old.tree ≡ None }
     ensures unchanged { result ≢ 0 → handle.new.tree ≡ handle.old.tree }
+    ensures base { result ≢ 4 → level_base ≢ 0 }
+    ensures format { result ≢ 4 → (page_format ≡ 1) ⊎ (page_format ≡ 2) }
+    ensures argument { result ≡ 4 → (handle.old.tree ≢ None) ⊎ (level_base ≡ 0) ⊎ ((page_format ≢ 1) × (page_format ≢ 2)) }
+    ensures status { (result ≡ 0) ⊎ (result ≡ 1) ⊎ (result ≡ 4) }
 {
     let Some(base) = NonZeroU8::new(level_base) else {
         return ARGUMENT;
@@ -60,8 +64,10 @@ pub extern "C" fn mst_proved_tree_new(
 /// Gives a handle that has no tree this one.
 fn put(handle: MstTree, asked: (Global, ByteTree)) -> (MstTree, u32)
     ensures done { result.1 ≡ 0 → Holds result.0.tree (λ s. s ≡ asked.1.tree) }
-    ensures empty { result.1 ≡ 0 → handle.tree ≡ None }
+    ensures empty { result.1 ≢ 4 → handle.tree ≡ None }
     ensures unchanged { result.1 ≢ 0 → result.0.tree ≡ handle.tree }
+    ensures argument { result.1 ≡ 4 → handle.tree ≢ None }
+    ensures status { (result.1 ≡ 0) ⊎ (result.1 ≡ 1) ⊎ (result.1 ≡ 4) }
 {
     let (alloc, tree) = asked;
     if let Some(held) = handle.into_box() {
@@ -86,6 +92,9 @@ pub extern "C" fn mst_proved_tree_clone(
     ensures original { handle.new.tree ≡ handle.old.tree }
     ensures empty { result ≡ 0 → copy.old.tree ≡ None }
     ensures unchanged { result ≢ 0 → copy.new.tree ≡ copy.old.tree }
+    ensures argument { result ≡ 4 → (handle.old.tree ≡ None) ⊎ (copy.old.tree ≢ None) }
+    ensures no_tree { handle.old.tree ≡ None → result ≡ 4 }
+    ensures status { (result ≡ 0) ⊎ (result ≡ 1) ⊎ (result ≡ 4) }
 {
     match mem::replace_with(handle, alloc, copy_of) {
         Ok(tree) => mem::replace_with(copy, (alloc, tree), put),
@@ -97,7 +106,8 @@ pub extern "C" fn mst_proved_tree_clone(
 fn copy_of(handle: MstTree, alloc: Global) -> (MstTree, Result<ByteTree, u32>)
     ensures copied { IfOk result.1 (λ copy. Holds handle.tree (λ s. IsCopied s copy.tree)) }
     ensures original { result.0.tree ≡ handle.tree }
-    ensures refused { IfErr result.1 (λ status. status ≢ 0) }
+    ensures argument { (result.1 ≡ Err 4) ↔ (handle.tree ≡ None) }
+    ensures refused { IfErr result.1 (λ status. (status ≡ 1) ⊎ (status ≡ 4)) }
 {
     let Some(held) = handle.into_box() else {
         return (MstTree::empty(alloc), Err(ARGUMENT));
@@ -129,6 +139,9 @@ fn free(handle: MstTree, alloc: Global) -> (MstTree, ())
 #[unsafe(no_mangle)]
 pub extern "C" fn mst_proved_tree_len(alloc: Global, handle: &mut MstTree, count: &mut usize) -> u32
     ensures tree { handle.new.tree ≡ handle.old.tree }
+    ensures unchanged { result ≢ 0 → count.new ≡ count.old }
+    ensures argument { (result ≡ 4) ↔ (handle.old.tree ≡ None) }
+    ensures status { (result ≡ 0) ⊎ (result ≡ 1) ⊎ (result ≡ 4) }
 {
     match mem::replace_with(handle, alloc, count_of) {
         Ok(found) => {
@@ -141,6 +154,8 @@ pub extern "C" fn mst_proved_tree_len(alloc: Global, handle: &mut MstTree, count
 
 fn count_of(handle: MstTree, alloc: Global) -> (MstTree, Result<usize, u32>)
     ensures tree { result.0.tree ≡ handle.tree }
+    ensures argument { (result.1 ≡ Err 4) ↔ (handle.tree ≡ None) }
+    ensures refused { IfErr result.1 (λ status. (status ≡ 1) ⊎ (status ≡ 4)) }
 {
     let Some(held) = handle.into_box() else {
         return (MstTree::empty(alloc), Err(ARGUMENT));

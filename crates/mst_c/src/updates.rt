@@ -1,7 +1,7 @@
 //! Calls that change the map of a tree.
-ghost use Rattle.std.specs.Prelude.{◌≡◌, ◌≢◌, true, false};
+ghost use Rattle.std.specs.Prelude.{◌≡◌, ◌≢◌, ◌↔◌, ◌⊎◌, None, true, false};
 ghost use Rattle.mst_c.specs.Handles.{Changes};
-ghost use Rattle.mst_c.specs.Trees.{IsSet, IsDel, SameSettings};
+ghost use Rattle.mst_c.specs.Trees.{SameSettings, IsSet, IsDel};
 
 use crate::handle::MstTree;
 use crate::status::{ABSENT, ARGUMENT, DONE, MALFORMED, MEMORY};
@@ -21,6 +21,8 @@ pub extern "C" fn mst_proved_tree_upsert(
 ) -> u32
     ensures done { result ≡ 0 → Changes handle.old.tree handle.new.tree (IsSet key.now value.now) }
     ensures unchanged { result ≢ 0 → handle.new.tree ≡ handle.old.tree }
+    ensures argument { (result ≡ 4) ↔ (handle.old.tree ≡ None) }
+    ensures status { (result ≡ 0) ⊎ (result ≡ 1) ⊎ (result ≡ 4) }
 {
     mem::replace_with(handle, (alloc, key, value), upsert)
 }
@@ -28,6 +30,8 @@ pub extern "C" fn mst_proved_tree_upsert(
 fn upsert(handle: MstTree, row: (Global, &[u8], &[u8])) -> (MstTree, u32)
     ensures done { result.1 ≡ 0 → Changes handle.tree result.0.tree (IsSet row.entry.1.now row.entry.2.now) }
     ensures unchanged { result.1 ≢ 0 → result.0.tree ≡ handle.tree }
+    ensures argument { (result.1 ≡ 4) ↔ (handle.tree ≡ None) }
+    ensures status { (result.1 ≡ 0) ⊎ (result.1 ≡ 1) ⊎ (result.1 ≡ 4) }
 {
     let Some(mut held) = handle.into_box() else {
         return (MstTree::empty(row.0), ARGUMENT);
@@ -46,6 +50,8 @@ pub extern "C" fn mst_proved_tree_remove(alloc: Global, handle: &mut MstTree, ke
     ensures done { result ≡ 0 → Changes handle.old.tree handle.new.tree (IsDel key.now true) }
     ensures absent { result ≡ 5 → Changes handle.old.tree handle.new.tree (IsDel key.now false) }
     ensures unchanged { result ≢ 0 → result ≢ 5 → handle.new.tree ≡ handle.old.tree }
+    ensures argument { (result ≡ 4) ↔ (handle.old.tree ≡ None) }
+    ensures status { (result ≡ 0) ⊎ (result ≡ 1) ⊎ (result ≡ 4) ⊎ (result ≡ 5) }
 {
     mem::replace_with(handle, (alloc, key), remove)
 }
@@ -54,6 +60,8 @@ fn remove(handle: MstTree, asked: (Global, &[u8])) -> (MstTree, u32)
     ensures done { result.1 ≡ 0 → Changes handle.tree result.0.tree (IsDel asked.entry.1.now true) }
     ensures absent { result.1 ≡ 5 → Changes handle.tree result.0.tree (IsDel asked.entry.1.now false) }
     ensures unchanged { result.1 ≢ 0 → result.1 ≢ 5 → result.0.tree ≡ handle.tree }
+    ensures argument { (result.1 ≡ 4) ↔ (handle.tree ≡ None) }
+    ensures status { (result.1 ≡ 0) ⊎ (result.1 ≡ 1) ⊎ (result.1 ≡ 4) ⊎ (result.1 ≡ 5) }
 {
     let Some(mut held) = handle.into_box() else {
         return (MstTree::empty(asked.0), ARGUMENT);
@@ -73,6 +81,8 @@ fn remove(handle: MstTree, asked: (Global, &[u8])) -> (MstTree, u32)
 pub extern "C" fn mst_proved_tree_load(alloc: Global, handle: &mut MstTree, rows: &[u8]) -> u32
     ensures done { result ≡ 0 → Changes handle.old.tree handle.new.tree SameSettings }
     ensures unchanged { result ≢ 0 → handle.new.tree ≡ handle.old.tree }
+    ensures argument { (result ≡ 4) ↔ (handle.old.tree ≡ None) }
+    ensures status { (result ≡ 0) ⊎ (result ≡ 1) ⊎ (result ≡ 2) ⊎ (result ≡ 4) }
 {
     mem::replace_with(handle, (alloc, rows), load)
 }
@@ -80,6 +90,8 @@ pub extern "C" fn mst_proved_tree_load(alloc: Global, handle: &mut MstTree, rows
 fn load(handle: MstTree, asked: (Global, &[u8])) -> (MstTree, u32)
     ensures done { result.1 ≡ 0 → Changes handle.tree result.0.tree SameSettings }
     ensures unchanged { result.1 ≢ 0 → result.0.tree ≡ handle.tree }
+    ensures argument { (result.1 ≡ 4) ↔ (handle.tree ≡ None) }
+    ensures status { (result.1 ≡ 0) ⊎ (result.1 ≡ 1) ⊎ (result.1 ≡ 2) ⊎ (result.1 ≡ 4) }
 {
     let Some(mut held) = handle.into_box() else {
         return (MstTree::empty(asked.0), ARGUMENT);

@@ -2,8 +2,8 @@ use Rattle.std.proofs.Common.{◌≡◌, OnOk, ap, subst, ◌∙◌, map}
 use Rattle.key_order.specs.Map.{set}
 use Rattle.merkle_digest.specs.SipHash.{siphash128}
 use Rattle.merkle_search_tree.specs.State.{map_of}
-use Rattle.mst_c.specs.Trees.{bytes_cmp, rows_of}
-use Rattle.mst_c.proofs.Bytes.{by_bytes, key_cmp, rows_set}
+use Rattle.mst_c.specs.Trees.{bytes_cmp, by_bytes, key_cmp, rows_of}
+use Rattle.mst_c.proofs.Bytes.{rows_set}
 use Rattle.mst_c.proofs.byte_tree.ByteTree.upsert.Goals.{in-Ok, in-Err}
 use Rattle.mst_c.proofs.byte_tree.ByteTree.upsert.Goals as goal
 
