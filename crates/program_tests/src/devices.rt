@@ -1,9 +1,11 @@
-//! Devices that fail where a test says so.
+//! Devices that fail where a test says so, and runs over them.
 ghost use Rattle.std.specs.Prelude.{◌≤◌, Some, IfOk, length};
 
 use arrayvec::ArrayVec;
+use mst_pair::run::{RunFault, run};
 use mst_pair::sink::Sink;
 use mst_pair::source::{Failed, Source};
+use std::alloc::Global;
 use std::io;
 use std::io::{ErrorKind, Read, Write};
 
@@ -213,4 +215,30 @@ impl Write for ByteWriter {
             Ok(())
         }
     }
+}
+
+/// What a run over these devices answers and writes.
+pub fn serve(
+    alloc: Global,
+    input: &[u8],
+    piece: usize,
+    read_fails: bool,
+    room: usize,
+    flush_fails: bool,
+) -> (Result<(), RunFault>, ArrayVec<u8, 1024>) {
+    let mut reader = ScriptedSource {
+        left: input,
+        piece,
+        fails: read_fails,
+        failed: false,
+    };
+    let mut writer = NarrowSink {
+        taken: ArrayVec::new(),
+        room,
+        refuses_flush: flush_fails,
+        flushed: false,
+        failed: false,
+    };
+    let result = run(alloc, &mut reader, &mut writer);
+    (result, writer.taken)
 }

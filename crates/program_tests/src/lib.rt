@@ -4,6 +4,12 @@
 #[cfg(test)]
 mod devices;
 #[cfg(test)]
+mod faults;
+#[cfg(test)]
 mod reads;
+#[cfg(test)]
+mod refusals;
+#[cfg(test)]
+mod roots;
 #[cfg(test)]
 mod runs;
