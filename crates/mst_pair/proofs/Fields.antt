@@ -1,5 +1,5 @@
 -- Fields with a space between them.
-use Rattle.std.proofs.Common.{◌≡◌, ◌≢◌, ℕ, ◌<◌, List, [], ◌∷◌, ◌++◌, length, get_or, refl, sym, ap, subst, ◌∙◌, false, nat_eq, arith, codes, Option, None, Some, IfNone, MatchOption}
+use Rattle.std.proofs.Common.{◌≡◌, ◌≢◌, ℕ, ◌<◌, List, [], ◌∷◌, ◌++◌, length, get_or, refl, sym, ap, subst, ◌∙◌, false, nat_eq, arith, codes, ◌⊎◌, inl, inr, Option, None, Some, IfNone, MatchOption}
 use Rattle.std.proofs.lemmas.List.Folds.{list_any_none}
 use Rattle.std.proofs.lemmas.List.Elements.{All-weaker}
 use Rattle.std.proofs.lemmas.Bool.Decides.{nat_tests}
@@ -64,49 +64,42 @@ pub bad_command : {C : Type 0} (Found : C → Type 0) (r : Option C) (word argum
 bad_command Found None word arguments line w e refuted = λ q spelled. refuted q (spelled_by q word arguments line w e spelled)
 bad_command Found (Some c) word arguments line w e found = tt
 
--- the arguments of `put` are a name and a row
-only_put : (arguments : List ℕ) → ((name : ReplicaName) (key : List ℕ) (n : ℕ) (digits : List ℕ) → IsKey key → IsNumber digits n → arguments ≡ fields (name_text name ∷ key ∷ digits ∷ []) → ⊥) → (q : Request) → IsSpelledBy q (codes "put") arguments → ⊥
-only_put arguments refuted (put name key n) (w, (digits, k, number, a)) = refuted name key n digits k number a
-only_put arguments refuted (del name key) (w, (k, a)) = absurd (omega (arith, ap (λ xs. get_or xs 0 0) w))
-only_put arguments refuted (keys name) (w, a) = absurd (omega (arith, ap length w))
-only_put arguments refuted (root name) (w, a) = absurd (omega (arith, ap length w))
-only_put arguments refuted (pages name) (w, a) = absurd (omega (arith, ap length w))
-only_put arguments refuted (diff name) (w, a) = absurd (omega (arith, ap length w))
-only_put arguments refuted (pull name) (w, a) = absurd (omega (arith, ap length w))
-only_put arguments refuted same spelled = absurd spelled
-only_put arguments refuted (turns d) (w, small, a) = absurd (omega (arith, ap length w))
-only_put arguments refuted (set_format format) (w, a) = absurd (omega (arith, ap length w))
+-- what stands behind the name of a replica in the arguments of `put` or `del`: a row or a key
+Follows : List ℕ → List ℕ → Type 0
+Follows word rest = ((word ≡ codes "put") × ((key : List ℕ) × (n : ℕ) × IsRowText rest key n)) ⊎ ((word ≡ codes "del") × IsKey rest)
 
--- arguments of `put` whose first field names no replica
-pub bad_name : (name rest arguments : List ℕ) → HasNoSpace name → arguments ≡ name ++ space ∷ rest → ((n : ReplicaName) → name ≢ name_text n) → (q : Request) → IsSpelledBy q (codes "put") arguments → ⊥
-bad_name name rest arguments none e no_name = only_put arguments (λ other key n digits k number a. no_name other (first_unique name (name_text other) rest _ none (no_space_name other) (sym e ∙ a)).0)
+-- `put` and `del` are the words of three letters
+named : (word arguments : List ℕ) → length word ≡ 3 → ((name : ReplicaName) (rest : List ℕ) → Follows word rest → arguments ≡ name_text name ++ space ∷ rest → ⊥) → (q : Request) → IsSpelledBy q word arguments → ⊥
+unfolding Follows
+named word arguments short refuted (put name key n) (w, (digits, k, number, a)) = refuted name (fields (key ∷ digits ∷ [])) (inl (w, (key, n, (digits, k, number, refl)))) a
+named word arguments short refuted (del name key) (w, (k, a)) = refuted name key (inr (w, k)) a
+named word arguments short refuted (keys name) (w, a) = absurd (omega (arith, short, ap length w))
+named word arguments short refuted (root name) (w, a) = absurd (omega (arith, short, ap length w))
+named word arguments short refuted (pages name) (w, a) = absurd (omega (arith, short, ap length w))
+named word arguments short refuted (diff name) (w, a) = absurd (omega (arith, short, ap length w))
+named word arguments short refuted (pull name) (w, a) = absurd (omega (arith, short, ap length w))
+named word arguments short refuted same spelled = absurd spelled
+named word arguments short refuted (turns d) (w, small, a) = absurd (omega (arith, short, ap length w))
+named word arguments short refuted (set_format format) (w, a) = absurd (omega (arith, short, ap length w))
+
+-- arguments whose first field names no replica
+pub bad_name : (word name rest arguments : List ℕ) → length word ≡ 3 → HasNoSpace name → arguments ≡ name ++ space ∷ rest → ((n : ReplicaName) → name ≢ name_text n) → (q : Request) → IsSpelledBy q word arguments → ⊥
+bad_name word name rest arguments short none e no_name =
+    named word arguments short (λ other follows behind a. no_name other (first_unique name (name_text other) rest follows none (no_space_name other) (sym e ∙ a)).0)
+
+-- arguments that name a replica, and what is behind it may not follow
+bad_rest : (word : List ℕ) (name : ReplicaName) (rest arguments : List ℕ) → length word ≡ 3 → arguments ≡ name_text name ++ space ∷ rest → (Follows word rest → ⊥) → (q : Request) → IsSpelledBy q word arguments → ⊥
+bad_rest word name rest arguments short e no_rest =
+    named word arguments short (λ other follows behind a. no_rest (subst (Follows word) (sym (first_unique (name_text name) (name_text other) rest follows (no_space_name name) (no_space_name other) (sym e ∙ a)).1) behind))
 
 -- arguments of `put` that name a replica and have no row
 pub bad_row : (name : ReplicaName) (rest arguments : List ℕ) → arguments ≡ name_text name ++ space ∷ rest → ((key : List ℕ) (n : ℕ) → IsRowText rest key n → ⊥) → (q : Request) → IsSpelledBy q (codes "put") arguments → ⊥
-bad_row name rest arguments e no_row = only_put arguments (λ other key n digits k number a. no_row key n (digits, k, number, (first_unique (name_text name) (name_text other) rest _ (no_space_name name) (no_space_name other) (sym e ∙ a)).1))
-
--- the arguments of `del` are a name and a key
-only_del : (arguments : List ℕ) → ((name : ReplicaName) (key : List ℕ) → IsKey key → arguments ≡ fields (name_text name ∷ key ∷ []) → ⊥) → (q : Request) → IsSpelledBy q (codes "del") arguments → ⊥
-only_del arguments refuted (put name key n) (w, (digits, k, number, a)) = absurd (omega (arith, ap (λ xs. get_or xs 0 0) w))
-only_del arguments refuted (del name key) (w, (k, a)) = refuted name key k a
-only_del arguments refuted (keys name) (w, a) = absurd (omega (arith, ap length w))
-only_del arguments refuted (root name) (w, a) = absurd (omega (arith, ap length w))
-only_del arguments refuted (pages name) (w, a) = absurd (omega (arith, ap length w))
-only_del arguments refuted (diff name) (w, a) = absurd (omega (arith, ap length w))
-only_del arguments refuted (pull name) (w, a) = absurd (omega (arith, ap length w))
-only_del arguments refuted same spelled = absurd spelled
-only_del arguments refuted (turns d) (w, small, a) = absurd (omega (arith, ap length w))
-only_del arguments refuted (set_format format) (w, a) = absurd (omega (arith, ap length w))
-
--- arguments of `del` whose first field names no replica
-pub bad_del_name : (name rest arguments : List ℕ) → HasNoSpace name → arguments ≡ name ++ space ∷ rest → ((n : ReplicaName) → name ≢ name_text n) → (q : Request) → IsSpelledBy q (codes "del") arguments → ⊥
-bad_del_name name rest arguments none e no_name = only_del arguments (λ other key k a. no_name other (first_unique name (name_text other) rest _ none (no_space_name other) (sym e ∙ a)).0)
+unfolding Follows
+bad_row name rest arguments e no_row =
+    bad_rest (codes "put") name rest arguments refl e (elim [ inl row ↦ no_row row.1.0 row.1.1 row.1.2 | inr key ↦ absurd (omega (arith, ap (λ xs. get_or xs 0 0) key.0)) ])
 
 -- arguments of `del` that name a replica and have no key
-pub bad_del_key : (name : ReplicaName) (rest arguments : List ℕ) → arguments ≡ name_text name ++ space ∷ rest → (IsKey rest → ⊥) → (q : Request) → IsSpelledBy q (codes "del") arguments → ⊥
-bad_del_key name rest arguments e no_key =
-    only_del arguments (λ other key k a. no_key (subst IsKey (sym (first_unique (name_text name) (name_text other) rest key (no_space_name name) (no_space_name other) (sym e ∙ a)).1) k))
-
--- arguments of `del` in one field
-pub bad_del_field : (arguments : List ℕ) → HasNoSpace arguments → (q : Request) → IsSpelledBy q (codes "del") arguments → ⊥
-bad_del_field arguments none = only_del arguments (λ other key k a. has_space (name_text other) key arguments none a)
+pub bad_key : (name : ReplicaName) (rest arguments : List ℕ) → arguments ≡ name_text name ++ space ∷ rest → (IsKey rest → ⊥) → (q : Request) → IsSpelledBy q (codes "del") arguments → ⊥
+unfolding Follows
+bad_key name rest arguments e no_key =
+    bad_rest (codes "del") name rest arguments refl e (elim [ inl row ↦ absurd (omega (arith, ap (λ xs. get_or xs 0 0) row.0)) | inr key ↦ no_key key.1 ])
