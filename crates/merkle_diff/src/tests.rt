@@ -5,4 +5,5 @@ mod range_lists;
 mod rust_answers;
 mod shown;
 mod snapshots;
+mod text_keys;
 mod texts;
