@@ -18,6 +18,8 @@ mod random_pairs;
 #[cfg(test)]
 mod refusals;
 #[cfg(test)]
+mod refused_joins;
+#[cfg(test)]
 mod steps;
 #[cfg(test)]
 mod text;

@@ -41,13 +41,13 @@ fn texts<'a>(
     Ok(replica)
 }
 
-/// How many rows a pull from a peer of two rows says that it joined; none where it says it wrongly.
+/// How many rows a pull from a peer of three rows says that it joined; none where it says it wrongly.
 fn count_of(answer: Result<Pulled<Text<'_>>, PullError<Text<'_>>>) -> Option<usize> {
     match answer {
-        Ok(pulled) => if pulled.joined == 2 { Some(2) } else { None },
+        Ok(pulled) => if pulled.joined == 3 { Some(3) } else { None },
         Err(PullError::Memory) => Some(0),
         Err(PullError::Partly { pulled, done }) => {
-            if pulled.joined == 2 && pulled.ranges.len() == 1 {
+            if pulled.joined == 3 && pulled.ranges.len() == 1 {
                 Some(done)
             } else {
                 None
@@ -66,12 +66,12 @@ fn has_first_of(replica: &Texts<'_>, other: &Texts<'_>, count: usize) -> bool {
     is_right
 }
 
-/// How many rows a pull of the texts a and b into an empty replica says that it joined, where this many clones are at hand; none
+/// How many rows a pull of the texts a, b and c into an empty replica says that it joined, where this many clones are at hand; none
 /// where the rows there are not the first ones of the peer, or the answer doesn't fit them.
 fn rows_pulled(alloc: Global, clones: u8) -> Result<Option<usize>, AllocError> {
-    let clones_left = Cell::new(2);
+    let clones_left = Cell::new(3);
     let mut local = texts(alloc, &[], &clones_left)?;
-    let mut peer = texts(alloc, &[("a", 1), ("b", 2)], &clones_left)?;
+    let mut peer = texts(alloc, &[("a", 1), ("b", 2), ("c", 3)], &clones_left)?;
     clones_left.set(clones);
     match count_of(pull_texts(&mut local, &mut peer)) {
         Some(count) if has_first_of(&local, &peer, count) => Ok(Some(count)),
@@ -91,6 +91,8 @@ fn refused_clones_leave_the_first_rows(rt: HostRuntime) -> Result<(), Fail> {
         (5, 1),
         (6, 2),
         (7, 2),
+        (8, 3),
+        (9, 3),
     ] {
         assert_eq!(rt;
             rows_pulled(rt.alloc(), clones)?,
