@@ -21,12 +21,14 @@ mod line;
 mod number;
 mod parse;
 mod pending;
+pub mod reader;
 mod reply;
 pub mod run;
 mod session;
 pub mod sink;
 pub mod source;
 mod text_replica;
+pub mod writer;
 
 pub use merkle_replica::{
     Join, PullError, Pulled, Replica, TurnsError, ValueHasher, pull_by_turns,

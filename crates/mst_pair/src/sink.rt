@@ -1,10 +1,10 @@
 //! What a run writes to.
-ghost use Rattle.std.specs.Prelude.{◌≡◌, ℕ, ◌<◌, ◌≤◌, List, Option, Bool, true, false, OnOk, OnErr, IfOk, length, take};
+ghost use Rattle.std.specs.Prelude.{◌≡◌, ℕ, ◌<◌, ◌≤◌, List, Option, Bool, true, false, ◌⊎◌, OnOk, OnErr, IfOk, length, take};
 ghost use Rattle.std.specs.Io.KnownBytes.{Appends, Keeps};
 ghost use Rattle.mst_pair.specs.Devices.{KeepsOrHides, Writes, MarksFailure, writer_inside};
 
 use crate::source::Failed;
-use std::io::Write;
+use crate::writer::Writer;
 
 /// Takes bytes.
 ///
@@ -49,7 +49,7 @@ pub trait Sink {
         ensures { result ≡ has_failed self.now };
 }
 
-/// A sink over a writer of std.
+/// A sink over a writer: one of the standard library, or another that says when it may fail.
 ///
 /// It tells the bytes that the writer tells. Where the writer takes none of some bytes, that is a failure. Once a call has failed, so
 /// does each later one.
@@ -65,7 +65,7 @@ pub struct ToWrite<W> {
     failed: bool,
 }
 
-impl<W: Write> ToWrite<W> {
+impl<W: Writer> ToWrite<W> {
     /// A sink that writes to this writer and has not failed.
     pub fn new(inner: W) -> Self
         ensures inside { writer_inside result ≡ inner }
@@ -88,19 +88,34 @@ impl<W: Write> ToWrite<W> {
     }
 }
 
-impl<W: Write> Sink for ToWrite<W> {
+impl<W: Writer> Sink for ToWrite<W> {
     ghost taken = { λ s. W.contents s.inner };
 
     ghost has_failed = { λ s. s.failed };
 
     ghost is_flushed = { λ s. s.flushed };
 
-    fn write(&mut self, bytes: &[u8]) -> Result<usize, Failed> {
+    /// Writes to the writer once, where it has not failed.
+    ///
+    /// # Errors
+    ///
+    /// `Failed` where the writer answers an error or takes none of some bytes, or a call has failed before. The writer then has what it
+    /// had.
+    fn write(&mut self, bytes: &[u8]) -> Result<usize, Failed>
+        ensures bound { IfOk result (λ n. n ≤ length bytes.now) }
+        ensures some { IfOk result (λ n. 0 < length bytes.now → 0 < n) }
+        ensures bytes { IfOk result (λ n. Appends (W.contents (writer_inside self.old)) (W.contents (writer_inside self.new)) (take n bytes.now)) }
+        ensures error { OnErr result (KeepsOrHides (W.contents (writer_inside self.old)) (W.contents (writer_inside self.new))) }
+        ensures failed { MarksFailure result (⟦<ToWrite<W> as Sink>⟧.has_failed self.old) (⟦<ToWrite<W> as Sink>⟧.has_failed self.new) }
+
+        // It fails only where a call has failed before, or the writer refused the bytes.
+        ensures cause { OnErr result ((⟦<ToWrite<W> as Sink>⟧.has_failed self.old ≡ true) ⊎ W.may_refuse (writer_inside self.old) (writer_inside self.new)) }
+    {
         if self.failed {
             return Err(Failed);
         }
         self.flushed = false;
-        match self.inner.write(bytes) {
+        match self.inner.write_once(bytes) {
             Ok(count) if count > 0 || bytes.is_empty() => Ok(count),
             _ => {
                 self.failed = true;
@@ -109,11 +124,24 @@ impl<W: Write> Sink for ToWrite<W> {
         }
     }
 
-    fn flush(&mut self) -> Result<(), Failed> {
+    /// Has the writer hand on what it took, where it has not failed.
+    ///
+    /// # Errors
+    ///
+    /// `Failed` where the writer answers an error, or a call has failed before. The writer then has what it had.
+    fn flush(&mut self) -> Result<(), Failed>
+        ensures ok { OnOk result (Keeps (W.contents (writer_inside self.old)) (W.contents (writer_inside self.new))) }
+        ensures flushed { OnOk result (⟦<ToWrite<W> as Sink>⟧.is_flushed self.new ≡ true) }
+        ensures error { OnErr result (KeepsOrHides (W.contents (writer_inside self.old)) (W.contents (writer_inside self.new))) }
+        ensures failed { MarksFailure result (⟦<ToWrite<W> as Sink>⟧.has_failed self.old) (⟦<ToWrite<W> as Sink>⟧.has_failed self.new) }
+
+        // It fails only where a call has failed before, or the writer's flush failed.
+        ensures cause { OnErr result ((⟦<ToWrite<W> as Sink>⟧.has_failed self.old ≡ true) ⊎ W.flush_may_fail (writer_inside self.old) (writer_inside self.new)) }
+    {
         if self.failed {
             return Err(Failed);
         }
-        match self.inner.flush() {
+        match self.inner.hand_on() {
             Ok(()) => {
                 self.flushed = true;
                 Ok(())

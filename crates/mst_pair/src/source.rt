@@ -1,9 +1,9 @@
 //! What a run reads from.
-ghost use Rattle.std.specs.Prelude.{◌≡◌, ℕ, ◌+◌, ◌<◌, ◌≤◌, List, Option, Bool, true, false, OnErr, IfOk, length, take};
+ghost use Rattle.std.specs.Prelude.{◌≡◌, ℕ, ◌+◌, ◌<◌, ◌≤◌, List, Option, Bool, true, false, ◌⊎◌, OnErr, IfOk, length, take};
 ghost use Rattle.std.specs.Io.KnownBytes.{Consumes, Keeps, IsAtEnd};
 ghost use Rattle.mst_pair.specs.Devices.{KeepsOrHides, MarksFailure, reader_inside};
 
-use std::io::Read;
+use crate::reader::Reader;
 
 /// A device has failed: a source that can no longer be read, or a sink that can no longer be written to.
 #[derive(Clone, Copy, Debug, PartialEq, Eq)]
@@ -42,7 +42,7 @@ pub trait Source {
         ensures { result ≡ has_failed self.now };
 }
 
-/// A source over a reader of std.
+/// A source over a reader: one of the standard library, or another that says when it may fail.
 ///
 /// It tells the bytes that the reader tells. Each call of `read` takes one of the reads that it was given, 18446744073709551615
 /// unless stated otherwise, and after these it fails; so it does at each read once a read has failed.
@@ -58,7 +58,7 @@ pub struct FromRead<R> {
     failed: bool,
 }
 
-impl<R: Read> FromRead<R> {
+impl<R: Reader> FromRead<R> {
     /// A source that reads from this reader, has not failed and has 18446744073709551615 reads left.
     pub fn new(inner: R) -> Self
         ensures inside { reader_inside result ≡ inner }
@@ -92,7 +92,7 @@ impl<R: Read> FromRead<R> {
     }
 }
 
-impl<R: Read> Source for FromRead<R> {
+impl<R: Reader> Source for FromRead<R> {
     ghost left = { λ s. R.remaining s.inner };
 
     ghost reads_left = { λ s. s.reads_left };
@@ -111,6 +111,10 @@ impl<R: Read> Source for FromRead<R> {
         ensures error { OnErr result (Keeps (R.remaining (reader_inside self.old)) (R.remaining (reader_inside self.new))) }
         ensures failed { MarksFailure result (⟦<FromRead<R> as Source>⟧.has_failed self.old) (⟦<FromRead<R> as Source>⟧.has_failed self.new) }
 
+        // It fails only where a call has failed before, no read is left, or the reader's call failed.
+        ensures cause { let source = ⟦<FromRead<R> as Source>⟧ in
+            OnErr result ((source.has_failed self.old ≡ true) ⊎ (source.reads_left self.old ≡ 0) ⊎ R.may_fail (reader_inside self.old) (reader_inside self.new)) }
+
         // Each call takes one of the reads, but where a call has failed or no read is left.
         ensures takes { let left = ⟦<FromRead<R> as Source>⟧.reads_left in
             ⟦<FromRead<R> as Source>⟧.has_failed self.old ≡ false → 0 < left self.old → left self.old ≡ left self.new + 1 }
@@ -121,7 +125,7 @@ impl<R: Read> Source for FromRead<R> {
             return Err(Failed);
         }
         self.reads_left -= 1;
-        match self.inner.read(buf) {
+        match self.inner.read_once(buf) {
             Ok(count) => Ok(count),
             Err(_) => {
                 self.failed = true;

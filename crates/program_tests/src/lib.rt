@@ -13,3 +13,5 @@ mod refusals;
 mod roots;
 #[cfg(test)]
 mod runs;
+#[cfg(test)]
+mod steady;
