@@ -12,31 +12,31 @@ use Rattle.key_order.specs.Map.{set, del, has_key, entry, IsPresent}
 use Rattle.key_order.proofs.Dels.{entry-there, entry-absent}
 use Rattle.mst_c.specs.Trees.{bytes_cmp, by_bytes, key_cmp}
 
-abbrev pub Row : Type 0
-Row = Vec ℕ × List ℕ
+abbrev pub ByteRow : Type 0
+ByteRow = Vec ℕ × List ℕ
 
-map_choice : (o : Ordering) (a b c : List Row) → map by_bytes (match_ordering o a b c) ≡ match_ordering o (map by_bytes a) (map by_bytes b) (map by_bytes c)
+map_choice : (o : Ordering) (a b c : List ByteRow) → map by_bytes (match_ordering o a b c) ≡ match_ordering o (map by_bytes a) (map by_bytes b) (map by_bytes c)
 map_choice Less a b c = refl
 map_choice Equal a b c = refl
 map_choice Greater a b c = refl
 
-map_kept : (b : Bool) (r : Row) (rs : List Row) → map by_bytes (cond b (r ∷ rs) rs) ≡ cond b (by_bytes r ∷ map by_bytes rs) (map by_bytes rs)
+map_kept : (b : Bool) (r : ByteRow) (rs : List ByteRow) → map by_bytes (cond b (r ∷ rs) rs) ≡ cond b (by_bytes r ∷ map by_bytes rs) (map by_bytes rs)
 map_kept true r rs = refl
 map_kept false r rs = refl
 
-pub rows_set : (m : List Row) (k : Vec ℕ) (d : List ℕ) → map by_bytes (set key_cmp m k d) ≡ set bytes_cmp (map by_bytes m) k.items d
+pub rows_set : (m : List ByteRow) (k : Vec ℕ) (d : List ℕ) → map by_bytes (set key_cmp m k d) ≡ set bytes_cmp (map by_bytes m) k.items d
 rows_set [] k d = refl
 rows_set (r ∷ rs) k d =
     map_choice (key_cmp k r.0) ((k, d) ∷ r ∷ rs) ((r.0, d) ∷ rs) (r ∷ set key_cmp rs k d)
     ∙ ap (λ t. match_ordering (key_cmp k r.0) (by_bytes (k, d) ∷ by_bytes r ∷ map by_bytes rs) (by_bytes (r.0, d) ∷ map by_bytes rs) (by_bytes r ∷ t)) (rows_set rs k d)
 
-pub rows_del : (m : List Row) (k : Vec ℕ) → map by_bytes (del key_cmp m k) ≡ del bytes_cmp (map by_bytes m) k.items
+pub rows_del : (m : List ByteRow) (k : Vec ℕ) → map by_bytes (del key_cmp m k) ≡ del bytes_cmp (map by_bytes m) k.items
 rows_del [] k = refl
 rows_del (r ∷ rs) k =
     let keep = not (is_eq (key_cmp k r.0)) in
     map_kept keep r (del key_cmp rs k) ∙ ap (λ t. cond keep (by_bytes r ∷ t) t) (rows_del rs k)
 
-pub rows_have : (m : List Row) (k : Vec ℕ) → has_key key_cmp m k ≡ has_key bytes_cmp (map by_bytes m) k.items
+pub rows_have : (m : List ByteRow) (k : Vec ℕ) → has_key key_cmp m k ≡ has_key bytes_cmp (map by_bytes m) k.items
 rows_have [] k = refl
 rows_have (r ∷ rs) k = ap (λ b. is_eq (key_cmp k r.0) || b) (rows_have rs k)
 
@@ -49,10 +49,10 @@ is_true true f = refl
 is_true false f = absurd (f refl)
 
 -- a key without an entry isn't there, and one with an entry is
-pub absent : (m : List Row) (k : Vec ℕ) → entry key_cmp m k ≡ None → false ≡ has_key bytes_cmp (map by_bytes m) k.items
+pub absent : (m : List ByteRow) (k : Vec ℕ) → entry key_cmp m k ≡ None → false ≡ has_key bytes_cmp (map by_bytes m) k.items
 absent m k none = sym (is_false (has_key key_cmp m k) (λ there. entry-there key_cmp k m there none)) ∙ rows_have m k
 
-pub present : (m : List Row) (k : Vec ℕ) (found : Row) → entry key_cmp m k ≡ Some found → true ≡ has_key bytes_cmp (map by_bytes m) k.items
+pub present : (m : List ByteRow) (k : Vec ℕ) (found : ByteRow) → entry key_cmp m k ≡ Some found → true ≡ has_key bytes_cmp (map by_bytes m) k.items
 present m k found some =
     sym (is_true (has_key key_cmp m k) (λ no. subst IsPresent (sym some ∙ entry-absent key_cmp k m no) tt)) ∙ rows_have m k
 

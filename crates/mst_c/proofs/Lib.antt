@@ -1,3 +1,5 @@
 pub mod Bytes
 pub mod Lists
+pub mod Loads
 pub mod Rows
+pub mod Spelling

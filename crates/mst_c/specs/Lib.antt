@@ -1,4 +1,6 @@
 pub mod Handles
+pub mod Lists
 pub mod Owned
+pub mod Spots
 pub mod Trees
 pub mod Wire

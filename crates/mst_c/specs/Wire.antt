@@ -1,4 +1,4 @@
--- Page ranges, and ranges of keys, as bytes.
+-- Page ranges, ranges of keys, and rows, as bytes.
 use Rattle.std.specs.Prelude.{ℕ, List, [], ◌∷◌, ◌++◌, length}
 use Rattle.std.specs.Global.{Vec}
 use Rattle.std.specs.List.{flat_map}
@@ -22,6 +22,10 @@ entry_bytes e = text_bytes e.first.items ++ (text_bytes e.last.items ++ e.digest
 abbrev pub span_bytes : Span (Vec ℕ) → List ℕ
 span_bytes s = text_bytes s.first.items ++ text_bytes s.last.items
 
+-- a row: its key and its value
+abbrev pub row_bytes : List ℕ × List ℕ → List ℕ
+row_bytes r = text_bytes r.0 ++ text_bytes r.1
+
 -- a list: its mark, the number of its entries, and the entries one after the other
 abbrev pub list_bytes : {X : Type 0} → List ℕ → (X → List ℕ) → List X → List ℕ
 list_bytes mark bytes xs = mark ++ (number_bytes (length xs) ++ flat_map bytes xs)
@@ -34,6 +38,10 @@ page_mark = 77 ∷ 83 ∷ 84 ∷ 112 ∷ []
 abbrev pub key_mark : List ℕ
 key_mark = 77 ∷ 83 ∷ 84 ∷ 107 ∷ []
 
+-- the mark of a list of rows, "MSTr"
+abbrev pub row_mark : List ℕ
+row_mark = 77 ∷ 83 ∷ 84 ∷ 114 ∷ []
+
 -- a list of page ranges
 abbrev pub page_ranges_bytes : List (Entry (Vec ℕ) (List ℕ)) → List ℕ
 page_ranges_bytes = list_bytes page_mark entry_bytes
@@ -41,3 +49,7 @@ page_ranges_bytes = list_bytes page_mark entry_bytes
 -- a list of key ranges
 abbrev pub key_ranges_bytes : List (Span (Vec ℕ)) → List ℕ
 key_ranges_bytes = list_bytes key_mark span_bytes
+
+-- a list of rows
+abbrev pub rows_bytes : List (List ℕ × List ℕ) → List ℕ
+rows_bytes = list_bytes row_mark row_bytes

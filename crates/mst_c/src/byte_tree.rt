@@ -1,14 +1,18 @@
 //! What a handle holds: a tree of byte strings.
-ghost use Rattle.std.specs.Prelude.{◌≡◌, ◌≢◌, None, OnOk, OnErr, IfOk};
+ghost use Rattle.std.specs.Prelude.{◌≡◌, ◌≢◌, ℕ, List, None, Err, OnOk, OnErr, IfOk, length};
 ghost use Rattle.std.specs.Int.NonZero.{non_zero_u8_get};
-ghost use Rattle.merkle_search_tree.specs.State.{IsNew};
+ghost use Rattle.merkle_search_tree.specs.State.{IsNew, map_of};
 ghost use Rattle.merkle_search_tree.specs.Stream.{page_digest};
 ghost use Rattle.merkle_search_tree.specs.Ranges.{ranges_of};
+ghost use Rattle.merkle_search_tree.specs.Loading.{row_count};
+ghost use Rattle.mst_c.specs.Lists.{AreRows, IsLoaded};
+ghost use Rattle.mst_c.specs.Trees.{bytes_of, SameRows, IsSet, IsDel, IsCopied};
 ghost use Rattle.mst_c.specs.Wire.{page_ranges_bytes};
-ghost use Rattle.mst_c.specs.Trees.{bytes_of, rows_of, SameRows, SameSettings, IsSet, IsDel, IsCopied};
+ghost use Rattle.mst_c.specs.declared.reading.ReadError.TheVariants.{Malformed};
 
 use crate::byte_hasher::ByteHasher;
-use crate::wire::{WireError, decode_rows, encode};
+use crate::reading::{ReadError, decode_rows};
+use crate::wire::encode;
 use merkle_search_tree::builder::{Builder, PageFormat};
 use merkle_search_tree::{LoadRefused, MerkleSearchTree};
 use std::alloc::{AllocError, Global};
@@ -74,8 +78,9 @@ impl ByteTree {
     }
 
     /// Makes these rows the map, in place of the map that the tree has. Refused, the tree is as before.
-    pub fn load(&mut self, alloc: Global, rows: &[u8]) -> Result<(), WireError>
-        ensures settings { SameSettings self.old.tree self.new.tree }
+    pub fn load(&mut self, alloc: Global, rows: &[u8]) -> Result<(), ReadError>
+        ensures done { OnOk result (IsLoaded rows.now self.old.tree self.new.tree) }
+        ensures malformed { result ≡ Err Malformed → (given : List (List ℕ × List ℕ)) → ¬ (AreRows rows.now given) }
         ensures unchanged { OnErr result (self.new ≡ self.old) }
     {
         let pairs = decode_rows(alloc, &self.hasher, rows)?;
@@ -88,15 +93,17 @@ impl ByteTree {
                 self.tree = tree;
                 Ok(())
             }
-            Err(LoadRefused::Memory) => Err(WireError::Memory),
-            Err(LoadRefused::NotAscending(_)) => Err(WireError::Malformed),
+            Err(LoadRefused::Memory) => Err(ReadError::Memory),
+            Err(LoadRefused::NotAscending(_)) => Err(ReadError::Malformed),
         }
     }
 
-    /// How many keys the tree has.
-    pub fn count(&self) -> Result<usize, AllocError> {
+    /// How many keys the tree has, at most `usize::MAX`.
+    pub fn count(&self) -> Result<usize, AllocError>
+        ensures { IfOk result (λ count. count ≡ row_count (map_of self.now.tree)) }
+    {
         let mut count: usize = 0;
-        'nodes: for _ in self.tree.node_iter()? {
+        'nodes: for _node in self.tree.node_iter()? {
             count = count.saturating_add(1);
         }
         Ok(count)

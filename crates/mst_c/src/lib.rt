@@ -6,8 +6,11 @@
 mod byte_hasher;
 mod byte_tree;
 mod bytes16;
+mod entries;
 mod handle;
+pub mod laws;
 mod parts;
+mod reading;
 mod status;
 mod summaries;
 mod trees;

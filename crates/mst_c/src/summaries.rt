@@ -1,15 +1,18 @@
 //! Calls that answer what a tree holds as digests, and compare two such answers.
-ghost use Rattle.std.specs.Prelude.{◌≡◌, ◌≢◌, ◌<◌, ◌≤◌, ◌↔◌, ◌⊎◌, None, Err, IfSome, IfOk, IfErr, take, length};
+ghost use Rattle.std.specs.Prelude.{◌≡◌, ◌≢◌, ◌<◌, ◌≤◌, ◌↔◌, ◌⊎◌, ℕ, List, None, Err, IfSome, IfOk, IfErr, take, length};
 ghost use Rattle.merkle_search_tree.specs.Stream.{page_digest};
 ghost use Rattle.merkle_search_tree.specs.Ranges.{ranges_of};
+ghost use Rattle.std.specs.Global.{Vec};
+ghost use Rattle.merkle_diff.specs.Entry.{Entry};
 ghost use Rattle.mst_c.specs.Handles.{Holds, Changes, IsWritten, IsShort};
+ghost use Rattle.mst_c.specs.Lists.{ArePageRanges, IsDiffOf};
 ghost use Rattle.mst_c.specs.Wire.{page_ranges_bytes};
 ghost use Rattle.mst_c.specs.Trees.{bytes_of, SameRows};
 
 use crate::bytes16::MstBytes16;
 use crate::handle::MstTree;
-use crate::status::{ABSENT, ARGUMENT, DONE, MALFORMED, MEMORY, SHORT};
-use crate::wire::{WireError, differences, entry_of, front_of, is_list};
+use crate::reading::{ReadError, differences};
+use crate::status::{ARGUMENT, DONE, MALFORMED, MEMORY, SHORT};
 use core::mem;
 use std::alloc::Global;
 
@@ -117,64 +120,15 @@ pub extern "C" fn mst_proved_diff(
     out: &mut [u8],
     needed: &mut usize,
 ) -> u32
-    ensures short { result ≡ 3 → length out.old < needed.new }
+    ensures done { result ≡ 0 → IsWritten out.new needed.new (IsDiffOf local.now peer.now) }
+    ensures short { result ≡ 3 → IsShort out.old needed.new (IsDiffOf local.now peer.now) }
+    ensures malformed { result ≡ 2 → (ls ps : List (Entry (Vec ℕ) (List ℕ))) → ArePageRanges local.now ls → ¬ (ArePageRanges peer.now ps) }
     ensures unchanged { result ≢ 0 → out.new ≡ out.old }
     ensures status { (result ≡ 0) ⊎ (result ≡ 1) ⊎ (result ≡ 2) ⊎ (result ≡ 3) }
 {
     match differences(alloc, local, peer) {
         Ok(bytes) => put_bytes(bytes.as_slice(), out, needed),
-        Err(WireError::Memory) => MEMORY,
-        Err(WireError::Malformed) => MALFORMED,
+        Err(ReadError::Memory) => MEMORY,
+        Err(ReadError::Malformed) => MALFORMED,
     }
-}
-
-/// Where the parts of an entry lie in its list.
-#[repr(C)]
-#[derive(Drop)]
-pub struct MstSpot {
-    pub first_at: usize,
-    pub first_len: usize,
-    pub last_at: usize,
-    pub last_len: usize,
-    /// Where the 16 bytes of the digest begin, in a list of page ranges; else 0.
-    pub digest_at: usize,
-}
-
-/// Writes where the parts of the entry at `at` lie, and moves `at` behind it. An `at` of 0 is the first entry, and there the whole
-/// list is read once to see that it is one.
-///
-/// `DONE`; `ABSENT` behind the last entry; `MALFORMED` where the list is none; `ARGUMENT` where `at` is outside of the list.
-#[unsafe(no_mangle)]
-pub extern "C" fn mst_proved_ranges_next(list: &[u8], at: &mut usize, spot: &mut MstSpot) -> u32 {
-    let Some((has_digests, count, body)) = front_of(list) else {
-        return MALFORMED;
-    };
-    if *at == 0 && !is_list(has_digests, count, body) {
-        return MALFORMED;
-    }
-    let start = if *at == 0 {
-        list.len().saturating_sub(body.len())
-    } else {
-        *at
-    };
-    let Some((_, rest)) = list.split_at_checked(start) else {
-        return ARGUMENT;
-    };
-    if rest.is_empty() {
-        return ABSENT;
-    }
-    let Some((first, last, behind)) = entry_of(has_digests, rest) else {
-        return MALFORMED;
-    };
-    spot.first_at = start.saturating_add(8);
-    spot.first_len = first.len();
-    spot.last_at = spot.first_at.saturating_add(first.len()).saturating_add(8);
-    spot.last_len = last.len();
-    spot.digest_at = if has_digests {
-        spot.last_at.saturating_add(last.len())
-    } else {
-        0
-    };
-    *at = list.len().saturating_sub(behind.len());
-    DONE
 }

@@ -3,8 +3,9 @@ ghost use Rattle.std.specs.Prelude.{◌≡◌, ◌≢◌, ◌↔◌, ◌⊎◌, 
 ghost use Rattle.std.specs.Int.NonZero.{non_zero_u8_get};
 ghost use Rattle.merkle_search_tree.specs.State.{IsNew};
 ghost use Rattle.merkle_search_tree.specs.declared.builder.PageFormat.TheVariants.{V1, V2};
+ghost use Rattle.merkle_search_tree.specs.Loading.{row_count};
 ghost use Rattle.mst_c.specs.Handles.{Holds, Changes};
-ghost use Rattle.mst_c.specs.Trees.{IsCopied};
+ghost use Rattle.mst_c.specs.Trees.{IsCopied, rows_of};
 
 use crate::byte_tree::ByteTree;
 use crate::bytes16::MstBytes16;
@@ -133,11 +134,12 @@ fn free(handle: MstTree, alloc: Global) -> (MstTree, ())
     (MstTree::empty(alloc), ())
 }
 
-/// Writes how many keys a tree has.
+/// Writes how many keys a tree has, at most `usize::MAX`.
 ///
 /// `DONE`; `MEMORY`; `ARGUMENT` where the handle has no tree. Refused, `count` is as before.
 #[unsafe(no_mangle)]
 pub extern "C" fn mst_proved_tree_len(alloc: Global, handle: &mut MstTree, count: &mut usize) -> u32
+    ensures done { result ≡ 0 → Holds handle.old.tree (λ s. count.new ≡ row_count (rows_of s)) }
     ensures tree { handle.new.tree ≡ handle.old.tree }
     ensures unchanged { result ≢ 0 → count.new ≡ count.old }
     ensures argument { (result ≡ 4) ↔ (handle.old.tree ≡ None) }
@@ -153,6 +155,7 @@ pub extern "C" fn mst_proved_tree_len(alloc: Global, handle: &mut MstTree, count
 }
 
 fn count_of(handle: MstTree, alloc: Global) -> (MstTree, Result<usize, u32>)
+    ensures count { IfOk result.1 (λ count. Holds handle.tree (λ s. count ≡ row_count (rows_of s))) }
     ensures tree { result.0.tree ≡ handle.tree }
     ensures argument { (result.1 ≡ Err 4) ↔ (handle.tree ≡ None) }
     ensures refused { IfErr result.1 (λ status. (status ≡ 1) ⊎ (status ≡ 4)) }

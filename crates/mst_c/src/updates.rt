@@ -1,11 +1,12 @@
 //! Calls that change the map of a tree.
-ghost use Rattle.std.specs.Prelude.{◌≡◌, ◌≢◌, ◌↔◌, ◌⊎◌, None, true, false};
+ghost use Rattle.std.specs.Prelude.{◌≡◌, ◌≢◌, ◌↔◌, ◌⊎◌, ℕ, List, None, true, false};
 ghost use Rattle.mst_c.specs.Handles.{Changes};
-ghost use Rattle.mst_c.specs.Trees.{SameSettings, IsSet, IsDel};
+ghost use Rattle.mst_c.specs.Lists.{AreRows, IsLoaded};
+ghost use Rattle.mst_c.specs.Trees.{IsSet, IsDel};
 
 use crate::handle::MstTree;
+use crate::reading::ReadError;
 use crate::status::{ABSENT, ARGUMENT, DONE, MALFORMED, MEMORY};
-use crate::wire::WireError;
 use core::mem;
 use std::alloc::Global;
 
@@ -79,7 +80,8 @@ fn remove(handle: MstTree, asked: (Global, &[u8])) -> (MstTree, u32)
 /// handle has no tree. Refused, the tree is as before.
 #[unsafe(no_mangle)]
 pub extern "C" fn mst_proved_tree_load(alloc: Global, handle: &mut MstTree, rows: &[u8]) -> u32
-    ensures done { result ≡ 0 → Changes handle.old.tree handle.new.tree SameSettings }
+    ensures done { result ≡ 0 → Changes handle.old.tree handle.new.tree (IsLoaded rows.now) }
+    ensures malformed { result ≡ 2 → (given : List (List ℕ × List ℕ)) → ¬ (AreRows rows.now given) }
     ensures unchanged { result ≢ 0 → handle.new.tree ≡ handle.old.tree }
     ensures argument { (result ≡ 4) ↔ (handle.old.tree ≡ None) }
     ensures status { (result ≡ 0) ⊎ (result ≡ 1) ⊎ (result ≡ 2) ⊎ (result ≡ 4) }
@@ -88,7 +90,8 @@ pub extern "C" fn mst_proved_tree_load(alloc: Global, handle: &mut MstTree, rows
 }
 
 fn load(handle: MstTree, asked: (Global, &[u8])) -> (MstTree, u32)
-    ensures done { result.1 ≡ 0 → Changes handle.tree result.0.tree SameSettings }
+    ensures done { result.1 ≡ 0 → Changes handle.tree result.0.tree (IsLoaded asked.entry.1.now) }
+    ensures malformed { result.1 ≡ 2 → (given : List (List ℕ × List ℕ)) → ¬ (AreRows asked.entry.1.now given) }
     ensures unchanged { result.1 ≢ 0 → result.0.tree ≡ handle.tree }
     ensures argument { (result.1 ≡ 4) ↔ (handle.tree ≡ None) }
     ensures status { (result.1 ≡ 0) ⊎ (result.1 ≡ 1) ⊎ (result.1 ≡ 2) ⊎ (result.1 ≡ 4) }
@@ -98,7 +101,7 @@ fn load(handle: MstTree, asked: (Global, &[u8])) -> (MstTree, u32)
     };
     match held.load(asked.0, asked.1) {
         Ok(()) => (MstTree::of_box(held), DONE),
-        Err(WireError::Memory) => (MstTree::of_box(held), MEMORY),
-        Err(WireError::Malformed) => (MstTree::of_box(held), MALFORMED),
+        Err(ReadError::Memory) => (MstTree::of_box(held), MEMORY),
+        Err(ReadError::Malformed) => (MstTree::of_box(held), MALFORMED),
     }
 }

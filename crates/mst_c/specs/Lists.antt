@@ -1,0 +1,39 @@
+-- What bytes spell, and what is made of it.
+use Rattle.std.specs.Prelude.{◌≡◌, ℕ, List, length}
+use Rattle.std.specs.Global.{Vec}
+use Rattle.std.specs.List.{AllByRecursion}
+use Rattle.key_order.specs.Interval.{Span}
+use Rattle.key_order.specs.Map.{IsMap}
+use Rattle.key_order.specs.Order.{Upto}
+use Rattle.merkle_digest.specs.SipHash.{siphash128}
+use Rattle.merkle_diff.specs.Difference.{IsAnswer}
+use Rattle.merkle_diff.specs.Entry.{Entry}
+use Rattle.merkle_search_tree.specs.Loading.{digests_of}
+use Rattle.mst_c.specs.Trees.{ByteState, SameSettings, bytes_cmp, key_cmp, rows_of}
+use Rattle.mst_c.specs.Wire.{page_ranges_bytes, key_ranges_bytes, rows_bytes}
+
+-- an entry of a list of page ranges has a digest of 16 bytes, and its first key is at most its last
+abbrev pub IsPageRange : Entry (Vec ℕ) (List ℕ) → Type 0
+IsPageRange e = (length e.digest ≡ 16) × Upto key_cmp e.first e.last
+
+-- the bytes are the list of these page ranges
+abbrev pub ArePageRanges : List ℕ → List (Entry (Vec ℕ) (List ℕ)) → Type 0
+ArePageRanges bytes es = (bytes ≡ page_ranges_bytes es) × AllByRecursion IsPageRange es
+
+-- the bytes are the list of these rows, which ascend by key
+abbrev pub AreRows : List ℕ → List (List ℕ × List ℕ) → Type 0
+AreRows bytes rows = (bytes ≡ rows_bytes rows) × IsMap bytes_cmp rows
+
+-- the map is the rows that the bytes spell, each with the digest of its value, and the settings stay
+abbrev pub IsLoaded : List ℕ → ByteState → ByteState → Type 0
+IsLoaded bytes old new = (rows : List (List ℕ × List ℕ)) × AreRows bytes rows × (rows_of new ≡ digests_of (siphash128 old.hasher) rows) × SameSettings old new
+
+-- the bytes are the list of the key ranges that `diff` may answer on the page ranges that local and peer spell
+abbrev pub IsDiffOf : List ℕ → List ℕ → List ℕ → Type 0
+IsDiffOf local peer bytes =
+    (ls : List (Entry (Vec ℕ) (List ℕ))) × (ps : List (Entry (Vec ℕ) (List ℕ))) × (found : List (Span (Vec ℕ)))
+    × ArePageRanges local ls × ArePageRanges peer ps × IsAnswer key_cmp ls ps found × (bytes ≡ key_ranges_bytes found)
+
+-- an entry by the bytes of its keys
+abbrev pub entry_by_bytes : Entry (Vec ℕ) (List ℕ) → Entry (List ℕ) (List ℕ)
+entry_by_bytes e = record { first = e.first.items; last = e.last.items; digest = e.digest }

@@ -1,0 +1,200 @@
+//! Bytes read as lists of page ranges and of rows. What isn't such a list is malformed.
+
+ghost use Rattle.std.specs.Prelude.{◌≡◌, ◌≢◌, ◌<◌, ◌^◌, ◌++◌, ℕ, List, None, Err, IfOk, IfSome, length, map};
+ghost use Rattle.std.specs.Global.{Vec};
+ghost use Rattle.std.specs.List.{AllByRecursion, flat_map};
+ghost use Rattle.merkle_digest.specs.SipHash.{siphash128};
+ghost use Rattle.merkle_diff.specs.Entry.{Entry};
+ghost use Rattle.merkle_diff.specs.OwnedPageRange.{owned_entry, owned_entries};
+ghost use Rattle.merkle_diff.specs.PageRangeSnapshot.{snapshot_entries};
+ghost use Rattle.merkle_search_tree.specs.Loading.{digests_of};
+ghost use Rattle.mst_c.specs.Lists.{IsPageRange, ArePageRanges, IsDiffOf};
+ghost use Rattle.mst_c.specs.Trees.{by_bytes};
+ghost use Rattle.mst_c.specs.Wire.{number_bytes, text_bytes, row_bytes, entry_bytes, rows_bytes};
+ghost use Rattle.mst_c.specs.declared.reading.ReadError.TheVariants.{Memory, Malformed};
+
+use crate::byte_hasher::ByteHasher;
+use crate::wire::{PAGE_RANGES, ROWS, encode_found};
+use merkle_diff::{OwnedPageRange, PageRangeSnapshot, diff_snapshots};
+use merkle_digest::PageDigest;
+use std::alloc::{AllocError, Global};
+
+/// Why bytes were not read.
+#[derive(Clone, Copy, Debug, PartialEq, Eq)]
+pub enum ReadError {
+    /// Memory was refused.
+    Memory,
+    /// The bytes are no such list.
+    Malformed,
+}
+
+impl From<AllocError> for ReadError {
+    ghost from_gives = { λ _ error. error ≡ Memory };
+
+    fn from(_error: AllocError) -> Self {
+        ReadError::Memory
+    }
+}
+
+/// The number that eight bytes spell.
+fn number(bytes: &[u8; 8]) -> u64
+    ensures { number_bytes result ≡ bytes.now }
+{
+    u64::from_le_bytes(*bytes)
+}
+
+/// The number at the front, and the bytes behind it.
+fn number_of(bytes: &[u8]) -> Option<(u64, &[u8])>
+    ensures number { IfSome result (λ r. bytes.now ≡ number_bytes r.0 ++ r.1.now) }
+    ensures none { result ≡ None → length bytes.now < 8 }
+{
+    let (front, rest) = bytes.split_first_chunk::<8>()?;
+    Some((number(front), rest))
+}
+
+/// The string at the front, and the bytes behind it.
+pub fn text_of(bytes: &[u8]) -> Option<(&[u8], &[u8])>
+    ensures text { IfSome result (λ r. bytes.now ≡ text_bytes r.0.now ++ r.1.now) }
+    ensures short { IfSome result (λ r. length r.0.now < 2 ^ 64) }
+    ensures none { result ≡ None → (text rest : List ℕ) → bytes.now ≢ text_bytes text ++ rest }
+{
+    let (len, rest) = number_of(bytes)?;
+    rest.split_at_checked(len as usize)
+}
+
+/// The two strings at the front, and the bytes behind them.
+pub fn pair_of(bytes: &[u8]) -> Option<(&[u8], &[u8], &[u8])>
+    ensures pair { IfSome result (λ r. bytes.now ≡ row_bytes (r.0.now, r.1.now) ++ r.2.now) }
+    ensures none { result ≡ None → (row : List ℕ × List ℕ) (rest : List ℕ) → bytes.now ≢ row_bytes row ++ rest }
+{
+    let (first, rest) = text_of(bytes)?;
+    let (second, rest) = text_of(rest)?;
+    Some((first, second, rest))
+}
+
+/// The number of entries behind this mark, and the bytes of the entries.
+pub fn body_of<'b>(mark: &[u8; 4], bytes: &'b [u8]) -> Option<(u64, &'b [u8])>
+    ensures body { IfSome result (λ r. bytes.now ≡ mark.now ++ (number_bytes r.0 ++ r.1.now)) }
+    ensures none { result ≡ None → (count : ℕ) (rest : List ℕ) → bytes.now ≢ mark.now ++ (number_bytes count ++ rest) }
+{
+    let (front, rest) = bytes.split_first_chunk::<4>()?;
+    if front != mark {
+        return None;
+    }
+    number_of(rest)
+}
+
+/// The page range at the front, and the bytes behind it.
+fn range_of(alloc: Global, bytes: &[u8]) -> Result<(OwnedPageRange<Vec<u8>>, &[u8]), ReadError>
+    ensures range { IfOk result (λ r. (bytes.now ≡ entry_bytes (owned_entry r.0) ++ r.1.now) × IsPageRange (owned_entry r.0)) }
+    ensures malformed { result ≡ Err Malformed → (e : Entry (Vec ℕ) (List ℕ)) (rest : List ℕ) → IsPageRange e → bytes.now ≢ entry_bytes e ++ rest }
+{
+    let Some((first, last, rest)) = pair_of(bytes) else {
+        return Err(ReadError::Malformed);
+    };
+    let Some((digest, rest)) = rest.split_first_chunk::<16>() else {
+        return Err(ReadError::Malformed);
+    };
+    let own_first = Vec::from_slice(alloc, first)?;
+    let own_last = Vec::from_slice(alloc, last)?;
+    match OwnedPageRange::try_new(own_first, own_last, PageDigest::new(*digest)) {
+        Some(range) => Ok((range, rest)),
+        None => Err(ReadError::Malformed),
+    }
+}
+
+/// So many page ranges, which the bytes are.
+fn ranges_of(
+    alloc: Global,
+    count: u64,
+    body: &[u8],
+) -> Result<Vec<OwnedPageRange<Vec<u8>>>, ReadError>
+    ensures ranges { IfOk result (λ ranges. body.now ≡ flat_map entry_bytes (owned_entries ranges.items)) }
+    ensures counted { IfOk result (λ ranges. length ranges.items ≡ count) }
+    ensures each { IfOk result (λ ranges. AllByRecursion IsPageRange (owned_entries ranges.items)) }
+    ensures malformed { result ≡ Err Malformed → (es : List (Entry (Vec ℕ) (List ℕ))) → AllByRecursion IsPageRange es → length es ≡ count → body.now ≢ flat_map entry_bytes es }
+{
+    let mut ranges = Vec::new(alloc);
+    let mut rest = body;
+    'entries: for _done in 0..count {
+        let (range, behind) = range_of(alloc, rest)?;
+        if ranges.push(range).is_err() {
+            return Err(ReadError::Memory);
+        }
+        rest = behind;
+    }
+    if rest.is_empty() {
+        Ok(ranges)
+    } else {
+        Err(ReadError::Malformed)
+    }
+}
+
+/// The page ranges that the bytes spell.
+pub fn decode(alloc: Global, bytes: &[u8]) -> Result<PageRangeSnapshot<Vec<u8>>, ReadError>
+    ensures ranges { IfOk result (λ snapshot. ArePageRanges bytes.now (snapshot_entries snapshot)) }
+    ensures malformed { result ≡ Err Malformed → (es : List (Entry (Vec ℕ) (List ℕ))) → ¬ (ArePageRanges bytes.now es) }
+{
+    let Some((count, body)) = body_of(&PAGE_RANGES, bytes) else {
+        return Err(ReadError::Malformed);
+    };
+    let ranges = ranges_of(alloc, count, body)?;
+    Ok(PageRangeSnapshot::from_owned(alloc, ranges)?)
+}
+
+/// So many rows, which the bytes are, each with the digest of its value.
+fn rows_of(
+    alloc: Global,
+    hasher: &ByteHasher,
+    count: u64,
+    body: &[u8],
+) -> Result<Vec<(Vec<u8>, [u8; 16])>, ReadError>
+    ensures rows { IfOk result (λ rows. (given : List (List ℕ × List ℕ)) × (body.now ≡ flat_map row_bytes given) × (length given ≡ count)
+        × (map by_bytes rows.items ≡ digests_of (siphash128 hasher.now) given)) }
+    ensures malformed { result ≡ Err Malformed → (given : List (List ℕ × List ℕ)) → length given ≡ count → body.now ≢ flat_map row_bytes given }
+{
+    let mut rows = Vec::new(alloc);
+    let mut rest = body;
+    'entries: for _done in 0..count {
+        let Some((key, value, behind)) = pair_of(rest) else {
+            return Err(ReadError::Malformed);
+        };
+        let own_key = Vec::from_slice(alloc, key)?;
+        if rows.push((own_key, hasher.hash_bytes(value))).is_err() {
+            return Err(ReadError::Memory);
+        }
+        rest = behind;
+    }
+    if rest.is_empty() {
+        Ok(rows)
+    } else {
+        Err(ReadError::Malformed)
+    }
+}
+
+/// The rows that the bytes spell, each with the digest of its value.
+pub fn decode_rows(
+    alloc: Global,
+    hasher: &ByteHasher,
+    bytes: &[u8],
+) -> Result<Vec<(Vec<u8>, [u8; 16])>, ReadError>
+    ensures rows { IfOk result (λ rows. (given : List (List ℕ × List ℕ)) × (bytes.now ≡ rows_bytes given)
+        × (map by_bytes rows.items ≡ digests_of (siphash128 hasher.now) given)) }
+    ensures malformed { result ≡ Err Malformed → (given : List (List ℕ × List ℕ)) → bytes.now ≢ rows_bytes given }
+{
+    let Some((count, body)) = body_of(&ROWS, bytes) else {
+        return Err(ReadError::Malformed);
+    };
+    rows_of(alloc, hasher, count, body)
+}
+
+/// What [`diff_snapshots`] answers on two lists of page ranges, as bytes.
+pub fn differences(alloc: Global, local: &[u8], peer: &[u8]) -> Result<Vec<u8>, ReadError>
+    ensures answer { IfOk result (λ out. IsDiffOf local.now peer.now out.items) }
+    ensures malformed { result ≡ Err Malformed → (ls ps : List (Entry (Vec ℕ) (List ℕ))) → ArePageRanges local.now ls → ¬ (ArePageRanges peer.now ps) }
+{
+    let local = decode(alloc, local)?;
+    let peer = decode(alloc, peer)?;
+    let found = diff_snapshots(alloc, &local, &peer)?;
+    Ok(encode_found(alloc, &found)?)
+}
