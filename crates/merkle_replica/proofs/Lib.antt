@@ -1,5 +1,5 @@
 pub mod Searches
-pub mod Sweeps
+pub mod Seeks
 pub mod Follows
 pub mod Removed
 pub mod Joined

@@ -11,7 +11,7 @@ use Rattle.key_order.specs.Map.{IsMap}
 use Rattle.key_order.proofs.Orders.{low_low, low_up, same_up}
 use Rattle.std.specs.Cmp.{IsEquivalence}
 use Rattle.key_order.specs.Join.{IsJoin, IsJoining}
-use Rattle.merkle_replica.specs.Answers.{IsCut}
+use Rattle.merkle_replica.specs.Answers.{IsPartlyDone}
 use Rattle.merkle_replica.proofs.Joined.{join_none}
 use Rattle.merkle_replica.specs.Places.{IsPlaceOf, IsGapFor}
 use Rattle.merkle_replica.specs.Puts.{IsRising}
@@ -146,7 +146,7 @@ module _ {K V : Type 0} (cmp : K → K → Ordering) (o : IsTotalOrder cmp) wher
   next-some key (r ∷ rs) e = omega arith
 
   -- no row is joined yet
-  pub cut-none : (eq : V → V → Bool) (e : IsEquivalence eq) (join : V → V → V) (j : IsJoining eq join) (wanted old now : List (K × V)) (joined : ℕ) → joined ≡ length wanted → 0 < joined → now ≡ old → IsMap cmp old → IsCut cmp eq join wanted old 0 joined now
+  pub cut-none : (eq : V → V → Bool) (e : IsEquivalence eq) (join : V → V → V) (j : IsJoining eq join) (wanted old now : List (K × V)) (joined : ℕ) → joined ≡ length wanted → 0 < joined → now ≡ old → IsMap cmp old → IsPartlyDone cmp eq join wanted old 0 joined now
   cut-none eq e join j wanted old now joined n s p m = record {
     counted = n;
     not_all = s;

@@ -17,7 +17,7 @@ use Rattle.merkle_replica.specs.Contents.{Contents, Side, SameSetup, side, diges
 use Rattle.merkle_replica.specs.Steps.{IsAnswerTo}
 use Rattle.merkle_replica.specs.Pulls.{IsAnswerFor, IsPull, IsPartOfPull, HasRanges}
 use Rattle.merkle_replica.specs.Faithful.{SpanHolds, HaveFaithfulPages, MissesNone}
-use Rattle.merkle_replica.specs.Answers.{spans_of, IsDone, IsCut}
+use Rattle.merkle_replica.specs.Answers.{spans_of, IsDone, IsPartlyDone}
 use Rattle.merkle_replica.proofs.Bounds.{ascending_digests}
 use Rattle.merkle_replica.proofs.Cover.{covers}
 use Rattle.merkle_replica.proofs.Sides.{same_side}
@@ -39,10 +39,10 @@ module _ {K V H : Type 0} (laws : Laws K V H) where
 
   -- a pull that was cut short
   pub part_from : (local peer : Side K V H) (ranges seen : List (K × K)) (ours theirs after : List (K × V)) (done joined : ℕ) → seen ≡ ranges → ours ≡ local.rows → theirs ≡ peer.rows
-      → IsAnswerFor laws local peer (spans_of ranges) → 1 ≤ done → IsCut laws.cmp laws.eq laws.join (rows_in laws.cmp (spans_of seen) theirs) ours done joined after
+      → IsAnswerFor laws local peer (spans_of ranges) → 1 ≤ done → IsPartlyDone laws.cmp laws.eq laws.join (rows_in laws.cmp (spans_of seen) theirs) ours done joined after
       → IsPartOfPull laws local peer (record { ranges = spans_of ranges; joined = joined }) done after
   part_from local peer ranges seen ours theirs after done joined s l p a n d =
-      let e : IsCut laws.cmp laws.eq laws.join (rows_in laws.cmp (spans_of ranges) peer.rows) local.rows done joined after = rw (← s, ← l, ← p) d in
+      let e : IsPartlyDone laws.cmp laws.eq laws.join (rows_in laws.cmp (spans_of ranges) peer.rows) local.rows done joined after = rw (← s, ← l, ← p) d in
       record { answered = a; counted = e.counted; some = n; not_all = e.not_all; joins = e.joins }
 
   -- coverage

@@ -1,4 +1,4 @@
--- A sweep over ascending ranges by ascending rows finds the rows within the ranges.
+-- One walk over ascending ranges and ascending rows finds the rows within the ranges.
 use Rattle.std.proofs.Common.{◌≡◌, ℕ, zero, suc, ◌+◌, ◌<◌, ◌≤◌, Bool, true, false, not, ◌&&◌, ◌||◌, cond, List, [], ◌∷◌, ◌++◌, length, get_or, take, drop, add-one, refl, sym, ◌∙◌, ap, arith}
 use Rattle.std.specs.List.{AllByRecursion, AllWithin}
 use Rattle.std.specs.List.Sorted.{IsPartitionedBy}
@@ -10,7 +10,7 @@ use Rattle.key_order.specs.Interval.{Span, IsApart, IsOrdered, is_in, is_covered
 use Rattle.key_order.specs.Map.{IsMap, rows_at, rows_in}
 use Rattle.key_order.proofs.Orders.{turned, turned', up_low, low_up, low_low, low_is_up, up_self}
 use Rattle.merkle_replica.specs.Answers.{spans_of}
-use Rattle.merkle_replica.specs.Sweep.{ranges_from, begins_upto}
+use Rattle.merkle_replica.specs.Seek.{ranges_from, begins_upto}
 
 not_not : (a : Bool) → not (not a) ≡ a
 not_not true = refl

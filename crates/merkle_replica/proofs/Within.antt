@@ -8,9 +8,9 @@ use Rattle.key_order.specs.Order.{Below}
 use Rattle.key_order.specs.Interval.{Span, IsApart, is_covered}
 use Rattle.key_order.specs.Map.{IsMap, rows_in}
 use Rattle.key_order.specs.Join.{IsJoin, IsJoining}
-use Rattle.merkle_replica.specs.Answers.{IsDone, IsCut}
-use Rattle.merkle_replica.specs.Sweep.{ranges_from, begins_upto}
-use Rattle.merkle_replica.proofs.Sweeps.{swept, apart_from, map_drop, map_at, from_place, before_row}
+use Rattle.merkle_replica.specs.Answers.{IsDone, IsPartlyDone}
+use Rattle.merkle_replica.specs.Seek.{ranges_from, begins_upto}
+use Rattle.merkle_replica.proofs.Seeks.{swept, apart_from, map_drop, map_at, from_place, before_row}
 use Rattle.merkle_replica.proofs.Joined.{join_more, join_none}
 
 take_front : {X : Type 0} (front more : List X) → take (length front) (front ++ more) ≡ front
@@ -114,7 +114,7 @@ module _ {K : Type 0} (cmp : K → K → Ordering) (o : IsTotalOrder cmp) where
       }
 
       -- a row in the ranges that is refused
-      pub cut_short : begins_upto cmp r.0 next ≡ true → (joined : ℕ) → joined ≡ length (rows_in cmp ss rows) → IsCut cmp eq join (rows_in cmp ss rows) old done joined now
+      pub cut_short : begins_upto cmp r.0 next ≡ true → (joined : ℕ) → joined ≡ length (rows_in cmp ss rows) → IsPartlyDone cmp eq join (rows_in cmp ss rows) old done joined now
       cut_short b joined n =
           let w = still ss rows p.seen left next i r m inside read p.left_over sought b in
           let more = rows_in cmp next (drop (suc i) rows) in

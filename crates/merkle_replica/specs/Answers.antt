@@ -43,7 +43,7 @@ module _ {K V : Type 0} (cmp : K → K → Ordering) (eq : V → V → Bool) (jo
     pub joins : IsJoin cmp eq join local wanted after
 
   -- the first `done` of the wanted rows are joined, and not all
-  pub record IsCut (done joined : ℕ) (after : List (K × V)) : Type 0 where
+  pub record IsPartlyDone (done joined : ℕ) (after : List (K × V)) : Type 0 where
     pub counted : joined ≡ length wanted
     pub not_all : done < joined
     pub joins : IsJoin cmp eq join local (take done wanted) after

@@ -7,7 +7,7 @@ pub mod Places
 pub mod Puts
 pub mod Parted
 pub mod Steps
-pub mod Sweep
+pub mod Seek
 pub use Rattle.key_order.specs.Order
 pub use Rattle.key_order.specs.Interval
 pub use Rattle.key_order.specs.Map

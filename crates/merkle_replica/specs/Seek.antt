@@ -1,4 +1,4 @@
--- A sweep over ascending ranges by ascending keys.
+-- Which of ascending ranges a key is in, or before.
 use Rattle.std.specs.Prelude.{Bool, false, cond, List, [], ◌∷◌}
 use Rattle.std.specs.declared.cmp.Ordering.{Ordering}
 use Rattle.key_order.specs.Order.{upto, below}

@@ -15,8 +15,8 @@ mod pull;
 mod puts;
 mod replica;
 mod rows_within;
+mod seek;
 mod steps;
-mod sweep;
 mod turns;
 mod value_hasher;
 

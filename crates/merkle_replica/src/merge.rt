@@ -9,13 +9,13 @@ ghost use Rattle.key_order.specs.Interval.{IsApart, IsOrdered};
 ghost use Rattle.key_order.specs.Map.{IsMap, rows_in};
 ghost use Rattle.key_order.specs.Join.{IsJoin};
 ghost use Rattle.merkle_replica.specs.Contents.{IsKept};
-ghost use Rattle.merkle_replica.specs.Answers.{spans_of, IsDone, IsCut};
+ghost use Rattle.merkle_replica.specs.Answers.{spans_of, IsDone, IsPartlyDone};
 ghost use Rattle.merkle_replica.specs.Puts.{IsRising, HasGathered, IsGatheredTo};
 ghost use Rattle.merkle_replica.specs.Parted.{whole, FirstNotBelow, first_is};
 
 use crate::join::Join;
 use crate::pull::Cut;
-use crate::sweep::{count_within, first_from, seek};
+use crate::seek::{count_within, first_from, seek};
 use merkle_digest::{Hasher, KeyBytes};
 use merkle_search_tree::MerkleSearchTree;
 use std::alloc::{AllocError, Global};
@@ -188,7 +188,7 @@ where
     requires kept { IsKept K.cmp ⟦<H as Hasher<N, V>>⟧.digest_of (record { rows = rows.old.items; tree = tree.old }) }
     ensures kept { IsKept K.cmp ⟦<H as Hasher<N, V>>⟧.digest_of (record { rows = rows.new.items; tree = tree.new }) }
     ensures all { IfOk result (λ joined. IsDone K.cmp V.eq V.join_of (rows_in K.cmp (spans_of ranges.now) theirs.now) rows.old.items joined rows.new.items) }
-    ensures cut { IfErr result (λ cut. IsCut K.cmp V.eq V.join_of (rows_in K.cmp (spans_of ranges.now) theirs.now) rows.old.items cut.done cut.joined rows.new.items) }
+    ensures cut { IfErr result (λ cut. IsPartlyDone K.cmp V.eq V.join_of (rows_in K.cmp (spans_of ranges.now) theirs.now) rows.old.items cut.done cut.joined rows.new.items) }
     ensures hasher { tree.new.hasher ≡ tree.old.hasher }
     ensures base { tree.new.base ≡ tree.old.base }
     ensures format { tree.new.format ≡ tree.old.format }

@@ -279,7 +279,7 @@ impl<
     ghost use Rattle.std.specs.List.{AllByRecursion};
     ghost use Rattle.key_order.specs.Interval.{IsApart, IsOrdered};
     ghost use Rattle.key_order.specs.Map.{rows_in};
-    ghost use Rattle.merkle_replica.specs.Answers.{spans_of, IsDone, IsCut};
+    ghost use Rattle.merkle_replica.specs.Answers.{spans_of, IsDone, IsPartlyDone};
     ghost use Rattle.merkle_replica.specs.Puts.{IsRising, HasGathered, IsGatheredTo};
 
     /// Joins the rows of `theirs` in the ranges, in one pass over both, and answers how many they are.
@@ -289,7 +289,7 @@ impl<
         requires ordered { AllByRecursion (IsOrdered K.cmp) (spans_of ranges.now) }
         requires ascending { IsMap K.cmp theirs.now }
         ensures all { IfOk result (λ joined. IsDone K.cmp V.eq V.join_of (rows_in K.cmp (spans_of ranges.now) theirs.now) self.old.rows joined self.new.rows) }
-        ensures cut { IfErr result (λ cut. IsCut K.cmp V.eq V.join_of (rows_in K.cmp (spans_of ranges.now) theirs.now) self.old.rows cut.done cut.joined self.new.rows) }
+        ensures cut { IfErr result (λ cut. IsPartlyDone K.cmp V.eq V.join_of (rows_in K.cmp (spans_of ranges.now) theirs.now) self.old.rows cut.done cut.joined self.new.rows) }
         ensures setup { SameSetup self.old self.new }
     {
         join_all(self.alloc, &mut self.rows, &mut self.tree, theirs, ranges)

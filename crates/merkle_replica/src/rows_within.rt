@@ -6,7 +6,7 @@ ghost use Rattle.key_order.specs.Map.{IsMap, rows_in};
 ghost use Rattle.merkle_replica.specs.Answers.{spans_of};
 ghost use Rattle.merkle_replica.specs.Steps.{AreRanges};
 
-use crate::sweep::{is_below, is_upto, seek};
+use crate::seek::{is_below, is_upto, seek};
 use std::marker::Model;
 
 /// The rows of a replica in ranges of keys that are still to come, in ascending key order. A contract sees the list of them. It walks

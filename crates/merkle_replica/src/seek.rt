@@ -5,7 +5,7 @@ ghost use Rattle.key_order.specs.Order.{Upto, Below, upto, below};
 ghost use Rattle.key_order.specs.Interval.{IsApart};
 ghost use Rattle.key_order.specs.Map.{IsMap, rows_in};
 ghost use Rattle.merkle_replica.specs.Answers.{spans_of};
-ghost use Rattle.merkle_replica.specs.Sweep.{ranges_from, begins_upto};
+ghost use Rattle.merkle_replica.specs.Seek.{ranges_from, begins_upto};
 
 /// Where the first of the ranges from `from` on stands that doesn't end below the key, and whether the key is in it.
 pub fn seek<K: Ord>(ranges: &[(K, K)], from: usize, key: &K) -> (usize, bool)

@@ -13,7 +13,7 @@ use crate::lawful::Lawful;
 use crate::pull::ask_of;
 use crate::replica::Replica;
 use crate::rows_within::{RowsWithin, are_ranges};
-use crate::sweep::is_below;
+use crate::seek::is_below;
 use merkle_diff::PageRangeSnapshot;
 use merkle_digest::{Hasher, KeyBytes};
 use std::alloc::AllocError;

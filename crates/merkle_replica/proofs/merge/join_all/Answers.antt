@@ -2,14 +2,14 @@ use Rattle.std.proofs.Common.{rules, true, ◌≡◌, get_or, drop, refl, sym, s
 use Rattle.std.specs.List.{AllByRecursion}
 use Rattle.key_order.specs.Map.{rows_in}
 use Rattle.key_order.specs.Order.{Below}
-use Rattle.merkle_replica.specs.Answers.{spans_of, IsDone, IsCut}
+use Rattle.merkle_replica.specs.Answers.{spans_of, IsDone, IsPartlyDone}
 use Rattle.key_order.proofs.Orders.{low_is_up}
 use Rattle.merkle_replica.specs.Contents.{IsKept}
 use Rattle.merkle_replica.specs.Parted.{whole}
 use Rattle.merkle_replica.proofs.Searches.{went, refused}
 use Rattle.merkle_replica.proofs.Within.{Joins, joins_none, joins_past, joins_more, cut_short, all_done}
-use Rattle.merkle_replica.specs.Sweep.{begins_upto}
-use Rattle.merkle_replica.proofs.Sweeps.{rows_rise, first_upto, first_low, some_range}
+use Rattle.merkle_replica.specs.Seek.{begins_upto}
+use Rattle.merkle_replica.proofs.Seeks.{rows_rise, first_upto, first_low, some_range}
 use Rattle.merkle_replica.proofs.Merging.{cut-none, low-further}
 use Rattle.merkle_replica.proofs.merge.join_all.Goals as goal
 use Rattle.merkle_replica.proofs.merge.join_all.Goals.{then-found+else-is_err, else-found}
@@ -79,7 +79,7 @@ returns-then-is_err-clause-cut g c =
     c.requires.ascending c.joining-test.true c.row-item.is c.seek-next.ensures.place c.args.rows.now.items (whole c.joining.rows.items c.joining.back.items) c.joining.done c.joining.invariant.joins
     (sym c.seek-next.ensures.found ∙ c.if-found.true) c.count_within-joined.result c.count_within-joined.ensures in
     let same = refused c.take_row.result (sym c.is_err.ensures.value ∙ c.if-is_err.true) c.take_row.ensures.unchanged in
-    subst (IsCut g.K.Ord.cmp g.V.PartialEq.eq g.V.Join.join_of (rows_in g.K.Ord.cmp ss c.args.theirs.now) c.args.rows.now.items c.joining.done c.count_within-joined.result) (sym (c.turn_over.ensures.moved ∙ same)) cut
+    subst (IsPartlyDone g.K.Ord.cmp g.V.PartialEq.eq g.V.Join.join_of (rows_in g.K.Ord.cmp ss c.args.theirs.now) c.args.rows.now.items c.joining.done c.count_within-joined.result) (sym (c.turn_over.ensures.moved ∙ same)) cut
 
 pub joining-preserved : goal.joining-preserved
 joining-preserved g c =

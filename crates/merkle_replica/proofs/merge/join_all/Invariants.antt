@@ -5,7 +5,7 @@ use Rattle.key_order.specs.Order.{Below}
 use Rattle.merkle_replica.specs.Answers.{spans_of}
 use Rattle.merkle_replica.specs.Contents.{IsKept}
 use Rattle.merkle_replica.specs.Parted.{whole}
-use Rattle.merkle_replica.specs.Sweep.{begins_upto}
+use Rattle.merkle_replica.specs.Seek.{begins_upto}
 use Rattle.merkle_replica.proofs.Within.{Joins}
 use Rattle.merkle_replica.proofs.merge.join_all.Given as goal
 

@@ -3,7 +3,7 @@ use Rattle.std.proofs.lemmas.List.{get_or_default}
 use Rattle.key_order.specs.Order.{upto}
 use Rattle.key_order.proofs.Bools.{false_not_true}
 use Rattle.merkle_replica.proofs.Ranging.{are_from, are_at, begins_behind_passes}
-use Rattle.merkle_replica.proofs.Sweeps.{upto_true}
+use Rattle.merkle_replica.proofs.Seeks.{upto_true}
 use Rattle.merkle_replica.proofs.rows_within.are_ranges.Goals as goal
 
 pub returns-then-not-is_upto : goal.returns-then-not-is_upto

@@ -2,7 +2,7 @@ use Rattle.std.proofs.Common.{◌+◌, [], ◌∷◌, drop, add-one, sym, ◌∙
 use Rattle.key_order.specs.Map.{IsMap, rows_in}
 use Rattle.key_order.specs.Interval.{IsApart}
 use Rattle.merkle_replica.specs.Answers.{spans_of}
-use Rattle.merkle_replica.proofs.Sweeps.{map_drop}
+use Rattle.merkle_replica.proofs.Seeks.{map_drop}
 use Rattle.merkle_replica.proofs.Ranging.{spans_drop}
 use Rattle.merkle_replica.proofs.Within.{Left, still, passes, apart_next, left_all, left_none}
 use Rattle.merkle_replica.proofs.rows_within.first_within.Goals as goal

@@ -1,8 +1,8 @@
 use Rattle.std.proofs.Common.{drop, true, false, sym, ◌∙◌, arith}
 use Rattle.merkle_replica.specs.Answers.{spans_of}
 use Rattle.merkle_replica.proofs.Within.{counts_none, counts_more, counts_all}
-use Rattle.merkle_replica.proofs.sweep.count_within.Goals as goal
-use Rattle.merkle_replica.proofs.sweep.count_within.Goals.{then-found, else-found}
+use Rattle.merkle_replica.proofs.seek.count_within.Goals as goal
+use Rattle.merkle_replica.proofs.seek.count_within.Goals.{then-found, else-found}
 
 pub counting-init : goal.counting-init
 counting-init g c = record { inside = omega arith; counts = counts_none g.K.Ord.cmp g.met.K.Ord.total (spans_of c.args.ranges.now) c.args.rows.now c.requires.apart; few = omega arith }

@@ -1,8 +1,8 @@
 use Rattle.std.proofs.Common.{rules}
 use Rattle.std.proofs.lemmas.Fn.{always_returns_same}
 use Rattle.key_order.specs.Order.{below}
-use Rattle.merkle_replica.proofs.Sweeps.{falls_along, all_taken, all_left}
-use Rattle.merkle_replica.proofs.sweep.first_from.Goals as goal
+use Rattle.merkle_replica.proofs.Seeks.{falls_along, all_taken, all_left}
+use Rattle.merkle_replica.proofs.seek.first_from.Goals as goal
 
 pub returns-clause-below : goal.returns-clause-below
 returns-clause-below g c =

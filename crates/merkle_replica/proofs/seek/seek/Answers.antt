@@ -1,8 +1,8 @@
 use Rattle.std.proofs.Common.{◌<◌, length, sym, ◌∙◌, ap, arith}
 use Rattle.std.proofs.lemmas.List.{get_or_default}
 use Rattle.key_order.specs.Order.{below}
-use Rattle.merkle_replica.proofs.Sweeps.{seek_past, seek_here}
-use Rattle.merkle_replica.proofs.sweep.seek.Goals as goal
+use Rattle.merkle_replica.proofs.Seeks.{seek_past, seek_here}
+use Rattle.merkle_replica.proofs.seek.seek.Goals as goal
 
 pub returns-then-not-is_below-clause-place : goal.returns-then-not-is_below-clause-place
 returns-then-not-is_below-clause-place g c =

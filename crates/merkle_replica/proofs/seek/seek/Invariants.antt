@@ -1,7 +1,7 @@
 use Rattle.std.proofs.Common.{◌≡◌, ◌≤◌, drop, length}
 use Rattle.merkle_replica.specs.Answers.{spans_of}
-use Rattle.merkle_replica.specs.Sweep.{ranges_from}
-use Rattle.merkle_replica.proofs.sweep.seek.Given as goal
+use Rattle.merkle_replica.specs.Seek.{ranges_from}
+use Rattle.merkle_replica.proofs.seek.seek.Given as goal
 
 -- the ranges passed so far end below the key
 abbrev pub invariant-seeking : goal.invariant-seeking

@@ -2,7 +2,7 @@ use Rattle.std.proofs.Common.{◌≡◌, suc, ◌-◌, false, get_or, refl, sym,
 use Rattle.key_order.specs.Order.{Below, below}
 use Rattle.key_order.proofs.Bools.{false_not_true}
 use Rattle.merkle_replica.proofs.Ranging.{next_further, beside, map_from}
-use Rattle.merkle_replica.proofs.Sweeps.{rows_rise}
+use Rattle.merkle_replica.proofs.Seeks.{rows_rise}
 use Rattle.merkle_replica.proofs.steps.ascend.Goals as goal
 
 pub returns-then-not-is_below : goal.returns-then-not-is_below
