@@ -1,14 +1,12 @@
 -- The tree's map follows the rows.
-use Rattle.std.proofs.Common.{◌≡◌, ℕ, List, [], ◌∷◌, Option, refl, sym, ◌∙◌, subst}
+use Rattle.std.proofs.Common.{◌≡◌, ℕ, List, [], ◌∷◌, refl, sym, ◌∙◌, subst}
 use Rattle.std.specs.Cmp.{IsTotalOrder, alike_right}
 use Rattle.std.specs.declared.cmp.Ordering.{Ordering}
 use Rattle.std.specs.declared.cmp.Ordering.TheVariants.{Less, Equal, Greater}
 use Rattle.key_order.specs.Order.{Same}
 use Rattle.key_order.specs.Map.{IsMap, SameMap, set}
 use Rattle.key_order.proofs.Sets.{ascending_set}
-use Rattle.merkle_search_tree.specs.Cache.{filled}
 use Rattle.merkle_search_tree.specs.State.{State, map_of}
-use Rattle.merkle_search_tree.proofs.Fill.{pairs-filled}
 use Rattle.merkle_replica.specs.Contents.{IsKept, digests}
 
 module _ {K V D : Type 0} (cmp : K → K → Ordering) (o : IsTotalOrder cmp) (hash : V → D) where
@@ -28,12 +26,14 @@ module _ {K V D : Type 0} (cmp : K → K → Ordering) (o : IsTotalOrder cmp) (h
       go f Greater w = rw (here ∙ w, w) (h.0, h.1, f)
 
 module _ {K V H : Type 0} (cmp : K → K → Ordering) (digest_of : H → V → List ℕ) where
-  -- the caches are filled in
-  pub kept_filled : (bytes_of : K → List ℕ) (rows : List (K × V)) (old new : State K H) (h : Option (List ℕ)) → new ≡ record old { root = filled old.format bytes_of old.root; root_hash = h }
+  -- the tree keeps its map and its hasher
+  pub kept_hashed : (rows : List (K × V)) (old new : State K H) → map_of new ≡ map_of old → new.hasher ≡ old.hasher
       → IsKept cmp digest_of (record { rows = rows; tree = old }) → IsKept cmp digest_of (record { rows = rows; tree = new })
-  kept_filled bytes_of rows old new h e k =
-      subst (λ t. IsKept cmp digest_of (record { rows = rows; tree = t })) (sym e)
-      (record { ascending = k.ascending; digested = subst (λ m. SameMap cmp (λ d c. d ≡ c) m (digests (digest_of old.hasher) rows)) (sym (pairs-filled old.format bytes_of old.root)) k.digested })
+  kept_hashed rows old new m h k = record {
+    ascending = k.ascending;
+    digested = subst (λ hasher. SameMap cmp (λ d c. d ≡ c) (map_of new) (digests (digest_of hasher) rows)) (sym h)
+        (subst (λ ps. SameMap cmp (λ d c. d ≡ c) ps (digests (digest_of old.hasher) rows)) (sym m) k.digested);
+  }
 
   -- a row is set, and its digest in the tree at an equal key
   pub kept_set : IsTotalOrder cmp → (rows rows' : List (K × V)) (old new : State K H) (k key : K) (v : V) → rows' ≡ set cmp rows key v → map_of new ≡ set cmp (map_of old) k (digest_of old.hasher v) → new.hasher ≡ old.hasher → Same cmp k key
@@ -43,7 +43,3 @@ module _ {K V H : Type 0} (cmp : K → K → Ordering) (digest_of : H → V → 
         ascending = subst (IsMap cmp) (sym r) (ascending_set cmp o rows key v kept.ascending);
         digested = rw (r, m, h) (digests_set cmp o (digest_of old.hasher) (map_of old) rows k key v s kept.digested);
       }
-
-  -- nothing is there yet
-  pub kept_empty : (rows : List (K × V)) (t : State K H) → rows ≡ [] → map_of t ≡ [] → IsKept cmp digest_of (record { rows = rows; tree = t })
-  kept_empty rows t r m = record { ascending = rw r tt; digested = rw (r, m) tt }

@@ -15,7 +15,9 @@ use crate::join::Join;
 use crate::lawful::Lawful;
 use crate::replica::Replica;
 use merkle_digest::{Hasher, KeyBytes, KeyBytesExact};
-use merkle_search_tree::laws::{a_tree_in_memory_is_small, exact_keys_make_pages_faithful};
+use merkle_search_tree::laws::{
+    a_tree_in_memory_is_small, equal_keys_have_equal_bytes, exact_keys_make_pages_faithful,
+};
 
 /// In format 2, where the bytes of a key tell it from every other, it is premise enough that no streams and no values collide, for
 /// coverage by [`Replica::pull`](crate::Replica::pull), for convergence by [`pull_by_turns`](crate::pull_by_turns), and for the
@@ -59,6 +61,7 @@ pub fn a_replica_in_memory_is_small<
 >(replica: &Replica<K, V, H, N>)
     ensures { HasSmallMap ⟦<H as Lawful<N, K, V>>⟧.laws N (side replica.now) }
 {
+    equal_keys_have_equal_bytes::<K>();
     a_tree_in_memory_is_small(replica.tree());
 }
 

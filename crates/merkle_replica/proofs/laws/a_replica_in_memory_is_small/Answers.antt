@@ -1,5 +1,4 @@
 use Rattle.merkle_search_tree.specs.State.{map_of}
-use Rattle.merkle_search_tree.proofs.Sound.{same_bytes}
 use Rattle.merkle_replica.specs.Contents.{digests}
 use Rattle.merkle_replica.proofs.Small.{small_same}
 use Rattle.merkle_replica.proofs.laws.a_replica_in_memory_is_small.Goals as goal
@@ -7,6 +6,6 @@ use Rattle.merkle_replica.proofs.laws.a_replica_in_memory_is_small.Goals as goal
 pub returns : goal.returns
 returns g c =
     let r = c.args.replica.now in
-    small_same g.K.Ord.cmp g.met.K.Ord.total g.K.KeyBytes.bytes_of (same_bytes g.K.Ord.cmp g.K.PartialEq.eq g.met.K.Ord.matches_eq g.K.KeyBytes.bytes_of g.met.K.KeyBytes.bytes_respect_eq) g.row.N
+    small_same g.K.Ord.cmp g.met.K.Ord.total g.K.KeyBytes.bytes_of c.equal_keys_have_equal_bytes.ensures g.row.N
     (g.H.Hasher-1.digest_of r.tree.hasher) r.tree.base (map_of r.tree) (digests (g.H.Hasher-2.digest_of r.tree.hasher) r.rows) c.tree.ensures.digests
     (rw c.tree.ensures.tree at c.a_tree_in_memory_is_small.ensures)
