@@ -1,13 +1,14 @@
-/* Merkle search trees: a map from byte strings to the digests of byte strings, whose root hash depends on the map alone, and what two
- * stores need to bring each other up to date by the ranges of their pages, one for some sixteen keys.
+/* Merkle search trees: a map from byte strings to the digests of byte strings, whose root hash depends on the map and on the settings
+ * of the tree alone, and what two stores need to bring each other up to date by the ranges of their pages, one for some sixteen keys.
  *
  * Every call but mst_tree_free answers one of the statuses below, and none aborts. A call that doesn't answer MST_DONE leaves the map
- * as it was, and what it would write to; only what `needed` points to may have changed. A null pointer where the call needs one is
- * MST_BAD_ARGUMENT; where a length is 0, its pointer may be null.
+ * as it was, and what it would write to; only what `needed` points to may have changed. A null pointer where the call needs something
+ * to point to is MST_BAD_ARGUMENT; where a length is 0, its pointer may be null.
  *
- * What the caller owes, since no call can test it: a length is at most that of the memory behind its pointer; a handle is changed by
- * these calls alone, is copied by mst_tree_clone and not by `=`, and is used by one thread at a time; what a call writes to doesn't
- * overlap what it reads; malloc, realloc and free are those of one allocator, and no call is made from a signal handler. */
+ * What the caller owes, since no call can test it: a length is at most that of the memory behind its pointer; a handle is changed
+ * by these calls alone, is copied by mst_tree_clone and not by `=`, and is used by one thread at a time; what a call writes to
+ * overlaps nothing else that the call is given; malloc, realloc and free are those of one allocator, and no call is made from a
+ * signal handler. */
 #ifndef MST_H
 #define MST_H
 
@@ -21,7 +22,7 @@ extern "C" {
 enum {
     MST_DONE = 0,         /* the call did what it is for */
     MST_NO_MEMORY = 1,    /* memory was refused; the same call may be made again */
-    MST_MALFORMED = 2,    /* the bytes that were given are no such list */
+    MST_MALFORMED = 2,    /* the bytes are no list of the kind that the call takes, or its rows don't ascend */
     MST_TOO_SHORT = 3,    /* `out` is too short, and is as before; *needed says how many bytes it takes */
     MST_BAD_ARGUMENT = 4, /* an argument isn't one that the call takes */
     MST_ABSENT = 5        /* there is no such key, or no further range */
@@ -38,15 +39,15 @@ struct mst_tree { void *at; };
  * MST_NO_MEMORY. One request for memory. */
 int mst_tree_new(struct mst_tree *out);
 
-/* The same with a key of SipHash, a level base and a page format, which peers that compare trees have in common: mst_diff can't tell
- * that they haven't, and asks for nearly all. The level base is from 1 to 255; one key in so many stands a level higher, so a lesser
- * one makes more and smaller pages. The page format is 1, or 2, in which what a page digest is made of can be read in one way only:
- * take 2 where no peer needs root hashes of the Rust crate. MST_BAD_ARGUMENT for any other base or format, too; MST_NO_MEMORY. One
- * request for memory. */
+/* The same with a key of SipHash, a level base and a page format, which peers that compare trees have in common: mst_diff can't
+ * tell that they haven't, and asks for far too much, or for nothing. The level base is from 1 to 255; one key in so many stands a
+ * level higher, so a lesser one makes more and smaller pages. The page format is 1, or 2, in which what a page digest is made of
+ * can be read in one way only: take 2 where no peer needs root hashes of the Rust crate. MST_BAD_ARGUMENT for any other base or
+ * format, too; MST_NO_MEMORY. One request for memory. */
 int mst_tree_new_with(struct mst_tree *out, const uint8_t key[16], uint8_t level_base, uint8_t page_format);
 
 /* Gives `out`, which has no tree, a copy of the tree, which mst_tree_free lets go. MST_BAD_ARGUMENT where `tree` has none or `out` has
- * one; MST_NO_MEMORY. Time and memory in proportion to the tree. */
+ * one, for which MST_NO_MEMORY may be answered too; MST_NO_MEMORY. Time and memory in proportion to the tree. */
 int mst_tree_clone(struct mst_tree *tree, struct mst_tree *out);
 
 /* Lets the tree of a handle go, and leaves the handle without one, so that to free it twice does no harm; a null pointer does
@@ -72,8 +73,8 @@ int mst_tree_load(struct mst_tree *tree, const uint8_t *rows, size_t rows_len);
  * MST_NO_MEMORY; MST_BAD_ARGUMENT. */
 int mst_tree_len(struct mst_tree *tree, size_t *out);
 
-/* Writes the root hash. Trees of one map have one root hash, in whatever order their keys came. It hashes the pages that changed
- * since the last call, and takes no memory. MST_BAD_ARGUMENT where the handle has no tree. */
+/* Writes the root hash. Trees of one map and with the same settings have one root hash, in whatever order their keys came. It hashes
+ * the pages that changed since the last call, and takes no memory. MST_BAD_ARGUMENT where the handle has no tree. */
 int mst_tree_root_hash(struct mst_tree *tree, uint8_t out[16]);
 
 /* Writes the page ranges of a tree as a list (below), which may be sent to a peer as it is, and how many bytes they are. To learn
@@ -102,7 +103,7 @@ struct mst_range {
 /* Goes to the next range of a list of page ranges or key ranges, without copying or taking memory. *at is where it stands: 0 before
  * the first, where the whole list is read once, and then what the call before left there. MST_ABSENT behind the last; MST_MALFORMED
  * where the bytes are no such list (that a first key is above a last one isn't looked for); MST_BAD_ARGUMENT where *at is outside of
- * it. */
+ * it. At a place that no call left there it is as safe, but may answer a range that isn't one of the list. */
 int mst_ranges_next(const uint8_t *list, size_t list_len, size_t *at, struct mst_range *out);
 
 /* Lists, byte by byte. A number is eight bytes, the lowest first. A string is its length, a number, and its bytes.
@@ -111,8 +112,8 @@ int mst_ranges_next(const uint8_t *list, size_t list_len, size_t *at, struct mst
  *   key ranges    the four bytes "MSTk", how many ranges there are, and each range: first key, last key
  *   rows          the four bytes "MSTr", how many rows there are, and each row: key, value
  *
- * Keys and values are strings. In a list of page ranges no first key is above its last key; in a list of key ranges that a peer
- * sent, one may be, and holds no key. Nothing follows the last entry. Each list may be sent as it is. */
+ * Keys and values are strings. In a list of page ranges no first key is above its last key; a list of key ranges that a peer sent may
+ * have one whose first key is above its last, and which holds no key. Nothing follows the last entry. Each list may be sent as it is. */
 
 #ifdef __cplusplus
 }

@@ -1,16 +1,18 @@
 -- Bytes are read in one way: what is written tells where it ends.
-use Rattle.std.proofs.Common.{◌≡◌, refl, Bool, true, false, ℕ, ◌+◌, ◌<◌, ◌≤◌, ◌^◌, List, [], ◌∷◌, ◌++◌, length, map, take, drop, sym, ap, ◌∙◌, arith}
+use Rattle.std.proofs.Common.{◌≡◌, refl, Bool, true, false, ℕ, ◌+◌, ◌-◌, ◌<◌, ◌≤◌, ◌^◌, List, [], ◌∷◌, ◌++◌, length, get_or, map, subst, take, drop, sym, ap, ◌∙◌, arith}
 use Rattle.std.specs.Bool.{⊤}
 use Rattle.std.specs.Int.{w64, from_le_bytes}
 use Rattle.std.specs.List.{AllByRecursion, flat_map}
-use Rattle.std.proofs.lemmas.List.{append_assoc, append-nil, length-append, take_at, drop_at}
+use mathlib.Core.List.{map-map}
+use Rattle.std.proofs.lemmas.List.{append_assoc, append-nil, length-append, length-map, take_at, drop_at}
 use Rattle.std.proofs.lemmas.Nat.{from_le_bytes-to_le_bytes_8}
 use Rattle.std.proofs.lemmas.Grind.{flat_map-append}
 use Rattle.std.specs.Global.{Vec}
 use Rattle.merkle_diff.specs.Entry.{Entry}
-use Rattle.mst_c.specs.Lists.{ArePageRanges, IsPageRange, entry_by_bytes}
-use Rattle.mst_c.specs.Spots.{mark_of}
-use Rattle.mst_c.specs.Wire.{number_bytes, text_bytes, row_bytes, entry_bytes, list_bytes, page_mark, row_mark, rows_bytes}
+use Rattle.mst_c.specs.Lists.{ArePageRanges, IsPageRange, entry_by_bytes, span_by_bytes}
+use Rattle.mst_c.specs.Spots.{AreEntries, Parts, digest_len, mark_of, parts_bytes}
+use Rattle.key_order.specs.Interval.{Span}
+use Rattle.mst_c.specs.Wire.{key_mark, key_ranges_bytes, span_bytes, number_bytes, text_bytes, row_bytes, entry_bytes, list_bytes, page_mark, row_mark, rows_bytes}
 
 -- two appends of fronts of one length are part by part the same
 pub same_parts : {X : Type 0} (a b c d : List X) → length a ≡ length b → a ++ c ≡ b ++ d → (a ≡ b) × (c ≡ d)
@@ -166,3 +168,80 @@ row_length x rest =
 pub mark_length : (has_digests : Bool) → length (mark_of has_digests) ≡ 4
 mark_length true = refl
 mark_length false = refl
+
+-- entries of either kind of list: each tells where it ends, and has some bytes
+pub parts_flat : (e : Parts) (rest : List ℕ) → parts_bytes e ++ rest ≡ row_bytes e.0 ++ (e.1 ++ rest)
+parts_flat e rest = append_assoc (row_bytes e.0) e.1 rest
+
+pub parts_end : (size : ℕ) (e f : Parts) (r s : List ℕ) → length e.1 ≡ size → length f.1 ≡ size → length (parts_bytes e ++ r) < 2 ^ 64 → parts_bytes e ++ r ≡ parts_bytes f ++ s → r ≡ s
+parts_end size e f r s p q fits is =
+    let at = parts_flat e r in
+    let keys = one_row e.0 f.0 (e.1 ++ r) (f.1 ++ s) (omega (arith, ap length at)) (sym at ∙ is ∙ parts_flat f s) in
+    (same_parts e.1 f.1 r s (p ∙ sym q) keys.1).1
+
+pub some_parts : (e : Parts) → 1 ≤ length (parts_bytes e)
+some_parts e = omega (arith, some_row e.0, length-append (row_bytes e.0) e.1)
+
+pub all_more : {X : Type 0} (P : X → Type 0) (xs : List X) (x : X) → AllByRecursion P xs → P x → AllByRecursion P (xs ++ x ∷ [])
+all_more P [] x a p = (p, tt)
+all_more P (y ∷ ys) x a p = (a.0, all_more P ys x a.1 p)
+
+-- the mark tells which kind of list it is
+one_mark : (b c : Bool) → mark_of b ≡ mark_of c → b ≡ c
+one_mark true true e = refl
+one_mark true false e = absurd (omega (arith, ap (λ bytes. get_or bytes 3 0) e))
+one_mark false true e = absurd (omega (arith, ap (λ bytes. get_or bytes 3 0) e))
+one_mark false false e = refl
+
+-- what is in front of the entries is read in one way
+pub one_front : (list : List ℕ) (b c : Bool) (m n : ℕ) (x y : List ℕ) → m < 2 ^ 64 → length list < 2 ^ 64
+    → list ≡ mark_of b ++ (number_bytes m ++ x) → list ≡ mark_of c ++ (number_bytes n ++ y) → AreEntries c n y → AreEntries b m x
+one_front list b c m n x y fits short e f are =
+    let marks = same_parts (mark_of b) (mark_of c) (number_bytes m ++ x) (number_bytes n ++ y) (mark_length b ∙ sym (mark_length c)) (sym e ∙ f) in
+    let few : n < 2 ^ 64 = omega (arith, are.1, no_more parts_bytes some_parts are.0, ap length are.3, ap length f, length-append (mark_of c) (number_bytes n ++ y), length-append (number_bytes n) y) in
+    let both = one_number m n x y fits few marks.1 in
+    let kind = one_mark b c marks.0 in
+    subst (λ k. AreEntries k m x) (sym kind) (subst (λ k. AreEntries c k x) (sym both.0) (subst (AreEntries c n) (sym both.1) are))
+
+-- entries that have bytes have a first one
+pub first_parts : (has_digests : Bool) (count : ℕ) (bytes : List ℕ) → AreEntries has_digests count bytes → ¬ (length bytes ≡ 0)
+    → (e : Parts) × (rest : List ℕ) × (length e.1 ≡ digest_len has_digests) × (bytes ≡ parts_bytes e ++ rest)
+first_parts has_digests count bytes are some = first are.0 are.2 are.3
+  where
+    first : (es : List Parts) → AllByRecursion (λ e. length e.1 ≡ digest_len has_digests) es → bytes ≡ flat_map parts_bytes es → (e : Parts) × (rest : List ℕ) × (length e.1 ≡ digest_len has_digests) × (bytes ≡ parts_bytes e ++ rest)
+    first [] a e = absurd (some (ap length e))
+    first (x ∷ xs) a e = (x, flat_map parts_bytes xs, a.0, e)
+
+-- the entries are behind the mark and the number
+pub body_behind : (list : List ℕ) (b : Bool) (m : ℕ) (body : List ℕ) → list ≡ mark_of b ++ (number_bytes m ++ body) → drop (length list - length body) list ≡ body
+body_behind list b m body e =
+    let front = mark_of b ++ number_bytes m in
+    let whole = e ∙ sym (append_assoc (mark_of b) (number_bytes m) body) in
+    let size : length front ≡ length list - length body = omega (arith, ap length whole, length-append front body) in
+    ap (drop (length list - length body)) whole ∙ drop_at front body (length list - length body) size
+
+-- ranges of keys are written as rows of their bounds
+abbrev bounds : Span (Vec ℕ) → List ℕ × List ℕ
+bounds s = (s.first.items, s.last.items)
+
+as_rows : (ss : List (Span (Vec ℕ))) → flat_map span_bytes ss ≡ flat_map row_bytes (map bounds ss)
+as_rows [] = λ i. []
+as_rows (s ∷ ss) = ap (λ t. span_bytes s ++ t) (as_rows ss)
+
+-- a list of key ranges is read in one way
+pub one_list_of_key_ranges : (all : List ℕ) (ss ts : List (Span (Vec ℕ))) → length all < 2 ^ 64 → all ≡ key_ranges_bytes ss → all ≡ key_ranges_bytes ts → map span_by_bytes ss ≡ map span_by_bytes ts
+one_list_of_key_ranges all ss ts short e f =
+    let xs = map bounds ss in let ys = map bounds ts in
+    let many = sym (length-map ss bounds) in let more = sym (length-map ts bounds) in
+    let whole : all ≡ list_bytes key_mark row_bytes xs = e ∙ (λ i. key_mark ++ (number_bytes (many i) ++ as_rows ss i)) in
+    let at : all ≡ list_bytes key_mark row_bytes ys = f ∙ (λ i. key_mark ++ (number_bytes (more i) ++ as_rows ts i)) in
+    let few : length xs < 2 ^ 64 = omega (arith, no_more row_bytes some_row xs, ap length whole, length-append key_mark (number_bytes (length xs) ++ flat_map row_bytes xs), length-append (number_bytes (length xs)) (flat_map row_bytes xs)) in
+    let both = same_body row_bytes some_row key_mark (length xs) (flat_map row_bytes xs) all ys few short whole at in
+    let fits : length (flat_map row_bytes xs) < 2 ^ 64 = omega (arith, ap length whole, length-append key_mark (number_bytes (length xs) ++ flat_map row_bytes xs), length-append (number_bytes (length xs)) (flat_map row_bytes xs)) in
+    spans_of ss ts (same_rows xs ys both.0 fits both.1)
+  where
+    spans_of : (ss ts : List (Span (Vec ℕ))) → map bounds ss ≡ map bounds ts → map span_by_bytes ss ≡ map span_by_bytes ts
+    spans_of ss ts e = sym (map-map to_span bounds ss) ∙ ap (map to_span) e ∙ map-map to_span bounds ts
+      where
+        to_span : List ℕ × List ℕ → Span (List ℕ)
+        to_span r = record { first = r.0; last = r.1 }

@@ -1,5 +1,5 @@
 -- What the calls do to the tree of a handle.
-use Rattle.std.specs.Prelude.{◌≡◌, ℕ, ◌<◌, ◌≤◌, List, take, length, Option, None, Some}
+use Rattle.std.specs.Prelude.{◌≡◌, ℕ, ◌<◌, ◌≤◌, List, ◌++◌, drop, length, Option, None, Some}
 use Rattle.mst_c.specs.Trees.{ByteState}
 use Rattle.mst_c.specs.declared.byte_tree.ByteTree.{ByteTree}
 
@@ -14,9 +14,9 @@ Changes None new R = ⊥
 Changes (Some s) None R = ⊥
 Changes (Some s) (Some t) R = R s.tree t.tree
 
--- of the first bytes of out, as many as needed, this holds
-abbrev pub IsWritten : List ℕ → ℕ → (List ℕ → Type 0) → Type 0
-IsWritten out needed P = (needed ≤ length out) × P (take needed out)
+-- bytes of which this holds, as many as needed, are in front of out, and behind them it is as before
+abbrev pub IsWritten : List ℕ → List ℕ → ℕ → (List ℕ → Type 0) → Type 0
+IsWritten old new needed P = (bytes : List ℕ) × P bytes × (needed ≡ length bytes) × (needed ≤ length old) × (new ≡ bytes ++ drop needed old)
 
 -- there are such bytes, as many as needed, and out is shorter
 abbrev pub IsShort : List ℕ → ℕ → (List ℕ → Type 0) → Type 0

@@ -37,3 +37,7 @@ IsDiffOf local peer bytes =
 -- an entry by the bytes of its keys
 abbrev pub entry_by_bytes : Entry (Vec ℕ) (List ℕ) → Entry (List ℕ) (List ℕ)
 entry_by_bytes e = record { first = e.first.items; last = e.last.items; digest = e.digest }
+
+-- a range of keys by their bytes
+abbrev pub span_by_bytes : Span (Vec ℕ) → Span (List ℕ)
+span_by_bytes s = record { first = s.first.items; last = s.last.items }

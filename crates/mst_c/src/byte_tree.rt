@@ -5,9 +5,8 @@ ghost use Rattle.merkle_search_tree.specs.State.{IsNew, map_of};
 ghost use Rattle.merkle_search_tree.specs.Stream.{page_digest};
 ghost use Rattle.merkle_search_tree.specs.Ranges.{ranges_of};
 ghost use Rattle.merkle_search_tree.specs.Loading.{row_count};
-ghost use Rattle.mst_c.specs.Lists.{AreRows, IsLoaded};
+ghost use Rattle.mst_c.specs.Lists.{ArePageRanges, AreRows, IsLoaded};
 ghost use Rattle.mst_c.specs.Trees.{bytes_of, SameRows, IsSet, IsDel, IsCopied};
-ghost use Rattle.mst_c.specs.Wire.{page_ranges_bytes};
 ghost use Rattle.mst_c.specs.declared.reading.ReadError.TheVariants.{Malformed};
 
 use crate::byte_hasher::ByteHasher;
@@ -111,7 +110,7 @@ impl ByteTree {
 
     /// The ranges of all pages, as bytes.
     pub fn page_ranges(&mut self, alloc: Global) -> Result<Vec<u8>, AllocError>
-        ensures ranges { IfOk result (λ out. out.items ≡ page_ranges_bytes (ranges_of self.new.tree.format bytes_of self.new.tree.root)) }
+        ensures ranges { IfOk result (λ out. ArePageRanges out.items (ranges_of self.new.tree.format bytes_of self.new.tree.root)) }
         ensures kept { SameRows self.old.tree self.new.tree }
     {
         let _ = self.root_hash();

@@ -1,14 +1,15 @@
 //! The entries of a list of page ranges or of key ranges, one after the other, where they lie.
 
-ghost use Rattle.std.specs.Prelude.{◌≡◌, ◌≢◌, ◌<◌, ◌+◌, ◌-◌, ◌^◌, ◌⊎◌, ◌++◌, ℕ, List, IfSome, if◌then◌else◌, length, nat_eq};
-ghost use Rattle.mst_c.specs.Spots.{IsEntryAt, mark_of, digest_len};
-ghost use Rattle.mst_c.specs.Wire.{number_bytes, row_bytes};
+ghost use Rattle.std.specs.Prelude.{◌≡◌, ◌≢◌, ◌↔◌, Bool, true, None, ◌<◌, ◌+◌, ◌-◌, ◌^◌, ◌⊎◌, ◌++◌, ℕ, List, IfSome, if◌then◌else◌, length, nat_eq};
+ghost use Rattle.mst_c.specs.Spots.{AreEntries, IsEntryAt, IsList, Parts, digest_len, mark_of, parts_bytes};
+ghost use Rattle.mst_c.specs.Wire.{number_bytes};
 
 use crate::reading::{body_of, pair_of};
 use crate::status::{ABSENT, ARGUMENT, DONE, MALFORMED};
 use crate::wire::{KEY_RANGES, PAGE_RANGES};
 
-/// Where the parts of an entry lie in its list.
+/// Where the parts of an entry lie in its list: places in bytes from the front of the list, and lengths in bytes. A key's place is
+/// behind its length.
 #[repr(C)]
 #[derive(Drop)]
 pub struct MstSpot {
@@ -22,7 +23,8 @@ pub struct MstSpot {
 
 /// Whether the list is one of page ranges, how many entries it has, and the bytes of the entries; `None` where it has no such front.
 fn front_of(list: &[u8]) -> Option<(bool, u64, &[u8])>
-    ensures { IfSome result (λ r. list.now ≡ mark_of r.0 ++ (number_bytes r.1 ++ r.2.now)) }
+    ensures front { IfSome result (λ r. list.now ≡ mark_of r.0 ++ (number_bytes r.1 ++ r.2.now)) }
+    ensures none { result ≡ None → (has_digests : Bool) (count : ℕ) (body : List ℕ) → list.now ≢ mark_of has_digests ++ (number_bytes count ++ body) }
 {
     match body_of(&PAGE_RANGES, list) {
         Some((count, body)) => Some((true, count, body)),
@@ -35,7 +37,8 @@ fn front_of(list: &[u8]) -> Option<(bool, u64, &[u8])>
 
 /// The first and the last key of the entry at the front, and the bytes behind the entry.
 fn entry_of(has_digests: bool, bytes: &[u8]) -> Option<(&[u8], &[u8], &[u8])>
-    ensures { IfSome result (λ r. (digest : List ℕ) × (length digest ≡ digest_len has_digests) × (bytes.now ≡ row_bytes (r.0.now, r.1.now) ++ (digest ++ r.2.now))) }
+    ensures entry { IfSome result (λ r. (digest : List ℕ) × (length digest ≡ digest_len has_digests) × (bytes.now ≡ parts_bytes ((r.0.now, r.1.now), digest) ++ r.2.now)) }
+    ensures none { result ≡ None → (e : Parts) (rest : List ℕ) → length e.1 ≡ digest_len has_digests → bytes.now ≢ parts_bytes e ++ rest }
 {
     let (first, last, rest) = pair_of(bytes)?;
     if has_digests {
@@ -47,9 +50,11 @@ fn entry_of(has_digests: bool, bytes: &[u8]) -> Option<(&[u8], &[u8], &[u8])>
 }
 
 /// Whether the bytes are so many entries.
-fn is_list(has_digests: bool, count: u64, body: &[u8]) -> bool {
+fn is_list(has_digests: bool, count: u64, body: &[u8]) -> bool
+    ensures { (result ≡ true) ↔ AreEntries has_digests count body.now }
+{
     let mut rest = body;
-    'entries: for _ in 0..count {
+    'entries: for _done in 0..count {
         match entry_of(has_digests, rest) {
             Some((_, _, behind)) => rest = behind,
             None => return false,
@@ -91,10 +96,13 @@ fn spot_of(has_digests: bool, start: usize, first: &[u8], last: &[u8]) -> MstSpo
 /// Writes where the parts of the entry at `at` lie, and moves `at` behind it. An `at` of 0 is the first entry, and there the whole
 /// list is read once to see that it is one.
 ///
-/// `DONE`; `ABSENT` behind the last entry; `MALFORMED` where the list is none; `ARGUMENT` where `at` is outside of the list.
+/// `DONE`; `ABSENT` behind the last entry; `MALFORMED` where the list is none, or no entry begins at `at`; `ARGUMENT` where `at` is
+/// outside of the list. Where it isn't `DONE`, `at` and `spot` are as before.
 #[unsafe(no_mangle)]
 pub extern "C" fn mst_proved_ranges_next(list: &[u8], at: &mut usize, spot: &mut MstSpot) -> u32
     ensures entry { result ≡ 0 → IsEntryAt list.now at.old at.new spot.new }
+    ensures malformed { result ≡ 2 → at.old ≡ 0 → ¬ (IsList list.now) }
+    ensures argument { result ≡ 4 → length list.now < at.old }
     ensures absent { result ≡ 5 → (at.old ≡ length list.now) ⊎ ((at.old ≡ 0) × (length list.now ≡ 12)) }
     ensures unchanged { result ≢ 0 → (at.new ≡ at.old) × (spot.new ≡ spot.old) }
     ensures status { (result ≡ 0) ⊎ (result ≡ 2) ⊎ (result ≡ 4) ⊎ (result ≡ 5) }

@@ -1,12 +1,11 @@
 //! Calls that answer what a tree holds as digests, and compare two such answers.
-ghost use Rattle.std.specs.Prelude.{◌≡◌, ◌≢◌, ◌<◌, ◌≤◌, ◌↔◌, ◌⊎◌, ℕ, List, None, Err, IfSome, IfOk, IfErr, take, length};
+ghost use Rattle.std.specs.Prelude.{◌≡◌, ◌≢◌, ◌<◌, ◌≤◌, ◌↔◌, ◌⊎◌, ◌++◌, ℕ, List, None, Err, IfSome, IfOk, IfErr, drop, length};
 ghost use Rattle.merkle_search_tree.specs.Stream.{page_digest};
 ghost use Rattle.merkle_search_tree.specs.Ranges.{ranges_of};
 ghost use Rattle.std.specs.Global.{Vec};
 ghost use Rattle.merkle_diff.specs.Entry.{Entry};
 ghost use Rattle.mst_c.specs.Handles.{Holds, Changes, IsWritten, IsShort};
 ghost use Rattle.mst_c.specs.Lists.{ArePageRanges, IsDiffOf};
-ghost use Rattle.mst_c.specs.Wire.{page_ranges_bytes};
 ghost use Rattle.mst_c.specs.Trees.{bytes_of, SameRows};
 
 use crate::bytes16::MstBytes16;
@@ -56,7 +55,7 @@ fn root_hash(handle: MstTree, alloc: Global) -> (MstTree, Option<[u8; 16]>)
 
 /// Puts bytes at the front of `out`, and their count at `needed`: `DONE`, or `SHORT` where `out` is too short, and is as before then.
 fn put_bytes(bytes: &[u8], out: &mut [u8], needed: &mut usize) -> u32
-    ensures done { result ≡ 0 → (length bytes.now ≤ length out.new) × (take (length bytes.now) out.new ≡ bytes.now) }
+    ensures done { result ≡ 0 → (length bytes.now ≤ length out.old) × (out.new ≡ bytes.now ++ drop (length bytes.now) out.old) }
     ensures needed { needed.new ≡ length bytes.now }
     ensures short { (result ≡ 3) ↔ (length out.old < length bytes.now) }
     ensures unchanged { result ≢ 0 → out.new ≡ out.old }
@@ -73,7 +72,8 @@ fn put_bytes(bytes: &[u8], out: &mut [u8], needed: &mut usize) -> u32
 
 /// Writes the page ranges of a tree to `out`, and how many bytes they are to `needed`.
 ///
-/// `DONE`; `SHORT` where `out` is too short; `MEMORY`; `ARGUMENT` where the handle has no tree.
+/// `DONE`; `SHORT` where `out` is too short, and `needed` is written and `out` as before; `MEMORY`; `ARGUMENT` where the handle has no
+/// tree. Refused, `out` is as before.
 #[unsafe(no_mangle)]
 pub extern "C" fn mst_proved_tree_page_ranges(
     alloc: Global,
@@ -81,9 +81,10 @@ pub extern "C" fn mst_proved_tree_page_ranges(
     out: &mut [u8],
     needed: &mut usize,
 ) -> u32
-    ensures done { result ≡ 0 → Holds handle.new.tree (λ s. IsWritten out.new needed.new (λ bytes. bytes ≡ page_ranges_bytes (ranges_of s.format bytes_of s.root))) }
-    ensures short { result ≡ 3 → Holds handle.new.tree (λ s. IsShort out.old needed.new (λ bytes. bytes ≡ page_ranges_bytes (ranges_of s.format bytes_of s.root))) }
+    ensures done { result ≡ 0 → Holds handle.new.tree (λ s. IsWritten out.old out.new needed.new (λ bytes. ArePageRanges bytes (ranges_of s.format bytes_of s.root))) }
+    ensures short { result ≡ 3 → Holds handle.new.tree (λ s. IsShort out.old needed.new (λ bytes. ArePageRanges bytes (ranges_of s.format bytes_of s.root))) }
     ensures kept { result ≢ 4 → Changes handle.old.tree handle.new.tree SameRows }
+    ensures no_tree { result ≡ 4 → handle.new.tree ≡ None }
     ensures unchanged { result ≢ 0 → out.new ≡ out.old }
     ensures argument { (result ≡ 4) ↔ (handle.old.tree ≡ None) }
     ensures status { (result ≡ 0) ⊎ (result ≡ 1) ⊎ (result ≡ 3) ⊎ (result ≡ 4) }
@@ -95,8 +96,9 @@ pub extern "C" fn mst_proved_tree_page_ranges(
 }
 
 fn page_ranges(handle: MstTree, alloc: Global) -> (MstTree, Result<Vec<u8>, u32>)
-    ensures ranges { IfOk result.1 (λ out. Holds result.0.tree (λ s. out.items ≡ page_ranges_bytes (ranges_of s.format bytes_of s.root))) }
+    ensures ranges { IfOk result.1 (λ out. Holds result.0.tree (λ s. ArePageRanges out.items (ranges_of s.format bytes_of s.root))) }
     ensures kept { handle.tree ≢ None → Changes handle.tree result.0.tree SameRows }
+    ensures no_tree { handle.tree ≡ None → result.0.tree ≡ None }
     ensures argument { (result.1 ≡ Err 4) ↔ (handle.tree ≡ None) }
     ensures refused { IfErr result.1 (λ status. (status ≡ 1) ⊎ (status ≡ 4)) }
 {
@@ -111,7 +113,8 @@ fn page_ranges(handle: MstTree, alloc: Global) -> (MstTree, Result<Vec<u8>, u32>
 
 /// Writes to `out` the ranges of keys that local may ask of the peer, by their page ranges, and how many bytes they are to `needed`.
 ///
-/// `DONE`; `SHORT` where `out` is too short; `MEMORY`; `MALFORMED` where a list isn't one of page ranges.
+/// `DONE`; `SHORT` where `out` is too short, and `needed` is written and `out` as before; `MEMORY`; `MALFORMED` where a list isn't one
+/// of page ranges. Refused, `out` is as before.
 #[unsafe(no_mangle)]
 pub extern "C" fn mst_proved_diff(
     alloc: Global,
@@ -120,7 +123,7 @@ pub extern "C" fn mst_proved_diff(
     out: &mut [u8],
     needed: &mut usize,
 ) -> u32
-    ensures done { result ≡ 0 → IsWritten out.new needed.new (IsDiffOf local.now peer.now) }
+    ensures done { result ≡ 0 → IsWritten out.old out.new needed.new (IsDiffOf local.now peer.now) }
     ensures short { result ≡ 3 → IsShort out.old needed.new (IsDiffOf local.now peer.now) }
     ensures malformed { result ≡ 2 → (ls ps : List (Entry (Vec ℕ) (List ℕ))) → ArePageRanges local.now ls → ¬ (ArePageRanges peer.now ps) }
     ensures unchanged { result ≢ 0 → out.new ≡ out.old }

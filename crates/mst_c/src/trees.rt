@@ -82,7 +82,8 @@ fn put(handle: MstTree, asked: (Global, ByteTree)) -> (MstTree, u32)
 
 /// Gives a handle that has no tree a copy of another handle's.
 ///
-/// `DONE`; `MEMORY`; `ARGUMENT` where `handle` has no tree, or `copy` has one. Refused, both are as before.
+/// `DONE`; `MEMORY`; `ARGUMENT` where `handle` has no tree, or `copy` has one, for which `MEMORY` may be answered too. Refused, both
+/// are as before.
 #[unsafe(no_mangle)]
 pub extern "C" fn mst_proved_tree_clone(
     alloc: Global,

@@ -7,7 +7,8 @@
 ghost use Rattle.std.specs.Prelude.{◌≡◌, ◌++◌, OnOk, IfOk};
 ghost use Rattle.merkle_diff.specs.DiffRange.{span, spans};
 ghost use Rattle.merkle_diff.specs.PageRange.{entry, entries};
-ghost use Rattle.mst_c.specs.Wire.{number_bytes, text_bytes, entry_bytes, span_bytes, page_ranges_bytes, key_ranges_bytes};
+ghost use Rattle.mst_c.specs.Lists.{ArePageRanges, IsPageRange};
+ghost use Rattle.mst_c.specs.Wire.{number_bytes, text_bytes, entry_bytes, span_bytes, key_ranges_bytes};
 
 use merkle_diff::{DiffRange, PageRange};
 use std::alloc::{AllocError, Global};
@@ -43,7 +44,8 @@ fn put_text(text: &[u8], out: &mut Vec<u8>) -> Result<(), AllocError>
 
 /// Writes a page range.
 fn put_range(range: &PageRange<'_, Vec<u8>>, out: &mut Vec<u8>) -> Result<(), AllocError>
-    ensures { OnOk result (out.new.items ≡ out.old.items ++ entry_bytes (entry range.now)) }
+    ensures written { OnOk result (out.new.items ≡ out.old.items ++ entry_bytes (entry range.now)) }
+    ensures range { OnOk result (IsPageRange (entry range.now)) }
 {
     put_text(range.start().as_slice(), out)?;
     put_text(range.end().as_slice(), out)?;
@@ -60,7 +62,7 @@ fn put_found(range: &DiffRange<'_, Vec<u8>>, out: &mut Vec<u8>) -> Result<(), Al
 
 /// The page ranges as bytes.
 pub fn encode(alloc: Global, ranges: &[PageRange<'_, Vec<u8>>]) -> Result<Vec<u8>, AllocError>
-    ensures { IfOk result (λ out. out.items ≡ page_ranges_bytes (entries ranges.now)) }
+    ensures { IfOk result (λ out. ArePageRanges out.items (entries ranges.now)) }
 {
     let mut out = Vec::new(alloc);
     put(&PAGE_RANGES, &mut out)?;

@@ -1,37 +1,66 @@
-use Rattle.std.proofs.Common.{rules, arith, ◌≡◌, ℕ, ◌+◌, ◌-◌, ◌<◌, ◌^◌, List, ◌++◌, length, nat_eq, sym, ap, ◌∙◌}
+use Rattle.std.proofs.Common.{rules, arith, ◌≡◌, ℕ, ◌+◌, ◌-◌, ◌<◌, ◌^◌, true, List, ◌++◌, length, drop, nat_eq, sym, ap, ◌∙◌}
 use Rattle.std.specs.Bool.{if◌then◌else◌}
 use Rattle.std.proofs.lemmas.List.{length-append, take-append-drop}
-use Rattle.mst_c.specs.Spots.{mark_of}
+use Rattle.mst_c.specs.Spots.{Parts, mark_of}
 use Rattle.mst_c.specs.Wire.{number_bytes}
-use Rattle.mst_c.proofs.Spelling.{mark_length, row_length}
+use Rattle.mst_c.proofs.Spelling.{body_behind, first_parts, mark_length, one_front, parts_flat, row_length}
+use Rattle.mst_c.proofs.entries.mst_proved_ranges_next.Goals.{else-at-eq0-via-then-at-eq0+else-not-is_list, else-at-eq0-via-else-at-eq0}
 use Rattle.mst_c.proofs.entries.mst_proved_ranges_next.Goals as goal
+
+pub returns-then-not-is_list-clause-malformed : goal.returns-then-not-is_list-clause-malformed
+returns-then-not-is_list-clause-malformed c done zero are =
+    let short : length c.args.list.now < 2 ^ 64 = search rules in
+    let entries = one_front c.args.list.now c.in-Some.has_digests are.0 c.in-Some.count are.1 c.in-Some.body.now are.2 (search rules) short c.in-Some.ensures.front are.3 are.4 in
+    let yes : c.is_list.result ≡ true = c.is_list.ensures.1 entries in
+    absurd (search rules)
+
+pub returns-in_default-entry_of-clause-malformed : goal.returns-in_default-entry_of-clause-malformed
+returns-in_default-entry_of-clause-malformed c done zero are =
+    let list = c.args.list.now in let body = c.in-Some.body.now in
+    let short : length list < 2 ^ 64 = search rules in
+    let entries = one_front list c.in-Some.has_digests are.0 c.in-Some.count are.1 body are.2 (search rules) short c.in-Some.ensures.front are.3 are.4 in
+    let start = c.start_of-start.ensures ∙ ap (λ n. if nat_eq n 0 then (length list - length body) else n) zero in
+    let rest : c.in-Some-split_at_checked.rest.now ≡ body =
+    c.in-Some-split_at_checked.ensures.cases.2 ∙ ap (λ n. drop n list) start ∙ body_behind list c.in-Some.has_digests c.in-Some.count body c.in-Some.ensures.front in
+    let some : ¬ (length body ≡ 0) = λ none.
+    let empty : length c.in-Some-split_at_checked.rest.now ≡ 0 = ap length rest ∙ none in
+    absurd (search rules) in
+    let first = first_parts c.in-Some.has_digests c.in-Some.count body entries some in
+    c.entry_of.ensures.none c.in_default-entry_of.is first.0 first.1 first.2 (rest ∙ first.3)
 
 pub spot_of-requires : goal.spot_of-requires
 spot_of-requires c =
-    let first = c.in-Some-entry_of.first.now in let last = c.in-Some-entry_of.last.now in
-    let e = c.in-Some-entry_of.ensures in
+    let keys : List ℕ × List ℕ = (c.in-Some-entry_of.first.now, c.in-Some-entry_of.last.now) in
+    let behind = c.in-Some-entry_of.behind.now in
+    let read = c.in-Some-entry_of.ensures.entry in
     let short : length c.args.list.now < 2 ^ 64 = search rules in
-    omega (arith, c.in-Some-split_at_checked.ensures.cases, ap length e.2, row_length (first, last) (e.0 ++ c.in-Some-entry_of.behind.now))
+    omega (arith, c.in-Some-split_at_checked.ensures.cases, ap length (read.2 ∙ parts_flat (keys, read.0) behind), row_length keys (read.0 ++ behind))
 
 pub returns-clause-entry : goal.returns-clause-entry
 returns-clause-entry c done =
     let list = c.args.list.now in let behind = c.in-Some-entry_of.behind.now in
-    let keys : List ℕ × List ℕ = (c.in-Some-entry_of.first.now, c.in-Some-entry_of.last.now) in
-    let e = c.in-Some-entry_of.ensures in
+    let read = c.in-Some-entry_of.ensures.entry in
+    let entry : Parts = ((c.in-Some-entry_of.first.now, c.in-Some-entry_of.last.now), read.0) in
     let cut = c.in-Some-split_at_checked.ensures.cases in
     let start = c.start_of-start.result in
     let front : length list - length c.in-Some.body.now ≡ 12 =
-    omega (arith, ap length c.in-Some.ensures, mark_length c.in-Some.has_digests, length-append (mark_of c.in-Some.has_digests) (number_bytes c.in-Some.count ++ c.in-Some.body.now)) in
+    omega (arith, ap length c.in-Some.ensures.front, mark_length c.in-Some.has_digests, length-append (mark_of c.in-Some.has_digests) (number_bytes c.in-Some.count ++ c.in-Some.body.now)) in
     record {
       has_digests = c.in-Some.has_digests;
+      count = c.in-Some.count;
+      body = c.in-Some.body.now;
+      marked = c.in-Some.ensures.front;
+      whole = λ zero. elim c.else-at-eq0.branch [
+        | else-at-eq0-via-then-at-eq0+else-not-is_list w ↦ w.is_list.ensures.0 w.if-not-is_list.false
+        | else-at-eq0-via-else-at-eq0 w ↦ absurd (search rules)
+      ];
       before = c.in-Some-split_at_checked.field-0-0.now;
-      keys = keys;
-      digest = e.0;
+      entry = entry;
       behind = behind;
-      parts = sym (take-append-drop start list) ∙ (λ i. sym cut.1 i ++ (sym cut.2 ∙ e.2) i);
+      parts = sym (take-append-drop start list) ∙ (λ i. sym cut.1 i ++ (sym cut.2 ∙ read.2) i);
       starts = cut.3 ∙ c.start_of-start.ensures ∙ ap (λ n. if nat_eq c.args.at.now 0 then n else c.args.at.now) front;
       first = (c.spot_of.ensures.first.0 ∙ ap (λ n. n + 8) (sym cut.3), c.spot_of.ensures.first.1);
       last = c.spot_of.ensures.last;
-      hash = (e.1, c.spot_of.ensures.hash);
-      ends = omega (arith, c.saturating_sub.ensures, cut.4, ap length e.2, row_length keys (e.0 ++ behind), length-append e.0 behind);
+      digest = (read.1, c.spot_of.ensures.hash);
+      ends = omega (arith, c.saturating_sub.ensures, cut.4, ap length (read.2 ∙ parts_flat entry behind), row_length entry.0 (read.0 ++ behind), length-append read.0 behind);
     }
