@@ -1,1 +1,2 @@
 pub mod LevelBytes
+pub mod Defined

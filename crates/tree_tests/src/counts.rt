@@ -3,12 +3,12 @@
 ghost use Rattle.std.specs.Prelude.{◌≡◌, ◌-◌, ◌^◌, length, min};
 ghost use Rattle.merkle_search_tree.specs.State.{map_of};
 
-use crate::trees::{keys_of, numbers_of, tree_of};
 use crate::upserts::UPSERTS;
 use merkle_digest::{Hasher, KeyBytes};
 use merkle_search_tree::visitor::Visitor;
 use merkle_search_tree::{MerkleSearchTree, Node, Page};
 use std::test::Fail;
+use testing::trees::{keys_of, numbers_of, tree_of};
 
 /// Counts the nodes.
 #[derive(Drop)]

@@ -2,15 +2,15 @@
 
 use crate::page_ranges::{DIFFERENCES, SPANS};
 use crate::removals::TREES;
-use crate::root_pages::root_copy;
 use crate::shapes::{LACKING, SHAPES};
-use crate::trees::{Tree, hasher, keys_of, nodes, numbers_of, tree, value_at};
 use crate::upserts::UPSERTS;
 use merkle_digest::SipHasher;
 use merkle_search_tree::builder::Builder;
 use merkle_search_tree::{LoadRefused, MerkleSearchTree};
 use std::alloc::{AllocError, Global};
 use std::test::Fail;
+use testing::root_pages::root_copy;
+use testing::trees::{Tree, hasher, keys_of, nodes, numbers_of, tree, value_at};
 use testing::{LevelHasher, Value, number_key};
 
 /// A row of a number and its value.

@@ -1,7 +1,5 @@
 //! Calls that take no memory. They succeed with every request for memory refused, once the tree that they are made at is there.
 
-use crate::tally::Tally;
-use crate::trees::{Tree, defined_root, put, tree};
 use merkle_digest::{RootHash, SipHasher};
 use merkle_search_tree::MerkleSearchTree;
 use merkle_search_tree::builder::{Builder, PageFormat};
@@ -9,6 +7,8 @@ use std::alloc::{AllocError, Global};
 use std::process::Abort;
 use std::test::Fail;
 use testing::number_key;
+use testing::tally::Tally;
+use testing::trees::{Tree, defined_root, put, tree};
 
 /// The default tree of texts.
 type Texts = MerkleSearchTree<&'static str, u64, SipHasher, 16>;

@@ -1,12 +1,12 @@
 //! Refused memory. Under `rt try --test --fail-alloc N -- a_refused` the Nth request for memory of each of these tests is refused:
 //! then the answer is right, or it is want of memory with everything as before.
 
-use crate::root_pages::root_copy;
-use crate::trees::{Tree, copy, defined_root, hashed, nodes, put, tree, value_at};
 use merkle_diff::{PageRange, PageRangeSnapshot};
 use merkle_digest::RootHash;
 use merkle_search_tree::PageRangeIter;
 use std::alloc::{AllocError, Global};
+use testing::root_pages::root_copy;
+use testing::trees::{Tree, copy, defined_root, hashed, nodes, put, tree, value_at};
 use testing::{Value, number_key};
 
 /// Nine keys on their levels.

@@ -1,15 +1,15 @@
 //! Removals, by what they hand out, by the pages that are left and those that lack a digest, and by the root hash of the defined tree
 //! of the keys left.
 
-use crate::root_pages::root_copy;
 use crate::shapes::pages_of;
-use crate::trees::{
-    FORMATS, Tree, copy, defined_root, empty, gives_its_list, keys_of, put, tree, tree_in,
-};
 use merkle_search_tree::builder::PageFormat;
 use std::alloc::{AllocError, Global};
 use std::test::Fail;
 use testing::number_key;
+use testing::root_pages::root_copy;
+use testing::trees::{
+    FORMATS, Tree, copy, defined_root, empty, gives_its_list, keys_of, put, tree, tree_in,
+};
 
 /// The hashed tree of the keys of a text in a page format.
 fn hashed_tree(alloc: Global, format: PageFormat, text: &str) -> Result<Tree, Fail> {

@@ -1,8 +1,8 @@
 //! The digests that the hashers of the tests give, and their clones.
 
-use crate::trees::hasher;
 use merkle_digest::{Hasher, SipHasher, default_level_base, level};
 use std::test::Fail;
+use testing::trees::hasher;
 use testing::{LevelHasher, number_key};
 
 #[test]

@@ -1,11 +1,11 @@
 //! Keys whose order or equality is not that of their bytes.
 
-use crate::trees::{gives_its_list, value_at};
 use merkle_digest::SipHasher;
 use merkle_search_tree::MerkleSearchTree;
 use merkle_search_tree::builder::Builder;
 use std::alloc::Global;
 use std::test::Fail;
+use testing::trees::{gives_its_list, value_at};
 use testing::{CaselessText, DescendingNumber, LevelHasher, Value};
 
 /// A tree of numbers in descending order.

@@ -1,12 +1,12 @@
 //! Root hashes and page ranges in format 1 against answers of the Rust crate merkle-search-tree 0.8.0, and root hashes in format 2
 //! against those of a second program.
 
-use crate::trees::gives_its_list;
 use merkle_digest::SipHasher;
 use merkle_search_tree::MerkleSearchTree;
 use merkle_search_tree::builder::{Builder, PageFormat};
 use std::alloc::Global;
 use std::test::Fail;
+use testing::trees::gives_its_list;
 
 /// A line for each size of a default tree: the root hash, the number of page ranges, and the spans of the first of them. The keys
 /// are the texts k0000, k0001 and so on, and the value of the key of i is i * i.

@@ -1,12 +1,12 @@
 //! Trees whose value digests have no byte, one byte or 200 bytes.
 
-use crate::counts::count_nodes;
-use crate::trees::{gives_its_list, value_at};
 use merkle_digest::{Hasher, PageDigest, RootHash, Sip24};
 use merkle_search_tree::MerkleSearchTree;
 use merkle_search_tree::builder::{Builder, PageFormat};
 use std::alloc::{AllocError, Global};
 use std::test::Fail;
+use testing::tally::Tally;
+use testing::trees::{gives_its_list, value_at};
 use testing::{LevelHasher, Value, number_key};
 
 /// A tree of texts, all on level 0.
@@ -146,7 +146,9 @@ fn levels_go_up_to_255(rt: HostRuntime) -> Result<(), Fail> {
         256
     );
     assert!(rt; gives_its_list(&tree)?);
-    assert_eq!(rt; count_nodes(&tree), 256);
+    let mut tally = Tally::new();
+    tree.in_order_traversal(&mut tally);
+    assert_eq!(rt; tally.counts(), (256, 0, 256));
     Ok(())
 }
 

@@ -1,14 +1,14 @@
 //! Trees of short and long digests, of numbers in the reversed order, and of texts that may be equal but for case: each call at them, by
 //! a table that was worked out by hand.
 
-use crate::tally::Tally;
-use crate::trees::value_at;
 use merkle_diff::diff;
 use merkle_digest::{Hasher, KeyBytes};
 use merkle_search_tree::MerkleSearchTree;
 use merkle_search_tree::builder::Builder;
 use std::alloc::{AllocError, Global};
 use std::test::Fail;
+use testing::tally::Tally;
+use testing::trees::value_at;
 use testing::{CaselessText, DescendingNumber, LevelHasher, Value, number_key};
 
 /// A kind of keys: five of them, in ascending order.
