@@ -6,10 +6,10 @@ use Rattle.std.specs.declared.cmp.Ordering.{Ordering}
 use Rattle.merkle_search_tree.specs.Tree.{Tree, page, Row, Held, nothing, below}
 use Rattle.merkle_search_tree.specs.Upsert.{held_lower, held_upper, kept_beside}
 use Rattle.merkle_search_tree.specs.Chain.{page_length, high_of, first_of, with_high, with_first, row_take, row_drop, remade, row_of_page, hung, HaveNodes}
-use Rattle.merkle_search_tree.specs.Cut.{gap, row_place}
+use Rattle.merkle_search_tree.specs.Parting.{gap, row_place}
 use Rattle.merkle_search_tree.specs.Split.{stale_of}
 use Rattle.merkle_search_tree.proofs.Hung.{hung-stale, hung-kept, hung-all, have-more, with_high-twice, with_first-twice, length-first, length-drop}
-use Rattle.merkle_search_tree.proofs.Cuts.{gap-all, gap-at, page-all, page-none, page-at}
+use Rattle.merkle_search_tree.proofs.Partings.{gap-all, gap-at, page-all, page-none, page-at}
 
 stale_of-same : {K D : Type 0} (h : Held K D) (n : ℕ) → stale_of h n n ≡ n
 stale_of-same nothing n = refl
@@ -19,19 +19,19 @@ pub length-last : {X : Type 0} (xs : List X) (y : X) → length (xs ++ y ∷ [])
 length-last [] y = refl
 length-last (x ∷ xs) y = omega (arith, length-last xs y)
 
-module _ {K D : Type 0} (put : Held K D → Row K D → Row K D) (bs : List (Box (Tree K D) Global)) (b : Box (Tree K D) Global) (h x : Held K D) where
-  push-stale : (n : ℕ) → n ≡ length bs + 1 → below (remade 1 b.value (put h (row_of_page b.value))) ≡ x → hung put n (bs ++ b ∷ []) h ≡ hung put (length bs) bs x
+module _ {K D : Type 0} (hang : Held K D → Row K D → Row K D) (bs : List (Box (Tree K D) Global)) (b : Box (Tree K D) Global) (h x : Held K D) where
+  push-stale : (n : ℕ) → n ≡ length bs + 1 → below (remade 1 b.value (hang h (row_of_page b.value))) ≡ x → hung hang n (bs ++ b ∷ []) h ≡ hung hang (length bs) bs x
   push-stale n e p =
-      sym (hung-stale put n bs b h (omega arith)) ∙ ap (hung put n bs) p ∙ hung-all put n (length bs) bs x (omega arith) (omega arith)
+      sym (hung-stale hang n bs b h (omega arith)) ∙ ap (hung hang n bs) p ∙ hung-all hang n (length bs) bs x (omega arith) (omega arith)
 
-  push-kept : (n : ℕ) → n ≤ length bs → below (remade 0 b.value (put h (row_of_page b.value))) ≡ x → hung put n (bs ++ b ∷ []) h ≡ hung put n bs x
-  push-kept n r p = sym (hung-kept put n bs b h r) ∙ ap (hung put n bs) p
+  push-kept : (n : ℕ) → n ≤ length bs → below (remade 0 b.value (hang h (row_of_page b.value))) ≡ x → hung hang n (bs ++ b ∷ []) h ≡ hung hang n bs x
+  push-kept n r p = sym (hung-kept hang n bs b h r) ∙ ap (hung hang n bs) p
 
   -- a page on one side, whose digest is kept beside what is on the other side of its gap
-  push-beside : (other : Held K D) (l : ℕ) (c : Option (List ℕ)) (r : Row K D) (n : ℕ) → n ≤ length bs → b.value ≡ page l c r → below (page l (kept_beside other c) (put h r)) ≡ x
-      → hung put (stale_of other n (length (bs ++ b ∷ []))) (bs ++ b ∷ []) h ≡ hung put (stale_of other n (length bs)) bs x
-  push-beside nothing l c r n s e p = push-kept n s (ap (λ t. below (remade 0 t (put h (row_of_page t)))) e ∙ p)
-  push-beside (below t) l c r n s e p = push-stale (length (bs ++ b ∷ [])) (length-last bs b) (ap (λ t. below (remade 1 t (put h (row_of_page t)))) e ∙ p)
+  push-beside : (other : Held K D) (l : ℕ) (c : Option (List ℕ)) (r : Row K D) (n : ℕ) → n ≤ length bs → b.value ≡ page l c r → below (page l (kept_beside other c) (hang h r)) ≡ x
+      → hung hang (stale_of other n (length (bs ++ b ∷ []))) (bs ++ b ∷ []) h ≡ hung hang (stale_of other n (length bs)) bs x
+  push-beside nothing l c r n s e p = push-kept n s (ap (λ t. below (remade 0 t (hang h (row_of_page t)))) e ∙ p)
+  push-beside (below t) l c r n s e p = push-stale (length (bs ++ b ∷ [])) (length-last bs b) (ap (λ t. below (remade 1 t (hang h (row_of_page t)))) e ∙ p)
 
 module _ {K D : Type 0} (cmp : K → K → Ordering) (at : K) where
   -- `InParts` of the pages and counts of both sides

@@ -40,38 +40,38 @@ module _ {K D : Type 0} where
   remade-same (suc m) zero t s p q = absurd (omega arith)
   remade-same (suc m) (suc n) (page l c r) s p q = refl
 
-  module _ (put : Held K D → Row K D → Row K D) where
-    one : (m n : ℕ) (b : Box (Tree K D) Global) (h : Held K D) → m ≡ n → below (remade m b.value (put h (row_of_page b.value))) ≡ below (remade n b.value (put h (row_of_page b.value)))
-    one m n b h e = ap (λ k. below (remade k b.value (put h (row_of_page b.value)))) e
+  module _ (hang : Held K D → Row K D → Row K D) where
+    one : (m n : ℕ) (b : Box (Tree K D) Global) (h : Held K D) → m ≡ n → below (remade m b.value (hang h (row_of_page b.value))) ≡ below (remade n b.value (hang h (row_of_page b.value)))
+    one m n b h e = ap (λ k. below (remade k b.value (hang h (row_of_page b.value)))) e
 
     -- the last page is hung where its digest stays only if no page behind it is stale
     pub hung-last : (n : ℕ) (bs : List (Box (Tree K D) Global)) (b : Box (Tree K D) Global) (h : Held K D)
-        → hung put n (bs ++ b ∷ []) h ≡ hung put n bs (below (remade (n - length bs) b.value (put h (row_of_page b.value))))
+        → hung hang n (bs ++ b ∷ []) h ≡ hung hang n bs (below (remade (n - length bs) b.value (hang h (row_of_page b.value))))
     hung-last zero [] b h = one 0 (0 - 0) b h (omega arith)
-    hung-last (suc n) [] b h = ap below (remade-same 1 (suc n - 0) b.value (put h (row_of_page b.value)) (omega arith) (omega arith))
+    hung-last (suc n) [] b h = ap below (remade-same 1 (suc n - 0) b.value (hang h (row_of_page b.value)) (omega arith) (omega arith))
     hung-last zero (x ∷ xs) b h =
-        ap (λ g. below (remade 0 x.value (put g (row_of_page x.value)))) (hung-last zero xs b h ∙ ap (hung put zero xs) (one (0 - length xs) (0 - length (x ∷ xs)) b h (omega arith)))
+        ap (λ g. below (remade 0 x.value (hang g (row_of_page x.value)))) (hung-last zero xs b h ∙ ap (hung hang zero xs) (one (0 - length xs) (0 - length (x ∷ xs)) b h (omega arith)))
     hung-last (suc n) (x ∷ xs) b h =
-        ap (λ g. below (remade 1 x.value (put g (row_of_page x.value)))) (hung-last n xs b h ∙ ap (hung put n xs) (one (n - length xs) (suc n - length (x ∷ xs)) b h (omega arith)))
+        ap (λ g. below (remade 1 x.value (hang g (row_of_page x.value)))) (hung-last n xs b h ∙ ap (hung hang n xs) (one (n - length xs) (suc n - length (x ∷ xs)) b h (omega arith)))
 
     -- what the loop hangs: a page whose digest goes, and one whose digest stays
     pub hung-stale : (n : ℕ) (bs : List (Box (Tree K D) Global)) (b : Box (Tree K D) Global) (h : Held K D) → length bs < n
-        → hung put n bs (below (remade 1 b.value (put h (row_of_page b.value)))) ≡ hung put n (bs ++ b ∷ []) h
-    hung-stale n bs b h r = ap (λ t. hung put n bs (below t)) (remade-same 1 (n - length bs) b.value (put h (row_of_page b.value)) (omega arith) (omega arith)) ∙ sym (hung-last n bs b h)
+        → hung hang n bs (below (remade 1 b.value (hang h (row_of_page b.value)))) ≡ hung hang n (bs ++ b ∷ []) h
+    hung-stale n bs b h r = ap (λ t. hung hang n bs (below t)) (remade-same 1 (n - length bs) b.value (hang h (row_of_page b.value)) (omega arith) (omega arith)) ∙ sym (hung-last n bs b h)
 
     pub hung-kept : (n : ℕ) (bs : List (Box (Tree K D) Global)) (b : Box (Tree K D) Global) (h : Held K D) → n ≤ length bs
-        → hung put n bs (below (remade 0 b.value (put h (row_of_page b.value)))) ≡ hung put n (bs ++ b ∷ []) h
-    hung-kept n bs b h r = ap (hung put n bs) (one 0 (n - length bs) b h (omega arith)) ∙ sym (hung-last n bs b h)
+        → hung hang n bs (below (remade 0 b.value (hang h (row_of_page b.value)))) ≡ hung hang n (bs ++ b ∷ []) h
+    hung-kept n bs b h r = ap (hung hang n bs) (one 0 (n - length bs) b h (omega arith)) ∙ sym (hung-last n bs b h)
 
     -- more than all pages are no more
-    pub hung-all : (m n : ℕ) (bs : List (Box (Tree K D) Global)) (h : Held K D) → length bs ≤ m → length bs ≤ n → hung put m bs h ≡ hung put n bs h
+    pub hung-all : (m n : ℕ) (bs : List (Box (Tree K D) Global)) (h : Held K D) → length bs ≤ m → length bs ≤ n → hung hang m bs h ≡ hung hang n bs h
     hung-all m n [] h p q = none m n
       where
-        none : (m n : ℕ) → hung put m [] h ≡ hung put n [] h
+        none : (m n : ℕ) → hung hang m [] h ≡ hung hang n [] h
         none m n = refl
     hung-all zero n (b ∷ bs) h p q = absurd (omega arith)
     hung-all (suc m) zero (b ∷ bs) h p q = absurd (omega arith)
-    hung-all (suc m) (suc n) (b ∷ bs) h p q = ap (λ g. below (remade 1 b.value (put g (row_of_page b.value)))) (hung-all m n bs h (omega arith) (omega arith))
+    hung-all (suc m) (suc n) (b ∷ bs) h p q = ap (λ g. below (remade 1 b.value (hang g (row_of_page b.value)))) (hung-all m n bs h (omega arith) (omega arith))
 
   pub have-last : (bs : List (Box (Tree K D) Global)) (b : Box (Tree K D) Global) → HaveNodes (bs ++ b ∷ []) → HaveNodes bs × (0 < page_length b.value)
   have-last [] b a = (tt, a.0)
@@ -81,15 +81,15 @@ module _ {K D : Type 0} where
   have-more [] b a r = (r, tt)
   have-more (x ∷ xs) b a r = (a.0, have-more xs b a.1 r)
 
-module _ {K D : Type 0} (put : Held K D → Row K D → Row K D) (n : ℕ) (bs : List (Box (Tree K D) Global)) (b : Box (Tree K D) Global) (h : Held K D) where
+module _ {K D : Type 0} (hang : Held K D → Row K D → Row K D) (n : ℕ) (bs : List (Box (Tree K D) Global)) (b : Box (Tree K D) Global) (h : Held K D) where
   -- a step of the loop that hangs pages: the page t is hung in the form u, and then loses its digest or not
-  pub hang_stale : (t u v : Tree K D) → t ≡ b.value → u ≡ remade 0 t (put h (row_of_page t)) → v ≡ remade 1 u (row_of_page u) → length bs < n → hung put n bs (below v) ≡ hung put n (bs ++ b ∷ []) h
+  pub hang_stale : (t u v : Tree K D) → t ≡ b.value → u ≡ remade 0 t (hang h (row_of_page t)) → v ≡ remade 1 u (row_of_page u) → length bs < n → hung hang n bs (below v) ≡ hung hang n (bs ++ b ∷ []) h
   hang_stale t u v e f g r =
-      ap (λ x. hung put n bs (below x)) (g ∙ ap (λ x. remade 1 x (row_of_page x)) (f ∙ ap (λ x. remade 0 x (put h (row_of_page x))) e) ∙ remade-both b.value (put h (row_of_page b.value)))
-      ∙ hung-stale put n bs b h r
+      ap (λ x. hung hang n bs (below x)) (g ∙ ap (λ x. remade 1 x (row_of_page x)) (f ∙ ap (λ x. remade 0 x (hang h (row_of_page x))) e) ∙ remade-both b.value (hang h (row_of_page b.value)))
+      ∙ hung-stale hang n bs b h r
 
-  pub hang_kept : (t u : Tree K D) → t ≡ b.value → u ≡ remade 0 t (put h (row_of_page t)) → n ≤ length bs → hung put n bs (below u) ≡ hung put n (bs ++ b ∷ []) h
-  hang_kept t u e f r = ap (λ x. hung put n bs (below x)) (f ∙ ap (λ x. remade 0 x (put h (row_of_page x))) e) ∙ hung-kept put n bs b h r
+  pub hang_kept : (t u : Tree K D) → t ≡ b.value → u ≡ remade 0 t (hang h (row_of_page t)) → n ≤ length bs → hung hang n bs (below u) ≡ hung hang n (bs ++ b ∷ []) h
+  hang_kept t u e f r = ap (λ x. hung hang n bs (below x)) (f ∙ ap (λ x. remade 0 x (hang h (row_of_page x))) e) ∙ hung-kept hang n bs b h r
 
 -- rows at a key
 

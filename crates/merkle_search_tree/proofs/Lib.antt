@@ -1,7 +1,7 @@
 pub mod Rows
 pub mod Parts
 pub mod Hung
-pub mod Cuts
+pub mod Partings
 pub mod Apart
 pub mod Gaps
 pub mod Unique

@@ -54,8 +54,8 @@ module _ {K D : Type 0} where
   HaveNodes [] = ⊤
   HaveNodes (b ∷ bs) = (0 < page_length b.value) × HaveNodes bs
 
-  -- pages hung together, each where `put` puts it in the page before it; the first n of them lose their digests
+  -- pages hung together, each where `hang` hangs it in the page before it; the first n of them lose their digests
   abbrev pub hung : (Held K D → Row K D → Row K D) → ℕ → List (Box (Tree K D) Global) → Held K D → Held K D
-  hung put n [] h = h
-  hung put zero (b ∷ bs) h = below (remade 0 b.value (put (hung put zero bs h) (row_of_page b.value)))
-  hung put (suc n) (b ∷ bs) h = below (remade 1 b.value (put (hung put n bs h) (row_of_page b.value)))
+  hung hang n [] h = h
+  hung hang zero (b ∷ bs) h = below (remade 0 b.value (hang (hung hang zero bs h) (row_of_page b.value)))
+  hung hang (suc n) (b ∷ bs) h = below (remade 1 b.value (hang (hung hang n bs h) (row_of_page b.value)))

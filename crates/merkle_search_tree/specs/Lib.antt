@@ -26,7 +26,7 @@ pub mod Hashed
 pub mod Search
 pub mod Upsert
 pub mod Chain
-pub mod Cut
+pub mod Parting
 pub mod Split
 pub mod Remove
 pub mod Edge

@@ -9,7 +9,6 @@
 pub mod builder;
 mod chain;
 mod copy;
-mod cut;
 mod edge;
 mod equality;
 mod hash;
@@ -20,6 +19,7 @@ mod node_iter;
 mod page;
 mod page_range_iter;
 mod page_ranges;
+mod parting;
 mod path;
 mod remove;
 mod spare;

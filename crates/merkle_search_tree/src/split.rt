@@ -1,4 +1,4 @@
-//! Parting a subtree at a key.
+//! Taking a subtree apart at a key.
 
 ghost use Rattle.std.specs.Prelude.{◌≡◌, ℕ, suc, ◌+◌, ◌<◌, ◌≤◌, [], OnOk, OnErr, IfOk};
 ghost use Rattle.std.specs.Vec.{vec_capacity};
@@ -8,12 +8,12 @@ ghost use Rattle.merkle_search_tree.specs.Page.{held_pairs};
 ghost use Rattle.merkle_search_tree.specs.Tree.{Held, below, nothing, held_of};
 ghost use Rattle.merkle_search_tree.specs.Upsert.{held_lower, held_upper};
 ghost use Rattle.merkle_search_tree.specs.Chain.{page_length, high_of, first_of, with_high, with_first, row_take, row_drop, row_of_page, remade};
-ghost use Rattle.merkle_search_tree.specs.Cut.{gap, CutsNodes, CutFits};
+ghost use Rattle.merkle_search_tree.specs.Parting.{gap, PartsNodes, PartingFits};
 ghost use Rattle.merkle_search_tree.specs.Split.{HaveRoom, InParts};
 
 use crate::chain::Chain;
-use crate::cut::{Cut, cuts_of};
 use crate::page::PageOf;
+use crate::parting::{Parting, partings_of};
 use crate::spare::{Spare, move_tail};
 use std::alloc::{AllocError, Global};
 use std::mem;
@@ -80,28 +80,28 @@ impl<K: Drop, D: Drop> Sides<K, D> {
         Ok(Sides { below, rest })
     }
 
-    /// Takes a page apart at its cut, puts its parts to the sides, and hands out what stands in its gap. The pages above keep
+    /// Takes a page apart at its parting, puts its parts to the sides, and hands out what stands in its gap. The pages above keep
     /// their digests on a side only while there is nothing on the other.
     fn part_page(
         &mut self,
         mut page: Box<PageOf<K, D>>,
-        cut: Cut<K, D>,
+        parting: Parting<K, D>,
     ) -> Option<Box<PageOf<K, D>>>
-        requires cuts { CutsNodes (page_length page.value) cut }
+        requires parting { PartsNodes (page_length page.value) parting }
         requires room { HaveRoom 1 self.old }
         ensures room { (more : ℕ) → HaveRoom (suc more) self.old → HaveRoom more self.new }
-        ensures gap { (cmp : K → K → Ordering) (key : K) → CutFits cmp key (row_of_page page.value) cut → held_of result ≡ gap cmp key (row_of_page page.value) }
-        ensures parts { (cmp : K → K → Ordering) (key : K) (whole : Held K D) → CutFits cmp key (row_of_page page.value) cut → InParts cmp key whole (below page.value) self.old
+        ensures gap { (cmp : K → K → Ordering) (key : K) → PartingFits cmp key (row_of_page page.value) parting → held_of result ≡ gap cmp key (row_of_page page.value) }
+        ensures parts { (cmp : K → K → Ordering) (key : K) (whole : Held K D) → PartingFits cmp key (row_of_page page.value) parting → InParts cmp key whole (below page.value) self.old
             → InParts cmp key whole (held_of result) self.new }
     {
-        match cut {
-            Cut::Start => {
+        match parting {
+            Parting::Start => {
                 let first = page.take_first();
                 self.below.forget();
                 self.rest.push(page);
                 first
             }
-            Cut::Inside { at, spare } => {
+            Parting::Inside { at, spare } => {
                 let mut upper = page.part(at, spare);
                 let first = upper.take_first();
                 self.below.push(page);
@@ -110,7 +110,7 @@ impl<K: Drop, D: Drop> Sides<K, D> {
                 self.rest.forget();
                 first
             }
-            Cut::End => {
+            Parting::End => {
                 let high = page.take_high();
                 self.rest.forget();
                 self.below.push(page);
@@ -135,12 +135,12 @@ pub(crate) fn split_off_lt<K: Ord + Drop, D: Drop>(
     if held.is_none() {
         return Ok(None);
     }
-    let cuts = cuts_of(alloc, held, key)?;
-    let mut sides = Sides::with_room(alloc, cuts.len())?;
+    let partings = partings_of(alloc, held, key)?;
+    let mut sides = Sides::with_room(alloc, partings.len())?;
     let mut path = mem::replace(held, None);
-    'path: for cut in cuts {
+    'path: for parting in partings {
         path = match path {
-            Some(page) => sides.part_page(page, cut),
+            Some(page) => sides.part_page(page, parting),
             None => unreachable!(),
         };
     }

@@ -101,7 +101,7 @@ impl<K: Ord + Drop, D: Drop> PageOf<K, D> {
 }
 
 /// Puts a key among the nodes of a page, or its digest where the key is there; what stands in its gap is parted at it.
-fn put<K: Ord + Drop, D: Drop>(
+fn set_in_page<K: Ord + Drop, D: Drop>(
     alloc: Global,
     nodes: &mut Vec<NodeOf<K, D>>,
     high_page: &mut Option<Box<PageOf<K, D>>>,
@@ -188,7 +188,7 @@ impl<K: Ord + Drop, D: Drop> PageOf<K, D> {
     {
         match self.compare_level(level) {
             Ordering::Equal => {
-                put(alloc, &mut self.nodes, &mut self.high_page, key, digest)?;
+                set_in_page(alloc, &mut self.nodes, &mut self.high_page, key, digest)?;
                 self.level = level;
                 self.tree_hash = None;
                 Ok(())

@@ -1,7 +1,7 @@
 use Rattle.std.proofs.Common.{get_or, length, ap, sym, ◌∙◌, arith}
 use Rattle.merkle_search_tree.specs.Tree.{Tree, Node, held_of}
 use Rattle.merkle_search_tree.specs.Chain.{first_of, row_drop, row_of_page}
-use Rattle.merkle_search_tree.proofs.Cuts.{first-at, first-last}
+use Rattle.merkle_search_tree.proofs.Partings.{first-at, first-last}
 use Rattle.merkle_search_tree.proofs.page.PageOf.held_at.Goals as goal
 
 pub returns-in-Some : goal.returns-in-Some

@@ -1,4 +1,4 @@
--- The parts of a page at the key's gap, and the cuts of its path.
+-- The parts of a page at the key's gap, and the partings of its path.
 use Rattle.std.proofs.Common.{◌≡◌, ℕ, zero, suc, ◌<◌, ◌≤◌, List, [], ◌∷◌, length, get_or, Bool, true, false, if◌then◌else◌, Option, None, refl, ap, sym, subst, ◌∙◌, arith}
 use Rattle.std.specs.declared.cmp.Ordering.{Ordering}
 use Rattle.std.specs.Ordering.{is_gt}
@@ -7,8 +7,8 @@ use Rattle.merkle_search_tree.specs.Tree.{Tree, page, Row, high, node, Held, bel
 use Rattle.merkle_search_tree.specs.Page.{pairs, row_pairs, held_pairs, row_nodes, nodes_of}
 use Rattle.merkle_search_tree.specs.Upsert.{place, lower, upper, held_lower, held_upper, as_held, kept, kept_beside}
 use Rattle.merkle_search_tree.specs.Chain.{row_length, page_length, high_of, first_of, with_high, with_first, row_take, row_drop, row_of_page}
-use Rattle.merkle_search_tree.specs.Cut.{gap, row_place, cut_place, CutsNodes, CutFits, CutsFit}
-use Rattle.merkle_search_tree.specs.declared.cut.Cut.{Cut}
+use Rattle.merkle_search_tree.specs.Parting.{gap, row_place, parting_place, PartsNodes, PartingFits, PartingsFit}
+use Rattle.merkle_search_tree.specs.declared.parting.Parting.{Parting}
 use Rattle.merkle_search_tree.proofs.Sides.{map-first, map-rest}
 use Rattle.merkle_search_tree.proofs.Hung.{length-first, length-drop, some-held, some-kept}
 
@@ -114,15 +114,15 @@ module _ {K D : Type 0} (cmp : K → K → Ordering) (k : K) where
   pub page_place : (t : Tree K D) → row_place cmp k (row_of_page t) ≡ place cmp k (nodes_of t)
   page_place (page l c r) = row_place-nodes r
 
-  -- the cuts of a page's path: its own, and those of what stands in its gap
-  pub cuts-more : (t : Tree K D) (at : ℕ) (c : Cut K D) (cs : List (Cut K D)) → at ≡ row_place cmp k (row_of_page t) → CutsNodes (page_length t) c → cut_place (page_length t) c ≡ at
-      → CutsFit cmp k (first_of (row_drop at (row_of_page t))) cs → CutsFit cmp k (below t) (c ∷ cs)
-  cuts-more (page l o r) at c cs p a q f = ((a, q ∙ p), subst (λ h. CutsFit cmp k h cs) (sym (gap-at cmp k r at p)) f)
+  -- the partings of a page's path: its own, and those of what stands in its gap
+  pub partings-more : (t : Tree K D) (at : ℕ) (c : Parting K D) (cs : List (Parting K D)) → at ≡ row_place cmp k (row_of_page t) → PartsNodes (page_length t) c → parting_place (page_length t) c ≡ at
+      → PartingsFit cmp k (first_of (row_drop at (row_of_page t))) cs → PartingsFit cmp k (below t) (c ∷ cs)
+  partings-more (page l o r) at c cs p a q f = ((a, q ∙ p), subst (λ h. PartingsFit cmp k h cs) (sym (gap-at cmp k r at p)) f)
 
-  pub first-cut : (h : Held K D) (t : Tree K D) (c : Cut K D) (cs its : List (Cut K D)) → h ≡ below t → its ≡ c ∷ cs → CutsFit cmp k h its → CutFits cmp k (row_of_page t) c × CutsFit cmp k (gap cmp k (row_of_page t)) cs
-  first-cut h t c cs its e f a = by t (subst (λ xs. CutsFit cmp k (below t) xs) f (subst (λ x. CutsFit cmp k x its) e a))
+  pub first-parting : (h : Held K D) (t : Tree K D) (c : Parting K D) (cs its : List (Parting K D)) → h ≡ below t → its ≡ c ∷ cs → PartingsFit cmp k h its → PartingFits cmp k (row_of_page t) c × PartingsFit cmp k (gap cmp k (row_of_page t)) cs
+  first-parting h t c cs its e f a = by t (subst (λ xs. PartingsFit cmp k (below t) xs) f (subst (λ x. PartingsFit cmp k x its) e a))
     where
-      by : (t : Tree K D) → CutsFit cmp k (below t) (c ∷ cs) → CutFits cmp k (row_of_page t) c × CutsFit cmp k (gap cmp k (row_of_page t)) cs
+      by : (t : Tree K D) → PartingsFit cmp k (below t) (c ∷ cs) → PartingFits cmp k (row_of_page t) c × PartingsFit cmp k (gap cmp k (row_of_page t)) cs
       by (page l o r) a = a
 
 module _ {K D : Type 0} where

@@ -5,11 +5,11 @@ use Rattle.merkle_search_tree.specs.Page.{held_pairs, nodes_of}
 use Rattle.merkle_search_tree.specs.Search.{NodesAscend}
 use Rattle.merkle_search_tree.specs.Upsert.{place}
 use Rattle.merkle_search_tree.specs.Chain.{page_length, first_of, row_drop, row_of_page}
-use Rattle.merkle_search_tree.specs.Cut.{CutsNodes, cut_place, CutsFit}
+use Rattle.merkle_search_tree.specs.Parting.{PartsNodes, parting_place, PartingsFit}
 use Rattle.merkle_search_tree.proofs.Rows.{row_nodes-row}
 use Rattle.merkle_search_tree.proofs.Search.{page-ascends}
-use Rattle.merkle_search_tree.proofs.Cuts.{page_place, page_length-nodes, cuts-more, page_held-map, page_held-size}
-use Rattle.merkle_search_tree.proofs.cut.cuts_of.Goals as goal
+use Rattle.merkle_search_tree.proofs.Partings.{page_place, page_length-nodes, partings-more, page_held-map, page_held-size}
+use Rattle.merkle_search_tree.proofs.parting.partings_of.Goals as goal
 
 pub search-spot-requires : goal.search-spot-requires
 search-spot-requires g c =
@@ -18,8 +18,8 @@ search-spot-requires g c =
     let map = subst (λ (h : Held g.row.K.Denot g.row.D.Denot). IsMap g.K.Ord.cmp (held_pairs h)) (ap held_of c.in-Some.is) c.path.invariant.0 in
     record { ascending = subst (NodesAscend g.K.Ord.cmp) (sym nodes) (page-ascends g.K.Ord.cmp c.in-Some.page.value map) }
 
-pub cut_at-requires : goal.cut_at-requires
-cut_at-requires g c =
+pub parting_at-requires : goal.parting_at-requires
+parting_at-requires g c =
     let s = c.behind-page.inside in
     let u = c.behind-page-in-Some.inside in
     let nodes = c.deref-in-Some.ensures.value ∙ sym (row_nodes-row s.nodes.items (held_of s.high_page)) ∙ ap nodes_of (c.behind-page.view_is ∙ c.deref.ensures) in
@@ -40,7 +40,7 @@ path-preserved g c =
     let u = c.behind-page-in-Some.inside in
     let t = c.in-Some.page.value in
     let at = c.search-spot.result.at in
-    let cut = c.in_ok-cut.cut in
+    let parting = c.in_ok-parting.parting in
     let nodes = c.deref-in-Some.ensures.value ∙ sym (row_nodes-row s.nodes.items (held_of s.high_page)) ∙ ap nodes_of (c.behind-page.view_is ∙ c.deref.ensures) in
     let same = sym (row_nodes-row u.nodes.items (held_of u.high_page)) ∙ ap nodes_of (c.behind-page-in-Some.view_is ∙ c.deref-in-Some-2.ensures) in
     let len : c.len.result ≡ page_length t = omega (arith, ap length same, c.len.ensures, u.nodes.ok.0, page_length-nodes t) in
@@ -50,15 +50,15 @@ path-preserved g c =
     let rest : held_of c.held_at-rest.result.now ≡ first_of (row_drop at (row_of_page t)) = c.held_at-rest.ensures ∙ ap (λ x. first_of (row_drop at (row_of_page x))) c.deref-in-Some-3.ensures in (
       subst (λ (h : Held g.row.K.Denot g.row.D.Denot). IsMap cmp (held_pairs h)) (sym rest) (page_held-map cmp t at map),
       λ cs f.
-          subst (λ xs. CutsFit cmp key (held_of c.args.held.now) xs) (sym (append_assoc c.path.cuts.items (cut ∷ []) cs) ∙ ap (λ xs. xs ++ cs) (sym c.in_ok-push.ensures.items))
-          (c.path.invariant.1 (cut ∷ cs) (subst (λ h. CutsFit cmp key h (cut ∷ cs)) (sym is)
-          (cuts-more cmp key t at cut cs found (subst (λ n. CutsNodes n cut) len c.in_ok-cut.ensures.cuts) (subst (λ n. cut_place n cut ≡ at) len c.in_ok-cut.ensures.place) (subst (λ h. CutsFit cmp key h cs) rest f)))),
+          subst (λ xs. PartingsFit cmp key (held_of c.args.held.now) xs) (sym (append_assoc c.path.partings.items (parting ∷ []) cs) ∙ ap (λ xs. xs ++ cs) (sym c.in_ok-push.ensures.items))
+          (c.path.invariant.1 (parting ∷ cs) (subst (λ h. PartingsFit cmp key h (parting ∷ cs)) (sym is)
+          (partings-more cmp key t at parting cs found (subst (λ n. PartsNodes n parting) len c.in_ok-parting.ensures.parts) (subst (λ n. parting_place n parting ≡ at) len c.in_ok-parting.ensures.place) (subst (λ h. PartingsFit cmp key h cs) rest f)))),
     )
 
 pub returns : goal.returns
 returns g c =
     record {
       fits =
-          subst (λ xs. CutsFit g.K.Ord.cmp c.args.key.now (held_of c.args.held.now) xs) (append-nil c.path.cuts.items)
-          (c.path.invariant.1 [] (subst (λ o. CutsFit g.K.Ord.cmp c.args.key.now (held_of o) []) (sym c.in_default.is) tt));
+          subst (λ xs. PartingsFit g.K.Ord.cmp c.args.key.now (held_of c.args.held.now) xs) (append-nil c.path.partings.items)
+          (c.path.invariant.1 [] (subst (λ o. PartingsFit g.K.Ord.cmp c.args.key.now (held_of o) []) (sym c.in_default.is) tt));
     }

@@ -10,7 +10,7 @@ use Rattle.key_order.specs.Map.{IsMap}
 use Rattle.merkle_search_tree.specs.Page.{held_pairs}
 use Rattle.merkle_search_tree.specs.Search.{NodesAscend}
 use Rattle.merkle_search_tree.proofs.Search.{row-ascends, gap-map, high-map, is_there, not_there}
-use Rattle.merkle_search_tree.proofs.upsert.put.Goals as goal
+use Rattle.merkle_search_tree.proofs.upsert.set_in_page.Goals as goal
 
 pub returns-then-is_err-clause-absent : goal.returns-then-is_err-clause-absent
 returns-then-is_err-clause-absent g c =

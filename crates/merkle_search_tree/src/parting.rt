@@ -5,16 +5,16 @@ ghost use Rattle.key_order.specs.Map.{IsMap};
 ghost use Rattle.merkle_search_tree.specs.Page.{held_pairs};
 ghost use Rattle.merkle_search_tree.specs.Tree.{held_of};
 ghost use Rattle.merkle_search_tree.specs.Chain.{first_of, row_drop, row_of_page};
-ghost use Rattle.merkle_search_tree.specs.Cut.{cut_place, CutsNodes, CutsFit};
+ghost use Rattle.merkle_search_tree.specs.Parting.{parting_place, PartsNodes, PartingsFit};
 
 use crate::page::PageOf;
 use crate::spare::Spare;
 use crate::spot::search;
 use std::alloc::{AllocError, Global};
 
-/// Where a page is cut.
+/// Where a page is parted.
 #[derive(Drop)]
-pub(crate) enum Cut<K, D> {
+pub(crate) enum Parting<K, D> {
     /// Before its first node.
     Start,
     /// Between two nodes: before the one at `at`, with a page for it and those behind it.
@@ -23,20 +23,24 @@ pub(crate) enum Cut<K, D> {
     End,
 }
 
-/// The cut of a page with `len` nodes before the node at `at`.
-fn cut_at<K: Drop, D: Drop>(alloc: Global, at: usize, len: usize) -> Result<Cut<K, D>, AllocError>
+/// The parting of a page with `len` nodes before the node at `at`.
+fn parting_at<K: Drop, D: Drop>(
+    alloc: Global,
+    at: usize,
+    len: usize,
+) -> Result<Parting<K, D>, AllocError>
     requires { at ≤ len }
-    ensures place { IfOk result (λ cut. cut_place len cut ≡ at) }
-    ensures cuts { IfOk result (CutsNodes len) }
+    ensures place { IfOk result (λ parting. parting_place len parting ≡ at) }
+    ensures parts { IfOk result (PartsNodes len) }
 {
     if at == len {
-        return Ok(Cut::End);
+        return Ok(Parting::End);
     }
     if at == 0 {
-        return Ok(Cut::Start);
+        return Ok(Parting::Start);
     }
     let spare = Spare::new(alloc, len - at)?;
-    Ok(Cut::Inside { at, spare })
+    Ok(Parting::Inside { at, spare })
 }
 
 impl<K, D> PageOf<K, D> {
@@ -51,22 +55,22 @@ impl<K, D> PageOf<K, D> {
     }
 }
 
-/// The cuts of a key's path, the topmost page first. They have all memory for nodes that a split takes.
-pub(crate) fn cuts_of<K: Ord + Drop, D: Drop>(
+/// The partings of a key's path, the topmost page first. They have all memory for nodes that a split takes.
+pub(crate) fn partings_of<K: Ord + Drop, D: Drop>(
     alloc: Global,
     held: &Option<Box<PageOf<K, D>>>,
     key: &K,
-) -> Result<Vec<Cut<K, D>>, AllocError>
+) -> Result<Vec<Parting<K, D>>, AllocError>
     requires ascending { IsMap K.cmp (held_pairs (held_of held.now)) }
-    ensures fits { IfOk result (λ cuts. CutsFit K.cmp key.now (held_of held.now) cuts.items) }
+    ensures fits { IfOk result (λ partings. PartingsFit K.cmp key.now (held_of held.now) partings.items) }
 {
-    let mut cuts = Vec::new(alloc);
+    let mut partings = Vec::new(alloc);
     let mut rest = held;
     'path: while let Some(page) = rest {
         let spot = search(&page.nodes, key);
-        let cut = cut_at(alloc, spot.at, page.nodes.len())?;
-        cuts.push(cut)?;
+        let parting = parting_at(alloc, spot.at, page.nodes.len())?;
+        partings.push(parting)?;
         rest = page.held_at(spot.at);
     }
-    Ok(cuts)
+    Ok(partings)
 }
