@@ -1,6 +1,7 @@
-//! What the errors of pulls say.
+//! What errors say.
 
 use crate::pull::PullError;
+use crate::replica::RowsRefused;
 use crate::turns::TurnsError;
 use std::error::Error;
 use std::fmt;
@@ -31,3 +32,12 @@ impl<K> fmt::Display for TurnsError<K> {
 }
 
 impl<K: fmt::Debug + Drop> Error for TurnsError<K> {}
+
+/// Says that memory was refused, or which row doesn't ascend.
+impl<K, V> fmt::Display for RowsRefused<K, V> {
+    fn fmt<W: fmt::Write>(&self, f: &mut fmt::Formatter<W>) -> fmt::Result {
+        self.why.fmt(f)
+    }
+}
+
+impl<K: fmt::Debug + Drop, V: fmt::Debug + Drop> Error for RowsRefused<K, V> {}

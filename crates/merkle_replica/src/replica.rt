@@ -222,7 +222,7 @@ impl<
 }
 
 /// Rows of which no replica was made.
-#[derive(Drop)]
+#[derive(Debug, Drop)]
 pub struct RowsRefused<K, V> {
     /// The rows, as they were handed in.
     pub rows: Vec<(K, V)>,

@@ -10,7 +10,7 @@ use Rattle.merkle_search_tree.specs.Cache.{CachesHold, RowCachesHold, HeldCaches
 use Rattle.merkle_search_tree.specs.CachedRanges.{last_of}
 use Rattle.merkle_search_tree.specs.Canonical.{HasNode, IsCanonical, IsRow, IsGap, IsCanonicalRoot}
 use Rattle.merkle_search_tree.specs.Chain.{high_of, with_high, row_of_page, remade}
-use Rattle.merkle_search_tree.specs.Edge.{row_more, IsBare, RowIsBare, HeldIsBare, last_level, edge_pairs, is_above, IsOpen, IsEdge, Closes, Appends}
+use Rattle.merkle_search_tree.specs.Edge.{row_more, IsBare, RowIsBare, HeldIsBare, last_level, edge_pairs, is_above, IsOpen, IsEdge, ClosesPages, Appends}
 use Rattle.merkle_search_tree.specs.declared.builder.PageFormat.{PageFormat}
 use Rattle.merkle_search_tree.proofs.RangeEnds.{last-append}
 
@@ -103,14 +103,14 @@ module _ {K D : Type 0} where
     edge-low b (t ∷ ts) a = omega (arith, edge-low (level t) ts a.2, a.0)
 
     -- the last open page is closed
-    pub closes-more : (n : ℕ) (ts us vs : List (Tree K D)) (t u : Tree K D) (h : Held K D) → us ≡ vs ++ t ∷ [] → level t < n → u ≡ remade 0 t (with_high h (row_of_page t)) → Closes lev n ts us h → Closes lev n ts vs (below u)
+    pub closes-more : (n : ℕ) (ts us vs : List (Tree K D)) (t u : Tree K D) (h : Held K D) → us ≡ vs ++ t ∷ [] → level t < n → u ≡ remade 0 t (with_high h (row_of_page t)) → ClosesPages lev n ts us h → ClosesPages lev n ts vs (below u)
     closes-more n ts us vs t u h e s q a =
-        let c = subst (λ x. Closes lev n ts x h) e a in
+        let c = subst (λ x. ClosesPages lev n ts x h) e a in
         let f = edge-last 256 vs t c.0 in
         let o = f.2 in
         let g : IsGap lev (level t) h = subst (λ b. IsGap lev b h) (last-level 256 vs t) c.1.0 in
         let bare = page-bare h t o.2 c.1.1 in
-        subst (λ x. Closes lev n ts vs (below x)) (sym q) (
+        subst (λ x. ClosesPages lev n ts vs (below x)) (sym q) (
           f.0,
           (page-gap lev (last_level 256 vs) h t f.1 o.0 o.1 g, bare),
           (page-gap lev n h t s o.0 o.1 g, bare),
@@ -119,9 +119,9 @@ module _ {K D : Type 0} where
 
     -- a pair on the level of the last open page
     pub append-at : (n : ℕ) (k : K) (d : D) (ts us vs ws : List (Tree K D)) (t u : Tree K D) (h : Held K D) → us ≡ vs ++ t ∷ [] → last_level 256 us ≡ n → lev k ≡ n → u ≡ remade 0 t (row_more (record { lt = h; key = k; digest = d }) (row_of_page t))
-        → ws ≡ vs ++ u ∷ [] → Closes lev n ts us h → Appends lev k d ts ws
+        → ws ≡ vs ++ u ∷ [] → ClosesPages lev n ts us h → Appends lev k d ts ws
     append-at n k d ts us vs ws t u h e m s q w a =
-        let c = subst (λ x. Closes lev n ts x h) e a in
+        let c = subst (λ x. ClosesPages lev n ts x h) e a in
         let f = edge-last 256 vs t c.0 in
         let x : Node K D = record { lt = h; key = k; digest = d } in
         let same : n ≡ level t = sym m ∙ ap (last_level 256) e ∙ last-level 256 vs t in
@@ -138,7 +138,7 @@ module _ {K D : Type 0} where
 
     -- a pair on a lower level
     pub append-new : (n : ℕ) (k : K) (d : D) (ts us ws : List (Tree K D)) (u : Tree K D) (h : Held K D) → n < last_level 256 us → lev k ≡ n → u ≡ page n None (node h k d (high nothing))
-        → ws ≡ us ++ u ∷ [] → Closes lev n ts us h → Appends lev k d ts ws
+        → ws ≡ us ++ u ∷ [] → ClosesPages lev n ts us h → Appends lev k d ts ws
     append-new n k d ts us ws u h m s q w a =
         subst (λ zs. Appends lev k d ts zs) (sym (w ∙ ap (λ y. us ++ y ∷ []) q)) (
           edge-more 256 us (page n None (node h k d (high nothing))) a.0 m (tt, (a.2.0, s, tt), (a.2.1, tt), refl),
@@ -159,7 +159,7 @@ module _ {K D : Type 0} where
     root-bare (below t) a = a
 
     -- all pages are closed
-    pub closes-all : (ts us : List (Tree K D)) (h : Held K D) → 256 ≤ last_level 256 us → Closes lev 256 ts us h → IsCanonicalRoot lev (root_of h) × IsBare (root_of h) × (pairs (root_of h) ≡ edge_pairs ts)
+    pub closes-all : (ts us : List (Tree K D)) (h : Held K D) → 256 ≤ last_level 256 us → ClosesPages lev 256 ts us h → IsCanonicalRoot lev (root_of h) × IsBare (root_of h) × (pairs (root_of h) ≡ edge_pairs ts)
     closes-all ts [] h s a = (closed-root h a.2.0, root-bare h a.2.1, root-pairs h ∙ a.3)
     closes-all ts (u ∷ us) h s a = absurd (omega (arith, s, edge-low (level u) us a.0.2, a.0.0))
 

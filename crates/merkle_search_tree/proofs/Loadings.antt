@@ -11,7 +11,7 @@ use Rattle.key_order.specs.Map.{IsMap, SameMap, last_key}
 use Rattle.key_order.proofs.Orders.{low_low, same_from, up_self}
 use Rattle.key_order.proofs.Bools.{false_not_true}
 use Rattle.merkle_search_tree.specs.Edge.{is_above}
-use Rattle.merkle_search_tree.specs.Loading.{row_count, digests_of, IsRefused, LoadFails}
+use Rattle.merkle_search_tree.specs.Loading.{row_count, digests_of, RowFails, LoadFails}
 use Rattle.merkle_search_tree.specs.declared.load.LoadRefused.{LoadRefused}
 use Rattle.merkle_search_tree.specs.declared.load.LoadRefused.TheVariants.{Memory, NotAscending}
 use Rattle.merkle_search_tree.proofs.SameMaps.{same-append, same_is_map}
@@ -104,7 +104,7 @@ module _ {K V D : Type 0} (f : V → D) (cmp : K → K → Ordering) (o : IsTota
 
   -- a row that is refused behind the pairs is refused behind the rows
   pub holds-fails : (Came : List (K × V) → Type 0) (ps : List (K × D)) (rows : List (K × V)) (j k : K) (v : V) (fault : LoadRefused) → Holds ps rows → Same cmp j k → Came (rows ++ (k, v) ∷ [])
-      → IsRefused cmp ps j fault → LoadFails cmp Came fault
+      → RowFails cmp ps j fault → LoadFails cmp Came fault
   holds-fails Came ps rows j k v Memory a e w r = tt
   holds-fails Came ps rows j k v (NotAscending at) a e w r = (
     rows,

@@ -59,8 +59,8 @@ module _ {K D : Type 0} (lev : K → ℕ) where
   IsClosed b h = IsGap lev b h × HeldIsBare h
 
   -- of the open pages ts those whose level is below n were closed: us are left, and h holds the others
-  abbrev pub Closes : ℕ → List (Tree K D) → List (Tree K D) → Held K D → Type 0
-  Closes n ts us h = IsEdge 256 us × IsClosed (last_level 256 us) h × IsClosed n h × (edge_pairs us ++ held_pairs h ≡ edge_pairs ts)
+  abbrev pub ClosesPages : ℕ → List (Tree K D) → List (Tree K D) → Held K D → Type 0
+  ClosesPages n ts us h = IsEdge 256 us × IsClosed (last_level 256 us) h × IsClosed n h × (edge_pairs us ++ held_pairs h ≡ edge_pairs ts)
 
   -- the open pages us are those of ts with the pair behind all others
   abbrev pub Appends : K → D → List (Tree K D) → List (Tree K D) → Type 0

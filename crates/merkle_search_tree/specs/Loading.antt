@@ -33,9 +33,9 @@ module _ {K X : Type 0} (cmp : K → K → Ordering) where
   EndsAscent rows k = IsMap cmp rows × ((x : X) → ¬ (IsMap cmp (rows ++ (k, x) ∷ [])))
 
   -- a row with the key k was refused behind these rows: memory was refused, or it doesn't ascend
-  abbrev pub IsRefused : List (K × X) → K → LoadRefused → Type 0
-  IsRefused rows k Memory = ⊤
-  IsRefused rows k (NotAscending at) = EndsAscent rows k × (at ≡ row_count rows)
+  abbrev pub RowFails : List (K × X) → K → LoadRefused → Type 0
+  RowFails rows k Memory = ⊤
+  RowFails rows k (NotAscending at) = EndsAscent rows k × (at ≡ row_count rows)
 
   -- loading was refused: memory was refused, or the last of the rows that came is the first that doesn't ascend
   abbrev pub LoadFails : (List (K × X) → Type 0) → LoadRefused → Type 0

@@ -3,7 +3,7 @@
 ghost use Rattle.std.specs.Prelude.{◌≡◌, ◌≤◌, ℕ, IfOk};
 ghost use Rattle.merkle_search_tree.specs.Tree.{held_of};
 ghost use Rattle.merkle_search_tree.specs.Chain.{row_of_page, remade};
-ghost use Rattle.merkle_search_tree.specs.Edge.{row_more, last_level, edge_pairs, is_above, IsEdge, Closes, Appends, IsRootOf};
+ghost use Rattle.merkle_search_tree.specs.Edge.{row_more, last_level, edge_pairs, is_above, IsEdge, ClosesPages, Appends, IsRootOf};
 
 use crate::page::{NodeOf, PageOf};
 use crate::page_ranges::last_key;
@@ -49,7 +49,7 @@ pub(crate) fn is_above<K: Ord, D>(edge: &[PageOf<K, D>], key: &K) -> bool
     }
 }
 
-/// Closes the open pages whose levels are below the bound: each becomes the high page of the one before it, and the first of them is
+/// ClosesPages the open pages whose levels are below the bound: each becomes the high page of the one before it, and the first of them is
 /// answered.
 fn close<K: Drop, D: Drop>(
     alloc: Global,
@@ -57,7 +57,7 @@ fn close<K: Drop, D: Drop>(
     bound: u16,
 ) -> Result<Option<Box<PageOf<K, D>>>, AllocError>
     requires { bound ≤ 256 }
-    ensures closed { IfOk result (λ held. (lev : K → ℕ) → IsEdge lev 256 edge.old.items → Closes lev bound edge.old.items edge.new.items (held_of held)) }
+    ensures closed { IfOk result (λ held. (lev : K → ℕ) → IsEdge lev 256 edge.old.items → ClosesPages lev bound edge.old.items edge.new.items (held_of held)) }
     ensures levels { IfOk result (λ held. bound ≤ last_level 256 edge.new.items) }
 {
     let mut held = None;
@@ -112,7 +112,7 @@ pub(crate) fn append<K: Drop, D: Drop>(
     }
 }
 
-/// Closes all open pages, and answers the root page.
+/// ClosesPages all open pages, and answers the root page.
 pub(crate) fn root_of<K: Drop, D: Drop>(
     alloc: Global,
     edge: Vec<PageOf<K, D>>,

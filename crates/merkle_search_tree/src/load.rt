@@ -6,7 +6,7 @@ ghost use Rattle.key_order.specs.Order.{Same};
 ghost use Rattle.key_order.specs.Map.{IsMap, SameMap};
 ghost use Rattle.merkle_diff.specs.Iterable.{Gives, Begins};
 ghost use Rattle.merkle_search_tree.specs.Edge.{edge_pairs};
-ghost use Rattle.merkle_search_tree.specs.Loading.{digests_of, IsLoading, IsRefused, LoadFails, BeginsWith};
+ghost use Rattle.merkle_search_tree.specs.Loading.{digests_of, IsLoading, RowFails, LoadFails, BeginsWith};
 ghost use Rattle.merkle_search_tree.specs.State.{map_of};
 ghost use Rattle.merkle_search_tree.specs.declared.load.LoadRefused.TheVariants.{Memory};
 
@@ -16,6 +16,8 @@ use crate::page::PageOf;
 use crate::tree::MerkleSearchTree;
 use merkle_digest::{Hasher, KeyBytes, ValueDigest, level};
 use std::alloc::{AllocError, Global};
+use std::error::Error;
+use std::fmt;
 
 /// Why rows were not loaded.
 #[derive(Clone, Copy, Debug, PartialEq, Eq)]
@@ -33,6 +35,23 @@ impl From<AllocError> for LoadRefused {
         LoadRefused::Memory
     }
 }
+
+/// Says that memory was refused, or which row doesn't ascend.
+impl fmt::Display for LoadRefused {
+    fn fmt<W: fmt::Write>(&self, f: &mut fmt::Formatter<W>) -> fmt::Result {
+        match self {
+            LoadRefused::Memory => write!(f, "memory was refused, and no row was loaded"),
+            LoadRefused::NotAscending(place) => {
+                write!(
+                    f,
+                    "the key at place {place} isn't above the one before it, and no row was loaded"
+                )
+            }
+        }
+    }
+}
+
+impl Error for LoadRefused {}
 
 /// What is loaded so far: the open pages of the right edge, and how many rows came, but at most `usize::MAX`.
 #[derive(Drop)]
@@ -52,7 +71,7 @@ fn push_row<K: Ord + KeyBytes + Drop, V: Eq, H: Hasher<N, K> + Hasher<N, V>, con
     requires { IsLoading K.cmp ⟦<H as Hasher<N, K>>⟧.digest_of builder.now loading.old }
     ensures loading { OnOk result (IsLoading K.cmp ⟦<H as Hasher<N, K>>⟧.digest_of builder.now loading.new) }
     ensures pushed { OnOk result (edge_pairs loading.new.edge.items ≡ edge_pairs loading.old.edge.items ++ (key, ⟦<H as Hasher<N, V>>⟧.digest_of builder.now.hasher value.now) ∷ []) }
-    ensures refused { IfErr result (λ fault. IsRefused K.cmp (edge_pairs loading.old.edge.items) key fault) }
+    ensures refused { IfErr result (λ fault. RowFails K.cmp (edge_pairs loading.old.edge.items) key fault) }
 {
     if !is_above(&loading.edge, &key) {
         return Err(LoadRefused::NotAscending(loading.count));

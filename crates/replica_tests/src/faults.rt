@@ -1,6 +1,7 @@
-//! What the errors of pulls say.
+//! What errors say.
 
-use merkle_replica::{PullError, Pulled, TurnsError};
+use merkle_replica::{PullError, Pulled, RowsRefused, TurnsError};
+use merkle_search_tree::LoadRefused;
 use std::test::Fail;
 
 #[test]
@@ -30,5 +31,30 @@ fn faults_say_what_was_done(rt: HostRuntime) -> Result<(), Fail> {
         format!(in alloc; "{turns}")?.as_str(),
         "after 0 pulls memory was refused before a row was joined"
     );
+    Ok(())
+}
+
+/// What rows that were refused say.
+const REFUSED: [(LoadRefused, &str); 2] = [
+    (
+        LoadRefused::Memory,
+        "memory was refused, and no row was loaded",
+    ),
+    (
+        LoadRefused::NotAscending(3),
+        "the key at place 3 isn't above the one before it, and no row was loaded",
+    ),
+];
+
+#[test]
+fn refused_rows_say_why(rt: HostRuntime) -> Result<(), Fail> {
+    let alloc = rt.alloc();
+    for (why, text) in REFUSED {
+        let refused: RowsRefused<u8, u64> = RowsRefused {
+            rows: Vec::new(alloc),
+            why,
+        };
+        assert_eq!(rt; format!(in alloc; "{refused}")?.as_str(), text);
+    }
     Ok(())
 }

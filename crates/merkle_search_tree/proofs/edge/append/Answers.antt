@@ -1,6 +1,6 @@
 use Rattle.std.proofs.Common.{[], ◌∷◌, ◌++◌, None, ap, sym, subst, ◌∙◌, arith}
 use Rattle.merkle_search_tree.specs.Tree.{held_of, page, row, nothing, Node}
-use Rattle.merkle_search_tree.specs.Edge.{last_level, Closes}
+use Rattle.merkle_search_tree.specs.Edge.{last_level, ClosesPages}
 use Rattle.merkle_search_tree.proofs.Edges.{append-at, append-new}
 use Rattle.merkle_search_tree.proofs.edge.append.Goals as goal
 
@@ -21,4 +21,4 @@ returns-in_ok-push-2 g c =
     λ lev s a. append-new lev c.args.level c.args.key c.args.digest ts us c.push-else-last_level-from-2.new.self.items (page c.args.level None (row c.push-else-last_level-from.new.self.items nothing)) h
     (omega (arith, c.if-last_level-from.false, c.last_level.ensures, ap (last_level 256) c.deref.ensures.value, c.from-2.ensures, c.from.ensures, c.in_ok-low.ensures.levels)) s
     (ap (λ es. page c.args.level None (row es nothing)) (c.in_ok-push.ensures.items ∙ ap (λ es. es ++ x ∷ []) c.new-nodes.ensures.items))
-    c.in_ok-push-2.ensures.items (subst (λ n. Closes lev n ts us h) c.from.ensures (c.in_ok-low.ensures.closed lev a))
+    c.in_ok-push-2.ensures.items (subst (λ n. ClosesPages lev n ts us h) c.from.ensures (c.in_ok-low.ensures.closed lev a))
