@@ -56,10 +56,7 @@ impl<K: Drop, D: Drop> Chain<K, D> {
         ensures room { vec_capacity self.old.pages ≤ vec_capacity self.new.pages }
         ensures stale { self.new.stale ≡ self.old.stale }
     {
-        match self.pages.push(page) {
-            Ok(()) => {}
-            Err(_) => unreachable!(),
-        }
+        self.pages.push_reserved(page);
     }
 
     /// Says that all pages lose their digests.

@@ -85,8 +85,5 @@ fn push<'a, K, D>(
         nodes,
         high_page,
     };
-    match path.push(visit) {
-        Ok(()) => {}
-        Err(_) => unreachable!(),
-    }
+    path.push_reserved(visit);
 }

@@ -1,7 +1,8 @@
 //! Room that is made before a page is written.
 
-ghost use Rattle.std.specs.Prelude.{◌≡◌, ◌+◌, ◌≤◌, [], take, drop, IfOk};
+ghost use Rattle.std.specs.Prelude.{◌≡◌, ◌+◌, ◌≤◌, [], take, drop, None, IfOk};
 ghost use Rattle.std.specs.Vec.{vec_len, vec_capacity};
+ghost use Rattle.merkle_search_tree.specs.Tree.{page, row, held_of};
 
 use crate::page::{NodeOf, PageOf};
 use std::alloc::{AllocError, Global};
@@ -22,6 +23,25 @@ impl<K: Drop, D: Drop> Spare<K, D> {
         let page = Box::new(alloc, PageOf::empty(alloc))?;
         Ok(Spare { page, nodes })
     }
+
+    /// The page as one of a level, with the nodes that were put to its room, and with what stands above them.
+    #[inline(always)]
+    pub(crate) fn into_page(
+        self,
+        level: u8,
+        high_page: Option<Box<PageOf<K, D>>>,
+    ) -> Box<PageOf<K, D>>
+        ensures { result.value ≡ page level None (row self.nodes.items (held_of high_page)) }
+    {
+        let Spare { mut page, nodes } = self;
+        *page = PageOf {
+            level,
+            tree_hash: None,
+            nodes,
+            high_page,
+        };
+        page
+    }
 }
 
 /// Moves the elements from `at` on into an empty list that has room for them. It takes no memory, where `Vec::split_off` does.
@@ -34,10 +54,7 @@ pub(crate) fn move_tail<T>(from: &mut Vec<T>, at: usize, into: &mut Vec<T>)
 {
     'tail: while from.len() > at {
         match from.pop() {
-            Some(element) => match into.push(element) {
-                Ok(()) => {}
-                Err(_) => unreachable!(),
-            },
+            Some(element) => into.push_reserved(element),
             None => unreachable!(),
         }
     }

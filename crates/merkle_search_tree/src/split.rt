@@ -38,27 +38,17 @@ impl<K: Drop, D: Drop> PageOf<K, D> {
     }
 
     /// Parts the nodes of a page, which loses its digest: those from `at` on, and what is above them, go to a page beside the tree.
-    fn part(&mut self, at: usize, spare: Spare<K, D>) -> Box<PageOf<K, D>>
+    fn part(&mut self, at: usize, mut spare: Spare<K, D>) -> Box<PageOf<K, D>>
         requires in_bounds { at ≤ page_length self.old }
         requires empty { spare.nodes.items ≡ [] }
         requires room { page_length self.old ≤ at + vec_capacity spare.nodes }
         ensures stays { self.new ≡ remade 1 self.old (row_take at (row_of_page self.old)) }
         ensures goes { result.value ≡ remade 1 self.old (row_drop at (row_of_page self.old)) }
     {
-        let Spare {
-            page: mut upper,
-            nodes: mut moved,
-        } = spare;
-        move_tail(&mut self.nodes, at, &mut moved);
+        move_tail(&mut self.nodes, at, &mut spare.nodes);
         let above = mem::replace(&mut self.high_page, None);
         self.tree_hash = None;
-        *upper = PageOf {
-            level: self.level,
-            tree_hash: None,
-            nodes: moved,
-            high_page: above,
-        };
-        upper
+        spare.into_page(self.level, above)
     }
 }
 

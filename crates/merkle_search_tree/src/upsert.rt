@@ -67,7 +67,7 @@ impl<K: Ord + Drop, D: Drop> PageOf<K, D> {
         };
         let Spare {
             page: mut home,
-            nodes: mut nodes,
+            mut nodes,
         } = spare;
         *home = mem::replace(self, PageOf::empty(alloc));
         let mut above = Some(home);
@@ -81,15 +81,11 @@ impl<K: Ord + Drop, D: Drop> PageOf<K, D> {
                 return Err(UpsertRefused { key });
             }
         };
-        let node = NodeOf {
+        nodes.push_reserved(NodeOf {
             key,
             value_hash: digest,
             lt_pointer: below,
-        };
-        match nodes.push(node) {
-            Ok(()) => {}
-            Err(_) => unreachable!(),
-        }
+        });
         *self = PageOf {
             level,
             tree_hash: None,
@@ -124,15 +120,12 @@ fn set_in_page<K: Ord + Drop, D: Drop>(
             Ok(low) => low,
             Err(_) => return Err(UpsertRefused { key }),
         };
-        let node = NodeOf {
+        nodes.push_reserved(NodeOf {
             key,
             value_hash: digest,
             lt_pointer: low,
-        };
-        return match nodes.push(node) {
-            Ok(()) => Ok(()),
-            Err(_) => unreachable!(),
-        };
+        });
+        return Ok(());
     }
     if spot.is_there {
         let found = &mut nodes[at];
@@ -235,29 +228,15 @@ fn set_below<K: Ord + Drop, D: Drop>(
     if let Some(page) = held {
         return page.set(alloc, key, level, digest);
     }
-    let spare = match Spare::new(alloc, 1) {
+    let mut spare = match Spare::new(alloc, 1) {
         Ok(spare) => spare,
         Err(_) => return Err(UpsertRefused { key }),
     };
-    let Spare {
-        page: mut home,
-        nodes: mut nodes,
-    } = spare;
-    let node = NodeOf {
+    spare.nodes.push_reserved(NodeOf {
         key,
         value_hash: digest,
         lt_pointer: None,
-    };
-    match nodes.push(node) {
-        Ok(()) => {}
-        Err(_) => unreachable!(),
-    }
-    *home = PageOf {
-        level,
-        tree_hash: None,
-        nodes,
-        high_page: None,
-    };
-    *held = Some(home);
+    });
+    *held = Some(spare.into_page(level, None));
     Ok(())
 }

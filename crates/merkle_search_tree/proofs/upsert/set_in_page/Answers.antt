@@ -31,7 +31,7 @@ returns-then-at-len-clause-done g c =
     let es = c.args.nodes.now.items in
     let at = c.search-spot.ensures.found ∙ ap (place g.K.Ord.cmp c.args.key) c.deref.ensures.value in
     let all : place g.K.Ord.cmp c.args.key es ≡ length es = omega (arith, at, c.if-at-len.true, c.len.ensures, c.args.nodes.now.ok.0) in
-    let items = c.in-Ok-push.ensures.items ∙ (λ j. c.reserve.ensures.items j ++ new_node g.K.Ord.cmp c.args.key c.args.digest (c.in-Ok.ensures.below j) ∷ []) in
+    let items = c.push_reserved.ensures.items ∙ (λ j. c.reserve.ensures.items j ++ new_node g.K.Ord.cmp c.args.key c.args.digest (c.in-Ok.ensures.below j) ∷ []) in
     (λ j. row (items j) (c.in-Ok.ensures.rest j)) ∙ sym (put_high g.K.Ord.cmp c.args.key c.args.digest es (held_of c.args.high_page.now) all)
 
 pub returns-then-spot-clause-done : goal.returns-then-spot-clause-done

@@ -26,6 +26,7 @@ returns-clause-stays g c =
 pub returns-clause-goes : goal.returns-clause-goes
 returns-clause-goes g c =
     let s = c.self.inside in
-    (λ j. page s.level None (row (c.move_tail.ensures.moved j) (held_of (c.replace-above.ensures.value j))))
+    c.into_page.ensures
+    ∙ (λ j. page s.level None (row (c.move_tail.ensures.moved j) (held_of (c.replace-above.ensures.value j))))
     ∙ sym (ap (page s.level None) (row_drop-row c.args.at s.nodes.items (held_of s.high_page)))
     ∙ ap (λ (t : Tree g.row.K.Denot g.row.D.Denot). remade 1 t (row_drop c.args.at (row_of_page t))) c.self.view_is
