@@ -18,16 +18,16 @@ use Rattle.merkle_search_tree.specs.Listing.{IsWhole, IsListing}
 use Rattle.merkle_search_tree.specs.Page.{pairs}
 use Rattle.merkle_search_tree.specs.Ranges.{IsPageOf}
 use Rattle.merkle_search_tree.specs.Stream.{page_digest}
-use Rattle.merkle_search_tree.proofs.Listing.{lists}
 use Rattle.merkle_replica.specs.Laws.{Laws}
 use Rattle.merkle_replica.specs.Contents.{Side, with_rows, tree_map}
 use Rattle.merkle_replica.specs.Pulls.{Answer, IsPull, IsByTurns, HoldTheJoin}
 use Rattle.merkle_replica.specs.Faithful.{IsFaithful, AllFaithful}
 use Rattle.merkle_replica.proofs.Taken.{Taken, SameOrAbsent, keeps_join, takes_all, stays, there, there_left, there_right, there_one, taken_there}
 use Rattle.merkle_replica.proofs.Bounds.{get_digests, ascending_digests, present_from, present_to, first_bound, present_head}
+use Rattle.merkle_replica.proofs.Listings.{AreListings}
 use Rattle.merkle_replica.proofs.Cover.{Lo, Hi, found_or_same, no_entry, first_there, last_there, all_in_first}
 
-module _ {K V H : Type 0} (laws : Laws K V H) (o : IsTotalOrder laws.cmp) (e : IsEquivalence laws.eq) (j : IsJoining laws.eq laws.join) where
+module _ {K V H : Type 0} (laws : Laws K V H) (o : IsTotalOrder laws.cmp) (e : IsEquivalence laws.eq) (j : IsJoining laws.eq laws.join) (lists : AreListings laws) where
   abbrev Rows : Type 0
   Rows = List (K × V)
 
@@ -102,10 +102,10 @@ module _ {K V H : Type 0} (laws : Laws K V H) (o : IsTotalOrder laws.cmp) (e : I
       is_map_y = ascending_digests cmp o peer_digest y ay
 
       lists_x : IsListing cmp (IsPageOf cmp (laws.key_digest local.hasher) local.base) (page_digest local.format laws.bytes_of) pairs (tree_map laws local) t.answered.local_list
-      lists_x = lists cmp o (laws.key_digest local.hasher) local.base local.format laws.bytes_of (tree_map laws local) t.answered.local_list is_map_x t.answered.of_local
+      lists_x = lists local.hasher local.base local.format (tree_map laws local) t.answered.local_list is_map_x t.answered.of_local
 
       lists_y : IsListing cmp (IsPageOf cmp (laws.key_digest peer.hasher) peer.base) (page_digest peer.format laws.bytes_of) pairs (tree_map laws peer) t.answered.peer_list
-      lists_y = lists cmp o (laws.key_digest peer.hasher) peer.base peer.format laws.bytes_of (tree_map laws peer) t.answered.peer_list is_map_y t.answered.of_peer
+      lists_y = lists peer.hasher peer.base peer.format (tree_map laws peer) t.answered.peer_list is_map_y t.answered.of_peer
 
       lo_digests : Lo cmp y x → Lo cmp (tree_map laws peer) (tree_map laws local)
       lo_digests lo k p = let (i, h, b) = lo k (present_from cmp o local_digest x k p) in (i, present_to cmp o peer_digest y i h, b)

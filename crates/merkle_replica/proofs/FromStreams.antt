@@ -15,6 +15,7 @@ use Rattle.merkle_replica.specs.Contents.{Side, with_rows, tree_map}
 use Rattle.merkle_replica.specs.Faithful.{SpanHolds, HaveFaithfulPages, IsFaithful, AllFaithful, MissesNone, AreSetAlike, HasSmallMap, NoStreamsCollide, IsCollisionFree, AllCollisionFree}
 use Rattle.merkle_replica.specs.Pulls.{Answer, IsAnswerFor, IsByTurns, HoldTheJoin}
 use Rattle.merkle_replica.proofs.Converging.{converges}
+use Rattle.merkle_replica.proofs.Listings.{AreListings}
 use Rattle.merkle_replica.proofs.Pulling.{covers_sides}
 
 module _ {K V H : Type 0} (laws : Laws K V H) (n : ℕ) where
@@ -49,13 +50,13 @@ module _ {K V H : Type 0} (laws : Laws K V H) (n : ℕ) where
         (faithful_from a b (tell a.hasher a.base (tree_map laws a) (tree_map laws b)) alike format here, all_faithful qs b (with_rows a after) b' a' rest back (sym alike.format ∙ format) more others)
 
     -- without collision four turns or more leave the join
-    pub converges_from : IsTotalOrder laws.cmp → IsEquivalence laws.eq → IsJoining laws.eq laws.join
+    pub converges_from : IsTotalOrder laws.cmp → IsEquivalence laws.eq → IsJoining laws.eq laws.join → AreListings laws
         → (answers : List (Answer K)) (a b : Side K V H) (a' b' : List (K × V)) (met : List (Side K V H × Side K V H)) → AreSetAlike laws a b → a.format ≡ V2 → IsMap laws.cmp a.rows → IsMap laws.cmp b.rows → IsByTurns laws answers a b a' b' met
         → AllCollisionFree laws n met → 4 ≤ length answers → HoldTheJoin laws a b a' b'
-    converges_from o e j answers a b a' b' met alike format aa ab turns free =
-        converges laws o e j answers a b a' b' met aa ab turns (all_faithful answers a b a' b' met alike format turns free)
+    converges_from o e j lists answers a b a' b' met alike format aa ab turns free =
+        converges laws o e j lists answers a b a' b' met aa ab turns (all_faithful answers a b a' b' met alike format turns free)
 
   -- coverage where no streams collide
-  pub covers_from : IsTotalOrder laws.cmp → (local peer : Side K V H) (found : List (Span K)) → PagesTell local.hasher local.base (tree_map laws local) (tree_map laws peer) → AreSetAlike laws local peer → local.format ≡ V2
+  pub covers_from : IsTotalOrder laws.cmp → AreListings laws → (local peer : Side K V H) (found : List (Span K)) → PagesTell local.hasher local.base (tree_map laws local) (tree_map laws peer) → AreSetAlike laws local peer → local.format ≡ V2
       → IsMap laws.cmp local.rows → IsMap laws.cmp peer.rows → IsAnswerFor laws local peer found → HasSmallMap laws n local → HasSmallMap laws n peer → NoStreamsCollide laws local peer → SpanHolds laws.cmp peer.rows local.rows → MissesNone laws local peer found
-  covers_from o local peer found tell alike format al ap answered sl sp streams = covers_sides laws o local peer found al ap answered (faithful_pages local peer tell alike format sl sp streams)
+  covers_from o lists local peer found tell alike format al ap answered sl sp streams = covers_sides laws o lists local peer found al ap answered (faithful_pages local peer tell alike format sl sp streams)

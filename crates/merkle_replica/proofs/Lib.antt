@@ -6,6 +6,7 @@ pub mod Joined
 pub mod Taken
 pub mod Bounds
 pub mod Cover
+pub mod Listings
 pub mod Converging
 pub mod Sides
 pub mod Turning

@@ -1,17 +1,13 @@
 -- A pull from what it asks and what it joins.
-use Rattle.std.proofs.Common.{◌≡◌, ℕ, ◌≤◌, List, [], ◌∷◌, length, refl, sym, subst}
+use Rattle.std.proofs.Common.{◌≡◌, ℕ, ◌≤◌, List, [], ◌∷◌, length, refl, subst}
 use Rattle.std.specs.Cmp.{IsTotalOrder}
 use Rattle.key_order.specs.Interval.{Span}
 use Rattle.key_order.specs.Map.{IsMap, last_key, rows_in}
 use Rattle.key_order.specs.Join.{IsJoin}
 use Rattle.merkle_diff.specs.Entry.{Entry}
-use Rattle.merkle_diff.specs.TreeShape.{IsTreeShaped}
-use Rattle.merkle_digest.specs.Level.{level_of}
 use Rattle.merkle_search_tree.specs.Page.{pairs}
 use Rattle.merkle_search_tree.specs.Ranges.{IsPageOf}
 use Rattle.merkle_search_tree.specs.Stream.{page_digest}
-use Rattle.merkle_search_tree.proofs.Listing.{lists, ascends}
-use Rattle.merkle_search_tree.proofs.RangeShape.{tree_shaped}
 use Rattle.merkle_replica.specs.Laws.{Laws}
 use Rattle.merkle_replica.specs.Contents.{Contents, Side, SameSetup, side, digests, tree_map}
 use Rattle.merkle_replica.specs.Steps.{IsAnswerTo}
@@ -20,6 +16,7 @@ use Rattle.merkle_replica.specs.Faithful.{SpanHolds, HaveFaithfulPages, MissesNo
 use Rattle.merkle_replica.specs.Answers.{spans_of, IsDone, IsPartlyDone}
 use Rattle.merkle_replica.proofs.Bounds.{ascending_digests}
 use Rattle.merkle_replica.proofs.Cover.{covers}
+use Rattle.merkle_replica.proofs.Listings.{AreShaped, AreListings}
 use Rattle.merkle_replica.proofs.Sides.{same_side}
 
 module _ {K V H : Type 0} (laws : Laws K V H) where
@@ -46,15 +43,15 @@ module _ {K V H : Type 0} (laws : Laws K V H) where
       record { answered = a; counted = e.counted; some = n; not_all = e.not_all; joins = e.joins }
 
   -- coverage
-  pub covers_sides : IsTotalOrder laws.cmp → (local peer : Side K V H) (found : List (Span K)) → IsMap laws.cmp local.rows → IsMap laws.cmp peer.rows
+  pub covers_sides : IsTotalOrder laws.cmp → AreListings laws → (local peer : Side K V H) (found : List (Span K)) → IsMap laws.cmp local.rows → IsMap laws.cmp peer.rows
       → IsAnswerFor laws local peer found → HaveFaithfulPages laws local peer → SpanHolds laws.cmp peer.rows local.rows → MissesNone laws local peer found
-  covers_sides o local peer found al ap a faith holds k d there lacks =
+  covers_sides o lists local peer found al ap a faith holds k d there lacks =
       let dl = tree_map laws local in
       let dp = tree_map laws peer in
       let ml = ascending_digests laws.cmp o (laws.value_digest local.hasher) local.rows al in
       let mp = ascending_digests laws.cmp o (laws.value_digest peer.hasher) peer.rows ap in
       covers laws.cmp o (IsPageOf laws.cmp (laws.key_digest local.hasher) local.base) (IsPageOf laws.cmp (laws.key_digest peer.hasher) peer.base) (page_digest local.format laws.bytes_of) (page_digest peer.format laws.bytes_of) pairs dl dp a.local_list a.peer_list found ml mp
-      (lists laws.cmp o (laws.key_digest local.hasher) local.base local.format laws.bytes_of dl a.local_list ml a.of_local) (lists laws.cmp o (laws.key_digest peer.hasher) peer.base peer.format laws.bytes_of dp a.peer_list mp a.of_peer)
+      (lists local.hasher local.base local.format dl a.local_list ml a.of_local) (lists peer.hasher peer.base peer.format dp a.peer_list mp a.of_peer)
       (span_digests peer.rows local.rows holds) faith a.interval_laws k d there lacks
     where
       last_digests : {X Y : Type 0} (f : X → Y) (k : K) (rs : List (K × X)) → last_key k (digests f rs) ≡ last_key k rs
@@ -67,20 +64,18 @@ module _ {K V H : Type 0} (laws : Laws K V H) where
       span_digests (s ∷ ss) (r ∷ rs) h = rw (last_digests (laws.value_digest local.hasher) r.0 rs, last_digests (laws.value_digest peer.hasher) s.0 ss) h
 
   -- the steps of a pull, where the list that came is that of the peer's rows and the rows that came are those in the ranges
-  pub steps_pull : IsTotalOrder laws.cmp → (local peer : Side K V H) (theirs : List (Entry K (List ℕ))) (found : List (Span K)) (after : List (K × V)) → IsMap laws.cmp peer.rows
+  pub steps_pull : IsTotalOrder laws.cmp → AreShaped laws → (local peer : Side K V H) (theirs : List (Entry K (List ℕ))) (found : List (Span K)) (after : List (K × V)) → IsMap laws.cmp peer.rows
       → HasRanges laws peer theirs → IsAnswerTo laws local theirs found → IsJoin laws.cmp laws.eq laws.join local.rows (rows_in laws.cmp found peer.rows) after
       → IsPull laws local peer (record { ranges = found; joined = length (rows_in laws.cmp found peer.rows) }) after
-  steps_pull o local peer theirs found after ap (t, is, e) a j =
-      let up = ascends laws.cmp o (λ d c. d ≡ c) (pairs t) (tree_map laws peer) is.1 (ascending_digests laws.cmp o (laws.value_digest peer.hasher) peer.rows ap) in
-      record {
-        answered = record {
-          local_list = a.local_list;
-          peer_list = theirs;
-          of_local = a.of_local;
-          of_peer = (t, is, e);
-          interval_laws = a.interval_laws;
-          laws_on_trees = a.laws_on_trees (subst (IsTreeShaped laws.cmp) (sym e) (tree_shaped laws.cmp o (λ k. level_of (laws.key_digest peer.hasher k) peer.base) peer.format laws.bytes_of t is.0 up));
-        };
-        counted = refl;
-        joins = j;
-      }
+  steps_pull o shaped local peer theirs found after ap of_peer a j = record {
+    answered = record {
+      local_list = a.local_list;
+      peer_list = theirs;
+      of_local = a.of_local;
+      of_peer = of_peer;
+      interval_laws = a.interval_laws;
+      laws_on_trees = a.laws_on_trees (shaped peer.hasher peer.base peer.format (tree_map laws peer) theirs (ascending_digests laws.cmp o (laws.value_digest peer.hasher) peer.rows ap) of_peer);
+    };
+    counted = refl;
+    joins = j;
+  }

@@ -11,6 +11,7 @@ use Rattle.merkle_replica.specs.Answers.{answer_of, IsRefused, StopsByTurns}
 use Rattle.merkle_replica.specs.declared.pull.Pulled.{Pulled}
 use Rattle.merkle_replica.specs.declared.pull.PullError.{PullError}
 use Rattle.merkle_replica.proofs.Converging.{converges}
+use Rattle.merkle_replica.proofs.Listings.{AreListings}
 use Rattle.merkle_replica.proofs.Sides.{same_side, rows_alone}
 
 one_more : {X Y : Type 0} (f : X → Y) (xs : List X) (x : X) (ys : List Y) → map f (xs ++ x ∷ []) ++ ys ≡ map f xs ++ f x ∷ ys
@@ -100,11 +101,11 @@ module _ {K V H : Type 0} (laws : Laws K V H) where
       none true = (refl, refl, refl)
       none false = (refl, refl, refl)
 
-  module _ (o : IsTotalOrder laws.cmp) (e : IsEquivalence laws.eq) (j : IsJoining laws.eq laws.join) where
+  module _ (o : IsTotalOrder laws.cmp) (e : IsEquivalence laws.eq) (j : IsJoining laws.eq laws.join) (lists : AreListings laws) where
     -- and with four turns or more, both hold the join
     pub ends_converged : (a0 b0 : Contents K V H) (done : List (Pulled K)) (next : Bool) (a b : Contents K V H) → IsMap laws.cmp a0.rows → IsMap laws.cmp b0.rows → Goes a0 b0 done next a b
         → (met : List (Side K V H × Side K V H)) × IsByTurns laws (map answer_of done) (side a0) (side b0) a.rows b.rows met
         × (AllFaithful laws met → 4 ≤ length (map answer_of done) → HoldTheJoin laws (side a0) (side b0) a.rows b.rows)
     ends_converged a0 b0 done next a b aa ab g =
         let (met, turns) = ends a0 b0 done next a b g in
-        (met, turns, λ faith n. converges laws o e j (map answer_of done) (side a0) (side b0) a.rows b.rows met aa ab turns faith n)
+        (met, turns, λ faith n. converges laws o e j lists (map answer_of done) (side a0) (side b0) a.rows b.rows met aa ab turns faith n)

@@ -17,6 +17,7 @@ use crate::replica::Replica;
 use merkle_digest::{Hasher, KeyBytes, KeyBytesExact};
 use merkle_search_tree::laws::{
     a_tree_in_memory_is_small, equal_keys_have_equal_bytes, exact_keys_make_pages_faithful,
+    page_ranges_of_a_map,
 };
 
 /// In format 2, where the bytes of a key tell it from every other, it is premise enough that no streams and no values collide, for
@@ -49,6 +50,7 @@ pub fn no_collision_is_enough<
         → AllCollisionFree laws N met → 4 ≤ length answers → HoldTheJoin laws a b a' b' }
 {
     exact_keys_make_pages_faithful::<K, H, N>();
+    page_ranges_of_a_map::<K, H, N>();
 }
 
 /// The map of a replica in memory is small: its keys have fewer than 2^64 bytes, the digests of its values `N` bytes, and each page of a
@@ -78,4 +80,6 @@ pub fn steps_are_a_pull<
         → IsMap K.cmp peer.rows → HasRanges laws peer theirs → IsAnswerTo laws local theirs found
         → IsJoin K.cmp V.eq V.join_of local.rows (rows_in K.cmp found peer.rows) after
         → IsPull laws local peer (record { ranges = found; joined = length (rows_in K.cmp found peer.rows) }) after }
-{}
+{
+    page_ranges_of_a_map::<K, H, N>();
+}

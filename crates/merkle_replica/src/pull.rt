@@ -15,7 +15,9 @@ use crate::lawful::Lawful;
 use crate::replica::Replica;
 use merkle_diff::{DiffRange, PageRangeSnapshot, diff};
 use merkle_digest::{Hasher, KeyBytes};
-use merkle_search_tree::laws::{every_tree_is_sound, page_ranges_are_tree_shaped};
+use merkle_search_tree::laws::{
+    every_tree_is_sound, page_ranges_are_tree_shaped, page_ranges_of_a_map,
+};
 use std::alloc::{AllocError, Global};
 
 /// What a pull did.
@@ -104,6 +106,7 @@ impl<
     {
         self.rows_ascend();
         peer.rows_ascend();
+        page_ranges_of_a_map::<K, H, N>();
         let ranges = match self.ranges_to_ask(peer) {
             Ok(ranges) => ranges,
             Err(_) => return Err(PullError::Memory),

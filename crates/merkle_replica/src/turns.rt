@@ -11,6 +11,7 @@ use crate::lawful::Lawful;
 use crate::pull::{PullError, Pulled};
 use crate::replica::Replica;
 use merkle_digest::{Hasher, KeyBytes};
+use merkle_search_tree::laws::page_ranges_of_a_map;
 use std::alloc::Global;
 
 /// Why pulls by turns stopped: memory was refused.
@@ -62,6 +63,7 @@ pub fn pull_by_turns<
 {
     a.rows_ascend();
     b.rows_ascend();
+    page_ranges_of_a_map::<K, H, N>();
     let mut all = match Vec::with_capacity(alloc, n) {
         Ok(all) => all,
         Err(_) => {

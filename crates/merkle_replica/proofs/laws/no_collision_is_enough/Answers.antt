@@ -14,7 +14,7 @@ returns-clause-all_faithful g c = all_faithful (laws_of g.K.Ord.cmp g.K.KeyBytes
 pub returns-clause-covers : goal.returns-clause-covers
 returns-clause-covers g c local peer found =
     let laws = laws_of g.K.Ord.cmp g.K.KeyBytes.bytes_of g.H.Hasher-1.digest_of g.V.PartialEq.eq g.V.Join.join_of g.H.Hasher-2.digest_of in
-    covers_from laws g.row.N g.met.K.Ord.total local peer found (c.exact_keys_make_pages_faithful.ensures.pages local.hasher local.base (tree_map laws local) (tree_map laws peer))
+    covers_from laws g.row.N g.met.K.Ord.total c.page_ranges_of_a_map.ensures.listing local peer found (c.exact_keys_make_pages_faithful.ensures.pages local.hasher local.base (tree_map laws local) (tree_map laws peer))
 
 pub returns-clause-converges : goal.returns-clause-converges
-returns-clause-converges g c = converges_from (laws_of g.K.Ord.cmp g.K.KeyBytes.bytes_of g.H.Hasher-1.digest_of g.V.PartialEq.eq g.V.Join.join_of g.H.Hasher-2.digest_of) g.row.N c.exact_keys_make_pages_faithful.ensures.pages g.met.K.Ord.total g.met.V.Eq.laws g.met.V.Join.joining
+returns-clause-converges g c = converges_from (laws_of g.K.Ord.cmp g.K.KeyBytes.bytes_of g.H.Hasher-1.digest_of g.V.PartialEq.eq g.V.Join.join_of g.H.Hasher-2.digest_of) g.row.N c.exact_keys_make_pages_faithful.ensures.pages g.met.K.Ord.total g.met.V.Eq.laws g.met.V.Join.joining c.page_ranges_of_a_map.ensures.listing

@@ -3,4 +3,4 @@ use Rattle.merkle_replica.proofs.Sides.{laws_of}
 use Rattle.merkle_replica.proofs.laws.steps_are_a_pull.Goals as goal
 
 pub returns : goal.returns
-returns g c = steps_pull (laws_of g.K.Ord.cmp g.K.KeyBytes.bytes_of g.H.Hasher-1.digest_of g.V.PartialEq.eq g.V.Join.join_of g.H.Hasher-2.digest_of) g.met.K.Ord.total
+returns g c = steps_pull (laws_of g.K.Ord.cmp g.K.KeyBytes.bytes_of g.H.Hasher-1.digest_of g.V.PartialEq.eq g.V.Join.join_of g.H.Hasher-2.digest_of) g.met.K.Ord.total c.page_ranges_of_a_map.ensures.shaped

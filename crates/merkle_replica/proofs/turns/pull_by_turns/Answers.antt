@@ -21,7 +21,7 @@ returns-clause-length g c = let t = c.turning.invariant.taken in omega arith
 
 pub returns-clause-turns : goal.returns-clause-turns
 returns-clause-turns g c =
-    let (met, turns, all) = ends_converged (laws_of g.K.Ord.cmp g.K.KeyBytes.bytes_of g.H.Hasher-1.digest_of g.V.PartialEq.eq g.V.Join.join_of g.H.Hasher-2.digest_of) g.met.K.Ord.total g.met.V.Eq.laws g.met.V.Join.joining
+    let (met, turns, all) = ends_converged (laws_of g.K.Ord.cmp g.K.KeyBytes.bytes_of g.H.Hasher-1.digest_of g.V.PartialEq.eq g.V.Join.join_of g.H.Hasher-2.digest_of) g.met.K.Ord.total g.met.V.Eq.laws g.met.V.Join.joining c.page_ranges_of_a_map.ensures.listing
     c.args.a.now c.args.b.now c.turning.all.items c.turning.a_pulls c.turning.a c.turning.b c.rows_ascend.ensures c.rows_ascend-2.ensures c.turning.invariant.goes in
     (met, turns, λ f n. all f (let t = c.turning.invariant.taken in let k = length-map c.turning.all.items answer_of in omega arith))
 

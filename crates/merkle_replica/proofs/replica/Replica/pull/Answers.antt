@@ -12,11 +12,11 @@ returns-in-Ok-join_within-clause-done g c =
 
 pub returns-in-Ok-join_within-clause-covers : goal.returns-in-Ok-join_within-clause-covers
 returns-in-Ok-join_within-clause-covers g c =
-    covers_sides (laws_of g.K.Ord.cmp g.K.KeyBytes.bytes_of g.H.Hasher-1.digest_of g.V.PartialEq.eq g.V.Join.join_of g.H.Hasher-2.digest_of) g.met.K.Ord.total (side c.args.self.now) (side c.args.peer.now) (spans_of c.in-Ok.ranges.items) c.rows_ascend.ensures c.rows_ascend-2.ensures c.in-Ok.ensures.answer
+    covers_sides (laws_of g.K.Ord.cmp g.K.KeyBytes.bytes_of g.H.Hasher-1.digest_of g.V.PartialEq.eq g.V.Join.join_of g.H.Hasher-2.digest_of) g.met.K.Ord.total c.page_ranges_of_a_map.ensures.listing (side c.args.self.now) (side c.args.peer.now) (spans_of c.in-Ok.ranges.items) c.rows_ascend.ensures c.rows_ascend-2.ensures c.in-Ok.ensures.answer
 
 pub returns-else-cut-eq0-clause-part_covers : goal.returns-else-cut-eq0-clause-part_covers
 returns-else-cut-eq0-clause-part_covers g c =
-    covers_sides (laws_of g.K.Ord.cmp g.K.KeyBytes.bytes_of g.H.Hasher-1.digest_of g.V.PartialEq.eq g.V.Join.join_of g.H.Hasher-2.digest_of) g.met.K.Ord.total (side c.args.self.now) (side c.args.peer.now) (spans_of c.in-Ok.ranges.items) c.rows_ascend.ensures c.rows_ascend-2.ensures c.in-Ok.ensures.answer
+    covers_sides (laws_of g.K.Ord.cmp g.K.KeyBytes.bytes_of g.H.Hasher-1.digest_of g.V.PartialEq.eq g.V.Join.join_of g.H.Hasher-2.digest_of) g.met.K.Ord.total c.page_ranges_of_a_map.ensures.listing (side c.args.self.now) (side c.args.peer.now) (spans_of c.in-Ok.ranges.items) c.rows_ascend.ensures c.rows_ascend-2.ensures c.in-Ok.ensures.answer
 
 pub returns-else-cut-eq0-clause-refused : goal.returns-else-cut-eq0-clause-refused
 returns-else-cut-eq0-clause-refused g c =
