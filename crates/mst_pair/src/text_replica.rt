@@ -9,7 +9,9 @@ ghost use Rattle.mst_pair.specs.Replies.{ranges_text};
 
 use merkle_digest::{PageDigest, RootHash, SipHasher};
 use merkle_replica::Replica;
-use merkle_search_tree::laws::every_tree_is_sound;
+use merkle_search_tree::laws::{
+    a_map_has_one_tree, equal_pages_have_equal_maps, every_tree_is_sound,
+};
 
 /// A replica of the program.
 pub type TextReplica = Replica<String, u64, SipHasher, 16>;
@@ -34,5 +36,7 @@ pub fn shows_its_rows(replica: &TextReplica)
     ensures ranges { (format : PageFormat) → HasDefaults format replica.now →
         ranges_text (map span_of (ranges_of replica.now.tree.format string_bytes replica.now.tree.root)) ≡ ranges_text (map span_of (page_ranges format replica.now.rows)) }
 {
+    a_map_has_one_tree::<String, SipHasher, 16>();
+    equal_pages_have_equal_maps::<String>();
     every_tree_is_sound(replica.tree());
 }
