@@ -3,7 +3,7 @@ use Rattle.std.proofs.Common.{◌≡◌, ◌≢◌, ℕ, ◌<◌, List, [], ◌�
 use Rattle.std.proofs.lemmas.List.Folds.{list_any_none}
 use Rattle.std.proofs.lemmas.List.Elements.{All-weaker}
 use Rattle.std.proofs.lemmas.Bool.Decides.{nat_tests}
-use Rattle.mst_pair.specs.Requests.{Request, put, del, keys, root, pages, diff, pull, same, turns, set_format, IsSpelled, IsBad, space, fields, IsKey, IsKeyByte, IsNumber, name_text}
+use Rattle.mst_pair.specs.Requests.{Request, put, del, keys, root, pages, diff, pull, same, turns, set_format, IsSpelled, IsBad, space, fields, IsKey, IsKeyByte, name_text}
 use Rattle.mst_pair.specs.Parsing.{HasNoSpace, IsRowText, IsSpelledBy}
 use Rattle.mst_pair.specs.declared.engine.ReplicaName.{ReplicaName}
 use Rattle.mst_pair.specs.declared.engine.ReplicaName.TheVariants.{A, B}
