@@ -1,5 +1,7 @@
 pub mod Bytes
 pub mod Lists
 pub mod Loads
+pub mod Ranges
 pub mod Rows
-pub mod Spelling
+pub mod Spots
+pub mod Strings

@@ -53,7 +53,7 @@ fn number_of(bytes: &[u8]) -> Option<(u64, &[u8])>
 }
 
 /// The string at the front, and the bytes behind it.
-pub fn text_of(bytes: &[u8]) -> Option<(&[u8], &[u8])>
+fn text_of(bytes: &[u8]) -> Option<(&[u8], &[u8])>
     ensures text { IfSome result (λ r. bytes.now ≡ text_bytes r.0.now ++ r.1.now) }
     ensures short { IfSome result (λ r. length r.0.now < 2 ^ 64) }
     ensures none { result ≡ None → (text rest : List ℕ) → bytes.now ≢ text_bytes text ++ rest }

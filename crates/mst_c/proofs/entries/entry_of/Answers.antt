@@ -2,7 +2,8 @@ use Rattle.std.proofs.Common.{rules, arith, ◌≡◌, ◌<◌, ◌^◌, List, �
 use Rattle.std.proofs.lemmas.List.{length-append, length-take-le, take-append-drop}
 use Rattle.mst_c.specs.Spots.{Parts, digest_len}
 use Rattle.mst_c.specs.Wire.{row_bytes}
-use Rattle.mst_c.proofs.Spelling.{one_row, parts_flat}
+use Rattle.mst_c.proofs.Spots.{parts_flat}
+use Rattle.mst_c.proofs.Strings.{one_row}
 use Rattle.mst_c.proofs.entries.entry_of.Goals as goal
 
 pub returns-in_ok-rest-clause-entry : goal.returns-in_ok-rest-clause-entry

@@ -3,7 +3,8 @@ use Rattle.std.specs.Bool.{◌==◌}
 use Rattle.std.specs.List.{flat_map}
 use Rattle.std.proofs.lemmas.List.{append-nil, length-append, nil_from_length}
 use Rattle.mst_c.specs.Spots.{Parts, digest_len, parts_bytes}
-use Rattle.mst_c.proofs.Spelling.{all_more, none_left, one_left, parts_end, read_more}
+use Rattle.mst_c.proofs.Lists.{all_more, none_left, one_left, read_more}
+use Rattle.mst_c.proofs.Spots.{parts_end}
 use Rattle.mst_c.proofs.entries.is_list.Goals as goal
 
 pub returns-in-None : goal.returns-in-None

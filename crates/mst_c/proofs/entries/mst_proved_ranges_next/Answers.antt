@@ -1,16 +1,16 @@
 use Rattle.std.proofs.Common.{rules, arith, ◌≡◌, ℕ, ◌+◌, ◌-◌, ◌<◌, ◌^◌, true, List, ◌++◌, length, drop, nat_eq, sym, ap, ◌∙◌}
 use Rattle.std.specs.Bool.{if◌then◌else◌}
 use Rattle.std.proofs.lemmas.List.{length-append, take-append-drop}
-use Rattle.mst_c.specs.Spots.{Parts, mark_of}
-use Rattle.mst_c.specs.Wire.{number_bytes}
-use Rattle.mst_c.proofs.Spelling.{body_behind, first_parts, mark_length, one_front, parts_flat, row_length}
+use Rattle.mst_c.specs.Spots.{Parts}
+use Rattle.mst_c.proofs.Spots.{body_behind, first_parts, front_length, one_front, parts_flat}
+use Rattle.mst_c.proofs.Strings.{row_length}
 use Rattle.mst_c.proofs.entries.mst_proved_ranges_next.Goals.{else-at-eq0-via-then-at-eq0+else-not-is_list, else-at-eq0-via-else-at-eq0}
 use Rattle.mst_c.proofs.entries.mst_proved_ranges_next.Goals as goal
 
 pub returns-then-not-is_list-clause-malformed : goal.returns-then-not-is_list-clause-malformed
 returns-then-not-is_list-clause-malformed c done zero are =
     let short : length c.args.list.now < 2 ^ 64 = search rules in
-    let entries = one_front c.args.list.now c.in-Some.has_digests are.0 c.in-Some.count are.1 c.in-Some.body.now are.2 (search rules) short c.in-Some.ensures.front are.3 are.4 in
+    let entries = one_front c.args.list.now c.in-Some.has_digests c.in-Some.count c.in-Some.body.now c.in-Some.ensures.front (search rules) short are in
     let yes : c.is_list.result ≡ true = c.is_list.ensures.1 entries in
     absurd (search rules)
 
@@ -18,7 +18,7 @@ pub returns-in_default-entry_of-clause-malformed : goal.returns-in_default-entry
 returns-in_default-entry_of-clause-malformed c done zero are =
     let list = c.args.list.now in let body = c.in-Some.body.now in
     let short : length list < 2 ^ 64 = search rules in
-    let entries = one_front list c.in-Some.has_digests are.0 c.in-Some.count are.1 body are.2 (search rules) short c.in-Some.ensures.front are.3 are.4 in
+    let entries = one_front list c.in-Some.has_digests c.in-Some.count body c.in-Some.ensures.front (search rules) short are in
     let start = c.start_of-start.ensures ∙ ap (λ n. if nat_eq n 0 then (length list - length body) else n) zero in
     let rest : c.in-Some-split_at_checked.rest.now ≡ body =
     c.in-Some-split_at_checked.ensures.cases.2 ∙ ap (λ n. drop n list) start ∙ body_behind list c.in-Some.has_digests c.in-Some.count body c.in-Some.ensures.front in
@@ -43,8 +43,7 @@ returns-clause-entry c done =
     let entry : Parts = ((c.in-Some-entry_of.first.now, c.in-Some-entry_of.last.now), read.0) in
     let cut = c.in-Some-split_at_checked.ensures.cases in
     let start = c.start_of-start.result in
-    let front : length list - length c.in-Some.body.now ≡ 12 =
-    omega (arith, ap length c.in-Some.ensures.front, mark_length c.in-Some.has_digests, length-append (mark_of c.in-Some.has_digests) (number_bytes c.in-Some.count ++ c.in-Some.body.now)) in
+    let front : length list - length c.in-Some.body.now ≡ 12 = omega (arith, front_length list c.in-Some.has_digests c.in-Some.count c.in-Some.body.now c.in-Some.ensures.front) in
     record {
       has_digests = c.in-Some.has_digests;
       count = c.in-Some.count;

@@ -2,7 +2,8 @@ use Rattle.std.proofs.Common.{rules, ◌≡◌, ◌<◌, ◌^◌, length, sym, E
 use Rattle.std.specs.List.{flat_map}
 use Rattle.mst_c.specs.Wire.{page_mark, entry_bytes}
 use Rattle.mst_c.specs.declared.reading.ReadError.TheVariants.{Malformed}
-use Rattle.mst_c.proofs.Spelling.{same_body, some_entry}
+use Rattle.mst_c.proofs.Lists.{same_body}
+use Rattle.mst_c.proofs.Ranges.{some_entry}
 use Rattle.mst_c.proofs.reading.decode.Goals as goal
 
 pub returns-in_default-clause-malformed : goal.returns-in_default-clause-malformed

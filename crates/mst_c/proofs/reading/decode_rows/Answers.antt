@@ -1,7 +1,8 @@
 use Rattle.std.proofs.Common.{rules, ◌<◌, ◌^◌, length, sym}
 use Rattle.std.specs.List.{flat_map}
 use Rattle.mst_c.specs.Wire.{row_mark, row_bytes}
-use Rattle.mst_c.proofs.Spelling.{same_body, some_row}
+use Rattle.mst_c.proofs.Lists.{same_body}
+use Rattle.mst_c.proofs.Strings.{some_row}
 use Rattle.mst_c.proofs.reading.decode_rows.Goals as goal
 
 pub returns-in_default-clause-malformed : goal.returns-in_default-clause-malformed

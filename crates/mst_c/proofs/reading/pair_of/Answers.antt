@@ -1,7 +1,7 @@
 use Rattle.std.proofs.Common.{rules, arith, ◌<◌, ◌^◌, ◌++◌, length, sym, ap, ◌∙◌}
 use Rattle.std.proofs.lemmas.List.{append_assoc}
 use Rattle.mst_c.specs.Wire.{text_bytes}
-use Rattle.mst_c.proofs.Spelling.{one_text}
+use Rattle.mst_c.proofs.Strings.{one_text}
 use Rattle.mst_c.proofs.reading.pair_of.Goals as goal
 
 pub returns-in_err-second-clause-none : goal.returns-in_err-second-clause-none

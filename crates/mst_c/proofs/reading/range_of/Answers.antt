@@ -5,7 +5,8 @@ use Rattle.merkle_diff.specs.Entry.{Entry}
 use Rattle.key_order.specs.Order.{Upto}
 use Rattle.mst_c.specs.Trees.{bytes_cmp, key_cmp}
 use Rattle.mst_c.specs.Wire.{entry_bytes, row_bytes}
-use Rattle.mst_c.proofs.Spelling.{as_row, one_row}
+use Rattle.mst_c.proofs.Ranges.{as_row}
+use Rattle.mst_c.proofs.Strings.{one_row}
 use Rattle.mst_c.proofs.reading.range_of.Goals as goal
 
 pub returns-in_default-clause-malformed : goal.returns-in_default-clause-malformed

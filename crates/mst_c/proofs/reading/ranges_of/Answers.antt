@@ -3,7 +3,8 @@ use Rattle.merkle_diff.specs.OwnedPageRange.{owned_entries}
 use Rattle.mst_c.specs.Lists.{IsPageRange}
 use Rattle.mst_c.specs.Wire.{entry_bytes}
 use Rattle.mst_c.specs.declared.reading.ReadError.TheVariants.{Malformed}
-use Rattle.mst_c.proofs.Spelling.{entry_ends, one_left, none_left}
+use Rattle.mst_c.proofs.Lists.{one_left, none_left}
+use Rattle.mst_c.proofs.Ranges.{entry_ends}
 use Rattle.mst_c.proofs.reading.ranges_of.Goals as goal
 
 pub returns-in_err-range-clause-malformed : goal.returns-in_err-range-clause-malformed

@@ -5,7 +5,8 @@ use Rattle.std.proofs.lemmas.List.{length-append, map-append}
 use Rattle.merkle_digest.specs.SipHash.{siphash128}
 use Rattle.mst_c.specs.Trees.{by_bytes}
 use Rattle.mst_c.specs.Wire.{row_bytes}
-use Rattle.mst_c.proofs.Spelling.{row_ends, one_left, none_left, read_more, each_trivial}
+use Rattle.mst_c.proofs.Lists.{each_trivial, none_left, one_left, read_more}
+use Rattle.mst_c.proofs.Ranges.{row_ends}
 use Rattle.mst_c.proofs.reading.rows_of.Goals as goal
 
 pub returns-in_default-clause-malformed : goal.returns-in_default-clause-malformed

@@ -4,8 +4,7 @@ use Rattle.std.proofs.lemmas.List.{map-append, take_more}
 use Rattle.merkle_diff.specs.PageRange.{entry, entries}
 use Rattle.mst_c.specs.Lists.{IsPageRange}
 use Rattle.mst_c.specs.Wire.{number_bytes, entry_bytes, page_mark}
-use Rattle.mst_c.proofs.Lists.{one_more}
-use Rattle.mst_c.proofs.Spelling.{all_more}
+use Rattle.mst_c.proofs.Lists.{all_more, one_more}
 use Rattle.mst_c.proofs.wire.encode.Goals as goal
 
 pub entries-preserved : goal.entries-preserved

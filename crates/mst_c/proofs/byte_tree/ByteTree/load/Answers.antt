@@ -6,7 +6,7 @@ use Rattle.merkle_digest.specs.SipHash.{siphash128}
 use Rattle.merkle_search_tree.specs.Loading.{digests_of}
 use Rattle.mst_c.specs.Trees.{SameSettings, bytes_cmp, by_bytes, key_cmp}
 use Rattle.mst_c.proofs.Loads.{no_ascent, pairs_ascend, rows_ascend}
-use Rattle.mst_c.proofs.Spelling.{one_list_of_rows}
+use Rattle.mst_c.proofs.Ranges.{one_list_of_rows}
 use Rattle.mst_c.proofs.byte_tree.ByteTree.load.Goals as goal
 
 pub returns-in-Ok-clause-done : goal.returns-in-Ok-clause-done

@@ -1,0 +1,52 @@
+-- Numbers, strings and rows as bytes: each tells where it ends, so it is read in one way.
+use Rattle.std.proofs.Common.{◌≡◌, ℕ, ◌+◌, ◌<◌, ◌≤◌, ◌^◌, List, ◌++◌, length, take, drop, sym, ap, ◌∙◌, arith}
+use Rattle.std.specs.Int.{w64, from_le_bytes}
+use Rattle.std.proofs.lemmas.List.{append_assoc, length-append, take_at, drop_at}
+use Rattle.std.proofs.lemmas.Nat.{from_le_bytes-to_le_bytes_8}
+use Rattle.mst_c.specs.Wire.{number_bytes, text_bytes, row_bytes}
+
+-- two appends of fronts of one length are part by part the same
+pub same_parts : {X : Type 0} (a b c d : List X) → length a ≡ length b → a ++ c ≡ b ++ d → (a ≡ b) × (c ≡ d)
+same_parts a b c d l e = (
+  sym (take_at a c (length b) l) ∙ ap (take (length b)) e ∙ take_at b d (length b) (λ i. length b),
+  sym (drop_at a c (length b) l) ∙ ap (drop (length b)) e ∙ drop_at b d (length b) (λ i. length b),
+)
+
+pub one_number : (m n : ℕ) (r s : List ℕ) → m < 2 ^ 64 → n < 2 ^ 64 → number_bytes m ++ r ≡ number_bytes n ++ s → (m ≡ n) × (r ≡ s)
+one_number m n r s p q e =
+    let both = same_parts (number_bytes m) (number_bytes n) r s (λ i. 8) e in
+    (sym (from_le_bytes-to_le_bytes_8 m p) ∙ ap (from_le_bytes w64) both.0 ∙ from_le_bytes-to_le_bytes_8 n q, both.1)
+
+-- a string that is written at the front isn't longer than the whole
+text_fits : (t r bytes : List ℕ) → bytes ≡ text_bytes t ++ r → length t + 8 + length r ≡ length bytes
+text_fits t r bytes e = omega (arith, ap length e, length-append (text_bytes t) r, length-append (number_bytes (length t)) t)
+
+pub one_text : (t u r s : List ℕ) → length (text_bytes t ++ r) < 2 ^ 64 → text_bytes t ++ r ≡ text_bytes u ++ s → (t ≡ u) × (r ≡ s)
+one_text t u r s fits e =
+    let flat = sym (append_assoc (number_bytes (length t)) t r) ∙ e ∙ append_assoc (number_bytes (length u)) u s in
+    let at_t : length t < 2 ^ 64 = omega (arith, text_fits t r (text_bytes t ++ r) (λ i. text_bytes t ++ r)) in
+    let at_u : length u < 2 ^ 64 = omega (arith, text_fits u s (text_bytes t ++ r) e) in
+    let both = one_number (length t) (length u) (t ++ r) (u ++ s) at_t at_u flat in
+    same_parts t u r s both.0 both.1
+
+pub one_row : (x y : List ℕ × List ℕ) (r s : List ℕ) → length (row_bytes x ++ r) < 2 ^ 64 → row_bytes x ++ r ≡ row_bytes y ++ s → (x ≡ y) × (r ≡ s)
+one_row x y r s fits e =
+    let at = append_assoc (text_bytes x.0) (text_bytes x.1) r in
+    let first = one_text x.0 y.0 (text_bytes x.1 ++ r) (text_bytes y.1 ++ s) (omega (arith, ap length at)) (sym at ∙ e ∙ append_assoc (text_bytes y.0) (text_bytes y.1) s) in
+    let second = one_text x.1 y.1 r s (omega (arith, ap length at, length-append (text_bytes x.0) (text_bytes x.1 ++ r))) first.1 in
+    ((λ i. (first.0 i, second.0 i)), second.1)
+
+-- a row and so many bytes behind it
+pub one_row_with : (x y : List ℕ × List ℕ) (a b r s : List ℕ) → length a ≡ length b → length (row_bytes x ++ (a ++ r)) < 2 ^ 64
+    → row_bytes x ++ (a ++ r) ≡ row_bytes y ++ (b ++ s) → (x ≡ y) × (a ≡ b) × (r ≡ s)
+one_row_with x y a b r s same fits e =
+    let both = one_row x y (a ++ r) (b ++ s) fits e in
+    let rest = same_parts a b r s same both.1 in
+    (both.0, rest.0, rest.1)
+
+pub row_length : (x : List ℕ × List ℕ) (rest : List ℕ) → length (row_bytes x ++ rest) ≡ 16 + length x.0 + length x.1 + length rest
+row_length x rest =
+    omega (arith, length-append (row_bytes x) rest, length-append (text_bytes x.0) (text_bytes x.1), length-append (number_bytes (length x.0)) x.0, length-append (number_bytes (length x.1)) x.1)
+
+pub some_row : (x : List ℕ × List ℕ) → 1 ≤ length (row_bytes x)
+some_row x = omega (arith, length-append (text_bytes x.0) (text_bytes x.1), length-append (number_bytes (length x.0)) x.0)
