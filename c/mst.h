@@ -102,8 +102,10 @@ struct mst_range {
 
 /* Goes to the next range of a list of page ranges or key ranges, without copying or taking memory. *at is where it stands: 0 before
  * the first, where the whole list is read once, and then what the call before left there. MST_ABSENT behind the last; MST_MALFORMED
- * where the bytes are no such list (that a first key is above a last one isn't looked for); MST_BAD_ARGUMENT where *at is outside of
- * it. At a place that no call left there it is as safe, but may answer a range that isn't one of the list. */
+ * where no mark of such a list and no number stand in front, at 0 also where the bytes are no such list (that a first key is above a
+ * last one isn't looked for), and elsewhere where no range of the list's kind begins; MST_BAD_ARGUMENT where *at is beyond the end
+ * of bytes that have such a front. At a place that no call left there it is as safe, but may answer a range that isn't one of the
+ * list. */
 int mst_ranges_next(const uint8_t *list, size_t list_len, size_t *at, struct mst_range *out);
 
 /* Lists, byte by byte. A number is eight bytes, the lowest first. A string is its length, a number, and its bytes.

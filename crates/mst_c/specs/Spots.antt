@@ -28,6 +28,10 @@ AreEntries has_digests count bytes = (es : List Parts) × (length es ≡ count) 
 abbrev pub IsList : List ℕ → Type 0
 IsList list = (has_digests : Bool) × (count : ℕ) × (body : List ℕ) × (list ≡ mark_of has_digests ++ (number_bytes count ++ body)) × AreEntries has_digests count body
 
+-- the mark of either kind of list stands in front, and a number behind it
+abbrev pub HasFront : List ℕ → Type 0
+HasFront list = (has_digests : Bool) × (count : ℕ) × (body : List ℕ) × (list ≡ mark_of has_digests ++ (number_bytes count ++ body))
+
 -- the list's mark stands in front, and an entry of its kind lies where the spot says: it begins at `old`, or behind the mark and the
 -- number where that is 0, and then the whole is a list; and it ends at `new`
 pub record IsEntryAt (list : List ℕ) (old new : ℕ) (spot : MstSpot) : Type 0 where
@@ -45,3 +49,7 @@ pub record IsEntryAt (list : List ℕ) (old new : ℕ) (spot : MstSpot) : Type 0
   pub last : (spot.last_at ≡ spot.first_at + spot.first_len + 8) × (spot.last_len ≡ length entry.0.1)
   pub digest : (length entry.1 ≡ digest_len has_digests) × (spot.digest_at ≡ (if has_digests then spot.last_at + spot.last_len else 0))
   pub ends : new + length behind ≡ length list
+
+-- an entry of the kind of the list's mark begins there
+abbrev pub HasEntryAt : List ℕ → ℕ → Type 0
+HasEntryAt list at = (behind : ℕ) × (spot : MstSpot) × IsEntryAt list at behind spot

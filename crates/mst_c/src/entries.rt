@@ -1,7 +1,7 @@
 //! The entries of a list of page ranges or of key ranges, one after the other, where they lie.
 
 ghost use Rattle.std.specs.Prelude.{◌≡◌, ◌≢◌, ◌↔◌, Bool, true, None, ◌<◌, ◌+◌, ◌-◌, ◌^◌, ◌⊎◌, ◌++◌, ℕ, List, IfSome, if◌then◌else◌, length, nat_eq};
-ghost use Rattle.mst_c.specs.Spots.{AreEntries, IsEntryAt, IsList, Parts, digest_len, mark_of, parts_bytes};
+ghost use Rattle.mst_c.specs.Spots.{AreEntries, HasEntryAt, HasFront, IsEntryAt, IsList, Parts, digest_len, mark_of, parts_bytes};
 ghost use Rattle.mst_c.specs.Wire.{number_bytes};
 
 use crate::reading::{body_of, pair_of};
@@ -96,14 +96,18 @@ fn spot_of(has_digests: bool, start: usize, first: &[u8], last: &[u8]) -> MstSpo
 /// Writes where the parts of the entry at `at` lie, and moves `at` behind it. An `at` of 0 is the first entry, and there the whole
 /// list is read once to see that it is one.
 ///
-/// `DONE`; `ABSENT` behind the last entry; `MALFORMED` where the list is none, or no entry begins at `at`; `ARGUMENT` where `at` is
-/// outside of the list. Where it isn't `DONE`, `at` and `spot` are as before.
+/// `DONE`; `MALFORMED` where no mark and number stand in front, where `at` is 0 and the whole is no list, or where no entry of the
+/// mark's kind begins at `at`; `ABSENT` behind the last entry; `ARGUMENT` where `at` is beyond the end. Where it isn't `DONE`, `at` and
+/// `spot` are as before.
 #[unsafe(no_mangle)]
 pub extern "C" fn mst_proved_ranges_next(list: &[u8], at: &mut usize, spot: &mut MstSpot) -> u32
     ensures entry { result ≡ 0 → IsEntryAt list.now at.old at.new spot.new }
     ensures malformed { result ≡ 2 → at.old ≡ 0 → ¬ (IsList list.now) }
+    ensures no_entry { result ≡ 2 → ¬ (HasEntryAt list.now at.old) }
     ensures argument { result ≡ 4 → length list.now < at.old }
+    ensures beyond { HasFront list.now → length list.now < at.old → result ≡ 4 }
     ensures absent { result ≡ 5 → (at.old ≡ length list.now) ⊎ ((at.old ≡ 0) × (length list.now ≡ 12)) }
+    ensures at_end { HasFront list.now → at.old ≡ length list.now → result ≡ 5 }
     ensures unchanged { result ≢ 0 → (at.new ≡ at.old) × (spot.new ≡ spot.old) }
     ensures status { (result ≡ 0) ⊎ (result ≡ 2) ⊎ (result ≡ 4) ⊎ (result ≡ 5) }
 {
