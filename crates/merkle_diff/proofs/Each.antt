@@ -16,6 +16,11 @@ any-with R P Q [] f a h = h
 any-with R P Q (x ∷ xs) f a (inl h) = inl (f x a.0 h)
 any-with R P Q (x ∷ xs) f a (inr h) = inr (any-with R P Q xs f a.1 h)
 
+-- in two lists with the same first element
+pub any-tail : {X : Type 0} (P : X → Type 0) (x : X) (xs ys : List X) → (AnyByRecursion P xs → AnyByRecursion P ys) → AnyByRecursion P (x ∷ xs) → AnyByRecursion P (x ∷ ys)
+any-tail P x xs ys f (inl h) = inl h
+any-tail P x xs ys f (inr h) = inr (f h)
+
 pub each-with : {X : Type 0} (R P : X → Type 0) (xs : List X) → ((x : X) → R x → P x) → AllByRecursion R xs → AllByRecursion P xs
 each-with R P [] f a = tt
 each-with R P (x ∷ xs) f a = (f x a.0, each-with R P xs f a.1)
@@ -90,6 +95,14 @@ every-in (x ∷ xs) = (inl refl, each-with (λ z. AnyByRecursion (λ y. y ≡ z)
 pub each-all : {X : Type 0} (Q : X → Type 0) (xs : List X) → ((x : X) → Q x) → AllByRecursion Q xs
 each-all Q [] f = tt
 each-all Q (x ∷ xs) f = (f x, each-all Q xs f)
+
+-- where no element has P, each lacks it
+pub each-not : {X : Type 0} (P : X → Type 0) (xs : List X) → ¬ (AnyByRecursion P xs) → AllByRecursion (λ x. ¬ (P x)) xs
+each-not P [] n = tt
+each-not P (x ∷ xs) n = ((λ h. n (inl h)), each-not P xs (λ h. n (inr h)))
+
+pub none-of : {X : Type 0} (P : X → Type 0) (xs : List X) → AllByRecursion (λ x. ¬ (P x)) xs → ¬ (AnyByRecursion P xs)
+none-of P xs a h = any-get (λ x. ¬ (P x)) P ⊥ xs (λ x n p. n p) a h
 
 pub each-of_All : {X : Type 0} (P : X → Type 0) (xs : List X) → All P xs → AllByRecursion P xs
 each-of_All P [] h = tt

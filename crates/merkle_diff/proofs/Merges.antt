@@ -3,20 +3,18 @@ use Rattle.std.proofs.Common.{◌≡◌, Bool, true, false, List, [], ◌∷◌,
 use Rattle.std.specs.Cmp.{IsTotalOrder}
 use Rattle.std.specs.List.{AllByRecursion}
 use Rattle.std.specs.declared.cmp.Ordering.{Ordering}
-use Rattle.key_order.specs.Interval.{Span, IsOrdered}
+use Rattle.key_order.specs.Interval.{Span, IsOrdered, IsCovered, IsWithin}
 use Rattle.key_order.specs.Order.{Upto, Below, Same, AnyByRecursion, upto}
-use Rattle.merkle_diff.specs.Merge.{Opens, Closes, IsMerge}
+use Rattle.merkle_diff.specs.Merge.{AreThose, IsMerge}
 use Rattle.merkle_diff.specs.Sweep.{greater, sweep, swept}
-use Rattle.key_order.proofs.Orders.{either, same_up, same_down, same_from, up_self, up_up, low_up, up_low, not_both, not_low_self, low_is_up}
+use Rattle.key_order.proofs.Orders.{same_down, up_self, up_up, low_up, up_low, not_both, low_is_up}
 use Rattle.merkle_diff.proofs.Ascents.{IsAscendingByStart}
-use Rattle.merkle_diff.proofs.Each.{any-map, any-with, each-with, each-both, each-any, each-mapped}
-use Rattle.merkle_diff.proofs.OrderTests.{by_upto, by_above, same_trans}
+use Rattle.merkle_diff.proofs.Each.{any-get, any-with, each-with, each-both, each-mapped}
+use Rattle.merkle_diff.proofs.Edges.{Edge, bound, Before, Behind, Across, Free, part, before, behind, across-in, bound-in, own-free, those-again}
+use Rattle.merkle_diff.proofs.Edges.Edge.{Start, End}
+use Rattle.merkle_diff.proofs.OrderTests.{by_upto, by_above, same-self}
 
 module _ {K : Type 0} (cmp : K → K → Ordering) (o : IsTotalOrder cmp) where
-  -- what closes at a key closes at an equal one
-  pub closes-same : (a b : K) (ss : List (Span K)) → Same cmp a b → Closes cmp ss a → Closes cmp ss b
-  closes-same a b ss e h = each-with (λ t. ¬ (Upto cmp t.first a × Below cmp a t.last)) (λ t. ¬ (Upto cmp t.first b × Below cmp b t.last)) ss (λ t n c. n (up_up cmp o t.first b a c.0 (same_down cmp o a b e), up_low cmp o a b t.last (same_up cmp o a b e) c.1)) h
-
   -- the greater of two keys is one of them, and at least both
   greater-is : (a b : K) → ((greater cmp a b ≡ a) × Upto cmp b a) ⊎ ((greater cmp a b ≡ b) × Below cmp a b)
   greater-is a b = go (upto cmp b a) refl
@@ -25,198 +23,138 @@ module _ {K : Type 0} (cmp : K → K → Ordering) (o : IsTotalOrder cmp) where
       go true e = inl (refl, by_upto cmp o b a e)
       go false e = inr (refl, by_above cmp o b a e)
 
-  module _ (cur s : Span K) (ss : List (Span K)) (joins : Upto cmp s.first cur.last) (after : Upto cmp cur.first s.first) where
-    abbrev grown : Span K
-    grown = record { first = cur.first; last = greater cmp cur.last s.last }
+  -- ---- a range that grows by one that begins in it
 
+  abbrev pub grown : Span K → Span K → Span K
+  grown cur s = record { first = cur.first; last = greater cmp cur.last s.last }
+
+  module _ (cur s : Span K) (joins : Upto cmp s.first cur.last) (after : Upto cmp cur.first s.first) where
     abbrev top : K
     top = greater cmp cur.last s.last
 
-    pub up-greater : Upto cmp cur.last top
-    up-greater = go (greater-is cur.last s.last)
+    pub up-top : Upto cmp cur.last top
+    up-top = go (greater-is cur.last s.last)
       where
         go : ((top ≡ cur.last) × Upto cmp s.last cur.last) ⊎ ((top ≡ s.last) × Below cmp cur.last s.last) → Upto cmp cur.last top
         go (inl h) = rw h.0 (up_self cmp o cur.last)
         go (inr h) = rw h.0 (low_is_up cmp o cur.last s.last h.1)
 
-    pub up-greater_2 : Upto cmp s.last top
-    up-greater_2 = go (greater-is cur.last s.last)
+    up-top_2 : Upto cmp s.last top
+    up-top_2 = go (greater-is cur.last s.last)
       where
         go : ((top ≡ cur.last) × Upto cmp s.last cur.last) ⊎ ((top ≡ s.last) × Below cmp cur.last s.last) → Upto cmp s.last top
         go (inl h) = rw h.0 h.1
         go (inr h) = rw h.0 (up_self cmp o s.last)
 
-    -- a key up to the top is in one of the two
-    pub low-top : (j : K) → Upto cmp j top → Upto cmp j cur.last ⊎ (Below cmp cur.last j × Upto cmp j s.last)
-    low-top j h = go (either cmp o j cur.last) (greater-is cur.last s.last)
+    -- where the top lies behind an edge, the end of one of the two does
+    behind-top : (e : Edge) (k : K) → Behind cmp e k top → Behind cmp e k cur.last ⊎ (Before cmp e k cur.last × Behind cmp e k s.last)
+    behind-top e k h = go (part cmp o e k cur.last) (greater-is cur.last s.last)
       where
-        go : Upto cmp j cur.last ⊎ Below cmp cur.last j → ((top ≡ cur.last) × Upto cmp s.last cur.last) ⊎ ((top ≡ s.last) × Below cmp cur.last s.last) → Upto cmp j cur.last ⊎ (Below cmp cur.last j × Upto cmp j s.last)
-        go (inl k) g = inl k
-        go (inr k) (inl g) = inl (subst (λ t. Upto cmp j t) g.0 h)
-        go (inr k) (inr g) = inr (k, subst (λ t. Upto cmp j t) g.0 h)
+        go : Before cmp e k cur.last ⊎ Behind cmp e k cur.last → ((top ≡ cur.last) × Upto cmp s.last cur.last) ⊎ ((top ≡ s.last) × Below cmp cur.last s.last) → Behind cmp e k cur.last ⊎ (Before cmp e k cur.last × Behind cmp e k s.last)
+        go (inr b) g = inl b
+        go (inl b) (inl g) = inl (subst (Behind cmp e k) g.0 h)
+        go (inl b) (inr g) = inr (b, subst (Behind cmp e k) g.0 h)
 
-    -- a key below the top is below the end of one of the two
-    below-top : (j : K) → Below cmp j top → Below cmp j cur.last ⊎ (Upto cmp cur.last j × Below cmp j s.last)
-    below-top j h = go (either cmp o cur.last j) (greater-is cur.last s.last)
+    -- what is within one of the two is within the grown range
+    pub within-grown : (x : Span K) (ss : List (Span K)) → AnyByRecursion (IsWithin cmp x) (cur ∷ s ∷ ss) → AnyByRecursion (IsWithin cmp x) (grown cur s ∷ ss)
+    within-grown x ss (inl i) = inl (i.0, up_up cmp o x.last cur.last top i.1 up-top)
+    within-grown x ss (inr (inl i)) = inl (up_up cmp o cur.first s.first x.first after i.0, up_up cmp o x.last s.last top i.1 up-top_2)
+    within-grown x ss (inr (inr i)) = inr i
+
+    -- a key of the grown range is in one of the two
+    pub in-grown : (k : K) (ss : List (Span K)) → IsCovered cmp k (grown cur s ∷ ss) → IsCovered cmp k (cur ∷ s ∷ ss)
+    in-grown k ss (inl i) = go (behind-top Start k i.1)
       where
-        go : Upto cmp cur.last j ⊎ Below cmp j cur.last → ((top ≡ cur.last) × Upto cmp s.last cur.last) ⊎ ((top ≡ s.last) × Below cmp cur.last s.last) → Below cmp j cur.last ⊎ (Upto cmp cur.last j × Below cmp j s.last)
-        go (inr k) g = inl k
-        go (inl k) (inl g) = inl (subst (λ t. Below cmp j t) g.0 h)
-        go (inl k) (inr g) = inr (k, subst (λ t. Below cmp j t) g.0 h)
+        go : Upto cmp k cur.last ⊎ (Below cmp cur.last k × Upto cmp k s.last) → IsCovered cmp k (cur ∷ s ∷ ss)
+        go (inl h) = inl (i.0, h)
+        go (inr h) = inr (inl (up_up cmp o s.first cur.last k joins (low_is_up cmp o cur.last k h.0), h.1))
+    in-grown k ss (inr i) = inr (inr i)
 
-    opens-more : (j : K) → Opens cmp (grown ∷ ss) j → Opens cmp (cur ∷ s ∷ ss) j
-    opens-more j h = (
-      (λ c. h.0 (c.0, up_up cmp o j cur.last top c.1 up-greater)),
-      ((λ c. h.0 (up_low cmp o cur.first s.first j after c.0, up_up cmp o j s.last top c.1 up-greater_2)), h.1),
+    -- the grown range runs across the edges that one of the two does
+    free-more : (e : Edge) (ss : List (Span K)) (k : K) → Free cmp e (grown cur s ∷ ss) k → Free cmp e (cur ∷ s ∷ ss) k
+    free-more e ss k h = (
+      (λ c. h.0 (c.0, behind cmp o e k cur.last top up-top c.1)),
+      ((λ c. h.0 (before cmp o e k cur.first s.first after c.0, behind cmp o e k s.last top up-top_2 c.1)), h.1),
     )
 
-    opens-less : (j : K) → Opens cmp (cur ∷ s ∷ ss) j → Opens cmp (grown ∷ ss) j
-    opens-less j h = ((λ c. go c (low-top j c.1)), h.1.1)
+    free-less : (e : Edge) (ss : List (Span K)) (k : K) → Free cmp e (cur ∷ s ∷ ss) k → Free cmp e (grown cur s ∷ ss) k
+    free-less e ss k h = ((λ c. go c (behind-top e k c.1)), h.1.1)
       where
-        go : Below cmp cur.first j × Upto cmp j top → Upto cmp j cur.last ⊎ (Below cmp cur.last j × Upto cmp j s.last) → ⊥
-        go c (inl k) = h.0 (c.0, k)
-        go c (inr k) = h.1.0 (up_low cmp o s.first cur.last j joins k.0, k.1)
+        go : Across cmp e k (grown cur s) → Behind cmp e k cur.last ⊎ (Before cmp e k cur.last × Behind cmp e k s.last) → ⊥
+        go c (inl b) = h.0 (c.0, b)
+        go c (inr b) = h.1.0 (before cmp o e k s.first cur.last joins b.0, b.1)
 
-    closes-more : (j : K) → Closes cmp (grown ∷ ss) j → Closes cmp (cur ∷ s ∷ ss) j
-    closes-more j h = (
-      (λ c. h.0 (c.0, low_up cmp o j cur.last top c.1 up-greater)),
-      ((λ c. h.0 (up_up cmp o cur.first s.first j after c.0, low_up cmp o j s.last top c.1 up-greater_2)), h.1),
-    )
-
-    closes-less : (j : K) → Closes cmp (cur ∷ s ∷ ss) j → Closes cmp (grown ∷ ss) j
-    closes-less j h = ((λ c. go c (below-top j c.1)), h.1.1)
-      where
-        go : Upto cmp cur.first j × Below cmp j top → Below cmp j cur.last ⊎ (Upto cmp cur.last j × Below cmp j s.last) → ⊥
-        go c (inl k) = h.0 (c.0, k)
-        go c (inr k) = h.1.0 (up_up cmp o s.first cur.last j joins k.0, k.1)
-
-    -- where the later start opens, it is the first one
-    start-same : Opens cmp (cur ∷ s ∷ ss) s.first → Same cmp s.first cur.first
-    start-same h = go (either cmp o s.first cur.first)
-      where
-        go : Upto cmp s.first cur.first ⊎ Below cmp cur.first s.first → Same cmp s.first cur.first
-        go (inl k) = same_from cmp o s.first cur.first k after
-        go (inr k) = absurd (h.0 (k, joins))
-
-    -- no start is below the first
-    opens-first : AllByRecursion (λ t. Upto cmp cur.first t.first) ss → Opens cmp (cur ∷ s ∷ ss) cur.first
-    opens-first a = (
-      (λ c. not_low_self cmp o cur.first c.0),
-      ((λ c. not_both cmp o cur.first s.first after c.0), each-with (λ t. Upto cmp cur.first t.first) (λ t. ¬ (Below cmp t.first cur.first × Upto cmp cur.first t.last)) ss (λ t u c. not_both cmp o cur.first t.first u c.0) a),
-    )
-
-    -- where one of the two ends closes, it is the top
-    end-same : Closes cmp (cur ∷ s ∷ ss) cur.last → Same cmp cur.last top
-    end-same h = go (greater-is cur.last s.last)
-      where
-        go : ((top ≡ cur.last) × Upto cmp s.last cur.last) ⊎ ((top ≡ s.last) × Below cmp cur.last s.last) → Same cmp cur.last top
-        go (inl g) = rw g.0 (same_from cmp o cur.last cur.last (up_self cmp o cur.last) (up_self cmp o cur.last))
-        go (inr g) = absurd (h.1.0 (joins, g.1))
-
-    end-same_2 : Upto cmp s.first s.last → Closes cmp (cur ∷ s ∷ ss) s.last → Same cmp s.last top
-    end-same_2 d h = go (either cmp o cur.last s.last)
-      where
-        go : Upto cmp cur.last s.last ⊎ Below cmp s.last cur.last → Same cmp s.last top
-        go (inl k) = same_from cmp o s.last top up-greater_2 (to (greater-is cur.last s.last))
-          where
-            to : ((top ≡ cur.last) × Upto cmp s.last cur.last) ⊎ ((top ≡ s.last) × Below cmp cur.last s.last) → Upto cmp top s.last
-            to (inl g) = rw g.0 k
-            to (inr g) = rw g.0 (up_self cmp o s.last)
-        go (inr k) = absurd (h.0 (up_up cmp o cur.first s.first s.last after d, k))
+    ordered-grown : (ss : List (Span K)) → AllByRecursion (IsOrdered cmp) (cur ∷ s ∷ ss) → AllByRecursion (IsOrdered cmp) (grown cur s ∷ ss)
+    ordered-grown ss d = (up_up cmp o cur.first cur.last top d.0 up-top, d.1.1)
 
     -- the merge with the grown range is the merge with the two
-    merge-grown : (ys : List (Span K)) → Upto cmp s.first s.last → AllByRecursion (λ t. Upto cmp cur.first t.first) ss → IsMerge cmp (grown ∷ ss) ys → IsMerge cmp (cur ∷ s ∷ ss) ys
-    merge-grown ys d a m = record {
-      starts = record {
-        ascends = m.starts.ascends;
-        sound = each-with (λ k. AnyByRecursion (λ j. Same cmp k j × Opens cmp (grown ∷ ss) j) (cur.first ∷ map (λ t. t.first) ss)) (λ k. AnyByRecursion (λ j. Same cmp k j × Opens cmp (cur ∷ s ∷ ss) j) (cur.first ∷ s.first ∷ map (λ t. t.first) ss)) (map (λ t. t.first) ys) start-sound m.starts.sound;
-        complete = (
-          (λ h. m.starts.complete.0 (opens-less cur.first h)),
-          (
-            (λ h. any-map (Same cmp cur.first) (Same cmp s.first) (map (λ t. t.first) ys) (λ k e. same_trans cmp o s.first cur.first k (start-same h) e) (m.starts.complete.0 (opens-less cur.first (opens-first a)))),
-            each-with (λ j. Opens cmp (grown ∷ ss) j → AnyByRecursion (Same cmp j) (map (λ t. t.first) ys)) (λ j. Opens cmp (cur ∷ s ∷ ss) j → AnyByRecursion (Same cmp j) (map (λ t. t.first) ys)) (map (λ t. t.first) ss) (λ j f h. f (opens-less j h)) m.starts.complete.1,
-          ),
-        );
-      };
-      ends = record {
-        ascends = m.ends.ascends;
-        sound = each-with (λ k. AnyByRecursion (λ j. Same cmp k j × Closes cmp (grown ∷ ss) j) (top ∷ map (λ t. t.last) ss)) (λ k. AnyByRecursion (λ j. Same cmp k j × Closes cmp (cur ∷ s ∷ ss) j) (cur.last ∷ s.last ∷ map (λ t. t.last) ss)) (map (λ t. t.last) ys) end-sound m.ends.sound;
-        complete = (
-          (λ h. any-map (Same cmp top) (Same cmp cur.last) (map (λ t. t.last) ys) (λ k e. same_trans cmp o cur.last top k (end-same h) e) (m.ends.complete.0 (closes-less top (closes-same cur.last top (cur ∷ s ∷ ss) (end-same h) h)))),
-          (
-            (λ h. any-map (Same cmp top) (Same cmp s.last) (map (λ t. t.last) ys) (λ k e. same_trans cmp o s.last top k (end-same_2 d h) e) (m.ends.complete.0 (closes-less top (closes-same s.last top (cur ∷ s ∷ ss) (end-same_2 d h) h)))),
-            each-with (λ j. Closes cmp (grown ∷ ss) j → AnyByRecursion (Same cmp j) (map (λ t. t.last) ys)) (λ j. Closes cmp (cur ∷ s ∷ ss) j → AnyByRecursion (Same cmp j) (map (λ t. t.last) ys)) (map (λ t. t.last) ss) (λ j f h. f (closes-less j h)) m.ends.complete.1,
-          ),
-        );
-      };
+    merge-grown : (ss ys : List (Span K)) → AllByRecursion (IsOrdered cmp) (cur ∷ s ∷ ss) → IsMerge cmp (grown cur s ∷ ss) ys → IsMerge cmp (cur ∷ s ∷ ss) ys
+    merge-grown ss ys d m = record {
+      starts = those Start (map (λ t. t.first) ys) m.starts;
+      ends = those End (map (λ t. t.last) ys) m.ends;
     }
       where
-        start-sound : (k : K) → AnyByRecursion (λ j. Same cmp k j × Opens cmp (grown ∷ ss) j) (cur.first ∷ map (λ t. t.first) ss) → AnyByRecursion (λ j. Same cmp k j × Opens cmp (cur ∷ s ∷ ss) j) (cur.first ∷ s.first ∷ map (λ t. t.first) ss)
-        start-sound k (inl h) = inl (h.0, opens-more cur.first h.1)
-        start-sound k (inr h) = inr (inr (any-map (λ j. Same cmp k j × Opens cmp (grown ∷ ss) j) (λ j. Same cmp k j × Opens cmp (cur ∷ s ∷ ss) j) (map (λ t. t.first) ss) (λ j g. (g.0, opens-more j g.1)) h))
+        those : (e : Edge) (ks : List K) → AreThose cmp (map (bound e) (grown cur s ∷ ss)) (Free cmp e (grown cur s ∷ ss)) ks → AreThose cmp (map (bound e) (cur ∷ s ∷ ss)) (Free cmp e (cur ∷ s ∷ ss)) ks
+        those e ks = those-again cmp o e (grown cur s ∷ ss) (cur ∷ s ∷ ss) ks (ordered-grown ss d) d (λ k. in-grown k ss) (λ k. within-grown (record { first = k; last = k }) ss) (free-more e ss) (free-less e ss)
 
-        end-sound : (k : K) → AnyByRecursion (λ j. Same cmp k j × Closes cmp (grown ∷ ss) j) (top ∷ map (λ t. t.last) ss) → AnyByRecursion (λ j. Same cmp k j × Closes cmp (cur ∷ s ∷ ss) j) (cur.last ∷ s.last ∷ map (λ t. t.last) ss)
-        end-sound k (inl h) = go (greater-is cur.last s.last)
-          where
-            go : ((top ≡ cur.last) × Upto cmp s.last cur.last) ⊎ ((top ≡ s.last) × Below cmp cur.last s.last) → AnyByRecursion (λ j. Same cmp k j × Closes cmp (cur ∷ s ∷ ss) j) (cur.last ∷ s.last ∷ map (λ t. t.last) ss)
-            go (inl g) = inl (subst (λ t. Same cmp k t × Closes cmp (cur ∷ s ∷ ss) t) g.0 (h.0, closes-more top h.1))
-            go (inr g) = inr (inl (subst (λ t. Same cmp k t × Closes cmp (cur ∷ s ∷ ss) t) g.0 (h.0, closes-more top h.1)))
-        end-sound k (inr h) = inr (inr (any-map (λ j. Same cmp k j × Closes cmp (grown ∷ ss) j) (λ j. Same cmp k j × Closes cmp (cur ∷ s ∷ ss) j) (map (λ t. t.last) ss) (λ j g. (g.0, closes-more j g.1)) h))
+  -- ---- a range that ends before all others begin
 
   module _ (cur : Span K) (ts : List (Span K)) (ordered : IsOrdered cmp cur) (gap : AllByRecursion (λ t. Below cmp cur.last t.first × IsOrdered cmp t) ts) where
-    low-start : (t : Span K) → Below cmp cur.last t.first × IsOrdered cmp t → Below cmp cur.first t.first
-    low-start t b = up_low cmp o cur.first cur.last t.first ordered b.0
+    above : (e : Edge) → AllByRecursion (λ j. Below cmp cur.last j) (map (bound e) ts)
+    above e = each-mapped (bound e) (λ j. Below cmp cur.last j) ts (each-with (λ t. Below cmp cur.last t.first × IsOrdered cmp t) (λ t. Below cmp cur.last (bound e t)) ts (λ t b. low_up cmp o cur.last t.first (bound e t) b.0 (bound-in cmp o e t b.1).0) gap)
 
-    low-end : (t : Span K) → Below cmp cur.last t.first × IsOrdered cmp t → Below cmp cur.last t.last
-    low-end t b = low_up cmp o cur.last t.first t.last b.0 b.1
-
-    opens-cur : Opens cmp (cur ∷ ts) cur.first
-    opens-cur = (
-      (λ c. not_low_self cmp o cur.first c.0),
-      each-with (λ t. Below cmp cur.last t.first × IsOrdered cmp t) (λ t. ¬ (Below cmp t.first cur.first × Upto cmp cur.first t.last)) ts (λ t b c. not_both cmp o cur.first t.first (low_is_up cmp o cur.first t.first (low-start t b)) c.0) gap,
+    cur-free : (e : Edge) → Free cmp e (cur ∷ ts) (bound e cur)
+    cur-free e = (
+      own-free cmp o e cur,
+      each-with (λ t. Below cmp cur.last t.first × IsOrdered cmp t) (λ t. ¬ (Across cmp e (bound e cur) t)) ts
+          (λ t b a. not_both cmp o t.first cur.last (up_up cmp o t.first (bound e cur) cur.last (across-in cmp o e (bound e cur) t a).0 (bound-in cmp o e cur ordered).1) b.0) gap,
     )
 
-    closes-cur : Closes cmp (cur ∷ ts) cur.last
-    closes-cur = (
-      (λ c. not_low_self cmp o cur.last c.1),
-      each-with (λ t. Below cmp cur.last t.first × IsOrdered cmp t) (λ t. ¬ (Upto cmp t.first cur.last × Below cmp cur.last t.last)) ts (λ t b c. not_both cmp o t.first cur.last c.0 b.0) gap,
-    )
-
-    starts-above : AllByRecursion (λ j. Below cmp cur.last j) (map (λ t. t.first) ts)
-    starts-above = each-mapped (λ t. t.first) (λ j. Below cmp cur.last j) ts (each-with (λ t. Below cmp cur.last t.first × IsOrdered cmp t) (λ t. Below cmp cur.last t.first) ts (λ t b. b.0) gap)
-
-    ends-above : AllByRecursion (λ j. Below cmp cur.last j) (map (λ t. t.last) ts)
-    ends-above = each-mapped (λ t. t.last) (λ j. Below cmp cur.last j) ts (each-with (λ t. Below cmp cur.last t.first × IsOrdered cmp t) (λ t. Below cmp cur.last t.last) ts low-end gap)
-
-    -- what is equal to a key above is above
-    above-same : (k j : K) → Below cmp cur.last j → Same cmp k j → Below cmp cur.last k
-    above-same k j b e = low_up cmp o cur.last j k b (same_down cmp o k j e)
-
-    merge-apart : (ys : List (Span K)) → IsMerge cmp ts ys → IsMerge cmp (cur ∷ ts) (cur ∷ ys)
-    merge-apart ys m = record {
-      starts = record {
-        ascends = (each-any (λ k j. Same cmp k j × Below cmp cur.last j) (λ k. Below cmp cur.first k) (map (λ t. t.first) ts) (map (λ t. t.first) ys) (λ k j h. up_low cmp o cur.first cur.last k ordered (above-same k j h.1 h.0)) (each-with (λ k. AnyByRecursion (λ j. Same cmp k j × Opens cmp ts j) (map (λ t. t.first) ts)) (λ k. AnyByRecursion (λ j. Same cmp k j × Below cmp cur.last j) (map (λ t. t.first) ts)) (map (λ t. t.first) ys) (λ k h. any-with (λ j. Below cmp cur.last j) (λ j. Same cmp k j × Opens cmp ts j) (λ j. Same cmp k j × Below cmp cur.last j) (map (λ t. t.first) ts) (λ j b g. (g.0, b)) starts-above h) m.starts.sound), m.starts.ascends);
-        sound = (inl (same_from cmp o cur.first cur.first (up_self cmp o cur.first) (up_self cmp o cur.first), opens-cur), each-with (λ k. AnyByRecursion (λ j. Same cmp k j × Opens cmp ts j) (map (λ t. t.first) ts)) (λ k. AnyByRecursion (λ j. Same cmp k j × Opens cmp (cur ∷ ts) j) (cur.first ∷ map (λ t. t.first) ts)) (map (λ t. t.first) ys) (λ k h. inr (any-with (λ j. Below cmp cur.last j) (λ j. Same cmp k j × Opens cmp ts j) (λ j. Same cmp k j × Opens cmp (cur ∷ ts) j) (map (λ t. t.first) ts) (λ j b g. (g.0, ((λ c. not_both cmp o j cur.last c.1 b), g.1))) starts-above h)) m.starts.sound);
-        complete = ((λ h. inl (same_from cmp o cur.first cur.first (up_self cmp o cur.first) (up_self cmp o cur.first))), each-with (λ j. Opens cmp ts j → AnyByRecursion (Same cmp j) (map (λ t. t.first) ys)) (λ j. Opens cmp (cur ∷ ts) j → AnyByRecursion (Same cmp j) (cur.first ∷ map (λ t. t.first) ys)) (map (λ t. t.first) ts) (λ j f h. inr (f h.1)) m.starts.complete);
-      };
-      ends = record {
-        ascends = (each-any (λ k j. Same cmp k j × Below cmp cur.last j) (λ k. Below cmp cur.last k) (map (λ t. t.last) ts) (map (λ t. t.last) ys) (λ k j h. above-same k j h.1 h.0) (each-with (λ k. AnyByRecursion (λ j. Same cmp k j × Closes cmp ts j) (map (λ t. t.last) ts)) (λ k. AnyByRecursion (λ j. Same cmp k j × Below cmp cur.last j) (map (λ t. t.last) ts)) (map (λ t. t.last) ys) (λ k h. any-with (λ j. Below cmp cur.last j) (λ j. Same cmp k j × Closes cmp ts j) (λ j. Same cmp k j × Below cmp cur.last j) (map (λ t. t.last) ts) (λ j b g. (g.0, b)) ends-above h) m.ends.sound), m.ends.ascends);
-        sound = (inl (same_from cmp o cur.last cur.last (up_self cmp o cur.last) (up_self cmp o cur.last), closes-cur), each-with (λ k. AnyByRecursion (λ j. Same cmp k j × Closes cmp ts j) (map (λ t. t.last) ts)) (λ k. AnyByRecursion (λ j. Same cmp k j × Closes cmp (cur ∷ ts) j) (cur.last ∷ map (λ t. t.last) ts)) (map (λ t. t.last) ys) (λ k h. inr (any-with (λ j. Below cmp cur.last j) (λ j. Same cmp k j × Closes cmp ts j) (λ j. Same cmp k j × Closes cmp (cur ∷ ts) j) (map (λ t. t.last) ts) (λ j b g. (g.0, ((λ c. not_both cmp o cur.last j (low_is_up cmp o cur.last j b) c.1), g.1))) ends-above h)) m.ends.sound);
-        complete = ((λ h. inl (same_from cmp o cur.last cur.last (up_self cmp o cur.last) (up_self cmp o cur.last))), each-with (λ j. Closes cmp ts j → AnyByRecursion (Same cmp j) (map (λ t. t.last) ys)) (λ j. Closes cmp (cur ∷ ts) j → AnyByRecursion (Same cmp j) (cur.last ∷ map (λ t. t.last) ys)) (map (λ t. t.last) ts) (λ j f h. inr (f h.1)) m.ends.complete);
-      };
+    those-apart : (e : Edge) (ks : List K) → AreThose cmp (map (bound e) ts) (Free cmp e ts) ks → AreThose cmp (map (bound e) (cur ∷ ts)) (Free cmp e (cur ∷ ts)) (bound e cur ∷ ks)
+    those-apart e ks m = record {
+      ascends = (
+        each-with (λ k. AnyByRecursion (λ j. Same cmp k j × Free cmp e ts j) (map (bound e) ts)) (λ k. Below cmp (bound e cur) k) ks
+            (λ k h. any-get (λ j. Below cmp cur.last j) (λ j. Same cmp k j × Free cmp e ts j) (Below cmp (bound e cur) k) (map (bound e) ts)
+            (λ j b g. up_low cmp o (bound e cur) cur.last k (bound-in cmp o e cur ordered).1 (low_up cmp o cur.last j k b (same_down cmp o k j g.0))) (above e) h) m.sound,
+        m.ascends,
+      );
+      sound = (
+        inl (same-self cmp o (bound e cur), cur-free e),
+        each-with (λ k. AnyByRecursion (λ j. Same cmp k j × Free cmp e ts j) (map (bound e) ts)) (λ k. AnyByRecursion (λ j. Same cmp k j × Free cmp e (cur ∷ ts) j) (map (bound e) (cur ∷ ts))) ks
+            (λ k h. inr (any-with (λ j. Below cmp cur.last j) (λ j. Same cmp k j × Free cmp e ts j) (λ j. Same cmp k j × Free cmp e (cur ∷ ts) j) (map (bound e) ts)
+            (λ j b g. (g.0, ((λ a. not_both cmp o j cur.last (across-in cmp o e j cur a).1 b), g.1))) (above e) h)) m.sound,
+      );
+      complete = ((λ h. inl (same-self cmp o (bound e cur))), each-with (λ j. Free cmp e ts j → AnyByRecursion (Same cmp j) ks) (λ j. Free cmp e (cur ∷ ts) j → AnyByRecursion (Same cmp j) (bound e cur ∷ ks)) (map (bound e) ts) (λ j f h. inr (f h.1)) m.complete);
     }
 
-  pub sweep-merge : (cur : Span K) (ss : List (Span K)) → IsAscendingByStart cmp (cur ∷ ss) → AllByRecursion (IsOrdered cmp) (cur ∷ ss) → IsMerge cmp (cur ∷ ss) (sweep cmp cur ss)
-  sweep-merge cur [] a d = merge-apart cur [] d.0 tt [] none
+    merge-apart : (ys : List (Span K)) → IsMerge cmp ts ys → IsMerge cmp (cur ∷ ts) (cur ∷ ys)
+    merge-apart ys m = record { starts = those-apart Start (map (λ t. t.first) ys) m.starts; ends = those-apart End (map (λ t. t.last) ys) m.ends }
+
+  -- ---- the sweep
+
+  -- what holds of no range, and comes with each range, one that grows and one that ends before all others begin, holds of the sweep
+  pub swept-by : (P : List (Span K) → List (Span K) → Type 0) → P [] []
+      → ((cur s : Span K) (ss out : List (Span K)) → Upto cmp s.first cur.last → Upto cmp cur.first s.first → P (grown cur s ∷ ss) out → P (cur ∷ s ∷ ss) out)
+      → ((cur : Span K) (ts out : List (Span K)) → AllByRecursion (λ t. Below cmp cur.last t.first) ts → P ts out → P (cur ∷ ts) (cur ∷ out))
+      → (ss : List (Span K)) → IsAscendingByStart cmp ss → P ss (swept cmp ss)
+  swept-by P none grows ends [] a = none
+  swept-by P none grows ends (s ∷ ss) a = sweep-by s ss a
     where
-      none : IsMerge cmp [] []
-      none = record { starts = record { ascends = tt; sound = tt; complete = tt }; ends = record { ascends = tt; sound = tt; complete = tt } }
-  sweep-merge cur (s ∷ ss) a d = go (upto cmp s.first cur.last) refl (λ j. sweep-merge (record { first = cur.first; last = greater cmp cur.last s.last }) ss (a.0.1, a.1.1) (up_up cmp o cur.first cur.last (greater cmp cur.last s.last) d.0 (up-greater cur s ss j a.0.0), d.1.1)) (sweep-merge s ss a.1 d.1)
-    where
-      go : (t : Bool) → upto cmp s.first cur.last ≡ t → (Upto cmp s.first cur.last → IsMerge cmp (record { first = cur.first; last = greater cmp cur.last s.last } ∷ ss) (sweep cmp (record { first = cur.first; last = greater cmp cur.last s.last }) ss)) → IsMerge cmp (s ∷ ss) (sweep cmp s ss) → IsMerge cmp (cur ∷ s ∷ ss) (if t then sweep cmp (record { first = cur.first; last = greater cmp cur.last s.last }) ss else (cur ∷ sweep cmp s ss))
-      go true e f m = merge-grown cur s ss (by_upto cmp o s.first cur.last e) a.0.0 (sweep cmp (record { first = cur.first; last = greater cmp cur.last s.last }) ss) d.1.0 a.0.1 (f (by_upto cmp o s.first cur.last e))
-      go false e f m = merge-apart cur (s ∷ ss) d.0 ((by_above cmp o s.first cur.last e, d.1.0), each-both (λ t. Upto cmp s.first t.first) (IsOrdered cmp) (λ t. Below cmp cur.last t.first × IsOrdered cmp t) ss (λ t u i. (low_up cmp o cur.last s.first t.first (by_above cmp o s.first cur.last e) u, i)) a.1.0 d.1.1) (sweep cmp s ss) m
+      sweep-by : (cur : Span K) (ts : List (Span K)) → IsAscendingByStart cmp (cur ∷ ts) → P (cur ∷ ts) (sweep cmp cur ts)
+      sweep-by cur [] a = ends cur [] [] tt none
+      sweep-by cur (t ∷ ts) a = go (upto cmp t.first cur.last) refl (sweep-by (grown cur t) ts (a.0.1, a.1.1)) (sweep-by t ts a.1)
+        where
+          go : (b : Bool) → upto cmp t.first cur.last ≡ b → P (grown cur t ∷ ts) (sweep cmp (grown cur t) ts) → P (t ∷ ts) (sweep cmp t ts) → P (cur ∷ t ∷ ts) (if b then sweep cmp (grown cur t) ts else (cur ∷ sweep cmp t ts))
+          go true e p q = grows cur t ts (sweep cmp (grown cur t) ts) (by_upto cmp o t.first cur.last e) a.0.0 p
+          go false e p q =
+              let l = by_above cmp o t.first cur.last e in
+              ends cur (t ∷ ts) (sweep cmp t ts) (l, each-with (λ x. Upto cmp t.first x.first) (λ x. Below cmp cur.last x.first) ts (λ x u. low_up cmp o cur.last t.first x.first l u) a.1.0) q
+
+  pub swept-ordered : (ss : List (Span K)) → IsAscendingByStart cmp ss → AllByRecursion (IsOrdered cmp) ss → AllByRecursion (IsOrdered cmp) (swept cmp ss)
+  swept-ordered = swept-by (λ ss out. AllByRecursion (IsOrdered cmp) ss → AllByRecursion (IsOrdered cmp) out) (λ d. d) (λ cur s ss out j a f d. f (ordered-grown cur s j a ss d)) (λ cur ts out b f d. (d.0, f d.1))
 
   pub swept-merge : (ss : List (Span K)) → IsAscendingByStart cmp ss → AllByRecursion (IsOrdered cmp) ss → IsMerge cmp ss (swept cmp ss)
-  swept-merge [] a d = record { starts = record { ascends = tt; sound = tt; complete = tt }; ends = record { ascends = tt; sound = tt; complete = tt } }
-  swept-merge (s ∷ ss) a d = sweep-merge s ss a d
+  swept-merge = swept-by (λ ss out. AllByRecursion (IsOrdered cmp) ss → IsMerge cmp ss out)
+      (λ d. record { starts = record { ascends = tt; sound = tt; complete = tt }; ends = record { ascends = tt; sound = tt; complete = tt } })
+      (λ cur s ss out j a f d. merge-grown cur s j a ss out d (f (ordered-grown cur s j a ss d)))
+      (λ cur ts out b f d. merge-apart cur ts d.0 (each-both (λ t. Below cmp cur.last t.first) (IsOrdered cmp) (λ t. Below cmp cur.last t.first × IsOrdered cmp t) ts (λ t u i. (u, i)) b d.1) out (f d.1))

@@ -1,7 +1,6 @@
 -- The laws of an answer hold of an answer whose bounds are equal, place by place.
 use Rattle.std.proofs.Common.{◌≡◌, List, [], ◌∷◌, ◌++◌, refl, ◌⊎◌, inl, inr}
 use Rattle.std.specs.Cmp.{IsTotalOrder}
-use Rattle.std.specs.List.{AllByRecursion}
 use Rattle.std.specs.declared.cmp.Ordering.{Ordering}
 use Rattle.key_order.specs.Interval.{Span, SameSpan, IsCovered}
 use Rattle.merkle_diff.specs.Difference.{IsDifference, SparesAgreed, IsByFirsts, IsByTable, IsInFirst, IsBoundOfEntry}
@@ -10,20 +9,13 @@ use Rattle.merkle_diff.specs.Merge.{SameSpans}
 use Rattle.key_order.proofs.Orders.{up_up, same_up, same_down}
 use Rattle.merkle_diff.proofs.IntervalLaws.{bound-of_same, spans-trans}
 use Rattle.merkle_diff.proofs.OrderTests.{same_back}
-use Rattle.merkle_diff.proofs.Unique.{same-back, in-same, apart-same, ordered-same}
+use Rattle.merkle_diff.proofs.Unique.{same-back, each-same, in-same, apart-same, ordered-same}
 
 module _ {K : Type 0} (cmp : K → K → Ordering) (o : IsTotalOrder cmp) where
   none-same : (xs ys : List (Span K)) → SameSpans cmp xs ys → xs ≡ [] → ys ≡ []
   none-same [] [] h e = refl
   none-same [] (y ∷ ys) h e = absurd h
   none-same (x ∷ xs) ys h e = cc
-
-  -- what equal spans share holds of each
-  each-same : (P : Span K → Type 0) (xs ys : List (Span K)) → ((s t : Span K) → SameSpan cmp s t → P s → P t) → SameSpans cmp xs ys → AllByRecursion P xs → AllByRecursion P ys
-  each-same P [] [] f h a = tt
-  each-same P [] (y ∷ ys) f h a = absurd h
-  each-same P (x ∷ xs) [] f h a = absurd h
-  each-same P (x ∷ xs) (y ∷ ys) f h a = (f x y h.0 a.0, each-same P xs ys f h.1 a.1)
 
 module _ {K D : Type 0} (cmp : K → K → Ordering) (o : IsTotalOrder cmp) where
   inside-same : (ps : List (Entry K D)) (s t : Span K) → SameSpan cmp s t → IsInFirst cmp ps s → IsInFirst cmp ps t
@@ -54,8 +46,8 @@ module _ {K D : Type 0} (cmp : K → K → Ordering) (o : IsTotalOrder cmp) wher
   difference-same ls ps xs ys e d = record {
     apart = apart-same cmp o xs ys e d.apart;
     ordered = ordered-same cmp o xs ys e d.ordered;
-    inside = each-same cmp o (IsInFirst cmp ps) xs ys (inside-same ps) e d.inside;
-    bounds = each-same cmp o (λ s. IsBoundOfEntry cmp (ls ++ ps) s.first × IsBoundOfEntry cmp (ls ++ ps) s.last) xs ys (bounds-same (ls ++ ps)) e d.bounds;
+    inside = each-same cmp o (IsInFirst cmp ps) (IsInFirst cmp ps) xs ys (inside-same ps) e d.inside;
+    bounds = each-same cmp o (λ s. IsBoundOfEntry cmp (ls ++ ps) s.first × IsBoundOfEntry cmp (ls ++ ps) s.last) (λ s. IsBoundOfEntry cmp (ls ++ ps) s.first × IsBoundOfEntry cmp (ls ++ ps) s.last) xs ys (bounds-same (ls ++ ps)) e d.bounds;
     table = table-same ls ps xs ys e d.table;
   }
 

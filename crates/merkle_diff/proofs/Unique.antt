@@ -3,7 +3,7 @@ use Rattle.std.proofs.Common.{List, [], ◌∷◌, map, inl, inr}
 use Rattle.std.specs.Cmp.{IsTotalOrder}
 use Rattle.std.specs.List.{AllByRecursion}
 use Rattle.std.specs.declared.cmp.Ordering.{Ordering}
-use Rattle.key_order.specs.Interval.{Span, IsOrdered, IsCovered, IsApart}
+use Rattle.key_order.specs.Interval.{Span, IsOrdered, IsCovered, IsWithin, IsApart, SameSpan}
 use Rattle.key_order.specs.Order.{Below, Same, IsAscending, AnyByRecursion}
 use Rattle.merkle_diff.specs.Merge.{AreThose, IsMerge, Opens, Closes, SameSpans}
 use Rattle.key_order.proofs.Orders.{same_up, same_down, up_up, low_up, up_low, not_both, low_is_up}
@@ -70,26 +70,32 @@ module _ {K : Type 0} (cmp : K → K → Ordering) (o : IsTotalOrder cmp) where
   same-back (x ∷ xs) [] h = absurd h
   same-back (x ∷ xs) (y ∷ ys) h = ((same_back cmp o x.first y.first h.0.0, same_back cmp o x.last y.last h.0.1), same-back xs ys h.1)
 
-  pub in-same : (k : K) (xs ys : List (Span K)) → SameSpans cmp xs ys → IsCovered cmp k xs → IsCovered cmp k ys
-  in-same k [] ys h i = absurd i
-  in-same k (x ∷ xs) [] h i = absurd h
-  in-same k (x ∷ xs) (y ∷ ys) h (inl i) = inl (up_up cmp o y.first x.first k (same_down cmp o x.first y.first h.0.0) i.0, up_up cmp o k x.last y.last i.1 (same_up cmp o x.last y.last h.0.1))
-  in-same k (x ∷ xs) (y ∷ ys) h (inr i) = inr (in-same k xs ys h.1 i)
+  -- what equal ranges share holds of each
+  pub each-same : (P Q : Span K → Type 0) (xs ys : List (Span K)) → ((s t : Span K) → SameSpan cmp s t → P s → Q t) → SameSpans cmp xs ys → AllByRecursion P xs → AllByRecursion Q ys
+  each-same P Q [] [] f h i = tt
+  each-same P Q [] (y ∷ ys) f h i = absurd h
+  each-same P Q (x ∷ xs) [] f h i = absurd h
+  each-same P Q (x ∷ xs) (y ∷ ys) f h i = (f x y h.0 i.0, each-same P Q xs ys f h.1 i.1)
 
-  below-same : (a b : K) (xs ys : List (Span K)) → Same cmp a b → SameSpans cmp xs ys → AllByRecursion (λ t. Below cmp a t.first) xs → AllByRecursion (λ t. Below cmp b t.first) ys
-  below-same a b [] [] e h i = tt
-  below-same a b [] (y ∷ ys) e h i = absurd h
-  below-same a b (x ∷ xs) [] e h i = absurd h
-  below-same a b (x ∷ xs) (y ∷ ys) e h i = (up_low cmp o b a y.first (same_down cmp o a b e) (low_up cmp o a x.first y.first i.0 (same_up cmp o x.first y.first h.0.0)), below-same a b xs ys e h.1 i.1)
+  pub holds-same : (x : Span K) (xs ys : List (Span K)) → SameSpans cmp xs ys → AnyByRecursion (IsWithin cmp x) xs → AnyByRecursion (IsWithin cmp x) ys
+  holds-same x [] ys h i = absurd i
+  holds-same x (s ∷ xs) [] h i = absurd h
+  holds-same x (s ∷ xs) (t ∷ ys) h (inl i) = inl (up_up cmp o t.first s.first x.first (same_down cmp o s.first t.first h.0.0) i.0, up_up cmp o x.last s.last t.last i.1 (same_up cmp o s.last t.last h.0.1))
+  holds-same x (s ∷ xs) (t ∷ ys) h (inr i) = inr (holds-same x xs ys h.1 i)
+
+  pub in-same : (k : K) (xs ys : List (Span K)) → SameSpans cmp xs ys → IsCovered cmp k xs → IsCovered cmp k ys
+  in-same k = holds-same (record { first = k; last = k })
 
   pub apart-same : (xs ys : List (Span K)) → SameSpans cmp xs ys → IsApart cmp xs → IsApart cmp ys
   apart-same [] [] h i = tt
   apart-same [] (y ∷ ys) h i = absurd h
   apart-same (x ∷ xs) [] h i = absurd h
-  apart-same (x ∷ xs) (y ∷ ys) h i = (below-same x.last y.last xs ys h.0.1 h.1 i.0, apart-same xs ys h.1 i.1)
+  apart-same (x ∷ xs) (y ∷ ys) h i = (
+    each-same (λ t. Below cmp x.last t.first) (λ t. Below cmp y.last t.first) xs ys
+        (λ s t e b. up_low cmp o y.last x.last t.first (same_down cmp o x.last y.last h.0.1) (low_up cmp o x.last s.first t.first b (same_up cmp o s.first t.first e.0))) h.1 i.0,
+    apart-same xs ys h.1 i.1,
+  )
 
   pub ordered-same : (xs ys : List (Span K)) → SameSpans cmp xs ys → AllByRecursion (IsOrdered cmp) xs → AllByRecursion (IsOrdered cmp) ys
-  ordered-same [] [] h i = tt
-  ordered-same [] (y ∷ ys) h i = absurd h
-  ordered-same (x ∷ xs) [] h i = absurd h
-  ordered-same (x ∷ xs) (y ∷ ys) h i = (up_up cmp o y.first x.first y.last (same_down cmp o x.first y.first h.0.0) (up_up cmp o x.first x.last y.last i.0 (same_up cmp o x.last y.last h.0.1)), ordered-same xs ys h.1 i.1)
+  ordered-same xs ys = each-same (IsOrdered cmp) (IsOrdered cmp) xs ys
+      (λ s t e d. up_up cmp o t.first s.first t.last (same_down cmp o s.first t.first e.0) (up_up cmp o s.first s.last t.last d (same_up cmp o s.last t.last e.1)))
