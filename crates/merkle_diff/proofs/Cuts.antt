@@ -5,82 +5,101 @@ use Rattle.std.specs.List.{AllByRecursion, flat_map}
 use Rattle.std.specs.declared.cmp.Ordering.{Ordering}
 use Rattle.key_order.specs.Interval.{Span, IsOrdered, IsIn, IsInside, IsCovered, Meets, meets}
 use Rattle.key_order.specs.Order.{Upto, Below, Same, AnyByRecursion, below}
-use Rattle.merkle_diff.specs.Merge.{IsMerge, Opens, Closes}
+use Rattle.merkle_diff.specs.Merge.{AreThose, IsMerge}
 use Rattle.merkle_diff.specs.Cut.{IsCut, IsExactCut, IsBoundOf, piece, cut_one, pieces_left}
 use Rattle.key_order.proofs.Orders.{up_up, up_low, low_up, low_is_up, not_both, either}
 use Rattle.merkle_diff.proofs.Merged.{merge-to, merge-from, merge-is_apart, merge-is_ordered}
-use Rattle.merkle_diff.proofs.Each.{any-map, each-with, each-both, any-get, any-left, any-right, any-split, any-unmapped, each-unmapped, each-append}
+use Rattle.merkle_diff.proofs.Each.{any-map, each-with, each-both, each-not, any-get, any-left, any-right, any-split, any-unmapped, each-unmapped, each-append}
+use Rattle.merkle_diff.proofs.Edges.{Edge, bound, Free}
+use Rattle.merkle_diff.proofs.Edges.Edge.{Start, End}
 use Rattle.merkle_diff.proofs.OrderTests.{same_trans, meets_by, not_meets, same-self}
 
 module _ {K : Type 0} (cmp : K → K → Ordering) (o : IsTotalOrder cmp) where
-  piece-in : (k a b : K) → IsCovered cmp k (piece cmp a b) → Upto cmp a k × Upto cmp k b
-  piece-in k a b h = go (below cmp a b) h
+  -- what holds of some piece holds of the one there is
+  any-piece : (Q : Span K → Type 0) (a b : K) → AnyByRecursion Q (piece cmp a b) → Below cmp a b × Q (record { first = a; last = b })
+  any-piece Q a b h = go (below cmp a b) refl h
     where
-      go : (t : Bool) → IsCovered cmp k (if t then (record { first = a; last = b } ∷ []) else []) → Upto cmp a k × Upto cmp k b
-      go true (inl i) = i
-      go true (inr i) = absurd i
-      go false i = absurd i
+      go : (t : Bool) → below cmp a b ≡ t → AnyByRecursion Q (if t then (record { first = a; last = b } ∷ []) else []) → Below cmp a b × Q (record { first = a; last = b })
+      go true e (inl i) = (e, i)
+      go true e (inr i) = absurd i
+      go false e i = absurd i
 
-  piece-to : (k a b : K) → Below cmp a b → Upto cmp a k → Upto cmp k b → IsCovered cmp k (piece cmp a b)
-  piece-to k a b h i j = rw h (inl (i, j))
+  some-piece : (Q : Span K → Type 0) (a b : K) → Below cmp a b → Q (record { first = a; last = b }) → AnyByRecursion Q (piece cmp a b)
+  some-piece Q a b h q = rw h (inl q)
 
   -- ---- one good range
 
-  pub cut-kept : (k : K) (g s : Span K) → IsCovered cmp k (cut_one cmp g s) → IsIn cmp k s × ¬ (IsInside cmp k g)
-  cut-kept k g s h = go (meets cmp g s) refl h
+  -- what is left of s where g is cut out is s itself, a piece before g or one behind it
+  pub any-cut : (Q : Span K → Type 0) (R : Type 0) (g s : Span K) → (¬ (Meets cmp g s) → Q s → R) → (Meets cmp g s → Below cmp s.first g.first → Q (record { first = s.first; last = g.first }) → R)
+      → (Meets cmp g s → Below cmp g.last s.last → Q (record { first = g.last; last = s.last }) → R) → AnyByRecursion Q (cut_one cmp g s) → R
+  any-cut Q R g s whole before behind h = go (meets cmp g s) refl h
     where
-      whole : meets cmp g s ≡ false → IsIn cmp k s ⊎ ⊥ → IsIn cmp k s × ¬ (IsInside cmp k g)
-      whole e (inl i) = (i, λ c. not_meets cmp o g s e (up_up cmp o g.first k s.last (low_is_up cmp o g.first k c.0) i.1, up_up cmp o s.first k g.last i.0 (low_is_up cmp o k g.last c.1)))
-      whole e (inr i) = absurd i
+      cut : Meets cmp g s → AnyByRecursion Q (piece cmp s.first g.first) ⊎ AnyByRecursion Q (piece cmp g.last s.last) → R
+      cut m (inl i) = let p = any-piece Q s.first g.first i in before m p.0 p.1
+      cut m (inr i) = let p = any-piece Q g.last s.last i in behind m p.0 p.1
 
-      cut : Meets cmp g s → IsCovered cmp k (piece cmp s.first g.first) ⊎ IsCovered cmp k (piece cmp g.last s.last) → IsIn cmp k s × ¬ (IsInside cmp k g)
-      cut m (inl i) = let j = piece-in k s.first g.first i in ((j.0, up_up cmp o k g.first s.last j.1 m.0), λ c. not_both cmp o k g.first j.1 c.0)
-      cut m (inr i) = let j = piece-in k g.last s.last i in ((up_up cmp o s.first g.last k m.1 j.0, j.1), λ c. not_both cmp o g.last k j.0 c.1)
+      go : (t : Bool) → meets cmp g s ≡ t → AnyByRecursion Q (if t then (piece cmp s.first g.first ++ piece cmp g.last s.last) else (s ∷ [])) → R
+      go true e i = cut (meets_by cmp o g s e) (any-split Q (piece cmp s.first g.first) (piece cmp g.last s.last) i)
+      go false e (inl i) = whole (not_meets cmp o g s e) i
+      go false e (inr i) = absurd i
 
-      go : (t : Bool) → meets cmp g s ≡ t → IsCovered cmp k (if t then (piece cmp s.first g.first ++ piece cmp g.last s.last) else (s ∷ [])) → IsIn cmp k s × ¬ (IsInside cmp k g)
-      go true e i = cut (meets_by cmp o g s e) (any-split (IsIn cmp k) (piece cmp s.first g.first) (piece cmp g.last s.last) i)
-      go false e i = whole e i
-
-  pub cut-covers : (k : K) (g s : Span K) → IsIn cmp k s → ¬ (IsIn cmp k g) → IsCovered cmp k (cut_one cmp g s)
-  cut-covers k g s i n = go (meets cmp g s)
+  pub some-cut : (Q : Span K → Type 0) (g s : Span K) → Q s
+      → (Meets cmp g s → (Below cmp s.first g.first × Q (record { first = s.first; last = g.first })) ⊎ (Below cmp g.last s.last × Q (record { first = g.last; last = s.last }))) → AnyByRecursion Q (cut_one cmp g s)
+  some-cut Q g s q f = go (meets cmp g s) refl
     where
-      behind : Upto cmp g.first k → Upto cmp k g.last ⊎ Below cmp g.last k → IsCovered cmp k (piece cmp s.first g.first ++ piece cmp g.last s.last)
-      behind a (inl b) = absurd (n (a, b))
-      behind a (inr b) = any-right (IsIn cmp k) (piece cmp s.first g.first) (piece cmp g.last s.last) (piece-to k g.last s.last (low_up cmp o g.last k s.last b i.1) (low_is_up cmp o g.last k b) i.1)
+      cut : (Below cmp s.first g.first × Q (record { first = s.first; last = g.first })) ⊎ (Below cmp g.last s.last × Q (record { first = g.last; last = s.last })) → AnyByRecursion Q (piece cmp s.first g.first ++ piece cmp g.last s.last)
+      cut (inl h) = any-left Q (piece cmp s.first g.first) (piece cmp g.last s.last) (some-piece Q s.first g.first h.0 h.1)
+      cut (inr h) = any-right Q (piece cmp s.first g.first) (piece cmp g.last s.last) (some-piece Q g.last s.last h.0 h.1)
 
-      cut : Upto cmp g.first k ⊎ Below cmp k g.first → IsCovered cmp k (piece cmp s.first g.first ++ piece cmp g.last s.last)
-      cut (inl a) = behind a (either cmp o k g.last)
-      cut (inr b) = any-left (IsIn cmp k) (piece cmp s.first g.first) (piece cmp g.last s.last) (piece-to k s.first g.first (up_low cmp o s.first k g.first i.0 b) i.0 (low_is_up cmp o k g.first b))
+      go : (t : Bool) → meets cmp g s ≡ t → AnyByRecursion Q (if t then (piece cmp s.first g.first ++ piece cmp g.last s.last) else (s ∷ []))
+      go true e = cut (f (meets_by cmp o g s e))
+      go false e = inl q
 
-      go : (t : Bool) → IsCovered cmp k (if t then (piece cmp s.first g.first ++ piece cmp g.last s.last) else (s ∷ []))
-      go true = cut (either cmp o g.first k)
-      go false = inl i
+  cut-kept : (k : K) (g s : Span K) → IsCovered cmp k (cut_one cmp g s) → IsIn cmp k s × ¬ (IsInside cmp k g)
+  cut-kept k g s =
+      any-cut (IsIn cmp k) (IsIn cmp k s × ¬ (IsInside cmp k g)) g s
+      (λ n i. (i, λ c. n (up_up cmp o g.first k s.last (low_is_up cmp o g.first k c.0) i.1, up_up cmp o s.first k g.last i.0 (low_is_up cmp o k g.last c.1))))
+      (λ m b i. ((i.0, up_up cmp o k g.first s.last i.1 m.0), λ c. not_both cmp o k g.first i.1 c.0))
+      (λ m b i. ((up_up cmp o s.first g.last k m.1 i.0, i.1), λ c. not_both cmp o g.last k i.0 c.1))
 
-  flat-kept : (k : K) (g : Span K) (bad : List (Span K)) → IsCovered cmp k (flat_map (cut_one cmp g) bad) → IsCovered cmp k bad × ¬ (IsInside cmp k g)
-  flat-kept k g [] h = absurd h
-  flat-kept k g (s ∷ bad) h = go (any-split (IsIn cmp k) (cut_one cmp g s) (flat_map (cut_one cmp g) bad) h) (flat-kept k g bad)
+  cut-covers : (k : K) (g s : Span K) → IsIn cmp k s → ¬ (IsIn cmp k g) → IsCovered cmp k (cut_one cmp g s)
+  cut-covers k g s i n = some-cut (IsIn cmp k) g s i (λ m. go (either cmp o g.first k) (either cmp o k g.last))
     where
-      go : IsCovered cmp k (cut_one cmp g s) ⊎ IsCovered cmp k (flat_map (cut_one cmp g) bad) → (IsCovered cmp k (flat_map (cut_one cmp g) bad) → IsCovered cmp k bad × ¬ (IsInside cmp k g)) → IsCovered cmp k (s ∷ bad) × ¬ (IsInside cmp k g)
-      go (inl i) f = let c = cut-kept k g s i in (inl c.0, c.1)
-      go (inr i) f = let c = f i in (inr c.0, c.1)
-
-  flat-covers : (k : K) (g : Span K) (bad : List (Span K)) → IsCovered cmp k bad → ¬ (IsIn cmp k g) → IsCovered cmp k (flat_map (cut_one cmp g) bad)
-  flat-covers k g [] h n = absurd h
-  flat-covers k g (s ∷ bad) (inl h) n = any-left (IsIn cmp k) (cut_one cmp g s) (flat_map (cut_one cmp g) bad) (cut-covers k g s h n)
-  flat-covers k g (s ∷ bad) (inr h) n = any-right (IsIn cmp k) (cut_one cmp g s) (flat_map (cut_one cmp g) bad) (flat-covers k g bad h n)
+      go : Upto cmp g.first k ⊎ Below cmp k g.first → Upto cmp k g.last ⊎ Below cmp g.last k
+          → (Below cmp s.first g.first × IsIn cmp k (record { first = s.first; last = g.first })) ⊎ (Below cmp g.last s.last × IsIn cmp k (record { first = g.last; last = s.last }))
+      go (inr b) e = inl (up_low cmp o s.first k g.first i.0 b, (i.0, low_is_up cmp o k g.first b))
+      go (inl a) (inl b) = absurd (n (a, b))
+      go (inl a) (inr b) = inr (low_up cmp o g.last k s.last b i.1, (low_is_up cmp o g.last k b, i.1))
 
   -- ---- all of them
 
-  pub left-kept : (k : K) (bad good : List (Span K)) → IsCovered cmp k (pieces_left cmp bad good) → IsCovered cmp k bad × AllByRecursion (λ g. ¬ (IsInside cmp k g)) good
-  left-kept k bad [] h = (h, tt)
-  left-kept k bad (g ∷ good) h =
-      let r = left-kept k (flat_map (cut_one cmp g) bad) good h in
-      let c = flat-kept k g bad r.0 in
-      (c.0, (c.1, r.1))
+  -- where Q holds of what is left by one good range, it holds of what that was cut from, and N of the good range
+  module _ (Q N : Span K → Type 0) (one : (g s : Span K) → AnyByRecursion Q (cut_one cmp g s) → Q s × N g) where
+    flat-down : (g : Span K) (ss : List (Span K)) → AnyByRecursion Q (flat_map (cut_one cmp g) ss) → AnyByRecursion Q ss × N g
+    flat-down g [] h = absurd h
+    flat-down g (s ∷ ss) h = go (flat-down g ss) (any-split Q (cut_one cmp g s) (flat_map (cut_one cmp g) ss) h)
+      where
+        go : (AnyByRecursion Q (flat_map (cut_one cmp g) ss) → AnyByRecursion Q ss × N g) → AnyByRecursion Q (cut_one cmp g s) ⊎ AnyByRecursion Q (flat_map (cut_one cmp g) ss) → AnyByRecursion Q (s ∷ ss) × N g
+        go f (inl i) = let r = one g s i in (inl r.0, r.1)
+        go f (inr i) = let r = f i in (inr r.0, r.1)
 
-  pub left-covers : (k : K) (bad good : List (Span K)) → IsCovered cmp k bad → ¬ (IsCovered cmp k good) → IsCovered cmp k (pieces_left cmp bad good)
-  left-covers k bad [] h n = h
-  left-covers k bad (g ∷ good) h n = left-covers k (flat_map (cut_one cmp g) bad) good (flat-covers k g bad h (λ i. n (inl i))) (λ i. n (inr i))
+    pub left-down : (bad good : List (Span K)) → AnyByRecursion Q (pieces_left cmp bad good) → AnyByRecursion Q bad × AllByRecursion N good
+    left-down bad [] h = (h, tt)
+    left-down bad (g ∷ good) h =
+        let r = left-down (flat_map (cut_one cmp g) bad) good h in
+        let c = flat-down g bad r.0 in
+        (c.0, (c.1, r.1))
+
+  -- and the other way round
+  module _ (Q N : Span K → Type 0) (one : (g s : Span K) → Q s → N g → AnyByRecursion Q (cut_one cmp g s)) where
+    flat-up : (g : Span K) (ss : List (Span K)) → AnyByRecursion Q ss → N g → AnyByRecursion Q (flat_map (cut_one cmp g) ss)
+    flat-up g [] h n = absurd h
+    flat-up g (s ∷ ss) (inl h) n = any-left Q (cut_one cmp g s) (flat_map (cut_one cmp g) ss) (one g s h n)
+    flat-up g (s ∷ ss) (inr h) n = any-right Q (cut_one cmp g s) (flat_map (cut_one cmp g) ss) (flat-up g ss h n)
+
+    pub left-up : (bad good : List (Span K)) → AnyByRecursion Q bad → AllByRecursion N good → AnyByRecursion Q (pieces_left cmp bad good)
+    left-up bad [] h n = h
+    left-up bad (g ∷ good) h n = left-up (flat_map (cut_one cmp g) bad) good (flat-up g bad h n.0) n.1
 
   -- what holds of the pieces of each range holds of all pieces
   pub each-flat : (P : Span K → Type 0) (g : Span K) (bad : List (Span K)) → ((s : Span K) → P s → AllByRecursion P (cut_one cmp g s)) → AllByRecursion P bad → AllByRecursion P (flat_map (cut_one cmp g) bad)
@@ -115,12 +134,12 @@ module _ {K : Type 0} (cmp : K → K → Ordering) (o : IsTotalOrder cmp) where
 
   -- the bounds of a merge are, up to equality, bounds of the list
   pub merge-bounds : (P : K → Type 0) (ss merged : List (Span K)) → ((k j : K) → Same cmp k j → P j → P k) → AllByRecursion (Bounds P) ss → IsMerge cmp ss merged → AllByRecursion (Bounds P) merged
-  merge-bounds P ss merged f d m =
-      each-both (λ s. P s.first) (λ s. P s.last) (Bounds P) merged (λ s p q. (p, q))
-      (each-unmapped (λ s. s.first) P merged (each-with (λ k. AnyByRecursion (λ j. Same cmp k j × Opens cmp ss j) (map (λ s. s.first) ss)) P (map (λ s. s.first) merged)
-      (λ k h. any-get (Bounds P) (λ s. Same cmp k s.first × Opens cmp ss s.first) (P k) ss (λ s b e. f k s.first e.0 b.0) d (any-unmapped (λ s. s.first) (λ j. Same cmp k j × Opens cmp ss j) ss h)) m.starts.sound))
-      (each-unmapped (λ s. s.last) P merged (each-with (λ k. AnyByRecursion (λ j. Same cmp k j × Closes cmp ss j) (map (λ s. s.last) ss)) P (map (λ s. s.last) merged)
-      (λ k h. any-get (Bounds P) (λ s. Same cmp k s.last × Closes cmp ss s.last) (P k) ss (λ s b e. f k s.last e.0 b.1) d (any-unmapped (λ s. s.last) (λ j. Same cmp k j × Closes cmp ss j) ss h)) m.ends.sound))
+  merge-bounds P ss merged f d m = each-both (λ s. P s.first) (λ s. P s.last) (Bounds P) merged (λ s p q. (p, q)) (those Start (λ s b. b.0) m.starts) (those End (λ s b. b.1) m.ends)
+    where
+      those : (e : Edge) → ((s : Span K) → Bounds P s → P (bound e s)) → AreThose cmp (map (bound e) ss) (Free cmp e ss) (map (bound e) merged) → AllByRecursion (λ s. P (bound e s)) merged
+      those e p t =
+          each-unmapped (bound e) P merged (each-with (λ k. AnyByRecursion (λ j. Same cmp k j × Free cmp e ss j) (map (bound e) ss)) P (map (bound e) merged)
+          (λ k h. any-get (Bounds P) (λ s. Same cmp k (bound e s) × Free cmp e ss (bound e s)) (P k) ss (λ s b q. f k (bound e s) q.0 (p s b)) d (any-unmapped (bound e) (λ j. Same cmp k j × Free cmp e ss j) ss h)) t.sound)
 
   self-bounds : (ss : List (Span K)) → AllByRecursion (Bounds (IsBoundOf cmp ss)) ss
   self-bounds [] = tt
@@ -138,8 +157,8 @@ module _ {K : Type 0} (cmp : K → K → Ordering) (o : IsTotalOrder cmp) where
   cut-out bad good result d m =
       let q = left-ordered bad good d in
       record {
-        kept = λ k h. left-kept k bad good (merge-from cmp o k (pieces_left cmp bad good) result q m h);
-        covers = λ k h n. merge-to cmp o k (pieces_left cmp bad good) result q m (left-covers k bad good h n);
+        kept = λ k h. left-down (IsIn cmp k) (λ g. ¬ (IsInside cmp k g)) (cut-kept k) bad good (merge-from cmp o k (pieces_left cmp bad good) result q m h);
+        covers = λ k h n. merge-to cmp o k (pieces_left cmp bad good) result q m (left-up (IsIn cmp k) (λ g. ¬ (IsIn cmp k g)) (cut-covers k) bad good h (each-not (IsIn cmp k) good n));
         bounds = merge-bounds (λ k. IsBoundOf cmp bad k ⊎ IsBoundOf cmp good k) (pieces_left cmp bad good) result both-same
             (left-bounds (λ k. IsBoundOf cmp bad k ⊎ IsBoundOf cmp good k) bad good
             (each-with (Bounds (IsBoundOf cmp bad)) (Bounds (λ k. IsBoundOf cmp bad k ⊎ IsBoundOf cmp good k)) bad (λ s b. (inl b.0, inl b.1)) (self-bounds bad))

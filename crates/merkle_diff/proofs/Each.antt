@@ -29,16 +29,6 @@ pub each-both : {X : Type 0} (Q R P : X → Type 0) (xs : List X) → ((x : X) �
 each-both Q R P [] f a b = tt
 each-both Q R P (x ∷ xs) f a b = (f x a.0 b.0, each-both Q R P xs f a.1 b.1)
 
--- what holds wherever some element has P holds of all elements, each of which has some
-pub each-any : {X Y : Type 0} (P : Y → X → Type 0) (Q : Y → Type 0) (xs : List X) (ys : List Y) → ((y : Y) (x : X) → P y x → Q y) → AllByRecursion (λ y. AnyByRecursion (P y) xs) ys → AllByRecursion Q ys
-each-any P Q xs [] f a = tt
-each-any {X} {Y} P Q xs (y ∷ ys) f a = (one xs a.0, each-any P Q xs ys f a.1)
-  where
-    one : (zs : List X) → AnyByRecursion (P y) zs → Q y
-    one [] h = absurd h
-    one (z ∷ zs) (inl h) = f y z h
-    one (z ∷ zs) (inr h) = one zs h
-
 pub each-mapped : {X Y : Type 0} (v : X → Y) (P : Y → Type 0) (xs : List X) → AllByRecursion (λ x. P (v x)) xs → AllByRecursion P (map v xs)
 each-mapped v P [] a = tt
 each-mapped v P (x ∷ xs) a = (a.0, each-mapped v P xs a.1)

@@ -6,14 +6,16 @@ use Rattle.std.specs.List.{AllByRecursion, flat_map}
 use Rattle.std.specs.declared.cmp.Ordering.{Ordering}
 use Rattle.key_order.specs.Order.{AnyByRecursion, Same, below}
 use Rattle.key_order.specs.Interval.{Span, SameSpan, meets}
-use Rattle.key_order.proofs.Orders.{low_up, up_low, up_up, same_up, same_down}
+use Rattle.key_order.proofs.Orders.{same_up, same_down}
 use Rattle.merkle_diff.specs.Cut.{piece, cut_one, pieces_left}
 use Rattle.merkle_diff.specs.Difference.{IsByWalk}
 use Rattle.merkle_diff.specs.Entry.{Entry, span_of}
-use Rattle.merkle_diff.specs.Merge.{AreThose, IsMerge, Opens, Closes, SameSpans}
+use Rattle.merkle_diff.specs.Merge.{AreThose, IsMerge, SameSpans}
 use Rattle.merkle_diff.proofs.Each.{any-map, each-with}
+use Rattle.merkle_diff.proofs.Edges.{Edge, bound, Across, Free, across-same, across-within}
+use Rattle.merkle_diff.proofs.Edges.Edge.{Start, End}
 use Rattle.merkle_diff.proofs.OrderTests.{same_trans, same_back}
-use Rattle.merkle_diff.proofs.Unique.{SameKeys, merge-unique, same-back}
+use Rattle.merkle_diff.proofs.Unique.{SameKeys, merge-unique, same-back, each-same}
 use Rattle.merkle_diff.specs.Walk.{Walk, no_peer, outside, held, no_local, between, agrees, differs, Mark, Bad, Good, bad_of, good_of, bad_marks, front_within, after_within}
 
 never : {b : Bool} → b ≡ false → b ≡ true → ⊥
@@ -123,47 +125,29 @@ module _ {K : Type 0} (cmp : K → K → Ordering) (o : IsTotalOrder cmp) where
         (λ a b f g i. any-map (Same cmp a) (Same cmp b) ks (λ x r. same_trans cmp o b a x (same_back cmp o a b f) r) (g (q a b f i))) from to e m.complete;
   }
 
-  firsts-same : (xs ys : List (Span K)) → SameSpans cmp xs ys → SameKeys cmp o (map (λ s. s.first) xs) (map (λ s. s.first) ys)
-  firsts-same [] [] e = tt
-  firsts-same [] (y ∷ ys) e = absurd e
-  firsts-same (x ∷ xs) [] e = absurd e
-  firsts-same (x ∷ xs) (y ∷ ys) e = (e.0.0, firsts-same xs ys e.1)
+  module _ (e : Edge) where
+    bound-same : (s t : Span K) → SameSpan cmp s t → Same cmp (bound e s) (bound e t)
+    bound-same s t h = go e
+      where
+        go : (e : Edge) → Same cmp (bound e s) (bound e t)
+        go Start = h.0
+        go End = h.1
 
-  lasts-same : (xs ys : List (Span K)) → SameSpans cmp xs ys → SameKeys cmp o (map (λ s. s.last) xs) (map (λ s. s.last) ys)
-  lasts-same [] [] e = tt
-  lasts-same [] (y ∷ ys) e = absurd e
-  lasts-same (x ∷ xs) [] e = absurd e
-  lasts-same (x ∷ xs) (y ∷ ys) e = (e.0.1, lasts-same xs ys e.1)
+    bounds-same : (xs ys : List (Span K)) → SameSpans cmp xs ys → SameKeys cmp o (map (bound e) xs) (map (bound e) ys)
+    bounds-same [] [] h = tt
+    bounds-same [] (y ∷ ys) h = absurd h
+    bounds-same (x ∷ xs) [] h = absurd h
+    bounds-same (x ∷ xs) (y ∷ ys) h = (bound-same x y h.0, bounds-same xs ys h.1)
 
-  opens-same : (xs ys : List (Span K)) → SameSpans cmp xs ys → (a b : K) → Same cmp a b → Opens cmp xs a → Opens cmp ys b
-  opens-same [] [] e a b f h = tt
-  opens-same [] (y ∷ ys) e a b f h = absurd e
-  opens-same (x ∷ xs) [] e a b f h = absurd e
-  opens-same (x ∷ xs) (y ∷ ys) e a b f h = (
-    λ w. h.0 (
-      low_up cmp o x.first b a (up_low cmp o x.first y.first b (same_up cmp o x.first y.first e.0.0) w.0) (same_down cmp o a b f),
-      up_up cmp o a b x.last (same_up cmp o a b f) (up_up cmp o b y.last x.last w.1 (same_down cmp o x.last y.last e.0.1)),
-    ),
-    opens-same xs ys e.1 a b f h.1,
-  )
+    free-alike : (xs ys : List (Span K)) → SameSpans cmp xs ys → (a b : K) → Same cmp a b → Free cmp e xs a → Free cmp e ys b
+    free-alike xs ys h a b q = each-same cmp o (λ s. ¬ (Across cmp e a s)) (λ s. ¬ (Across cmp e b s)) xs ys
+        (λ s t w n c. n (across-same cmp o e b a s (same_back cmp o a b q) (across-within cmp o e b t s (same_up cmp o s.first t.first w.0, same_down cmp o s.last t.last w.1) c))) h
 
-  closes-same : (xs ys : List (Span K)) → SameSpans cmp xs ys → (a b : K) → Same cmp a b → Closes cmp xs a → Closes cmp ys b
-  closes-same [] [] e a b f h = tt
-  closes-same [] (y ∷ ys) e a b f h = absurd e
-  closes-same (x ∷ xs) [] e a b f h = absurd e
-  closes-same (x ∷ xs) (y ∷ ys) e a b f h = (
-    λ w. h.0 (
-      up_up cmp o x.first b a (up_up cmp o x.first y.first b (same_up cmp o x.first y.first e.0.0) w.0) (same_down cmp o a b f),
-      up_low cmp o a b x.last (same_up cmp o a b f) (low_up cmp o b y.last x.last w.1 (same_down cmp o x.last y.last e.0.1)),
-    ),
-    closes-same xs ys e.1 a b f h.1,
-  )
+    those-alike : (xs ys : List (Span K)) (ks : List K) → SameSpans cmp xs ys → AreThose cmp (map (bound e) xs) (Free cmp e xs) ks → AreThose cmp (map (bound e) ys) (Free cmp e ys) ks
+    those-alike xs ys ks h = those-same (Free cmp e xs) (Free cmp e ys) (free-alike xs ys h) (λ a b q. free-alike ys xs (same-back cmp o xs ys h) b a (same_back cmp o a b q)) (map (bound e) xs) (map (bound e) ys) ks (bounds-same xs ys h)
 
   merge-same : (xs ys merged : List (Span K)) → SameSpans cmp xs ys → IsMerge cmp xs merged → IsMerge cmp ys merged
-  merge-same xs ys merged e m = record {
-    starts = those-same (Opens cmp xs) (Opens cmp ys) (opens-same xs ys e) (λ a b f. opens-same ys xs (same-back cmp o xs ys e) b a (same_back cmp o a b f)) (map (λ s. s.first) xs) (map (λ s. s.first) ys) (map (λ s. s.first) merged) (firsts-same xs ys e) m.starts;
-    ends = those-same (Closes cmp xs) (Closes cmp ys) (closes-same xs ys e) (λ a b f. closes-same ys xs (same-back cmp o xs ys e) b a (same_back cmp o a b f)) (map (λ s. s.last) xs) (map (λ s. s.last) ys) (map (λ s. s.last) merged) (lasts-same xs ys e) m.ends;
-  }
+  merge-same xs ys merged h m = record { starts = those-alike Start xs ys (map (λ s. s.first) merged) h m.starts; ends = those-alike End xs ys (map (λ s. s.last) merged) h m.ends }
 
 module _ {K D : Type 0} (cmp : K → K → Ordering) (o : IsTotalOrder cmp) where
   -- two answers by the walk on the same lists have the same spans
