@@ -141,16 +141,24 @@ module _ {K : Type 0} (cmp : K → K → Ordering) (o : IsTotalOrder cmp) where
           each-unmapped (bound e) P merged (each-with (λ k. AnyByRecursion (λ j. Same cmp k j × Free cmp e ss j) (map (bound e) ss)) P (map (bound e) merged)
           (λ k h. any-get (Bounds P) (λ s. Same cmp k (bound e s) × Free cmp e ss (bound e s)) (P k) ss (λ s b q. f k (bound e s) q.0 (p s b)) d (any-unmapped (bound e) (λ j. Same cmp k j × Free cmp e ss j) ss h)) t.sound)
 
-  self-bounds : (ss : List (Span K)) → AllByRecursion (Bounds (IsBoundOf cmp ss)) ss
-  self-bounds [] = tt
-  self-bounds (s ∷ ss) = ((inl (inl (same-self cmp o s.first)), inl (inr (same-self cmp o s.last))), each-with (Bounds (IsBoundOf cmp ss)) (Bounds (IsBoundOf cmp (s ∷ ss))) ss (λ t b. (inr b.0, inr b.1)) (self-bounds ss))
+  -- where each element has two bounds, each is equal to a bound of one, and what is equal to that is so too
+  module _ {X : Type 0} (first last : X → K) where
+    abbrev IsOneOf : List X → K → Type 0
+    IsOneOf xs k = AnyByRecursion (λ x. Same cmp k (first x) ⊎ Same cmp k (last x)) xs
 
-  pub bound-same : (ss : List (Span K)) (k j : K) → Same cmp k j → IsBoundOf cmp ss j → IsBoundOf cmp ss k
-  bound-same ss k j e h = any-map (λ s. Same cmp j s.first ⊎ Same cmp j s.last) (λ s. Same cmp k s.first ⊎ Same cmp k s.last) ss one h
-    where
-      one : (s : Span K) → Same cmp j s.first ⊎ Same cmp j s.last → Same cmp k s.first ⊎ Same cmp k s.last
-      one s (inl x) = inl (same_trans cmp o k j s.first e x)
-      one s (inr x) = inr (same_trans cmp o k j s.last e x)
+    pub own-bounds : (xs : List X) → AllByRecursion (λ x. IsOneOf xs (first x) × IsOneOf xs (last x)) xs
+    own-bounds [] = tt
+    own-bounds (x ∷ xs) = (
+      (inl (inl (same-self cmp o (first x))), inl (inr (same-self cmp o (last x)))),
+      each-with (λ y. IsOneOf xs (first y) × IsOneOf xs (last y)) (λ y. IsOneOf (x ∷ xs) (first y) × IsOneOf (x ∷ xs) (last y)) xs (λ y b. (inr b.0, inr b.1)) (own-bounds xs),
+    )
+
+    pub bound-same : (xs : List X) (k j : K) → Same cmp k j → IsOneOf xs j → IsOneOf xs k
+    bound-same xs k j e h = any-map (λ x. Same cmp j (first x) ⊎ Same cmp j (last x)) (λ x. Same cmp k (first x) ⊎ Same cmp k (last x)) xs one h
+      where
+        one : (x : X) → Same cmp j (first x) ⊎ Same cmp j (last x) → Same cmp k (first x) ⊎ Same cmp k (last x)
+        one x (inl h) = inl (same_trans cmp o k j (first x) e h)
+        one x (inr h) = inr (same_trans cmp o k j (last x) e h)
 
   -- the exact cut has the laws of a cut
   pub cut-out : (bad good result : List (Span K)) → AllByRecursion (IsOrdered cmp) bad → IsExactCut cmp bad good result → IsCut cmp bad good result
@@ -161,14 +169,14 @@ module _ {K : Type 0} (cmp : K → K → Ordering) (o : IsTotalOrder cmp) where
         covers = λ k h n. merge-to cmp o k (pieces_left cmp bad good) result q m (left-up (IsIn cmp k) (λ g. ¬ (IsIn cmp k g)) (cut-covers k) bad good h (each-not (IsIn cmp k) good n));
         bounds = merge-bounds (λ k. IsBoundOf cmp bad k ⊎ IsBoundOf cmp good k) (pieces_left cmp bad good) result both-same
             (left-bounds (λ k. IsBoundOf cmp bad k ⊎ IsBoundOf cmp good k) bad good
-            (each-with (Bounds (IsBoundOf cmp bad)) (Bounds (λ k. IsBoundOf cmp bad k ⊎ IsBoundOf cmp good k)) bad (λ s b. (inl b.0, inl b.1)) (self-bounds bad))
-            (each-with (Bounds (IsBoundOf cmp good)) (Bounds (λ k. IsBoundOf cmp bad k ⊎ IsBoundOf cmp good k)) good (λ s b. (inr b.0, inr b.1)) (self-bounds good))) m;
+            (each-with (Bounds (IsBoundOf cmp bad)) (Bounds (λ k. IsBoundOf cmp bad k ⊎ IsBoundOf cmp good k)) bad (λ s b. (inl b.0, inl b.1)) (own-bounds (λ s. s.first) (λ s. s.last) bad))
+            (each-with (Bounds (IsBoundOf cmp good)) (Bounds (λ k. IsBoundOf cmp bad k ⊎ IsBoundOf cmp good k)) good (λ s b. (inr b.0, inr b.1)) (own-bounds (λ s. s.first) (λ s. s.last) good))) m;
         apart = merge-is_apart cmp o (pieces_left cmp bad good) result q m;
       }
     where
       both-same : (k j : K) → Same cmp k j → IsBoundOf cmp bad j ⊎ IsBoundOf cmp good j → IsBoundOf cmp bad k ⊎ IsBoundOf cmp good k
-      both-same k j e (inl h) = inl (bound-same bad k j e h)
-      both-same k j e (inr h) = inr (bound-same good k j e h)
+      both-same k j e (inl h) = inl (bound-same (λ s. s.first) (λ s. s.last) bad k j e h)
+      both-same k j e (inr h) = inr (bound-same (λ s. s.first) (λ s. s.last) good k j e h)
 
   pub cut-ordered : (bad good result : List (Span K)) → AllByRecursion (IsOrdered cmp) bad → IsExactCut cmp bad good result → AllByRecursion (IsOrdered cmp) result
   cut-ordered bad good result d m = merge-is_ordered cmp o (pieces_left cmp bad good) result (left-ordered bad good d) m

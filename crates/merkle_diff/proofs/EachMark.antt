@@ -6,10 +6,11 @@ use Rattle.std.specs.declared.cmp.Ordering.{Ordering}
 use Rattle.key_order.specs.Interval.{Span, is_within}
 use Rattle.merkle_diff.specs.Entry.{Entry, span_of}
 use Rattle.key_order.specs.Order.{Upto, upto}
-use Rattle.merkle_diff.specs.Walk.{Walk, Mark, no_peer, outside, held, no_local, between, agrees, differs, bad_of, good_of, gap_mark, gap_start, gap_end, front_within, after_within, bad_marks, last_holder, after_holders}
+use Rattle.merkle_diff.specs.Walk.{Walk, Mark, no_peer, outside, held, no_local, between, agrees, differs, bad_of, good_of, gap_mark, gap_start, gap_end, front_within, bad_marks, last_holder, after_holders}
 use Rattle.merkle_diff.specs.Walk.Mark.{Bad, Good}
 use Rattle.merkle_diff.proofs.Each.{each-append}
 use Rattle.merkle_diff.proofs.OrderTests.{by_upto}
+use Rattle.merkle_diff.proofs.Walks.{each-after}
 
 module _ {K D : Type 0} (cmp : K → K → Ordering) (o : IsTotalOrder cmp)
     (PE : Entry K D → Type 0) (LE : Entry K D → Type 0) (KB : K → Type 0) (MK : Mark K → Type 0)
@@ -32,14 +33,6 @@ module _ {K D : Type 0} (cmp : K → K → Ordering) (o : IsTotalOrder cmp)
       go : (t : Bool) → KB (if t then p.last else l.first)
       go true = h
       go false = local-bound l d.0
-
-  after-has : (s : Span K) (P : List (Entry K D)) → AllByRecursion PE P → AllByRecursion PE (after_within cmp s P)
-  after-has s [] h = tt
-  after-has s (x ∷ P) h = go (is_within cmp (span_of x) s) (after-has s P h.1)
-    where
-      go : (t : Bool) → AllByRecursion PE (after_within cmp s P) → AllByRecursion PE (if t then after_within cmp s P else (x ∷ P))
-      go true k = k
-      go false k = h
 
   front-has : (s : Span K) (P : List (Entry K D)) → AllByRecursion PE P → AllByRecursion MK (bad_marks cmp (front_within cmp s P))
   front-has s [] h = tt
@@ -65,6 +58,10 @@ module _ {K D : Type 0} (cmp : K → K → Ordering) (o : IsTotalOrder cmp)
       go true k = k
       go false k = h
 
+  -- the mark of an entry, those that are made within it, and those that come after
+  marks-have : (s : Span K) (m : Mark K) (inner after : List (Mark K)) (P : List (Entry K D)) → MK m → AllByRecursion MK inner → AllByRecursion PE P → AllByRecursion MK after → AllByRecursion MK (m ∷ (inner ++ (bad_marks cmp (front_within cmp s P) ++ after)))
+  marks-have s m inner after P h i p a = (h, each-append MK inner (bad_marks cmp (front_within cmp s P) ++ after) i (each-append MK (bad_marks cmp (front_within cmp s P)) after (front-has s P p) a))
+
   pub walk-each : {R : Span K} {last : Option (Span K)} {P L P' L' : List (Entry K D)} {ms : List (Mark K)} → Walk cmp R last P L ms P' L'
       → KB (gap_start R last) → AllByRecursion PE P → AllByRecursion LE L → AllByRecursion MK ms × AllByRecursion PE P' × AllByRecursion LE L'
   walk-each no_peer b p l = (tt, tt, l)
@@ -73,25 +70,13 @@ module _ {K D : Type 0} (cmp : K → K → Ordering) (o : IsTotalOrder cmp)
   walk-each {R} {last} (no_local {p = x} h) b p l = (gap-has (gap_start R last) x.last b (peer-bounds x p.0).1, p.1, tt)
   walk-each {R} {last} (between {p = x} {l = y} {L = L} h i j) b p l = (gap-has (gap_start R last) (gap_end cmp x (y ∷ L)) b (gap-end x (y ∷ L) (peer-bounds x p.0).1 l), p.1, l)
   walk-each (agrees {p = x} {l = y} {P = P} {L = L} {P' = P'} {inner = inner} {after = after} h i j w v) b p l =
-      let n = walk-each w (peer-bounds x p.0).0 (after-has (span_of x) P p.1) (holders-has (span_of x) L l.1) in
-      let a = walk-each v (peer-bounds x p.0).1 (after-has (span_of x) P' n.1) n.2 in (
-        (
-          good x (last_holder cmp (span_of x) y L) p.0 (holder-has (span_of x) y L l.0 l.1) j,
-          each-append MK inner (bad_marks cmp (front_within cmp (span_of x) P') ++ after) n.0 (each-append MK (bad_marks cmp (front_within cmp (span_of x) P')) after (front-has (span_of x) P' n.1) a.0),
-        ),
-        a.1,
-        a.2,
-      )
+      let n = walk-each w (peer-bounds x p.0).0 (each-after cmp PE (span_of x) P p.1) (holders-has (span_of x) L l.1) in
+      let a = walk-each v (peer-bounds x p.0).1 (each-after cmp PE (span_of x) P' n.1) n.2 in
+      (marks-have (span_of x) (Good (span_of x)) inner after P' (good x (last_holder cmp (span_of x) y L) p.0 (holder-has (span_of x) y L l.0 l.1) j) n.0 n.1 a.0, a.1, a.2)
   walk-each (differs {p = x} {l = y} {P = P} {L = L} {P' = P'} {inner = inner} {after = after} h i j w v) b p l =
       let n = walk-each w (peer-bounds x p.0).0 p.1 (holders-has (span_of x) L l.1) in
-      let a = walk-each v (peer-bounds x p.0).1 (after-has (span_of x) P' n.1) n.2 in (
-        (
-          whole x p.0,
-          each-append MK inner (bad_marks cmp (front_within cmp (span_of x) P') ++ after) n.0 (each-append MK (bad_marks cmp (front_within cmp (span_of x) P')) after (front-has (span_of x) P' n.1) a.0),
-        ),
-        a.1,
-        a.2,
-      )
+      let a = walk-each v (peer-bounds x p.0).1 (each-after cmp PE (span_of x) P' n.1) n.2 in
+      (marks-have (span_of x) (Bad (span_of x)) inner after P' (whole x p.0) n.0 n.1 a.0, a.1, a.2)
 
 -- of the marks, the bad and the good ones
 pub each-bad : {K : Type 0} (Q : Span K → Type 0) (MK : Mark K → Type 0) (ms : List (Mark K)) → ((s : Span K) → MK (Bad s) → Q s) → AllByRecursion MK ms → AllByRecursion Q (bad_of ms)

@@ -14,7 +14,8 @@ use Rattle.merkle_diff.specs.Difference.{lesser, IsAgreed, IsByTable, HasDigestO
 use Rattle.key_order.proofs.Orders.{up_up, low_up, low_is_up, not_both, either, up_self, same_from}
 use Rattle.merkle_diff.proofs.Unique.{same-back, apart-same, ordered-same}
 use Rattle.merkle_diff.proofs.Merged.{merge-to, merge-from, merge-is_ordered, merge-of_apart}
-use Rattle.merkle_diff.proofs.Cuts.{Bounds, cut-out, cut-ordered, left-bounds, merge-bounds}
+use Rattle.merkle_diff.proofs.Cuts.{Bounds, bound-same, cut-out, cut-ordered, left-bounds, merge-bounds, own-bounds}
+use Rattle.merkle_diff.proofs.OnePass.{left-none}
 use Rattle.merkle_diff.proofs.Walks.{span_marked, walk_marks}
 use Rattle.merkle_diff.proofs.EachMark.{walk-each, each-bad, each-good}
 use Rattle.merkle_diff.proofs.Each.{any-map, each-with, each-both, any-get, each-before, each-behind, every-in}
@@ -25,12 +26,8 @@ module _ {K : Type 0} (cmp : K → K → Ordering) (o : IsTotalOrder cmp) where
   none-merge [] h = refl
   none-merge (x ∷ m) h = absurd h.starts.sound.0
 
-  pub no-pieces : (good : List (Span K)) → pieces_left cmp [] good ≡ []
-  no-pieces [] = refl
-  no-pieces (g ∷ good) = no-pieces good
-
   pub no-found : (bad good found : List (Span K)) → IsMerge cmp [] bad → IsExactCut cmp bad good found → found ≡ []
-  no-found bad good found m c = none-merge found (subst (λ xs. IsMerge cmp xs found) (ap (λ xs. pieces_left cmp xs good) (none-merge bad m) ∙ no-pieces good) c)
+  no-found bad good found m c = none-merge found (subst (λ xs. IsMerge cmp xs found) (ap (λ xs. pieces_left cmp xs good) (none-merge bad m) ∙ left-none cmp good) c)
 
   pub spans-trans : (xs ys zs : List (Span K)) → SameSpans cmp xs ys → SameSpans cmp ys zs → SameSpans cmp xs zs
   spans-trans [] [] zs h k = k
@@ -81,8 +78,6 @@ module _ {K : Type 0} (cmp : K → K → Ordering) (o : IsTotalOrder cmp) where
       go false = h
 
 module _ {K D : Type 0} (cmp : K → K → Ordering) (o : IsTotalOrder cmp) where
-  -- ---- tests
-
   -- ---- what a walk begins with
 
   inv-nil : {R : Span K} {last : Option (Span K)} {p : Entry K D} {P P' L' : List (Entry K D)} {ms : List (Mark K)} → Walk cmp R last (p ∷ P) [] ms P' L'
@@ -114,26 +109,16 @@ module _ {K D : Type 0} (cmp : K → K → Ordering) (o : IsTotalOrder cmp) wher
   inv-met (agrees h i j w v) k f = inl (_, refl)
   inv-met (differs h i j w v) k f = inr (_, refl)
 
-  -- ---- answers from few marks
-
   -- ---- the marks' bounds
 
   abbrev Known : List (Entry K D) → Mark K → Type 0
   Known es m = IsOrdered cmp (span_marked m) × (IsBoundOfEntry cmp es (span_marked m).first × IsBoundOfEntry cmp es (span_marked m).last)
 
   entry-bounds : (es : List (Entry K D)) → AllByRecursion (λ e. IsBoundOfEntry cmp es e.first × IsBoundOfEntry cmp es e.last) es
-  entry-bounds [] = tt
-  entry-bounds (e ∷ es) = (
-    (inl (inl (same-self cmp o e.first)), inl (inr (same-self cmp o e.last))),
-    each-with (λ x. IsBoundOfEntry cmp es x.first × IsBoundOfEntry cmp es x.last) (λ x. IsBoundOfEntry cmp (e ∷ es) x.first × IsBoundOfEntry cmp (e ∷ es) x.last) es (λ x b. (inr b.0, inr b.1)) (entry-bounds es),
-  )
+  entry-bounds = own-bounds cmp o (λ e. e.first) (λ e. e.last)
 
   pub bound-of_same : (es : List (Entry K D)) (k j : K) → Same cmp k j → IsBoundOfEntry cmp es j → IsBoundOfEntry cmp es k
-  bound-of_same es k j e h = any-map (λ x. Same cmp j x.first ⊎ Same cmp j x.last) (λ x. Same cmp k x.first ⊎ Same cmp k x.last) es one h
-    where
-      one : (x : Entry K D) → Same cmp j x.first ⊎ Same cmp j x.last → Same cmp k x.first ⊎ Same cmp k x.last
-      one x (inl h) = inl (same_trans cmp o k j x.first e h)
-      one x (inr h) = inr (same_trans cmp o k j x.last e h)
+  bound-of_same = bound-same cmp o (λ e. e.first) (λ e. e.last)
 
   marks-known : (es ls : List (Entry K D)) (b : Entry K D) (ps P' L' : List (Entry K D)) (ms : List (Mark K)) → AllByRecursion (λ e. IsOrdered cmp (span_of e)) (b ∷ ps)
       → AllByRecursion (λ e. IsBoundOfEntry cmp es e.first × IsBoundOfEntry cmp es e.last) (b ∷ ps) → AllByRecursion (λ e. IsBoundOfEntry cmp es e.first × IsBoundOfEntry cmp es e.last) ls

@@ -37,29 +37,13 @@ Leads-end steps q0 q R S test h f l ps lv =
     (r.0, r.1, f (entries r.0) ps (ap (head_is test) (sym (front-is steps q ps lv)) ∙ h) r.2)
 
 module _ {K D : Type 0} (cmp : K → K → Ordering) where
-  pub after-in : (s : Span K) (x : Entry K D) (P : List (Entry K D)) → is_within cmp (span_of x) s ≡ true → after_within cmp s (x ∷ P) ≡ after_within cmp s P
-  after-in s x P h = rw h refl
+  -- an entry within s is at the front
+  pub within-more : (s : Span K) (x : Entry K D) (P : List (Entry K D)) → is_within cmp (span_of x) s ≡ true → (after_within cmp s (x ∷ P) ≡ after_within cmp s P) × (front_within cmp s (x ∷ P) ≡ x ∷ front_within cmp s P)
+  within-more s x P h = rw h (refl, refl)
 
-  pub front-in : (s : Span K) (x : Entry K D) (P : List (Entry K D)) → is_within cmp (span_of x) s ≡ true → front_within cmp s (x ∷ P) ≡ x ∷ front_within cmp s P
-  front-in s x P h = rw h refl
-
-  pub after-out : (s : Span K) (x : Entry K D) (P : List (Entry K D)) → is_within cmp (span_of x) s ≡ false → after_within cmp s (x ∷ P) ≡ x ∷ P
-  after-out s x P h = rw h refl
-
-  pub front-out : (s : Span K) (x : Entry K D) (P : List (Entry K D)) → is_within cmp (span_of x) s ≡ false → front_within cmp s (x ∷ P) ≡ []
-  front-out s x P h = rw h refl
-
-  pub holders-in : (s : Span K) (x : Entry K D) (P : List (Entry K D)) → is_within cmp s (span_of x) ≡ true → after_holders cmp s (x ∷ P) ≡ after_holders cmp s P
-  holders-in s x P h = rw h refl
-
-  pub holder-in : (s : Span K) (d : D) (x : Entry K D) (P : List (Entry K D)) → is_within cmp s (span_of x) ≡ true → last_digest cmp s d (x ∷ P) ≡ last_digest cmp s x.digest P
-  holder-in s d x P h = rw h refl
-
-  pub holders-out : (s : Span K) (x : Entry K D) (P : List (Entry K D)) → is_within cmp s (span_of x) ≡ false → after_holders cmp s (x ∷ P) ≡ x ∷ P
-  holders-out s x P h = rw h refl
-
-  pub holder-out : (s : Span K) (d : D) (x : Entry K D) (P : List (Entry K D)) → is_within cmp s (span_of x) ≡ false → last_digest cmp s d (x ∷ P) ≡ d
-  holder-out s d x P h = rw h refl
+  -- so is one that holds s
+  pub holders-more : (s : Span K) (d : D) (x : Entry K D) (P : List (Entry K D)) → is_within cmp s (span_of x) ≡ true → (after_holders cmp s (x ∷ P) ≡ after_holders cmp s P) × (last_digest cmp s d (x ∷ P) ≡ last_digest cmp s x.digest P)
+  holders-more s d x P h = rw h (refl, refl)
 
   -- the last digest is that of the last holder
   pub last_digest-is : (s : Span K) (l : Entry K D) (L : List (Entry K D)) → last_digest cmp s l.digest L ≡ (last_holder cmp s l L).digest
@@ -71,21 +55,14 @@ module _ {K D : Type 0} (cmp : K → K → Ordering) where
       go true h = h
       go false h = refl
 
-pub after-stops : {K : Type 0} {o e p : _} (cmp : K → K → Ordering) (s : Span K) (ps : List (PageRange K o e p)) → head_is (λ r. is_within cmp (span_of (entry r)) s) (front_of ps) ≡ false → after_within cmp s (entries ps) ≡ entries ps
-after-stops cmp s [] h = refl
-after-stops cmp s (x ∷ ps) h = after-out cmp s (entry x) (entries ps) h
+-- no entry is at the front
+pub within-stops : {K : Type 0} {o e p : _} (cmp : K → K → Ordering) (s : Span K) (ps : List (PageRange K o e p)) → head_is (λ r. is_within cmp (span_of (entry r)) s) (front_of ps) ≡ false → (after_within cmp s (entries ps) ≡ entries ps) × (front_within cmp s (entries ps) ≡ [])
+within-stops cmp s [] h = (refl, refl)
+within-stops cmp s (x ∷ ps) h = let e : is_within cmp (span_of (entry x)) s ≡ false = h in rw e (refl, refl)
 
-pub front-stops : {K : Type 0} {o e p : _} (cmp : K → K → Ordering) (s : Span K) (ps : List (PageRange K o e p)) → head_is (λ r. is_within cmp (span_of (entry r)) s) (front_of ps) ≡ false → front_within cmp s (entries ps) ≡ []
-front-stops cmp s [] h = refl
-front-stops cmp s (x ∷ ps) h = front-out cmp s (entry x) (entries ps) h
-
-pub holders-stop : {K : Type 0} {o e p : _} (cmp : K → K → Ordering) (s : Span K) (ps : List (PageRange K o e p)) → head_is (λ r. is_within cmp s (span_of (entry r))) (front_of ps) ≡ false → after_holders cmp s (entries ps) ≡ entries ps
-holders-stop cmp s [] h = refl
-holders-stop cmp s (x ∷ ps) h = holders-out cmp s (entry x) (entries ps) h
-
-pub holder-stops : {K : Type 0} {o e p : _} (cmp : K → K → Ordering) (s : Span K) (d : PageDigest) (ps : List (PageRange K o e p)) → head_is (λ r. is_within cmp s (span_of (entry r))) (front_of ps) ≡ false → last_digest cmp s d (entries ps) ≡ d
-holder-stops cmp s d [] h = refl
-holder-stops cmp s d (x ∷ ps) h = holder-out cmp s d (entry x) (entries ps) h
+pub holders-stop : {K : Type 0} {o e p : _} (cmp : K → K → Ordering) (s : Span K) (d : PageDigest) (ps : List (PageRange K o e p)) → head_is (λ r. is_within cmp s (span_of (entry r))) (front_of ps) ≡ false → (after_holders cmp s (entries ps) ≡ entries ps) × (last_digest cmp s d (entries ps) ≡ d)
+holders-stop cmp s d [] h = (refl, refl)
+holders-stop cmp s d (x ∷ ps) h = let e : is_within cmp s (span_of (entry x)) ≡ false = h in rw e (refl, refl)
 
 -- one range was added at the end
 pub added : {K : Type 0} {o e p : _} (old new : List (DiffRange K o e p)) (r : DiffRange K o e p) (ys : List (Span K)) → new ≡ old ++ r ∷ [] → spans new ++ ys ≡ spans old ++ (span r ∷ ys)
@@ -105,9 +82,9 @@ module _ {K D : Type 0} (cmp : K → K → Ordering) (s : Span K) (B0 G0 : List 
   pub mark-more : (B B' G : List (Span K)) (x : Entry K D) (qs ps : List (Entry K D)) → is_within cmp (span_of x) s ≡ true
       → ((ys : List (Span K)) → B' ++ ys ≡ B ++ (span_of x ∷ ys)) → Marking B G qs (x ∷ ps) → Marking B' G qs ps
   mark-more B B' G x qs ps h f r = (
-    sym (after-in cmp s x ps h) ∙ r.0,
-    f (bad_of (bad_marks cmp (front_within cmp s ps))) ∙ (sym (ap (λ F. B ++ bad_of (bad_marks cmp F)) (front-in cmp s x ps h)) ∙ r.1),
-    sym (ap (λ F. G ++ good_of (bad_marks cmp F)) (front-in cmp s x ps h)) ∙ r.2,
+    sym (within-more cmp s x ps h).0 ∙ r.0,
+    f (bad_of (bad_marks cmp (front_within cmp s ps))) ∙ (sym (ap (λ F. B ++ bad_of (bad_marks cmp F)) (within-more cmp s x ps h).1) ∙ r.1),
+    sym (ap (λ F. G ++ good_of (bad_marks cmp F)) (within-more cmp s x ps h).1) ∙ r.2,
   )
 
   pub mark-end : (B G : List (Span K)) (qs ps : List (Entry K D)) → after_within cmp s ps ≡ ps → front_within cmp s ps ≡ [] → Marking B G qs ps

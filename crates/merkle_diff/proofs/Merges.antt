@@ -14,6 +14,9 @@ use Rattle.merkle_diff.proofs.Edges.{Edge, bound, Before, Behind, Across, Free, 
 use Rattle.merkle_diff.proofs.Edges.Edge.{Start, End}
 use Rattle.merkle_diff.proofs.OrderTests.{by_upto, by_above, same-self}
 
+pub none-merged : {K : Type 0} (cmp : K → K → Ordering) → IsMerge cmp [] []
+none-merged cmp = record { starts = record { ascends = tt; sound = tt; complete = tt }; ends = record { ascends = tt; sound = tt; complete = tt } }
+
 module _ {K : Type 0} (cmp : K → K → Ordering) (o : IsTotalOrder cmp) where
   -- the greater of two keys is one of them, and at least both
   greater-is : (a b : K) → ((greater cmp a b ≡ a) × Upto cmp b a) ⊎ ((greater cmp a b ≡ b) × Below cmp a b)
@@ -154,7 +157,6 @@ module _ {K : Type 0} (cmp : K → K → Ordering) (o : IsTotalOrder cmp) where
   swept-ordered = swept-by (λ ss out. AllByRecursion (IsOrdered cmp) ss → AllByRecursion (IsOrdered cmp) out) (λ d. d) (λ cur s ss out j a f d. f (ordered-grown cur s j a ss d)) (λ cur ts out b f d. (d.0, f d.1))
 
   pub swept-merge : (ss : List (Span K)) → IsAscendingByStart cmp ss → AllByRecursion (IsOrdered cmp) ss → IsMerge cmp ss (swept cmp ss)
-  swept-merge = swept-by (λ ss out. AllByRecursion (IsOrdered cmp) ss → IsMerge cmp ss out)
-      (λ d. record { starts = record { ascends = tt; sound = tt; complete = tt }; ends = record { ascends = tt; sound = tt; complete = tt } })
+  swept-merge = swept-by (λ ss out. AllByRecursion (IsOrdered cmp) ss → IsMerge cmp ss out) (λ d. none-merged cmp)
       (λ cur s ss out j a f d. merge-grown cur s j a ss out d (f (ordered-grown cur s j a ss d)))
       (λ cur ts out b f d. merge-apart cur ts d.0 (each-both (λ t. Below cmp cur.last t.first) (IsOrdered cmp) (λ t. Below cmp cur.last t.first × IsOrdered cmp t) ts (λ t u i. (u, i)) b d.1) out (f d.1))

@@ -14,12 +14,11 @@ use Rattle.merkle_diff.specs.Iterable.{Gives, Begins}
 use Rattle.merkle_diff.specs.PageRange.{entry, entries}
 use Rattle.merkle_diff.specs.Turn.{may_answer, head_may_answer, HeadsMayAnswer}
 use Rattle.merkle_diff.specs.Difference.{IsByWalk, MayAnswer}
+use Rattle.key_order.proofs.Bools.{one_of}
 use Rattle.key_order.proofs.Orders.{either, low_up, low_is_up}
+use Rattle.merkle_diff.proofs.Merges.{none-merged}
 use Rattle.merkle_diff.proofs.Queues.{front_of, Drains-from}
-use Rattle.merkle_diff.proofs.OrderTests.{both, or-left, or-right, or-either, not_upto, to_within, within_self, within_by}
-
-none-merged : {K : Type 0} (cmp : K → K → Ordering) → IsMerge cmp [] []
-none-merged cmp = record { starts = record { ascends = tt; sound = tt; complete = tt }; ends = record { ascends = tt; sound = tt; complete = tt } }
+use Rattle.merkle_diff.proofs.OrderTests.{both, or-left, or-right, not_upto, to_within, within_self, within_by}
 
 module _ {K : Type 0} (cmp : K → K → Ordering) (o : IsTotalOrder cmp) where
   nothing : (a b : Entry K PageDigest) (ls ps : List (Entry K PageDigest)) → IsOrdered cmp (span_of b) → may_answer cmp (span_of a) (span_of b) ≡ false → Walk cmp (span_of b) None (b ∷ ps) (a ∷ ls) [] ps (a ∷ ls)
@@ -48,7 +47,7 @@ module _ {K : Type 0} (cmp : K → K → Ordering) (o : IsTotalOrder cmp) where
       go false e = subst (λ m. Walk cmp (span_of b) None (b ∷ ps) (a ∷ ls) m ps (a ∷ ls)) (gone e (either cmp o b.first a.first)) (between (within_self cmp o (span_of b)) f e)
 
   pub may-be : (a b : Entry K PageDigest) → may_answer cmp (span_of a) (span_of b) ≡ true → MayAnswer cmp a b
-  may-be a b h = go (or-either (is_within cmp (span_of a) (span_of b)) (below cmp b.first a.first && below cmp b.last a.last) h)
+  may-be a b h = go (one_of (is_within cmp (span_of a) (span_of b)) (below cmp b.first a.first && below cmp b.last a.last) h)
     where
       go : (is_within cmp (span_of a) (span_of b) ≡ true) ⊎ (below cmp b.first a.first && below cmp b.last a.last ≡ true) → MayAnswer cmp a b
       go (inl x) = inr (within_by cmp o (span_of a) (span_of b) x)

@@ -57,47 +57,39 @@ module _ {I J K : Type 0} {o e p : _} (cmp : K → K → Ordering) (steps : I �
         ),
       )
 
-  enters : (l l1 l2 : Lookahead I (PageRange K o e p)) (p0 p1 p2 : Lookahead J (PageRange K o e p)) (R : Span K) (from : K) (Did : List (Mark K) → Type 0) (x f : PageRange K o e p) (d : PageDigest) (agree : Bool)
-      → Some x ≡ p0.head → IfSome p0.head (λ _. peer_steps p0.rest p1.head p1.rest)
-      → Some f ≡ l.head → IfSome l.head (λ _. steps l.rest l1.head l1.rest)
-      → is_within cmp (span_of (entry x)) R ≡ true → is_within cmp (span_of (entry f)) (span_of (entry x)) ≡ true
-      → Agree agree d x.hash
-      → Leads steps l1 l2 (λ ks ls. (ls ≡ after_holders cmp (span_of (entry x)) ks) × (d ≡ last_digest cmp (span_of (entry x)) f.hash ks))
-      → Leads peer_steps p1 p2 (λ qs ps. ps ≡ (if agree then after_within cmp (span_of (entry x)) qs else qs))
-      → Did ((if agree then Good (span_of (entry x)) else Bad (span_of (entry x))) ∷ [])
-      → LeadsBoth steps peer_steps l p0 l2 p2 (Enters cmp R from (span_of (entry x)) Did)
-  enters l l1 l2 p0 p1 p2 R from Did x f d agree hx sx hf sf h k a ll lp did ls ps hl hp =
-      let s = span_of (entry x) in
-      let rl = ll ls hl in
-      let rp = lp ps hp in (
-        f ∷ rl.0,
-        x ∷ rp.0,
-        Leaves-cons steps l l1 f rl.0 hf sf rl.1,
-        Leaves-cons peer_steps p0 p1 x rp.0 hx sx rp.1,
-        λ last g. (
-          (if agree then Good s else Bad s),
-          did,
-          λ below ms P2 L2 r. goes_into cmp below R last (entry x) (entry f) (entries rp.0) (entries rl.0) P2 L2 ms agree h k
-              (subst (λ q. Agree agree q x.hash) (rl.2.1 ∙ last_digest-is cmp s (entry f) (entries rl.0)) a)
-              (subst (λ z. Rest cmp (R ∷ below) s None z (after_holders cmp s (entries rl.0)) ms P2 L2) rp.2
-              (subst (λ z. Rest cmp (R ∷ below) s None (entries ps) z ms P2 L2) rl.2.0 r)),
-        ),
-      )
+  module _ (l l1 l2 : Lookahead I (PageRange K o e p)) (p0 p1 p2 : Lookahead J (PageRange K o e p)) (R : Span K) (from : K) (Did : List (Mark K) → Type 0) (x f : PageRange K o e p) (d : PageDigest) (agree : Bool) where
+    -- where local's next range is within s and the queues have come behind the fronts of s, the walk goes into s
+    abbrev GoesInto : Span K → Type 0
+    GoesInto s = is_within cmp (span_of (entry f)) s ≡ true
+        → Agree agree d x.hash
+        → Leads steps l1 l2 (λ ks ls. (ls ≡ after_holders cmp s ks) × (d ≡ last_digest cmp s f.hash ks))
+        → Leads peer_steps p1 p2 (λ qs ps. ps ≡ (if agree then after_within cmp s qs else qs))
+        → Did ((if agree then Good s else Bad s) ∷ [])
+        → LeadsBoth steps peer_steps l p0 l2 p2 (Enters cmp R from s Did)
 
-  pub enters-met : (l l1 l2 : Lookahead I (PageRange K o e p)) (p0 p1 p2 : Lookahead J (PageRange K o e p)) (R : Span K) (from : K) (Did : List (Mark K) → Type 0) (x f : PageRange K o e p) (d : PageDigest) (agree : Bool) (s : Span K)
-      → span_of (entry x) ≡ s
-      → Some x ≡ p0.head → IfSome p0.head (λ _. peer_steps p0.rest p1.head p1.rest)
-      → Some f ≡ l.head → IfSome l.head (λ _. steps l.rest l1.head l1.rest)
-      → is_within cmp (span_of (entry x)) R ≡ true → is_within cmp (span_of (entry f)) s ≡ true
-      → Agree agree d x.hash
-      → Leads steps l1 l2 (λ ks ls. (ls ≡ after_holders cmp s ks) × (d ≡ last_digest cmp s f.hash ks))
-      → Leads peer_steps p1 p2 (λ qs ps. ps ≡ (if agree then after_within cmp s qs else qs))
-      → Did ((if agree then Good s else Bad s) ∷ [])
-      → LeadsBoth steps peer_steps l p0 l2 p2 (Enters cmp R from s Did)
-  enters-met l l1 l2 p0 p1 p2 R from Did x f d agree s e hx sx hf sf h =
-      subst (λ s. is_within cmp (span_of (entry f)) s ≡ true
-      → Agree agree d x.hash
-      → Leads steps l1 l2 (λ ks ls. (ls ≡ after_holders cmp s ks) × (d ≡ last_digest cmp s f.hash ks))
-      → Leads peer_steps p1 p2 (λ qs ps. ps ≡ (if agree then after_within cmp s qs else qs))
-      → Did ((if agree then Good s else Bad s) ∷ [])
-      → LeadsBoth steps peer_steps l p0 l2 p2 (Enters cmp R from s Did)) e (enters l l1 l2 p0 p1 p2 R from Did x f d agree hx sx hf sf h)
+    enters : Some x ≡ p0.head → IfSome p0.head (λ _. peer_steps p0.rest p1.head p1.rest)
+        → Some f ≡ l.head → IfSome l.head (λ _. steps l.rest l1.head l1.rest)
+        → is_within cmp (span_of (entry x)) R ≡ true → GoesInto (span_of (entry x))
+    enters hx sx hf sf h k a ll lp did ls ps hl hp =
+        let s = span_of (entry x) in
+        let rl = ll ls hl in
+        let rp = lp ps hp in (
+          f ∷ rl.0,
+          x ∷ rp.0,
+          Leaves-cons steps l l1 f rl.0 hf sf rl.1,
+          Leaves-cons peer_steps p0 p1 x rp.0 hx sx rp.1,
+          λ last g. (
+            (if agree then Good s else Bad s),
+            did,
+            λ below ms P2 L2 r. goes_into cmp below R last (entry x) (entry f) (entries rp.0) (entries rl.0) P2 L2 ms agree h k
+                (subst (λ q. Agree agree q x.hash) (rl.2.1 ∙ last_digest-is cmp s (entry f) (entries rl.0)) a)
+                (subst (λ z. Rest cmp (R ∷ below) s None z (after_holders cmp s (entries rl.0)) ms P2 L2) rp.2
+                (subst (λ z. Rest cmp (R ∷ below) s None (entries ps) z ms P2 L2) rl.2.0 r)),
+          ),
+        )
+
+    pub enters-met : (s : Span K) → span_of (entry x) ≡ s
+        → Some x ≡ p0.head → IfSome p0.head (λ _. peer_steps p0.rest p1.head p1.rest)
+        → Some f ≡ l.head → IfSome l.head (λ _. steps l.rest l1.head l1.rest)
+        → is_within cmp (span_of (entry x)) R ≡ true → GoesInto s
+    enters-met s e hx sx hf sf h = subst GoesInto e (enters hx sx hf sf h)

@@ -38,6 +38,15 @@ module _ {K : Type 0} (cmp : K → K → Ordering) (o : IsTotalOrder cmp) where
   begins : (R p : Span K) → IsWithin cmp p R → IsOrdered cmp p → BeginsIn R (Some p)
   begins R p h k = up_up cmp o R.first p.first p.last h.0 k
 
+-- what holds of each entry holds of those behind the front
+pub each-after : {K D : Type 0} (cmp : K → K → Ordering) (P : Entry K D → Type 0) (s : Span K) (es : List (Entry K D)) → AllByRecursion P es → AllByRecursion P (after_within cmp s es)
+each-after cmp P s [] h = tt
+each-after cmp P s (x ∷ es) h = go (is_within cmp (span_of x) s) (each-after cmp P s es h.1)
+  where
+    go : (t : Bool) → AllByRecursion P (after_within cmp s es) → AllByRecursion P (if t then after_within cmp s es else (x ∷ es))
+    go true k = k
+    go false k = h
+
 module _ {K D : Type 0} (cmp : K → K → Ordering) (o : IsTotalOrder cmp) where
   abbrev pub AllOrdered : List (Entry K D) → Type 0
   AllOrdered = AllByRecursion (λ e. IsOrdered cmp (span_of e))
@@ -49,14 +58,6 @@ module _ {K D : Type 0} (cmp : K → K → Ordering) (o : IsTotalOrder cmp) wher
       go : (t : Bool) → upto cmp p.last l.first ≡ t → Upto cmp (if t then p.last else l.first) p.last
       go true e = up_self cmp o p.last
       go false e = low_is_up cmp o l.first p.last (by_above cmp o p.last l.first e)
-
-  ordered_after : (p : Span K) (P : List (Entry K D)) → AllOrdered P → AllOrdered (after_within cmp p P)
-  ordered_after p [] h = tt
-  ordered_after p (x ∷ P) h = go (is_within cmp (span_of x) p) (ordered_after p P h.1)
-    where
-      go : (t : Bool) → AllOrdered (after_within cmp p P) → AllOrdered (if t then after_within cmp p P else (x ∷ P))
-      go true k = k
-      go false k = h
 
   front_marks : (p : Span K) (P : List (Entry K D)) → MarksWithin cmp o p (bad_marks cmp (front_within cmp p P))
   front_marks p [] = tt
@@ -78,12 +79,12 @@ module _ {K D : Type 0} (cmp : K → K → Ordering) (o : IsTotalOrder cmp) wher
   walk_marks {R} {last} (no_local {p = p} h) b d = (gap_within cmp o R (gap_start R last) (gap_end cmp p []) b (within_by cmp o (span_of p) R h).1, d.1)
   walk_marks {R} {last} (between {p = p} {l = l} {L = L} h i j) b d = (gap_within cmp o R (gap_start R last) (gap_end cmp p (l ∷ L)) b (up_up cmp o (gap_end cmp p (l ∷ L)) p.last R.last (gap_ends p (l ∷ L)) (within_by cmp o (span_of p) R h).1), d.1)
   walk_marks {R} (agrees {p = p} {P = P} {P' = P'} {inner = inner} {after = after} h i j w v) b d =
-      let n = walk_marks w (up_self cmp o p.first) (ordered_after (span_of p) P d.1) in
+      let n = walk_marks w (up_self cmp o p.first) (each-after cmp (λ e. IsOrdered cmp (span_of e)) (span_of p) P d.1) in
       let r = within_by cmp o (span_of p) R h in
-      let a = walk_marks v (begins cmp o R (span_of p) r d.0) (ordered_after (span_of p) P' n.1) in
+      let a = walk_marks v (begins cmp o R (span_of p) r d.0) (each-after cmp (λ e. IsOrdered cmp (span_of e)) (span_of p) P' n.1) in
       ((r, joined R (span_of p) P' inner after r n.0 a.0), a.1)
   walk_marks {R} (differs {p = p} {P' = P'} {inner = inner} {after = after} h i j w v) b d =
       let n = walk_marks w (up_self cmp o p.first) d.1 in
       let r = within_by cmp o (span_of p) R h in
-      let a = walk_marks v (begins cmp o R (span_of p) r d.0) (ordered_after (span_of p) P' n.1) in
+      let a = walk_marks v (begins cmp o R (span_of p) r d.0) (each-after cmp (λ e. IsOrdered cmp (span_of e)) (span_of p) P' n.1) in
       ((r, joined R (span_of p) P' inner after r n.0 a.0), a.1)

@@ -6,7 +6,7 @@ use Rattle.merkle_diff.proofs.Queues.{some_at}
 use Rattle.merkle_diff.specs.DiffRange.{span}
 use Rattle.merkle_diff.specs.PageRange.{entry}
 use Rattle.merkle_diff.specs.Walk.{after_within}
-use Rattle.merkle_diff.proofs.Leads.{head-item, Leads-more, Leads-end, after-in, after-stops}
+use Rattle.merkle_diff.proofs.Leads.{head-item, Leads-more, Leads-end, within-more, within-stops}
 use Rattle.merkle_diff.proofs.walk.drop_within.Goals as goal
 
 pub front-preserved : goal.front-preserved
@@ -19,7 +19,7 @@ front-preserved g c =
       goes = c.take_head-taken.ensures.goes;
       no_more = omega arith;
       leads = Leads-more g.I.Iterator.next_gives c.args.queue.now c.front.queue c.take_head-taken.new.queue (λ qs ps. after_within cmp s ps ≡ after_within cmp s qs) (λ qs ps. after_within cmp s ps ≡ after_within cmp s qs) t.0 t.1 c.take_head-taken.ensures.steps
-          (λ qs ps h. sym (after-in cmp s (entry t.0) ps t.2) ∙ h) c.front.invariant.leads;
+          (λ qs ps h. sym (within-more cmp s (entry t.0) ps t.2).0 ∙ h) c.front.invariant.leads;
     }
 
 pub returns-clause-leads : goal.returns-clause-leads
@@ -27,4 +27,4 @@ returns-clause-leads g c =
     let s = span c.args.outer in
     let cmp = g.K.Ord.cmp in
     Leads-end g.I.Iterator.next_gives c.args.queue.now c.front.queue (λ qs ps. after_within cmp s ps ≡ after_within cmp s qs) (λ qs ps. ps ≡ after_within cmp s qs) (λ r. is_within cmp (span_of (entry r)) s) (sym c.head_is_within.ensures ∙ c.front-test.false)
-    (λ qs ps h r. sym (after-stops cmp s ps h) ∙ r) c.front.invariant.leads
+    (λ qs ps h r. sym (within-stops cmp s ps h).0 ∙ r) c.front.invariant.leads

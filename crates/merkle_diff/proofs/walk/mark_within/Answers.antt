@@ -7,7 +7,7 @@ use Rattle.merkle_diff.specs.Turn.{head_is, Marked}
 use Rattle.merkle_diff.specs.Lookahead.{left_of}
 use Rattle.merkle_diff.specs.Walk.{after_within, front_within, bad_marks}
 use Rattle.merkle_diff.proofs.Queues.{some_at}
-use Rattle.merkle_diff.proofs.Leads.{Leads-more, Leads-end, Marking, mark-more, mark-end, added, after-stops, front-stops}
+use Rattle.merkle_diff.proofs.Leads.{Leads-more, Leads-end, Marking, mark-more, mark-end, added, within-stops}
 use Rattle.merkle_diff.proofs.walk.mark_within.Goals as goal
 
 pub front-preserved : goal.front-preserved
@@ -42,4 +42,4 @@ returns-clause-leads g c =
     Leads-end g.I.Iterator.next_gives c.args.queue.now c.front.queue
     (Marking cmp s B0 G0 B G) (λ qs ps. (ps ≡ after_within cmp s qs) × Marked c.args.marks.now (bad_marks cmp (front_within cmp s qs)) c.front.marks)
     (λ r. is_within cmp (span_of (entry r)) s) (sym c.head_is_within.ensures ∙ c.front-test.false)
-    (λ qs ps h r. mark-end cmp s B0 G0 B G qs (entries ps) (after-stops cmp s ps h) (front-stops cmp s ps h) r) c.front.invariant.leads
+    (λ qs ps h r. mark-end cmp s B0 G0 B G qs (entries ps) (within-stops cmp s ps h).0 (within-stops cmp s ps h).1 r) c.front.invariant.leads

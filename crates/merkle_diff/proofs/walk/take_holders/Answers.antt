@@ -5,7 +5,7 @@ use Rattle.merkle_diff.specs.DiffRange.{span}
 use Rattle.merkle_diff.specs.PageRange.{entry}
 use Rattle.merkle_diff.specs.Turn.{head_is, last_digest}
 use Rattle.merkle_diff.specs.Walk.{after_holders}
-use Rattle.merkle_diff.proofs.Leads.{Leads-more, Leads-end, holders-in, holder-in, holders-stop, holder-stops}
+use Rattle.merkle_diff.proofs.Leads.{Leads-more, Leads-end, holders-more, holders-stop}
 use Rattle.merkle_diff.proofs.walk.take_holders.Goals as goal
 
 pub front-preserved : goal.front-preserved
@@ -20,7 +20,7 @@ front-preserved g c =
           (λ ks ls. (after_holders cmp s ls ≡ after_holders cmp s ks) × (last_digest cmp s c.front.last ls ≡ last_digest cmp s c.args.first ks))
           (λ ks ls. (after_holders cmp s ls ≡ after_holders cmp s ks) × (last_digest cmp s c.into_hash-last.result ls ≡ last_digest cmp s c.args.first ks))
           x (sym c.in-Some.ensures.head) c.in-Some.ensures.steps
-          (λ ks ls h. (sym (holders-in cmp s (entry x) ls t) ∙ h.0, ap (λ d. last_digest cmp s d ls) c.into_hash-last.ensures ∙ (sym (holder-in cmp s c.front.last (entry x) ls t) ∙ h.1))) c.front.invariant.leads;
+          (λ ks ls h. (sym (holders-more cmp s c.front.last (entry x) ls t).0 ∙ h.0, ap (λ d. last_digest cmp s d ls) c.into_hash-last.ensures ∙ (sym (holders-more cmp s c.front.last (entry x) ls t).1 ∙ h.1))) c.front.invariant.leads;
     }
 
 pub returns-after-front-clause-leads : goal.returns-after-front-clause-leads
@@ -31,4 +31,4 @@ returns-after-front-clause-leads g c =
     (λ ks ls. (after_holders cmp s ls ≡ after_holders cmp s ks) × (last_digest cmp s c.front.last ls ≡ last_digest cmp s c.args.first ks))
     (λ ks ls. (ls ≡ after_holders cmp s ks) × (c.front.last ≡ last_digest cmp s c.args.first ks))
     (λ r. is_within cmp s (span_of (entry r))) (sym c.head_holds.ensures ∙ c.front-test.false)
-    (λ ks ls h r. (sym (holders-stop cmp s ls h) ∙ r.0, sym (holder-stops cmp s c.front.last ls h) ∙ r.1)) c.front.invariant.leads
+    (λ ks ls h r. (sym (holders-stop cmp s c.front.last ls h).0 ∙ r.0, sym (holders-stop cmp s c.front.last ls h).1 ∙ r.1)) c.front.invariant.leads
