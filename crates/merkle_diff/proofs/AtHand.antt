@@ -7,10 +7,9 @@ use Rattle.std.specs.Iterator.{Drains, Yields, YieldsFirstBy}
 use Rattle.std.specs.declared.cmp.Ordering.{Ordering}
 use Rattle.std.specs.declared.vec.IntoIter.{IntoIter}
 use Rattle.key_order.specs.Interval.{Span}
-use Rattle.key_order.specs.Order.{Upto, Below}
-use Rattle.key_order.proofs.Orders.{either, low_is_up, same_up, same_down}
-use Rattle.merkle_diff.specs.Difference.{IsAnswer, IsByFirsts, IsByTable, MayAnswer, MayAsk}
+use Rattle.merkle_diff.specs.Difference.{IsAnswer, IsByTable, MayAnswer, MayAsk}
 use Rattle.merkle_diff.specs.Entry.{Entry}
+use Rattle.merkle_diff.proofs.NoAnswer.{may-or_none}
 use Rattle.merkle_diff.proofs.Snapshots.{drained}
 
 module _ {I X B : Type 0} (view : X → B) (starts : I → Type 0) (steps : I → Option X → I → Type 0) where
@@ -40,21 +39,14 @@ module _ {K D : Type 0} (cmp : K → K → Ordering) where
   may_ask ls ps b bs e (inr (a, rest, f, m)) = subst (MayAsk cmp ls) (sym e) (subst (λ xs. MayAsk cmp xs (b ∷ bs)) (sym f) m)
 
   module _ (o : IsTotalOrder cmp) where
-    none-by_firsts : (a b : Entry K D) (ls ps : List (Entry K D)) (found : List (Span K)) → IsByFirsts cmp a b ls ps found → ¬ (MayAnswer cmp a b) → found ≡ []
-    none-by_firsts a b ls ps found t n = starts (either cmp o a.first b.first) (either cmp o b.first a.first) (either cmp o a.last b.last) (either cmp o b.last a.last)
-      where
-        starts : Upto cmp a.first b.first ⊎ Below cmp b.first a.first → Upto cmp b.first a.first ⊎ Below cmp a.first b.first → Upto cmp a.last b.last ⊎ Below cmp b.last a.last → Upto cmp b.last a.last ⊎ Below cmp a.last b.last → found ≡ []
-        starts (inr l) s (inr m) e = absurd (n (inl (l, m)))
-        starts (inr l) s (inl m) e = absurd (n (inr (low_is_up cmp o b.first a.first l, m)))
-        starts (inl l) (inl s) (inl m) e = absurd (n (inr (s, m)))
-        starts (inl l) (inr s) m (inr e) = t.behind s e
-        starts (inl l) (inr s) m (inl e) = t.within (l, e) (λ same. n (inr (same_down cmp o a.first b.first same.0, same_up cmp o a.last b.last same.1)))
-        starts (inl l) (inl s) (inr m) e = t.within (l, low_is_up cmp o b.last a.last m) (λ same. n (inr (s, same_up cmp o a.last b.last same.1)))
-
     none-by_table : (ls ps : List (Entry K D)) (found : List (Span K)) → IsByTable cmp ls ps found → ¬ (MayAsk cmp ls ps) → found ≡ []
     none-by_table ls [] found t n = t
     none-by_table [] (b ∷ ps) found t n = absurd (n tt)
-    none-by_table (a ∷ ls) (b ∷ ps) found t n = none-by_firsts a b (a ∷ ls) (b ∷ ps) found t n
+    none-by_table (a ∷ ls) (b ∷ ps) found t n = go (may-or_none cmp o a b (a ∷ ls) (b ∷ ps) found t)
+      where
+        go : MayAnswer cmp a b ⊎ (found ≡ []) → found ≡ []
+        go (inl m) = absurd (n m)
+        go (inr e) = e
 
     -- what `diff` promises of what two iterables gave, said of the two lists
     pub answers : {A E I J X : Type 0} (spans : A → List (Span K)) (view : X → Entry K D) (local : I → Type 0) (local_steps : I → Option X → I → Type 0) (peer : J → Type 0) (peer_steps : J → Option X → J → Type 0) (ls ps : List (Entry K D)) (r : Result A E)

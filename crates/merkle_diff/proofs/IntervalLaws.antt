@@ -1,20 +1,21 @@
 -- The laws of the answer on any two lists.
-use Rattle.std.proofs.Common.{◌≡◌, Bool, true, false, List, [], ◌∷◌, ◌++◌, Option, None, refl, sym, ◌∙◌, ap, subst, if◌then◌else◌, ◌⊎◌, inl, inr}
+use Rattle.std.proofs.Common.{◌≡◌, Bool, true, false, List, [], ◌∷◌, ◌++◌, None, refl, sym, ◌∙◌, ap, subst, if◌then◌else◌, ◌⊎◌, inl, inr}
 use Rattle.std.specs.Cmp.{IsTotalOrder}
 use Rattle.std.specs.List.{AllByRecursion}
 use Rattle.std.specs.declared.cmp.Ordering.{Ordering}
-use Rattle.key_order.specs.Interval.{Span, IsOrdered, IsIn, IsCovered, IsWithin, is_within}
+use Rattle.key_order.specs.Interval.{Span, IsOrdered, IsIn, IsCovered, IsWithin}
 use Rattle.merkle_diff.specs.Entry.{Entry, span_of}
 use Rattle.key_order.specs.Order.{Upto, Below, Same, upto, AnyByRecursion}
 use Rattle.merkle_diff.specs.Merge.{IsMerge, SameSpans}
 use Rattle.merkle_diff.specs.Cut.{IsExactCut, IsCut, pieces_left}
-use Rattle.merkle_diff.specs.Walk.{Walk, Mark, outside, held, no_local, between, agrees, differs, bad_of, good_of, gap_mark, gap_start, gap_end}
+use Rattle.merkle_diff.specs.Walk.{Walk, Mark, bad_of, good_of, gap_mark, gap_end}
 use Rattle.merkle_diff.specs.Walk.Mark.{Bad, Good}
 use Rattle.merkle_diff.specs.Difference.{lesser, IsAgreed, IsByTable, HasDigestOf, IsBoundOfEntry, IsDifference, IsByWalk}
 use Rattle.key_order.proofs.Orders.{up_up, low_up, low_is_up, not_both, either, up_self, same_from}
 use Rattle.merkle_diff.proofs.Unique.{same-back, apart-same, ordered-same}
 use Rattle.merkle_diff.proofs.Merged.{merge-to, merge-from, merge-is_ordered, merge-of_apart}
 use Rattle.merkle_diff.proofs.Cuts.{Bounds, bound-same, cut-out, cut-ordered, left-bounds, merge-bounds, own-bounds}
+use Rattle.merkle_diff.proofs.Beginnings.{inv-nil, inv-between, inv-held, inv-into}
 use Rattle.merkle_diff.proofs.OnePass.{left-none}
 use Rattle.merkle_diff.proofs.Walks.{span_marked, walk_marks}
 use Rattle.merkle_diff.proofs.EachMark.{walk-each, each-bad, each-good}
@@ -78,37 +79,6 @@ module _ {K : Type 0} (cmp : K → K → Ordering) (o : IsTotalOrder cmp) where
       go false = h
 
 module _ {K D : Type 0} (cmp : K → K → Ordering) (o : IsTotalOrder cmp) where
-  -- ---- what a walk begins with
-
-  inv-nil : {R : Span K} {last : Option (Span K)} {p : Entry K D} {P P' L' : List (Entry K D)} {ms : List (Mark K)} → Walk cmp R last (p ∷ P) [] ms P' L'
-      → is_within cmp (span_of p) R ≡ true → ms ≡ gap_mark cmp (gap_start R last) p.last
-  inv-nil (outside h) k = let e = sym h ∙ k in cc
-  inv-nil (no_local h) k = refl
-
-  inv-between : {R : Span K} {last : Option (Span K)} {p l : Entry K D} {P L P' L' : List (Entry K D)} {ms : List (Mark K)} → Walk cmp R last (p ∷ P) (l ∷ L) ms P' L'
-      → is_within cmp (span_of p) R ≡ true → is_within cmp (span_of l) (span_of p) ≡ false → is_within cmp (span_of p) (span_of l) ≡ false → ms ≡ gap_mark cmp (gap_start R last) (gap_end cmp p (l ∷ L))
-  inv-between (outside h) k f g = let e = sym h ∙ k in cc
-  inv-between (held h i j) k f g = let e = sym j ∙ g in cc
-  inv-between (between h i j) k f g = refl
-  inv-between (agrees h i j w v) k f g = let e = sym i ∙ f in cc
-  inv-between (differs h i j w v) k f g = let e = sym i ∙ f in cc
-
-  inv-held : {R : Span K} {last : Option (Span K)} {p l : Entry K D} {P L P' L' : List (Entry K D)} {ms : List (Mark K)} → Walk cmp R last (p ∷ P) (l ∷ L) ms P' L'
-      → is_within cmp (span_of p) R ≡ true → is_within cmp (span_of l) (span_of p) ≡ false → is_within cmp (span_of p) (span_of l) ≡ true → ms ≡ []
-  inv-held (outside h) k f g = refl
-  inv-held (held h i j) k f g = refl
-  inv-held (between h i j) k f g = let e = sym j ∙ g in cc
-  inv-held (agrees h i j w v) k f g = let e = sym i ∙ f in cc
-  inv-held (differs h i j w v) k f g = let e = sym i ∙ f in cc
-
-  inv-met : {R : Span K} {last : Option (Span K)} {p l : Entry K D} {P L P' L' : List (Entry K D)} {ms : List (Mark K)} → Walk cmp R last (p ∷ P) (l ∷ L) ms P' L'
-      → is_within cmp (span_of p) R ≡ true → is_within cmp (span_of l) (span_of p) ≡ true → ((more : List (Mark K)) × (ms ≡ Good (span_of p) ∷ more)) ⊎ ((more : List (Mark K)) × (ms ≡ Bad (span_of p) ∷ more))
-  inv-met (outside h) k f = let e = sym h ∙ k in cc
-  inv-met (held h i j) k f = let e = sym i ∙ f in cc
-  inv-met (between h i j) k f = let e = sym i ∙ f in cc
-  inv-met (agrees h i j w v) k f = inl (_, refl)
-  inv-met (differs h i j w v) k f = inr (_, refl)
-
   -- ---- the marks' bounds
 
   abbrev Known : List (Entry K D) → Mark K → Type 0
@@ -193,14 +163,14 @@ module _ {K D : Type 0} (cmp : K → K → Ordering) (o : IsTotalOrder cmp) wher
         (λ s f e. ((found-in s.first (f s.first (up_self cmp o s.first, e))).0, (found-in s.last (f s.last (e, up_self cmp o s.last))).1)) (each-in cmp o found) found-ordered
 
     -- where the peer's first span was marked bad or agrees
-    covered : (k : K) → IsIn cmp k (span_of b) → ((more : List (Mark K)) × (ms ≡ Good (span_of b) ∷ more)) ⊎ ((more : List (Mark K)) × (ms ≡ Bad (span_of b) ∷ more)) → IsCovered cmp k found ⊎ IsAgreed cmp ls (b ∷ ps) k
-    covered k i (inl e) = inr (agreed-key ls (b ∷ ps) k (span_of b) i (subst (AllByRecursion (MarkAgreed ls (b ∷ ps))) e.1 (marks-agreed ls b ps P' L' ms w)).0)
-    covered k i (inr e) = go (decide-in cmp o k good)
+    covered : (k : K) → IsIn cmp k (span_of b) → (agree : Bool) (more : List (Mark K)) → ms ≡ (if agree then Good (span_of b) else Bad (span_of b)) ∷ more → IsCovered cmp k found ⊎ IsAgreed cmp ls (b ∷ ps) k
+    covered k i true more e = inr (agreed-key ls (b ∷ ps) k (span_of b) i (subst (AllByRecursion (MarkAgreed ls (b ∷ ps))) e (marks-agreed ls b ps P' L' ms w)).0)
+    covered k i false more e = go (decide-in cmp o k good)
       where
         go : IsCovered cmp k good ⊎ ¬ (IsCovered cmp k good) → IsCovered cmp k found ⊎ IsAgreed cmp ls (b ∷ ps) k
         go (inl h) = inr (any-get (AgreedSpan ls (b ∷ ps)) (IsIn cmp k) (IsAgreed cmp ls (b ∷ ps) k) (good_of ms) (λ g a j. agreed-key ls (b ∷ ps) k g j a)
             (each-good (AgreedSpan ls (b ∷ ps)) (MarkAgreed ls (b ∷ ps)) ms (λ s x. x) (marks-agreed ls b ps P' L' ms w)) (merge-from cmp o k (good_of ms) good good-ordered mg h))
-        go (inr n) = inl (law.covers k (merge-to cmp o k (bad_of ms) bad bad-ordered mb (subst (λ x. IsCovered cmp k (bad_of x)) (sym e.1) (inl i))) n)
+        go (inr n) = inl (law.covers k (merge-to cmp o k (bad_of ms) bad bad-ordered mb (subst (λ x. IsCovered cmp k (bad_of x)) (sym e) (inl i))) n)
 
     one-mark : (s : Span K) → IsOrdered cmp s → ms ≡ Bad s ∷ [] → SameSpans cmp found (s ∷ [])
     one-mark s e h = one-found cmp o s bad good found e (subst (λ x. IsMerge cmp (bad_of x) bad) h mb) (subst (λ x. IsMerge cmp (good_of x) good) h mg) c
@@ -210,20 +180,20 @@ module _ {K D : Type 0} (cmp : K → K → Ordering) (o : IsTotalOrder cmp) wher
 
   pub by-table : (ls : List (Entry K D)) (b : Entry K D) (ps : List (Entry K D)) (found : List (Span K)) → AllByRecursion (λ e. IsOrdered cmp (span_of e)) (b ∷ ps) → IsByWalk cmp ls (b ∷ ps) found → IsByTable cmp ls (b ∷ ps) found
   by-table [] b ps found d (ms, P', L', bad, good, w, mb, mg, c) =
-      one-mark [] b ps found d ms P' L' bad good w mb mg c (span_of b) d.0 (inv-nil w (within_self cmp o (span_of b)) ∙ rw (to_upto cmp o b.first b.last d.0) refl)
+      one-mark [] b ps found d ms P' L' bad good w mb mg c (span_of b) d.0 ((inv-nil cmp w (within_self cmp o (span_of b))).0 ∙ rw (to_upto cmp o b.first b.last d.0) refl)
   by-table (a ∷ ls) b ps found d (ms, P', L', bad, good, w, mb, mg, c) = record {
     before = λ h k. let s : Span K = record { first = b.first; last = gap_end cmp b (a ∷ ls) } in
         let u : Upto cmp b.first (gap_end cmp b (a ∷ ls)) = lesser-above cmp o b.first a.first b.last (low_is_up cmp o b.first a.first h) d.0 in
         spans-trans cmp o found (s ∷ []) (record { first = b.first; last = lesser cmp a.first b.last } ∷ [])
         (one-mark (a ∷ ls) b ps found d ms P' L' bad good w mb mg c s u
-        (inv-between w (within_self cmp o (span_of b)) (not_within cmp o (span_of a) (span_of b) (λ v. not_both cmp o a.last b.last v.1 k)) (not_within cmp o (span_of b) (span_of a) (λ v. not_both cmp o a.first b.first v.0 h)) ∙ marked s.last u))
+        ((inv-between cmp w (within_self cmp o (span_of b)) (not_within cmp o (span_of a) (span_of b) (λ v. not_both cmp o a.last b.last v.1 k)) (not_within cmp o (span_of b) (span_of a) (λ v. not_both cmp o a.first b.first v.0 h))).0 ∙ marked s.last u))
         ((same-self cmp o b.first, lesser-same cmp o b.last a.first), tt);
     behind = λ h k. no-mark (a ∷ ls) b ps found d ms P' L' bad good w mb mg c
-        (inv-between w (within_self cmp o (span_of b)) (not_within cmp o (span_of a) (span_of b) (λ v. not_both cmp o b.first a.first v.0 h)) (not_within cmp o (span_of b) (span_of a) (λ v. not_both cmp o b.last a.last v.1 k))
+        ((inv-between cmp w (within_self cmp o (span_of b)) (not_within cmp o (span_of a) (span_of b) (λ v. not_both cmp o b.first a.first v.0 h)) (not_within cmp o (span_of b) (span_of a) (λ v. not_both cmp o b.last a.last v.1 k))).0
         ∙ (ap (λ e. gap_mark cmp b.first e) (ends h) ∙ unmarked h));
     within = λ v n. no-mark (a ∷ ls) b ps found d ms P' L' bad good w mb mg c
-        (inv-held w (within_self cmp o (span_of b)) (not_within cmp o (span_of a) (span_of b) (λ i. n (same_from cmp o a.first b.first v.0 i.0, same_from cmp o a.last b.last i.1 v.1))) (to_within cmp o (span_of b) (span_of a) v));
-    holds = λ v k i. covered (a ∷ ls) b ps found d ms P' L' bad good w mb mg c k i (inv-met w (within_self cmp o (span_of b)) (to_within cmp o (span_of a) (span_of b) v));
+        (inv-held cmp w (within_self cmp o (span_of b)) (not_within cmp o (span_of a) (span_of b) (λ i. n (same_from cmp o a.first b.first v.0 i.0, same_from cmp o a.last b.last i.1 v.1))) (to_within cmp o (span_of b) (span_of a) v)).0;
+    holds = λ v k i. let x = inv-into cmp w (within_self cmp o (span_of b)) (to_within cmp o (span_of a) (span_of b) v) in covered (a ∷ ls) b ps found d ms P' L' bad good w mb mg c k i x.0 _ x.8;
   }
     where
       marked : (e : K) → Upto cmp b.first e → gap_mark cmp b.first e ≡ Bad (record { first = b.first; last = e }) ∷ []

@@ -13,6 +13,7 @@ pub mod Touching
 pub mod Walks
 pub mod EachMark
 pub mod Stacks
+pub mod Beginnings
 pub mod Leads
 pub mod Turns
 pub mod Loops

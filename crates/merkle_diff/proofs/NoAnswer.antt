@@ -13,9 +13,9 @@ use Rattle.merkle_diff.specs.Walk.{Walk, held, between, gap_mark, gap_end}
 use Rattle.merkle_diff.specs.Iterable.{Gives, Begins}
 use Rattle.merkle_diff.specs.PageRange.{entry, entries}
 use Rattle.merkle_diff.specs.Turn.{may_answer, head_may_answer, HeadsMayAnswer}
-use Rattle.merkle_diff.specs.Difference.{IsByWalk, MayAnswer}
+use Rattle.merkle_diff.specs.Difference.{IsByFirsts, IsByWalk, MayAnswer}
 use Rattle.key_order.proofs.Bools.{one_of}
-use Rattle.key_order.proofs.Orders.{either, low_up, low_is_up}
+use Rattle.key_order.proofs.Orders.{either, low_up, low_is_up, not_both, same_up, same_down}
 use Rattle.merkle_diff.proofs.Merges.{none-merged}
 use Rattle.merkle_diff.proofs.Queues.{front_of, Drains-from}
 use Rattle.merkle_diff.proofs.OrderTests.{both, or-left, or-right, not_upto, to_within, within_self, within_by}
@@ -52,6 +52,19 @@ module _ {K : Type 0} (cmp : K → K → Ordering) (o : IsTotalOrder cmp) where
       go : (is_within cmp (span_of a) (span_of b) ≡ true) ⊎ (below cmp b.first a.first && below cmp b.last a.last ≡ true) → MayAnswer cmp a b
       go (inl x) = inr (within_by cmp o (span_of a) (span_of b) x)
       go (inr x) = inl (both (below cmp b.first a.first) (below cmp b.last a.last) x)
+
+-- a range may be answered, or none is
+module _ {K D : Type 0} (cmp : K → K → Ordering) (o : IsTotalOrder cmp) where
+  pub may-or_none : (a b : Entry K D) (ls ps : List (Entry K D)) (found : List (Span K)) → IsByFirsts cmp a b ls ps found → MayAnswer cmp a b ⊎ (found ≡ [])
+  may-or_none a b ls ps found t = go (either cmp o a.first b.first) (either cmp o b.first a.first) (either cmp o a.last b.last) (either cmp o b.last a.last)
+    where
+      go : Upto cmp a.first b.first ⊎ Below cmp b.first a.first → Upto cmp b.first a.first ⊎ Below cmp a.first b.first → Upto cmp a.last b.last ⊎ Below cmp b.last a.last → Upto cmp b.last a.last ⊎ Below cmp a.last b.last → MayAnswer cmp a b ⊎ (found ≡ [])
+      go (inr l) s (inr m) e = inl (inl (l, m))
+      go (inr l) s (inl m) e = inl (inr (low_is_up cmp o b.first a.first l, m))
+      go (inl l) (inl s) (inl m) e = inl (inr (s, m))
+      go (inl l) (inl s) (inr m) e = inr (t.within (l, low_is_up cmp o b.last a.last m) (λ same. not_both cmp o a.last b.last (same_up cmp o a.last b.last same.1) m))
+      go (inl l) (inr s) m (inl e) = inr (t.within (l, e) (λ same. not_both cmp o b.first a.first (same_down cmp o a.first b.first same.0) s))
+      go (inl l) (inr s) m (inr e) = inr (t.behind s e)
 
 pub nothing-by_walk : {K : Type 0} {o e p : _} (cmp : K → K → Ordering) (t : IsTotalOrder cmp) (ls ps : List (PageRange K o e p)) (head : Option (PageRange K o e p)) (first : PageRange K o e p) (s : Span K) (found : List (Span K))
     → ((r : PageRange K o e p) → IsOrdered cmp (span_of (entry r))) → Some first ≡ front_of ps → head ≡ front_of ls → s ≡ span_of (entry first) → head_may_answer cmp head s ≡ false → found ≡ [] → IsByWalk cmp (entries ls) (entries ps) found

@@ -1,5 +1,5 @@
 -- The walk has one answer: two answers on the same lists have the same spans.
-use Rattle.std.proofs.Common.{◌≡◌, Bool, true, false, if◌then◌else◌, List, [], ◌∷◌, ◌++◌, map, Option, Some, refl, sym, ◌∙◌, subst, inl, inr}
+use Rattle.std.proofs.Common.{◌≡◌, Bool, true, false, if◌then◌else◌, List, [], ◌∷◌, ◌++◌, map, Option, Some, None, refl, ◌∙◌, subst, inl, inr}
 use Rattle.std.proofs.lemmas.List.Concat.{flat_map-cons}
 use Rattle.std.specs.Cmp.{IsTotalOrder, alike_right}
 use Rattle.std.specs.List.{AllByRecursion, flat_map}
@@ -11,55 +11,35 @@ use Rattle.merkle_diff.specs.Cut.{piece, cut_one, pieces_left}
 use Rattle.merkle_diff.specs.Difference.{IsByWalk}
 use Rattle.merkle_diff.specs.Entry.{Entry, span_of}
 use Rattle.merkle_diff.specs.Merge.{AreThose, IsMerge, SameSpans}
+use Rattle.merkle_diff.proofs.Beginnings.{inv-empty, inv-outside, inv-nil, inv-held, inv-between, inv-into, agree-by, differ-by}
 use Rattle.merkle_diff.proofs.Each.{any-map, each-with}
 use Rattle.merkle_diff.proofs.Edges.{Edge, bound, Across, Free, across-same, across-within}
 use Rattle.merkle_diff.proofs.Edges.Edge.{Start, End}
 use Rattle.merkle_diff.proofs.OrderTests.{same_trans, same_back}
 use Rattle.merkle_diff.proofs.Unique.{SameKeys, merge-unique, same-back, each-same}
-use Rattle.merkle_diff.specs.Walk.{Walk, no_peer, outside, held, no_local, between, agrees, differs, Mark, Bad, Good, bad_of, good_of, bad_marks, front_within, after_within}
-
-never : {b : Bool} → b ≡ false → b ≡ true → ⊥
-never e f = let g : true ≡ false = sym f ∙ e in absurd (cc)
+use Rattle.merkle_diff.specs.Walk.{Walk, no_peer, outside, held, no_local, between, agrees, differs, Mark, Bad, Good, bad_of, good_of, bad_marks, front_within, after_within, after_holders}
 
 module _ {K D : Type 0} (cmp : K → K → Ordering) where
   -- a walk of a span over the same lists makes the same marks
   same_walk : {R : Span K} {last : Option (Span K)} {P L P1 L1 P2 L2 : List (Entry K D)} {ms ns : List (Mark K)} → Walk cmp R last P L ms P1 L1 → Walk cmp R last P L ns P2 L2
-      → (ms ≡ ns) × (P1 ≡ P2) × (L1 ≡ L2)
-  same_walk no_peer no_peer = (refl, refl, refl)
-  same_walk (outside e1) (outside e2) = (refl, refl, refl)
-  same_walk (outside e1) (held e2 f2 h2) = absurd (never e1 e2)
-  same_walk (outside e1) (no_local e2) = absurd (never e1 e2)
-  same_walk (outside e1) (between e2 f2 h2) = absurd (never e1 e2)
-  same_walk (outside e1) (agrees e2 f2 h2 w2 v2) = absurd (never e1 e2)
-  same_walk (outside e1) (differs e2 f2 h2 w2 v2) = absurd (never e1 e2)
-  same_walk (held e1 f1 h1) (outside e2) = absurd (never e2 e1)
-  same_walk (held e1 f1 h1) (held e2 f2 h2) = (refl, refl, refl)
-  same_walk (held e1 f1 h1) (between e2 f2 h2) = absurd (never h2 h1)
-  same_walk (held e1 f1 h1) (agrees e2 f2 h2 w2 v2) = absurd (never f1 f2)
-  same_walk (held e1 f1 h1) (differs e2 f2 h2 w2 v2) = absurd (never f1 f2)
-  same_walk (no_local e1) (outside e2) = absurd (never e2 e1)
-  same_walk (no_local e1) (no_local e2) = (refl, refl, refl)
-  same_walk (between e1 f1 h1) (outside e2) = absurd (never e2 e1)
-  same_walk (between e1 f1 h1) (held e2 f2 h2) = absurd (never h1 h2)
-  same_walk (between e1 f1 h1) (between e2 f2 h2) = (refl, refl, refl)
-  same_walk (between e1 f1 h1) (agrees e2 f2 h2 w2 v2) = absurd (never f1 f2)
-  same_walk (between e1 f1 h1) (differs e2 f2 h2 w2 v2) = absurd (never f1 f2)
-  same_walk (agrees e1 f1 h1 w1 v1) (outside e2) = absurd (never e2 e1)
-  same_walk (agrees e1 f1 h1 w1 v1) (held e2 f2 h2) = absurd (never f2 f1)
-  same_walk (agrees e1 f1 h1 w1 v1) (between e2 f2 h2) = absurd (never f2 f1)
-  same_walk {R = R} (agrees {p = p} {P' = P'} {L' = L'} {inner = inner} e1 f1 h1 w1 v1) (agrees {P' = Q} {P'' = P2} {L'' = L2} {after = after} e2 f2 h2 w2 v2) =
-      let i = same_walk w1 w2 in
-      let j = same_walk v1 (subst (λ (q : List (Entry K D)). Walk cmp R (Some (span_of p)) (after_within cmp (span_of p) q) L' after P2 L2) (sym i.1) (subst (λ (q : List (Entry K D)). Walk cmp R (Some (span_of p)) (after_within cmp (span_of p) Q) q after P2 L2) (sym i.2) v2)) in
-      (λ k. Good (span_of p) ∷ (i.0 k ++ (bad_marks cmp (front_within cmp (span_of p) (i.1 k)) ++ j.0 k)), j.1, j.2)
-  same_walk (agrees e1 f1 h1 w1 v1) (differs e2 f2 h2 w2 v2) = absurd (h2 h1)
-  same_walk (differs e1 f1 h1 w1 v1) (outside e2) = absurd (never e2 e1)
-  same_walk (differs e1 f1 h1 w1 v1) (held e2 f2 h2) = absurd (never f2 f1)
-  same_walk (differs e1 f1 h1 w1 v1) (between e2 f2 h2) = absurd (never f2 f1)
-  same_walk (differs e1 f1 h1 w1 v1) (agrees e2 f2 h2 w2 v2) = absurd (h1 h2)
-  same_walk {R = R} (differs {p = p} {P' = P'} {L' = L'} {inner = inner} e1 f1 h1 w1 v1) (differs {P' = Q} {P'' = P2} {L'' = L2} {after = after} e2 f2 h2 w2 v2) =
-      let i = same_walk w1 w2 in
-      let j = same_walk v1 (subst (λ (q : List (Entry K D)). Walk cmp R (Some (span_of p)) (after_within cmp (span_of p) q) L' after P2 L2) (sym i.1) (subst (λ (q : List (Entry K D)). Walk cmp R (Some (span_of p)) (after_within cmp (span_of p) Q) q after P2 L2) (sym i.2) v2)) in
-      (λ k. Bad (span_of p) ∷ (i.0 k ++ (bad_marks cmp (front_within cmp (span_of p) (i.1 k)) ++ j.0 k)), j.1, j.2)
+      → (ns ≡ ms) × (P2 ≡ P1) × (L2 ≡ L1)
+  same_walk no_peer u = inv-empty cmp u
+  same_walk (outside h) u = inv-outside cmp u h
+  same_walk (held h i j) u = inv-held cmp u h i j
+  same_walk (no_local h) u = inv-nil cmp u h
+  same_walk (between h i j) u = inv-between cmp u h i j
+  same_walk {R = R} {P2 = P2} {L2 = L2} (agrees {p = p} {P = P} {L = L} {L' = L'} h i j w v) u =
+      let x = inv-into cmp u h i in
+      let t = agree-by x.0 x.5 j in
+      let m = same_walk w (subst (λ b. Walk cmp (span_of p) None (if b then after_within cmp (span_of p) P else P) (after_holders cmp (span_of p) L) x.1 x.3 x.4) t x.6) in
+      let n = same_walk v (subst (λ q. Walk cmp R (Some (span_of p)) (after_within cmp (span_of p) q) L' x.2 P2 L2) m.1 (subst (λ q. Walk cmp R (Some (span_of p)) (after_within cmp (span_of p) x.3) q x.2 P2 L2) m.2 x.7)) in
+      (x.8 ∙ (λ k. (if t k then Good (span_of p) else Bad (span_of p)) ∷ (m.0 k ++ (bad_marks cmp (front_within cmp (span_of p) (m.1 k)) ++ n.0 k))), n.1, n.2)
+  same_walk {R = R} {P2 = P2} {L2 = L2} (differs {p = p} {P = P} {L = L} {L' = L'} h i j w v) u =
+      let x = inv-into cmp u h i in
+      let t = differ-by x.0 x.5 j in
+      let m = same_walk w (subst (λ b. Walk cmp (span_of p) None (if b then after_within cmp (span_of p) P else P) (after_holders cmp (span_of p) L) x.1 x.3 x.4) t x.6) in
+      let n = same_walk v (subst (λ q. Walk cmp R (Some (span_of p)) (after_within cmp (span_of p) q) L' x.2 P2 L2) m.1 (subst (λ q. Walk cmp R (Some (span_of p)) (after_within cmp (span_of p) x.3) q x.2 P2 L2) m.2 x.7)) in
+      (x.8 ∙ (λ k. (if t k then Good (span_of p) else Bad (span_of p)) ∷ (m.0 k ++ (bad_marks cmp (front_within cmp (span_of p) (m.1 k)) ++ n.0 k))), n.1, n.2)
 
 module _ {K : Type 0} (cmp : K → K → Ordering) (o : IsTotalOrder cmp) where
   cmp-same : (a b c d : K) → Same cmp a b → Same cmp c d → cmp a c ≡ cmp b d
@@ -155,6 +135,6 @@ module _ {K D : Type 0} (cmp : K → K → Ordering) (o : IsTotalOrder cmp) wher
   one_answer ls [] xs ys e f = rw (e, f) tt
   one_answer ls (p ∷ ps) xs ys (ms, P, L, bad, good, w, m, n, c) (ns, P', L', poor, fine, w', m', n', c') =
       let same = same_walk cmp w w' in
-      let bads = merge-unique cmp o (bad_of ms) bad poor m (subst (λ (q : List (Mark K)). IsMerge cmp (bad_of q) poor) (sym same.0) m') in
-      let goods = merge-unique cmp o (good_of ms) good fine n (subst (λ (q : List (Mark K)). IsMerge cmp (good_of q) fine) (sym same.0) n') in
+      let bads = merge-unique cmp o (bad_of ms) bad poor m (subst (λ (q : List (Mark K)). IsMerge cmp (bad_of q) poor) same.0 m') in
+      let goods = merge-unique cmp o (good_of ms) good fine n (subst (λ (q : List (Mark K)). IsMerge cmp (good_of q) fine) same.0 n') in
       merge-unique cmp o (pieces_left cmp poor fine) xs ys (merge-same cmp o (pieces_left cmp bad good) (pieces_left cmp poor fine) xs (left-same cmp o good fine goods bad poor bads) c) c'

@@ -9,20 +9,17 @@ use Rattle.key_order.specs.Order.{Upto, Below, upto, AnyByRecursion}
 use Rattle.merkle_diff.specs.Merge.{IsMerge}
 use Rattle.merkle_diff.specs.Cut.{IsExactCut}
 use Rattle.merkle_diff.specs.TreeShape.{IsTreeShaped, HoldsNoneBefore, leading_from}
-use Rattle.merkle_diff.specs.Walk.{Walk, Mark, no_peer, outside, held, no_local, between, agrees, differs, bad_of, good_of, front_within, after_within, last_holder, after_holders, bad_marks}
+use Rattle.merkle_diff.specs.Walk.{Walk, Mark, bad_of, good_of, front_within, after_within, last_holder, after_holders, bad_marks}
 use Rattle.merkle_diff.specs.Walk.Mark.{Bad, Good}
-use Rattle.merkle_diff.specs.Difference.{lesser, IsByTable, SparesAgreed, IsByWalk}
-use Rattle.key_order.proofs.Orders.{up_up, up_low, low_up, low_is_up, not_both, either, up_self, same_up, same_down}
+use Rattle.merkle_diff.specs.Difference.{lesser, IsByTable, MayAnswer, SparesAgreed, IsByWalk}
+use Rattle.key_order.proofs.Orders.{up_up, up_low, low_up, low_is_up, not_both, up_self, same_up, same_down}
 use Rattle.merkle_diff.proofs.Unique.{in-same}
 use Rattle.merkle_diff.proofs.Merged.{merge-holds}
-use Rattle.merkle_diff.proofs.Stacks.{Agree}
+use Rattle.merkle_diff.proofs.Beginnings.{Into, inv-into, inv-outside, inv-empty, agree-by}
+use Rattle.merkle_diff.proofs.NoAnswer.{may-or_none}
 use Rattle.merkle_diff.proofs.IntervalLaws.{no-found, by-table, law, good-ordered}
 use Rattle.merkle_diff.proofs.Each.{each-with, any-get, any-left, any-right, each-all}
 use Rattle.merkle_diff.proofs.OrderTests.{both, not-or, by_above, to_meets, to_within, not_within, within_self, same_by}
-
-agree-by : {D : Type 0} {d e : D} (agree : Bool) → Agree agree d e → d ≡ e → agree ≡ true
-agree-by true h f = refl
-agree-by false h f = absurd (h f)
 
 module _ {K : Type 0} (cmp : K → K → Ordering) (o : IsTotalOrder cmp) where
   in-good : (g : Span K) (ms : List (Mark K)) → AnyByRecursion (λ m. m ≡ Good g) ms → AnyByRecursion (IsWithin cmp g) (good_of ms)
@@ -41,47 +38,13 @@ module _ {K : Type 0} (cmp : K → K → Ordering) (o : IsTotalOrder cmp) where
 
 module _ {K D : Type 0} (cmp : K → K → Ordering) (o : IsTotalOrder cmp) where
   -- no later entry holds b, where a is within b
-  no-holders : (a b : Entry K D) (L : List (Entry K D)) → EntryWithin cmp a b → AllByRecursion (λ x. ¬ (EntryWithin cmp a x)) L → after_holders cmp (span_of b) L ≡ L
-  no-holders a b [] v n = refl
-  no-holders a b (x ∷ L) v n = rw (not_within cmp o (span_of b) (span_of x) (λ w. n.0 (up_up cmp o x.first b.first a.first w.0 v.0, up_up cmp o a.last b.last x.last v.1 w.1))) refl
-
-  no-holder : (a b : Entry K D) (L : List (Entry K D)) → EntryWithin cmp a b → AllByRecursion (λ x. ¬ (EntryWithin cmp a x)) L → last_holder cmp (span_of b) a L ≡ a
-  no-holder a b [] v n = refl
-  no-holder a b (x ∷ L) v n = rw (not_within cmp o (span_of b) (span_of x) (λ w. n.0 (up_up cmp o x.first b.first a.first w.0 v.0, up_up cmp o a.last b.last x.last v.1 w.1))) refl
+  no-holders : (a b : Entry K D) (L : List (Entry K D)) → EntryWithin cmp a b → AllByRecursion (λ x. ¬ (EntryWithin cmp a x)) L → (after_holders cmp (span_of b) L ≡ L) × (last_holder cmp (span_of b) a L ≡ a)
+  no-holders a b [] v n = (refl, refl)
+  no-holders a b (x ∷ L) v n = rw (not_within cmp o (span_of b) (span_of x) (λ w. n.0 (up_up cmp o x.first b.first a.first w.0 v.0, up_up cmp o a.last b.last x.last v.1 w.1))) (refl, refl)
 
   all-after : (s : Span K) (P : List (Entry K D)) → AllByRecursion (λ x. IsWithin cmp (span_of x) s) P → after_within cmp s P ≡ []
   all-after s [] h = refl
   all-after s (x ∷ P) h = rw (to_within cmp o (span_of x) s h.0) (all-after s P h.1)
-
-  -- ---- inversions
-
-  abbrev Into : Span K → Entry K D → Entry K D → List (Entry K D) → List (Entry K D) → List (Entry K D) → List (Entry K D) → List (Mark K) → Type 0
-  Into R p l P L P' L' ms =
-      (agree : Bool) × (inner : List (Mark K)) × (after : List (Mark K)) × (P1 : List (Entry K D)) × (L1 : List (Entry K D))
-      × Agree agree (last_holder cmp (span_of p) l L).digest p.digest
-      × Walk cmp (span_of p) None (if agree then after_within cmp (span_of p) P else P) (after_holders cmp (span_of p) L) inner P1 L1
-      × Walk cmp R (Some (span_of p)) (after_within cmp (span_of p) P1) L1 after P' L'
-      × (ms ≡ (if agree then Good (span_of p) else Bad (span_of p)) ∷ (inner ++ (bad_marks cmp (front_within cmp (span_of p) P1) ++ after)))
-
-  inv-into : {R : Span K} {last : Option (Span K)} {p l : Entry K D} {P L P' L' : List (Entry K D)} {ms : List (Mark K)} → Walk cmp R last (p ∷ P) (l ∷ L) ms P' L'
-      → is_within cmp (span_of p) R ≡ true → is_within cmp (span_of l) (span_of p) ≡ true → Into R p l P L P' L' ms
-  inv-into (outside h) k f = let e = sym h ∙ k in cc
-  inv-into (held h i j) k f = let e = sym i ∙ f in cc
-  inv-into (between h i j) k f = let e = sym i ∙ f in cc
-  inv-into (agrees {P' = P1} {L' = L1} {inner = inner} {after = after} h i j w v) k f = (true, inner, after, P1, L1, j, w, v, refl)
-  inv-into (differs {P' = P1} {L' = L1} {inner = inner} {after = after} h i j w v) k f = (false, inner, after, P1, L1, j, w, v, refl)
-
-  inv-outside : {R : Span K} {last : Option (Span K)} {p : Entry K D} {P L P' L' : List (Entry K D)} {ms : List (Mark K)} → Walk cmp R last (p ∷ P) L ms P' L'
-      → is_within cmp (span_of p) R ≡ false → (ms ≡ []) × (P' ≡ p ∷ P) × (L' ≡ L)
-  inv-outside (outside h) f = (refl, refl, refl)
-  inv-outside (held h i j) f = let e = sym h ∙ f in cc
-  inv-outside (no_local h) f = let e = sym h ∙ f in cc
-  inv-outside (between h i j) f = let e = sym h ∙ f in cc
-  inv-outside (agrees h i j w v) f = let e = sym h ∙ f in cc
-  inv-outside (differs h i j w v) f = let e = sym h ∙ f in cc
-
-  inv-empty : {R : Span K} {last : Option (Span K)} {L P' L' : List (Entry K D)} {ms : List (Mark K)} → Walk cmp R last [] L ms P' L' → (ms ≡ []) × (P' ≡ [])
-  inv-empty no_peer = (refl, refl)
 
   -- ---- the leading run
 
@@ -124,7 +87,7 @@ module _ {K D : Type 0} (cmp : K → K → Ordering) (o : IsTotalOrder cmp) wher
 
       next : is_within cmp (span_of b2) (span_of b) ≡ false → Walk cmp R (Some (span_of b)) (b2 ∷ P) (a2 ∷ L) after P' L'
       next f =
-          let i = inv-outside (subst (λ z. Walk cmp (span_of b) None z (a2 ∷ L) inner P1 L1) (stays f agree) w) f in
+          let i = inv-outside cmp (subst (λ z. Walk cmp (span_of b) None z (a2 ∷ L) inner P1 L1) (stays f agree) w) f in
           subst (λ z. Walk cmp R (Some (span_of b)) (b2 ∷ P) z after P' L') i.2
           (subst (λ z. Walk cmp R (Some (span_of b)) z L1 after P' L') (ap (after_within cmp (span_of b)) i.1 ∙ stays f true) v)
 
@@ -145,10 +108,10 @@ module _ {K D : Type 0} (cmp : K → K → Ordering) (o : IsTotalOrder cmp) wher
           → AllByRecursion (Spared ms) ((a, b) ∷ leading_from cmp (span_of a ∷ seen) L P)
       here e rec =
           let v : EntryWithin cmp a b = (same_down cmp o a.first b.first e.0, same_up cmp o a.last b.last e.1) in
-          let x = inv-into w (to_within cmp o (span_of b) R i.0) (to_within cmp o (span_of a) (span_of b) v) in
+          let x = inv-into cmp w (to_within cmp o (span_of b) R i.0) (to_within cmp o (span_of a) (span_of b) v) in
           let h = no-holders a b L v n.0 in
-          let t = tail seen R a b L P P' L' x.0 x.1 x.2 x.3 x.4 e d.1 (subst (λ z. Walk cmp (span_of b) None (if x.0 then after_within cmp (span_of b) P else P) z x.1 x.3 x.4) h x.6) x.7 (rec x.2) in (
-            (λ g. subst (AnyByRecursion (λ m. m ≡ Good (span_of b))) (sym x.8) (inl (good x.0 (agree-by x.0 x.5 (ap (λ z. z.digest) (no-holder a b L v n.0) ∙ g))))),
+          let t = tail seen R a b L P P' L' x.0 x.1 x.2 x.3 x.4 e d.1 (subst (λ z. Walk cmp (span_of b) None (if x.0 then after_within cmp (span_of b) P else P) z x.1 x.3 x.4) h.0 x.6) x.7 (rec x.2) in (
+            (λ g. subst (AnyByRecursion (λ m. m ≡ Good (span_of b))) (sym x.8) (inl (good x.0 (agree-by x.0 x.5 (ap (λ z. z.digest) h.1 ∙ g))))),
             each-with (Spared x.2) (Spared ms) (leading_from cmp (span_of a ∷ seen) L P)
                 (λ pr f g. subst (AnyByRecursion (λ m. m ≡ Good (span_of pr.1))) (sym x.8) (inr (any-right (λ m. m ≡ Good (span_of pr.1)) x.1 (bad_marks cmp (front_within cmp (span_of b) x.3) ++ x.2) (any-right (λ m. m ≡ Good (span_of pr.1)) (bad_marks cmp (front_within cmp (span_of b) x.3)) x.2 (f g))))) t,
           )
@@ -187,19 +150,19 @@ module _ {K D : Type 0} (cmp : K → K → Ordering) (o : IsTotalOrder cmp) wher
       (ms : List (Mark K)) (P' L' : List (Entry K D)) (bad good : List (Span K))
       (w : Walk cmp (span_of b) None (b ∷ ps) (a ∷ ls) ms P' L') (mb : IsMerge cmp (bad_of ms) bad) (mg : IsMerge cmp (good_of ms) good) (c : IsExactCut cmp bad good found) where
     -- where the first digests agree, nothing is answered
-    all-agree : (x : Into (span_of b) b a ps ls P' L' ms) → x.0 ≡ true → found ≡ []
+    all-agree : (x : Into cmp (span_of b) b a ps ls P' L' ms) → x.0 ≡ true → found ≡ []
     all-agree (false, inner, after, P1, L1, j, v, u, e) t = cc
     all-agree (true, inner, after, P1, L1, j, v, u, e) t =
-        let i = inv-empty (subst (λ z. Walk cmp (span_of b) None z (after_holders cmp (span_of b) ls) inner P1 L1) (all-after (span_of b) ps tp.0) v) in
-        let k = inv-empty (subst (λ z. Walk cmp (span_of b) (Some (span_of b)) (after_within cmp (span_of b) z) L1 after P' L') i.1 u) in
+        let i = inv-empty cmp (subst (λ z. Walk cmp (span_of b) None z (after_holders cmp (span_of b) ls) inner P1 L1) (all-after (span_of b) ps tp.0) v) in
+        let k = inv-empty cmp (subst (λ z. Walk cmp (span_of b) (Some (span_of b)) (after_within cmp (span_of b) z) L1 after P' L') i.1 u) in
         let m : ms ≡ Good (span_of b) ∷ [] = e ∙ (ap (λ z. Good (span_of b) ∷ (z ++ (bad_marks cmp (front_within cmp (span_of b) P1) ++ after))) i.0 ∙ (ap (λ z. Good (span_of b) ∷ (bad_marks cmp (front_within cmp (span_of b) z) ++ after)) i.1 ∙ ap (λ z. Good (span_of b) ∷ z) k.0)) in
         no-found cmp o bad good found (subst (λ z. IsMerge cmp (bad_of z) bad) m mb) c
 
-    met-spared : EntryWithin cmp a b → Into (span_of b) b a ps ls P' L' ms → AllByRecursion (SparedKeys found) (leading_from cmp [] ls ps)
+    met-spared : EntryWithin cmp a b → Into cmp (span_of b) b a ps ls P' L' ms → AllByRecursion (SparedKeys found) (leading_from cmp [] ls ps)
     met-spared v (true, inner, after, P1, L1, j, x, u, e) = none-spared found (leading_from cmp [] ls ps) (all-agree (true, inner, after, P1, L1, j, x, u, e) refl)
     met-spared v (false, inner, after, P1, L1, j, x, u, e) =
         each-with (Spared inner) (SparedKeys found) (leading_from cmp [] ls ps) one
-        (lead [] ls ps (subst (λ z. Walk cmp (span_of b) None ps z inner P1 L1) (no-holders a b ls v tl.1.0) x) d.1 tp.0 tl.1.1)
+        (lead [] ls ps (subst (λ z. Walk cmp (span_of b) None ps z inner P1 L1) (no-holders a b ls v tl.1.0).0 x) d.1 tp.0 tl.1.1)
       where
         one : (pr : Entry K D × Entry K D) → Spared inner pr → SparedKeys found pr
         one pr f g k i h =
@@ -224,30 +187,18 @@ module _ {K D : Type 0} (cmp : K → K → Ordering) (o : IsTotalOrder cmp) wher
         no pr v k i (inr h) = h
 
     all-spared : AllByRecursion (SparedKeys found) (leading_from cmp [] ls ps)
-    all-spared = go (either cmp o b.first a.first) (either cmp o a.last b.last)
+    all-spared = go (may-or_none cmp o a b (a ∷ ls) (b ∷ ps) found table)
       where
-        empty : found ≡ [] → AllByRecursion (SparedKeys found) (leading_from cmp [] ls ps)
-        empty e = none-spared found (leading_from cmp [] ls ps) e
-
-        ends : Below cmp a.first b.first → Upto cmp b.last a.last ⊎ Below cmp a.last b.last → AllByRecursion (SparedKeys found) (leading_from cmp [] ls ps)
-        ends x (inl y) = empty (table.within (low_is_up cmp o a.first b.first x, y) (λ s. not_both cmp o b.first a.first (same_down cmp o a.first b.first s.0) x))
-        ends x (inr y) = empty (table.behind x y)
-
-        starts : Below cmp b.last a.last → Upto cmp a.first b.first ⊎ Below cmp b.first a.first → AllByRecursion (SparedKeys found) (leading_from cmp [] ls ps)
-        starts x (inl y) = empty (table.within (y, low_is_up cmp o b.last a.last x) (λ s. not_both cmp o a.last b.last (same_up cmp o a.last b.last s.1) x))
-        starts x (inr y) = front-spared y x
-
-        go : Upto cmp b.first a.first ⊎ Below cmp a.first b.first → Upto cmp a.last b.last ⊎ Below cmp b.last a.last → AllByRecursion (SparedKeys found) (leading_from cmp [] ls ps)
-        go (inl x) (inl y) = met-spared (x, y) (inv-into w (within_self cmp o (span_of b)) (to_within cmp o (span_of a) (span_of b) (x, y)))
-        go (inr x) (inl y) = ends x (either cmp o b.last a.last)
-        go (inl x) (inr y) = starts y (either cmp o a.first b.first)
-        go (inr x) (inr y) = empty (table.within (low_is_up cmp o a.first b.first x, low_is_up cmp o b.last a.last y) (λ s. not_both cmp o b.first a.first (same_down cmp o a.first b.first s.0) x))
+        go : MayAnswer cmp a b ⊎ (found ≡ []) → AllByRecursion (SparedKeys found) (leading_from cmp [] ls ps)
+        go (inl (inl x)) = front-spared x.0 x.1
+        go (inl (inr v)) = met-spared v (inv-into cmp w (within_self cmp o (span_of b)) (to_within cmp o (span_of a) (span_of b) v))
+        go (inr e) = none-spared found (leading_from cmp [] ls ps) e
 
     firsts-agree : SameSpan cmp (span_of a) (span_of b) → a.digest ≡ b.digest → found ≡ []
     firsts-agree s g =
         let v : EntryWithin cmp a b = (same_down cmp o a.first b.first s.0, same_up cmp o a.last b.last s.1) in
-        let x = inv-into w (within_self cmp o (span_of b)) (to_within cmp o (span_of a) (span_of b) v) in
-        all-agree x (agree-by x.0 x.5 (ap (λ z. z.digest) (no-holder a b ls v tl.1.0) ∙ g))
+        let x = inv-into cmp w (within_self cmp o (span_of b)) (to_within cmp o (span_of a) (span_of b) v) in
+        all-agree x (agree-by x.0 x.5 (ap (λ z. z.digest) (no-holders a b ls v tl.1.0).1 ∙ g))
 
   -- on tree-shaped lists what agrees is spared
   pub spares : (ls ps : List (Entry K D)) (found : List (Span K)) → AllOrdered ps → IsTreeShaped cmp ls → IsTreeShaped cmp ps → IsByWalk cmp ls ps found → SparesAgreed cmp ls ps found
