@@ -2,22 +2,22 @@
 use Rattle.std.proofs.Common.{◌≡◌, refl, Bool, true, false, ℕ, ◌+◌, ◌-◌, ◌<◌, ◌≤◌, ◌^◌, List, [], ◌∷◌, ◌++◌, length, get_or, subst, drop, sym, ap, ◌∙◌, arith}
 use Rattle.std.specs.List.{AllByRecursion, flat_map}
 use Rattle.std.proofs.lemmas.List.{append_assoc, length-append, drop_at}
-use Rattle.mst_c.specs.Spots.{AreEntries, IsList, Parts, digest_len, mark_of, parts_bytes}
+use Rattle.mst_c.specs.Spots.{AreEntries, IsList, EntryParts, digest_len, mark_of, parts_bytes}
 use Rattle.mst_c.specs.Wire.{list_bytes, number_bytes, row_bytes}
 use Rattle.mst_c.proofs.Lists.{list_length, same_body}
 use Rattle.mst_c.proofs.Strings.{one_row_with, same_parts, some_row}
 
 -- an entry as its keys, and its digest with what is behind
-pub parts_flat : (e : Parts) (rest : List ℕ) → parts_bytes e ++ rest ≡ row_bytes e.0 ++ (e.1 ++ rest)
+pub parts_flat : (e : EntryParts) (rest : List ℕ) → parts_bytes e ++ rest ≡ row_bytes e.0 ++ (e.1 ++ rest)
 parts_flat e rest = append_assoc (row_bytes e.0) e.1 rest
 
 -- an entry tells where it ends, and has some bytes
-pub parts_end : (size : ℕ) (e f : Parts) (r s : List ℕ) → length e.1 ≡ size → length f.1 ≡ size → length (parts_bytes e ++ r) < 2 ^ 64 → parts_bytes e ++ r ≡ parts_bytes f ++ s → r ≡ s
+pub parts_end : (size : ℕ) (e f : EntryParts) (r s : List ℕ) → length e.1 ≡ size → length f.1 ≡ size → length (parts_bytes e ++ r) < 2 ^ 64 → parts_bytes e ++ r ≡ parts_bytes f ++ s → r ≡ s
 parts_end size e f r s p q fits is =
     let at = parts_flat e r in
     (one_row_with e.0 f.0 e.1 f.1 r s (p ∙ sym q) (omega (arith, ap length at)) (sym at ∙ is ∙ parts_flat f s)).2
 
-some_parts : (e : Parts) → 1 ≤ length (parts_bytes e)
+some_parts : (e : EntryParts) → 1 ≤ length (parts_bytes e)
 some_parts e = omega (arith, some_row e.0, length-append (row_bytes e.0) e.1)
 
 mark_length : (has_digests : Bool) → length (mark_of has_digests) ≡ 4
@@ -57,9 +57,9 @@ module _ (list : List ℕ) (b : Bool) (m : ℕ) (body : List ℕ) (e : list ≡ 
 
 -- entries that have bytes have a first one
 pub first_parts : (has_digests : Bool) (count : ℕ) (bytes : List ℕ) → AreEntries has_digests count bytes → ¬ (length bytes ≡ 0)
-    → (e : Parts) × (rest : List ℕ) × (length e.1 ≡ digest_len has_digests) × (bytes ≡ parts_bytes e ++ rest)
+    → (e : EntryParts) × (rest : List ℕ) × (length e.1 ≡ digest_len has_digests) × (bytes ≡ parts_bytes e ++ rest)
 first_parts has_digests count bytes are some = first are.0 are.2 are.3
   where
-    first : (es : List Parts) → AllByRecursion (λ e. length e.1 ≡ digest_len has_digests) es → bytes ≡ flat_map parts_bytes es → (e : Parts) × (rest : List ℕ) × (length e.1 ≡ digest_len has_digests) × (bytes ≡ parts_bytes e ++ rest)
+    first : (es : List EntryParts) → AllByRecursion (λ e. length e.1 ≡ digest_len has_digests) es → bytes ≡ flat_map parts_bytes es → (e : EntryParts) × (rest : List ℕ) × (length e.1 ≡ digest_len has_digests) × (bytes ≡ parts_bytes e ++ rest)
     first [] a e = absurd (some (ap length e))
     first (x ∷ xs) a e = (x, flat_map parts_bytes xs, a.0, e)

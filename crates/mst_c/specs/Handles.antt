@@ -4,9 +4,9 @@ use Rattle.mst_c.specs.Trees.{ByteState}
 use Rattle.mst_c.specs.declared.byte_tree.ByteTree.{ByteTree}
 
 -- the handle has a tree, of which this holds
-abbrev pub Holds : Option ByteTree → (ByteState → Type 0) → Type 0
-Holds None P = ⊥
-Holds (Some s) P = P s.tree
+abbrev pub HasTree : Option ByteTree → (ByteState → Type 0) → Type 0
+HasTree None P = ⊥
+HasTree (Some s) P = P s.tree
 
 -- the handle had a tree and has one, and they are related
 abbrev pub Changes : Option ByteTree → Option ByteTree → (ByteState → ByteState → Type 0) → Type 0
@@ -15,8 +15,8 @@ Changes (Some s) None R = ⊥
 Changes (Some s) (Some t) R = R s.tree t.tree
 
 -- bytes of which this holds, as many as needed, are in front of out, and behind them it is as before
-abbrev pub IsWritten : List ℕ → List ℕ → ℕ → (List ℕ → Type 0) → Type 0
-IsWritten old new needed P = (bytes : List ℕ) × P bytes × (needed ≡ length bytes) × (needed ≤ length old) × (new ≡ bytes ++ drop needed old)
+abbrev pub IsOutput : List ℕ → List ℕ → ℕ → (List ℕ → Type 0) → Type 0
+IsOutput old new needed P = (bytes : List ℕ) × P bytes × (needed ≡ length bytes) × (needed ≤ length old) × (new ≡ bytes ++ drop needed old)
 
 -- there are such bytes, as many as needed, and out is shorter
 abbrev pub IsShort : List ℕ → ℕ → (List ℕ → Type 0) → Type 0

@@ -13,16 +13,16 @@ abbrev pub digest_len : Bool → ℕ
 digest_len has_digests = if has_digests then 16 else 0
 
 -- the keys of an entry, and its digest
-abbrev pub Parts : Type 0
-Parts = (List ℕ × List ℕ) × List ℕ
+abbrev pub EntryParts : Type 0
+EntryParts = (List ℕ × List ℕ) × List ℕ
 
 -- the bytes of an entry
-abbrev pub parts_bytes : Parts → List ℕ
+abbrev pub parts_bytes : EntryParts → List ℕ
 parts_bytes e = row_bytes e.0 ++ e.1
 
 -- the bytes are so many entries, each with a digest or none
 abbrev pub AreEntries : Bool → ℕ → List ℕ → Type 0
-AreEntries has_digests count bytes = (es : List Parts) × (length es ≡ count) × AllByRecursion (λ e. length e.1 ≡ digest_len has_digests) es × (bytes ≡ flat_map parts_bytes es)
+AreEntries has_digests count bytes = (es : List EntryParts) × (length es ≡ count) × AllByRecursion (λ e. length e.1 ≡ digest_len has_digests) es × (bytes ≡ flat_map parts_bytes es)
 
 -- the bytes are a list of page ranges or of key ranges, whatever the order of its keys
 abbrev pub IsList : List ℕ → Type 0
@@ -41,7 +41,7 @@ pub record IsEntryAt (list : List ℕ) (old new : ℕ) (spot : MstSpot) : Type 0
   pub marked : list ≡ mark_of has_digests ++ (number_bytes count ++ body)
   pub whole : old ≡ 0 → AreEntries has_digests count body
   pub before : List ℕ
-  pub entry : Parts
+  pub entry : EntryParts
   pub behind : List ℕ
   pub parts : list ≡ before ++ (parts_bytes entry ++ behind)
   pub starts : length before ≡ (if nat_eq old 0 then 12 else old)

@@ -1,7 +1,7 @@
 //! The entries of a list of page ranges or of key ranges, one after the other, where they lie.
 
 ghost use Rattle.std.specs.Prelude.{◌≡◌, ◌≢◌, ◌↔◌, Bool, true, None, ◌<◌, ◌+◌, ◌-◌, ◌^◌, ◌⊎◌, ◌++◌, ℕ, List, IfSome, if◌then◌else◌, length, nat_eq};
-ghost use Rattle.mst_c.specs.Spots.{AreEntries, HasEntryAt, HasFront, IsEntryAt, IsList, Parts, digest_len, mark_of, parts_bytes};
+ghost use Rattle.mst_c.specs.Spots.{AreEntries, HasEntryAt, HasFront, IsEntryAt, IsList, EntryParts, digest_len, mark_of, parts_bytes};
 ghost use Rattle.mst_c.specs.Wire.{number_bytes};
 
 use crate::reading::{body_of, pair_of};
@@ -38,7 +38,7 @@ fn front_of(list: &[u8]) -> Option<(bool, u64, &[u8])>
 /// The first and the last key of the entry at the front, and the bytes behind the entry.
 fn entry_of(has_digests: bool, bytes: &[u8]) -> Option<(&[u8], &[u8], &[u8])>
     ensures entry { IfSome result (λ r. (digest : List ℕ) × (length digest ≡ digest_len has_digests) × (bytes.now ≡ parts_bytes ((r.0.now, r.1.now), digest) ++ r.2.now)) }
-    ensures none { result ≡ None → (e : Parts) (rest : List ℕ) → length e.1 ≡ digest_len has_digests → bytes.now ≢ parts_bytes e ++ rest }
+    ensures none { result ≡ None → (e : EntryParts) (rest : List ℕ) → length e.1 ≡ digest_len has_digests → bytes.now ≢ parts_bytes e ++ rest }
 {
     let (first, last, rest) = pair_of(bytes)?;
     if has_digests {

@@ -4,7 +4,7 @@ ghost use Rattle.merkle_search_tree.specs.Stream.{page_digest};
 ghost use Rattle.merkle_search_tree.specs.Ranges.{ranges_of};
 ghost use Rattle.std.specs.Global.{Vec};
 ghost use Rattle.merkle_diff.specs.Entry.{Entry};
-ghost use Rattle.mst_c.specs.Handles.{Holds, Changes, IsWritten, IsShort};
+ghost use Rattle.mst_c.specs.Handles.{HasTree, Changes, IsOutput, IsShort};
 ghost use Rattle.mst_c.specs.Lists.{ArePageRanges, IsDiffOf};
 ghost use Rattle.mst_c.specs.Trees.{bytes_of, SameRows};
 
@@ -24,7 +24,7 @@ pub extern "C" fn mst_proved_tree_root_hash(
     handle: &mut MstTree,
     digest: &mut MstBytes16,
 ) -> u32
-    ensures digest { result ≡ 0 → Holds handle.old.tree (λ s. digest.new.bytes ≡ page_digest s.format bytes_of s.root) }
+    ensures digest { result ≡ 0 → HasTree handle.old.tree (λ s. digest.new.bytes ≡ page_digest s.format bytes_of s.root) }
     ensures kept { result ≡ 0 → Changes handle.old.tree handle.new.tree SameRows }
     ensures unchanged { result ≢ 0 → handle.new.tree ≡ handle.old.tree }
     ensures refused { result ≢ 0 → digest.new.bytes ≡ digest.old.bytes }
@@ -41,7 +41,7 @@ pub extern "C" fn mst_proved_tree_root_hash(
 }
 
 fn root_hash(handle: MstTree, alloc: Global) -> (MstTree, Option<[u8; 16]>)
-    ensures digest { IfSome result.1 (λ bytes. Holds handle.tree (λ s. bytes ≡ page_digest s.format bytes_of s.root)) }
+    ensures digest { IfSome result.1 (λ bytes. HasTree handle.tree (λ s. bytes ≡ page_digest s.format bytes_of s.root)) }
     ensures kept { IfSome result.1 (λ bytes. Changes handle.tree result.0.tree SameRows) }
     ensures unchanged { result.1 ≡ None → result.0.tree ≡ handle.tree }
     ensures argument { (result.1 ≡ None) ↔ (handle.tree ≡ None) }
@@ -81,8 +81,8 @@ pub extern "C" fn mst_proved_tree_page_ranges(
     out: &mut [u8],
     needed: &mut usize,
 ) -> u32
-    ensures done { result ≡ 0 → Holds handle.new.tree (λ s. IsWritten out.old out.new needed.new (λ bytes. ArePageRanges bytes (ranges_of s.format bytes_of s.root))) }
-    ensures short { result ≡ 3 → Holds handle.new.tree (λ s. IsShort out.old needed.new (λ bytes. ArePageRanges bytes (ranges_of s.format bytes_of s.root))) }
+    ensures done { result ≡ 0 → HasTree handle.new.tree (λ s. IsOutput out.old out.new needed.new (λ bytes. ArePageRanges bytes (ranges_of s.format bytes_of s.root))) }
+    ensures short { result ≡ 3 → HasTree handle.new.tree (λ s. IsShort out.old needed.new (λ bytes. ArePageRanges bytes (ranges_of s.format bytes_of s.root))) }
     ensures kept { result ≢ 4 → Changes handle.old.tree handle.new.tree SameRows }
     ensures no_tree { result ≡ 4 → handle.new.tree ≡ None }
     ensures unchanged { result ≢ 0 → out.new ≡ out.old }
@@ -96,7 +96,7 @@ pub extern "C" fn mst_proved_tree_page_ranges(
 }
 
 fn page_ranges(handle: MstTree, alloc: Global) -> (MstTree, Result<Vec<u8>, u32>)
-    ensures ranges { IfOk result.1 (λ out. Holds result.0.tree (λ s. ArePageRanges out.items (ranges_of s.format bytes_of s.root))) }
+    ensures ranges { IfOk result.1 (λ out. HasTree result.0.tree (λ s. ArePageRanges out.items (ranges_of s.format bytes_of s.root))) }
     ensures kept { handle.tree ≢ None → Changes handle.tree result.0.tree SameRows }
     ensures no_tree { handle.tree ≡ None → result.0.tree ≡ None }
     ensures argument { (result.1 ≡ Err 4) ↔ (handle.tree ≡ None) }
@@ -123,7 +123,7 @@ pub extern "C" fn mst_proved_diff(
     out: &mut [u8],
     needed: &mut usize,
 ) -> u32
-    ensures done { result ≡ 0 → IsWritten out.old out.new needed.new (IsDiffOf local.now peer.now) }
+    ensures done { result ≡ 0 → IsOutput out.old out.new needed.new (IsDiffOf local.now peer.now) }
     ensures short { result ≡ 3 → IsShort out.old needed.new (IsDiffOf local.now peer.now) }
     ensures malformed { result ≡ 2 → (ls ps : List (Entry (Vec ℕ) (List ℕ))) → ArePageRanges local.now ls → ¬ (ArePageRanges peer.now ps) }
     ensures unchanged { result ≢ 0 → out.new ≡ out.old }

@@ -4,7 +4,7 @@ ghost use Rattle.std.specs.Int.NonZero.{non_zero_u8_get};
 ghost use Rattle.merkle_search_tree.specs.State.{IsNew};
 ghost use Rattle.merkle_search_tree.specs.declared.builder.PageFormat.TheVariants.{V1, V2};
 ghost use Rattle.merkle_search_tree.specs.Loading.{row_count};
-ghost use Rattle.mst_c.specs.Handles.{Holds, Changes};
+ghost use Rattle.mst_c.specs.Handles.{HasTree, Changes};
 ghost use Rattle.mst_c.specs.Trees.{IsCopied, rows_of};
 
 use crate::byte_tree::ByteTree;
@@ -27,8 +27,8 @@ pub extern "C" fn mst_proved_tree_new(
     level_base: u8,
     page_format: u8,
 ) -> u32
-    ensures v1 { result ≡ 0 → page_format ≡ 1 → Holds handle.new.tree (IsNew key.now.bytes level_base V1) }
-    ensures v2 { result ≡ 0 → page_format ≡ 2 → Holds handle.new.tree (IsNew key.now.bytes level_base V2) }
+    ensures v1 { result ≡ 0 → page_format ≡ 1 → HasTree handle.new.tree (IsNew key.now.bytes level_base V1) }
+    ensures v2 { result ≡ 0 → page_format ≡ 2 → HasTree handle.new.tree (IsNew key.now.bytes level_base V2) }
     ensures empty { result ≢ 4 → handle.old.tree ≡ None }
     ensures unchanged { result ≢ 0 → handle.new.tree ≡ handle.old.tree }
     ensures base { result ≢ 4 → level_base ≢ 0 }
@@ -64,7 +64,7 @@ pub extern "C" fn mst_proved_tree_new(
 
 /// Gives a handle that has no tree this one.
 fn put(handle: MstTree, asked: (Global, ByteTree)) -> (MstTree, u32)
-    ensures done { result.1 ≡ 0 → Holds result.0.tree (λ s. s ≡ asked.1.tree) }
+    ensures done { result.1 ≡ 0 → HasTree result.0.tree (λ s. s ≡ asked.1.tree) }
     ensures empty { result.1 ≢ 4 → handle.tree ≡ None }
     ensures unchanged { result.1 ≢ 0 → result.0.tree ≡ handle.tree }
     ensures argument { result.1 ≡ 4 → handle.tree ≢ None }
@@ -106,7 +106,7 @@ pub extern "C" fn mst_proved_tree_clone(
 
 /// A copy of the tree of a handle.
 fn copy_of(handle: MstTree, alloc: Global) -> (MstTree, Result<ByteTree, u32>)
-    ensures copied { IfOk result.1 (λ copy. Holds handle.tree (λ s. IsCopied s copy.tree)) }
+    ensures copied { IfOk result.1 (λ copy. HasTree handle.tree (λ s. IsCopied s copy.tree)) }
     ensures original { result.0.tree ≡ handle.tree }
     ensures argument { (result.1 ≡ Err 4) ↔ (handle.tree ≡ None) }
     ensures refused { IfErr result.1 (λ status. (status ≡ 1) ⊎ (status ≡ 4)) }
@@ -140,7 +140,7 @@ fn free(handle: MstTree, alloc: Global) -> (MstTree, ())
 /// `DONE`; `MEMORY`; `ARGUMENT` where the handle has no tree. Refused, `count` is as before.
 #[unsafe(no_mangle)]
 pub extern "C" fn mst_proved_tree_len(alloc: Global, handle: &mut MstTree, count: &mut usize) -> u32
-    ensures done { result ≡ 0 → Holds handle.old.tree (λ s. count.new ≡ row_count (rows_of s)) }
+    ensures done { result ≡ 0 → HasTree handle.old.tree (λ s. count.new ≡ row_count (rows_of s)) }
     ensures tree { handle.new.tree ≡ handle.old.tree }
     ensures unchanged { result ≢ 0 → count.new ≡ count.old }
     ensures argument { (result ≡ 4) ↔ (handle.old.tree ≡ None) }
@@ -156,7 +156,7 @@ pub extern "C" fn mst_proved_tree_len(alloc: Global, handle: &mut MstTree, count
 }
 
 fn count_of(handle: MstTree, alloc: Global) -> (MstTree, Result<usize, u32>)
-    ensures count { IfOk result.1 (λ count. Holds handle.tree (λ s. count ≡ row_count (rows_of s))) }
+    ensures count { IfOk result.1 (λ count. HasTree handle.tree (λ s. count ≡ row_count (rows_of s))) }
     ensures tree { result.0.tree ≡ handle.tree }
     ensures argument { (result.1 ≡ Err 4) ↔ (handle.tree ≡ None) }
     ensures refused { IfErr result.1 (λ status. (status ≡ 1) ⊎ (status ≡ 4)) }

@@ -4,7 +4,7 @@ use Rattle.key_order.specs.Interval.{Span}
 use Rattle.merkle_search_tree.specs.declared.builder.PageFormat.{PageFormat}
 use Rattle.merkle_replica.specs.Answers.{answer_of, IsRefused, StopsByTurns}
 use Rattle.merkle_replica.specs.Contents.{Contents, Side, side}
-use Rattle.mst_pair.specs.Engine.{MayAsk, StopsPulling, StopsAfter}
+use Rattle.mst_pair.specs.Engine.{AreRangesToAsk, StopsPulling, StopsAfter}
 use Rattle.mst_pair.specs.Pages.{HasDefaults, text_laws, side_of}
 use Rattle.merkle_replica.specs.Pulls.{IsAnswerFor}
 use Rattle.mst_pair.specs.Replicas.{Text, TextRow}
@@ -20,8 +20,8 @@ under_defaults P format a b da db p = subst (λ s. P (side_of format a.rows) s) 
     of_defaults c d = λ i. record { hasher = d.0 i; base = d.1 i; format = d.2 i; rows = c.rows }
 
 -- ranges that a replica may ask for, in the words of the engine
-pub may_ask : (format : PageFormat) (a b : Contents Text ℕ (List ℕ)) (found : List (Span Text)) → HasDefaults format a → HasDefaults format b → IsAnswerFor text_laws (side a) (side b) found → MayAsk format a.rows b.rows found
-may_ask format a b found da db answer = under_defaults (λ s t. IsAnswerFor text_laws s t found) format a b da db answer
+pub to_ask : (format : PageFormat) (a b : Contents Text ℕ (List ℕ)) (found : List (Span Text)) → HasDefaults format a → HasDefaults format b → IsAnswerFor text_laws (side a) (side b) found → AreRangesToAsk format a.rows b.rows found
+to_ask format a b found da db answer = under_defaults (λ s t. IsAnswerFor text_laws s t found) format a b da db answer
 
 -- what an error says, of the call
 pub on_err_from : {T E : Type 0} (Q : E → Type 0) (P : Type 0) (r : Result T E) → ((e : E) → Q e → P) → IfErr r Q → OnErr r P

@@ -12,8 +12,8 @@ use Rattle.mst_pair.specs.Requests.{Request, put, del, keys, root, pages, diff, 
 use Rattle.mst_pair.specs.Replicas.{Text, TextRow, Replicas, HasNoRow, rows, other_rows, JoinsRow, DeletesRow}
 
 -- ranges that local may ask of the peer: any that meet the interval laws of `diff` and its laws on trees, on the page ranges of both
-abbrev pub MayAsk : PageFormat → List TextRow → List TextRow → List (Span Text) → Type 0
-MayAsk format local peer = IsAnswerFor text_laws (side_of format local) (side_of format peer)
+abbrev pub AreRangesToAsk : PageFormat → List TextRow → List TextRow → List (Span Text) → Type 0
+AreRangesToAsk format local peer = IsAnswerFor text_laws (side_of format local) (side_of format peer)
 
 -- local pulled from the peer, with this answer
 abbrev pub Pulls : PageFormat → List TextRow → List TextRow → Answer Text → List TextRow → Type 0
@@ -55,7 +55,7 @@ Answers old (del name key) reply new = ((found : Bool) × (reply ≡ deleted_tex
 Answers old (keys name) reply new = (reply ≡ rows_text (rows old name)) × (new ≡ old)
 Answers old (root name) reply new = (reply ≡ text_line (base64_of (root_digest old.format (rows old name)))) × (new ≡ old)
 Answers old (pages name) reply new = ((reply ≡ ranges_text (map span_of (page_ranges old.format (rows old name)))) × (new ≡ old)) ⊎ LacksMemory old reply new
-Answers old (diff name) reply new = ((found : List (Span Text)) × MayAsk old.format (rows old name) (other_rows old name) found × (reply ≡ ranges_text found) × (new ≡ old)) ⊎ LacksMemory old reply new
+Answers old (diff name) reply new = ((found : List (Span Text)) × AreRangesToAsk old.format (rows old name) (other_rows old name) found × (reply ≡ ranges_text found) × (new ≡ old)) ⊎ LacksMemory old reply new
 Answers old (pull name) reply new =
     (other_rows new name ≡ other_rows old name) × (new.format ≡ old.format)
     × (((answer : Answer Text) × Pulls old.format (rows old name) (other_rows old name) answer (rows new name) × (reply ≡ pull_text answer))

@@ -1,7 +1,7 @@
 //! The engine: two replicas, and what the lines do to them.
 ghost use Rattle.std.specs.Prelude.{◌≡◌, ◌↔◌, [], if◌then◌else◌, map, length, OnOk, OnErr, IfOk, IsTrue};
 ghost use Rattle.merkle_replica.specs.Answers.{spans_of, answer_of};
-ghost use Rattle.mst_pair.specs.Engine.{MayAsk, Pulls, StopsPulling, TakesTurns, StopsInTurns};
+ghost use Rattle.mst_pair.specs.Engine.{AreRangesToAsk, Pulls, StopsPulling, TakesTurns, StopsInTurns};
 ghost use Rattle.mst_pair.specs.Pages.{root_digest};
 ghost use Rattle.mst_pair.specs.Replicas.{Replicas, start, rows, other_rows, HasNoRow, JoinsRow, DeletesRow};
 
@@ -121,7 +121,7 @@ impl Engine {
     /// The ranges of keys that a replica may ask the other for.
     #[tactic(auto, using(key_order::proofs::Clones::string_clone))]
     pub fn ranges_to_ask(&mut self, name: ReplicaName) -> Result<Vec<(String, String)>, AllocError>
-        ensures ranges { IfOk result (λ found. MayAsk self.old.format (rows self.old name) (other_rows self.old name) (spans_of found.items)) }
+        ensures ranges { IfOk result (λ found. AreRangesToAsk self.old.format (rows self.old name) (other_rows self.old name) (spans_of found.items)) }
         ensures same { self.new ≡ self.old }
     {
         match name {

@@ -1,6 +1,6 @@
 use Rattle.std.proofs.Common.{rules, arith, ◌≡◌, ◌<◌, ◌^◌, List, ℕ, ◌++◌, length, take, sym, ap, ◌∙◌}
 use Rattle.std.proofs.lemmas.List.{length-append, length-take-le, take-append-drop}
-use Rattle.mst_c.specs.Spots.{Parts, digest_len}
+use Rattle.mst_c.specs.Spots.{EntryParts, digest_len}
 use Rattle.mst_c.specs.Wire.{row_bytes}
 use Rattle.mst_c.proofs.Spots.{parts_flat}
 use Rattle.mst_c.proofs.Strings.{one_row}
@@ -10,7 +10,7 @@ pub returns-in_ok-rest-clause-entry : goal.returns-in_ok-rest-clause-entry
 returns-in_ok-rest-clause-entry c =
     let rest = c.in_ok-first.rest.now in
     let chunk = c.in_ok-rest.ensures.cases in
-    let e : Parts = ((c.in_ok-first.first.now, c.in_ok-first.last.now), take 16 rest) in (
+    let e : EntryParts = ((c.in_ok-first.first.now, c.in_ok-first.last.now), take 16 rest) in (
       take 16 rest,
       length-take-le 16 rest (omega (arith, chunk.2)) ∙ ap digest_len (sym c.if-has_digests.true),
       c.in_ok-first.ensures.pair ∙ ap (λ t. row_bytes e.0 ++ t) (sym (take-append-drop 16 rest) ∙ ap (λ t. take 16 rest ++ t) (sym chunk.1)) ∙ sym (parts_flat e c.in_ok-rest.rest.now),

@@ -2,7 +2,7 @@ use Rattle.std.proofs.Common.{rules, arith, ◌≡◌, ◌<◌, ◌^◌, [], ◌
 use Rattle.std.specs.Bool.{◌==◌}
 use Rattle.std.specs.List.{flat_map}
 use Rattle.std.proofs.lemmas.List.{append-nil, length-append, nil_from_length}
-use Rattle.mst_c.specs.Spots.{Parts, digest_len, parts_bytes}
+use Rattle.mst_c.specs.Spots.{EntryParts, digest_len, parts_bytes}
 use Rattle.mst_c.proofs.Lists.{all_more, none_left, one_left, read_more}
 use Rattle.mst_c.proofs.Spots.{parts_end}
 use Rattle.mst_c.proofs.entries.is_list.Goals as goal
@@ -22,7 +22,7 @@ pub entries-preserved : goal.entries-preserved
 entries-preserved c =
     let kept = c.entries.invariant in
     let read = c.in-Some.ensures.entry in
-    let e : Parts = ((c.in-Some.field-0-0.now, c.in-Some.field-0-1.now), read.0) in (
+    let e : EntryParts = ((c.in-Some.field-0-0.now, c.in-Some.field-0-1.now), read.0) in (
       kept.0 ++ e ∷ [],
       omega (arith, kept.1, length-append kept.0 (e ∷ [])),
       all_more (λ e. length e.1 ≡ digest_len c.args.has_digests) kept.0 e kept.2 read.1,

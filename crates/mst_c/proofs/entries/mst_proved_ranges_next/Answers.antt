@@ -1,7 +1,7 @@
 use Rattle.std.proofs.Common.{rules, arith, ◌≡◌, ℕ, ◌+◌, ◌-◌, ◌<◌, ◌^◌, true, List, ◌++◌, length, drop, nat_eq, sym, ap, ◌∙◌}
 use Rattle.std.specs.Bool.{if◌then◌else◌}
 use Rattle.std.proofs.lemmas.List.{drop_at, length-append, take-append-drop}
-use Rattle.mst_c.specs.Spots.{Parts, digest_len, parts_bytes}
+use Rattle.mst_c.specs.Spots.{EntryParts, digest_len, parts_bytes}
 use Rattle.mst_c.proofs.Spots.{body_behind, first_parts, front_length, one_front, one_kind, parts_flat}
 use Rattle.mst_c.proofs.Strings.{row_length}
 use Rattle.mst_c.proofs.entries.mst_proved_ranges_next.Goals.{else-at-eq0-via-then-at-eq0+else-not-is_list, else-at-eq0-via-else-at-eq0}
@@ -55,7 +55,7 @@ pub returns-clause-entry : goal.returns-clause-entry
 returns-clause-entry c done =
     let list = c.args.list.now in let behind = c.in-Some-entry_of.behind.now in
     let read = c.in-Some-entry_of.ensures.entry in
-    let entry : Parts = ((c.in-Some-entry_of.first.now, c.in-Some-entry_of.last.now), read.0) in
+    let entry : EntryParts = ((c.in-Some-entry_of.first.now, c.in-Some-entry_of.last.now), read.0) in
     let cut = c.in-Some-split_at_checked.ensures.cases in
     let start = c.start_of-start.result in
     let front : length list - length c.in-Some.body.now ≡ 12 = omega (arith, front_length list c.in-Some.has_digests c.in-Some.count c.in-Some.body.now c.in-Some.ensures.front) in
