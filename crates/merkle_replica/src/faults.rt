@@ -1,7 +1,9 @@
 //! What errors say.
 
 use crate::pull::PullError;
+use crate::puts::PutsCut;
 use crate::replica::RowsRefused;
+use crate::steps::JoinRefused;
 use crate::turns::TurnsError;
 use std::error::Error;
 use std::fmt;
@@ -41,3 +43,27 @@ impl<K, V> fmt::Display for RowsRefused<K, V> {
 }
 
 impl<K: fmt::Debug + Drop, V: fmt::Debug + Drop> Error for RowsRefused<K, V> {}
+
+/// Says that memory was refused, and how many rows were put before.
+impl fmt::Display for PutsCut {
+    fn fmt<W: fmt::Write>(&self, f: &mut fmt::Formatter<W>) -> fmt::Result {
+        write!(f, "memory was refused after {} rows", self.done)
+    }
+}
+
+impl Error for PutsCut {}
+
+/// Says that the rows don't ascend, or how many were joined before memory was refused.
+impl<K, V> fmt::Display for JoinRefused<K, V> {
+    fn fmt<W: fmt::Write>(&self, f: &mut fmt::Formatter<W>) -> fmt::Result {
+        match self {
+            JoinRefused::NotAscending(_) => write!(
+                f,
+                "a key isn't above the one before it, and no row was joined"
+            ),
+            JoinRefused::Memory(done) => write!(f, "memory was refused after {done} rows"),
+        }
+    }
+}
+
+impl<K: fmt::Debug + Drop, V: fmt::Debug + Drop> Error for JoinRefused<K, V> {}

@@ -10,7 +10,7 @@ use merkle_digest::{Hasher, KeyBytes};
 use std::cmp::Ordering;
 
 /// Memory was refused before all rows were put.
-#[derive(Clone, Copy)]
+#[derive(Clone, Copy, Debug, PartialEq, Eq)]
 pub struct PutsCut {
     /// How many of the rows are joined, the first in key order. At 0 the rows are unchanged.
     pub done: usize,

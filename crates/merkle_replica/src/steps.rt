@@ -19,7 +19,7 @@ use merkle_digest::{Hasher, KeyBytes};
 use std::alloc::AllocError;
 
 /// Why rows that came were not all joined.
-#[derive(Drop)]
+#[derive(Debug, Drop)]
 pub enum JoinRefused<K, V> {
     /// A key is not above the one before it. The rows are handed back, and none of them is joined.
     NotAscending(Vec<(K, V)>),

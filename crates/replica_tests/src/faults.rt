@@ -1,6 +1,6 @@
 //! What errors say.
 
-use merkle_replica::{PullError, Pulled, RowsRefused, TurnsError};
+use merkle_replica::{JoinRefused, PullError, Pulled, PutsCut, RowsRefused, TurnsError};
 use merkle_search_tree::LoadRefused;
 use std::test::Fail;
 
@@ -56,5 +56,25 @@ fn refused_rows_say_why(rt: HostRuntime) -> Result<(), Fail> {
         };
         assert_eq!(rt; format!(in alloc; "{refused}")?.as_str(), text);
     }
+    Ok(())
+}
+
+#[test]
+fn rows_that_were_not_all_joined_say_why(rt: HostRuntime) -> Result<(), Fail> {
+    let alloc = rt.alloc();
+    assert_eq!(rt;
+        format!(in alloc; "{}", PutsCut { done: 2 })?.as_str(),
+        "memory was refused after 2 rows"
+    );
+    let ascending: JoinRefused<u8, u64> = JoinRefused::Memory(2);
+    assert_eq!(rt;
+        format!(in alloc; "{ascending}")?.as_str(),
+        "memory was refused after 2 rows"
+    );
+    let unordered: JoinRefused<u8, u64> = JoinRefused::NotAscending(Vec::new(alloc));
+    assert_eq!(rt;
+        format!(in alloc; "{unordered}")?.as_str(),
+        "a key isn't above the one before it, and no row was joined"
+    );
     Ok(())
 }
