@@ -2,6 +2,7 @@ pub mod Bools
 pub mod Orders
 pub mod Spans
 pub mod Maps
+pub mod SameMaps
 pub mod Values
 pub mod Keys
 pub mod Sets

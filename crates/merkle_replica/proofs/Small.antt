@@ -5,7 +5,7 @@ use Rattle.std.specs.Cmp.{IsTotalOrder}
 use Rattle.std.specs.declared.cmp.Ordering.{Ordering}
 use Rattle.key_order.specs.Order.{Same}
 use Rattle.key_order.specs.Map.{SameMap}
-use Rattle.key_order.proofs.Orders.{up_up, same_up, same_down, same_from}
+use Rattle.key_order.proofs.SameMaps.{same_map-own, same_across, same_map-back}
 use Rattle.merkle_search_tree.specs.Faithful.{IsSmall}
 
 module _ {K : Type 0} (cmp : K → K → Ordering) (o : IsTotalOrder cmp) (bo : K → List ℕ) (respects : (x y : K) → Same cmp x y → bo x ≡ bo y) (n : ℕ) where
@@ -24,24 +24,10 @@ module _ {K : Type 0} (cmp : K → K → Ordering) (o : IsTotalOrder cmp) (bo : 
   digests_stay (x ∷ a) [] s h = absurd s
   digests_stay (x ∷ a) (y ∷ b) s h = (ap length (sym s.1) ∙ h.0, digests_stay a b s.2 h.1)
 
-  -- what is the same as b is the same as a
-  same_back : (ps a b : Maps) → SameMap cmp (λ d e. d ≡ e) ps b → SameMap cmp (λ d e. d ≡ e) a b → SameMap cmp (λ d e. d ≡ e) ps a
-  same_back [] [] b f g = tt
-  same_back [] (x ∷ a) [] f g = absurd g
-  same_back [] (x ∷ a) (y ∷ b) f g = absurd f
-  same_back (p ∷ ps) [] [] f g = absurd f
-  same_back (p ∷ ps) [] (y ∷ b) f g = absurd g
-  same_back (p ∷ ps) (x ∷ a) [] f g = absurd f
-  same_back (p ∷ ps) (x ∷ a) (y ∷ b) f g = (
-    same_from cmp o p.0 x.0 (up_up cmp o p.0 y.0 x.0 (same_up cmp o p.0 y.0 f.0) (same_down cmp o x.0 y.0 g.0)) (up_up cmp o x.0 y.0 p.0 (same_up cmp o x.0 y.0 g.0) (same_down cmp o p.0 y.0 f.0)),
-    f.1 ∙ sym g.1,
-    same_back ps a b f.2 g.2,
-  )
-
   -- a map equal to a small one is small
   pub small_same : (digest_of : K → List ℕ) (base : ℕ) (a b : Maps) → SameMap cmp (λ d e. d ≡ e) a b → IsSmall cmp digest_of base bo n a → IsSmall cmp digest_of base bo n b
   small_same digest_of base a b s h = record {
     keys = keys_stay a b s h.keys;
     digests = digests_stay a b s h.digests;
-    pages = λ p (t, is_tree, is_in). h.pages p (t, (is_tree.0, same_back (_) a b is_tree.1 s), is_in);
+    pages = λ p (t, is_tree, is_in). h.pages p (t, (is_tree.0, same_across cmp o b b _ a (same_map-back cmp o _ b is_tree.1) (same_map-back cmp o a b s) (same_map-own cmp o b)), is_in);
   }

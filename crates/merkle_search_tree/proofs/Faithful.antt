@@ -5,13 +5,13 @@ use Rattle.std.specs.declared.cmp.Ordering.{Ordering}
 use Rattle.std.specs.Cmp.{IsTotalOrder}
 use Rattle.key_order.specs.Order.{Same}
 use Rattle.key_order.specs.Map.{SameMap}
+use Rattle.key_order.proofs.SameMaps.{same_across, same-append}
 use Rattle.merkle_search_tree.specs.Tree.{Tree, page, Row, high, node, Held, nothing, below}
 use Rattle.merkle_search_tree.specs.Page.{pairs, row_pairs, held_pairs, nodes_of}
 use Rattle.merkle_search_tree.specs.Canonical.{IsTreeOf}
 use Rattle.merkle_search_tree.specs.Ranges.{IsPageOf, IsPageIn, IsPageInRow, IsPageInHeld}
 use Rattle.merkle_search_tree.specs.declared.builder.PageFormat.TheVariants.{V2}
 use Rattle.merkle_search_tree.specs.Stream.{page_digest, stream_of}
-use Rattle.merkle_search_tree.proofs.SameMaps.{same_across, same-append}
 use Rattle.merkle_search_tree.proofs.SameParts.{SameBelow, SameParts}
 use Rattle.merkle_search_tree.specs.Faithful.{IsSmall, NoCollision, HasFaithfulPages}
 use Rattle.merkle_search_tree.proofs.Streams.{RowMeasured, page_tells}

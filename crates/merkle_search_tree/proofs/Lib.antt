@@ -6,7 +6,6 @@ pub mod Apart
 pub mod Gaps
 pub mod Unique
 pub mod TreeOf
-pub mod SameMaps
 pub mod Sides
 pub mod Search
 pub mod Set

@@ -13,7 +13,8 @@ use Rattle.merkle_search_tree.specs.Canonical.{IsTreeOf}
 use Rattle.key_order.specs.Interval.{Span, IsIn, is_in}
 use Rattle.merkle_diff.specs.Entry.{Entry, span_of}
 use Rattle.key_order.specs.Order.{Upto, Below, Same}
-use Rattle.key_order.proofs.Orders.{up_up, up_low, low_up, low_is_up, up_self, same_up, same_down, not_both}
+use Rattle.key_order.proofs.Orders.{up_up, low_is_up, up_self, not_both}
+use Rattle.key_order.proofs.SameMaps.{ascends}
 use Rattle.key_order.specs.Map.{last_key, IsMap, SameMap, rows_at}
 use Rattle.merkle_search_tree.specs.Listing.{IsListing, IsWhole, entry_rows}
 use Rattle.key_order.proofs.Bools.{which}
@@ -53,18 +54,7 @@ module _ {K X : Type 0} (cmp : K → K → Ordering) (o : IsTotalOrder cmp) wher
   after_front (x ∷ pre) p ps post a =
       rw (fails cmp o x.0 (record { first = p.0; last = last_key p.0 ps }) (λ i. not_both cmp o p.0 x.0 i.0 (each-at (λ r. Below cmp x.0 r.0) pre p (ps ++ post) a.0))) (after_front pre p ps post a.1)
 
-  -- ---- maps with equal keys
-
-  all_below : (R : X → X → Type 0) (a b : List (K × X)) (x y : K) → Same cmp x y → SameMap cmp R a b → AllByRecursion (λ r. Below cmp y r.0) b → AllByRecursion (λ r. Below cmp x r.0) a
-  all_below R [] b x y e s h = tt
-  all_below R (p ∷ ps) [] x y e s h = absurd s
-  all_below R (p ∷ ps) (q ∷ qs) x y e s h = (low_up cmp o x q.0 p.0 (up_low cmp o x y q.0 (same_up cmp o x y e) h.0) (same_down cmp o p.0 q.0 s.0), all_below R ps qs x y e s.2 h.1)
-
-  pub ascends : (R : X → X → Type 0) (a b : List (K × X)) → SameMap cmp R a b → IsMap cmp b → IsMap cmp a
-  ascends R [] b s h = tt
-  ascends R (p ∷ ps) [] s h = absurd s
-  ascends R (p ∷ ps) (q ∷ qs) s h = (all_below R ps qs p.0 q.0 s.0 s.2 h.0, ascends R ps qs s.2 h.1)
-
+  -- the pairs of equal maps that pass a test
   same_part : (R : X → X → Type 0) (test : K → Bool) → ((k j : K) → Same cmp k j → test k ≡ test j) → (a b : List (K × X)) → SameMap cmp R a b → SameMap cmp R (rows_at test a) (rows_at test b)
   same_part R test resp [] [] s = tt
   same_part R test resp [] (q ∷ qs) s = absurd s

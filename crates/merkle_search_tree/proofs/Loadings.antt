@@ -8,14 +8,13 @@ use Rattle.std.specs.Cmp.{IsTotalOrder}
 use Rattle.std.specs.declared.cmp.Ordering.{Ordering}
 use Rattle.key_order.specs.Order.{Below, Same}
 use Rattle.key_order.specs.Map.{IsMap, SameMap, last_key}
-use Rattle.key_order.proofs.Orders.{low_low, same_from, up_self}
+use Rattle.key_order.proofs.Orders.{low_low}
+use Rattle.key_order.proofs.SameMaps.{same-append, same_is_map, ascends}
 use Rattle.key_order.proofs.Bools.{false_not_true}
 use Rattle.merkle_search_tree.specs.Edge.{is_above}
 use Rattle.merkle_search_tree.specs.Loading.{row_count, digests_of, RowFails, LoadFails}
 use Rattle.merkle_search_tree.specs.declared.load.LoadRefused.{LoadRefused}
 use Rattle.merkle_search_tree.specs.declared.load.LoadRefused.TheVariants.{Memory, NotAscending}
-use Rattle.merkle_search_tree.proofs.SameMaps.{same-append, same_is_map}
-use Rattle.merkle_search_tree.proofs.Listing.{ascends}
 
 module _ {K X : Type 0} (cmp : K → K → Ordering) where
   -- one more row that is below k
@@ -83,10 +82,6 @@ module _ {K V D : Type 0} (f : V → D) where
 module _ {K V D : Type 0} (f : V → D) (cmp : K → K → Ordering) (o : IsTotalOrder cmp) where
   abbrev pub Holds : List (K × D) → List (K × V) → Type 0
   Holds ps rows = SameMap cmp (λ d e. d ≡ e) ps (digests_of f rows)
-
-  pub holds-itself : (ps : List (K × D)) → SameMap cmp (λ d e. d ≡ e) ps ps
-  holds-itself [] = tt
-  holds-itself (p ∷ ps) = (same_from cmp o p.0 p.0 (up_self cmp o p.0) (up_self cmp o p.0), refl, holds-itself ps)
 
   same-length : (ps qs : List (K × D)) → SameMap cmp (λ d e. d ≡ e) ps qs → length ps ≡ length qs
   same-length [] [] a = refl

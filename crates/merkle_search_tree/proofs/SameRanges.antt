@@ -10,7 +10,7 @@ use Rattle.merkle_search_tree.specs.Page.{pairs, row_pairs, held_pairs}
 use Rattle.merkle_search_tree.specs.Stream.{page_digest}
 use Rattle.merkle_search_tree.specs.Canonical.{SamePages, SameRow, SameHeld}
 use Rattle.merkle_search_tree.specs.Ranges.{entry_of, ranges_of, row_ranges, held_ranges}
-use Rattle.merkle_search_tree.proofs.SameMaps.{same-append}
+use Rattle.key_order.proofs.SameMaps.{same-append}
 use Rattle.merkle_search_tree.proofs.Same.{same_digest}
 use Rattle.merkle_search_tree.specs.declared.builder.PageFormat.{PageFormat}
 

@@ -5,6 +5,7 @@ use Rattle.std.specs.Ordering.{is_eq}
 use Rattle.std.specs.Cmp.{IsTotalOrder}
 use Rattle.key_order.specs.Order.{Same}
 use Rattle.key_order.specs.Map.{SameMap}
+use Rattle.key_order.proofs.SameMaps.{same_is_map, same_map-own}
 use Rattle.merkle_digest.specs.Level.{level_of}
 use Rattle.merkle_search_tree.specs.State.{State, map_of}
 use Rattle.merkle_search_tree.specs.Sound.{IsSound, RootHashHolds}
@@ -13,12 +14,11 @@ use Rattle.merkle_search_tree.specs.Page.{pairs, cache}
 use Rattle.merkle_search_tree.specs.Copy.{IsCopy}
 use Rattle.merkle_search_tree.proofs.Copies.{copy-same, copy-caches, copy-cache}
 use Rattle.merkle_search_tree.proofs.Same.{same-root}
-use Rattle.merkle_search_tree.proofs.SameMaps.{same_is_map}
 use Rattle.merkle_search_tree.proofs.SameRanges.{same-pairs}
 use Rattle.merkle_search_tree.specs.Canonical.{SamePages, IsCanonicalRoot}
 use Rattle.merkle_search_tree.specs.TreeOf.{tree_of}
 use Rattle.merkle_search_tree.proofs.Unique.{unique_root}
-use Rattle.merkle_search_tree.proofs.TreeOf.{is_tree_of, same_map-own}
+use Rattle.merkle_search_tree.proofs.TreeOf.{is_tree_of}
 
 -- a level is at most 255
 pub level_low : (digest : List ℕ) (base : ℕ) → level_of digest base < 256

@@ -1,13 +1,14 @@
 -- The tree of a map is canonical, and has that map.
 use Rattle.std.proofs.Common.{◌≡◌, ◌≢◌, ℕ, zero, suc, ◌<◌, ◌≤◌, Bool, true, false, ◌==◌, ◌||◌, if◌then◌else◌, List, [], ◌∷◌, ◌++◌, None, refl, ap, sym, ◌∙◌, subst, append_assoc, append-nil, arith}
 use Rattle.std.proofs.lemmas.Bool.{eqb-true, eqb-false}
-use Rattle.std.specs.Cmp.{IsTotalOrder, tied_itself}
+use Rattle.std.specs.Cmp.{IsTotalOrder}
 use Rattle.std.specs.declared.cmp.Ordering.{Ordering}
 use Rattle.key_order.specs.Order.{Same}
 use Rattle.merkle_search_tree.specs.Tree.{Tree, page, high, node, Held, nothing, below}
 use Rattle.merkle_search_tree.specs.Page.{pairs, row_pairs, held_pairs}
-use Rattle.merkle_search_tree.specs.Canonical.{HasNode, IsRow, IsGap, IsCanonicalRoot, SamePages}
+use Rattle.merkle_search_tree.specs.Canonical.{HasNode, IsRow, IsGap, IsCanonicalRoot, IsTreeOf, SamePages}
 use Rattle.key_order.specs.Map.{SameMap}
+use Rattle.key_order.proofs.SameMaps.{same_map-own, same_across, same_map-back}
 use Rattle.merkle_search_tree.specs.TreeOf.{any_at, row_of, gap_of, root_of, tree_of}
 use Rattle.merkle_search_tree.proofs.Unique.{Under, Under-append, unique_root}
 
@@ -90,11 +91,6 @@ module _ {K D : Type 0} (lev : K → ℕ) where
   unfolding tree_of
   tree_of-canonical ps u = root_of-canonical 256 (gap_of lev 256 ps) (gap_of-canonical 256 256 (omega arith) ps u)
 
-module _ {K D : Type 0} (cmp : K → K → Ordering) (o : IsTotalOrder cmp) where
-  pub same_map-own : (ps : List (K × D)) → SameMap cmp (λ d e. d ≡ e) ps ps
-  same_map-own [] = tt
-  same_map-own (p ∷ ps) = (tied_itself o p.0, refl, same_map-own ps)
-
 module _ {K D : Type 0} (lev : K → ℕ) (low : (k : K) → lev k < 256) (cmp : K → K → Ordering) (respects : (a b : K) → Same cmp a b → lev a ≡ lev b) where
   all_under : (ps : List (K × D)) → Under lev 256 ps
   all_under [] = tt
@@ -108,3 +104,9 @@ module _ {K D : Type 0} (lev : K → ℕ) (low : (k : K) → lev k < 256) (cmp :
   -- and it is a tree of the map
   pub tree_of-is : IsTotalOrder cmp → (m : List (K × D)) → IsCanonicalRoot lev (tree_of lev m) × SameMap cmp (λ d e. d ≡ e) (pairs (tree_of lev m)) m
   tree_of-is o m = (tree_of-canonical lev m (all_under m), subst (λ ps. SameMap cmp (λ d e. d ≡ e) ps m) (sym (tree_of-pairs lev m (all_under m))) (same_map-own cmp o m))
+
+module _ {K : Type 0} (cmp : K → K → Ordering) (o : IsTotalOrder cmp) where
+  -- the trees of two equal maps have equal maps
+  pub same_pairs : (digest_of : K → List ℕ) (base : ℕ) (a b : List (K × List ℕ)) (t u : Tree K (List ℕ)) → SameMap cmp (λ d e. d ≡ e) a b → IsTreeOf cmp digest_of base t a → IsTreeOf cmp digest_of base u b
+      → SameMap cmp (λ d e. d ≡ e) (pairs t) (pairs u)
+  same_pairs digest_of base a b t u h f g = same_across cmp o a b (pairs t) (pairs u) (same_map-back cmp o (pairs t) a f.1) (same_map-back cmp o (pairs u) b g.1) h

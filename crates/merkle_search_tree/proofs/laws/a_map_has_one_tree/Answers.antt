@@ -2,10 +2,9 @@ use Rattle.std.proofs.Common.{ap, ◌∙◌}
 use Rattle.std.specs.Ordering.{is_eq}
 use Rattle.merkle_digest.specs.Level.{level_of}
 use Rattle.merkle_search_tree.proofs.Same.{same_digest}
-use Rattle.merkle_search_tree.proofs.SameMaps.{same_pairs}
 use Rattle.merkle_search_tree.proofs.SameRanges.{same_ranges}
 use Rattle.merkle_search_tree.proofs.Sound.{level_low, same_bytes}
-use Rattle.merkle_search_tree.proofs.TreeOf.{tree_of-is, is_tree_of}
+use Rattle.merkle_search_tree.proofs.TreeOf.{tree_of-is, is_tree_of, same_pairs}
 use Rattle.merkle_search_tree.proofs.Unique.{unique_root}
 use Rattle.merkle_search_tree.proofs.laws.a_map_has_one_tree.Goals as goal
 

@@ -2,7 +2,8 @@ use Rattle.std.proofs.Common.{◌≡◌, subst, sym}
 use Rattle.merkle_diff.specs.TreeShape.{IsTreeShaped}
 use Rattle.merkle_digest.specs.Level.{level_of}
 use Rattle.merkle_search_tree.specs.Page.{pairs}
-use Rattle.merkle_search_tree.proofs.Listing.{ascends, lists}
+use Rattle.key_order.proofs.SameMaps.{ascends}
+use Rattle.merkle_search_tree.proofs.Listing.{lists}
 use Rattle.merkle_search_tree.proofs.RangeShape.{tree_shaped}
 use Rattle.merkle_search_tree.proofs.laws.page_ranges_of_a_map.Goals as goal
 
