@@ -1,12 +1,12 @@
 -- Where a key goes in a page, by its place among the nodes.
-use Rattle.std.proofs.Common.{◌≡◌, ◌≢◌, ℕ, zero, suc, ◌<◌, List, [], ◌∷◌, ◌++◌, length, get_or, slice_set, Bool, true, false, if◌then◌else◌, Option, None, refl, ap, arith}
+use Rattle.std.proofs.Common.{◌≡◌, ◌≢◌, ℕ, zero, suc, ◌<◌, List, [], ◌∷◌, ◌++◌, length, get_or, slice_set, Bool, true, false, if◌then◌else◌, Option, None, refl, ap, sym, ◌∙◌, arith}
 use Rattle.std.specs.List.{insert}
 use Rattle.std.specs.declared.cmp.Ordering.{Ordering}
 use Rattle.std.specs.declared.cmp.Ordering.TheVariants.{Less, Equal, Greater}
 use Rattle.std.specs.Ordering.{is_gt, match_ordering, nat_cmp}
-use Rattle.merkle_search_tree.specs.Tree.{page, node, Held, Node, row}
+use Rattle.merkle_search_tree.specs.Tree.{Tree, page, node, Held, Node, row}
 use Rattle.merkle_search_tree.specs.Upsert.{place, level_order, held_lower, held_upper, row_put, row_sink, held_set, row_finds, held_finds, tree_set, tree_finds, lifted}
-use Rattle.merkle_search_tree.proofs.Parts.{with_lt}
+use Rattle.merkle_search_tree.proofs.Parts.{with_lt, new_node}
 
 module _ {K D : Type 0} where
   -- the order of a level beside a page, read off its list of nodes
@@ -27,26 +27,23 @@ get_or_same (z ∷ zs) zero x y r = refl
 get_or_same (z ∷ zs) (suc i) x y r = get_or_same zs i x y (omega arith)
 
 module _ {K D : Type 0} (cmp : K → K → Ordering) (k : K) (d : D) where
-  abbrev pub new_node : Held K D → Node K D
-  new_node h = record { lt = h; key = k; digest = d }
-
   pub put_at : (es : List (Node K D)) (h : Held K D) (i : ℕ) (x : Node K D) → i ≡ place cmp k es → i < length es → cmp k (get_or es i x).key ≢ Equal
-      → row_put cmp k d (row es h) ≡ row (insert (slice_set es i (with_lt (get_or es i x) (held_upper cmp k (get_or es i x).lt))) i (new_node (held_lower cmp k (get_or es i x).lt))) h
+      → row_put cmp k d (row es h) ≡ row (insert (slice_set es i (with_lt (get_or es i x) (held_upper cmp k (get_or es i x).lt))) i (new_node k d (held_lower cmp k (get_or es i x).lt))) h
   put_at [] h i x p r ne = absurd (omega arith)
   put_at (e ∷ es) h zero x p r ne = by (cmp k e.key) p ne
     where
       by : (o : Ordering) → 0 ≡ (if (is_gt o) then (suc (place cmp k es)) else 0) → o ≢ Equal
           → match_ordering o (node (held_lower cmp k e.lt) k d (node (held_upper cmp k e.lt) e.key e.digest (row es h))) (node e.lt e.key d (row es h)) (node e.lt e.key e.digest (row_put cmp k d (row es h)))
-          ≡ row (insert (slice_set (e ∷ es) 0 (with_lt e (held_upper cmp k e.lt))) 0 (new_node (held_lower cmp k e.lt))) h
+          ≡ row (insert (slice_set (e ∷ es) 0 (with_lt e (held_upper cmp k e.lt))) 0 (new_node k d (held_lower cmp k e.lt))) h
       by Less p ne = refl
       by Equal p ne = absurd (ne refl)
       by Greater p ne = absurd (omega arith)
   put_at (e ∷ es) h (suc j) x p r ne = by (cmp k e.key) p (λ q. put_at es h j x q (omega arith) ne)
     where
       by : (o : Ordering) → suc j ≡ (if (is_gt o) then (suc (place cmp k es)) else 0)
-          → (j ≡ place cmp k es → row_put cmp k d (row es h) ≡ row (insert (slice_set es j (with_lt (get_or es j x) (held_upper cmp k (get_or es j x).lt))) j (new_node (held_lower cmp k (get_or es j x).lt))) h)
+          → (j ≡ place cmp k es → row_put cmp k d (row es h) ≡ row (insert (slice_set es j (with_lt (get_or es j x) (held_upper cmp k (get_or es j x).lt))) j (new_node k d (held_lower cmp k (get_or es j x).lt))) h)
           → match_ordering o (node (held_lower cmp k e.lt) k d (node (held_upper cmp k e.lt) e.key e.digest (row es h))) (node e.lt e.key d (row es h)) (node e.lt e.key e.digest (row_put cmp k d (row es h)))
-          ≡ row (insert (slice_set (e ∷ es) (suc j) (with_lt (get_or es j x) (held_upper cmp k (get_or es j x).lt))) (suc j) (new_node (held_lower cmp k (get_or es j x).lt))) h
+          ≡ row (insert (slice_set (e ∷ es) (suc j) (with_lt (get_or es j x) (held_upper cmp k (get_or es j x).lt))) (suc j) (new_node k d (held_lower cmp k (get_or es j x).lt))) h
       by Less p f = absurd (omega arith)
       by Equal p f = absurd (omega arith)
       by Greater p f = ap (node e.lt e.key e.digest) (f (omega arith))
@@ -65,14 +62,14 @@ module _ {K D : Type 0} (cmp : K → K → Ordering) (k : K) (d : D) where
       by Equal p f = absurd (omega arith)
       by Greater p f = ap (node e.lt e.key e.digest) (f (omega arith))
 
-  pub put_high : (es : List (Node K D)) (h : Held K D) → place cmp k es ≡ length es → row_put cmp k d (row es h) ≡ row (es ++ new_node (held_lower cmp k h) ∷ []) (held_upper cmp k h)
+  pub put_high : (es : List (Node K D)) (h : Held K D) → place cmp k es ≡ length es → row_put cmp k d (row es h) ≡ row (es ++ new_node k d (held_lower cmp k h) ∷ []) (held_upper cmp k h)
   put_high [] h p = refl
   put_high (e ∷ es) h p = by (cmp k e.key) p (λ q. put_high es h q)
     where
       by : (o : Ordering) → (if (is_gt o) then (suc (place cmp k es)) else 0) ≡ length (e ∷ es)
-          → (place cmp k es ≡ length es → row_put cmp k d (row es h) ≡ row (es ++ new_node (held_lower cmp k h) ∷ []) (held_upper cmp k h))
+          → (place cmp k es ≡ length es → row_put cmp k d (row es h) ≡ row (es ++ new_node k d (held_lower cmp k h) ∷ []) (held_upper cmp k h))
           → match_ordering o (node (held_lower cmp k e.lt) k d (node (held_upper cmp k e.lt) e.key e.digest (row es h))) (node e.lt e.key d (row es h)) (node e.lt e.key e.digest (row_put cmp k d (row es h)))
-          ≡ row ((e ∷ es) ++ new_node (held_lower cmp k h) ∷ []) (held_upper cmp k h)
+          ≡ row ((e ∷ es) ++ new_node k d (held_lower cmp k h) ∷ []) (held_upper cmp k h)
       by Less p f = absurd (omega arith)
       by Equal p f = absurd (omega arith)
       by Greater p f = ap (node e.lt e.key e.digest) (f (omega arith))
@@ -156,7 +153,7 @@ module _ {K D : Type 0} (cmp : K → K → Ordering) (n : ℕ) (k : K) (d : D) w
       by Greater p f = f (omega arith)
 
 module _ {K D : Type 0} (cmp : K → K → Ordering) (n : ℕ) (k : K) (d : D) where
-  pub set_less : (m : ℕ) (c : Option (List ℕ)) (es : List (Node K D)) (h : Held K D) → level_order n (page m c (row es h)) ≡ Less
+  set_less : (m : ℕ) (c : Option (List ℕ)) (es : List (Node K D)) (h : Held K D) → level_order n (page m c (row es h)) ≡ Less
       → tree_set cmp n k d (page m c (row es h)) ≡ page m None (row_sink cmp n k d (row es h))
   set_less m c [] h q = absurd (cc)
   set_less m c (e ∷ es) h q =
@@ -168,8 +165,16 @@ module _ {K D : Type 0} (cmp : K → K → Ordering) (n : ℕ) (k : K) (d : D) w
   set_greater m c (e ∷ es) h q =
       ap (λ o. match_ordering o (page m None (row_sink cmp n k d (row (e ∷ es) h))) (page m None (row_put cmp k d (row (e ∷ es) h))) (lifted cmp n k d (page m c (row (e ∷ es) h)))) q
 
-  pub finds_less : (m : ℕ) (c : Option (List ℕ)) (es : List (Node K D)) (h : Held K D) → level_order n (page m c (row es h)) ≡ Less
+  finds_less : (m : ℕ) (c : Option (List ℕ)) (es : List (Node K D)) (h : Held K D) → level_order n (page m c (row es h)) ≡ Less
       → tree_finds cmp n k d (page m c (row es h)) ≡ row_finds cmp n k d true (row es h)
   finds_less m c [] h q = absurd (cc)
   finds_less m c (e ∷ es) h q =
       ap (λ o. match_ordering o (row_finds cmp n k d true (row (e ∷ es) h)) (row_finds cmp n k d false (row (e ∷ es) h)) false) q
+
+  -- the same of a page that is told by its nodes
+  module _ {m : ℕ} {c : Option (List ℕ)} {t : Tree K D} (es : List (Node K D)) (h : Held K D) (is : page m c (row es h) ≡ t) (q : level_order n (page m c (row es h)) ≡ Less) where
+    pub page_set-less : page m None (row_sink cmp n k d (row es h)) ≡ tree_set cmp n k d t
+    page_set-less = sym (set_less m c es h q) ∙ ap (tree_set cmp n k d) is
+
+    pub page_finds-less : tree_finds cmp n k d t ≡ row_finds cmp n k d true (row es h)
+    page_finds-less = ap (tree_finds cmp n k d) (sym is) ∙ finds_less m c es h q

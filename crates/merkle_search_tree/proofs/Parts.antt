@@ -8,11 +8,23 @@ module _ {K D : Type 0} where
   abbrev pub with_lt : Node K D → Held K D → Node K D
   with_lt e h = record { lt = h; key = e.key; digest = e.digest }
 
+  abbrev pub new_node : K → D → Held K D → Node K D
+  new_node k d h = record { lt = h; key = k; digest = d }
+
+  -- what a change of the page below a node makes of the node
+  pub lt_changed : (f : Held K D → Held K D) (k : K) (d : D) {e : Node K D} {a b : Held K D} → new_node k d b ≡ e → a ≡ f b → new_node k d a ≡ with_lt e (f e.lt)
+  lt_changed f k d is new = ap (new_node k d) new ∙ ap (λ e. with_lt e (f e.lt)) is
+
 -- an element that is put back where it was
 pub set_back : {X : Type 0} (xs : List X) (i : ℕ) (x v : X) → i < length xs → x ≡ get_or xs i x → v ≡ x → slice_set xs i v ≡ xs
 set_back [] i x v r e f = absurd (omega arith)
 set_back (y ∷ ys) zero x v r e f = ap (λ z. z ∷ ys) (f ∙ e)
 set_back (y ∷ ys) (suc i) x v r e f = ap (λ zs. y ∷ zs) (set_back ys i x v (omega arith) e f)
+
+-- a node whose page below is put back
+pub lt_back : {K D : Type 0} (es : List (Node K D)) (i : ℕ) (k : K) (d : D) {x : Node K D} {a b : Held K D}
+    → i < length es → x ≡ get_or es i x → new_node k d b ≡ x → a ≡ b → slice_set es i (new_node k d a) ≡ es
+lt_back es i k d within at is back = set_back es i _ _ within at (ap (new_node k d) back ∙ is)
 
 pub on_err_always : {T E : Type 0} (r : Result T E) (P : Type 0) → P → OnErr r P
 on_err_always (Ok x) P p = tt

@@ -1,6 +1,6 @@
 -- A page's row, read off its list of nodes.
-use Rattle.std.proofs.Common.{◌≡◌, ℕ, zero, suc, ◌<◌, ◌≤◌, List, [], ◌∷◌, length, get_or, refl, ap, arith}
-use Rattle.merkle_search_tree.specs.Tree.{Held, Node, row, row_size, held_size, node_size}
+use Rattle.std.proofs.Common.{◌≡◌, ℕ, zero, suc, ◌+◌, ◌<◌, ◌≤◌, List, [], ◌∷◌, length, get_or, Option, refl, ap, arith}
+use Rattle.merkle_search_tree.specs.Tree.{Tree, page, Held, Node, row, tree_size, row_size, held_size, node_size}
 use Rattle.merkle_search_tree.specs.Page.{row_nodes}
 
 module _ {K D : Type 0} where
@@ -17,3 +17,16 @@ module _ {K D : Type 0} where
   pub size_high : (es : List (Node K D)) (h : Held K D) → held_size h ≤ row_size (row es h)
   size_high [] h = omega arith
   size_high (e ∷ es) h = omega (arith, size_high es h)
+
+  -- what stands in a gap of a page is smaller than the page
+  module _ {l : ℕ} {c : Option (List ℕ)} {t : Tree K D} (es : List (Node K D)) (h : Held K D) (is : page l c (row es h) ≡ t) where
+    whole : row_size (row es h) + 1 ≡ tree_size t
+    whole = omega (arith, ap tree_size is)
+
+    pub page_size-high : held_size h < tree_size t
+    page_size-high = omega (arith, size_high es h, whole)
+
+    pub page_size-gap : (i : ℕ) (x : Node K D) {e : Node K D} → e ≡ get_or es i x → i < length es → held_size e.lt < tree_size t
+    page_size-gap i x at within =
+        let same = ap (λ (e : Node K D). held_size e.lt) at in
+        omega (arith, size_at es h i x within, same, whole)

@@ -6,7 +6,7 @@ use Rattle.std.specs.Ordering.{is_gt, match_ordering, nat_cmp}
 use Rattle.merkle_search_tree.specs.Tree.{Tree, page, Row, high, node, Held, nothing, below, Node, row}
 use Rattle.merkle_search_tree.specs.Page.{nodes_of}
 use Rattle.merkle_search_tree.specs.Upsert.{place, as_held}
-use Rattle.merkle_search_tree.specs.Remove.{row_under, held_join, row_append, row_del, held_del, tree_del, tree_without, row_entry, held_entry, row_without, pair_at, IsFreeAt, IsNothing, BeginsFree, RowHasFreeGap, HeldHasFreeGap}
+use Rattle.merkle_search_tree.specs.Remove.{row_under, held_join, row_append, row_del, held_del, tree_del, tree_without, row_entry, held_entry, tree_entry, row_without, pair_at, IsFreeAt, IsNothing, BeginsFree, RowHasFreeGap, HeldHasFreeGap}
 use Rattle.std.specs.List.{remove}
 use Rattle.std.proofs.Common.{take_all}
 use Rattle.std.proofs.lemmas.List.{drop_all}
@@ -58,7 +58,7 @@ module _ {K D : Type 0} where
 
 -- the key's place
 module _ {K D : Type 0} (cmp : K → K → Ordering) (k : K) where
-  pub del_equal : (es : List (Node K D)) (h : Held K D) (i : ℕ) (x : Node K D) → i ≡ place cmp k es → i < length es → cmp k (get_or es i x).key ≡ Equal
+  del_equal : (es : List (Node K D)) (h : Held K D) (i : ℕ) (x : Node K D) → i ≡ place cmp k es → i < length es → cmp k (get_or es i x).key ≡ Equal
       → row_del cmp k (row es h) ≡ row_without i (row es h)
   del_equal [] h i x p r q = absurd (omega arith)
   del_equal (e ∷ es) h zero x p r q = ap (λ o. match_ordering o (node (held_del cmp k e.lt) e.key e.digest (row es h)) (row_append (high e.lt) (row es h)) (node e.lt e.key e.digest (row_del cmp k (row es h)))) q
@@ -71,7 +71,7 @@ module _ {K D : Type 0} (cmp : K → K → Ordering) (k : K) where
       by Equal p f = absurd (omega arith)
       by Greater p f = ap (node e.lt e.key e.digest) (f (omega arith))
 
-  pub entry_equal : (es : List (Node K D)) (h : Held K D) (i : ℕ) (x : Node K D) → i ≡ place cmp k es → i < length es → cmp k (get_or es i x).key ≡ Equal
+  entry_equal : (es : List (Node K D)) (h : Held K D) (i : ℕ) (x : Node K D) → i ≡ place cmp k es → i < length es → cmp k (get_or es i x).key ≡ Equal
       → row_entry cmp k (row es h) ≡ pair_at i es
   entry_equal [] h i x p r q = absurd (omega arith)
   entry_equal (e ∷ es) h zero x p r q = ap (λ o. match_ordering o (held_entry cmp k e.lt) (Some (e.key, e.digest)) (row_entry cmp k (row es h))) q
@@ -88,7 +88,7 @@ module _ {K D : Type 0} (cmp : K → K → Ordering) (k : K) where
   free_equal (e ∷ es) h zero x r q f = f.1 q
   free_equal (e ∷ es) h (suc j) x r q f = free_equal es h j x (omega arith) q f.2
 
-  pub del_gap : (es : List (Node K D)) (h : Held K D) (i : ℕ) (x : Node K D) → i ≡ place cmp k es → i < length es → cmp k (get_or es i x).key ≢ Equal
+  del_gap : (es : List (Node K D)) (h : Held K D) (i : ℕ) (x : Node K D) → i ≡ place cmp k es → i < length es → cmp k (get_or es i x).key ≢ Equal
       → row_del cmp k (row es h) ≡ row (slice_set es i (with_lt (get_or es i x) (held_del cmp k (get_or es i x).lt))) h
   del_gap [] h i x p r ne = absurd (omega arith)
   del_gap (e ∷ es) h zero x p r ne = by (cmp k e.key) p ne
@@ -109,7 +109,7 @@ module _ {K D : Type 0} (cmp : K → K → Ordering) (k : K) where
       by Equal p f = absurd (omega arith)
       by Greater p f = ap (node e.lt e.key e.digest) (f (omega arith))
 
-  pub entry_gap : (es : List (Node K D)) (h : Held K D) (i : ℕ) (x : Node K D) → i ≡ place cmp k es → i < length es → cmp k (get_or es i x).key ≢ Equal
+  entry_gap : (es : List (Node K D)) (h : Held K D) (i : ℕ) (x : Node K D) → i ≡ place cmp k es → i < length es → cmp k (get_or es i x).key ≢ Equal
       → row_entry cmp k (row es h) ≡ held_entry cmp k (get_or es i x).lt
   entry_gap [] h i x p r ne = absurd (omega arith)
   entry_gap (e ∷ es) h zero x p r ne = by (cmp k e.key) p ne
@@ -132,7 +132,7 @@ module _ {K D : Type 0} (cmp : K → K → Ordering) (k : K) where
   free_gap (e ∷ es) h zero x r f = f.0
   free_gap (e ∷ es) h (suc j) x r f = free_gap es h j x (omega arith) f.2
 
-  pub del_high : (es : List (Node K D)) (h : Held K D) → place cmp k es ≡ length es → row_del cmp k (row es h) ≡ row es (held_del cmp k h)
+  del_high : (es : List (Node K D)) (h : Held K D) → place cmp k es ≡ length es → row_del cmp k (row es h) ≡ row es (held_del cmp k h)
   del_high [] h p = refl
   del_high (e ∷ es) h p = by (cmp k e.key) p (λ q. del_high es h q)
     where
@@ -142,7 +142,7 @@ module _ {K D : Type 0} (cmp : K → K → Ordering) (k : K) where
       by Equal p f = absurd (omega arith)
       by Greater p f = ap (node e.lt e.key e.digest) (f (omega arith))
 
-  pub entry_high : (es : List (Node K D)) (h : Held K D) → place cmp k es ≡ length es → row_entry cmp k (row es h) ≡ held_entry cmp k h
+  entry_high : (es : List (Node K D)) (h : Held K D) → place cmp k es ≡ length es → row_entry cmp k (row es h) ≡ held_entry cmp k h
   entry_high [] h p = refl
   entry_high (e ∷ es) h p = by (cmp k e.key) p (λ q. entry_high es h q)
     where
@@ -155,6 +155,27 @@ module _ {K D : Type 0} (cmp : K → K → Ordering) (k : K) where
   pub free_high : (es : List (Node K D)) (h : Held K D) → RowHasFreeGap cmp k (row es h) → HeldHasFreeGap cmp k h
   free_high [] h f = f
   free_high (e ∷ es) h f = free_high es h f.2
+
+-- what a page holds of the key, and the page without it
+module _ {K D : Type 0} (cmp : K → K → Ordering) (k : K) {l : ℕ} {c : Option (List ℕ)} {t : Tree K D} (es : List (Node K D)) (h : Held K D) (is : page l c (row es h) ≡ t) where
+  pub page_entry-high : place cmp k es ≡ length es → held_entry cmp k h ≡ tree_entry cmp k t
+  page_entry-high all = sym (entry_high cmp k es h all) ∙ ap (tree_entry cmp k) is
+
+  pub page_without-high : place cmp k es ≡ length es → page l None (row es (held_del cmp k h)) ≡ tree_without cmp k t
+  page_without-high all = ap (page l None) (sym (del_high cmp k es h all)) ∙ ap (tree_without cmp k) is
+
+  module _ (i : ℕ) (x : Node K D) (at : i ≡ place cmp k es) (within : i < length es) where
+    pub page_entry-equal : cmp k (get_or es i x).key ≡ Equal → pair_at i es ≡ tree_entry cmp k t
+    page_entry-equal same = sym (entry_equal cmp k es h i x at within same) ∙ ap (tree_entry cmp k) is
+
+    pub page_without-equal : cmp k (get_or es i x).key ≡ Equal → page l None (row_without i (row es h)) ≡ tree_without cmp k t
+    page_without-equal same = ap (page l None) (sym (del_equal cmp k es h i x at within same)) ∙ ap (tree_without cmp k) is
+
+    pub page_entry-gap : cmp k (get_or es i x).key ≢ Equal → held_entry cmp k (get_or es i x).lt ≡ tree_entry cmp k t
+    page_entry-gap other = sym (entry_gap cmp k es h i x at within other) ∙ ap (tree_entry cmp k) is
+
+    pub page_without-gap : cmp k (get_or es i x).key ≢ Equal → page l None (row (slice_set es i (with_lt (get_or es i x) (held_del cmp k (get_or es i x).lt))) h) ≡ tree_without cmp k t
+    page_without-gap other = ap (page l None) (sym (del_gap cmp k es h i x at within other)) ∙ ap (tree_without cmp k) is
 
 -- what a slice of a whole vector writes back
 pub written_back : {X : Type 0} (xs ys : List X) (n : ℕ) → n ≡ length ys → length xs ≡ length ys → take n (xs ++ drop (length xs) ys) ≡ xs
@@ -241,5 +262,5 @@ module _ {K D : Type 0} where
   without_gives cmp k (page l c r) = refl
 
   -- one page seen twice: without nodes, what stands in its gap is its high page
-  pub way_same : (l m : ℕ) (c d : Option (List ℕ)) (es fs : List (Node K D)) (h i : Held K D) → page l c (row es h) ≡ page m d (row fs i) → length es ≡ 0 → gives_way (page m d (row fs i)) ≡ i
-  way_same l m c d es fs h i e z = way_none m d fs i (ap length (sym (row_nodes-row fs i) ∙ ap nodes_of (sym e) ∙ row_nodes-row es h) ∙ z)
+  pub way_same : {l m : ℕ} {c d : Option (List ℕ)} (es fs : List (Node K D)) (h i : Held K D) → page l c (row es h) ≡ page m d (row fs i) → length es ≡ 0 → i ≡ gives_way (page l c (row es h))
+  way_same es fs h i e z = sym (way_none _ _ fs i (ap length (sym (row_nodes-row fs i) ∙ ap nodes_of (sym e) ∙ row_nodes-row es h) ∙ z)) ∙ ap gives_way (sym e)

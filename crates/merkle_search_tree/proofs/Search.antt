@@ -1,5 +1,5 @@
 -- The place of a key among ascending nodes, and how a search by halving comes to it.
-use Rattle.std.proofs.Common.{◌≡◌, ◌≢◌, ℕ, zero, suc, ◌+◌, ◌-◌, ◌/◌, ◌^◌, ◌<◌, ◌≤◌, List, [], ◌∷◌, ◌++◌, length, get_or, Bool, true, false, if◌then◌else◌, refl, ap, sym, subst, ◌∙◌, arith}
+use Rattle.std.proofs.Common.{◌≡◌, ◌≢◌, ℕ, zero, suc, ◌+◌, ◌-◌, ◌/◌, ◌^◌, ◌<◌, ◌≤◌, List, [], ◌∷◌, ◌++◌, length, get_or, Bool, true, false, if◌then◌else◌, Option, refl, ap, sym, subst, ◌∙◌, arith}
 use Rattle.std.proofs.Math.Nat.{pow-succ'}
 use Rattle.std.specs.List.{AllByRecursion}
 use Rattle.std.specs.declared.cmp.Ordering.{Ordering}
@@ -46,6 +46,20 @@ module _ {K D : Type 0} (cmp : K → K → Ordering) where
   high-map [] h a = a
   high-map (e ∷ es) h a = high-map es h (map-rest cmp (held_pairs e.lt) ((e.key, e.digest) ∷ row_pairs (row es h)) a).1
 
+  -- the same of a page that is a map
+  module _ {l : ℕ} {c : Option (List ℕ)} {t : Tree K D} (es : List (Node K D)) (h : Held K D) (is : page l c (row es h) ≡ t) (a : IsMap cmp (pairs t)) where
+    row-map : IsMap cmp (row_pairs (row es h))
+    row-map = subst (λ (p : Tree K D). IsMap cmp (pairs p)) (sym is) a
+
+    pub page_nodes-ascend : {ys : List (Node K D)} → ys ≡ es → NodesAscend cmp ys
+    page_nodes-ascend lent = subst (NodesAscend cmp) (sym lent) (row-ascends es h row-map)
+
+    pub page_high-map : IsMap cmp (held_pairs h)
+    page_high-map = high-map es h row-map
+
+    pub page_gap-map : (i : ℕ) (x : Node K D) {e : Node K D} → e ≡ get_or es i x → i < length es → IsMap cmp (held_pairs e.lt)
+    page_gap-map i x at within = subst (λ (e : Node K D). IsMap cmp (held_pairs e.lt)) (sym at) (gap-map es h i x row-map within)
+
 module _ {K D : Type 0} (cmp : K → K → Ordering) (k : K) where
   pub place-within : (es : List (Node K D)) → place cmp k es ≤ length es
   place-within [] = omega arith
@@ -82,6 +96,24 @@ is_there Greater e = cc
 
 pub not_there : (r : Ordering) → is_eq r ≡ false → r ≢ Equal
 not_there r e f = let g = sym e ∙ ap is_eq f in cc
+
+-- what a search tells of a page's nodes, which it was lent as a slice: it ended behind them all, or at a node, whose key it is or not
+module _ {K D : Type 0} {ys es : List (Node K D)} where
+  pub all_below : (cmp : K → K → Ordering) (k : K) {i n m : ℕ} → i ≡ place cmp k ys → ys ≡ es → i ≡ n → n ≡ m → m ≡ length es → place cmp k es ≡ length es
+  all_below cmp k found lent end len ok = omega (arith, found ∙ ap (place cmp k) lent)
+
+  pub one_at : {i n m : ℕ} → i ≤ length ys → ys ≡ es → i ≢ n → n ≡ m → m ≡ length es → i < length es
+  one_at within lent end len ok = omega (arith, ap length lent)
+
+  module _ (cmp : K → K → Ordering) (k : K) (i : ℕ) {b : Bool} (there : (x : Node K D) → i < length ys → b ≡ is_eq (cmp k (get_or ys i x).key)) (lent : ys ≡ es) where
+    there_at : (x : Node K D) → i < length es → b ≡ is_eq (cmp k (get_or es i x).key)
+    there_at = subst (λ zs. (x : Node K D) → i < length zs → b ≡ is_eq (cmp k (get_or zs i x).key)) lent there
+
+    pub key_there : b ≡ true → (x : Node K D) → i < length es → cmp k (get_or es i x).key ≡ Equal
+    key_there t x r = is_there _ (sym (there_at x r) ∙ t)
+
+    pub key_elsewhere : b ≡ false → (x : Node K D) → i < length es → cmp k (get_or es i x).key ≢ Equal
+    key_elsewhere f x r = not_there _ (sym (there_at x r) ∙ f)
 
 module _ {K D : Type 0} (cmp : K → K → Ordering) (k : K) where
   -- the place of a node with the key
