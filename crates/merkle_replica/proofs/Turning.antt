@@ -19,87 +19,83 @@ one_more f [] x ys = refl
 one_more f (z ∷ zs) x ys = ap (λ w. f z ∷ w) (one_more f zs x ys)
 
 module _ {K V H : Type 0} (laws : Laws K V H) where
-  -- what is to come, where a pulls next or b does
-  abbrev pub Going : Bool → List (Answer K) → Side K V H → Side K V H → List (K × V) → List (K × V) → List (Side K V H × Side K V H) → Type 0
-  Going true qs a b a' b' met = IsByTurns laws qs a b a' b' met
-  Going false qs a b a' b' met = IsByTurns laws qs b a b' a' met
+  -- the turns so far, where p pulls next, and then q: whatever follows, `Whole` holds of all answers and of the rows that are left, and `Stopped` where a fault comes at last
+  pub record Turns (Whole : List (Answer K) → List (K × V) → List (K × V) → Type 0) (Stopped : List (Pulled K) → PullError K → List (K × V) → List (K × V) → Type 0) (done : List (Pulled K)) (p q : Contents K V H) : Type 0 where
+    pub follows : (qs : List (Answer K)) (p' q' : List (K × V)) (met : List (Side K V H × Side K V H)) → IsByTurns laws qs (side p) (side q) p' q' met → Whole (map answer_of done ++ qs) p' q'
+    pub stops : (ps : List (Pulled K)) (fault : PullError K) (p' q' : List (K × V)) → StopsByTurns laws ps fault (side p) (side q) p' q' → Stopped (done ++ ps) fault p' q'
 
-  -- the same, where a fault comes at last
-  abbrev pub Stopping : Bool → List (Pulled K) → PullError K → Side K V H → Side K V H → List (K × V) → List (K × V) → Type 0
-  Stopping true ps fault a b a' b' = StopsByTurns laws ps fault a b a' b'
-  Stopping false ps fault a b a' b' = StopsByTurns laws ps fault b a b' a'
+  module _ (Whole : List (Answer K) → List (K × V) → List (K × V) → Type 0) (Stopped : List (Pulled K) → PullError K → List (K × V) → List (K × V) → Type 0) (done : List (Pulled K)) (p q : Contents K V H) (t : Turns Whole Stopped done p q) where
+    -- one more turn
+    turn : (p1 q1 : Contents K V H) (pulled : Pulled K) → SameSetup p p1 → SameSetup q q1 → IsPull laws (side p) (side q) (answer_of pulled) p1.rows × (q1.rows ≡ q.rows) → Turns (λ qs x y. Whole qs y x) (λ ps fault x y. Stopped ps fault y x) (done ++ pulled ∷ []) q1 p1
+    turn p1 q1 pulled sp sq h = record {
+      follows = λ qs q' p' met more.
+          let rest = subst (λ s. IsByTurns laws qs s (with_rows (side p) p1.rows) q' p' met) (same_side q q1 h.1 sq) (subst (λ s. IsByTurns laws qs (side q1) s q' p' met) (rows_alone p p1 sp) more) in
+          subst (λ ps. Whole ps p' q') (sym (one_more answer_of done pulled qs)) (t.follows (answer_of pulled ∷ qs) p' q' ((side p, side q) ∷ met) (p1.rows, met, refl, h.0, rest));
+      stops = λ ps fault q' p' more.
+          let rest = subst (λ s. StopsByTurns laws ps fault s (with_rows (side p) p1.rows) q' p') (same_side q q1 h.1 sq) (subst (λ s. StopsByTurns laws ps fault (side q1) s q' p') (rows_alone p p1 sp) more) in
+          subst (λ qs. Stopped qs fault p' q') (sym (append_assoc done (pulled ∷ []) ps)) (t.stops (pulled ∷ ps) fault p' q' (p1.rows, h.0, rest));
+    }
 
-  -- the turns so far: whatever follows, all are turns from the beginning
-  pub record Goes (a0 b0 : Contents K V H) (done : List (Pulled K)) (next : Bool) (a b : Contents K V H) : Type 0 where
-    pub setup_a : SameSetup a0 a
-    pub setup_b : SameSetup b0 b
-    pub follows : (qs : List (Answer K)) (a' b' : List (K × V)) (met : List (Side K V H × Side K V H)) → Going next qs (side a) (side b) a' b' met
-        → (all : List (Side K V H × Side K V H)) × IsByTurns laws (map answer_of done ++ qs) (side a0) (side b0) a' b' all
-    pub stops : (ps : List (Pulled K)) (fault : PullError K) (a' b' : List (K × V)) → Stopping next ps fault (side a) (side b) a' b' → StopsByTurns laws (done ++ ps) fault (side a0) (side b0) a' b'
+    -- a fault
+    halt : (fault : PullError K) (p' q' : List (K × V)) → IsRefused laws (side p) (side q) fault p' × (q' ≡ q.rows) → Stopped done fault p' q'
+    halt fault p' q' h = subst (λ ps. Stopped ps fault p' q') (append-nil done) (t.stops [] fault p' q' h)
 
-  pub starts : (a b : Contents K V H) → Goes a b [] true a b
-  starts a b = record { setup_a = (refl, refl, refl); setup_b = (refl, refl, refl); follows = λ qs a' b' met t. (met, t); stops = λ ps fault a' b' t. t }
+    -- no more turns
+    end : Whole (map answer_of done) p.rows q.rows
+    end = subst (λ qs. Whole qs p.rows q.rows) (append-nil (map answer_of done)) (t.follows [] p.rows q.rows [] (refl, refl, refl))
 
   further : (a b c : Contents K V H) → SameSetup a b → SameSetup b c → SameSetup a c
   further a b c s t = (t.0 ∙ s.0, t.1 ∙ s.1, t.2 ∙ s.2)
 
-  module _ (a0 b0 a b a1 b1 : Contents K V H) (done : List (Pulled K)) (pulled : Pulled K) (sa : SameSetup a a1) (sb : SameSetup b b1) where
-    turn_a : Goes a0 b0 done true a b → IsPull laws (side a) (side b) (answer_of pulled) a1.rows → b1.rows ≡ b.rows → Goes a0 b0 (done ++ pulled ∷ []) false a1 b1
-    turn_a g p same = record {
-      setup_a = further a0 a a1 g.setup_a sa;
-      setup_b = further b0 b b1 g.setup_b sb;
-      follows = λ qs a' b' met t.
-          let rest = subst (λ s. IsByTurns laws qs s (with_rows (side a) a1.rows) b' a' met) (same_side b b1 same sb) (subst (λ s. IsByTurns laws qs (side b1) s b' a' met) (rows_alone a a1 sa) t) in
-          let (all, turns) = g.follows (answer_of pulled ∷ qs) a' b' ((side a, side b) ∷ met) (a1.rows, met, refl, p, rest) in
-          (all, subst (λ ps. IsByTurns laws ps (side a0) (side b0) a' b' all) (sym (one_more answer_of done pulled qs)) turns);
-      stops = λ ps fault a' b' t.
-          let rest = subst (λ s. StopsByTurns laws ps fault s (with_rows (side a) a1.rows) b' a') (same_side b b1 same sb) (subst (λ s. StopsByTurns laws ps fault (side b1) s b' a') (rows_alone a a1 sa) t) in
-          subst (λ qs. StopsByTurns laws qs fault (side a0) (side b0) a' b') (sym (append_assoc done (pulled ∷ []) ps)) (g.stops (pulled ∷ ps) fault a' b' (a1.rows, p, rest));
-    }
+  -- a has pulled, or b has
+  abbrev pub Pulls : Bool → Contents K V H → Contents K V H → Answer K → Contents K V H → Contents K V H → Type 0
+  Pulls true a b answer a1 b1 = IsPull laws (side a) (side b) answer a1.rows × (b1.rows ≡ b.rows)
+  Pulls false a b answer a1 b1 = IsPull laws (side b) (side a) answer b1.rows × (a1.rows ≡ a.rows)
 
-    turn_b : Goes a0 b0 done false a b → IsPull laws (side b) (side a) (answer_of pulled) b1.rows → a1.rows ≡ a.rows → Goes a0 b0 (done ++ pulled ∷ []) true a1 b1
-    turn_b g p same = record {
-      setup_a = further a0 a a1 g.setup_a sa;
-      setup_b = further b0 b b1 g.setup_b sb;
-      follows = λ qs a' b' met t.
-          let rest = subst (λ s. IsByTurns laws qs s (with_rows (side b) b1.rows) a' b' met) (same_side a a1 same sa) (subst (λ s. IsByTurns laws qs (side a1) s a' b' met) (rows_alone b b1 sb) t) in
-          let (all, turns) = g.follows (answer_of pulled ∷ qs) a' b' ((side b, side a) ∷ met) (b1.rows, met, refl, p, rest) in
-          (all, subst (λ ps. IsByTurns laws ps (side a0) (side b0) a' b' all) (sym (one_more answer_of done pulled qs)) turns);
-      stops = λ ps fault a' b' t.
-          let rest = subst (λ s. StopsByTurns laws ps fault s (with_rows (side b) b1.rows) a' b') (same_side a a1 same sa) (subst (λ s. StopsByTurns laws ps fault (side a1) s a' b') (rows_alone b b1 sb) t) in
-          subst (λ qs. StopsByTurns laws qs fault (side a0) (side b0) a' b') (sym (append_assoc done (pulled ∷ []) ps)) (g.stops (pulled ∷ ps) fault a' b' (b1.rows, p, rest));
-    }
+  -- a met the fault, or b did
+  abbrev pub Stops : Bool → Contents K V H → Contents K V H → PullError K → List (K × V) → List (K × V) → Type 0
+  Stops true a b fault a' b' = IsRefused laws (side a) (side b) fault a' × (b' ≡ b.rows)
+  Stops false a b fault a' b' = IsRefused laws (side b) (side a) fault b' × (a' ≡ a.rows)
 
-  module _ (a0 b0 a b a1 b1 : Contents K V H) (done done' : List (Pulled K)) (pulled : Pulled K) (next next' : Bool) (sa : SameSetup a a1) (sb : SameSetup b b1) (n' : next' ≡ not next) (d' : done' ≡ done ++ pulled ∷ []) where
-    pub goes_a : next ≡ true → Goes a0 b0 done next a b → IsPull laws (side a) (side b) (answer_of pulled) a1.rows → b1.rows ≡ b.rows → Goes a0 b0 done' next' a1 b1
-    goes_a n g p same = subst (λ ds. Goes a0 b0 ds next' a1 b1) (sym d') (subst (λ m. Goes a0 b0 (done ++ pulled ∷ []) m a1 b1) (sym (n' ∙ ap not n)) (turn_a a0 b0 a b a1 b1 done pulled sa sb (subst (λ m. Goes a0 b0 done m a b) n g) p same))
+  module _ (a0 b0 : Contents K V H) where
+    abbrev Whole : List (Answer K) → List (K × V) → List (K × V) → Type 0
+    Whole qs a' b' = (met : List (Side K V H × Side K V H)) × IsByTurns laws qs (side a0) (side b0) a' b' met
 
-    pub goes_b : next ≡ false → Goes a0 b0 done next a b → IsPull laws (side b) (side a) (answer_of pulled) b1.rows → a1.rows ≡ a.rows → Goes a0 b0 done' next' a1 b1
-    goes_b n g p same = subst (λ ds. Goes a0 b0 ds next' a1 b1) (sym d') (subst (λ m. Goes a0 b0 (done ++ pulled ∷ []) m a1 b1) (sym (n' ∙ ap not n)) (turn_b a0 b0 a b a1 b1 done pulled sa sb (subst (λ m. Goes a0 b0 done m a b) n g) p same))
+    abbrev Stopped : List (Pulled K) → PullError K → List (K × V) → List (K × V) → Type 0
+    Stopped ps fault a' b' = StopsByTurns laws ps fault (side a0) (side b0) a' b'
 
-  module _ (a0 b0 a b : Contents K V H) (a1 b1 : List (K × V)) (done : List (Pulled K)) (fault : PullError K) (next : Bool) where
-    -- a fault where a was to pull
-    pub stops_a : next ≡ true → Goes a0 b0 done next a b → IsRefused laws (side a) (side b) fault a1 → b1 ≡ b.rows → StopsByTurns laws done fault (side a0) (side b0) a1 b1
-    stops_a n g p same =
-        subst (λ ps. StopsByTurns laws ps fault (side a0) (side b0) a1 b1) (append-nil done)
-        ((subst (λ m. Goes a0 b0 done m a b) n g).stops [] fault a1 b1 (p, same))
+    -- the turns so far, where a pulls next or b does
+    abbrev pub Going : List (Pulled K) → Bool → Contents K V H → Contents K V H → Type 0
+    Going done true a b = Turns Whole Stopped done a b
+    Going done false a b = Turns (λ qs x y. Whole qs y x) (λ ps fault x y. Stopped ps fault y x) done b a
 
-    -- a fault where b was to pull
-    pub stops_b : next ≡ false → Goes a0 b0 done next a b → IsRefused laws (side b) (side a) fault b1 → a1 ≡ a.rows → StopsByTurns laws done fault (side a0) (side b0) a1 b1
-    stops_b n g p same =
-        subst (λ ps. StopsByTurns laws ps fault (side a0) (side b0) a1 b1) (append-nil done)
-        ((subst (λ m. Goes a0 b0 done m a b) n g).stops [] fault a1 b1 (p, same))
+    pub record Goes (done : List (Pulled K)) (next : Bool) (a b : Contents K V H) : Type 0 where
+      pub setup_a : SameSetup a0 a
+      pub setup_b : SameSetup b0 b
+      pub turns : Going done next a b
 
-  -- the loop is over
-  ends : (a0 b0 : Contents K V H) (done : List (Pulled K)) (next : Bool) (a b : Contents K V H) → Goes a0 b0 done next a b
-      → (met : List (Side K V H × Side K V H)) × IsByTurns laws (map answer_of done) (side a0) (side b0) a.rows b.rows met
-  ends a0 b0 done next a b g =
-      let (met, turns) = g.follows [] a.rows b.rows [] (none next) in
-      (met, subst (λ ps. IsByTurns laws ps (side a0) (side b0) a.rows b.rows met) (append-nil (map answer_of done)) turns)
-    where
-      none : (n : Bool) → Going n [] (side a) (side b) a.rows b.rows []
-      none true = (refl, refl, refl)
-      none false = (refl, refl, refl)
+    pub starts : Goes [] true a0 b0
+    starts = record { setup_a = (refl, refl, refl); setup_b = (refl, refl, refl); turns = record { follows = λ qs a' b' met t. (met, t); stops = λ ps fault a' b' t. t } }
+
+    module _ (a b : Contents K V H) (done : List (Pulled K)) where
+      turned : (next : Bool) (a1 b1 : Contents K V H) (pulled : Pulled K) → SameSetup a a1 → SameSetup b b1 → Pulls next a b (answer_of pulled) a1 b1 → Going done next a b → Going (done ++ pulled ∷ []) (not next) a1 b1
+      turned true a1 b1 pulled sa sb h t = turn _ _ done a b t a1 b1 pulled sa sb h
+      turned false a1 b1 pulled sa sb h t = turn _ _ done b a t b1 a1 pulled sb sa h
+
+      pub goes_on : (next : Bool) (a1 b1 : Contents K V H) (done' : List (Pulled K)) (pulled : Pulled K) → done' ≡ done ++ pulled ∷ [] → SameSetup a a1 → SameSetup b b1 → Pulls next a b (answer_of pulled) a1 b1 → Goes done next a b → Goes done' (not next) a1 b1
+      goes_on next a1 b1 done' pulled d sa sb h g = record {
+        setup_a = further a0 a a1 g.setup_a sa;
+        setup_b = further b0 b b1 g.setup_b sb;
+        turns = subst (λ ps. Going ps (not next) a1 b1) (sym d) (turned next a1 b1 pulled sa sb h g.turns);
+      }
+
+      pub stops_here : (next : Bool) (fault : PullError K) (a' b' : List (K × V)) → Stops next a b fault a' b' → Going done next a b → StopsByTurns laws done fault (side a0) (side b0) a' b'
+      stops_here true fault a' b' h t = halt _ _ done a b t fault a' b' h
+      stops_here false fault a' b' h t = halt _ _ done b a t fault b' a' h
+
+      ends : (next : Bool) → Going done next a b → (met : List (Side K V H × Side K V H)) × IsByTurns laws (map answer_of done) (side a0) (side b0) a.rows b.rows met
+      ends true t = end _ _ done a b t
+      ends false t = end _ _ done b a t
 
   module _ (o : IsTotalOrder laws.cmp) (e : IsEquivalence laws.eq) (j : IsJoining laws.eq laws.join) (lists : AreListings laws) where
     -- and with four turns or more, both hold the join
@@ -107,5 +103,5 @@ module _ {K V H : Type 0} (laws : Laws K V H) where
         → (met : List (Side K V H × Side K V H)) × IsByTurns laws (map answer_of done) (side a0) (side b0) a.rows b.rows met
         × (AllFaithful laws met → 4 ≤ length (map answer_of done) → HoldTheJoin laws (side a0) (side b0) a.rows b.rows)
     ends_converged a0 b0 done next a b aa ab g =
-        let (met, turns) = ends a0 b0 done next a b g in
+        let (met, turns) = ends a0 b0 a b done next g.turns in
         (met, turns, λ faith n. converges laws o e j lists (map answer_of done) (side a0) (side b0) a.rows b.rows met aa ab turns faith n)

@@ -4,7 +4,7 @@ use Rattle.merkle_replica.specs.Contents.{side}
 use Rattle.merkle_replica.specs.Answers.{answer_of, IsRefused}
 use Rattle.merkle_replica.specs.Pulls.{IsPull}
 use Rattle.merkle_replica.proofs.Sides.{laws_of}
-use Rattle.merkle_replica.proofs.Turning.{starts, goes_a, goes_b, stops_a, stops_b, ends_converged}
+use Rattle.merkle_replica.proofs.Turning.{starts, goes_on, stops_here, ends_converged}
 use Rattle.merkle_replica.proofs.turns.pull_by_turns.Goals as goal
 use Rattle.merkle_replica.proofs.turns.pull_by_turns.Goals.{then-a_pulls, else-a_pulls}
 
@@ -35,10 +35,10 @@ turning-preserved g c =
       goes = elim c.if-a_pulls.branch [
         | then-a_pulls w ↦
             let done = subst (λ r. IfOk r (λ pulled. IsPull laws (side c.turning.a) (side c.turning.b) (answer_of pulled) w.pull-answer.new.self.rows)) (sym w.answer-is ∙ c.in-Ok-answer.is) w.pull-answer.ensures.done in
-            rw (w.a-is, w.b-is) (goes_a laws c.args.a.now c.args.b.now c.turning.a c.turning.b w.pull-answer.new.self w.pull-answer.new.peer c.turning.all.items c.push.new.self.items c.in-Ok-answer.pulled c.turning.a_pulls (not c.turning.a_pulls) w.pull-answer.ensures.setup w.pull-answer.ensures.peer_setup refl c.in-Ok-push.ensures.items w.if-a_pulls.true c.turning.invariant.goes done w.pull-answer.ensures.peer_rows)
+            rw (w.a-is, w.b-is) (goes_on laws c.args.a.now c.args.b.now c.turning.a c.turning.b c.turning.all.items c.turning.a_pulls w.pull-answer.new.self w.pull-answer.new.peer c.push.new.self.items c.in-Ok-answer.pulled c.in-Ok-push.ensures.items w.pull-answer.ensures.setup w.pull-answer.ensures.peer_setup (rw w.if-a_pulls.true (done, w.pull-answer.ensures.peer_rows)) c.turning.invariant.goes)
         | else-a_pulls w ↦
             let done = subst (λ r. IfOk r (λ pulled. IsPull laws (side c.turning.b) (side c.turning.a) (answer_of pulled) w.pull-answer-else-a_pulls.new.self.rows)) (sym w.answer-is ∙ c.in-Ok-answer.is) w.pull-answer-else-a_pulls.ensures.done in
-            rw (w.a-is, w.b-is) (goes_b laws c.args.a.now c.args.b.now c.turning.a c.turning.b w.pull-answer-else-a_pulls.new.peer w.pull-answer-else-a_pulls.new.self c.turning.all.items c.push.new.self.items c.in-Ok-answer.pulled c.turning.a_pulls (not c.turning.a_pulls) w.pull-answer-else-a_pulls.ensures.peer_setup w.pull-answer-else-a_pulls.ensures.setup refl c.in-Ok-push.ensures.items w.if-a_pulls.false c.turning.invariant.goes done w.pull-answer-else-a_pulls.ensures.peer_rows)
+            rw (w.a-is, w.b-is) (goes_on laws c.args.a.now c.args.b.now c.turning.a c.turning.b c.turning.all.items c.turning.a_pulls w.pull-answer-else-a_pulls.new.peer w.pull-answer-else-a_pulls.new.self c.push.new.self.items c.in-Ok-answer.pulled c.in-Ok-push.ensures.items w.pull-answer-else-a_pulls.ensures.peer_setup w.pull-answer-else-a_pulls.ensures.setup (rw w.if-a_pulls.false (done, w.pull-answer-else-a_pulls.ensures.peer_rows)) c.turning.invariant.goes)
       ];
       taken = let t = c.turning.invariant.taken in ap length c.in-Ok-push.ensures.items ∙ length-append c.turning.all.items (c.in-Ok-answer.pulled ∷ []) ∙ omega arith;
       counted = let t = c.turning.invariant.counted in let u = c.in-Ok-push.ensures.len in u ∙ omega arith;
@@ -51,8 +51,8 @@ returns-in-Err-answer-clause-stopped g c =
     elim c.if-a_pulls.branch [
       | then-a_pulls w ↦
           let fault = subst (λ r. IfErr r (λ fault. IsRefused laws (side c.turning.a) (side c.turning.b) fault w.pull-answer.new.self.rows)) (sym w.answer-is ∙ c.in-Err-answer.is) w.pull-answer.ensures.refused in
-          rw (w.a-is, w.b-is) (stops_a laws c.args.a.now c.args.b.now c.turning.a c.turning.b w.pull-answer.new.self.rows w.pull-answer.new.peer.rows c.turning.all.items c.in-Err-answer.fault c.turning.a_pulls w.if-a_pulls.true c.turning.invariant.goes fault w.pull-answer.ensures.peer_rows)
+          rw (w.a-is, w.b-is) (stops_here laws c.args.a.now c.args.b.now c.turning.a c.turning.b c.turning.all.items c.turning.a_pulls c.in-Err-answer.fault w.pull-answer.new.self.rows w.pull-answer.new.peer.rows (rw w.if-a_pulls.true (fault, w.pull-answer.ensures.peer_rows)) c.turning.invariant.goes.turns)
       | else-a_pulls w ↦
           let fault = subst (λ r. IfErr r (λ fault. IsRefused laws (side c.turning.b) (side c.turning.a) fault w.pull-answer-else-a_pulls.new.self.rows)) (sym w.answer-is ∙ c.in-Err-answer.is) w.pull-answer-else-a_pulls.ensures.refused in
-          rw (w.a-is, w.b-is) (stops_b laws c.args.a.now c.args.b.now c.turning.a c.turning.b w.pull-answer-else-a_pulls.new.peer.rows w.pull-answer-else-a_pulls.new.self.rows c.turning.all.items c.in-Err-answer.fault c.turning.a_pulls w.if-a_pulls.false c.turning.invariant.goes fault w.pull-answer-else-a_pulls.ensures.peer_rows)
+          rw (w.a-is, w.b-is) (stops_here laws c.args.a.now c.args.b.now c.turning.a c.turning.b c.turning.all.items c.turning.a_pulls c.in-Err-answer.fault w.pull-answer-else-a_pulls.new.peer.rows w.pull-answer-else-a_pulls.new.self.rows (rw w.if-a_pulls.false (fault, w.pull-answer-else-a_pulls.ensures.peer_rows)) c.turning.invariant.goes.turns)
     ]
