@@ -1,5 +1,6 @@
 -- Rows gathered one after the other, and what puts of them leave.
 use Rattle.std.proofs.Common.{◌≡◌, ℕ, zero, suc, ◌+◌, Bool, true, false, cond, List, [], ◌∷◌, ◌++◌, length, length-append, take, Option, Some, None, refl, sym, ◌∙◌, ap, subst, ◌⊎◌, inl, inr, arith}
+use Rattle.std.proofs.lemmas.List.{take_at}
 use Rattle.std.specs.List.{AllByRecursion}
 use Rattle.std.specs.Cmp.{IsTotalOrder, IsEquivalence}
 use Rattle.std.specs.Ordering.{is_eq}
@@ -12,21 +13,14 @@ use Rattle.key_order.proofs.Joins.{put_joins}
 use Rattle.key_order.proofs.Maps.{is_equal, absent}
 use Rattle.key_order.proofs.Orders.{low_is_up, up_low, same_down}
 use Rattle.key_order.proofs.Values.{Eq, same, back, on, assoc, cong, to_none}
+use Rattle.merkle_diff.proofs.Each.{each-with}
 use Rattle.merkle_replica.specs.Puts.{IsRising, IsPuts, gathered, HasGathered, IsGatheredTo}
 
-take_here : {X : Type 0} (front more : List X) → take (length front) (front ++ more) ≡ front
-take_here [] more = refl
-take_here (x ∷ front) more = ap (λ t. x ∷ t) (take_here front more)
-
 module _ {K V : Type 0} (cmp : K → K → Ordering) (o : IsTotalOrder cmp) where
-  all_up : (k : K) (rows : List (K × V)) → AllByRecursion (λ s. Below cmp k s.0) rows → AllByRecursion (λ s. Upto cmp k s.0) rows
-  all_up k [] a = tt
-  all_up k (r ∷ rows) a = (low_is_up cmp o k r.0 a.0, all_up k rows a.1)
-
   -- the rows of a map rise
   pub map_rises : (rows : List (K × V)) → IsMap cmp rows → IsRising cmp rows
   map_rises [] m = tt
-  map_rises (r ∷ rows) m = (all_up r.0 rows m.0, map_rises rows m.1)
+  map_rises (r ∷ rows) m = (each-with (λ s. Below cmp r.0 s.0) (λ s. Upto cmp r.0 s.0) rows (λ s b. low_is_up cmp o r.0 s.0 b) m.0, map_rises rows m.1)
 
   module _ (eq : V → V → Bool) (e : IsEquivalence eq) (join : V → V → V) (j : IsJoining eq join) where
     abbrev at : K → K × V → Option V
@@ -65,11 +59,7 @@ module _ {K V : Type 0} (cmp : K → K → Ordering) (o : IsTotalOrder cmp) wher
       where
         none_behind : (xs : List (K × V)) → is_eq (cmp r.0 k) ≡ true → AllByRecursion (λ s. Below cmp r.0 s.0) xs → IsMap cmp xs → get cmp xs k ≡ None
         none_behind [] n a up = refl
-        none_behind (x ∷ xs) n a up = absent cmp o (x ∷ xs) k (behind (x ∷ xs) a)
-          where
-            behind : (ys : List (K × V)) → AllByRecursion (λ s. Below cmp r.0 s.0) ys → AllByRecursion (λ s. Below cmp k s.0) ys
-            behind [] b = tt
-            behind (y ∷ ys) b = (up_low cmp o k r.0 y.0 (same_down cmp o r.0 k (is_equal (cmp r.0 k) n)) b.0, behind ys b.1)
+        none_behind (x ∷ xs) n a up = absent cmp o (x ∷ xs) k (each-with (λ s. Below cmp r.0 s.0) (λ s. Below cmp k s.0) (x ∷ xs) (λ s b. up_low cmp o k r.0 s.0 (same_down cmp o r.0 k (is_equal (cmp r.0 k) n)) b) a)
 
         go : (is_eq (cmp r.0 k) ≡ false) ⊎ (is_eq (cmp r.0 k) ≡ true) → Eq eq e join j (gathered cmp eq join rows k) (get cmp rows k) → Eq eq e join j (joined join (at k r) (gathered cmp eq join rows k)) (get cmp (r ∷ rows) k)
         go (inl n) h = rw n h
@@ -125,6 +115,6 @@ module _ {K V : Type 0} (cmp : K → K → Ordering) (o : IsTotalOrder cmp) wher
       let l : length all ≡ length seen + suc (length rest) = ap length (sym e) ∙ length-append seen (r ∷ rest) in
       record {
         not_all = omega (arith, l, n);
-        gathers = subst (λ t. HasGathered cmp eq join old t now) (sym (ap (take done) (sym e) ∙ ap (λ d. take d (seen ++ r ∷ rest)) (sym n) ∙ take_here seen (r ∷ rest))) h;
+        gathers = subst (λ t. HasGathered cmp eq join old t now) (sym (ap (take done) (sym e) ∙ take_at seen (r ∷ rest) done n)) h;
         unchanged = u;
       }

@@ -8,7 +8,9 @@ use Rattle.std.specs.declared.cmp.Ordering.{Ordering}
 use Rattle.std.specs.declared.cmp.Ordering.TheVariants.{Less, Equal, Greater}
 use Rattle.key_order.specs.Order.{Below, Upto, Same}
 use Rattle.key_order.specs.Map.{IsMap}
+use Rattle.key_order.proofs.Maps.{is_equal}
 use Rattle.key_order.proofs.Orders.{low_low, low_up, same_up}
+use Rattle.merkle_diff.proofs.Each.{each-with}
 use Rattle.std.specs.Cmp.{IsEquivalence}
 use Rattle.key_order.specs.Join.{IsJoin, IsJoining}
 use Rattle.merkle_replica.specs.Answers.{IsPartlyDone}
@@ -26,11 +28,6 @@ greater : (r : Ordering) → (r ≡ Less → ⊥) → is_eq r ≡ false → r �
 greater Less n h = absurd (n refl)
 greater Equal n h = cc
 greater Greater n h = refl
-
-equal-of : (r : Ordering) → is_eq r ≡ true → r ≡ Equal
-equal-of Less h = cc
-equal-of Equal h = refl
-equal-of Greater h = cc
 
 module _ {X : Type 0} where
   -- a list up to its last element
@@ -69,10 +66,6 @@ module _ {X : Type 0} where
   within-back P (x ∷ xs) ys a zero d from to = absurd (omega arith)
   within-back P (x ∷ xs) ys a (suc j) d from to = within-back P xs ys a j d (omega arith) (omega arith)
 
-  pub weaker : (P Q : X → Type 0) → ((x : X) → P x → Q x) → (xs : List X) → AllByRecursion P xs → AllByRecursion Q xs
-  weaker P Q f [] a = tt
-  weaker P Q f (x ∷ xs) a = (f x a.0, weaker P Q f xs a.1)
-
 module _ {K V : Type 0} (cmp : K → K → Ordering) (o : IsTotalOrder cmp) where
   map-behind : (xs ys : List (K × V)) → IsMap cmp (xs ++ ys) → IsMap cmp ys
   map-behind [] ys m = m
@@ -93,7 +86,7 @@ module _ {K V : Type 0} (cmp : K → K → Ordering) (o : IsTotalOrder cmp) wher
       → IsPlaceOf cmp key (whole front back) (length front) × (r ≡ get_or (whole front back) (length front) r) × (whole front (list_set back n (r.0, v)) ≡ list_set (whole front back) (length front) (r.0, v))
   at-next front back n key r d v e read is =
       let p = last-parts back n r (r.0, v) e in
-      let same : cmp r.0 key ≡ Equal = equal-of (cmp r.0 key) (sym (next-is key back n r e read) ∙ is) in
+      let same : cmp r.0 key ≡ Equal = is_equal (cmp r.0 key) (sym (next-is key back n r e read) ∙ is) in
       let b : back ≡ p.0 ++ r ∷ [] = p.1 ∙ ap (λ x. p.0 ++ x ∷ []) (sym read) in
       let w : whole front back ≡ front ++ r ∷ reverse p.0 = ap (λ t. front ++ reverse t) b ∙ ap (λ t. front ++ t) (reverse-append p.0 (r ∷ [])) in
       let u : whole front (list_set back n (r.0, v)) ≡ front ++ (r.0, v) ∷ reverse p.0 = ap (λ t. front ++ reverse t) p.2 ∙ ap (λ t. front ++ t) (reverse-append p.0 ((r.0, v) ∷ [])) in
@@ -109,7 +102,7 @@ module _ {K V : Type 0} (cmp : K → K → Ordering) (o : IsTotalOrder cmp) wher
   highs key (r ∷ rs) m n f =
       let g : cmp r.0 key ≡ Greater = greater (cmp r.0 key) n f in
       let less : cmp key r.0 ≡ Less = o.antisymm key r.0 ∙ ap ordering_reverse g in
-      (g, weaker (λ s. Below cmp r.0 s.0) (λ s. cmp s.0 key ≡ Greater) (λ s b. o.antisymm s.0 key ∙ ap ordering_reverse (is_less' (cmp key s.0) (low_low cmp o key r.0 s.0 (ap is_lt less) b))) rs m.0)
+      (g, each-with (λ s. Below cmp r.0 s.0) (λ s. cmp s.0 key ≡ Greater) rs (λ s b. o.antisymm s.0 key ∙ ap ordering_reverse (is_less' (cmp key s.0) (low_low cmp o key r.0 s.0 (ap is_lt less) b))) m.0)
 
   -- no row has the key: a new one at the place
   pub at-gap : (front back : List (K × V)) (key : K) (v : V) → AllByRecursion (λ s. Below cmp s.0 key) front → IsMap cmp (whole front back) → FirstNotBelow cmp key (reverse back) → first_is cmp key (reverse back) ≡ false
@@ -118,21 +111,21 @@ module _ {K V : Type 0} (cmp : K → K → Ordering) (o : IsTotalOrder cmp) wher
       let l : length (whole front back) ≡ length front + length (reverse back) = length-append front (reverse back) in (
         record {
           in_range = omega (arith, l);
-          lower = within-front (λ s. cmp s.0 key ≡ Less) front (reverse back) (weaker (λ s. Below cmp s.0 key) (λ s. cmp s.0 key ≡ Less) (λ s b. is_less' (cmp s.0 key) b) front low);
+          lower = within-front (λ s. cmp s.0 key ≡ Less) front (reverse back) (each-with (λ s. Below cmp s.0 key) (λ s. cmp s.0 key ≡ Less) front (λ s b. is_less' (cmp s.0 key) b) low);
           higher = within-back (λ s. cmp s.0 key ≡ Greater) front (reverse back) (highs key (reverse back) (map-behind front (reverse back) m) n f);
         },
         ap (λ t. front ++ t) (reverse-append back ((key, v) ∷ [])) ∙ sym (insert-here front (reverse back) (key, v)),
       )
 
   pub low-further : (k l : K) (rows : List (K × V)) → Upto cmp k l → AllByRecursion (λ s. Below cmp s.0 k) rows → AllByRecursion (λ s. Below cmp s.0 l) rows
-  low-further k l rows e = weaker (λ s. Below cmp s.0 k) (λ s. Below cmp s.0 l) (λ s u. low_up cmp o s.0 k l u e) rows
+  low-further k l rows e = each-with (λ s. Below cmp s.0 k) (λ s. Below cmp s.0 l) rows (λ s u. low_up cmp o s.0 k l u e)
 
   pub low-same : (k l : K) (rows : List (K × V)) → Same cmp k l → AllByRecursion (λ s. Below cmp s.0 k) rows → AllByRecursion (λ s. Below cmp s.0 l) rows
   low-same k l rows e = low-further k l rows (same_up cmp o k l e)
 
   -- rows below a key are below all that don't fall behind it
   pub low-all : (k : K) (front rows : List (K × V)) → AllByRecursion (λ s. Below cmp s.0 k) front → AllByRecursion (λ r. Upto cmp k r.0) rows → AllByRecursion (λ r. AllByRecursion (λ s. Below cmp s.0 r.0) front) rows
-  low-all k front rows low = weaker (λ r. Upto cmp k r.0) (λ r. AllByRecursion (λ s. Below cmp s.0 r.0) front) (λ r u. low-further k r.0 front u low) rows
+  low-all k front rows low = each-with (λ r. Upto cmp k r.0) (λ r. AllByRecursion (λ s. Below cmp s.0 r.0) front) rows (λ r u. low-further k r.0 front u low)
 
   -- rows below the first of rising rows are below all of these
   pub low_first : (theirs : List (K × V)) (r : K × V) (front : List (K × V)) → r ≡ get_or theirs 0 r → IsRising cmp theirs → AllByRecursion (λ s. Below cmp s.0 r.0) front → AllByRecursion (λ t. AllByRecursion (λ s. Below cmp s.0 t.0) front) theirs

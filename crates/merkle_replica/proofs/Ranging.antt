@@ -6,9 +6,9 @@ use Rattle.std.specs.List.{AllByRecursion}
 use Rattle.std.specs.Cmp.{IsTotalOrder}
 use Rattle.std.specs.declared.cmp.Ordering.{Ordering}
 use Rattle.key_order.specs.Order.{Below, Upto, below}
-use Rattle.key_order.specs.Interval.{Span}
 use Rattle.key_order.specs.Map.{IsMap}
 use Rattle.key_order.proofs.Orders.{low_up, low_low}
+use Rattle.merkle_diff.proofs.Each.{each-with}
 use Rattle.merkle_replica.specs.Answers.{spans_of}
 use Rattle.merkle_replica.specs.Steps.{AreRanges}
 
@@ -55,13 +55,9 @@ module _ {K : Type 0} (cmp : K → K → Ordering) (o : IsTotalOrder cmp) where
       let rest = are_from rs (λ j d h. up (suc j) d (omega arith)) (λ j d h. low (suc j) d (omega arith)) in
       ((first rs rest (λ d h. low 0 d (omega arith)), rest.0), (up 0 r (omega arith), rest.1))
     where
-      others : (q : K × K) (ts : List (Span K)) → Below cmp r.1 q.1 → AllByRecursion (λ t. Below cmp q.1 t.first) ts → AllByRecursion (λ t. Below cmp r.1 t.first) ts
-      others q [] h a = tt
-      others q (t ∷ ts) h a = (low_low cmp o r.1 q.1 t.first h a.0, others q ts h a.1)
-
       first : (qs : List (K × K)) → AreRanges cmp (spans_of qs) → ((d : K × K) → 0 < length qs → Below cmp r.1 (get_or qs 0 d).0) → AllByRecursion (λ t. Below cmp r.1 t.first) (spans_of qs)
       first [] a h = tt
-      first (q ∷ qs) a h = (h q (omega arith), others q (spans_of qs) (low_up cmp o r.1 q.0 q.1 (h q (omega arith)) a.1.0) a.0.0)
+      first (q ∷ qs) a h = (h q (omega arith), each-with (λ t. Below cmp q.1 t.first) (λ t. Below cmp r.1 t.first) (spans_of qs) (λ t b. low_low cmp o r.1 q.1 t.first (low_up cmp o r.1 q.0 q.1 (h q (omega arith)) a.1.0) b) a.0.0)
 
   pub are_at : (rs : List (K × K)) (j : ℕ) (d : K × K) → AreRanges cmp (spans_of rs) → j < length rs → Upto cmp (get_or rs j d).0 (get_or rs j d).1
   are_at [] j d a h = absurd (omega arith)
@@ -86,14 +82,11 @@ module _ {K : Type 0} (cmp : K → K → Ordering) (o : IsTotalOrder cmp) where
           sym (f (i - 1) d s) ∙ subst (λ n. below cmp (get_or rs (i - 1) d).1 (get_or rs n d).0 ≡ true) s (are_next rs (i - 1) d a l)
 
   module _ {X : Type 0} where
-    behind : (r q : K × X) (rs : List (K × X)) → Below cmp r.0 q.0 → AllByRecursion (λ s. Below cmp q.0 s.0) rs → AllByRecursion (λ s. Below cmp r.0 s.0) rs
-    behind r q [] h a = tt
-    behind r q (s ∷ rs) h a = (low_low cmp o r.0 q.0 s.0 h a.0, behind r q rs h a.1)
-
     -- rows each of which is below the next ascend
     pub map_from : (rs : List (K × X)) → ((j : ℕ) (d : K × X) → suc j < length rs → Below cmp (get_or rs j d).0 (get_or rs (suc j) d).0) → IsMap cmp rs
     map_from [] h = tt
     map_from (r ∷ []) h = (tt, tt)
     map_from (r ∷ q ∷ rs) h =
         let rest = map_from (q ∷ rs) (λ j d i. h (suc j) d (omega arith)) in
-        ((h 0 r (omega arith), behind r q rs (h 0 r (omega arith)) rest.0), rest)
+        let here : Below cmp r.0 q.0 = h 0 r (omega arith) in
+        ((here, each-with (λ s. Below cmp q.0 s.0) (λ s. Below cmp r.0 s.0) rs (λ s b. low_low cmp o r.0 q.0 s.0 here b) rest.0), rest)

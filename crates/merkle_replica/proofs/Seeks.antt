@@ -1,20 +1,17 @@
 -- One walk over ascending ranges and ascending rows finds the rows within the ranges.
-use Rattle.std.proofs.Common.{◌≡◌, ℕ, zero, suc, ◌+◌, ◌<◌, ◌≤◌, Bool, true, false, not, ◌&&◌, ◌||◌, cond, List, [], ◌∷◌, ◌++◌, length, get_or, take, drop, add-one, refl, sym, ◌∙◌, ap, arith}
+use Rattle.std.proofs.Common.{◌≡◌, ℕ, zero, suc, ◌+◌, ◌<◌, ◌≤◌, Bool, true, false, ◌&&◌, ◌||◌, cond, List, [], ◌∷◌, ◌++◌, length, get_or, take, drop, add-one, refl, sym, ◌∙◌, ap, arith}
 use Rattle.std.specs.List.{AllByRecursion, AllWithin}
 use Rattle.std.specs.List.Sorted.{IsPartitionedBy}
-use Rattle.std.specs.Ordering.{is_gt}
 use Rattle.std.specs.Cmp.{IsTotalOrder}
 use Rattle.std.specs.declared.cmp.Ordering.{Ordering}
 use Rattle.key_order.specs.Order.{Upto, Below, upto, below}
 use Rattle.key_order.specs.Interval.{Span, IsApart, IsOrdered, is_in, is_covered}
 use Rattle.key_order.specs.Map.{IsMap, rows_at, rows_in}
-use Rattle.key_order.proofs.Orders.{turned, turned', up_low, low_up, low_low, low_is_up, up_self}
+use Rattle.key_order.proofs.Orders.{turned', up_low, low_up, low_low, low_is_up, up_self}
+use Rattle.merkle_diff.proofs.Each.{each-with}
+use Rattle.merkle_diff.proofs.OrderTests.{by_upto, to_upto, not_upto}
 use Rattle.merkle_replica.specs.Answers.{spans_of}
 use Rattle.merkle_replica.specs.Seek.{ranges_from, begins_upto}
-
-not_not : (a : Bool) → not (not a) ≡ a
-not_not true = refl
-not_not false = refl
 
 -- P holds of the elements up to a place
 pub all_taken : {X : Type 0} (p : X → Bool) (xs : List X) (n : ℕ) → n ≤ length xs → AllWithin (λ x. p x ≡ true) xs 0 n → AllByRecursion (λ x. p x ≡ true) (take n xs)
@@ -44,21 +41,12 @@ or_else true b h = refl
 or_else false b h = h
 
 module _ {K : Type 0} (cmp : K → K → Ordering) (o : IsTotalOrder cmp) where
-  pub upto_true : (a b : K) → Upto cmp a b → upto cmp a b ≡ true
-  upto_true a b h = ap not h
-
-  upto_from : (a b : K) → upto cmp a b ≡ true → Upto cmp a b
-  upto_from a b h = sym (not_not (is_gt (cmp a b))) ∙ ap not h
-
-  upto_false : (a b : K) → Below cmp b a → upto cmp a b ≡ false
-  upto_false a b h = ap not (sym (turned cmp o a b) ∙ h)
-
   not_below : (a b : K) → below cmp a b ≡ false → Upto cmp b a
   not_below a b h = turned' cmp o a b ∙ h
 
   -- a span that ends below a key holds no key above that
   ends_below : (s : Span K) (k j : K) → Below cmp s.last k → Upto cmp k j → is_in cmp j s ≡ false
-  ends_below s k j h u = and_false (upto cmp s.first j) (upto cmp j s.last) (upto_false j s.last (low_up cmp o s.last k j h u))
+  ends_below s k j h u = and_false (upto cmp s.first j) (upto cmp j s.last) (not_upto cmp o j s.last (low_up cmp o s.last k j h u))
 
   -- ranges that end below a key cover no key above it
   pub covered_from : (ss : List (Span K)) (k j : K) → Upto cmp k j → is_covered cmp j ss ≡ is_covered cmp j (ranges_from cmp k ss)
@@ -80,7 +68,7 @@ module _ {K : Type 0} (cmp : K → K → Ordering) (o : IsTotalOrder cmp) where
   none_before : (ss : List (Span K)) (s : Span K) (k : K) → AllByRecursion (λ t. Below cmp s.last t.first) ss → Upto cmp k s.last → is_covered cmp k ss ≡ false
   none_before [] s k a u = refl
   none_before (t ∷ ss) s k a u =
-      or_when (is_in cmp k t) (is_covered cmp k ss) (ap (λ b. b && upto cmp k t.last) (upto_false t.first k (up_low cmp o k s.last t.first u a.0))) ∙ none_before ss s k a.1 u
+      or_when (is_in cmp k t) (is_covered cmp k ss) (ap (λ b. b && upto cmp k t.last) (not_upto cmp o t.first k (up_low cmp o k s.last t.first u a.0))) ∙ none_before ss s k a.1 u
 
   -- a key is in one of the ranges that don't end below it, where the first of them begins at it or below it
   pub covered_first : (ss : List (Span K)) (k : K) → IsApart cmp ss → is_covered cmp k (ranges_from cmp k ss) ≡ begins_upto cmp k (ranges_from cmp k ss)
@@ -92,13 +80,9 @@ module _ {K : Type 0} (cmp : K → K → Ordering) (o : IsTotalOrder cmp) where
       go true h rest = rest
       go false h rest =
           or_else (is_in cmp k s) (is_covered cmp k ss) (none_before ss s k a.0 (not_below s.last k h))
-          ∙ and_true (upto cmp s.first k) (upto cmp k s.last) (upto_true k s.last (not_below s.last k h))
+          ∙ and_true (upto cmp s.first k) (upto cmp k s.last) (to_upto cmp o k s.last (not_below s.last k h))
 
   module _ {V : Type 0} where
-    all_upto : (rows : List (K × V)) (k : K) → AllByRecursion (λ s. Below cmp k s.0) rows → AllByRecursion (λ s. Upto cmp k s.0) rows
-    all_upto [] k a = tt
-    all_upto (r ∷ rows) k a = (low_is_up cmp o k r.0 a.0, all_upto rows k a.1)
-
     -- above a key, ranges that end below it take no row
     rows_from : (ss : List (Span K)) (k : K) (rows : List (K × V)) → AllByRecursion (λ s. Upto cmp k s.0) rows → rows_in cmp ss rows ≡ rows_in cmp (ranges_from cmp k ss) rows
     rows_from ss k [] a = refl
@@ -107,7 +91,7 @@ module _ {K : Type 0} (cmp : K → K → Ordering) (o : IsTotalOrder cmp) where
     -- one row more
     pub swept : (ss tt' : List (Span K)) (r : K × V) (rows : List (K × V)) → IsApart cmp ss → IsMap cmp (r ∷ rows) → tt' ≡ ranges_from cmp r.0 ss
         → rows_in cmp ss (r ∷ rows) ≡ cond (begins_upto cmp r.0 tt') (r ∷ rows_in cmp tt' rows) (rows_in cmp tt' rows)
-    swept ss tt' r rows a m e = rw e (rows_from ss r.0 (r ∷ rows) (up_self cmp o r.0, all_upto rows r.0 m.0) ∙ rw (covered_first ss r.0 a) refl)
+    swept ss tt' r rows a m e = rw e (rows_from ss r.0 (r ∷ rows) (up_self cmp o r.0, each-with (λ s. Below cmp r.0 s.0) (λ s. Upto cmp r.0 s.0) rows (λ s b. low_is_up cmp o r.0 s.0 b) m.0) ∙ rw (covered_first ss r.0 a) refl)
 
     -- the rows from a place on
     pub from_place : (rows : List (K × V)) (i : ℕ) (d : K × V) → i < length rows → drop i rows ≡ get_or rows i d ∷ drop (suc i) rows
@@ -187,23 +171,19 @@ module _ {K : Type 0} (cmp : K → K → Ordering) (o : IsTotalOrder cmp) where
   pub first_upto : (ss : List (Span K)) (n : ℕ) (k : K) → IsApart cmp ss → AllByRecursion (IsOrdered cmp) ss → begins_upto cmp k (drop n ss) ≡ true → begins_upto cmp k ss ≡ true
   first_upto ss zero k a d h = h
   first_upto [] (suc n) k a d h = h
-  first_upto (s ∷ ss) (suc n) k a d h = upto_true s.first k (low_is_up cmp o s.first k (up_low cmp o s.first s.last k d.0 (behind ss n a.0 h)))
+  first_upto (s ∷ ss) (suc n) k a d h = to_upto cmp o s.first k (low_is_up cmp o s.first k (up_low cmp o s.first s.last k d.0 (behind ss n a.0 h)))
     where
       behind : (ts : List (Span K)) (m : ℕ) → AllByRecursion (λ t. Below cmp s.last t.first) ts → begins_upto cmp k (drop m ts) ≡ true → Below cmp s.last k
       behind [] zero b e = absurd (cc)
       behind [] (suc m) b e = absurd (cc)
-      behind (t ∷ ts) zero b e = low_up cmp o s.last t.first k b.0 (upto_from t.first k e)
+      behind (t ∷ ts) zero b e = low_up cmp o s.last t.first k b.0 (by_upto cmp o t.first k e)
       behind (t ∷ ts) (suc m) b e = behind ts m b.1 e
 
   module _ {V : Type 0} where
     -- rows below the first bound are below each key that the first range begins at or below
     pub first_low : (rs : List (K × K)) (d : K × K) (k : K) (rows : List (K × V)) → begins_upto cmp k (spans_of rs) ≡ true → AllByRecursion (λ s. Below cmp s.0 (get_or rs 0 d).0) rows → AllByRecursion (λ s. Below cmp s.0 k) rows
     first_low [] d k rows h all = absurd (cc)
-    first_low (q ∷ rs) d k rows h all = go rows all
-      where
-        go : (xs : List (K × V)) → AllByRecursion (λ s. Below cmp s.0 q.0) xs → AllByRecursion (λ s. Below cmp s.0 k) xs
-        go [] b = tt
-        go (x ∷ xs) b = (low_up cmp o x.0 q.0 k b.0 (upto_from q.0 k h), go xs b.1)
+    first_low (q ∷ rs) d k rows h all = each-with (λ s. Below cmp s.0 q.0) (λ s. Below cmp s.0 k) rows (λ s b. low_up cmp o s.0 q.0 k b (by_upto cmp o q.0 k h)) all
 
   spans_at : (rs : List (K × K)) (i : ℕ) (r d : K × K) → i < length rs → r ≡ get_or rs i d → drop i (spans_of rs) ≡ record { first = r.0; last = r.1 } ∷ drop (suc i) (spans_of rs)
   spans_at [] i r d h e = absurd (omega arith)

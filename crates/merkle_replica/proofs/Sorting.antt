@@ -1,6 +1,6 @@
 -- Rows sorted by key, and what they gather.
 use Rattle.std.proofs.Common.{◌≡◌, suc, Bool, true, false, not, ◌&&◌, cond, add-one, List, [], ◌∷◌, length, get_or, Some, None, refl, sym, ◌∙◌, ap, subst, arith}
-use Rattle.std.specs.List.{AllByRecursion, filter}
+use Rattle.std.specs.List.{filter}
 use Rattle.std.specs.List.Sorted.{IsSortedBy, IsStableBy, ties}
 use Rattle.std.specs.Cmp.{IsTotalOrder, IsStrictWeakOrder}
 use Rattle.std.specs.Ordering.{is_eq, is_lt, ordering_reverse}
@@ -9,6 +9,7 @@ use Rattle.std.specs.declared.cmp.Ordering.TheVariants.{Less, Equal, Greater}
 use Rattle.key_order.specs.Order.{Upto}
 use Rattle.key_order.specs.Join.{joined}
 use Rattle.key_order.proofs.Orders.{turned', up_up, low_is_up}
+use Rattle.merkle_diff.proofs.Each.{each-with}
 use Rattle.merkle_replica.specs.Puts.{IsRising, gathered, HasGathered}
 
 tied : (w v : Ordering) → is_eq w ≡ true → v ≡ ordering_reverse w → not (is_lt v) && not (is_lt w) ≡ true
@@ -34,10 +35,6 @@ module _ {K V : Type 0} (cmp : K → K → Ordering) (o : IsTotalOrder cmp) wher
     chain = λ x y z h k. never_lower cmp o x.0 z.0 (up_up cmp o z.0 y.0 x.0 (not_lower cmp o y.0 z.0 k) (not_lower cmp o x.0 y.0 h));
   }
 
-  further : (r q : K × V) (rs : List (K × V)) → Upto cmp r.0 q.0 → AllByRecursion (λ s. Upto cmp q.0 s.0) rs → AllByRecursion (λ s. Upto cmp r.0 s.0) rs
-  further r q [] h a = tt
-  further r q (s ∷ rs) h a = (up_up cmp o r.0 q.0 s.0 h a.0, further r q rs h a.1)
-
   -- sorted rows rise
   pub sorted_rises : (rows : List (K × V)) → IsSortedBy lower rows → IsRising cmp rows
   sorted_rises [] s = tt
@@ -45,7 +42,7 @@ module _ {K V : Type 0} (cmp : K → K → Ordering) (o : IsTotalOrder cmp) wher
   sorted_rises (r ∷ q ∷ rs) s =
       let rest = sorted_rises (q ∷ rs) (λ k d from to. subst (λ n. lower (get_or (q ∷ rs) n d) (get_or (q ∷ rs) k d) ≡ false) (sym (add-one k)) (subst (λ n. lower (get_or (r ∷ q ∷ rs) n d) (get_or (q ∷ rs) k d) ≡ false) (add-one (suc k)) (s (suc k) d (omega arith) (omega arith)))) in
       let here : Upto cmp r.0 q.0 = not_lower cmp o q.0 r.0 (s 0 r (omega arith) (omega arith)) in
-      ((here, further r q rs here rest.0), rest)
+      ((here, each-with (λ s. Upto cmp q.0 s.0) (λ s. Upto cmp r.0 s.0) rs (λ s u. up_up cmp o r.0 q.0 s.0 here u) rest.0), rest)
 
   -- rows with other keys don't count
   gathered_tied : (eq : V → V → Bool) (join : V → V → V) (x : K × V) (rows : List (K × V)) → gathered cmp eq join rows x.0 ≡ gathered cmp eq join (filter (ties lower x) rows) x.0

@@ -1,6 +1,6 @@
 -- The loop of a pull over the peer's rows.
 use Rattle.std.proofs.Common.{◌≡◌, ℕ, suc, ◌+◌, ◌<◌, ◌≤◌, Bool, true, false, cond, List, [], ◌∷◌, ◌++◌, length, take, drop, get_or, length-append, append_assoc, append-nil, add-one, refl, sym, ◌∙◌, ap, subst, arith}
-use Rattle.std.proofs.lemmas.List.{drop_all}
+use Rattle.std.proofs.lemmas.List.{drop_all, take_at}
 use Rattle.std.specs.List.{AllByRecursion}
 use Rattle.std.specs.Cmp.{IsTotalOrder, IsEquivalence}
 use Rattle.std.specs.declared.cmp.Ordering.{Ordering}
@@ -12,10 +12,6 @@ use Rattle.merkle_replica.specs.Answers.{IsDone, IsPartlyDone}
 use Rattle.merkle_replica.specs.Seek.{ranges_from, begins_upto}
 use Rattle.merkle_replica.proofs.Seeks.{swept, apart_from, map_drop, map_at, from_place, before_row}
 use Rattle.merkle_replica.proofs.Joined.{join_more, join_none}
-
-take_front : {X : Type 0} (front more : List X) → take (length front) (front ++ more) ≡ front
-take_front [] more = refl
-take_front (x ∷ front) more = ap (λ t. x ∷ t) (take_front front more)
 
 module _ {K : Type 0} (cmp : K → K → Ordering) (o : IsTotalOrder cmp) where
   -- what the walk has left of the ranges and of the rows holds the rows that are still to be found
@@ -123,7 +119,7 @@ module _ {K : Type 0} (cmp : K → K → Ordering) (o : IsTotalOrder cmp) where
           record {
             counted = n;
             not_all = omega arith;
-            joins = subst (λ t. IsJoin cmp eq join old t now) (sym (ap (take done) w ∙ ap (λ d. take d (p.seen ++ r ∷ more)) (sym c) ∙ take_front p.seen (r ∷ more))) p.joins;
+            joins = subst (λ t. IsJoin cmp eq join old t now) (sym (ap (take done) w ∙ take_at p.seen (r ∷ more) done c)) p.joins;
             unchanged = p.unchanged;
           }
 

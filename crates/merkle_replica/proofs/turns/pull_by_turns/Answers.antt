@@ -1,4 +1,4 @@
-use Rattle.std.proofs.Common.{IfOk, IfErr, [], ◌∷◌, not, length, length-append, arith, refl, sym, ◌∙◌, ap, subst}
+use Rattle.std.proofs.Common.{IfOk, IfErr, [], ◌∷◌, length, length-append, arith, refl, sym, ◌∙◌, ap, subst}
 use Rattle.std.proofs.lemmas.List.{length-map}
 use Rattle.merkle_replica.specs.Contents.{side}
 use Rattle.merkle_replica.specs.Answers.{answer_of, IsRefused}
