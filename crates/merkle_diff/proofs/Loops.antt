@@ -26,6 +26,10 @@ good_of-append [] ys = refl
 good_of-append (Bad s ∷ xs) ys = good_of-append xs ys
 good_of-append (Good s ∷ xs) ys = ap (λ t. s ∷ t) (good_of-append xs ys)
 
+-- marks that were added to a list, and more of them
+more : {K : Type 0} (of : List (Mark K) → List (Span K)) → ((xs ys : List (Mark K)) → of (xs ++ ys) ≡ of xs ++ of ys) → (X X' : List (Span K)) (ms ns : List (Mark K)) → X' ≡ X ++ of ms → X' ++ of ns ≡ X ++ of (ms ++ ns)
+more of append X X' ms ns h = ap (λ t. t ++ of ns) h ∙ append_assoc X (of ms) (of ns) ∙ ap (λ t. X ++ t) (sym (append ms ns))
+
 -- the opened ranges, the innermost first
 abbrev pub stack_of : {K : Type 0} {o e p : _} → List (DiffRange K o e p) → List (Span K)
 stack_of rs = reverse (spans rs)
@@ -51,9 +55,6 @@ module _ {I J K : Type 0} {o e p : _} (cmp : K → K → Ordering) (steps : I �
   abbrev Done : Span K → K → Marks K o e p → Marks K o e p → Lookahead I (PageRange K o e p) → Lookahead J (PageRange K o e p) → Lookahead I (PageRange K o e p) → Lookahead J (PageRange K o e p) → Type 0
   Done R from M M' l q l' q' = LeadsBoth steps peer_steps l q l' q' (Ends cmp R from (λ m. Marked M m M'))
 
-  more : (X X' : List (Span K)) (b m : List (Span K)) → X' ≡ X ++ b → X' ++ m ≡ X ++ (b ++ m)
-  more X X' b m h = ap (λ t. t ++ m) h ∙ append_assoc X b m
-
   pub goes-in : (opened : List (Span K)) (R s : Span K) (last : Option (Span K)) (from : K) (M M' : Marks K o e p) (l l' : Lookahead I (PageRange K o e p)) (q q' : Lookahead J (PageRange K o e p))
       → gap_start R last ≡ from → Goes opened R last M l q → LeadsBoth steps peer_steps l q l' q' (Enters cmp R from s (λ m. Marked M m M')) → Goes (R ∷ opened) s None M' l' q'
   goes-in opened R s last from M M' l l' q q' g i t ls ps hl hp =
@@ -67,8 +68,8 @@ module _ {I J K : Type 0} {o e p : _} (cmp : K → K → Ordering) (steps : I �
         λ m P2 L2 h.
             let w = a.4 (f.0 ∷ m) P2 L2 (f.2 opened m P2 L2 h) in (
               w.0,
-              more (spans M.bad.items) (spans M'.bad.items) (bad_of (f.0 ∷ [])) (bad_of m) f.1.0 ∙ (ap (λ t. spans M.bad.items ++ t) (sym (bad_of-append (f.0 ∷ []) m)) ∙ w.1),
-              more (spans M.good.items) (spans M'.good.items) (good_of (f.0 ∷ [])) (good_of m) f.1.1 ∙ (ap (λ t. spans M.good.items ++ t) (sym (good_of-append (f.0 ∷ []) m)) ∙ w.2),
+              more bad_of bad_of-append (spans M.bad.items) (spans M'.bad.items) (f.0 ∷ []) m f.1.0 ∙ w.1,
+              more good_of good_of-append (spans M.good.items) (spans M'.good.items) (f.0 ∷ []) m f.1.1 ∙ w.2,
               w.3,
             ),
       )
@@ -90,8 +91,8 @@ module _ {I J K : Type 0} {o e p : _} (cmp : K → K → Ordering) (steps : I �
         λ m P2 L2 h.
             let v = a.4 (f.0 ++ (fr ++ m)) P2 L2 (closes cmp opened O R last (entries r.1) (entries r.0) (entries u.0) (entries ls) P2 L2 f.0 m f.2 (subst (λ z. Rest cmp opened O (Some R) z (entries ls) m P2 L2) u.2.0 h)) in (
               v.0,
-              more (spans M'.bad.items) (spans M''.bad.items) (bad_of fr) (bad_of m) u.2.1.0 ∙ (more (spans M.bad.items) (spans M'.bad.items) (bad_of f.0) (bad_of fr ++ bad_of m) f.1.0 ∙ (ap (λ t. spans M.bad.items ++ t) (sym (bad_of-append f.0 (fr ++ m) ∙ ap (λ t. bad_of f.0 ++ t) (bad_of-append fr m))) ∙ v.1)),
-              more (spans M'.good.items) (spans M''.good.items) (good_of fr) (good_of m) u.2.1.1 ∙ (more (spans M.good.items) (spans M'.good.items) (good_of f.0) (good_of fr ++ good_of m) f.1.1 ∙ (ap (λ t. spans M.good.items ++ t) (sym (good_of-append f.0 (fr ++ m) ∙ ap (λ t. good_of f.0 ++ t) (good_of-append fr m))) ∙ v.2)),
+              more bad_of bad_of-append (spans M'.bad.items) (spans M''.bad.items) fr m u.2.1.0 ∙ more bad_of bad_of-append (spans M.bad.items) (spans M'.bad.items) f.0 (fr ++ m) f.1.0 ∙ v.1,
+              more good_of good_of-append (spans M'.good.items) (spans M''.good.items) fr m u.2.1.1 ∙ more good_of good_of-append (spans M.good.items) (spans M'.good.items) f.0 (fr ++ m) f.1.1 ∙ v.2,
               v.3,
             ),
       )

@@ -1,5 +1,5 @@
 -- The sweep is the merge.
-use Rattle.std.proofs.Common.{◌≡◌, Bool, true, false, List, [], ◌∷◌, map, refl, subst, ◌⊎◌, inl, inr, if◌then◌else◌}
+use Rattle.std.proofs.Common.{◌≡◌, Bool, true, false, List, [], ◌∷◌, map, refl, ◌⊎◌, inl, inr, if◌then◌else◌}
 use Rattle.std.specs.Cmp.{IsTotalOrder}
 use Rattle.std.specs.List.{AllByRecursion}
 use Rattle.std.specs.declared.cmp.Ordering.{Ordering}
@@ -18,13 +18,13 @@ pub none-merged : {K : Type 0} (cmp : K → K → Ordering) → IsMerge cmp [] [
 none-merged cmp = record { starts = record { ascends = tt; sound = tt; complete = tt }; ends = record { ascends = tt; sound = tt; complete = tt } }
 
 module _ {K : Type 0} (cmp : K → K → Ordering) (o : IsTotalOrder cmp) where
-  -- the greater of two keys is one of them, and at least both
-  greater-is : (a b : K) → ((greater cmp a b ≡ a) × Upto cmp b a) ⊎ ((greater cmp a b ≡ b) × Below cmp a b)
-  greater-is a b = go (upto cmp b a) refl
+  -- the greater of two keys is at least both
+  greater-both : (a b : K) → Upto cmp a (greater cmp a b) × Upto cmp b (greater cmp a b)
+  greater-both a b = go (upto cmp b a) refl
     where
-      go : (t : Bool) → upto cmp b a ≡ t → (((if t then a else b) ≡ a) × Upto cmp b a) ⊎ (((if t then a else b) ≡ b) × Below cmp a b)
-      go true e = inl (refl, by_upto cmp o b a e)
-      go false e = inr (refl, by_above cmp o b a e)
+      go : (t : Bool) → upto cmp b a ≡ t → Upto cmp a (if t then a else b) × Upto cmp b (if t then a else b)
+      go true e = (up_self cmp o a, by_upto cmp o b a e)
+      go false e = (low_is_up cmp o a b (by_above cmp o b a e), up_self cmp o b)
 
   -- ---- a range that grows by one that begins in it
 
@@ -35,33 +35,19 @@ module _ {K : Type 0} (cmp : K → K → Ordering) (o : IsTotalOrder cmp) where
     abbrev top : K
     top = greater cmp cur.last s.last
 
-    pub up-top : Upto cmp cur.last top
-    up-top = go (greater-is cur.last s.last)
-      where
-        go : ((top ≡ cur.last) × Upto cmp s.last cur.last) ⊎ ((top ≡ s.last) × Below cmp cur.last s.last) → Upto cmp cur.last top
-        go (inl h) = rw h.0 (up_self cmp o cur.last)
-        go (inr h) = rw h.0 (low_is_up cmp o cur.last s.last h.1)
-
-    up-top_2 : Upto cmp s.last top
-    up-top_2 = go (greater-is cur.last s.last)
-      where
-        go : ((top ≡ cur.last) × Upto cmp s.last cur.last) ⊎ ((top ≡ s.last) × Below cmp cur.last s.last) → Upto cmp s.last top
-        go (inl h) = rw h.0 h.1
-        go (inr h) = rw h.0 (up_self cmp o s.last)
-
-    -- where the top lies behind an edge, the end of one of the two does
+    -- the top is one of the two ends: where it lies behind an edge, one of them does
     behind-top : (e : Edge) (k : K) → Behind cmp e k top → Behind cmp e k cur.last ⊎ (Before cmp e k cur.last × Behind cmp e k s.last)
-    behind-top e k h = go (part cmp o e k cur.last) (greater-is cur.last s.last)
+    behind-top e k h = go (upto cmp s.last cur.last) (part cmp o e k cur.last) h
       where
-        go : Before cmp e k cur.last ⊎ Behind cmp e k cur.last → ((top ≡ cur.last) × Upto cmp s.last cur.last) ⊎ ((top ≡ s.last) × Below cmp cur.last s.last) → Behind cmp e k cur.last ⊎ (Before cmp e k cur.last × Behind cmp e k s.last)
-        go (inr b) g = inl b
-        go (inl b) (inl g) = inl (subst (Behind cmp e k) g.0 h)
-        go (inl b) (inr g) = inr (b, subst (Behind cmp e k) g.0 h)
+        go : (t : Bool) → Before cmp e k cur.last ⊎ Behind cmp e k cur.last → Behind cmp e k (if t then cur.last else s.last) → Behind cmp e k cur.last ⊎ (Before cmp e k cur.last × Behind cmp e k s.last)
+        go t (inr b) h = inl b
+        go true (inl b) h = inl h
+        go false (inl b) h = inr (b, h)
 
     -- what is within one of the two is within the grown range
     pub within-grown : (x : Span K) (ss : List (Span K)) → AnyByRecursion (IsWithin cmp x) (cur ∷ s ∷ ss) → AnyByRecursion (IsWithin cmp x) (grown cur s ∷ ss)
-    within-grown x ss (inl i) = inl (i.0, up_up cmp o x.last cur.last top i.1 up-top)
-    within-grown x ss (inr (inl i)) = inl (up_up cmp o cur.first s.first x.first after i.0, up_up cmp o x.last s.last top i.1 up-top_2)
+    within-grown x ss (inl i) = inl (i.0, up_up cmp o x.last cur.last top i.1 (greater-both cur.last s.last).0)
+    within-grown x ss (inr (inl i)) = inl (up_up cmp o cur.first s.first x.first after i.0, up_up cmp o x.last s.last top i.1 (greater-both cur.last s.last).1)
     within-grown x ss (inr (inr i)) = inr i
 
     -- a key of the grown range is in one of the two
@@ -76,8 +62,8 @@ module _ {K : Type 0} (cmp : K → K → Ordering) (o : IsTotalOrder cmp) where
     -- the grown range runs across the edges that one of the two does
     free-more : (e : Edge) (ss : List (Span K)) (k : K) → Free cmp e (grown cur s ∷ ss) k → Free cmp e (cur ∷ s ∷ ss) k
     free-more e ss k h = (
-      (λ c. h.0 (c.0, behind cmp o e k cur.last top up-top c.1)),
-      ((λ c. h.0 (before cmp o e k cur.first s.first after c.0, behind cmp o e k s.last top up-top_2 c.1)), h.1),
+      (λ c. h.0 (c.0, behind cmp o e k cur.last top (greater-both cur.last s.last).0 c.1)),
+      ((λ c. h.0 (before cmp o e k cur.first s.first after c.0, behind cmp o e k s.last top (greater-both cur.last s.last).1 c.1)), h.1),
     )
 
     free-less : (e : Edge) (ss : List (Span K)) (k : K) → Free cmp e (cur ∷ s ∷ ss) k → Free cmp e (grown cur s ∷ ss) k
@@ -88,7 +74,7 @@ module _ {K : Type 0} (cmp : K → K → Ordering) (o : IsTotalOrder cmp) where
         go c (inr b) = h.1.0 (before cmp o e k s.first cur.last joins b.0, b.1)
 
     ordered-grown : (ss : List (Span K)) → AllByRecursion (IsOrdered cmp) (cur ∷ s ∷ ss) → AllByRecursion (IsOrdered cmp) (grown cur s ∷ ss)
-    ordered-grown ss d = (up_up cmp o cur.first cur.last top d.0 up-top, d.1.1)
+    ordered-grown ss d = (up_up cmp o cur.first cur.last top d.0 (greater-both cur.last s.last).0, d.1.1)
 
     -- the merge with the grown range is the merge with the two
     merge-grown : (ss ys : List (Span K)) → AllByRecursion (IsOrdered cmp) (cur ∷ s ∷ ss) → IsMerge cmp (grown cur s ∷ ss) ys → IsMerge cmp (cur ∷ s ∷ ss) ys

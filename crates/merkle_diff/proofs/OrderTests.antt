@@ -3,19 +3,14 @@ use Rattle.std.proofs.Common.{◌≡◌, Bool, true, false, not, ◌&&◌, ◌||
 use Rattle.std.specs.Cmp.{IsTotalOrder, upto as upto_trans, tied_back}
 use Rattle.std.specs.Ordering.{is_gt, is_eq}
 use Rattle.std.specs.declared.cmp.Ordering.{Ordering}
-use Rattle.std.specs.declared.cmp.Ordering.TheVariants.{Less, Equal, Greater}
 use Rattle.key_order.specs.Interval.{Span, Meets, IsWithin, SameSpan, meets, is_within, same_span}
 use Rattle.key_order.specs.Order.{Upto, Below, Same, upto}
+use Rattle.key_order.proofs.Maps.{is_equal}
 use Rattle.key_order.proofs.Orders.{turned, same_from, up_self}
 
 pub both : (a b : Bool) → (a && b) ≡ true → (a ≡ true) × (b ≡ true)
 both true b h = (refl, h)
 both false b h = cc
-
-pub equal_by : (r : Ordering) → is_eq r ≡ true → r ≡ Equal
-equal_by Less h = cc
-equal_by Equal h = refl
-equal_by Greater h = cc
 
 pub not-or : (a b : Bool) → not (a || b) ≡ true → a ≡ false
 not-or true b h = cc
@@ -90,4 +85,4 @@ module _ {K : Type 0} (cmp : K → K → Ordering) (o : IsTotalOrder cmp) where
   same_back a b h = tied_back o a b h
 
   pub same_by : (s t : Span K) → same_span cmp s t ≡ true → SameSpan cmp s t
-  same_by s t h = let p = both (is_eq (cmp s.first t.first)) (is_eq (cmp s.last t.last)) h in (equal_by (cmp s.first t.first) p.0, equal_by (cmp s.last t.last) p.1)
+  same_by s t h = let p = both (is_eq (cmp s.first t.first)) (is_eq (cmp s.last t.last)) h in (is_equal (cmp s.first t.first) p.0, is_equal (cmp s.last t.last) p.1)
