@@ -1,5 +1,5 @@
 -- The entries of a list of page ranges or of key ranges, and what stands in front of them.
-use Rattle.std.proofs.Common.{◌≡◌, refl, Bool, true, false, ℕ, ◌+◌, ◌-◌, ◌<◌, ◌≤◌, ◌^◌, List, [], ◌∷◌, ◌++◌, length, get_or, subst, drop, sym, ap, ◌∙◌, arith}
+use Rattle.std.proofs.Common.{◌≡◌, refl, Bool, true, false, ℕ, ◌-◌, ◌<◌, ◌≤◌, ◌^◌, List, [], ◌∷◌, ◌++◌, length, get_or, subst, drop, sym, ap, ◌∙◌, arith}
 use Rattle.std.specs.List.{AllByRecursion, flat_map}
 use Rattle.std.proofs.lemmas.List.{append_assoc, length-append, drop_at}
 use Rattle.mst_c.specs.Spots.{AreEntries, IsList, EntryParts, digest_len, mark_of, parts_bytes}
@@ -31,11 +31,10 @@ one_mark false true e = absurd (omega (arith, ap (λ bytes. get_or bytes 3 0) e)
 one_mark false false e = refl
 
 module _ (list : List ℕ) (b : Bool) (m : ℕ) (body : List ℕ) (e : list ≡ mark_of b ++ (number_bytes m ++ body)) where
-  -- the mark and the number are 12 bytes
-  pub front_length : length list ≡ 12 + length body
-  front_length = omega (arith, ap length e, list_length (mark_of b) m body, mark_length b)
+  -- the entries are behind the mark and the number, which are 12 bytes
+  pub body_at : length list - length body ≡ 12
+  body_at = omega (arith, ap length e, list_length (mark_of b) m body, mark_length b)
 
-  -- the entries are behind them
   pub body_behind : drop (length list - length body) list ≡ body
   body_behind =
       let front = mark_of b ++ number_bytes m in

@@ -102,6 +102,8 @@ fn spot_of(has_digests: bool, start: usize, first: &[u8], last: &[u8]) -> MstSpo
 #[unsafe(no_mangle)]
 pub extern "C" fn mst_proved_ranges_next(list: &[u8], at: &mut usize, spot: &mut MstSpot) -> u32
     ensures entry { result ≡ 0 → IsEntryAt list.now at.old at.new spot.new }
+    ensures front { result ≢ 2 → HasFront list.now }
+    ensures whole { result ≢ 2 → at.old ≡ 0 → IsList list.now }
     ensures malformed { result ≡ 2 → at.old ≡ 0 → ¬ (IsList list.now) }
     ensures no_entry { result ≡ 2 → ¬ (HasEntryAt list.now at.old) }
     ensures argument { result ≡ 4 → length list.now < at.old }

@@ -2,7 +2,7 @@ use Rattle.std.proofs.Common.{rules, arith, ◌≡◌, ℕ, ◌+◌, ◌-◌, �
 use Rattle.std.specs.Bool.{if◌then◌else◌}
 use Rattle.std.proofs.lemmas.List.{drop_at, length-append, take-append-drop}
 use Rattle.mst_c.specs.Spots.{EntryParts, digest_len, parts_bytes}
-use Rattle.mst_c.proofs.Spots.{body_behind, first_parts, front_length, one_front, one_kind, parts_flat}
+use Rattle.mst_c.proofs.Spots.{body_at, body_behind, first_parts, one_front, one_kind, parts_flat}
 use Rattle.mst_c.proofs.Strings.{row_length}
 use Rattle.mst_c.proofs.entries.mst_proved_ranges_next.Goals.{else-at-eq0-via-then-at-eq0+else-not-is_list, else-at-eq0-via-else-at-eq0}
 use Rattle.mst_c.proofs.entries.mst_proved_ranges_next.Goals as goal
@@ -38,7 +38,7 @@ returns-in_default-entry_of-clause-no_entry c done found =
     let list = c.args.list.now in let e = found.2 in
     let front = c.in-Some.ensures.front in
     let kind = one_kind list c.in-Some.has_digests c.in-Some.count c.in-Some.body.now front e.has_digests e.count e.body e.marked in
-    let size : length list - length c.in-Some.body.now ≡ 12 = omega (arith, front_length list c.in-Some.has_digests c.in-Some.count c.in-Some.body.now front) in
+    let size = body_at list c.in-Some.has_digests c.in-Some.count c.in-Some.body.now front in
     let start : c.start_of-start.result ≡ length e.before = c.start_of-start.ensures ∙ ap (λ n. if nat_eq c.args.at.now 0 then n else c.args.at.now) size ∙ sym e.starts in
     let rest = c.in-Some-split_at_checked.ensures.cases.2 ∙ ap (drop c.start_of-start.result) e.parts ∙ drop_at e.before (parts_bytes e.entry ++ e.behind) c.start_of-start.result (sym start) in
     c.entry_of.ensures.none c.in_default-entry_of.is e.entry e.behind (e.digest.0 ∙ ap digest_len (sym kind)) rest
@@ -58,7 +58,7 @@ returns-clause-entry c done =
     let entry : EntryParts = ((c.in-Some-entry_of.first.now, c.in-Some-entry_of.last.now), read.0) in
     let cut = c.in-Some-split_at_checked.ensures.cases in
     let start = c.start_of-start.result in
-    let front : length list - length c.in-Some.body.now ≡ 12 = omega (arith, front_length list c.in-Some.has_digests c.in-Some.count c.in-Some.body.now c.in-Some.ensures.front) in
+    let front = body_at list c.in-Some.has_digests c.in-Some.count c.in-Some.body.now c.in-Some.ensures.front in
     record {
       has_digests = c.in-Some.has_digests;
       count = c.in-Some.count;
