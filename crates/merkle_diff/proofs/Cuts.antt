@@ -113,16 +113,16 @@ module _ {K : Type 0} (cmp : K → K → Ordering) (o : IsTotalOrder cmp) where
       go true e = (f e, tt)
       go false e = tt
 
-  pub each-cut : (P : Span K → Type 0) (g s : Span K) → P s → (Below cmp s.first g.first → P (record { first = s.first; last = g.first })) → (Below cmp g.last s.last → P (record { first = g.last; last = s.last })) → AllByRecursion P (cut_one cmp g s)
-  each-cut P g s p f h = go (meets cmp g s)
+  pub each-cut : (P : Span K → Type 0) (g s : Span K) → P s → (Meets cmp g s → Below cmp s.first g.first → P (record { first = s.first; last = g.first })) → (Meets cmp g s → Below cmp g.last s.last → P (record { first = g.last; last = s.last })) → AllByRecursion P (cut_one cmp g s)
+  each-cut P g s p f h = go (meets cmp g s) refl
     where
-      go : (t : Bool) → AllByRecursion P (if t then (piece cmp s.first g.first ++ piece cmp g.last s.last) else (s ∷ []))
-      go true = each-append P (piece cmp s.first g.first) (piece cmp g.last s.last) (each-piece P s.first g.first f) (each-piece P g.last s.last h)
-      go false = (p, tt)
+      go : (t : Bool) → meets cmp g s ≡ t → AllByRecursion P (if t then (piece cmp s.first g.first ++ piece cmp g.last s.last) else (s ∷ []))
+      go true e = let m = meets_by cmp o g s e in each-append P (piece cmp s.first g.first) (piece cmp g.last s.last) (each-piece P s.first g.first (f m)) (each-piece P g.last s.last (h m))
+      go false e = (p, tt)
 
   pub left-ordered : (bad good : List (Span K)) → AllByRecursion (IsOrdered cmp) bad → AllByRecursion (IsOrdered cmp) (pieces_left cmp bad good)
   left-ordered bad [] d = d
-  left-ordered bad (g ∷ good) d = left-ordered (flat_map (cut_one cmp g) bad) good (each-flat (IsOrdered cmp) g bad (λ s p. each-cut (IsOrdered cmp) g s p (λ b. low_is_up cmp o s.first g.first b) (λ b. low_is_up cmp o g.last s.last b)) d)
+  left-ordered bad (g ∷ good) d = left-ordered (flat_map (cut_one cmp g) bad) good (each-flat (IsOrdered cmp) g bad (λ s p. each-cut (IsOrdered cmp) g s p (λ m b. low_is_up cmp o s.first g.first b) (λ m b. low_is_up cmp o g.last s.last b)) d)
 
   -- both bounds have P
   abbrev pub Bounds : (K → Type 0) → Span K → Type 0
@@ -130,7 +130,7 @@ module _ {K : Type 0} (cmp : K → K → Ordering) (o : IsTotalOrder cmp) where
 
   pub left-bounds : (P : K → Type 0) (bad good : List (Span K)) → AllByRecursion (Bounds P) bad → AllByRecursion (Bounds P) good → AllByRecursion (Bounds P) (pieces_left cmp bad good)
   left-bounds P bad [] d h = d
-  left-bounds P bad (g ∷ good) d h = left-bounds P (flat_map (cut_one cmp g) bad) good (each-flat (Bounds P) g bad (λ s p. each-cut (Bounds P) g s p (λ b. (p.0, h.0.0)) (λ b. (h.0.1, p.1))) d) h.1
+  left-bounds P bad (g ∷ good) d h = left-bounds P (flat_map (cut_one cmp g) bad) good (each-flat (Bounds P) g bad (λ s p. each-cut (Bounds P) g s p (λ m b. (p.0, h.0.0)) (λ m b. (h.0.1, p.1))) d) h.1
 
   -- the bounds of a merge are, up to equality, bounds of the list
   pub merge-bounds : (P : K → Type 0) (ss merged : List (Span K)) → ((k j : K) → Same cmp k j → P j → P k) → AllByRecursion (Bounds P) ss → IsMerge cmp ss merged → AllByRecursion (Bounds P) merged

@@ -72,7 +72,7 @@ module _ {K : Type 0} (cmp : K → K → Ordering) (o : IsTotalOrder cmp) where
     pub cut-over : Upto cmp s.last g.last → pieces_left cmp (s ∷ []) (g ∷ good) ≡ cut_one cmp g s
     cut-over u =
         ap (λ xs. pieces_left cmp xs good) (append-nil (cut_one cmp g s))
-        ∙ cut-before g.last (cut_one cmp g s) good (each-cut cmp o (λ t. Upto cmp t.last g.last) g s u (λ b. ordered) (λ b. u)) after
+        ∙ cut-before g.last (cut_one cmp g s) good (each-cut cmp o (λ t. Upto cmp t.last g.last) g s u (λ m b. ordered) (λ m b. u)) after
 
   -- ---- from a place of the list on
 

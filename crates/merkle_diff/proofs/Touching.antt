@@ -1,16 +1,15 @@
 -- Ranges that share at most a bound with the next.
-use Rattle.std.proofs.Common.{◌≡◌, Bool, true, false, List, [], ◌∷◌, ◌++◌, refl, if◌then◌else◌}
+use Rattle.std.proofs.Common.{Bool, true, false, List, [], ◌∷◌, ◌++◌, if◌then◌else◌}
 use Rattle.std.specs.Cmp.{IsTotalOrder}
 use Rattle.std.specs.List.{AllByRecursion, flat_map}
 use Rattle.std.specs.declared.cmp.Ordering.{Ordering}
-use Rattle.key_order.specs.Interval.{Span, IsOrdered, Meets, IsApart, meets}
+use Rattle.key_order.specs.Interval.{Span, IsOrdered, IsApart, meets}
 use Rattle.key_order.specs.Order.{Upto, Below, below}
 use Rattle.merkle_diff.specs.Cut.{piece, cut_one}
 use Rattle.key_order.proofs.Orders.{up_up, low_is_up, up_self}
 use Rattle.merkle_diff.proofs.Ascents.{IsAscendingByStart}
-use Rattle.merkle_diff.proofs.Cuts.{each-piece}
+use Rattle.merkle_diff.proofs.Cuts.{each-piece, each-cut}
 use Rattle.merkle_diff.proofs.Each.{each-with, each-append}
-use Rattle.merkle_diff.proofs.OrderTests.{meets_by}
 
 module _ {K : Type 0} (cmp : K → K → Ordering) where
   -- no range ends above a later start
@@ -32,17 +31,8 @@ module _ {K : Type 0} (cmp : K → K → Ordering) (o : IsTotalOrder cmp) where
   touches-append (x ∷ xs) ys a b c = (each-append (λ t. Upto cmp x.last t.first) xs ys a.0 c.0, touches-append xs ys a.1 b c.1)
 
   -- the pieces of a range are within it
-  cut-within : (g s : Span K) → Meets cmp g s → AllByRecursion (λ t. Upto cmp s.first t.first × Upto cmp t.last s.last) (piece cmp s.first g.first ++ piece cmp g.last s.last)
-  cut-within g s m = each-append (λ t. Upto cmp s.first t.first × Upto cmp t.last s.last) (piece cmp s.first g.first) (piece cmp g.last s.last)
-      (each-piece cmp o (λ t. Upto cmp s.first t.first × Upto cmp t.last s.last) s.first g.first (λ b. (up_self cmp o s.first, m.0)))
-      (each-piece cmp o (λ t. Upto cmp s.first t.first × Upto cmp t.last s.last) g.last s.last (λ b. (m.1, up_self cmp o s.last)))
-
   one-within : (g s : Span K) → AllByRecursion (λ t. Upto cmp s.first t.first × Upto cmp t.last s.last) (cut_one cmp g s)
-  one-within g s = go (meets cmp g s) refl
-    where
-      go : (t : Bool) → meets cmp g s ≡ t → AllByRecursion (λ t. Upto cmp s.first t.first × Upto cmp t.last s.last) (if t then (piece cmp s.first g.first ++ piece cmp g.last s.last) else (s ∷ []))
-      go true e = cut-within g s (meets_by cmp o g s e)
-      go false e = ((up_self cmp o s.first, up_self cmp o s.last), tt)
+  one-within g s = each-cut cmp o (λ t. Upto cmp s.first t.first × Upto cmp t.last s.last) g s (up_self cmp o s.first, up_self cmp o s.last) (λ m b. (up_self cmp o s.first, m.0)) (λ m b. (m.1, up_self cmp o s.last))
 
   piece-touches : (a b : K) → Touches cmp (piece cmp a b)
   piece-touches a b = go (below cmp a b)

@@ -11,21 +11,10 @@ pub counting-preserved : goal.counting-preserved
 counting-preserved g c =
     let ss = spans_of c.args.ranges.now in
     let few = c.counting.invariant.few in
+    let counts = counts_more g.K.Ord.cmp g.met.K.Ord.total ss c.args.rows.now (drop c.counting.at ss) (drop c.seek-next.result.0 ss) c.counting.row-index c.counting.count c.row-item.result c.seek-next.result.1 c.requires.ascending c.counting-test.true c.row-item.is c.counting.invariant.counts c.seek-next.ensures.place c.seek-next.ensures.found in
     elim c.if-found.branch [
-      | then-found w ↦
-          rw w.count-is
-          (record {
-            inside = c.seek-next.ensures.bound;
-            counts = counts_more g.K.Ord.cmp g.met.K.Ord.total ss c.args.rows.now (drop c.counting.at ss) (drop c.seek-next.result.0 ss) c.counting.row-index c.counting.count c.row-item.result true c.requires.ascending c.counting-test.true c.row-item.is c.counting.invariant.counts c.seek-next.ensures.place (sym w.if-found.true ∙ c.seek-next.ensures.found);
-            few = omega arith;
-          })
-      | else-found w ↦
-          rw w.count-is
-          (record {
-            inside = c.seek-next.ensures.bound;
-            counts = counts_more g.K.Ord.cmp g.met.K.Ord.total ss c.args.rows.now (drop c.counting.at ss) (drop c.seek-next.result.0 ss) c.counting.row-index c.counting.count c.row-item.result false c.requires.ascending c.counting-test.true c.row-item.is c.counting.invariant.counts c.seek-next.ensures.place (sym w.if-found.false ∙ c.seek-next.ensures.found);
-            few = omega arith;
-          })
+      | then-found w ↦ rw w.count-is (record { inside = c.seek-next.ensures.bound; counts = rw w.if-found.true at counts; few = omega arith })
+      | else-found w ↦ rw w.count-is (record { inside = c.seek-next.ensures.bound; counts = rw w.if-found.false at counts; few = omega arith })
     ]
 
 pub returns : goal.returns
