@@ -139,8 +139,8 @@ module _ {K V : Type 0} (cmp : K → K → Ordering) (o : IsTotalOrder cmp) wher
   next-some key (r ∷ rs) e = omega arith
 
   -- no row is joined yet
-  pub cut-none : (eq : V → V → Bool) (e : IsEquivalence eq) (join : V → V → V) (j : IsJoining eq join) (wanted old now : List (K × V)) (joined : ℕ) → joined ≡ length wanted → 0 < joined → now ≡ old → IsMap cmp old → IsPartlyDone cmp eq join wanted old 0 joined now
-  cut-none eq e join j wanted old now joined n s p m = record {
+  pub stopped-none : (eq : V → V → Bool) (e : IsEquivalence eq) (join : V → V → V) (j : IsJoining eq join) (wanted old now : List (K × V)) (joined : ℕ) → joined ≡ length wanted → 0 < joined → now ≡ old → IsMap cmp old → IsPartlyDone cmp eq join wanted old 0 joined now
+  stopped-none eq e join j wanted old now joined n s p m = record {
     counted = n;
     not_all = s;
     joins = subst (λ t. IsJoin cmp eq join old t now) (sym (none wanted)) (subst (IsJoin cmp eq join old []) (sym p) (join_none cmp o eq e join j old m));

@@ -34,7 +34,7 @@ module _ {K V H : Type 0} (laws : Laws K V H) where
       let e : IsDone laws.cmp laws.eq laws.join (rows_in laws.cmp (spans_of ranges) peer.rows) local.rows joined after = rw (← s, ← l, ← p) d in
       record { answered = a; counted = e.counted; joins = e.joins }
 
-  -- a pull that was cut short
+  -- a pull that stopped part-way
   pub part_from : (local peer : Side K V H) (ranges seen : List (K × K)) (ours theirs after : List (K × V)) (done joined : ℕ) → seen ≡ ranges → ours ≡ local.rows → theirs ≡ peer.rows
       → IsAnswerFor laws local peer (spans_of ranges) → 1 ≤ done → IsPartlyDone laws.cmp laws.eq laws.join (rows_in laws.cmp (spans_of seen) theirs) ours done joined after
       → IsPartOfPull laws local peer (record { ranges = spans_of ranges; joined = joined }) done after

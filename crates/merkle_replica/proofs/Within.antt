@@ -110,8 +110,8 @@ module _ {K : Type 0} (cmp : K → K → Ordering) (o : IsTotalOrder cmp) where
       }
 
       -- a row in the ranges that is refused
-      pub cut_short : begins_upto cmp r.0 next ≡ true → (joined : ℕ) → joined ≡ length (rows_in cmp ss rows) → IsPartlyDone cmp eq join (rows_in cmp ss rows) old done joined now
-      cut_short b joined n =
+      pub stopped_short : begins_upto cmp r.0 next ≡ true → (joined : ℕ) → joined ≡ length (rows_in cmp ss rows) → IsPartlyDone cmp eq join (rows_in cmp ss rows) old done joined now
+      stopped_short b joined n =
           let w = still ss rows p.seen left next i r m inside read p.left_over sought b in
           let more = rows_in cmp next (drop (suc i) rows) in
           let all : length (rows_in cmp ss rows) ≡ length p.seen + suc (length more) = ap length w ∙ length-append p.seen (r ∷ more) in

@@ -14,7 +14,7 @@ ghost use Rattle.merkle_replica.specs.Puts.{IsRising, HasGathered, IsGatheredTo}
 ghost use Rattle.merkle_replica.specs.Parted.{whole, FirstNotBelow, first_is};
 
 use crate::join::Join;
-use crate::pull::Cut;
+use crate::pull::Stopped;
 use crate::seek::{count_within, first_from, seek};
 use merkle_digest::{Hasher, KeyBytes};
 use merkle_search_tree::MerkleSearchTree;
@@ -176,7 +176,7 @@ pub(crate) fn join_all<K, V, H, const N: usize>(
     tree: &mut MerkleSearchTree<K, V, H, N>,
     theirs: &[(K, V)],
     ranges: &[(K, K)],
-) -> Result<usize, Cut>
+) -> Result<usize, Stopped>
 where
     K: Ord + KeyBytes + Clone + Drop,
     V: Join + Drop,
@@ -188,7 +188,7 @@ where
     requires kept { IsKept K.cmp ⟦<H as Hasher<N, V>>⟧.digest_of (record { rows = rows.old.items; tree = tree.old }) }
     ensures kept { IsKept K.cmp ⟦<H as Hasher<N, V>>⟧.digest_of (record { rows = rows.new.items; tree = tree.new }) }
     ensures all { IfOk result (λ joined. IsDone K.cmp V.eq V.join_of (rows_in K.cmp (spans_of ranges.now) theirs.now) rows.old.items joined rows.new.items) }
-    ensures cut { IfErr result (λ cut. IsPartlyDone K.cmp V.eq V.join_of (rows_in K.cmp (spans_of ranges.now) theirs.now) rows.old.items cut.done cut.joined rows.new.items) }
+    ensures stopped { IfErr result (λ stopped. IsPartlyDone K.cmp V.eq V.join_of (rows_in K.cmp (spans_of ranges.now) theirs.now) rows.old.items stopped.done stopped.joined rows.new.items) }
     ensures hasher { tree.new.hasher ≡ tree.old.hasher }
     ensures base { tree.new.base ≡ tree.old.base }
     ensures format { tree.new.format ≡ tree.old.format }
@@ -199,7 +199,7 @@ where
     }
     let mut back = match part(rows, &ranges[0].0, joined) {
         Ok(back) => back,
-        Err(_) => return Err(Cut { done: 0, joined }),
+        Err(_) => return Err(Stopped { done: 0, joined }),
     };
     let mut at = 0;
     let mut done = 0;
@@ -209,7 +209,7 @@ where
         if found {
             if take_row(alloc, rows, &mut back, tree, row).is_err() {
                 turn_over(&mut back, rows);
-                return Err(Cut { done, joined });
+                return Err(Stopped { done, joined });
             }
             done += 1;
         }

@@ -113,12 +113,12 @@ impl<
         };
         match self.join_within(peer.rows(), &ranges) {
             Ok(joined) => Ok(Pulled { ranges, joined }),
-            Err(cut) => {
-                if cut.done == 0 {
+            Err(stopped) => {
+                if stopped.done == 0 {
                     return Err(PullError::Memory);
                 }
-                let done = cut.done;
-                let joined = cut.joined;
+                let done = stopped.done;
+                let joined = stopped.joined;
                 Err(PullError::Partly {
                     pulled: Pulled { ranges, joined },
                     done,
@@ -130,7 +130,7 @@ impl<
 
 /// How far a pull came: the first `done` of the `joined` rows in the ranges are joined.
 #[derive(Clone, Copy)]
-pub(crate) struct Cut {
+pub(crate) struct Stopped {
     pub(crate) done: usize,
     pub(crate) joined: usize,
 }

@@ -12,7 +12,7 @@ ghost use Rattle.merkle_replica.specs.Places.{IsPlaceOf, IsGapFor};
 
 use crate::join::Join;
 use crate::merge::{join_all, join_owned};
-use crate::pull::Cut;
+use crate::pull::Stopped;
 use crate::value_hasher::ValueHasher;
 use merkle_digest::{Hasher, KeyBytes, RootHash};
 use merkle_search_tree::builder::Builder;
@@ -283,13 +283,17 @@ impl<
     ghost use Rattle.merkle_replica.specs.Puts.{IsRising, HasGathered, IsGatheredTo};
 
     /// Joins the rows of `theirs` in the ranges, in one pass over both, and answers how many they are.
-    pub(crate) fn join_within(&mut self, theirs: &[(K, V)], ranges: &[(K, K)]) -> Result<usize, Cut>
+    pub(crate) fn join_within(
+        &mut self,
+        theirs: &[(K, V)],
+        ranges: &[(K, K)],
+    ) -> Result<usize, Stopped>
         requires clones { (a b : K) → K.is_clone a b → Same K.cmp a b }
         requires apart { IsApart K.cmp (spans_of ranges.now) }
         requires ordered { AllByRecursion (IsOrdered K.cmp) (spans_of ranges.now) }
         requires ascending { IsMap K.cmp theirs.now }
         ensures all { IfOk result (λ joined. IsDone K.cmp V.eq V.join_of (rows_in K.cmp (spans_of ranges.now) theirs.now) self.old.rows joined self.new.rows) }
-        ensures cut { IfErr result (λ cut. IsPartlyDone K.cmp V.eq V.join_of (rows_in K.cmp (spans_of ranges.now) theirs.now) self.old.rows cut.done cut.joined self.new.rows) }
+        ensures stopped { IfErr result (λ stopped. IsPartlyDone K.cmp V.eq V.join_of (rows_in K.cmp (spans_of ranges.now) theirs.now) self.old.rows stopped.done stopped.joined self.new.rows) }
         ensures setup { SameSetup self.old self.new }
     {
         join_all(self.alloc, &mut self.rows, &mut self.tree, theirs, ranges)

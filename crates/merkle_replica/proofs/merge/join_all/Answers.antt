@@ -7,10 +7,10 @@ use Rattle.key_order.proofs.Orders.{low_is_up}
 use Rattle.merkle_replica.specs.Contents.{IsKept}
 use Rattle.merkle_replica.specs.Parted.{whole}
 use Rattle.merkle_replica.proofs.Searches.{went, refused}
-use Rattle.merkle_replica.proofs.Within.{Joins, joins_none, joins_past, joins_more, cut_short, all_done}
+use Rattle.merkle_replica.proofs.Within.{Joins, joins_none, joins_past, joins_more, stopped_short, all_done}
 use Rattle.merkle_replica.specs.Seek.{begins_upto}
 use Rattle.merkle_replica.proofs.Seeks.{rows_rise, first_upto, first_low, some_range}
-use Rattle.merkle_replica.proofs.Merging.{cut-none, low-further}
+use Rattle.merkle_replica.proofs.Merging.{stopped-none, low-further}
 use Rattle.merkle_replica.proofs.merge.join_all.Goals as goal
 use Rattle.merkle_replica.proofs.merge.join_all.Goals.{then-found+else-is_err, else-found}
 
@@ -18,9 +18,9 @@ use Rattle.merkle_replica.proofs.merge.join_all.Goals.{then-found+else-is_err, e
 pub bounds-ranges-0 : goal.bounds-ranges-0
 bounds-ranges-0 g c = some_range g.K.Ord.cmp g.met.K.Ord.total c.args.ranges.now c.args.theirs.now (omega (arith, c.if-joined-eq0.false, c.count_within-joined.ensures))
 
-pub returns-in-Err-clause-cut : goal.returns-in-Err-clause-cut
-returns-in-Err-clause-cut g c =
-    cut-none g.K.Ord.cmp g.met.K.Ord.total g.V.PartialEq.eq g.met.V.Eq.laws g.V.Join.join_of g.met.V.Join.joining (rows_in g.K.Ord.cmp (spans_of c.args.ranges.now) c.args.theirs.now) c.args.rows.now.items c.part.new.rows.items c.count_within-joined.result
+pub returns-in-Err-clause-stopped : goal.returns-in-Err-clause-stopped
+returns-in-Err-clause-stopped g c =
+    stopped-none g.K.Ord.cmp g.met.K.Ord.total g.V.PartialEq.eq g.met.V.Eq.laws g.V.Join.join_of g.met.V.Join.joining (rows_in g.K.Ord.cmp (spans_of c.args.ranges.now) c.args.theirs.now) c.args.rows.now.items c.part.new.rows.items c.count_within-joined.result
     c.count_within-joined.ensures (omega (arith, c.if-joined-eq0.false)) c.in-Err.ensures.unchanged c.requires.kept.ascending
 
 pub joining-init : goal.joining-init
@@ -47,7 +47,7 @@ take_row-requires g c =
     let ss = spans_of c.args.ranges.now in
     let row = c.row-item.result in
     let i = c.joining.row-index in
-    let cut = cut_short g.K.Ord.cmp g.met.K.Ord.total g.V.PartialEq.eq g.met.V.Eq.laws g.V.Join.join_of g.met.V.Join.joining ss c.args.theirs.now (drop c.joining.at ss) (drop c.seek-next.result.0 ss) i row
+    let stopped = stopped_short g.K.Ord.cmp g.met.K.Ord.total g.V.PartialEq.eq g.met.V.Eq.laws g.V.Join.join_of g.met.V.Join.joining ss c.args.theirs.now (drop c.joining.at ss) (drop c.seek-next.result.0 ss) i row
     c.requires.ascending c.joining-test.true c.row-item.is c.seek-next.ensures.place c.args.rows.now.items (whole c.joining.rows.items c.joining.back.items) c.joining.done c.joining.invariant.joins
     (sym c.seek-next.ensures.found ∙ c.if-found.true) c.count_within-joined.result c.count_within-joined.ensures in (
       search rules,
@@ -58,7 +58,7 @@ take_row-requires g c =
           (
             subst (λ (r : g.row.K.Denot × g.row.V.Denot). begins_upto g.K.Ord.cmp r.0 ss ≡ true → AllByRecursion (λ (s : g.row.K.Denot × g.row.V.Denot). Below g.K.Ord.cmp s.0 r.0) c.joining.rows.items) (sym c.row-item.is) (c.joining.invariant.low i row (omega arith) (omega (arith, c.joining-test.true)))
                 (first_upto g.K.Ord.cmp g.met.K.Ord.total ss c.seek-next.result.0 row.0 c.requires.apart c.requires.ordered (sym c.seek-next.ensures.found ∙ c.if-found.true)),
-            omega (arith, c.joining.invariant.room, cut.not_all),
+            omega (arith, c.joining.invariant.room, stopped.not_all),
           ),
         ),
       ),
@@ -67,19 +67,19 @@ take_row-requires g c =
 pub turn_over-requires : goal.turn_over-requires
 turn_over-requires g c =
     let ss = spans_of c.args.ranges.now in
-    let cut = cut_short g.K.Ord.cmp g.met.K.Ord.total g.V.PartialEq.eq g.met.V.Eq.laws g.V.Join.join_of g.met.V.Join.joining ss c.args.theirs.now (drop c.joining.at ss) (drop c.seek-next.result.0 ss) c.joining.row-index c.row-item.result
+    let stopped = stopped_short g.K.Ord.cmp g.met.K.Ord.total g.V.PartialEq.eq g.met.V.Eq.laws g.V.Join.join_of g.met.V.Join.joining ss c.args.theirs.now (drop c.joining.at ss) (drop c.seek-next.result.0 ss) c.joining.row-index c.row-item.result
     c.requires.ascending c.joining-test.true c.row-item.is c.seek-next.ensures.place c.args.rows.now.items (whole c.joining.rows.items c.joining.back.items) c.joining.done c.joining.invariant.joins
     (sym c.seek-next.ensures.found ∙ c.if-found.true) c.count_within-joined.result c.count_within-joined.ensures in
-    record { room = omega (arith, c.joining.invariant.room, cut.not_all, c.take_row.ensures.len, c.take_row.ensures.capacity) }
+    record { room = omega (arith, c.joining.invariant.room, stopped.not_all, c.take_row.ensures.len, c.take_row.ensures.capacity) }
 
-pub returns-then-is_err-clause-cut : goal.returns-then-is_err-clause-cut
-returns-then-is_err-clause-cut g c =
+pub returns-then-is_err-clause-stopped : goal.returns-then-is_err-clause-stopped
+returns-then-is_err-clause-stopped g c =
     let ss = spans_of c.args.ranges.now in
-    let cut = cut_short g.K.Ord.cmp g.met.K.Ord.total g.V.PartialEq.eq g.met.V.Eq.laws g.V.Join.join_of g.met.V.Join.joining ss c.args.theirs.now (drop c.joining.at ss) (drop c.seek-next.result.0 ss) c.joining.row-index c.row-item.result
+    let stopped = stopped_short g.K.Ord.cmp g.met.K.Ord.total g.V.PartialEq.eq g.met.V.Eq.laws g.V.Join.join_of g.met.V.Join.joining ss c.args.theirs.now (drop c.joining.at ss) (drop c.seek-next.result.0 ss) c.joining.row-index c.row-item.result
     c.requires.ascending c.joining-test.true c.row-item.is c.seek-next.ensures.place c.args.rows.now.items (whole c.joining.rows.items c.joining.back.items) c.joining.done c.joining.invariant.joins
     (sym c.seek-next.ensures.found ∙ c.if-found.true) c.count_within-joined.result c.count_within-joined.ensures in
     let same = refused c.take_row.result (sym c.is_err.ensures.value ∙ c.if-is_err.true) c.take_row.ensures.unchanged in
-    subst (IsPartlyDone g.K.Ord.cmp g.V.PartialEq.eq g.V.Join.join_of (rows_in g.K.Ord.cmp ss c.args.theirs.now) c.args.rows.now.items c.joining.done c.count_within-joined.result) (sym (c.turn_over.ensures.moved ∙ same)) cut
+    subst (IsPartlyDone g.K.Ord.cmp g.V.PartialEq.eq g.V.Join.join_of (rows_in g.K.Ord.cmp ss c.args.theirs.now) c.args.rows.now.items c.joining.done c.count_within-joined.result) (sym (c.turn_over.ensures.moved ∙ same)) stopped
 
 pub joining-preserved : goal.joining-preserved
 joining-preserved g c =

@@ -14,11 +14,11 @@ pub returns-in-Ok-join_within-clause-covers : goal.returns-in-Ok-join_within-cla
 returns-in-Ok-join_within-clause-covers g c =
     covers_sides (laws_of g.K.Ord.cmp g.K.KeyBytes.bytes_of g.H.Hasher-1.digest_of g.V.PartialEq.eq g.V.Join.join_of g.H.Hasher-2.digest_of) g.met.K.Ord.total c.page_ranges_of_a_map.ensures.listing (side c.args.self.now) (side c.args.peer.now) (spans_of c.in-Ok.ranges.items) c.rows_ascend.ensures c.rows_ascend-2.ensures c.in-Ok.ensures.answer
 
-pub returns-else-cut-eq0-clause-part_covers : goal.returns-else-cut-eq0-clause-part_covers
-returns-else-cut-eq0-clause-part_covers g c =
+pub returns-else-stopped-eq0-clause-part_covers : goal.returns-else-stopped-eq0-clause-part_covers
+returns-else-stopped-eq0-clause-part_covers g c =
     covers_sides (laws_of g.K.Ord.cmp g.K.KeyBytes.bytes_of g.H.Hasher-1.digest_of g.V.PartialEq.eq g.V.Join.join_of g.H.Hasher-2.digest_of) g.met.K.Ord.total c.page_ranges_of_a_map.ensures.listing (side c.args.self.now) (side c.args.peer.now) (spans_of c.in-Ok.ranges.items) c.rows_ascend.ensures c.rows_ascend-2.ensures c.in-Ok.ensures.answer
 
-pub returns-else-cut-eq0-clause-refused : goal.returns-else-cut-eq0-clause-refused
-returns-else-cut-eq0-clause-refused g c =
-    part_from (laws_of g.K.Ord.cmp g.K.KeyBytes.bytes_of g.H.Hasher-1.digest_of g.V.PartialEq.eq g.V.Join.join_of g.H.Hasher-2.digest_of) (side c.args.self.now) (side c.args.peer.now) c.in-Ok.ranges.items c.deref.result.now c.ranges_to_ask.new.self.rows c.rows.result.now c.join_within.new.self.rows c.in-Err-join_within.cut.done c.in-Err-join_within.cut.joined
-    c.deref.ensures.value c.ranges_to_ask.ensures.rows (c.rows.ensures.rows ∙ c.ranges_to_ask.ensures.peer_rows) c.in-Ok.ensures.answer (omega arith) c.in-Err-join_within.ensures.cut
+pub returns-else-stopped-eq0-clause-refused : goal.returns-else-stopped-eq0-clause-refused
+returns-else-stopped-eq0-clause-refused g c =
+    part_from (laws_of g.K.Ord.cmp g.K.KeyBytes.bytes_of g.H.Hasher-1.digest_of g.V.PartialEq.eq g.V.Join.join_of g.H.Hasher-2.digest_of) (side c.args.self.now) (side c.args.peer.now) c.in-Ok.ranges.items c.deref.result.now c.ranges_to_ask.new.self.rows c.rows.result.now c.join_within.new.self.rows c.in-Err-join_within.stopped.done c.in-Err-join_within.stopped.joined
+    c.deref.ensures.value c.ranges_to_ask.ensures.rows (c.rows.ensures.rows ∙ c.ranges_to_ask.ensures.peer_rows) c.in-Ok.ensures.answer (omega arith) c.in-Err-join_within.ensures.stopped
