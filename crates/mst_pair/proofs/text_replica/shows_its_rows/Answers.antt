@@ -10,13 +10,13 @@ pub returns-clause-root : goal.returns-clause-root
 returns-clause-root c = λ format d.
     let r = c.args.replica.now in
     c.equal_pages_have_equal_maps.ensures.digests r.tree.format r.tree.root (tree r.rows)
-        (pages_are c.a_map_has_one_tree.ensures.only format r d (rw c.tree.ensures.tree at c.every_tree_is_sound.ensures.sound) c.tree.ensures.digests)
+    (pages_are c.a_map_has_one_tree.ensures.only format r d (rw c.tree.ensures.tree at c.every_tree_is_sound.ensures.sound) c.tree.ensures.digests)
     ∙ ap (λ f. root_digest f r.rows) d.2
 
 pub returns-clause-ranges : goal.returns-clause-ranges
 returns-clause-ranges c = λ format d.
     let r = c.args.replica.now in
     ranges_are r.tree.format r.rows (ranges_of r.tree.format string_bytes r.tree.root)
-        (c.equal_pages_have_equal_maps.ensures.ranges r.tree.format r.tree.root (tree r.rows)
-        (pages_are c.a_map_has_one_tree.ensures.only format r d (rw c.tree.ensures.tree at c.every_tree_is_sound.ensures.sound) c.tree.ensures.digests))
+    (c.equal_pages_have_equal_maps.ensures.ranges r.tree.format r.tree.root (tree r.rows)
+    (pages_are c.a_map_has_one_tree.ensures.only format r d (rw c.tree.ensures.tree at c.every_tree_is_sound.ensures.sound) c.tree.ensures.digests))
     ∙ ap (λ f. ranges_text (map span_of (page_ranges f r.rows))) d.2
