@@ -275,6 +275,18 @@ static int differs(const uint8_t *own, size_t own_len, const uint8_t *peer, size
     return 1;
 }
 
+/* What going over a list answers at its end, beyond it, and where no range begins. */
+static void ends(const uint8_t *list, size_t len) {
+    static const struct { size_t behind; int status; } PLACES[] = {{1, MST_ABSENT}, {2, MST_BAD_ARGUMENT}, {0, MST_MALFORMED}};
+    size_t i;
+    for (i = 0; i < sizeof PLACES / sizeof *PLACES; i++) {
+        size_t from = len - 1 + PLACES[i].behind, at = from;
+        struct mst_range range;
+        WANT(mst_ranges_next(list, len, &at, &range) == PLACES[i].status);
+        WANT(at == from);
+    }
+}
+
 static void hostile(void) {
     static const char *const MARKS[] = {"MSTp", "MSTk", "MSTr"};
     struct mst_tree tree = MST_NO_TREE, other = MST_NO_TREE;
@@ -287,6 +299,7 @@ static void hostile(void) {
     list = page_ranges(&tree, &len);
     own = page_ranges(&other, &own_len);
     WANT(differs(own, own_len, list, len));
+    ends(list, len);
     for (cut = 0; cut < len; cut++) WANT(!differs(own, own_len, list, cut));
     for (cut = 0; cut < len; cut++) {
         uint8_t kept = list[cut];
