@@ -171,8 +171,8 @@ module _ {K D : Type 0} (cmp : K → K → Ordering) (k : K) {l : ℕ} {c : Opti
     pub page_without-equal : cmp k (get_or es i x).key ≡ Equal → page l None (row_without i (row es h)) ≡ tree_without cmp k t
     page_without-equal same = ap (page l None) (sym (del_equal cmp k es h i x at within same)) ∙ ap (tree_without cmp k) is
 
-    pub page_entry-gap : cmp k (get_or es i x).key ≢ Equal → held_entry cmp k (get_or es i x).lt ≡ tree_entry cmp k t
-    page_entry-gap other = sym (entry_gap cmp k es h i x at within other) ∙ ap (tree_entry cmp k) is
+    pub page_entry-gap : {e : Node K D} → e ≡ get_or es i x → cmp k (get_or es i x).key ≢ Equal → held_entry cmp k e.lt ≡ tree_entry cmp k t
+    page_entry-gap same other = ap (λ (e : Node K D). held_entry cmp k e.lt) same ∙ sym (entry_gap cmp k es h i x at within other) ∙ ap (tree_entry cmp k) is
 
     pub page_without-gap : cmp k (get_or es i x).key ≢ Equal → page l None (row (slice_set es i (with_lt (get_or es i x) (held_del cmp k (get_or es i x).lt))) h) ≡ tree_without cmp k t
     page_without-gap other = ap (page l None) (sym (del_gap cmp k es h i x at within other)) ∙ ap (tree_without cmp k) is

@@ -5,7 +5,7 @@ use Rattle.merkle_search_tree.specs.Tree.{page, Node, below, row, held_of}
 use Rattle.merkle_search_tree.specs.Upsert.{place}
 use Rattle.merkle_search_tree.proofs.Search.{page_nodes-ascend, page_high-map, page_gap-map, all_below, one_at, key_there, key_elsewhere}
 use Rattle.merkle_search_tree.proofs.Rows.{page_size-high, page_size-gap}
-use Rattle.merkle_search_tree.specs.Remove.{held_del, held_entry, tree_del, tree_without, IsFreeAt, HasFreeGap, HeldHasFreeGap}
+use Rattle.merkle_search_tree.specs.Remove.{held_del, tree_del, tree_without, IsFreeAt, HasFreeGap, HeldHasFreeGap}
 use Rattle.merkle_search_tree.proofs.Parts.{lt_back, lt_changed, on_err_always}
 use Rattle.merkle_search_tree.proofs.Seams.{gives_way, way_some, way_same, without_gives, at_some, at_none, free_equal, free_gap, free_high}
 use Rattle.merkle_search_tree.proofs.Seams.{page_entry-high, page_without-high, page_entry-equal, page_without-equal, page_entry-gap, page_without-gap}
@@ -103,9 +103,7 @@ page::PageOf::remove-returns-in-None-2 g t c =
     let is = c.node.view_is ∙ c.index_mut-node.ensures.value in
     let other = key_elsewhere g.K.Ord.cmp c.args.key.now i c.search-spot.ensures.there c.deref.ensures.value c.if-spot.false x within in
     record {
-      found =
-          sym c.in-None-2.is ∙ c.in_ok-remove_below-2.ensures.found ∙ ap (λ (e : Node g.row.K.Denot g.row.D.Denot). held_entry g.K.Ord.cmp c.args.key.now e.lt) is
-          ∙ page_entry-gap g.K.Ord.cmp c.args.key.now s.nodes.items (held_of s.high_page) c.self.view_is i x at within other;
+      found = sym c.in-None-2.is ∙ c.in_ok-remove_below-2.ensures.found ∙ page_entry-gap g.K.Ord.cmp c.args.key.now s.nodes.items (held_of s.high_page) c.self.view_is i x at within is other;
       done =
           let done = at_none _ _ _ c.in-None-2.is c.in_ok-remove_below-2.ensures.done in
           ap (λ ys. page s.level s.tree_hash (row ys (held_of s.high_page))) (lt_back s.nodes.items i n.key n.value_hash within c.index_mut-node.ensures.value c.node.view_is done) ∙ c.self.view_is;
@@ -124,9 +122,7 @@ page::PageOf::remove-returns g t c =
     let is = c.node.view_is ∙ c.index_mut-node.ensures.value in
     let other = key_elsewhere g.K.Ord.cmp c.args.key.now i c.search-spot.ensures.there c.deref.ensures.value c.if-spot.false x within in
     record {
-      found =
-          sym c.in-Some-2.is ∙ c.in_ok-remove_below-2.ensures.found ∙ ap (λ (e : Node g.row.K.Denot g.row.D.Denot). held_entry g.K.Ord.cmp c.args.key.now e.lt) is
-          ∙ page_entry-gap g.K.Ord.cmp c.args.key.now s.nodes.items (held_of s.high_page) c.self.view_is i x at within other;
+      found = sym c.in-Some-2.is ∙ c.in_ok-remove_below-2.ensures.found ∙ page_entry-gap g.K.Ord.cmp c.args.key.now s.nodes.items (held_of s.high_page) c.self.view_is i x at within is other;
       done =
           let done : held_of c.remove_below-2.new.held ≡ held_del g.K.Ord.cmp c.args.key.now (held_of n.lt_pointer) = at_some _ _ _ c.in-Some-2.entry c.in-Some-2.is c.in_ok-remove_below-2.ensures.done in
           ap (λ e. page s.level None (row (slice_set s.nodes.items i e) (held_of s.high_page))) (lt_changed (held_del g.K.Ord.cmp c.args.key.now) n.key n.value_hash is done)
