@@ -40,10 +40,10 @@ struct mst_tree { void *at; };
 int mst_tree_new(struct mst_tree *out);
 
 /* The same with a key of SipHash, a level base and a page format, which peers that compare trees have in common: mst_diff can't
- * tell that they haven't, and asks for far too much, or for nothing. The level base is from 1 to 255; one key in so many stands a
- * level higher, so a lesser one makes more and smaller pages. The page format is 1, or 2, in which what a page digest is made of
- * can be read in one way only: take 2 where no peer needs root hashes of the Rust crate. MST_BAD_ARGUMENT for any other base or
- * format, too; MST_NO_MEMORY. One request for memory. */
+ * tell that they haven't, and asks for far too much, or for nothing. The level base is from 1 to 255: from 2 to 128, about one key in
+ * so many stands above level 0, so that a lesser base makes more and smaller pages; about one in 256 stands above level 1, whatever
+ * the base. The page format is 1, or 2, in which what a page digest is made of can be read in one way only: take 2 where no peer
+ * needs root hashes of the Rust crate. MST_BAD_ARGUMENT for any other base or format, too; MST_NO_MEMORY. One request for memory. */
 int mst_tree_new_with(struct mst_tree *out, const uint8_t key[16], uint8_t level_base, uint8_t page_format);
 
 /* Gives `out`, which has no tree, a copy of the tree, which mst_tree_free lets go. MST_BAD_ARGUMENT where `tree` has none or `out` has
@@ -102,10 +102,10 @@ struct mst_range {
 
 /* Goes to the next range of a list of page ranges or key ranges, without copying or taking memory. *at is where it stands: 0 before
  * the first, where the whole list is read once, and then what the call before left there. MST_ABSENT behind the last; MST_MALFORMED
- * where no mark of such a list and no number stand in front, at 0 also where the bytes are no such list (that a first key is above a
- * last one isn't looked for), and elsewhere where no range of the list's kind begins; MST_BAD_ARGUMENT where *at is beyond the end
- * of bytes that have such a front. At a place that no call left there it is as safe, but may answer a range that isn't one of the
- * list. */
+ * where a mark of such a list and a number don't stand in front, at 0 also where the bytes are no such list (that a first key is above
+ * a last one isn't looked for), and at a place within them where no range of the list's kind begins; MST_BAD_ARGUMENT where *at is
+ * beyond the end of bytes that have such a front. At a place that no call left there it is as safe, but may answer a range that isn't
+ * one of the list. */
 int mst_ranges_next(const uint8_t *list, size_t list_len, size_t *at, struct mst_range *out);
 
 /* Lists, byte by byte. A number is eight bytes, the lowest first. A string is its length, a number, and its bytes.

@@ -257,7 +257,7 @@ static uint64_t draw(void) {
     return drawn;
 }
 
-/* Whether the answer to any bytes is a list of ascending ranges, or malformed. */
+/* Whether the answer to any bytes is a list of key ranges, or malformed. */
 static int differs(const uint8_t *own, size_t own_len, const uint8_t *peer, size_t peer_len) {
     static uint8_t out[1 << 16];
     size_t needed = 0, at = 0;

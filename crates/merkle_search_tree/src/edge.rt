@@ -49,7 +49,7 @@ pub(crate) fn is_above<K: Ord, D>(edge: &[PageOf<K, D>], key: &K) -> bool
     }
 }
 
-/// ClosesPages the open pages whose levels are below the bound: each becomes the high page of the one before it, and the first of them is
+/// Closes the open pages whose levels are below the bound: each becomes the high page of the one before it, and the first of them is
 /// answered.
 fn close<K: Drop, D: Drop>(
     alloc: Global,
@@ -112,7 +112,7 @@ pub(crate) fn append<K: Drop, D: Drop>(
     }
 }
 
-/// ClosesPages all open pages, and answers the root page.
+/// Closes all open pages, and answers the root page.
 pub(crate) fn root_of<K: Drop, D: Drop>(
     alloc: Global,
     edge: Vec<PageOf<K, D>>,

@@ -96,8 +96,8 @@ fn spot_of(has_digests: bool, start: usize, first: &[u8], last: &[u8]) -> MstSpo
 /// Writes where the parts of the entry at `at` lie, and moves `at` behind it. An `at` of 0 is the first entry, and there the whole
 /// list is read once to see that it is one.
 ///
-/// `DONE`; `MALFORMED` where no mark and number stand in front, where `at` is 0 and the whole is no list, or where no entry of the
-/// mark's kind begins at `at`; `ABSENT` behind the last entry; `ARGUMENT` where `at` is beyond the end. Where it isn't `DONE`, `at` and
+/// `DONE`; `MALFORMED` where a mark and a number don't stand in front, where `at` is 0 and the whole is no list, or where `at` is within
+/// the list and no entry of the mark's kind begins there; `ABSENT` behind the last entry; `ARGUMENT` where `at` is beyond the end. Where it isn't `DONE`, `at` and
 /// `spot` are as before.
 #[unsafe(no_mangle)]
 pub extern "C" fn mst_proved_ranges_next(list: &[u8], at: &mut usize, spot: &mut MstSpot) -> u32
