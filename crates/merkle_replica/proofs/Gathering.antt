@@ -14,7 +14,7 @@ use Rattle.key_order.proofs.Maps.{is_equal, absent}
 use Rattle.key_order.proofs.Orders.{low_is_up, up_low, same_down}
 use Rattle.key_order.proofs.Values.{Eq, same, back, on, assoc, cong, to_none}
 use Rattle.merkle_diff.proofs.Each.{each-with}
-use Rattle.merkle_replica.specs.Puts.{IsRising, IsPuts, gathered, HasGathered, IsGatheredTo}
+use Rattle.merkle_replica.specs.Puts.{IsRising, AreInKeyOrder, IsPuts, gathered, HasGathered, IsGatheredTo, IsPutsTo}
 
 module _ {K V : Type 0} (cmp : K → K → Ordering) (o : IsTotalOrder cmp) where
   -- the rows of a map rise
@@ -97,6 +97,11 @@ module _ {K V : Type 0} (cmp : K → K → Ordering) (o : IsTotalOrder cmp) wher
         go : (x : Option V) → get cmp old r.0 ≡ x → ((mid : List (K × V)) → IsJoin cmp eq join old (r ∷ []) mid → IsPuts cmp eq join old (r ∷ rows) now) → IsPuts cmp eq join old (r ∷ rows) now
         go None is further = further (set cmp old r.0 r.1) (put_joins cmp o eq e join j old r.0 r.1 r.1 m (subst (λ y. Eq eq e join j (Some r.1) (joined join y (Some r.1))) (sym is) (e.refl r.1)))
         go (Some v) is further = further (set cmp old r.0 (join v r.1)) (put_joins cmp o eq e join j old r.0 r.1 (join v r.1) m (subst (λ y. Eq eq e join j (Some (join v r.1)) (joined join y (Some r.1))) (sym is) (e.refl (join v r.1))))
+
+    -- rows in key order, gathered up to a place, are put up to it
+    pub puts_to : (rows sorted old now : List (K × V)) (done : ℕ) → IsMap cmp old → length sorted ≡ length rows → AreInKeyOrder cmp rows sorted → IsGatheredTo cmp eq join old sorted done now → IsPutsTo cmp eq join old rows done now
+    puts_to rows sorted old now zero m n order g = let some = g.not_all in inl (refl, omega (arith, some, n), g.unchanged refl)
+    puts_to rows sorted old now (suc done) m n order g = let some = g.not_all in inr (sorted, order, omega arith, omega (arith, some, n), puts_gather (take (suc done) sorted) old now m g.gathers)
 
   low_taken : (k : K) (rows : List (K × V)) (n : ℕ) → AllByRecursion (λ s. Below cmp k s.0) rows → AllByRecursion (λ s. Below cmp k s.0) (take n rows)
   low_taken k rows zero a = tt

@@ -1,8 +1,9 @@
 -- Rows sorted by key, and what they gather.
-use Rattle.std.proofs.Common.{◌≡◌, suc, Bool, true, false, not, ◌&&◌, cond, add-one, List, [], ◌∷◌, length, get_or, Some, None, refl, sym, ◌∙◌, ap, subst, arith}
+use Rattle.std.proofs.Common.{◌≡◌, ℕ, zero, suc, ◌≤◌, Bool, true, false, not, ◌&&◌, cond, add-one, List, [], ◌∷◌, length, get_or, Some, None, Result, refl, sym, ◌∙◌, ap, subst, arith}
 use Rattle.std.specs.List.{filter}
 use Rattle.std.specs.List.Sorted.{IsSortedBy, IsStableBy, ties}
 use Rattle.std.specs.Cmp.{IsTotalOrder, IsStrictWeakOrder}
+use Rattle.std.specs.Result.{is_ok, IsOk}
 use Rattle.std.specs.Ordering.{is_eq, is_lt, ordering_reverse}
 use Rattle.std.specs.declared.cmp.Ordering.{Ordering}
 use Rattle.std.specs.declared.cmp.Ordering.TheVariants.{Less, Equal, Greater}
@@ -16,6 +17,11 @@ tied : (w v : Ordering) → is_eq w ≡ true → v ≡ ordering_reverse w → no
 tied Less v h e = cc
 tied Equal v h e = rw e refl
 tied Greater v h e = cc
+
+-- a sort that was refused had an element, since up to twenty are sorted without fail
+pub refused_some : {T E : Type 0} (r : Result T E) (n : ℕ) → is_ok r ≡ false → (n ≤ 20 → IsOk r) → 1 ≤ n
+refused_some r zero e s = let never : true ≡ false = sym (s (omega arith)) ∙ e in absurd (cc)
+refused_some r (suc n) e s = omega arith
 
 module _ {K : Type 0} (cmp : K → K → Ordering) (o : IsTotalOrder cmp) where
   not_lower : (a b : K) → is_lt (cmp a b) ≡ false → Upto cmp b a

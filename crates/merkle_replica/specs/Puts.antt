@@ -1,9 +1,9 @@
 -- Rows in any order, put one after the other.
-use Rattle.std.specs.Prelude.{◌≡◌, ℕ, ◌<◌, Bool, true, cond, List, [], ◌∷◌, length, take, Option, Some, None, ⊤, ◌⊎◌}
+use Rattle.std.specs.Prelude.{◌≡◌, ℕ, ◌<◌, ◌≤◌, Bool, true, cond, List, [], ◌∷◌, length, take, Option, Some, None, ⊤, ◌⊎◌}
 use Rattle.std.specs.List.{AllByRecursion}
-use Rattle.std.specs.List.Sorted.{IsPermutation}
+use Rattle.std.specs.List.Sorted.{IsPermutation, IsStableBy}
 use Rattle.std.specs.declared.cmp.Ordering.{Ordering}
-use Rattle.std.specs.Ordering.{is_eq}
+use Rattle.std.specs.Ordering.{is_eq, is_lt}
 use Rattle.key_order.specs.Order.{Upto}
 use Rattle.key_order.specs.Map.{SameValue, IsMap, get}
 use Rattle.key_order.specs.Join.{joined, IsJoin}
@@ -13,6 +13,10 @@ module _ {K V : Type 0} (cmp : K → K → Ordering) where
   abbrev pub IsRising : List (K × V) → Type 0
   IsRising [] = ⊤
   IsRising (r ∷ rs) = AllByRecursion (λ s. Upto cmp r.0 s.0) rs × IsRising rs
+
+  -- `sorted` has the rows by key, and those of equal keys in the order of `rows`
+  abbrev pub AreInKeyOrder : List (K × V) → List (K × V) → Type 0
+  AreInKeyOrder rows sorted = IsPermutation rows sorted × IsRising sorted × IsStableBy (λ x y. is_lt (cmp x.0 y.0)) rows sorted
 
 module _ {K V : Type 0} (cmp : K → K → Ordering) (eq : V → V → Bool) (join : V → V → V) where
   -- the rows put one after the other into the map `before`
@@ -36,7 +40,8 @@ module _ {K V : Type 0} (cmp : K → K → Ordering) (eq : V → V → Bool) (jo
     pub gathers : HasGathered before (take done rows) after
     pub unchanged : done ≡ 0 → after ≡ before
 
-  -- no row is put, or the first `done` of the rows in key order are, and not all
+  -- no row is put, and there was one; or the first `done` of the rows in key order are, at least one and not all
   abbrev pub IsPutsTo : List (K × V) → List (K × V) → ℕ → List (K × V) → Type 0
   IsPutsTo before rows done after =
-      ((done ≡ 0) × (after ≡ before)) ⊎ ((sorted : List (K × V)) × IsPermutation rows sorted × IsRising cmp sorted × (done < length sorted) × IsPuts before (take done sorted) after)
+      ((done ≡ 0) × (1 ≤ length rows) × (after ≡ before))
+      ⊎ ((sorted : List (K × V)) × AreInKeyOrder cmp rows sorted × (1 ≤ done) × (done < length rows) × IsPuts before (take done sorted) after)
