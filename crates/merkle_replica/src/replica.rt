@@ -205,6 +205,9 @@ impl<
         ensures found { IfOk result (λ found. found ≡ has_key K.cmp self.old.rows key.now) }
         ensures setup { SameSetup self.old self.new }
 
+        // Few digests of the tree are dropped.
+        ensures few_more { OnOk result (missing self.new.tree.root ≤ missing self.old.tree.root + (level self.old.tree.root + 1)) }
+
         // Where there is no such row, and where it is refused, nothing changes.
         ensures absent { IfOk result (λ found. found ≡ false → self.new ≡ self.old) }
         ensures unchanged { OnErr result (self.new ≡ self.old) }
