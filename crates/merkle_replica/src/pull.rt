@@ -4,7 +4,7 @@ ghost use Rattle.key_order.specs.Order.{Same};
 ghost use Rattle.merkle_diff.specs.DiffRange.{spans};
 ghost use Rattle.merkle_diff.specs.Merge.{SameSpans};
 ghost use Rattle.merkle_diff.specs.PageRangeSnapshot.{snapshot_entries};
-ghost use Rattle.merkle_replica.specs.Contents.{SameSetup, side};
+ghost use Rattle.merkle_replica.specs.Contents.{SameSetup, hashed, side};
 ghost use Rattle.merkle_replica.specs.Pulls.{IsAnswerFor, IsPull};
 ghost use Rattle.merkle_replica.specs.Faithful.{SpanHolds, HaveFaithfulPages, MissesNone};
 ghost use Rattle.merkle_replica.specs.Answers.{spans_of, answer_of, IsRefused, PartMissesNone};
@@ -50,8 +50,8 @@ impl<
     const N: usize,
 > Replica<K, V, H, N> {
     /// The ranges of keys that a pull from the peer asks for: ascending, each with its first and its last key, in which the two trees
-    /// differ. It hashes both trees, and copies the bounds of the ranges. Want of memory leaves the rows as they are; pages may have
-    /// got their digests then.
+    /// differ. It hashes both trees, and copies the bounds of the ranges. Want of memory leaves the rows as they are, and both trees
+    /// hashed.
     ///
     /// For keys that are texts or bytes, `key_order::proofs::Clones` has the lemmas that prove its condition on clones.
     pub fn ranges_to_ask(
@@ -64,6 +64,10 @@ impl<
         ensures answer { IfOk result (λ ranges. IsAnswerFor ⟦<H as Lawful<N, K, V>>⟧.laws (side self.old) (side peer.old) (spans_of ranges.items)) }
         ensures rows { self.new.rows ≡ self.old.rows }
         ensures peer_rows { peer.new.rows ≡ peer.old.rows }
+
+        // Both trees are hashed, whatever it answers.
+        ensures tree { self.new.tree ≡ hashed K.bytes_of self.old.tree }
+        ensures peer_tree { peer.new.tree ≡ hashed K.bytes_of peer.old.tree }
         ensures setup { SameSetup self.old self.new }
         ensures peer_setup { SameSetup peer.old peer.new }
     {

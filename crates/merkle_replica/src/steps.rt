@@ -5,7 +5,7 @@ ghost use Rattle.key_order.specs.Map.{IsMap, rows_in};
 ghost use Rattle.key_order.specs.Join.{IsJoin};
 ghost use Rattle.merkle_diff.specs.PageRangeSnapshot.{snapshot_entries};
 ghost use Rattle.merkle_replica.specs.Answers.{spans_of};
-ghost use Rattle.merkle_replica.specs.Contents.{SameSetup, side};
+ghost use Rattle.merkle_replica.specs.Contents.{SameSetup, hashed, side};
 ghost use Rattle.merkle_replica.specs.Steps.{AreRanges, IsAnswerTo, IsJoinRefused};
 
 use crate::join::Join;
@@ -36,8 +36,7 @@ impl<
     /// The first step of a pull: the ranges of keys to ask a peer for that sent these page ranges, ascending, each with its first and
     /// its last key. Any list will do; where it is that of the peer's tree, the ranges are those of a pull.
     ///
-    /// It hashes the tree, and copies the bounds of the ranges. Want of memory leaves the rows as they are; pages may have got their
-    /// digests then.
+    /// It hashes the tree, and copies the bounds of the ranges. Want of memory leaves the rows as they are, and the tree hashed.
     pub fn ranges_to_ask_of(
         &mut self,
         theirs: &PageRangeSnapshot<K>,
@@ -47,6 +46,9 @@ impl<
 
         ensures answer { IfOk result (λ ranges. IsAnswerTo ⟦<H as Lawful<N, K, V>>⟧.laws (side self.old) (snapshot_entries theirs.now) (spans_of ranges.items)) }
         ensures rows { self.new.rows ≡ self.old.rows }
+
+        // The tree is hashed, whatever it answers.
+        ensures tree { self.new.tree ≡ hashed K.bytes_of self.old.tree }
         ensures setup { SameSetup self.old self.new }
     {
         self.hash();
