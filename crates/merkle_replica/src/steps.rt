@@ -68,7 +68,8 @@ impl<
         }
     }
 
-    /// The third step of a pull: joins rows that came, strictly ascending by key, in one pass. Rows that don't ascend are handed back.
+    /// The third step of a pull: joins rows that came, strictly ascending by key, in one pass. Rows that don't ascend are handed back, and
+    /// the replica is as before.
     ///
     /// Room for all of them is made before the first is joined. Own rows below the first of them stay where they are; those from it on
     /// are moved out of the way and back.
@@ -79,6 +80,9 @@ impl<
         ensures ascending { OnOk result (IsMap K.cmp rows.items) }
         ensures joined { OnOk result (IsJoin K.cmp V.eq V.join_of self.old.rows rows.items self.new.rows) }
         ensures refused { IfErr result (λ why. IsJoinRefused K.cmp V.eq V.join_of self.old.rows rows.items why self.new.rows) }
+
+        // Rows that don't ascend leave the replica, caches included.
+        ensures unchanged { ¬ (IsMap K.cmp rows.items) → self.new ≡ self.old }
         ensures setup { SameSetup self.old self.new }
     {
         if !ascend(&rows) {
