@@ -27,7 +27,7 @@ impl<
     /// behind it instead, so this is for many rows.
     ///
     /// Where memory is refused, the first rows in key order are joined, those of equal keys in the order in which they came, and the
-    /// others are given up. Where no row came, none is wanted.
+    /// others are given up. An empty list is never refused.
     pub fn put_all(&mut self, rows: Vec<(K, V)>) -> Result<(), PutsCut>
         // A clone of a key equals its original.
         requires clones { (a b : K) → K.is_clone a b → Same K.cmp a b }
