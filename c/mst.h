@@ -2,8 +2,8 @@
  * of the tree alone, and what two stores need to bring each other up to date by the ranges of their pages, one for some sixteen keys.
  *
  * Every call but mst_tree_free answers one of the statuses below, and none aborts. A call that doesn't answer MST_DONE leaves the map
- * as it was, and what it would write to; only what `needed` points to may have changed. A null pointer where the call needs something
- * to point to is MST_BAD_ARGUMENT; where a length is 0, its pointer may be null.
+ * as it was, and what it would write to; but where it answers MST_TOO_SHORT, *needed is written. A null pointer where the call needs
+ * something to point to is MST_BAD_ARGUMENT; where a length is 0, its pointer may be null.
  *
  * What the caller owes, since no call can test it: a length is at most that of the memory behind its pointer; a handle is changed
  * by these calls alone, is copied by mst_tree_clone and not by `=`, and is used by one thread at a time; what a call writes to
@@ -46,8 +46,9 @@ int mst_tree_new(struct mst_tree *out);
  * needs root hashes of the Rust crate. MST_BAD_ARGUMENT for any other base or format, too; MST_NO_MEMORY. One request for memory. */
 int mst_tree_new_with(struct mst_tree *out, const uint8_t key[16], uint8_t level_base, uint8_t page_format);
 
-/* Gives `out`, which has no tree, a copy of the tree, which mst_tree_free lets go. MST_BAD_ARGUMENT where `tree` has none or `out` has
- * one, for which MST_NO_MEMORY may be answered too; MST_NO_MEMORY. Time and memory in proportion to the tree. */
+/* Gives `out`, which has no tree, a copy of the tree and of the digests that its pages have; mst_tree_free lets it go.
+ * MST_BAD_ARGUMENT where `tree` has none or `out` has one, for which MST_NO_MEMORY may be answered too; MST_NO_MEMORY. Time and memory
+ * in proportion to the tree. */
 int mst_tree_clone(struct mst_tree *tree, struct mst_tree *out);
 
 /* Lets the tree of a handle go, and leaves the handle without one, so that to free it twice does no harm; a null pointer does
@@ -59,8 +60,8 @@ void mst_tree_free(struct mst_tree *tree);
  * keys, on average. */
 int mst_tree_upsert(struct mst_tree *tree, const uint8_t *key, size_t key_len, const uint8_t *value, size_t value_len);
 
-/* Takes a key out. MST_ABSENT where the tree has no such key, and then it is as before; MST_NO_MEMORY; MST_BAD_ARGUMENT. Time as for
- * mst_tree_upsert. */
+/* Takes a key out. MST_ABSENT where the tree has no such key, and then it is as before, digests included; MST_NO_MEMORY;
+ * MST_BAD_ARGUMENT. Time as for mst_tree_upsert. */
 int mst_tree_remove(struct mst_tree *tree, const uint8_t *key, size_t key_len);
 
 /* Makes these rows the map of a tree, in place of the one that it has; the key of SipHash, the level base and the page format stay.
@@ -74,12 +75,14 @@ int mst_tree_load(struct mst_tree *tree, const uint8_t *rows, size_t rows_len);
 int mst_tree_len(struct mst_tree *tree, size_t *out);
 
 /* Writes the root hash. Trees of one map and with the same settings have one root hash, in whatever order their keys came. It hashes
- * the pages that changed since the last call, and takes no memory. MST_BAD_ARGUMENT where the handle has no tree. */
+ * the pages that changed since the last call, after which none is without a digest, and takes no memory. To these pages an upsert adds
+ * at most L + K + 1, where L is the level of the root page then and K that of the key, and a removal at most L + 1, where L is the level
+ * of the root page before. MST_BAD_ARGUMENT where the handle has no tree. */
 int mst_tree_root_hash(struct mst_tree *tree, uint8_t out[16]);
 
 /* Writes the page ranges of a tree as a list (below), which may be sent to a peer as it is, and how many bytes they are. To learn
- * that number alone, give an `out_len` of 0, which answers MST_TOO_SHORT. It hashes what mst_tree_root_hash would. MST_TOO_SHORT;
- * MST_NO_MEMORY; MST_BAD_ARGUMENT. Time and memory in proportion to the pages. */
+ * that number alone, give an `out_len` of 0, which answers MST_TOO_SHORT. It hashes what mst_tree_root_hash would, where it answers
+ * MST_TOO_SHORT or MST_NO_MEMORY too. MST_TOO_SHORT; MST_NO_MEMORY; MST_BAD_ARGUMENT. Time and memory in proportion to the pages. */
 int mst_tree_page_ranges(struct mst_tree *tree, uint8_t *out, size_t out_len, size_t *needed);
 
 /* Compares two lists of page ranges, one's own and a peer's, and writes the ranges of keys to ask the peer for, as a list of key

@@ -1,12 +1,13 @@
 //! What a handle holds: a tree of byte strings.
-ghost use Rattle.std.specs.Prelude.{◌≡◌, ◌≢◌, ℕ, List, None, Err, OnOk, OnErr, IfOk, length};
+ghost use Rattle.std.specs.Prelude.{◌≡◌, ◌≢◌, ℕ, List, None, Err, OnOk, OnErr, IfOk, false, length};
 ghost use Rattle.std.specs.Int.NonZero.{non_zero_u8_get};
+ghost use Rattle.merkle_search_tree.specs.Hashed.{IsHashed};
 ghost use Rattle.merkle_search_tree.specs.State.{IsNew, map_of};
 ghost use Rattle.merkle_search_tree.specs.Stream.{page_digest};
 ghost use Rattle.merkle_search_tree.specs.Ranges.{ranges_of};
 ghost use Rattle.merkle_search_tree.specs.Loading.{row_count};
 ghost use Rattle.mst_c.specs.Lists.{ArePageRanges, AreRows, IsLoaded};
-ghost use Rattle.mst_c.specs.Trees.{bytes_of, SameRows, IsSet, IsDel, IsCopied};
+ghost use Rattle.mst_c.specs.Trees.{bytes_of, SameRows, IsSet, SetDropsFew, IsDel, DelDropsFew, IsCopied};
 ghost use Rattle.mst_c.specs.declared.reading.ReadError.TheVariants.{Malformed};
 
 use crate::byte_hasher::ByteHasher;
@@ -54,6 +55,7 @@ impl ByteTree {
     /// Sets a key to the digest of a value. Refused, the tree is as before.
     pub fn upsert(&mut self, alloc: Global, key: &[u8], value: &[u8]) -> Result<(), AllocError>
         ensures done { OnOk result (IsSet key.now value.now self.old.tree self.new.tree) }
+        ensures few_more { OnOk result (SetDropsFew key.now self.old.tree self.new.tree) }
         ensures unchanged { OnErr result (self.new ≡ self.old) }
     {
         let own_key = Vec::from_slice(alloc, key)?;
@@ -64,9 +66,11 @@ impl ByteTree {
         }
     }
 
-    /// Takes a key out, and answers whether it was there. Refused, the tree is as before.
+    /// Takes a key out, and answers whether it was there. Where it wasn't, and refused, the tree is as before.
     pub fn remove(&mut self, alloc: Global, key: &[u8]) -> Result<bool, AllocError>
         ensures done { IfOk result (λ found. IsDel key.now found self.old.tree self.new.tree) }
+        ensures absent { IfOk result (λ found. found ≡ false → self.new ≡ self.old) }
+        ensures few_more { OnOk result (DelDropsFew self.old.tree self.new.tree) }
         ensures unchanged { OnErr result (self.new ≡ self.old) }
     {
         let own_key = Vec::from_slice(alloc, key)?;
@@ -112,6 +116,7 @@ impl ByteTree {
     pub fn page_ranges(&mut self, alloc: Global) -> Result<Vec<u8>, AllocError>
         ensures ranges { IfOk result (λ out. ArePageRanges out.items (ranges_of self.new.tree.format bytes_of self.new.tree.root)) }
         ensures kept { SameRows self.old.tree self.new.tree }
+        ensures hashed { IsHashed bytes_of self.old.tree self.new.tree }
     {
         let _ = self.root_hash();
         match self.tree.serialise_page_ranges()? {
@@ -120,7 +125,7 @@ impl ByteTree {
         }
     }
 
-    /// A tree with equal pages and the same settings.
+    /// A tree with equal pages, the same settings and the same cached root hash.
     pub fn try_clone(&self) -> Result<ByteTree, AllocError>
         ensures { IfOk result (λ copy. IsCopied self.now.tree copy.tree) }
     {
@@ -131,11 +136,12 @@ impl ByteTree {
         })
     }
 
-    /// The digest of the root page.
+    /// The digest of the root page. It fills in the digests that pages lack.
     pub fn root_hash(&mut self) -> [u8; 16]
         ensures digest { result ≡ page_digest self.old.tree.format bytes_of self.old.tree.root }
         ensures kept { SameRows self.old.tree self.new.tree }
-        ensures hashed { self.new.tree.root_hash ≢ None }
+        ensures hashed { IsHashed bytes_of self.old.tree self.new.tree }
+        ensures cached { self.new.tree.root_hash ≢ None }
     {
         let (digest, _) = self.tree.root_hash_counted();
         *digest.as_bytes()

@@ -1,5 +1,6 @@
 //! Calls that answer what a tree holds as digests, and compare two such answers.
 ghost use Rattle.std.specs.Prelude.{◌≡◌, ◌≢◌, ◌<◌, ◌≤◌, ◌↔◌, ◌⊎◌, ◌++◌, ℕ, List, None, Err, IfSome, IfOk, IfErr, drop, length};
+ghost use Rattle.merkle_search_tree.specs.Hashed.{IsHashed};
 ghost use Rattle.merkle_search_tree.specs.Stream.{page_digest};
 ghost use Rattle.merkle_search_tree.specs.Ranges.{ranges_of};
 ghost use Rattle.std.specs.Global.{Vec};
@@ -26,6 +27,7 @@ pub extern "C" fn mst_proved_tree_root_hash(
 ) -> u32
     ensures digest { result ≡ 0 → HasTree handle.old.tree (λ s. digest.new.bytes ≡ page_digest s.format bytes_of s.root) }
     ensures kept { result ≡ 0 → Changes handle.old.tree handle.new.tree SameRows }
+    ensures hashed { result ≡ 0 → Changes handle.old.tree handle.new.tree (IsHashed bytes_of) }
     ensures unchanged { result ≢ 0 → handle.new.tree ≡ handle.old.tree }
     ensures refused { result ≢ 0 → digest.new.bytes ≡ digest.old.bytes }
     ensures argument { (result ≡ 4) ↔ (handle.old.tree ≡ None) }
@@ -43,6 +45,7 @@ pub extern "C" fn mst_proved_tree_root_hash(
 fn root_hash(handle: MstTree, alloc: Global) -> (MstTree, Option<[u8; 16]>)
     ensures digest { IfSome result.1 (λ bytes. HasTree handle.tree (λ s. bytes ≡ page_digest s.format bytes_of s.root)) }
     ensures kept { IfSome result.1 (λ bytes. Changes handle.tree result.0.tree SameRows) }
+    ensures hashed { IfSome result.1 (λ bytes. Changes handle.tree result.0.tree (IsHashed bytes_of)) }
     ensures unchanged { result.1 ≡ None → result.0.tree ≡ handle.tree }
     ensures argument { (result.1 ≡ None) ↔ (handle.tree ≡ None) }
 {
@@ -73,7 +76,7 @@ fn put_bytes(bytes: &[u8], out: &mut [u8], needed: &mut usize) -> u32
 /// Writes the page ranges of a tree to `out`, and how many bytes they are to `needed`.
 ///
 /// `DONE`; `SHORT` where `out` is too short, and `needed` is written and `out` as before; `MEMORY`; `ARGUMENT` where the handle has no
-/// tree. Refused, `out` is as before.
+/// tree. But for `DONE`, `out` is as before, and but for `DONE` and `SHORT`, `needed`.
 #[unsafe(no_mangle)]
 pub extern "C" fn mst_proved_tree_page_ranges(
     alloc: Global,
@@ -84,8 +87,10 @@ pub extern "C" fn mst_proved_tree_page_ranges(
     ensures done { result ≡ 0 → HasTree handle.new.tree (λ s. IsOutput out.old out.new needed.new (λ bytes. ArePageRanges bytes (ranges_of s.format bytes_of s.root))) }
     ensures short { result ≡ 3 → HasTree handle.new.tree (λ s. IsShort out.old needed.new (λ bytes. ArePageRanges bytes (ranges_of s.format bytes_of s.root))) }
     ensures kept { result ≢ 4 → Changes handle.old.tree handle.new.tree SameRows }
+    ensures hashed { result ≢ 4 → Changes handle.old.tree handle.new.tree (IsHashed bytes_of) }
     ensures no_tree { result ≡ 4 → handle.new.tree ≡ None }
     ensures unchanged { result ≢ 0 → out.new ≡ out.old }
+    ensures refused { result ≢ 0 → result ≢ 3 → needed.new ≡ needed.old }
     ensures argument { (result ≡ 4) ↔ (handle.old.tree ≡ None) }
     ensures status { (result ≡ 0) ⊎ (result ≡ 1) ⊎ (result ≡ 3) ⊎ (result ≡ 4) }
 {
@@ -98,6 +103,7 @@ pub extern "C" fn mst_proved_tree_page_ranges(
 fn page_ranges(handle: MstTree, alloc: Global) -> (MstTree, Result<Vec<u8>, u32>)
     ensures ranges { IfOk result.1 (λ out. HasTree result.0.tree (λ s. ArePageRanges out.items (ranges_of s.format bytes_of s.root))) }
     ensures kept { handle.tree ≢ None → Changes handle.tree result.0.tree SameRows }
+    ensures hashed { handle.tree ≢ None → Changes handle.tree result.0.tree (IsHashed bytes_of) }
     ensures no_tree { handle.tree ≡ None → result.0.tree ≡ None }
     ensures argument { (result.1 ≡ Err 4) ↔ (handle.tree ≡ None) }
     ensures refused { IfErr result.1 (λ status. (status ≡ 1) ⊎ (status ≡ 4)) }
@@ -114,7 +120,7 @@ fn page_ranges(handle: MstTree, alloc: Global) -> (MstTree, Result<Vec<u8>, u32>
 /// Writes to `out` the ranges of keys that local may ask of the peer, by their page ranges, and how many bytes they are to `needed`.
 ///
 /// `DONE`; `SHORT` where `out` is too short, and `needed` is written and `out` as before; `MEMORY`; `MALFORMED` where a list isn't one
-/// of page ranges. Refused, `out` is as before.
+/// of page ranges. But for `DONE`, `out` is as before, and but for `DONE` and `SHORT`, `needed`.
 #[unsafe(no_mangle)]
 pub extern "C" fn mst_proved_diff(
     alloc: Global,
@@ -127,6 +133,7 @@ pub extern "C" fn mst_proved_diff(
     ensures short { result ≡ 3 → IsShort out.old needed.new (IsDiffOf local.now peer.now) }
     ensures malformed { result ≡ 2 → (ls ps : List (Entry (Vec ℕ) (List ℕ))) → ArePageRanges local.now ls → ¬ (ArePageRanges peer.now ps) }
     ensures unchanged { result ≢ 0 → out.new ≡ out.old }
+    ensures refused { result ≢ 0 → result ≢ 3 → needed.new ≡ needed.old }
     ensures status { (result ≡ 0) ⊎ (result ≡ 1) ⊎ (result ≡ 2) ⊎ (result ≡ 3) }
 {
     match differences(alloc, local, peer) {

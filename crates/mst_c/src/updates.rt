@@ -2,7 +2,7 @@
 ghost use Rattle.std.specs.Prelude.{◌≡◌, ◌≢◌, ◌↔◌, ◌⊎◌, ℕ, List, None, true, false};
 ghost use Rattle.mst_c.specs.Handles.{Changes};
 ghost use Rattle.mst_c.specs.Lists.{AreRows, IsLoaded};
-ghost use Rattle.mst_c.specs.Trees.{IsSet, IsDel};
+ghost use Rattle.mst_c.specs.Trees.{IsSet, SetDropsFew, IsDel, DelDropsFew};
 
 use crate::handle::MstTree;
 use crate::reading::ReadError;
@@ -21,6 +21,7 @@ pub extern "C" fn mst_proved_tree_upsert(
     value: &[u8],
 ) -> u32
     ensures done { result ≡ 0 → Changes handle.old.tree handle.new.tree (IsSet key.now value.now) }
+    ensures few_more { result ≡ 0 → Changes handle.old.tree handle.new.tree (SetDropsFew key.now) }
     ensures unchanged { result ≢ 0 → handle.new.tree ≡ handle.old.tree }
     ensures argument { (result ≡ 4) ↔ (handle.old.tree ≡ None) }
     ensures status { (result ≡ 0) ⊎ (result ≡ 1) ⊎ (result ≡ 4) }
@@ -30,6 +31,7 @@ pub extern "C" fn mst_proved_tree_upsert(
 
 fn upsert(handle: MstTree, row: (Global, &[u8], &[u8])) -> (MstTree, u32)
     ensures done { result.1 ≡ 0 → Changes handle.tree result.0.tree (IsSet row.entry.1.now row.entry.2.now) }
+    ensures few_more { result.1 ≡ 0 → Changes handle.tree result.0.tree (SetDropsFew row.entry.1.now) }
     ensures unchanged { result.1 ≢ 0 → result.0.tree ≡ handle.tree }
     ensures argument { (result.1 ≡ 4) ↔ (handle.tree ≡ None) }
     ensures status { (result.1 ≡ 0) ⊎ (result.1 ≡ 1) ⊎ (result.1 ≡ 4) }
@@ -45,12 +47,14 @@ fn upsert(handle: MstTree, row: (Global, &[u8], &[u8])) -> (MstTree, u32)
 
 /// Takes a key out.
 ///
-/// `DONE`; `ABSENT` where the tree has no such key; `MEMORY`; `ARGUMENT` where the handle has no tree. Refused, the tree is as before.
+/// `DONE`; `ABSENT` where the tree has no such key; `MEMORY`; `ARGUMENT` where the handle has no tree. But for `DONE`, the tree is as
+/// before.
 #[unsafe(no_mangle)]
 pub extern "C" fn mst_proved_tree_remove(alloc: Global, handle: &mut MstTree, key: &[u8]) -> u32
     ensures done { result ≡ 0 → Changes handle.old.tree handle.new.tree (IsDel key.now true) }
+    ensures few_more { result ≡ 0 → Changes handle.old.tree handle.new.tree DelDropsFew }
     ensures absent { result ≡ 5 → Changes handle.old.tree handle.new.tree (IsDel key.now false) }
-    ensures unchanged { result ≢ 0 → result ≢ 5 → handle.new.tree ≡ handle.old.tree }
+    ensures unchanged { result ≢ 0 → handle.new.tree ≡ handle.old.tree }
     ensures argument { (result ≡ 4) ↔ (handle.old.tree ≡ None) }
     ensures status { (result ≡ 0) ⊎ (result ≡ 1) ⊎ (result ≡ 4) ⊎ (result ≡ 5) }
 {
@@ -59,8 +63,9 @@ pub extern "C" fn mst_proved_tree_remove(alloc: Global, handle: &mut MstTree, ke
 
 fn remove(handle: MstTree, asked: (Global, &[u8])) -> (MstTree, u32)
     ensures done { result.1 ≡ 0 → Changes handle.tree result.0.tree (IsDel asked.entry.1.now true) }
+    ensures few_more { result.1 ≡ 0 → Changes handle.tree result.0.tree DelDropsFew }
     ensures absent { result.1 ≡ 5 → Changes handle.tree result.0.tree (IsDel asked.entry.1.now false) }
-    ensures unchanged { result.1 ≢ 0 → result.1 ≢ 5 → result.0.tree ≡ handle.tree }
+    ensures unchanged { result.1 ≢ 0 → result.0.tree ≡ handle.tree }
     ensures argument { (result.1 ≡ 4) ↔ (handle.tree ≡ None) }
     ensures status { (result.1 ≡ 0) ⊎ (result.1 ≡ 1) ⊎ (result.1 ≡ 4) ⊎ (result.1 ≡ 5) }
 {

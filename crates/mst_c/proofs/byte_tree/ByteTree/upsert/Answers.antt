@@ -2,7 +2,7 @@ use Rattle.std.proofs.Common.{◌≡◌, OnOk, ap, subst, ◌∙◌, map}
 use Rattle.key_order.specs.Map.{set}
 use Rattle.merkle_digest.specs.SipHash.{siphash128}
 use Rattle.merkle_search_tree.specs.State.{map_of}
-use Rattle.mst_c.specs.Trees.{bytes_cmp, by_bytes, key_cmp, rows_of}
+use Rattle.mst_c.specs.Trees.{SetDropsFew, bytes_cmp, by_bytes, key_cmp, rows_of}
 use Rattle.mst_c.proofs.Bytes.{rows_set}
 use Rattle.mst_c.proofs.byte_tree.ByteTree.upsert.Goals.{in-Ok, in-Err}
 use Rattle.mst_c.proofs.byte_tree.ByteTree.upsert.Goals as goal
@@ -20,5 +20,15 @@ returns-clause-done c =
             rows = ap (map by_bytes) is_set ∙ rows_set (map_of old) key digest ∙ (λ i. set bytes_cmp (rows_of old) (same i) (hashed i));
             settings = record { hasher = c.upsert.ensures.hasher; base = c.upsert.ensures.base; format = c.upsert.ensures.format };
           })
+      | in-Err w ↦ rw w.result-is tt
+    ]
+
+pub returns-clause-few_more : goal.returns-clause-few_more
+returns-clause-few_more c =
+    let old = c.args.self.now.tree in let new = c.upsert.new.self in let own_key = c.in_ok-own_key.own_key in
+    elim c.match-upsert.branch [
+      | in-Ok w ↦
+          let few = subst (λ r. OnOk r (SetDropsFew own_key.items old new)) w.in-Ok.is c.upsert.ensures.few_more in
+          rw w.result-is (subst (λ key. SetDropsFew key old new) c.in_ok-own_key.ensures.items few)
       | in-Err w ↦ rw w.result-is tt
     ]
