@@ -145,7 +145,7 @@ static void statuses(void) {
     static const uint8_t zero_key[16];
     struct mst_tree tree = MST_NO_TREE, none = MST_NO_TREE;
     uint8_t key[16], out[1];
-    size_t len = key_of(key, 3), count, needed, at = 0;
+    size_t len = key_of(key, 3), count, needed = 3, at = 0;
     struct mst_range range;
     char before[33], after[33];
     WANT(mst_tree_new(NULL) == MST_BAD_ARGUMENT);
@@ -170,6 +170,7 @@ static void statuses(void) {
     WANT(mst_diff(NULL, 1, key, len, out, 1, &needed) == MST_BAD_ARGUMENT);
     WANT(mst_diff(key, len, key, len, out, 1, NULL) == MST_BAD_ARGUMENT);
     WANT(mst_diff(key, len, key, len, out, 1, &needed) == MST_MALFORMED);
+    WANT(needed == 3);
     WANT(mst_ranges_next(NULL, 0, &at, &range) == MST_MALFORMED);
     WANT(mst_tree_load(&tree, rows, row_list(rows, 20, 1)) == MST_MALFORMED);
     WANT(mst_tree_load(&tree, rows, row_list(rows, 20, 0) - 1) == MST_MALFORMED);
