@@ -1,4 +1,5 @@
-/* Two stores that come to hold the same keys: they send each other page ranges, ask for ranges of keys, and send the rows in them. */
+/* Two stores that come to hold the same keys. They give each other bytes alone: page ranges, the ranges of keys to ask for, and the
+ * rows in them. */
 #include <stdio.h>
 #include <stdlib.h>
 #include <string.h>
@@ -7,17 +8,29 @@
 
 enum { KEYS = 1000, KEY_LEN = 8, VALUE_LEN = 16 };
 
-/* A store: values by number of key, and the tree over them. */
+/* A store: values by number of key, empty where there is none, and the tree over them. */
 struct store {
     char values[KEYS][VALUE_LEN];
     struct mst_tree tree;
 };
 
+/* Bytes on their way from one store to the other. */
+struct message {
+    uint8_t *bytes;
+    size_t len;
+};
+
 static void check(int status) {
-    if (status != MST_DONE) {
-        fprintf(stderr, "status %d\n", status);
-        exit(1);
-    }
+    if (status == MST_DONE) return;
+    fprintf(stderr, "status %d\n", status);
+    exit(1);
+}
+
+/* A message of so many bytes more, which are still to be written. */
+static void grow(struct message *message, size_t len) {
+    message->bytes = realloc(message->bytes, message->len + len);
+    if (!message->bytes) exit(1);
+    message->len += len;
 }
 
 static void put(struct store *store, int number, const char *value) {
@@ -27,38 +40,91 @@ static void put(struct store *store, int number, const char *value) {
     check(mst_tree_upsert(&store->tree, (const uint8_t *)key, KEY_LEN, (const uint8_t *)value, strlen(value)));
 }
 
-/* The page ranges of a store, as the bytes that it sends. */
-static uint8_t *page_ranges(struct store *store, size_t *len) {
-    uint8_t *bytes;
-    if (mst_tree_page_ranges(&store->tree, NULL, 0, len) != MST_TOO_SHORT) exit(1);
-    bytes = malloc(*len);
-    if (!bytes) exit(1);
-    check(mst_tree_page_ranges(&store->tree, bytes, *len, len));
-    return bytes;
+/* The page ranges of a store. The first call says how many bytes they take. */
+static struct message page_ranges(struct store *store) {
+    struct message list = {0};
+    size_t len;
+    if (mst_tree_page_ranges(&store->tree, NULL, 0, &len) != MST_TOO_SHORT) exit(1);
+    grow(&list, len);
+    check(mst_tree_page_ranges(&store->tree, list.bytes, list.len, &len));
+    return list;
 }
 
-static int number_of(const uint8_t *key) {
-    return atoi((const char *)key + 3);
+/* The ranges of keys to ask the peer for. The peer's bytes may be any: MST_MALFORMED says that they are no page ranges. */
+static struct message difference(struct message own, struct message peer) {
+    struct message asked = {0};
+    size_t len;
+    int status = mst_diff(own.bytes, own.len, peer.bytes, peer.len, NULL, 0, &len);
+    if (status != MST_TOO_SHORT) check(status);
+    grow(&asked, len);
+    check(mst_diff(own.bytes, own.len, peer.bytes, peer.len, asked.bytes, asked.len, &len));
+    return asked;
 }
 
-/* Brings what the peer has in the ranges in which the two differ. Of two values of a key the greater stays. */
-static int pull(struct store *store, struct store *peer) {
-    size_t own_len, peer_len, asked_len, at = 0;
-    uint8_t *own = page_ranges(store, &own_len), *others = page_ranges(peer, &peer_len), asked[1 << 16];
+/* The order of keys: byte by byte, and each before those that it begins. */
+static int compare(const char *key, const uint8_t *other, size_t other_len) {
+    int order = memcmp(key, other, other_len < KEY_LEN ? other_len : KEY_LEN);
+    return order ? order : (KEY_LEN > other_len) - (KEY_LEN < other_len);
+}
+
+/* Adds a row to a message: the key, how long the value is in one byte, and the value. */
+static void add_row(struct message *rows, const char *key, const char *value) {
+    size_t len = strlen(value), at = rows->len;
+    grow(rows, KEY_LEN + 1 + len);
+    memcpy(rows->bytes + at, key, KEY_LEN);
+    rows->bytes[at + KEY_LEN] = (uint8_t)len;
+    memcpy(rows->bytes + at + KEY_LEN + 1, value, len);
+}
+
+/* The rows of a store in the ranges that a peer asks for. */
+static struct message rows_in(struct store *store, struct message asked) {
+    struct message rows = {0};
     struct mst_range range;
-    int came = 0;
-    check(mst_diff(own, own_len, others, peer_len, asked, sizeof asked, &asked_len));
-    while (mst_ranges_next(asked, asked_len, &at, &range) == MST_DONE) {
-        int last = number_of(range.last), number;
-        for (number = number_of(range.first); number <= last; number++) {
-            const char *value = peer->values[number];
-            if (!*value || strcmp(value, store->values[number]) <= 0) continue;
-            put(store, number, value);
-            came++;
+    size_t at = 0;
+    int status;
+    while ((status = mst_ranges_next(asked.bytes, asked.len, &at, &range)) == MST_DONE) {
+        int number;
+        for (number = 0; number < KEYS; number++) {
+            char key[KEY_LEN + 1];
+            snprintf(key, sizeof key, "key%05d", number);
+            if (!*store->values[number] || compare(key, range.first, range.first_len) < 0) continue;
+            if (compare(key, range.last, range.last_len) <= 0) add_row(&rows, key, store->values[number]);
         }
     }
-    free(own);
-    free(others);
+    if (status != MST_ABSENT) check(status);
+    return rows;
+}
+
+/* Takes the rows that a peer sent, and says how many of them are new. Of two values of a key the greater stays. */
+static int take(struct store *store, struct message rows) {
+    size_t at = 0, len;
+    int number, came = 0;
+    for (; at < rows.len; at += KEY_LEN + 1 + len) {
+        char key[KEY_LEN + 1] = {0}, value[VALUE_LEN] = {0};
+        if (rows.len - at <= KEY_LEN) exit(1);
+        len = rows.bytes[at + KEY_LEN];
+        if (len >= VALUE_LEN || len > rows.len - at - KEY_LEN - 1) exit(1);
+        memcpy(key, rows.bytes + at, KEY_LEN);
+        memcpy(value, rows.bytes + at + KEY_LEN + 1, len);
+        if (sscanf(key, "key%5d", &number) != 1 || number < 0 || number >= KEYS) exit(1);
+        if (strcmp(value, store->values[number]) <= 0) continue;
+        put(store, number, value);
+        came++;
+    }
+    return came;
+}
+
+/* Brings what the peer has in the ranges in which the two differ. */
+static int pull(struct store *store, struct store *peer) {
+    struct message own = page_ranges(store);
+    struct message others = page_ranges(peer);      /* sent by the peer */
+    struct message asked = difference(own, others); /* sent to the peer */
+    struct message rows = rows_in(peer, asked);     /* sent by the peer */
+    int came = take(store, rows);
+    free(own.bytes);
+    free(others.bytes);
+    free(asked.bytes);
+    free(rows.bytes);
     return came;
 }
 

@@ -1,69 +1,127 @@
-"""Two trees that are compared by bytes, from Python by ctypes."""
+"""Two stores that come to hold the same keys, as in example.c: they give each other bytes alone. The calls of mst.h go by ctypes."""
 import ctypes
 import os
 
-DONE, TOO_SHORT = 0, 3
-library = ctypes.CDLL(os.path.join(os.path.dirname(os.path.abspath(__file__)), "libmst.so"))
+DONE, TOO_SHORT, ABSENT = 0, 3, 5
 
 
 class Range(ctypes.Structure):
+    """A range of a list, `struct mst_range` of mst.h."""
     _fields_ = [("first", ctypes.c_void_p), ("first_len", ctypes.c_size_t), ("last", ctypes.c_void_p), ("last_len", ctypes.c_size_t),
                 ("digest", ctypes.c_void_p)]
 
 
-def check(status):
-    if status != DONE:
+# What the calls take: a handle, `struct mst_tree` of mst.h, is a pointer, and its address is given.
+HANDLE, BYTES, SIZE, WRITTEN = ctypes.POINTER(ctypes.c_void_p), ctypes.c_char_p, ctypes.c_size_t, ctypes.POINTER(ctypes.c_size_t)
+CALLS = {
+    "mst_tree_new": [HANDLE],
+    "mst_tree_free": [HANDLE],
+    "mst_tree_upsert": [HANDLE, BYTES, SIZE, BYTES, SIZE],
+    "mst_tree_root_hash": [HANDLE, BYTES],
+    "mst_tree_page_ranges": [HANDLE, BYTES, SIZE, WRITTEN],
+    "mst_diff": [BYTES, SIZE, BYTES, SIZE, BYTES, SIZE, WRITTEN],
+    "mst_ranges_next": [BYTES, SIZE, WRITTEN, ctypes.POINTER(Range)],
+}
+library = ctypes.CDLL(os.path.join(os.path.dirname(os.path.abspath(__file__)), "libmst.so"))
+for name, takes in CALLS.items():
+    getattr(library, name).argtypes = takes
+library.mst_tree_free.restype = None
+
+
+def check(status, wanted=DONE):
+    if status != wanted:
         raise RuntimeError(f"status {status}")
-
-
-class Tree:
-    """A tree, which is let go with the object."""
-
-    def __init__(self):
-        self.handle = ctypes.c_void_p()
-        check(library.mst_tree_new(ctypes.byref(self.handle)))
-
-    def __del__(self):
-        library.mst_tree_free(ctypes.byref(self.handle))
-
-    def upsert(self, key, value):
-        check(library.mst_tree_upsert(ctypes.byref(self.handle), key, ctypes.c_size_t(len(key)), value, ctypes.c_size_t(len(value))))
-
-    def root_hash(self):
-        root = ctypes.create_string_buffer(16)
-        check(library.mst_tree_root_hash(ctypes.byref(self.handle), root))
-        return root.raw
-
-    def page_ranges(self):
-        return answer(lambda out, size, needed: library.mst_tree_page_ranges(ctypes.byref(self.handle), out, size, needed))
 
 
 def answer(call):
     """The bytes that a call writes, after it has said how many they are."""
-    needed = ctypes.c_size_t()
-    status = call(None, ctypes.c_size_t(0), ctypes.byref(needed))
-    if status != TOO_SHORT:
-        check(status)
+    needed = SIZE()
+    check(call(None, 0, needed), TOO_SHORT)
     out = ctypes.create_string_buffer(needed.value)
-    check(call(out, needed, ctypes.byref(needed)))
-    return out.raw[:needed.value]
+    check(call(out, needed, needed))
+    return out.raw
 
 
-def diff(local, peer):
-    """The ranges of keys to ask the peer for, as pairs of bytes."""
-    listed = answer(lambda out, size, needed: library.mst_diff(
-        local, ctypes.c_size_t(len(local)), peer, ctypes.c_size_t(len(peer)), out, size, needed))
-    at, found = ctypes.c_size_t(), Range()
-    while library.mst_ranges_next(listed, ctypes.c_size_t(len(listed)), ctypes.byref(at), ctypes.byref(found)) == DONE:
+class Tree:
+    """A tree, which is freed with the object."""
+
+    def __init__(self):
+        self.handle = ctypes.c_void_p()
+        check(library.mst_tree_new(self.handle))
+
+    def __del__(self):
+        library.mst_tree_free(self.handle)
+
+    def upsert(self, key, value):
+        check(library.mst_tree_upsert(self.handle, key, len(key), value, len(value)))
+
+    def root_hash(self):
+        root = ctypes.create_string_buffer(16)
+        check(library.mst_tree_root_hash(self.handle, root))
+        return root.raw
+
+    def page_ranges(self):
+        return answer(lambda out, size, needed: library.mst_tree_page_ranges(self.handle, out, size, needed))
+
+
+def difference(own, peer):
+    """The list of the ranges of keys to ask the peer for."""
+    return answer(lambda out, size, needed: library.mst_diff(own, len(own), peer, len(peer), out, size, needed))
+
+
+def ranges(listed):
+    """Goes over the ranges of a list: the first and the last key of each."""
+    at, found = SIZE(), Range()
+    while (status := library.mst_ranges_next(listed, len(listed), at, found)) == DONE:
         yield ctypes.string_at(found.first, found.first_len), ctypes.string_at(found.last, found.last_len)
+    check(status, ABSENT)
 
 
-a, b = Tree(), Tree()
+class Store:
+    """Rows, and the tree over them."""
+
+    def __init__(self):
+        self.rows, self.tree = {}, Tree()
+
+    def put(self, key, value):
+        self.tree.upsert(key, value)
+        self.rows[key] = value
+
+    def rows_in(self, asked):
+        """The rows in the ranges that a peer asks for: each is its key of 8 bytes, how long the value is in one byte, and the value."""
+        return b"".join(key + bytes([len(value)]) + value
+                        for first, last in ranges(asked) for key, value in self.rows.items() if first <= key <= last)
+
+    def take(self, rows):
+        """Takes the rows that a peer sent, and says how many of them are new. Of two values of a key the greater stays."""
+        came = 0
+        while rows:
+            key, end = rows[:8], 9 + rows[8]
+            value, rows = rows[9:end], rows[end:]
+            if value > self.rows.get(key, b""):
+                self.put(key, value)
+                came += 1
+        return came
+
+    def pull(self, peer):
+        """Brings what the peer has in the ranges in which the two differ."""
+        own = self.tree.page_ranges()
+        others = peer.tree.page_ranges()  # sent by the peer
+        asked = difference(own, others)   # sent to the peer
+        rows = peer.rows_in(asked)        # sent by the peer
+        return self.take(rows)
+
+
+a, b = Store(), Store()
 for number in range(1000):
-    a.upsert(b"key%05d" % number, b"known")
-    b.upsert(b"key%05d" % number, b"newer" if number == 42 else b"known")
-for first, last in diff(a.page_ranges(), b.page_ranges()):
-    print(first.decode(), last.decode())
-print(a.root_hash().hex())
-a.upsert(b"key%05d" % 42, b"newer")
-print(a.root_hash() == b.root_hash())
+    if number % 10 != 3:
+        a.put(b"key%05d" % number, b"newer" if number == 500 else b"known")
+    if number % 100 != 7:
+        b.put(b"key%05d" % number, b"newer" if number == 42 else b"known")
+to_a = to_b = 0
+for turn in range(2):
+    to_a += a.pull(b)
+    to_b += b.pull(a)
+print(f"{to_a} rows came to a, {to_b} to b")
+print(a.tree.root_hash().hex())
+print(b.tree.root_hash().hex())
