@@ -3,7 +3,7 @@
  *
  * Every call but mst_tree_free answers one of the statuses below, and none aborts. A call that doesn't answer MST_DONE leaves the map
  * as it was, and what it would write to; but where it answers MST_TOO_SHORT, *needed is written. A null pointer where the call needs
- * something to point to is MST_BAD_ARGUMENT; where a length is 0, its pointer may be null.
+ * something to point to is MST_BAD_ARGUMENT, and so is a length above PTRDIFF_MAX; where a length is 0, its pointer may be null.
  *
  * What the caller owes, since no call can test it: a length is at most that of the memory behind its pointer; a handle is changed
  * by these calls alone, is copied by mst_tree_clone and not by `=`, and is used by one thread at a time; what a call writes to
@@ -108,7 +108,8 @@ struct mst_range {
  * where a mark of such a list and a number don't stand in front, at 0 also where the bytes are no such list (that a first key is above
  * a last one isn't looked for), and at a place within them where no range of the list's kind begins; MST_BAD_ARGUMENT where *at is
  * beyond the end of bytes that have such a front. At a place that no call left there it is as safe, but may answer a range that isn't
- * one of the list. */
+ * one of the list. At 0 it takes time in proportion to the number of ranges, and at each later place a time that is the same
+ * whatever the list and its keys: going over a list reads the lengths in it twice, and its keys never. */
 int mst_ranges_next(const uint8_t *list, size_t list_len, size_t *at, struct mst_range *out);
 
 /* Lists, byte by byte. A number is eight bytes, the lowest first. A string is its length, a number, and its bytes.

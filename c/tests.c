@@ -139,44 +139,156 @@ static void roots_and_loads(void) {
     }
 }
 
-/* ---- the other statuses */
-static void statuses(void) {
-    static uint8_t rows[1 << 12];
-    static const uint8_t zero_key[16];
-    struct mst_tree tree = MST_NO_TREE, none = MST_NO_TREE;
-    uint8_t key[16], out[1];
-    size_t len = key_of(key, 3), count, needed = 3, at = 0;
+/* ---- a difference: what to ask a peer for that has another value at one of 1,000 keys, as the Rust crate and a second program say */
+static void difference(void) {
+    static const char *const ASKED[][2] = {
+        {"key00011", "key00096"}, {"key00099", "key00101"}, {"key00124", "key00126"},
+        {"key00195", "key00197"}, {"key00205", "key00207"}, {"key00222", "key00224"},
+    };
+    struct mst_tree trees[2] = {MST_NO_TREE, MST_NO_TREE};
+    uint8_t *lists[2], out[1 << 10];
+    size_t lens[2], needed, at = 0, i;
     struct mst_range range;
+    char text[33];
+    for (i = 0; i < 2; i++) {
+        unsigned number;
+        WANT(mst_tree_new(&trees[i]) == MST_DONE);
+        for (number = 0; number < 1000; number++) {
+            char key[16];
+            snprintf(key, sizeof key, "key%05u", number);
+            WANT(mst_tree_upsert(&trees[i], (uint8_t *)key, 8, (const uint8_t *)(i && number == 42 ? "newer" : "known"), 5) == MST_DONE);
+        }
+        lists[i] = page_ranges(&trees[i], &lens[i]);
+    }
+    root_text(&trees[0], text);
+    WANT(!strcmp(text, "42db87ac9a59fbfd1541927bea98da20"));
+    WANT(mst_diff(lists[0], lens[0], lists[1], lens[1], out, sizeof out, &needed) == MST_DONE);
+    for (i = 0; i < sizeof ASKED / sizeof *ASKED; i++) {
+        WANT(mst_ranges_next(out, needed, &at, &range) == MST_DONE);
+        WANT(!range.digest && range.first_len == 8 && range.last_len == 8);
+        WANT(!memcmp(range.first, ASKED[i][0], 8) && !memcmp(range.last, ASKED[i][1], 8));
+    }
+    WANT(mst_ranges_next(out, needed, &at, &range) == MST_ABSENT);
+    for (i = 0; i < 2; i++) {
+        free(lists[i]);
+        mst_tree_free(&trees[i]);
+    }
+}
+
+/* ---- bad arguments: settings that there are not, handles with a tree or without, null pointers, and lengths that no memory has */
+#define BAD(call) WANT((call) == MST_BAD_ARGUMENT)
+
+static void bad_arguments(void) {
+    static const size_t NO_LENGTHS[] = {SIZE_MAX, (size_t)PTRDIFF_MAX + 1};
+    static const uint8_t zero_key[16];
+    struct mst_tree tree = MST_NO_TREE, none = MST_NO_TREE, empty = MST_NO_TREE;
+    struct mst_range range = {0};
+    uint8_t key[16], out[16] = {0}, *list;
+    size_t len = key_of(key, 3), list_len, count = 77, needed = 3, at = 0, i;
     char before[33], after[33];
-    WANT(mst_tree_new(NULL) == MST_BAD_ARGUMENT);
-    WANT(mst_tree_new_with(&tree, NULL, 16, 1) == MST_BAD_ARGUMENT);
-    WANT(mst_tree_new_with(&tree, zero_key, 0, 1) == MST_BAD_ARGUMENT);
-    WANT(mst_tree_new_with(&tree, zero_key, 16, 0) == MST_BAD_ARGUMENT);
-    WANT(mst_tree_new_with(&tree, zero_key, 16, 3) == MST_BAD_ARGUMENT);
     squares(&tree, 20, 1);
     root_text(&tree, before);
-    WANT(mst_tree_new(&tree) == MST_BAD_ARGUMENT);
-    WANT(mst_tree_clone(&tree, &tree) == MST_BAD_ARGUMENT);
-    WANT(mst_tree_clone(&none, &tree) == MST_BAD_ARGUMENT);
-    WANT(mst_tree_upsert(&tree, NULL, 1, NULL, 0) == MST_BAD_ARGUMENT);
-    WANT(mst_tree_upsert(&tree, key, len, NULL, 1) == MST_BAD_ARGUMENT);
-    WANT(mst_tree_upsert(&tree, key, SIZE_MAX, NULL, 0) == MST_BAD_ARGUMENT);
-    WANT(mst_tree_upsert(&none, key, len, NULL, 0) == MST_BAD_ARGUMENT);
-    WANT(mst_tree_remove(&none, key, len) == MST_BAD_ARGUMENT);
-    WANT(mst_tree_load(&none, rows, 0) == MST_BAD_ARGUMENT);
-    WANT(mst_tree_len(&none, &count) == MST_BAD_ARGUMENT);
-    WANT(mst_tree_root_hash(&none, rows) == MST_BAD_ARGUMENT);
-    WANT(mst_tree_page_ranges(&none, out, 1, &needed) == MST_BAD_ARGUMENT);
-    WANT(mst_diff(NULL, 1, key, len, out, 1, &needed) == MST_BAD_ARGUMENT);
-    WANT(mst_diff(key, len, key, len, out, 1, NULL) == MST_BAD_ARGUMENT);
-    WANT(mst_diff(key, len, key, len, out, 1, &needed) == MST_MALFORMED);
-    WANT(needed == 3);
+    list = page_ranges(&tree, &list_len);
+
+    BAD(mst_tree_new_with(&none, zero_key, 0, 1));
+    BAD(mst_tree_new_with(&none, zero_key, 16, 0));
+    BAD(mst_tree_new_with(&none, zero_key, 16, 3));
+
+    BAD(mst_tree_new(&tree));
+    BAD(mst_tree_new_with(&tree, zero_key, 16, 1));
+    BAD(mst_tree_clone(&tree, &tree));
+    BAD(mst_tree_clone(&none, &tree));
+    BAD(mst_tree_clone(&none, &empty));
+    BAD(mst_tree_upsert(&none, key, len, key, len));
+    BAD(mst_tree_remove(&none, key, len));
+    BAD(mst_tree_load(&none, key, 0));
+    BAD(mst_tree_len(&none, &count));
+    BAD(mst_tree_root_hash(&none, out));
+    BAD(mst_tree_page_ranges(&none, out, sizeof out, &needed));
+
+    BAD(mst_tree_new(NULL));
+    BAD(mst_tree_new_with(NULL, zero_key, 16, 1));
+    BAD(mst_tree_new_with(&none, NULL, 16, 1));
+    BAD(mst_tree_clone(NULL, &none));
+    BAD(mst_tree_clone(&tree, NULL));
+    BAD(mst_tree_upsert(NULL, key, len, key, len));
+    BAD(mst_tree_upsert(&tree, NULL, 1, key, len));
+    BAD(mst_tree_upsert(&tree, key, len, NULL, 1));
+    BAD(mst_tree_remove(NULL, key, len));
+    BAD(mst_tree_remove(&tree, NULL, 1));
+    BAD(mst_tree_load(NULL, list, list_len));
+    BAD(mst_tree_load(&tree, NULL, 1));
+    BAD(mst_tree_len(NULL, &count));
+    BAD(mst_tree_len(&tree, NULL));
+    BAD(mst_tree_root_hash(NULL, out));
+    BAD(mst_tree_root_hash(&tree, NULL));
+    BAD(mst_tree_page_ranges(NULL, out, sizeof out, &needed));
+    BAD(mst_tree_page_ranges(&tree, NULL, list_len, &needed));
+    BAD(mst_tree_page_ranges(&tree, out, sizeof out, NULL));
+    BAD(mst_diff(NULL, 1, list, list_len, out, sizeof out, &needed));
+    BAD(mst_diff(list, list_len, NULL, 1, out, sizeof out, &needed));
+    BAD(mst_diff(list, list_len, list, list_len, NULL, sizeof out, &needed));
+    BAD(mst_diff(list, list_len, list, list_len, out, sizeof out, NULL));
+    BAD(mst_ranges_next(NULL, 1, &at, &range));
+    BAD(mst_ranges_next(list, list_len, NULL, &range));
+    BAD(mst_ranges_next(list, list_len, &at, NULL));
+    mst_tree_free(NULL);
+
+    for (i = 0; i < sizeof NO_LENGTHS / sizeof *NO_LENGTHS; i++) {
+        BAD(mst_tree_upsert(&tree, key, NO_LENGTHS[i], key, len));
+        BAD(mst_tree_upsert(&tree, key, len, key, NO_LENGTHS[i]));
+        BAD(mst_tree_remove(&tree, key, NO_LENGTHS[i]));
+        BAD(mst_tree_load(&tree, list, NO_LENGTHS[i]));
+        BAD(mst_tree_page_ranges(&tree, out, NO_LENGTHS[i], &needed));
+        BAD(mst_diff(list, NO_LENGTHS[i], list, list_len, out, sizeof out, &needed));
+        BAD(mst_diff(list, list_len, list, NO_LENGTHS[i], out, sizeof out, &needed));
+        BAD(mst_diff(list, list_len, list, list_len, out, NO_LENGTHS[i], &needed));
+        BAD(mst_ranges_next(list, NO_LENGTHS[i], &at, &range));
+    }
+
+    /* none of them has written anything */
+    root_text(&tree, after);
+    WANT(!strcmp(before, after));
+    WANT(!none.at && !empty.at && count == 77 && needed == 3 && !at && !range.first && !range.last && !range.digest);
+    for (i = 0; i < sizeof out; i++) WANT(!out[i]);
+
+    mst_tree_free(&tree);
+    BAD(mst_tree_len(&tree, &count));
+    mst_tree_free(&tree);
+    free(list);
+}
+
+/* ---- the other statuses, and null pointers to no bytes */
+static void statuses(void) {
+    static uint8_t rows[1 << 12];
+    struct mst_tree tree = MST_NO_TREE;
+    uint8_t key[16], out[11] = {0}, *list;
+    size_t len = key_of(key, 3), list_len, count, needed, at = 0, i;
+    struct mst_range range;
+    char before[33], after[33];
+    squares(&tree, 20, 1);
+    root_text(&tree, before);
+    list = page_ranges(&tree, &list_len);
+
+    WANT(mst_tree_page_ranges(&tree, out, sizeof out, &needed) == MST_TOO_SHORT && needed == list_len);
+    WANT(mst_diff(list, list_len, list, list_len, out, sizeof out, &needed) == MST_TOO_SHORT && needed == 12);
+    WANT(mst_diff(list, list_len, list, list_len, NULL, 0, &needed) == MST_TOO_SHORT && needed == 12);
+    for (i = 0; i < sizeof out; i++) WANT(!out[i]);
+
+    WANT(mst_diff(key, len, list, list_len, out, sizeof out, &needed) == MST_MALFORMED);
+    WANT(mst_diff(list, list_len, key, len, out, sizeof out, &needed) == MST_MALFORMED);
+    WANT(mst_diff(NULL, 0, list, list_len, out, sizeof out, &needed) == MST_MALFORMED);
+    WANT(mst_diff(list, list_len, NULL, 0, out, sizeof out, &needed) == MST_MALFORMED);
+    WANT(needed == 12);
     WANT(mst_ranges_next(NULL, 0, &at, &range) == MST_MALFORMED);
+    WANT(mst_tree_load(&tree, NULL, 0) == MST_MALFORMED);
     WANT(mst_tree_load(&tree, rows, row_list(rows, 20, 1)) == MST_MALFORMED);
     WANT(mst_tree_load(&tree, rows, row_list(rows, 20, 0) - 1) == MST_MALFORMED);
     WANT(mst_tree_remove(&tree, key, len - 1) == MST_ABSENT);
+    WANT(mst_tree_remove(&tree, NULL, 0) == MST_ABSENT);
     root_text(&tree, after);
     WANT(!strcmp(before, after));
+
     WANT(mst_tree_remove(&tree, key, len) == MST_DONE);
     WANT(mst_tree_remove(&tree, key, len) == MST_ABSENT);
     WANT(mst_tree_len(&tree, &count) == MST_DONE && count == 19);
@@ -186,8 +298,7 @@ static void statuses(void) {
     WANT(mst_tree_upsert(&tree, NULL, 0, NULL, 0) == MST_DONE);
     WANT(mst_tree_remove(&tree, NULL, 0) == MST_DONE);
     mst_tree_free(&tree);
-    mst_tree_free(&tree);
-    mst_tree_free(NULL);
+    free(list);
 }
 
 /* ---- refusals: each call is made again until it isn't refused */
@@ -248,7 +359,7 @@ static void refusals(void) {
     printf("%ld requests for memory, each refused in turn; the load does without %ld of them\n", all, spared);
 }
 
-/* ---- lists that are no lists */
+/* ---- lists that are no lists, and what is answered where they are lists */
 static uint64_t drawn = 88172645463325252u;
 
 static uint64_t draw(void) {
@@ -258,21 +369,127 @@ static uint64_t draw(void) {
     return drawn;
 }
 
-/* Whether the answer to any bytes is a list of key ranges, or malformed. */
-static int differs(const uint8_t *own, size_t own_len, const uint8_t *peer, size_t peer_len) {
-    static uint8_t out[1 << 16];
-    size_t needed = 0, at = 0;
+struct key { const uint8_t *at; size_t len; };
+struct list { struct mst_range ranges[64]; size_t count; };
+
+static void read_list(const uint8_t *bytes, size_t len, struct list *out) {
+    size_t at = 0;
     struct mst_range range;
+    int status;
+    out->count = 0;
+    while ((status = mst_ranges_next(bytes, len, &at, &range)) == MST_DONE) {
+        WANT(out->count < sizeof out->ranges / sizeof *out->ranges);
+        out->ranges[out->count++] = range;
+    }
+    WANT(status == MST_ABSENT);
+}
+
+static struct key first_of(const struct mst_range *range) {
+    return (struct key){range->first, range->first_len};
+}
+
+static struct key last_of(const struct mst_range *range) {
+    return (struct key){range->last, range->last_len};
+}
+
+static int order(struct key a, struct key b) {
+    int by_bytes = memcmp(a.at, b.at, a.len < b.len ? a.len : b.len);
+    return by_bytes ? by_bytes : (a.len > b.len) - (a.len < b.len);
+}
+
+static int is_in(struct key key, const struct mst_range *range) {
+    return order(first_of(range), key) <= 0 && order(key, last_of(range)) <= 0;
+}
+
+static int is_in_one(struct key key, const struct list *list) {
+    size_t i;
+    for (i = 0; i < list->count; i++) if (is_in(key, &list->ranges[i])) return 1;
+    return 0;
+}
+
+static int is_bound(struct key key, const struct list *list) {
+    size_t i;
+    for (i = 0; i < list->count; i++)
+        if (!order(key, first_of(&list->ranges[i])) || !order(key, last_of(&list->ranges[i]))) return 1;
+    return 0;
+}
+
+/* The peer's page ranges whose digest is one of one's own. */
+static void agreed_ranges(const struct list *own, const struct list *peer, struct list *out) {
+    size_t i, j;
+    out->count = 0;
+    for (i = 0; i < peer->count; i++) {
+        for (j = 0; j < own->count && memcmp(own->ranges[j].digest, peer->ranges[i].digest, 16); j++) {}
+        if (j < own->count) out->ranges[out->count++] = peer->ranges[i];
+    }
+}
+
+/* What `diff` says of a key where the peer's first page range holds one's own: it is asked for, or in an agreed page range. */
+static void is_told(struct key key, const struct list *peer, const struct list *agreed, const struct list *asked) {
+    if (is_in(key, &peer->ranges[0])) WANT(is_in_one(key, asked) || is_in_one(key, agreed));
+}
+
+/* What `diff` says of any two lists of which one's own isn't empty. The ranges ascend and no two meet; each is within the peer's first
+ * page range, between two bounds of page ranges; and which there are, by where the two first page ranges begin and end. */
+static void is_difference(const struct list *own, const struct list *peer, const struct list *asked) {
+    const struct mst_range *mine = own->ranges, *first = peer->ranges, *found = asked->ranges;
+    size_t i;
+    int begins, ends;
+    if (!peer->count) {
+        WANT(!asked->count);
+        return;
+    }
+    for (i = 0; i < asked->count; i++) {
+        struct key from = first_of(&found[i]), to = last_of(&found[i]);
+        WANT(!found[i].digest && order(from, to) <= 0);
+        WANT(!i || order(last_of(&found[i - 1]), from) < 0);
+        WANT(is_in(from, first) && is_in(to, first));
+        WANT(is_bound(from, own) || is_bound(from, peer));
+        WANT(is_bound(to, own) || is_bound(to, peer));
+    }
+    begins = order(first_of(first), first_of(mine));
+    ends = order(last_of(first), last_of(mine));
+    if (begins < 0 && ends < 0) {
+        struct key to = order(first_of(mine), last_of(first)) <= 0 ? first_of(mine) : last_of(first);
+        WANT(asked->count == 1 && !order(first_of(found), first_of(first)) && !order(last_of(found), to));
+    } else if (begins > 0 || ends < 0) {
+        WANT(!asked->count);
+    } else {
+        struct list agreed;
+        agreed_ranges(own, peer, &agreed);
+        for (i = 0; i < own->count; i++) {
+            is_told(first_of(&own->ranges[i]), peer, &agreed, asked);
+            is_told(last_of(&own->ranges[i]), peer, &agreed, asked);
+        }
+        for (i = 0; i < peer->count; i++) {
+            is_told(first_of(&peer->ranges[i]), peer, &agreed, asked);
+            is_told(last_of(&peer->ranges[i]), peer, &agreed, asked);
+        }
+        for (i = 0; i < 300; i++) {
+            uint8_t key[16];
+            size_t len = key_of(key, (unsigned)i);
+            is_told((struct key){key, len}, peer, &agreed, asked);
+        }
+    }
+}
+
+/* Whether any bytes of a peer are answered by a difference, which is then a right one, and not by MST_MALFORMED. */
+static int differs(const uint8_t *own, size_t own_len, const uint8_t *peer, size_t peer_len) {
+    static struct list owns, peers, asked;
+    static uint8_t out[1 << 16];
+    size_t needed = 0;
     uint8_t *exact = __real_malloc(peer_len ? peer_len : 1);
-    int status, next;
+    int status;
     WANT(exact);
     memcpy(exact, peer, peer_len);
     status = mst_diff(own, own_len, exact, peer_len, out, sizeof out, &needed);
     free(exact);
     if (status == MST_MALFORMED) return 0;
     WANT(status == MST_DONE);
-    while ((next = mst_ranges_next(out, needed, &at, &range)) == MST_DONE) WANT(!range.digest);
-    WANT(next == MST_ABSENT);
+    read_list(own, own_len, &owns);
+    read_list(peer, peer_len, &peers);
+    read_list(out, needed, &asked);
+    is_difference(&owns, &peers, &asked);
     return 1;
 }
 
@@ -290,24 +507,36 @@ static void ends(const uint8_t *list, size_t len) {
 
 static void hostile(void) {
     static const char *const MARKS[] = {"MSTp", "MSTk", "MSTr"};
-    struct mst_tree tree = MST_NO_TREE, other = MST_NO_TREE;
-    size_t len, own_len, cut;
-    uint8_t *list, *own, any[256];
+    struct mst_tree tree = MST_NO_TREE, other = MST_NO_TREE, later = MST_NO_TREE;
+    size_t len, own_len, later_len, cut;
+    uint8_t *list, *own, *behind, any[256];
     long lists = 0, all;
+    unsigned i;
     squares(&tree, 300, 1);
     squares(&other, 300, 1);
     WANT(put(&other, 77, 1) == MST_DONE);
+    squares(&later, 450, 1);
+    for (i = 0; i < 150; i++) {
+        uint8_t key[16];
+        size_t key_len = key_of(key, i);
+        WANT(mst_tree_remove(&later, key, key_len) == MST_DONE);
+    }
     list = page_ranges(&tree, &len);
     own = page_ranges(&other, &own_len);
+    behind = page_ranges(&later, &later_len);
     WANT(differs(own, own_len, list, len));
+    WANT(differs(list, len, behind, later_len));
     ends(list, len);
     for (cut = 0; cut < len; cut++) WANT(!differs(own, own_len, list, cut));
     for (cut = 0; cut < len; cut++) {
         uint8_t kept = list[cut];
         int bit;
         for (bit = 0; bit < 8; bit++) {
+            int is_list;
             list[cut] = (uint8_t)(kept ^ 1 << bit);
-            lists += differs(own, own_len, list, len);
+            is_list = differs(own, own_len, list, len);
+            WANT(differs(behind, later_len, list, len) == is_list);
+            lists += is_list;
         }
         list[cut] = kept;
     }
@@ -330,12 +559,16 @@ static void hostile(void) {
     puts("20000 lists of random bytes");
     free(list);
     free(own);
+    free(behind);
     mst_tree_free(&tree);
     mst_tree_free(&other);
+    mst_tree_free(&later);
 }
 
 int main(void) {
     roots_and_loads();
+    difference();
+    bad_arguments();
     statuses();
     refusals();
     hostile();
