@@ -25,7 +25,11 @@ module _ {K D : Type 0} (lev : K → ℕ) where
   root_depth (page l c (node h k d r)) i = omega (arith, rows_depth l (node h k d r) i)
 
   -- and the root's level is below any number that the levels of its keys are below
-  pub root_low : (n : ℕ) → ((k : K) → lev k < n) → (t : Tree K D) → IsCanonicalRoot lev t → (0 < n) → level t < n
+  root_low : (n : ℕ) → ((k : K) → lev k < n) → (t : Tree K D) → IsCanonicalRoot lev t → (0 < n) → level t < n
   root_low n low (page l c (high nothing)) i z = omega (arith, i)
   root_low n low (page l c (high (below t))) i z = absurd i
   root_low n low (page l c (node h k d r)) i z = omega (arith, low k, i.1)
+
+  -- where no level is above 255, a tree is at most 256 pages deep
+  pub root_deepest : ((k : K) → lev k < 256) → (t : Tree K D) → IsCanonicalRoot lev t → depth t ≤ 256
+  root_deepest low t i = omega (arith, root_depth t i, root_low 256 low t i (omega arith))

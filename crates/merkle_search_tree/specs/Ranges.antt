@@ -2,6 +2,8 @@
 use Rattle.std.specs.Prelude.{◌≡◌, ℕ, List, [], ◌∷◌, ◌++◌, ◌⊎◌}
 use Rattle.std.specs.declared.cmp.Ordering.{Ordering}
 use Rattle.key_order.specs.Map.{last_key}
+use Rattle.key_order.specs.Interval.{Span}
+use Rattle.merkle_diff.specs.Difference.{IsDifference, SparesAgreed}
 use Rattle.merkle_diff.specs.Entry.{Entry}
 use Rattle.merkle_search_tree.specs.Tree.{Tree, page, Row, high, node, Held, nothing, below}
 use Rattle.merkle_search_tree.specs.Page.{row_pairs}
@@ -50,3 +52,7 @@ module _ {K : Type 0} (cmp : K → K → Ordering) (digest_of : K → List ℕ) 
   -- the entries are the page ranges of the tree of the map m, in the format
   abbrev pub IsRangesOf : PageFormat → (K → List ℕ) → List (K × List ℕ) → List (Entry K (List ℕ)) → Type 0
   IsRangesOf format bytes_of m es = (t : Tree K (List ℕ)) × IsTreeOf cmp digest_of base t m × (es ≡ ranges_of format bytes_of t)
+
+-- whatever has the interval laws and the laws on trees on the two lists is empty: so is what `diff` answers on lists of trees
+abbrev pub NothingToAsk : {K : Type 0} → (K → K → Ordering) → List (Entry K (List ℕ)) → List (Entry K (List ℕ)) → Type 0
+NothingToAsk {K} cmp ls ps = (found : List (Span K)) → IsDifference cmp ls ps found → SparesAgreed cmp ls ps found → found ≡ []

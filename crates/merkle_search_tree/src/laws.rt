@@ -1,20 +1,21 @@
 //! Laws over the definitions alone. Each function has no effect and takes no memory; what it ensures holds of every tree, or, where
 //! it takes no tree, of every map and every tree that a contract can speak of.
+//!
+//! A body that borrows a field of a tree, as `let _ = &tree.root;`, does nothing but bring the tree's invariant into view of its proof.
 
-ghost use Rattle.std.specs.Prelude.{◌≡◌, ◌+◌, ◌≤◌, ⊤, ℕ, List, [], MatchOption};
-ghost use Rattle.key_order.specs.Interval.{Span};
+ghost use Rattle.std.specs.Prelude.{◌≡◌, ◌+◌, ◌≤◌, ⊤, ℕ, Bool, List, MatchOption};
 ghost use Rattle.key_order.specs.Order.{Same};
 ghost use Rattle.key_order.specs.Map.{IsMap, SameMap};
 ghost use Rattle.merkle_digest.specs.Level.{level_of};
-ghost use Rattle.merkle_diff.specs.Difference.{IsDifference, SparesAgreed};
 ghost use Rattle.merkle_diff.specs.Entry.{Entry};
 ghost use Rattle.merkle_diff.specs.SameEntries.{SameEntries};
 ghost use Rattle.merkle_diff.specs.TreeShape.{IsTreeShaped};
 ghost use Rattle.merkle_search_tree.specs.Cache.{missing, filled};
 ghost use Rattle.merkle_search_tree.specs.Depth.{depth};
+ghost use Rattle.merkle_search_tree.specs.Events.{events_of};
 ghost use Rattle.merkle_search_tree.specs.Listing.{ListsPages};
-ghost use Rattle.merkle_search_tree.specs.Page.{level, pairs};
-ghost use Rattle.merkle_search_tree.specs.Ranges.{IsPageOf, IsRangesOf, ranges_of};
+ghost use Rattle.merkle_search_tree.specs.Page.{level, nodes_in_order, pairs};
+ghost use Rattle.merkle_search_tree.specs.Ranges.{IsPageOf, IsRangesOf, NothingToAsk, ranges_of};
 ghost use Rattle.merkle_search_tree.specs.Canonical.{SamePages, IsTreeOf};
 ghost use Rattle.merkle_search_tree.specs.Faithful.{IsSmall, NoCollision, HasFaithfulPages};
 ghost use Rattle.merkle_search_tree.specs.Tree.{Tree};
@@ -24,6 +25,7 @@ ghost use Rattle.merkle_search_tree.specs.declared.builder.PageFormat.TheVariant
 ghost use Rattle.merkle_search_tree.specs.Stream.{page_digest};
 ghost use Rattle.merkle_search_tree.specs.State.{map_of};
 ghost use Rattle.merkle_search_tree.specs.Sound.{IsSound};
+ghost use Rattle.merkle_search_tree.specs.Visited.{visited_nodes};
 
 use crate::tree::MerkleSearchTree;
 use merkle_digest::{Hasher, KeyBytes, KeyBytesExact};
@@ -71,7 +73,8 @@ pub fn filled_pages_keep_their_map<K: KeyBytes>()
 {}
 
 /// A map has one tree: under any hasher and level base there is one, and any other has its pages apart from caches; trees of equal maps
-/// have equal pages, and, in any page format, root pages of equal digest and equal page ranges.
+/// have equal pages, and, in any page format, root pages of equal digest and equal page ranges. At most 256 pages of a tree of a map
+/// stand below one another, and no more than the level of its root and one.
 pub fn a_map_has_one_tree<K: Ord + KeyBytes, H: Hasher<N, K>, const N: usize>()
     ensures defined { (hasher : H) (base : ℕ) (m : List (K × List ℕ)) → IsTreeOf K.cmp (H.digest_of hasher) base (defined_tree (H.digest_of hasher) base m) m }
     ensures only { (hasher : H) (base : ℕ) (m : List (K × List ℕ)) (t : Tree K (List ℕ))
@@ -82,6 +85,8 @@ pub fn a_map_has_one_tree<K: Ord + KeyBytes, H: Hasher<N, K>, const N: usize>()
         → IsTreeOf K.cmp (H.digest_of hasher) base t a → IsTreeOf K.cmp (H.digest_of hasher) base u b → page_digest format K.bytes_of t ≡ page_digest format K.bytes_of u }
     ensures ranges { (hasher : H) (base : ℕ) (format : PageFormat) (a b : List (K × List ℕ)) (t u : Tree K (List ℕ)) → SameMap K.cmp (λ d e. d ≡ e) a b
         → IsTreeOf K.cmp (H.digest_of hasher) base t a → IsTreeOf K.cmp (H.digest_of hasher) base u b → SameEntries K.cmp (ranges_of format K.bytes_of t) (ranges_of format K.bytes_of u) }
+    ensures by_level { (hasher : H) (base : ℕ) (m : List (K × List ℕ)) (t : Tree K (List ℕ)) → IsTreeOf K.cmp (H.digest_of hasher) base t m → depth t ≤ level t + 1 }
+    ensures deepest { (hasher : H) (base : ℕ) (m : List (K × List ℕ)) (t : Tree K (List ℕ)) → IsTreeOf K.cmp (H.digest_of hasher) base t m → depth t ≤ 256 }
 {}
 
 /// Equal pages, apart from caches, have equal maps, and, in any page format, equal digests and equal page ranges.
@@ -91,12 +96,22 @@ pub fn equal_pages_have_equal_maps<K: Ord + KeyBytes>()
     ensures ranges { (format : PageFormat) (t u : Tree K (List ℕ)) → SamePages K.cmp t u → SameEntries K.cmp (ranges_of format K.bytes_of t) (ranges_of format K.bytes_of u) }
 {}
 
-/// The page ranges of the tree of any map are tree-shaped, and say where the pages of the map are, in any page format.
+/// The page ranges of the tree of any map are tree-shaped, and say where the pages of the map are, in any page format. On those of
+/// equal maps what [`diff`](merkle_diff::diff) answers is empty in both directions.
 pub fn page_ranges_of_a_map<K: Ord + KeyBytes, H: Hasher<N, K>, const N: usize>()
     ensures shaped { (hasher : H) (base : ℕ) (format : PageFormat) (m : List (K × List ℕ)) (es : List (Entry K (List ℕ))) → IsMap K.cmp m
         → IsRangesOf K.cmp (H.digest_of hasher) base format K.bytes_of m es → IsTreeShaped K.cmp es }
     ensures listing { (hasher : H) (base : ℕ) (format : PageFormat) (m : List (K × List ℕ)) (es : List (Entry K (List ℕ))) → IsMap K.cmp m
         → IsRangesOf K.cmp (H.digest_of hasher) base format K.bytes_of m es → ListsPages K.cmp (H.digest_of hasher) base format K.bytes_of m es }
+    ensures nothing_to_ask_b_for { (hasher : H) (base : ℕ) (format : PageFormat) (a b : List (K × List ℕ)) (es fs : List (Entry K (List ℕ))) → SameMap K.cmp (λ d e. d ≡ e) a b
+        → IsRangesOf K.cmp (H.digest_of hasher) base format K.bytes_of a es → IsRangesOf K.cmp (H.digest_of hasher) base format K.bytes_of b fs → NothingToAsk K.cmp es fs }
+    ensures nothing_to_ask_a_for { (hasher : H) (base : ℕ) (format : PageFormat) (a b : List (K × List ℕ)) (es fs : List (Entry K (List ℕ))) → SameMap K.cmp (λ d e. d ≡ e) a b
+        → IsRangesOf K.cmp (H.digest_of hasher) base format K.bytes_of a es → IsRangesOf K.cmp (H.digest_of hasher) base format K.bytes_of b fs → NothingToAsk K.cmp fs es }
+{}
+
+/// The nodes that a traversal visits, where each call answers true, are those of the tree in order, as an iteration over nodes gives them.
+pub fn a_traversal_visits_nodes_in_order<K>()
+    ensures { (is_high : Bool) (t : Tree K (List ℕ)) → visited_nodes (events_of is_high t) ≡ nodes_in_order t }
 {}
 
 /// Trees of equal maps, under one hasher and level base, have equal pages apart from caches, and, in one page format, equal root
@@ -155,12 +170,8 @@ pub fn equal_maps_have_equal_page_ranges<K: Ord + KeyBytes, V, H: Hasher<N, K>, 
     requires format { a.now.format ≡ b.now.format }
     requires maps { SameMap K.cmp (λ d e. d ≡ e) (map_of a.now) (map_of b.now) }
     ensures ranges { SameEntries K.cmp (ranges_of a.now.format K.bytes_of a.now.root) (ranges_of b.now.format K.bytes_of b.now.root) }
-    ensures nothing_to_ask_b_for { (found : List (Span K))
-        → IsDifference K.cmp (ranges_of a.now.format K.bytes_of a.now.root) (ranges_of b.now.format K.bytes_of b.now.root) found
-        → SparesAgreed K.cmp (ranges_of a.now.format K.bytes_of a.now.root) (ranges_of b.now.format K.bytes_of b.now.root) found → found ≡ [] }
-    ensures nothing_to_ask_a_for { (found : List (Span K))
-        → IsDifference K.cmp (ranges_of b.now.format K.bytes_of b.now.root) (ranges_of a.now.format K.bytes_of a.now.root) found
-        → SparesAgreed K.cmp (ranges_of b.now.format K.bytes_of b.now.root) (ranges_of a.now.format K.bytes_of a.now.root) found → found ≡ [] }
+    ensures nothing_to_ask_b_for { NothingToAsk K.cmp (ranges_of a.now.format K.bytes_of a.now.root) (ranges_of b.now.format K.bytes_of b.now.root) }
+    ensures nothing_to_ask_a_for { NothingToAsk K.cmp (ranges_of b.now.format K.bytes_of b.now.root) (ranges_of a.now.format K.bytes_of a.now.root) }
 {
     let _ = &a.root;
     let _ = &b.root;

@@ -191,6 +191,8 @@ impl<K: Ord + KeyBytes, V, H: Hasher<N, K>, const N: usize> MerkleSearchTree<K, 
     /// Calls a visitor at each page and node, the root page first. At a page it calls `visit_page`; for each node in order
     /// `pre_visit_node`, then all calls at the page below the node, then `visit_node` and `post_visit_node`; then
     /// `post_visit_page`, and then all calls at the high page. The first call that answers false is the last one.
+    /// That the nodes of the `visit_node` calls are the nodes of the tree in order is the law
+    /// [`a_traversal_visits_nodes_in_order`](crate::laws::a_traversal_visits_nodes_in_order).
     ///
     /// It makes at most three calls for each node and two for each page, compares no keys, and takes no memory of its own. Its recursion
     /// is as deep as the tree, at most 256 pages.

@@ -1,6 +1,7 @@
 use Rattle.std.proofs.Common.{ap, ◌∙◌}
 use Rattle.std.specs.Ordering.{is_eq}
 use Rattle.merkle_digest.specs.Level.{level_of}
+use Rattle.merkle_search_tree.proofs.Depths.{root_depth, root_deepest}
 use Rattle.merkle_search_tree.proofs.Same.{same_digest}
 use Rattle.merkle_search_tree.proofs.SameRanges.{same_ranges}
 use Rattle.merkle_search_tree.proofs.Sound.{level_low, same_bytes}
@@ -31,3 +32,9 @@ returns-clause-digests g c hasher base format a b t u h f e =
 pub returns-clause-ranges : goal.returns-clause-ranges
 returns-clause-ranges g c hasher base format a b t u h f e =
     same_ranges g.K.Ord.cmp format g.K.KeyBytes.bytes_of (same_bytes g.K.Ord.cmp g.K.PartialEq.eq g.met.K.Ord.matches_eq g.K.KeyBytes.bytes_of g.met.K.KeyBytes.bytes_respect_eq) t u (returns-clause-pages g c hasher base a b t u h f e)
+
+pub returns-clause-by_level : goal.returns-clause-by_level
+returns-clause-by_level g c hasher base m t f = root_depth (λ k. level_of (g.H.Hasher.digest_of hasher k) base) t f.0
+
+pub returns-clause-deepest : goal.returns-clause-deepest
+returns-clause-deepest g c hasher base m t f = root_deepest (λ k. level_of (g.H.Hasher.digest_of hasher k) base) (λ k. level_low (g.H.Hasher.digest_of hasher k) base) t f.0

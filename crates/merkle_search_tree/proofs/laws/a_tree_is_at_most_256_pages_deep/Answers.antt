@@ -1,7 +1,7 @@
-use Rattle.std.proofs.Common.{subst, arith}
+use Rattle.std.proofs.Common.{subst}
 use Rattle.merkle_digest.specs.Level.{level_of}
 use Rattle.merkle_search_tree.specs.Sound.{IsSound}
-use Rattle.merkle_search_tree.proofs.Depths.{root_depth, root_low}
+use Rattle.merkle_search_tree.proofs.Depths.{root_depth, root_deepest}
 use Rattle.merkle_search_tree.proofs.Sound.{level_low}
 use Rattle.merkle_search_tree.proofs.laws.a_tree_is_at_most_256_pages_deep.Goals as goal
 
@@ -15,4 +15,4 @@ pub returns-clause-deepest : goal.returns-clause-deepest
 returns-clause-deepest g c =
     let s = c.args.tree.now in
     let sound = subst (IsSound g.K.Ord.cmp g.H.Hasher.digest_of g.K.KeyBytes.bytes_of) c.tree.view_is c.tree.invariant in
-    omega (arith, returns-clause-by_level g c, root_low (λ k. level_of (g.H.Hasher.digest_of s.hasher k) s.base) 256 (λ k. level_low (g.H.Hasher.digest_of s.hasher k) s.base) s.root sound.canonical (omega arith))
+    root_deepest (λ k. level_of (g.H.Hasher.digest_of s.hasher k) s.base) (λ k. level_low (g.H.Hasher.digest_of s.hasher k) s.base) s.root sound.canonical

@@ -2,7 +2,7 @@ use Rattle.std.proofs.Common.{subst}
 use Rattle.merkle_diff.specs.SameEntries.{SameEntries}
 use Rattle.merkle_search_tree.specs.Ranges.{ranges_of}
 use Rattle.merkle_search_tree.specs.Sound.{IsSound}
-use Rattle.merkle_search_tree.proofs.NoDifference.{none_found, same-entries-back}
+use Rattle.merkle_search_tree.proofs.NoDifference.{nothing_to_ask, same-entries-back}
 use Rattle.merkle_search_tree.proofs.SameRanges.{same_ranges}
 use Rattle.merkle_search_tree.proofs.Sound.{same_pages, same_bytes}
 use Rattle.merkle_search_tree.proofs.laws.equal_maps_have_equal_page_ranges.Goals as goal
@@ -17,10 +17,10 @@ returns-clause-ranges g c =
     c.requires.hasher c.requires.base c.requires.maps))
 
 pub returns-clause-nothing_to_ask_b_for : goal.returns-clause-nothing_to_ask_b_for
-returns-clause-nothing_to_ask_b_for g c = λ found laws spares.
-    none_found g.K.Ord.cmp (ranges_of c.args.a.now.format g.K.KeyBytes.bytes_of c.args.a.now.root) (ranges_of c.args.b.now.format g.K.KeyBytes.bytes_of c.args.b.now.root) found (returns-clause-ranges g c) laws.table spares.equal
+returns-clause-nothing_to_ask_b_for g c =
+    nothing_to_ask g.K.Ord.cmp (ranges_of c.args.a.now.format g.K.KeyBytes.bytes_of c.args.a.now.root) (ranges_of c.args.b.now.format g.K.KeyBytes.bytes_of c.args.b.now.root) (returns-clause-ranges g c)
 
 pub returns-clause-nothing_to_ask_a_for : goal.returns-clause-nothing_to_ask_a_for
-returns-clause-nothing_to_ask_a_for g c = λ found laws spares.
-    none_found g.K.Ord.cmp (ranges_of c.args.b.now.format g.K.KeyBytes.bytes_of c.args.b.now.root) (ranges_of c.args.a.now.format g.K.KeyBytes.bytes_of c.args.a.now.root) found
-    (same-entries-back g.K.Ord.cmp g.met.K.Ord.total (ranges_of c.args.a.now.format g.K.KeyBytes.bytes_of c.args.a.now.root) (ranges_of c.args.b.now.format g.K.KeyBytes.bytes_of c.args.b.now.root) (returns-clause-ranges g c)) laws.table spares.equal
+returns-clause-nothing_to_ask_a_for g c =
+    nothing_to_ask g.K.Ord.cmp (ranges_of c.args.b.now.format g.K.KeyBytes.bytes_of c.args.b.now.root) (ranges_of c.args.a.now.format g.K.KeyBytes.bytes_of c.args.a.now.root)
+    (same-entries-back g.K.Ord.cmp g.met.K.Ord.total (ranges_of c.args.a.now.format g.K.KeyBytes.bytes_of c.args.a.now.root) (ranges_of c.args.b.now.format g.K.KeyBytes.bytes_of c.args.b.now.root) (returns-clause-ranges g c))

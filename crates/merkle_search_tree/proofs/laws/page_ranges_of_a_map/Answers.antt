@@ -1,10 +1,13 @@
-use Rattle.std.proofs.Common.{◌≡◌, subst, sym}
+use Rattle.std.proofs.Common.{◌≡◌, ap, subst, sym, ◌∙◌}
+use Rattle.std.specs.Ordering.{is_eq}
 use Rattle.merkle_diff.specs.TreeShape.{IsTreeShaped}
 use Rattle.merkle_digest.specs.Level.{level_of}
 use Rattle.merkle_search_tree.specs.Page.{pairs}
 use Rattle.key_order.proofs.SameMaps.{ascends}
 use Rattle.merkle_search_tree.proofs.Listing.{lists}
+use Rattle.merkle_search_tree.proofs.NoDifference.{nothing_to_ask, same_lists, same-entries-back}
 use Rattle.merkle_search_tree.proofs.RangeShape.{tree_shaped}
+use Rattle.merkle_search_tree.proofs.Sound.{same_bytes}
 use Rattle.merkle_search_tree.proofs.laws.page_ranges_of_a_map.Goals as goal
 
 pub returns-clause-shaped : goal.returns-clause-shaped
@@ -15,3 +18,15 @@ returns-clause-shaped g c hasher base format m es ascending (t, is_tree, e) =
 pub returns-clause-listing : goal.returns-clause-listing
 returns-clause-listing g c hasher base format m es ascending is_ranges =
     lists g.K.Ord.cmp g.met.K.Ord.total (g.H.Hasher.digest_of hasher) base format g.K.KeyBytes.bytes_of m es ascending is_ranges
+
+pub returns-clause-nothing_to_ask_b_for : goal.returns-clause-nothing_to_ask_b_for
+returns-clause-nothing_to_ask_b_for g c hasher base format a b es fs same is_es is_fs =
+    nothing_to_ask g.K.Ord.cmp es fs
+    (same_lists g.K.Ord.cmp g.met.K.Ord.total (g.H.Hasher.digest_of hasher) base (λ x y q. ap (λ d. level_of d base) (g.met.H.Hasher.respects_eq hasher x y (g.met.K.Ord.matches_eq x y ∙ ap is_eq q)))
+    format g.K.KeyBytes.bytes_of (same_bytes g.K.Ord.cmp g.K.PartialEq.eq g.met.K.Ord.matches_eq g.K.KeyBytes.bytes_of g.met.K.KeyBytes.bytes_respect_eq) a b es fs same is_es is_fs)
+
+pub returns-clause-nothing_to_ask_a_for : goal.returns-clause-nothing_to_ask_a_for
+returns-clause-nothing_to_ask_a_for g c hasher base format a b es fs same is_es is_fs =
+    nothing_to_ask g.K.Ord.cmp fs es (same-entries-back g.K.Ord.cmp g.met.K.Ord.total es fs
+    (same_lists g.K.Ord.cmp g.met.K.Ord.total (g.H.Hasher.digest_of hasher) base (λ x y q. ap (λ d. level_of d base) (g.met.H.Hasher.respects_eq hasher x y (g.met.K.Ord.matches_eq x y ∙ ap is_eq q)))
+    format g.K.KeyBytes.bytes_of (same_bytes g.K.Ord.cmp g.K.PartialEq.eq g.met.K.Ord.matches_eq g.K.KeyBytes.bytes_of g.met.K.KeyBytes.bytes_respect_eq) a b es fs same is_es is_fs))
