@@ -1,13 +1,12 @@
 -- The tree that shows what a replica holds, with the default hasher and level base, SipHash under the zero key and 16, in a page format.
 use Rattle.std.specs.Prelude.{◌≡◌, ℕ, List, max, nat_eq, string_bytes}
 use Rattle.std.specs.Int.{w64, to_le_bytes}
-use Rattle.merkle_digest.specs.Level.{level_of}
 use Rattle.merkle_digest.specs.SipHash.{siphash128, zero_key}
 use Rattle.merkle_diff.specs.Entry.{Entry}
 use Rattle.merkle_search_tree.specs.Ranges.{ranges_of}
 use Rattle.merkle_search_tree.specs.Stream.{page_digest}
 use Rattle.merkle_search_tree.specs.Tree.{Tree}
-use Rattle.merkle_search_tree.specs.TreeOf.{tree_of}
+use Rattle.merkle_search_tree.specs.TreeOf.{defined_tree}
 use Rattle.merkle_search_tree.specs.declared.builder.PageFormat.{PageFormat}
 use Rattle.merkle_replica.specs.Laws.{Laws}
 use Rattle.merkle_replica.specs.Contents.{Contents, Side, digests}
@@ -21,13 +20,9 @@ key_digest key = siphash128 zero_key (string_bytes key)
 abbrev pub number_digest : ℕ → List ℕ
 number_digest n = siphash128 zero_key (to_le_bytes w64 n)
 
--- the level of a key: that of its digest in base 16
-abbrev pub key_level : Text → ℕ
-key_level key = level_of (key_digest key) 16
-
 -- the tree of the keys and the digests of their numbers
 abbrev pub tree : List TextRow → Tree Text (List ℕ)
-tree rows = tree_of key_level (digests number_digest rows)
+tree rows = defined_tree key_digest 16 (digests number_digest rows)
 
 -- its page ranges
 abbrev pub page_ranges : PageFormat → List TextRow → List (Entry Text (List ℕ))

@@ -105,7 +105,7 @@ impl<W: Writer> Sink for ToWrite<W> {
         ensures bound { IfOk result (λ n. n ≤ length bytes.now) }
         ensures some { IfOk result (λ n. 0 < length bytes.now → 0 < n) }
         ensures bytes { IfOk result (λ n. Appends (W.contents (writer_inside self.old)) (W.contents (writer_inside self.new)) (take n bytes.now)) }
-        ensures error { OnErr result (KeepsOrHides (W.contents (writer_inside self.old)) (W.contents (writer_inside self.new))) }
+        ensures error { OnErr result (Keeps (W.contents (writer_inside self.old)) (W.contents (writer_inside self.new))) }
         ensures failed { MarksFailure result (⟦<ToWrite<W> as Sink>⟧.has_failed self.old) (⟦<ToWrite<W> as Sink>⟧.has_failed self.new) }
 
         // It fails only where a call has failed before, or the writer refused the bytes.
@@ -132,7 +132,7 @@ impl<W: Writer> Sink for ToWrite<W> {
     fn flush(&mut self) -> Result<(), Failed>
         ensures ok { OnOk result (Keeps (W.contents (writer_inside self.old)) (W.contents (writer_inside self.new))) }
         ensures flushed { OnOk result (⟦<ToWrite<W> as Sink>⟧.is_flushed self.new ≡ true) }
-        ensures error { OnErr result (KeepsOrHides (W.contents (writer_inside self.old)) (W.contents (writer_inside self.new))) }
+        ensures error { OnErr result (Keeps (W.contents (writer_inside self.old)) (W.contents (writer_inside self.new))) }
         ensures failed { MarksFailure result (⟦<ToWrite<W> as Sink>⟧.has_failed self.old) (⟦<ToWrite<W> as Sink>⟧.has_failed self.new) }
 
         // It fails only where a call has failed before, or the writer's flush failed.
