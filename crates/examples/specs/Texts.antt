@@ -25,7 +25,7 @@ abbrev pub text_digest : List ℕ → Text → List ℕ
 text_digest key text = siphash128 key (string_bytes text)
 
 -- SipHash under the zero key, level base 16, and format 1
-pub record HasDefaults {K : Type 0} (tree : State K (List ℕ)) : Type 0 where
+pub record HasDefaultSettings {K : Type 0} (tree : State K (List ℕ)) : Type 0 where
   pub hasher : tree.hasher ≡ zero_key
   pub base : tree.base ≡ 16
   pub format : tree.format ≡ V1

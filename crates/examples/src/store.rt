@@ -4,7 +4,7 @@ ghost use Rattle.std.specs.Int.{w64, to_le_bytes};
 ghost use Rattle.key_order.specs.Join.{IsJoin};
 ghost use Rattle.merkle_digest.specs.SipHash.{zero_key};
 ghost use Rattle.merkle_search_tree.specs.declared.builder.PageFormat.TheVariants.{V1};
-ghost use Rattle.examples.specs.Texts.{text_order, HasDefaults, IsRootHashOf};
+ghost use Rattle.examples.specs.Texts.{text_order, HasDefaultSettings, IsRootHashOf};
 
 use merkle_digest::{HashBytes, RootHash, SipHasher};
 use merkle_replica::{Join, Replica};
@@ -27,7 +27,7 @@ pub fn open_rows<V: Join + HashBytes + Drop>(
     rows: Vec<(String, V)>,
 ) -> Result<Store<V>, LoadRefused>
     ensures rows { IfOk result (λ store. store.rows ≡ rows.items) }
-    ensures defaults { IfOk result (λ store. HasDefaults store.tree) }
+    ensures defaults { IfOk result (λ store. HasDefaultSettings store.tree) }
 {
     match Replica::from_rows(alloc, Builder::default(), rows) {
         Ok(store) => Ok(store),
