@@ -1,9 +1,8 @@
--- What follows from a call that succeeds, syncs under another premise or with another outcome, and replicas that are alike.
-use Rattle.std.proofs.Common.{List, OnOk, Result, Ok, Err, sym, ap}
+-- What follows from a call that succeeds, and syncs under another premise or with another outcome.
+use Rattle.std.proofs.Common.{List, OnOk, Result, Ok, Err}
 use Rattle.std.specs.List.{AllByRecursion}
 use Rattle.merkle_replica.specs.Laws.{Laws}
-use Rattle.merkle_replica.specs.Contents.{Contents, Side, SameSetup, side}
-use Rattle.merkle_replica.specs.Faithful.{AreSetAlike}
+use Rattle.merkle_replica.specs.Contents.{Contents, Side, side}
 use Rattle.merkle_replica.specs.Pulls.{Answer, IsByTurns}
 use Rattle.examples.specs.Sync.{IsSync}
 
@@ -23,7 +22,3 @@ module _ {K V H : Type 0} (laws : Laws K V H) where
     pulls = h.pulls;
     outcome = λ all. g (h.outcome (f h.answers h.met h.pulls all));
   }
-
-  -- replicas of one setup are alike
-  pub alike : (a b : Contents K V H) → SameSetup a b → AreSetAlike laws (side a) (side b)
-  alike a b s = record { keys = λ k. ap (λ h. laws.key_digest h k) (sym s.0); base = sym s.1; format = sym s.2 }

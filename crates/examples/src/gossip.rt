@@ -4,13 +4,14 @@ ghost use Rattle.key_order.specs.Order.{Same};
 ghost use Rattle.key_order.specs.Map.{SameMap};
 ghost use Rattle.merkle_search_tree.specs.State.{map_of};
 ghost use Rattle.merkle_replica.specs.Answers.{spans_of};
-ghost use Rattle.merkle_replica.specs.Contents.{SameSetup, side};
+ghost use Rattle.merkle_replica.specs.Contents.{side};
+ghost use Rattle.merkle_replica.specs.Faithful.{AreSetAlike};
 ghost use Rattle.merkle_replica.specs.Pulls.{IsAnswerFor};
 ghost use Rattle.examples.specs.Gossip.{HaveOneRootHash};
 
 use merkle_digest::{Hasher, KeyBytes};
 use merkle_replica::{Join, Lawful, Replica};
-use merkle_search_tree::laws::equal_maps_have_equal_pages;
+use merkle_search_tree::laws::{a_map_has_one_tree, every_tree_is_sound};
 use std::alloc::{AllocError, Global};
 
 /// The ranges of keys that a replica asks a peer for: none where their root hashes are equal, for which no page range is listed;
@@ -44,7 +45,8 @@ pub fn ranges_to_ask<
     local.ranges_to_ask(peer)
 }
 
-/// Replicas of equal maps, with one hasher, level base and page format, ask each other for nothing and take no memory for it.
+/// Replicas of equal maps, whose hashers give each key one digest, with one level base and page format, ask each other for nothing and
+/// take no memory for it.
 pub fn equal_maps_ask_for_nothing<
     K: Ord + KeyBytes + Clone + Drop,
     V: Join + Drop,
@@ -58,10 +60,12 @@ pub fn equal_maps_ask_for_nothing<
     // A clone of a key equals its original.
     requires clones { (a b : K) → K.is_clone a b → Same K.cmp a b }
 
-    requires one_setup { SameSetup local.old peer.old }
+    requires alike { AreSetAlike ⟦<H as Lawful<N, K, V>>⟧.laws (side local.old) (side peer.old) }
     requires equal_maps { SameMap K.cmp (λ d e. d ≡ e) (map_of local.old.tree) (map_of peer.old.tree) }
     ensures nothing { IsOkAnd result (λ ranges. ranges.items ≡ []) }
 {
-    equal_maps_have_equal_pages(local.tree(), peer.tree());
+    a_map_has_one_tree::<K, H, N>();
+    every_tree_is_sound(local.tree());
+    every_tree_is_sound(peer.tree());
     ranges_to_ask(alloc, local, peer)
 }

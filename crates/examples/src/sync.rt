@@ -2,7 +2,8 @@
 ghost use Rattle.std.specs.Prelude.{◌≡◌, OnOk};
 ghost use Rattle.key_order.specs.Order.{Same};
 ghost use Rattle.merkle_search_tree.specs.declared.builder.PageFormat.TheVariants.{V2};
-ghost use Rattle.merkle_replica.specs.Contents.{SameSetup};
+ghost use Rattle.merkle_replica.specs.Contents.{side};
+ghost use Rattle.merkle_replica.specs.Faithful.{AreSetAlike};
 ghost use Rattle.examples.specs.Sync.{IsFaithfulSync, IsExactSync, AreJoined};
 
 use merkle_digest::{Hasher, KeyBytes, KeyBytesExact};
@@ -35,8 +36,9 @@ pub fn sync<
     Ok(())
 }
 
-/// The same for replicas of one hasher and level base in page format 2, for keys that their bytes tell apart: it is enough that no two
-/// unequal page streams have one digest and that equal digests of values mean equal values, in what is met before each of the four pulls.
+/// The same for replicas whose hashers give each key one digest, with one level base, in page format 2, for keys that their bytes tell
+/// apart: it is enough that no two unequal page streams have one digest and that equal digests of values mean equal values, in what is
+/// met before each of the four pulls.
 ///
 /// # Errors
 ///
@@ -54,7 +56,7 @@ pub fn sync_exact<
     // A clone of a key equals its original.
     requires clones { (x y : K) → K.is_clone x y → Same K.cmp x y }
 
-    requires one_setup { SameSetup a.old b.old }
+    requires alike { AreSetAlike ⟦<H as Lawful<N, K, V>>⟧.laws (side a.old) (side b.old) }
     requires format_2 { a.old.tree.format ≡ V2 }
     ensures same { OnOk result (IsExactSync ⟦<H as Lawful<N, K, V>>⟧.laws N
         (AreJoined K.cmp V.eq V.join_of a.old.rows b.old.rows a.new.rows b.new.rows) a.old b.old a.new b.new) }

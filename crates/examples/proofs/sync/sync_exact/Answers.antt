@@ -1,5 +1,5 @@
 use Rattle.merkle_replica.specs.Contents.{side}
-use Rattle.examples.proofs.Outcomes.{on_ok, sync_like, alike}
+use Rattle.examples.proofs.Outcomes.{on_ok, sync_like}
 use Rattle.examples.proofs.sync.sync_exact.Goals as goal
 
 -- where no streams collide, digests are faithful
@@ -9,6 +9,6 @@ returns g c =
     let b = c.args.b.now in record {
       same = on_ok c.sync.result _ _
           (sync_like _ _ _ _ _ a b c.sync.new.a c.sync.new.b
-          (λ answers met turns. c.no_collision_is_enough.ensures.all_faithful answers (side a) (side b) c.sync.new.a.rows c.sync.new.b.rows met (alike _ a b c.requires.one_setup) c.requires.format_2 turns)
+          (λ answers met turns. c.no_collision_is_enough.ensures.all_faithful answers (side a) (side b) c.sync.new.a.rows c.sync.new.b.rows met c.requires.alike c.requires.format_2 turns)
           (λ joined. joined)) c.sync.ensures.same;
     }
