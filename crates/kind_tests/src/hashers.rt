@@ -2,7 +2,7 @@
 
 use merkle_digest::{Hasher, SipHasher, default_level_base, level};
 use std::test::Fail;
-use testing::trees::hasher;
+use sample_trees::trees::hasher;
 use testing::{LevelHasher, number_key};
 
 #[test]

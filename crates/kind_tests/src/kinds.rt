@@ -7,8 +7,8 @@ use merkle_search_tree::MerkleSearchTree;
 use merkle_search_tree::builder::Builder;
 use std::alloc::{AllocError, Global};
 use std::test::Fail;
-use testing::tally::Tally;
-use testing::trees::value_at;
+use sample_trees::tally::Tally;
+use sample_trees::trees::value_at;
 use testing::{CaselessText, DescendingNumber, LevelHasher, Value, number_key};
 
 /// A kind of keys: five of them, in ascending order.

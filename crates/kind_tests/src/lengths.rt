@@ -5,8 +5,8 @@ use merkle_search_tree::MerkleSearchTree;
 use merkle_search_tree::builder::{Builder, PageFormat};
 use std::alloc::{AllocError, Global};
 use std::test::Fail;
-use testing::tally::Tally;
-use testing::trees::{gives_its_list, value_at};
+use sample_trees::tally::Tally;
+use sample_trees::trees::{gives_its_list, value_at};
 use testing::{LevelHasher, Value, number_key};
 
 /// A tree of texts, all on level 0.

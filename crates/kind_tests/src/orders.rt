@@ -5,7 +5,7 @@ use merkle_search_tree::MerkleSearchTree;
 use merkle_search_tree::builder::Builder;
 use std::alloc::Global;
 use std::test::Fail;
-use testing::trees::{gives_its_list, value_at};
+use sample_trees::trees::{gives_its_list, value_at};
 use testing::{CaselessText, DescendingNumber, LevelHasher, Value};
 
 /// A tree of numbers in descending order.

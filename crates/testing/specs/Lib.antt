@@ -1,2 +1,1 @@
 pub mod LevelBytes
-pub mod Defined

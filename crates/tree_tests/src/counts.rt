@@ -8,7 +8,7 @@ use merkle_digest::{Hasher, KeyBytes};
 use merkle_search_tree::visitor::Visitor;
 use merkle_search_tree::{MerkleSearchTree, Node, Page};
 use std::test::Fail;
-use testing::trees::{keys_of, numbers_of, tree_of};
+use sample_trees::trees::{keys_of, numbers_of, tree_of};
 
 /// Counts the nodes.
 #[derive(Drop)]

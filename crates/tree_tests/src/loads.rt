@@ -9,12 +9,12 @@ use merkle_search_tree::builder::Builder;
 use merkle_search_tree::{LoadRefused, MerkleSearchTree};
 use std::alloc::{AllocError, Global};
 use std::test::Fail;
-use testing::root_pages::root_copy;
-use testing::trees::{Tree, hasher, keys_of, nodes, numbers_of, tree, value_at};
+use sample_trees::root_pages::root_copy;
+use sample_trees::trees::{Tree, hasher, keys_of, nodes, numbers_of, tree, value_at};
 use testing::{LevelHasher, Value, number_key};
 
-/// A row of a number and its value.
-type Row = ([u8; 2], Value);
+/// A number key and its value.
+type Pair = ([u8; 2], Value);
 
 /// A builder whose hasher puts these keys on these levels.
 fn builder(alloc: Global, keys: &[(u16, u8)]) -> Result<Builder<LevelHasher<[u8; 2]>>, AllocError> {
@@ -22,7 +22,7 @@ fn builder(alloc: Global, keys: &[(u16, u8)]) -> Result<Builder<LevelHasher<[u8;
 }
 
 /// The rows of these keys in this order.
-fn rows(alloc: Global, keys: &[(u16, u8)]) -> Result<Vec<Row>, AllocError> {
+fn rows(alloc: Global, keys: &[(u16, u8)]) -> Result<Vec<Pair>, AllocError> {
     let mut rows = Vec::with_capacity(alloc, keys.len())?;
     for (number, _) in keys {
         rows.push((number_key(*number), value_at(*number)))?;
@@ -31,7 +31,7 @@ fn rows(alloc: Global, keys: &[(u16, u8)]) -> Result<Vec<Row>, AllocError> {
 }
 
 /// The rows of these keys in ascending order.
-fn ascending(alloc: Global, keys: &[(u16, u8)]) -> Result<Vec<Row>, AllocError> {
+fn ascending(alloc: Global, keys: &[(u16, u8)]) -> Result<Vec<Pair>, AllocError> {
     let numbers = numbers_of(alloc, keys)?;
     let mut rows = Vec::with_capacity(alloc, numbers.len())?;
     for number in numbers {
@@ -53,7 +53,7 @@ fn loaded(alloc: Global, keys: &[(u16, u8)]) -> Result<Tree, Fail> {
 fn load_slice(
     alloc: Global,
     builder: Builder<LevelHasher<[u8; 2]>>,
-    rows: &[Row],
+    rows: &[Pair],
 ) -> Result<Tree, LoadRefused> {
     MerkleSearchTree::from_ascending_slice(alloc, builder, rows)
 }

@@ -7,8 +7,8 @@ use std::alloc::{AllocError, Global};
 use std::process::Abort;
 use std::test::Fail;
 use testing::number_key;
-use testing::tally::Tally;
-use testing::trees::{Tree, defined_root, put, tree};
+use sample_trees::tally::Tally;
+use sample_trees::trees::{Tree, defined_root, put, tree};
 
 /// The default tree of texts.
 type Texts = MerkleSearchTree<&'static str, u64, SipHasher, 16>;

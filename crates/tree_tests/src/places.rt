@@ -2,7 +2,7 @@
 
 use std::test::Fail;
 use testing::number_key;
-use testing::trees::{keys_of, tree};
+use sample_trees::trees::{keys_of, tree};
 
 #[test]
 fn places_of_keys_in_a_root_page(rt: HostRuntime) -> Result<(), Fail> {

@@ -6,8 +6,8 @@ use merkle_search_tree::builder::PageFormat;
 use std::alloc::{AllocError, Global};
 use std::test::Fail;
 use testing::number_key;
-use testing::root_pages::root_copy;
-use testing::trees::{
+use sample_trees::root_pages::root_copy;
+use sample_trees::trees::{
     FORMATS, Tree, copy, defined_root, empty, gives_its_list, keys_of, put, tree, tree_in,
 };
 

@@ -5,7 +5,7 @@ use merkle_search_tree::MerkleSearchTree;
 use merkle_search_tree::builder::PageFormat;
 use std::alloc::Global;
 use std::test::Fail;
-use testing::trees::{
+use sample_trees::trees::{
     FORMATS, Tree, copy, defined_root, hashed_in, keys_of, nodes, put, tree_in, tree_of,
 };
 use testing::{Value, number_key};

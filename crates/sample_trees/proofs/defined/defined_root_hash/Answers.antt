@@ -1,8 +1,8 @@
 use Rattle.std.proofs.Common.{ℕ, [], sym, ◌∙◌}
 use Rattle.merkle_digest.specs.Level.{level_of}
 use Rattle.merkle_digest.specs.SipHash.{zero_key}
-use Rattle.testing.proofs.Scan.{tree-digest, tree-empty}
-use Rattle.testing.proofs.defined.defined_root_hash.Goals as goal
+use Rattle.sample_trees.proofs.Scan.{tree-digest, tree-empty}
+use Rattle.sample_trees.proofs.defined.defined_root_hash.Goals as goal
 
 pub returns-in-Some : goal.returns-in-Some
 returns-in-Some g c =

@@ -3,8 +3,8 @@ use Rattle.merkle_digest.specs.Level.{level_of}
 use Rattle.merkle_digest.specs.Sip24.{Holds}
 use Rattle.merkle_digest.specs.SipHash.{zero_key}
 use Rattle.merkle_search_tree.specs.Stream.{head_bytes}
-use Rattle.testing.proofs.Scan.{part, left}
-use Rattle.testing.proofs.defined.+defined_digest.Given as goal
+use Rattle.sample_trees.proofs.Scan.{part, left}
+use Rattle.sample_trees.proofs.defined.+defined_digest.Given as goal
 
 abbrev pub decreases-defined_digest : goal.decreases-defined_digest
 decreases-defined_digest g l = l.bound

@@ -1,6 +1,6 @@
 use Rattle.std.proofs.Common.{◌≡◌, ◌==◌, ◌≤◌, take, count_by}
 use Rattle.merkle_digest.specs.Level.{level_of}
-use Rattle.testing.proofs.defined.count_at.Given as goal
+use Rattle.sample_trees.proofs.defined.count_at.Given as goal
 
 -- the keys so far are counted
 abbrev pub invariant-keys : goal.invariant-keys

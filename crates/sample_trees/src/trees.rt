@@ -1,12 +1,12 @@
 //! Trees whose keys stand on given levels.
 
 use crate::defined::defined_root_hash;
-use crate::{LevelHasher, Value, number_key};
 use merkle_digest::{Hasher, KeyBytes, RootHash, ValueDigest};
 use merkle_search_tree::MerkleSearchTree;
 use merkle_search_tree::builder::{Builder, PageFormat};
 use std::alloc::{AllocError, Global};
 use std::test::Fail;
+use testing::{LevelHasher, Value, number_key};
 
 /// A tree of number keys, with digests of 32 bytes.
 pub type Tree = MerkleSearchTree<[u8; 2], Value, LevelHasher<[u8; 2]>, 32>;

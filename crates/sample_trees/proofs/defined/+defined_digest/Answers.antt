@@ -3,10 +3,10 @@ use Rattle.merkle_digest.specs.Level.{level_of}
 use Rattle.merkle_digest.specs.Sip24.{Holds}
 use Rattle.merkle_digest.specs.SipHash.{siphash128, zero_key}
 use Rattle.merkle_search_tree.specs.Stream.{head_bytes, key_bytes}
-use Rattle.testing.specs.Defined.{written}
-use Rattle.testing.proofs.Scan.{left, node-step, run-step, last-step, gap-here, gap-lower}
-use Rattle.testing.proofs.defined.+defined_digest.Goals as goal
-use Rattle.testing.proofs.defined.+defined_digest.Goals.{then-level_of_key-page_level, else-level_of_key-page_level}
+use Rattle.sample_trees.specs.Defined.{written}
+use Rattle.sample_trees.proofs.Scan.{left, node-step, run-step, last-step, gap-here, gap-lower}
+use Rattle.sample_trees.proofs.defined.+defined_digest.Goals as goal
+use Rattle.sample_trees.proofs.defined.+defined_digest.Goals.{then-level_of_key-page_level, else-level_of_key-page_level}
 
 pub pairs-preserved : goal.pairs-preserved
 pairs-preserved g t c =

@@ -9,7 +9,7 @@ use Rattle.merkle_search_tree.specs.Page.{row_nodes}
 use Rattle.merkle_search_tree.specs.Stream.{page_digest, row_stream, held_stream, head_bytes, none_bytes, key_bytes}
 use Rattle.merkle_search_tree.specs.declared.builder.PageFormat.{PageFormat}
 use Rattle.merkle_search_tree.specs.TreeOf.{any_at, row_of, gap_of, root_of, tree_of}
-use Rattle.testing.specs.Defined.{gap_digest, written}
+use Rattle.sample_trees.specs.Defined.{gap_digest, written}
 
 -- the part of a list from start to i
 abbrev pub part : {A : Type 0} → List A → ℕ → ℕ → List A

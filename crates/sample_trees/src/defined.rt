@@ -5,7 +5,7 @@ ghost use Rattle.merkle_digest.specs.Level.{level_of};
 ghost use Rattle.merkle_digest.specs.Sip24.{Holds};
 ghost use Rattle.merkle_search_tree.specs.TreeOf.{gap_of, tree_of};
 ghost use Rattle.merkle_search_tree.specs.Stream.{page_digest, head_bytes, key_bytes};
-ghost use Rattle.testing.specs.Defined.{gap_digest, written};
+ghost use Rattle.sample_trees.specs.Defined.{gap_digest, written};
 
 use merkle_digest::{
     Hasher, KeyBytes, PageDigest, RootHash, Sip24, ValueDigest, default_level_base, level,

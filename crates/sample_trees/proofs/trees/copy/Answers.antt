@@ -1,6 +1,6 @@
 use Rattle.std.proofs.Common.{arith}
 use Rattle.testing.proofs.Clones.{tied_clones}
-use Rattle.testing.proofs.trees.copy.Goals as goal
+use Rattle.sample_trees.proofs.trees.copy.Goals as goal
 
 pub try_clone-requires : goal.try_clone-requires
 try_clone-requires c = (omega arith, (λ a b h. tied_clones a b h.whole, λ a b h k. cc))
