@@ -2,7 +2,7 @@
 -- A word is a number below 2 ^ 64, and a key and a message are lists of bytes.
 use Rattle.std.specs.Prelude.{ℕ, zero, suc, ◌+◌, ◌-◌, ◌*◌, ◌/◌, ◌%◌, ◌^◌, List, [], ◌∷◌, ◌++◌, length, take, drop, replicate, fold, bit_xor}
 use Rattle.std.specs.Int.{w64, rotate_left, from_le_bytes, to_le_bytes}
-use Rattle.merkle_digest.specs.declared.siphash.state.State.{State}
+use Rattle.merkle_digest.specs.declared.siphash.state.SipState.{SipState}
 
 -- the sum of two words, modulo 2 ^ 64
 abbrev pub add64 : ℕ → ℕ → ℕ
@@ -17,7 +17,7 @@ abbrev pub word_at : List ℕ → ℕ → ℕ
 word_at bytes n = word (take 8 (drop (8 * n) bytes))
 
 -- the state before the first word, under a key of 16 bytes
-unfoldable pub start : List ℕ → State
+unfoldable pub start : List ℕ → SipState
 start key = record {
   v0 = bit_xor (word_at key 0) 0x736f6d6570736575;
   v1 = bit_xor (bit_xor (word_at key 1) 0x646f72616e646f6d) 0xee;
@@ -26,7 +26,7 @@ start key = record {
 }
 
 -- one round
-unfoldable pub round : State → State
+unfoldable pub round : SipState → SipState
 round s =
     let a0 = add64 s.v0 s.v1 in
     let a1 = bit_xor (rotate_left w64 s.v1 13) a0 in
@@ -39,7 +39,7 @@ round s =
     record { v0 = b0; v1 = b1; v2 = rotate_left w64 b2 32; v3 = b3 }
 
 -- the state after one more word: two rounds
-unfoldable pub absorb_word : State → ℕ → State
+unfoldable pub absorb_word : SipState → ℕ → SipState
 absorb_word s m =
     let mixed = round (round (record s { v3 = bit_xor s.v3 m })) in
     record mixed { v0 = bit_xor mixed.v0 m }
@@ -59,15 +59,15 @@ abbrev pub words : List ℕ → List ℕ
 words message = first_words message (length message / 8) ++ last_word message ∷ []
 
 -- four rounds
-abbrev pub four_rounds : State → State
+abbrev pub four_rounds : SipState → SipState
 four_rounds s = round (round (round (round s)))
 
 -- the four words of a state as one
-abbrev pub folded : State → ℕ
+abbrev pub folded : SipState → ℕ
 folded s = bit_xor (bit_xor (bit_xor s.v0 s.v1) s.v2) s.v3
 
 -- the 16 bytes of output of the state after the last word: two halves, with four rounds before each
-unfoldable pub output : State → List ℕ
+unfoldable pub output : SipState → List ℕ
 output s =
     let first = four_rounds (record s { v2 = bit_xor s.v2 0xee }) in
     let second = four_rounds (record first { v1 = bit_xor first.v1 0xdd }) in

@@ -5,21 +5,21 @@ ghost use Rattle.merkle_digest.specs.SipHash.{word, start, round, absorb_word, f
 
 /// The state of SipHash-2-4 with 128 bits of output, between words of the message.
 #[derive(Clone, Copy, Debug)]
-pub struct State {
+pub struct SipState {
     v0: u64,
     v1: u64,
     v2: u64,
     v3: u64,
 }
 
-impl State {
+impl SipState {
     /// The state before the first word.
     pub fn start(key: &[u8; 16]) -> Self
         ensures { result ≡ start key.now }
     {
         let k0 = read_word(key, 0);
         let k1 = read_word(key, 8);
-        State {
+        SipState {
             v0: k0 ^ 0x736f_6d65_7073_6575,
             v1: k1 ^ 0x646f_7261_6e64_6f6d ^ 0xee,
             v2: k0 ^ 0x6c79_6765_6e65_7261,

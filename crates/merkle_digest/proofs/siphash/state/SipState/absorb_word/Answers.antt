@@ -1,6 +1,6 @@
 use Rattle.std.proofs.Common.{rules}
 use Rattle.merkle_digest.specs.SipHash.{absorb_word}
-use Rattle.merkle_digest.proofs.siphash.state.State.absorb_word.Goals as goal
+use Rattle.merkle_digest.proofs.siphash.state.SipState.absorb_word.Goals as goal
 
 pub returns : goal.returns
 unfolding absorb_word

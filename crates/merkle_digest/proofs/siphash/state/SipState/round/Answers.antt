@@ -1,6 +1,6 @@
 use Rattle.std.proofs.Common.{rules}
 use Rattle.merkle_digest.specs.SipHash.{round}
-use Rattle.merkle_digest.proofs.siphash.state.State.round.Goals as goal
+use Rattle.merkle_digest.proofs.siphash.state.SipState.round.Goals as goal
 
 pub returns : goal.returns
 unfolding round
