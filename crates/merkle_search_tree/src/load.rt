@@ -169,7 +169,8 @@ impl<
     /// [`LoadRefused::NotAscending`] at the first row whose key isn't above that of the row before it, with its place, and
     /// [`LoadRefused::Memory`] where memory is refused, for a clone of a key too. The builder is then given up.
     ///
-    /// For keys that are texts or bytes, `key_order::proofs::Clones` has the lemmas that prove its condition on clones.
+    /// Its condition on clones is proved by a lemma of `key_order::proofs::Clones`: `string_clone`, `vec_clone` or `array_clone` for texts,
+    /// vectors and arrays of bytes, `exact_clone` for what a clone gives back as it is.
     pub fn from_ascending_slice(
         alloc: Global,
         builder: Builder<H>,

@@ -216,7 +216,8 @@ impl<K: Ord + KeyBytes + Clone, V, H: Hasher<N, K> + Clone, const N: usize> Merk
     ///
     /// `AllocError` where memory is refused: for a page or its nodes, or for the clone of a key or of the hasher.
     ///
-    /// For keys that are texts or bytes, `key_order::proofs::Clones` has the lemmas that prove its condition on clones.
+    /// Its condition on clones is proved by a lemma of `key_order::proofs::Clones`: `string_clone`, `vec_clone` or `array_clone` for texts,
+    /// vectors and arrays of bytes, `exact_clone` for what a clone gives back as it is.
     pub fn try_clone(&self) -> Result<Self, AllocError>
         // A clone of a key equals the key, and a clone of a hasher gives the digests that the hasher gives.
         requires keys { (a b : K) → K.is_clone a b → Same K.cmp a b }
