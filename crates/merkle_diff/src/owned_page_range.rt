@@ -85,6 +85,9 @@ impl<K: Ord + Clone> OwnedPageRange<K> {
 
     /// The range with clones of its keys. The allocator is not used: a key is cloned on its own.
     ///
+    /// Its condition on clones is proved by a lemma of `key_order::proofs::Clones`: `string_clone`, `vec_clone` or `array_clone` for texts,
+    /// vectors and arrays of bytes, `exact_clone` for what a clone gives back as it is.
+    ///
     /// # Errors
     ///
     /// `AllocError` where the clone of a key is refused, and only there.
@@ -105,7 +108,8 @@ impl<K: Ord + Clone> OwnedPageRange<K> {
         })
     }
 
-    /// An equal range, with clones of the keys. The allocator is not used: a key is cloned on its own.
+    /// An equal range, with clones of the keys. The allocator is not used: a key is cloned on its own. Its condition on clones is that of
+    /// [`from_range`](Self::from_range).
     ///
     /// # Errors
     ///

@@ -80,6 +80,9 @@ impl<K: Ord + Drop> PageRangeSnapshot<K> {
 impl<K: Ord + Clone> PageRangeSnapshot<K> {
     /// The snapshot of `ranges`, in their order, with clones of the keys.
     ///
+    /// Its condition on clones is proved by a lemma of `key_order::proofs::Clones`: `string_clone`, `vec_clone` or `array_clone` for texts,
+    /// vectors and arrays of bytes, `exact_clone` for what a clone gives back as it is.
+    ///
     /// # Errors
     ///
     /// Want of memory, for the snapshot or for the clone of a key.
@@ -94,7 +97,7 @@ impl<K: Ord + Clone> PageRangeSnapshot<K> {
     }
 
     /// The snapshot of the ranges that `iter` gives, in their order, with clones of the keys. The iterator has to end, and is
-    /// taken to its end unless memory is refused.
+    /// taken to its end unless memory is refused. Its condition on clones is that of [`from_ranges`](Self::from_ranges).
     ///
     /// # Errors
     ///
@@ -116,7 +119,7 @@ impl<K: Ord + Clone> PageRangeSnapshot<K> {
         PageRangeSnapshot::from_owned(alloc, ranges)
     }
 
-    /// An equal snapshot, with clones of the keys.
+    /// An equal snapshot, with clones of the keys. Its condition on clones is that of [`from_ranges`](Self::from_ranges).
     ///
     /// # Errors
     ///

@@ -37,7 +37,7 @@ impl<'a, K: Ord> RangeList<'a, K> {
         }
     }
 
-    /// Inserts the range from `start` to `end`, both in it.
+    /// Inserts the range from `start` to `end`, both in it, behind those that are there, whatever their order.
     ///
     /// # Errors
     ///

@@ -1,6 +1,6 @@
 //! `diff`, by answers that were worked out by hand and by those of the Rust crate.
 use super::rust_answers::RUST_ANSWERS;
-use super::texts::{Bounds, Row, bounds_of, difference, page_ranges, ranges, rows};
+use super::texts::{Bounds, Entry, bounds_of, difference, entries, page_ranges, ranges};
 use crate::{PageRange, diff, diff_slices};
 use merkle_digest::PageDigest;
 use std::alloc::{AllocError, Global};
@@ -25,7 +25,7 @@ const WORKED_ANSWERS: &str = "\
 ";
 
 /// What `diff_slices` answers.
-fn sliced(alloc: Global, local: &[Row], peer: &[Row]) -> Result<Vec<Bounds>, AllocError> {
+fn sliced(alloc: Global, local: &[Entry], peer: &[Entry]) -> Result<Vec<Bounds>, AllocError> {
     let local = page_ranges(alloc, local)?;
     let peer = page_ranges(alloc, peer)?;
     let found = diff_slices(alloc, &local, &peer)?;
@@ -36,8 +36,8 @@ fn answers_as_told(rt: &impl Abort, alloc: Global, text: &str) -> Result<(), Fai
     for line in text.lines() {
         let (local, rest) = line.split_once('|').ok_or("no peer")?;
         let (peer, answer) = rest.split_once('|').ok_or("no answer")?;
-        let local = rows(alloc, local)?;
-        let peer = rows(alloc, peer)?;
+        let local = entries(alloc, local)?;
+        let peer = entries(alloc, peer)?;
         let answer = ranges(alloc, answer)?;
         let found = difference(alloc, &local, &peer)?;
         assert_eq!(rt; found.as_slice(), answer.as_slice(), "at {line}");
@@ -60,12 +60,12 @@ fn answers_as_the_rust_crate(rt: HostRuntime) -> Result<(), Fail> {
 }
 
 /// The page ranges from `i` to `200000 - i` for `i` from 0 to 99,999, all with this digest.
-fn nested(alloc: Global, digest: u8) -> Result<Vec<Row>, AllocError> {
-    let mut rows = Vec::with_capacity(alloc, 100_000)?;
+fn nested(alloc: Global, digest: u8) -> Result<Vec<Entry>, AllocError> {
+    let mut entries = Vec::with_capacity(alloc, 100_000)?;
     for i in 0..100_000u64 {
-        rows.push((i, 200_000 - i, digest))?;
+        entries.push((i, 200_000 - i, digest))?;
     }
-    Ok(rows)
+    Ok(entries)
 }
 
 #[test]
@@ -78,12 +78,12 @@ fn answers_on_100_000_nested_ranges(rt: HostRuntime) -> Result<(), Fail> {
 }
 
 /// As many times the page range from 0 to 9, with this digest.
-fn equal(alloc: Global, digest: u8, count: usize) -> Result<Vec<Row>, AllocError> {
-    let mut rows = Vec::with_capacity(alloc, count)?;
+fn equal(alloc: Global, digest: u8, count: usize) -> Result<Vec<Entry>, AllocError> {
+    let mut entries = Vec::with_capacity(alloc, count)?;
     for _ in 0..count {
-        rows.push((0, 9, digest))?;
+        entries.push((0, 9, digest))?;
     }
-    Ok(rows)
+    Ok(entries)
 }
 
 #[test]
@@ -101,7 +101,7 @@ fn answers_on_100_000_equal_ranges(rt: HostRuntime) -> Result<(), Fail> {
 }
 
 /// A local list, the peer's list, and the ranges.
-const REFUSED: [(&[Row], &[Row], &[Bounds]); 3] = [
+const REFUSED: [(&[Entry], &[Entry], &[Bounds]); 3] = [
     (
         &[(1, 4, 1), (1, 2, 2), (4, 4, 3)],
         &[(1, 5, 4), (1, 2, 2), (5, 5, 5)],
@@ -120,7 +120,7 @@ const REFUSED: [(&[Row], &[Row], &[Bounds]); 3] = [
 ];
 
 /// Asserts that the ranges to ask for are these, or want of memory.
-fn expect(rt: &impl Abort, alloc: Global, local: &[Row], peer: &[Row], answer: &[Bounds]) {
+fn expect(rt: &impl Abort, alloc: Global, local: &[Entry], peer: &[Entry], answer: &[Bounds]) {
     if let Ok(found) = difference(alloc, local, peer) {
         assert_eq!(rt; found.as_slice(), answer);
     }

@@ -5,7 +5,7 @@ use std::alloc::{AllocError, Global};
 use std::test::Fail;
 
 /// A page range: its bounds, and the byte of its digest.
-pub type Row = (u64, u64, u8);
+pub type Entry = (u64, u64, u8);
 
 /// The bounds of a range.
 pub type Bounds = (u64, u64);
@@ -16,14 +16,14 @@ fn bounds(word: &str) -> Result<Bounds, Fail> {
 }
 
 /// The page ranges of a text.
-pub fn rows(alloc: Global, text: &str) -> Result<Vec<Row>, Fail> {
-    let mut rows = Vec::new(alloc);
+pub fn entries(alloc: Global, text: &str) -> Result<Vec<Entry>, Fail> {
+    let mut entries = Vec::new(alloc);
     for word in text.split_whitespace() {
         let (range, digest) = word.split_once(':').ok_or("no digest")?;
         let (start, end) = bounds(range)?;
-        rows.push((start, end, digest.parse::<u8>()?))?;
+        entries.push((start, end, digest.parse::<u8>()?))?;
     }
-    Ok(rows)
+    Ok(entries)
 }
 
 /// The ranges of a text.
@@ -35,11 +35,18 @@ pub fn ranges(alloc: Global, text: &str) -> Result<Vec<Bounds>, Fail> {
     Ok(ranges)
 }
 
-/// The page ranges of rows. A row whose bounds are not in order is left out.
-pub fn page_ranges(alloc: Global, rows: &[Row]) -> Result<Vec<PageRange<'_, u64>>, AllocError> {
-    let mut ranges = Vec::with_capacity(alloc, rows.len())?;
-    for row in rows {
-        if let Some(range) = PageRange::try_new(&row.0, &row.1, PageDigest::new([row.2; 16])) {
+/// The page ranges of entries. One whose bounds are not in order is left out.
+pub fn page_ranges(
+    alloc: Global,
+    entries: &[Entry],
+) -> Result<Vec<PageRange<'_, u64>>, AllocError> {
+    let mut ranges = Vec::with_capacity(alloc, entries.len())?;
+    for entry in entries {
+        if let Some(range) = PageRange::try_new(
+            &entry.0,
+            &entry.1,
+            PageDigest::new([entry.2; 16]),
+        ) {
             ranges.push(range)?;
         }
     }
@@ -56,7 +63,11 @@ pub fn bounds_of(alloc: Global, ranges: &[DiffRange<'_, u64>]) -> Result<Vec<Bou
 }
 
 /// What `diff` answers.
-pub fn difference(alloc: Global, local: &[Row], peer: &[Row]) -> Result<Vec<Bounds>, AllocError> {
+pub fn difference(
+    alloc: Global,
+    local: &[Entry],
+    peer: &[Entry],
+) -> Result<Vec<Bounds>, AllocError> {
     let found = diff(alloc, page_ranges(alloc, local)?, page_ranges(alloc, peer)?)?;
     bounds_of(alloc, &found)
 }
