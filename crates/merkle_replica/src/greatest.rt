@@ -1,4 +1,5 @@
 //! Values of which the greatest stays.
+ghost use Rattle.std.specs.Prelude.{◌≡◌};
 ghost use Rattle.std.specs.Cmp.Rules.{comparing};
 ghost use Rattle.std.proofs.Common.{rules};
 
@@ -21,7 +22,10 @@ impl<T: Ord + Copy> Join for Greatest<T> {
 
     ghost joining = { greater_joining (λ (a : Self) (b : Self). T.cmp a.0 b.0) (Prim.search (comparing, rules)) (λ (a : Self) (b : Self). T.eq a.0 b.0) (Prim.search (comparing, rules)) };
 
-    fn join(&self, _alloc: Global, other: &Self) -> Result<Self, AllocError> {
+    /// The greater value, and of two equal ones the other. It is never refused.
+    fn join(&self, _alloc: Global, other: &Self) -> Result<Self, AllocError>
+        ensures { result ≡ Ok (ord_max (λ a b. T.cmp a.0 b.0) self.now other.now) }
+    {
         Ok((*self).max(*other))
     }
 }

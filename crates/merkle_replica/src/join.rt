@@ -23,8 +23,8 @@ pub trait Join: Eq {
     ///
     /// # Errors
     ///
-    /// `AllocError` where memory for the join is refused, and nowhere else. The joins of numbers and of `()` take none and are
-    /// never refused.
+    /// `AllocError` where memory for the join is refused, and nowhere else. The joins of numbers, of [`Greatest`](crate::Greatest)
+    /// and of `()` take none and are never refused.
     fn join(&self, alloc: Global, other: &Self) -> Result<Self, AllocError>
         ensures { IfOk result (λ both. Self.eq both (join_of self.now other.now) ≡ true) };
 

@@ -1,4 +1,5 @@
-//! Laws over the definitions alone, of maps whose trees are in page format 2. Each function has no effect and takes no memory.
+//! Laws over the definitions alone: what is premise enough in page format 2, that a map in memory is small, and that three steps are a
+//! pull. Each function has no effect and takes no memory.
 
 ghost use Rattle.std.specs.Prelude.{◌≡◌, ℕ, ◌≤◌, List, length};
 ghost use Rattle.key_order.specs.Interval.{Span};

@@ -3,6 +3,7 @@
 //! A [`Replica`] keeps its rows with the Merkle search tree of the digests of its values (`Contents`). Replicas pull from each
 //! other what their trees show to differ (`Pulls`), and after four pulls by turns hold the join of their maps while digests are
 //! faithful (`Faithful`). A pull can also be made in three steps, with whatever lies between two machines between them (`Steps`).
+//! Such replicas are those of Auvolat and Taïani, "Merkle Search Trees: Efficient State-Based CRDTs in Open Networks".
 #![tactic(auto)]
 
 mod faults;

@@ -50,10 +50,15 @@ impl<
     const N: usize,
 > Replica<K, V, H, N> {
     /// The ranges of keys that a pull from the peer asks for: ascending, each with its first and its last key, in which the two trees
-    /// differ. It hashes both trees, and copies the bounds of the ranges. Want of memory leaves the rows as they are, and both trees
-    /// hashed.
+    /// differ. It hashes the pages of both trees that lack a digest, walks over the pages of both once, and copies the bounds of the
+    /// ranges.
     ///
-    /// For keys that are texts or bytes, `key_order::proofs::Clones` has the lemmas that prove its condition on clones.
+    /// Its condition on clones is proved by a lemma of `key_order::proofs::Clones`: `string_clone`, `vec_clone` or `array_clone` for texts,
+    /// vectors and arrays of bytes, `exact_clone` for what a clone gives back as it is.
+    ///
+    /// # Errors
+    ///
+    /// `AllocError` where memory is refused; the rows are then as they were, and both trees hashed.
     pub fn ranges_to_ask(
         &mut self,
         peer: &mut Replica<K, V, H, N>,
@@ -86,7 +91,12 @@ impl<
     /// Replicas of equal rows whose trees are in different page formats don't look the same, as far as no digests collide: a pull then
     /// asks for ranges, and joins what is there already. Whatever it joins is right all the same, and no row is lost.
     ///
-    /// For keys that are texts or bytes, `key_order::proofs::Clones` has the lemmas that prove its condition on clones.
+    /// Its condition on clones is proved by a lemma of `key_order::proofs::Clones`: `string_clone`, `vec_clone` or `array_clone` for texts,
+    /// vectors and arrays of bytes, `exact_clone` for what a clone gives back as it is.
+    ///
+    /// # Errors
+    ///
+    /// [`PullError`] where memory is refused, by which no row is joined, or the first ones in key order and not all.
     pub fn pull(&mut self, peer: &mut Replica<K, V, H, N>) -> Result<Pulled<K>, PullError<K>>
         // A clone of a key equals its original.
         requires clones { (a b : K) → K.is_clone a b → Same K.cmp a b }

@@ -26,8 +26,13 @@ impl<
     /// of them is made first, and own rows from the first of them on are moved out of the way and back. A put of each moves the rows
     /// behind it instead, so this is for many rows.
     ///
-    /// Where memory is refused, the first rows in key order are joined, those of equal keys in the order in which they came, and the
-    /// others are given up. An empty list is never refused.
+    /// Its condition on clones is proved by a lemma of `key_order::proofs::Clones`: `string_clone`, `vec_clone` or `array_clone` for texts,
+    /// vectors and arrays of bytes, `exact_clone` for what a clone gives back as it is.
+    ///
+    /// # Errors
+    ///
+    /// [`PutsCut`] where memory is refused: the first rows in key order are joined, those of equal keys in the order in which they came,
+    /// and the others are given up. An empty list is never refused.
     pub fn put_all(&mut self, rows: Vec<(K, V)>) -> Result<(), PutsCut>
         // A clone of a key equals its original.
         requires clones { (a b : K) → K.is_clone a b → Same K.cmp a b }

@@ -24,9 +24,17 @@ use std::marker::Model;
 /// A map from keys to values that can be joined, kept as rows in ascending key order, and the Merkle search tree of the digests of
 /// the values. Rows and tree never part, also where memory is refused.
 ///
-/// A contract sees the rows, and the tree as its hasher, its level base, its page format, its root page with all caches, and its cached root hash.
+/// ```rust
+/// let mut a: Replica<String, u64, SipHasher, 16> = Replica::new(alloc, Builder::default());
+/// a.put(key, 42)?;
+/// // a joins what b has in the ranges of keys in which they differ
+/// let _pulled = a.pull(b)?;
+/// // both come to hold the join of their maps
+/// pull_by_turns(alloc, &mut a, b, 4)?;
+/// ```
 ///
-/// The replica keeps the allocator that it was made with.
+/// A contract sees the rows, and the tree as its hasher, its level base, its page format, its root page with all caches, and its cached
+/// root hash. The replica keeps the allocator that it was made with.
 #[derive(Drop)]
 pub struct Replica<
     K: Ord + KeyBytes + Clone,
@@ -141,12 +149,15 @@ impl<
     const N: usize,
 > Replica<K, V, H, N> {
     /// Joins a row: a new key is added, and a key that is there holds the join of both values. It finds the key's place by
-    /// halving, and moves the rows behind a new one up by one: at a random place half of them, which takes 7 µs at 25,000 rows, 39 at
-    /// 100,000 and 761 at a million. [`put_all`](Self::put_all) is for many rows.
+    /// halving, and moves the rows behind a new one up by one: at a random place half of them. [`put_all`](Self::put_all) is for many
+    /// rows. The tree then takes the value's digest, as [`MerkleSearchTree::upsert`] says.
     ///
-    /// Where memory is refused, the replica is unchanged, and key and value are given up.
+    /// Its condition on clones is proved by a lemma of `key_order::proofs::Clones`: `string_clone`, `vec_clone` or `array_clone` for texts,
+    /// vectors and arrays of bytes, `exact_clone` for what a clone gives back as it is.
     ///
-    /// For keys that are texts or bytes, `key_order::proofs::Clones` has the lemmas that prove its condition on clones.
+    /// # Errors
+    ///
+    /// `AllocError` where memory is refused; the replica is then unchanged, and key and value are given up.
     pub fn put(&mut self, key: K, value: V) -> Result<(), AllocError>
         // A clone of a key equals its original.
         requires clones { (a b : K) → K.is_clone a b → Same K.cmp a b }
@@ -197,8 +208,12 @@ impl<
     /// are not merged. Answers true where a row was taken out, and false where there was none.
     ///
     /// It finds the row by halving, and moves the rows behind it down by one; the tree then compares `key` and joins pages as
-    /// [`MerkleSearchTree::remove`] says. It is refused only for want of memory, and then leaves rows and tree as they were. No memory
-    /// is taken where there is no such row, or where in the tree the gap before its key or the gap after it is empty.
+    /// [`MerkleSearchTree::remove`] says. No memory is taken where there is no such row, or where in the tree the gap before its key or
+    /// the gap after it is empty.
+    ///
+    /// # Errors
+    ///
+    /// `AllocError` where memory is refused; rows and tree are then as they were.
     pub fn del(&mut self, key: &K) -> Result<bool, AllocError>
         // The rows no longer have the key, and the answer says whether they had it.
         ensures rows { OnOk result (self.new.rows ≡ del K.cmp self.old.rows key.now) }
@@ -244,10 +259,15 @@ impl<
     /// A replica of rows that ascend strictly by key, whose tree has the builder's hasher, level base and page format. It takes the rows
     /// over as they are: no row is moved, and each key is cloned once, for the tree.
     ///
-    /// The tree is built in one pass, as [`MerkleSearchTree::from_ascending_slice`] says. Refused, at the first row that doesn't
-    /// ascend or for want of memory, it hands the rows back, and the builder is given up.
+    /// The tree is built in one pass, as [`MerkleSearchTree::from_ascending_slice`] says.
     ///
-    /// For keys that are texts or bytes, `key_order::proofs::Clones` has the lemmas that prove its condition on clones.
+    /// Its condition on clones is proved by a lemma of `key_order::proofs::Clones`: `string_clone`, `vec_clone` or `array_clone` for texts,
+    /// vectors and arrays of bytes, `exact_clone` for what a clone gives back as it is.
+    ///
+    /// # Errors
+    ///
+    /// [`RowsRefused`], at the first row that doesn't ascend or where memory is refused: it hands the rows back, and the builder is given
+    /// up.
     pub fn from_rows(
         alloc: Global,
         builder: Builder<H>,

@@ -36,7 +36,14 @@ impl<
     /// The first step of a pull: the ranges of keys to ask a peer for that sent these page ranges, ascending, each with its first and
     /// its last key. Any list will do; where it is that of the peer's tree, the ranges are those of a pull.
     ///
-    /// It hashes the tree, and copies the bounds of the ranges. Want of memory leaves the rows as they are, and the tree hashed.
+    /// It hashes the pages of the tree that lack a digest, walks over its pages and the list once, and copies the bounds of the ranges.
+    ///
+    /// Its condition on clones is proved by a lemma of `key_order::proofs::Clones`: `string_clone`, `vec_clone` or `array_clone` for texts,
+    /// vectors and arrays of bytes, `exact_clone` for what a clone gives back as it is.
+    ///
+    /// # Errors
+    ///
+    /// `AllocError` where memory is refused; the rows are then as they were, and the tree hashed.
     pub fn ranges_to_ask_of(
         &mut self,
         theirs: &PageRangeSnapshot<K>,
@@ -68,11 +75,18 @@ impl<
         }
     }
 
-    /// The third step of a pull: joins rows that came, strictly ascending by key, in one pass. Rows that don't ascend are handed back, and
-    /// the replica is as before.
+    /// The third step of a pull: joins rows that came, strictly ascending by key, in one pass.
     ///
     /// Room for all of them is made before the first is joined. Own rows below the first of them stay where they are; those from it on
     /// are moved out of the way and back.
+    ///
+    /// Its condition on clones is proved by a lemma of `key_order::proofs::Clones`: `string_clone`, `vec_clone` or `array_clone` for texts,
+    /// vectors and arrays of bytes, `exact_clone` for what a clone gives back as it is.
+    ///
+    /// # Errors
+    ///
+    /// [`JoinRefused::NotAscending`] hands back rows that don't ascend, and the replica is as before. [`JoinRefused::Memory`] where memory
+    /// is refused: the first rows are joined and not all, and the others are given up.
     pub fn join_rows(&mut self, rows: Vec<(K, V)>) -> Result<(), JoinRefused<K, V>>
         // A clone of a key equals its original.
         requires clones { (a b : K) → K.is_clone a b → Same K.cmp a b }

@@ -23,14 +23,21 @@ pub struct TurnsError<K> {
     pub fault: PullError<K>,
 }
 
-/// Makes `n` pulls by turns, the first of them by `a`, and answers what they did. The memory for the list of answers is taken
-/// first: where it is refused, no pull is made, and the fault is [`PullError::Memory`].
+/// Makes `n` pulls by turns, the first of them by `a`, and answers what they did. It costs what `n` pulls do
+/// ([`Replica::pull`](crate::Replica::pull)), of which those after the fourth bring nothing new while digests don't collide. The memory
+/// for the list of answers is taken first.
 ///
 /// Four pulls or more leave both replicas with the join of their maps, while no digests collide: with fewer, a row of one replica
 /// can be missing in the other. That holds of any two hashers, level bases and page formats; but only replicas that digest alike spare
 /// each other what they share.
 ///
-/// For keys that are texts or bytes, `key_order::proofs::Clones` has the lemmas that prove its condition on clones.
+/// Its condition on clones is proved by a lemma of `key_order::proofs::Clones`: `string_clone`, `vec_clone` or `array_clone` for texts,
+/// vectors and arrays of bytes, `exact_clone` for what a clone gives back as it is.
+///
+/// # Errors
+///
+/// [`TurnsError`] where memory is refused: the pulls that were made, and what came in place of the next one. Where the list of answers
+/// is refused, no pull is made, and the fault is [`PullError::Memory`].
 pub fn pull_by_turns<
     K: Ord + KeyBytes + Clone + Drop,
     V: Join + Drop,
