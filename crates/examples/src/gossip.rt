@@ -15,7 +15,7 @@ use merkle_search_tree::laws::{a_map_has_one_tree, every_tree_is_sound};
 use std::alloc::{AllocError, Global};
 
 /// The ranges of keys that a replica asks a peer for: none where their root hashes are equal, for which no page range is listed;
-/// else those in which the page ranges of both trees differ.
+/// else those in which the page ranges of both trees differ. Its condition on clones is that of [`Replica::ranges_to_ask`].
 ///
 /// # Errors
 ///
@@ -47,6 +47,10 @@ pub fn ranges_to_ask<
 
 /// Replicas of equal maps, whose hashers give each key one digest, with one level base and page format, ask each other for nothing and
 /// take no memory for it.
+///
+/// # Errors
+///
+/// None: it answers the empty list.
 pub fn equal_maps_ask_for_nothing<
     K: Ord + KeyBytes + Clone + Drop,
     V: Join + Drop,

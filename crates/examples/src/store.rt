@@ -36,6 +36,10 @@ pub fn open_rows<V: Join + HashBytes + Drop>(
 }
 
 /// The root hash of a store of numbers: the digest of the root page of the tree of its rows. It fills in the digests that are missing.
+///
+/// # Errors
+///
+/// That of a digest's clone, which takes no memory.
 pub fn root_hash(store: &mut Store<u64>) -> Result<RootHash, AllocError>
     ensures digest { IfOk result (λ digest. IsRootHashOf (to_le_bytes w64) store.old.tree.hasher store.old.tree.base store.old.tree.format store.old.rows digest) }
     ensures rows { store.new.rows ≡ store.old.rows }

@@ -12,6 +12,7 @@ use merkle_replica::{Join, Lawful, Replica, TurnsError, pull_by_turns};
 use std::alloc::Global;
 
 /// Brings two replicas to the same map, the join of both: while digests are faithful in what is met before each of the four pulls.
+/// Its condition on clones is that of [`pull_by_turns`].
 ///
 /// # Errors
 ///
@@ -38,7 +39,7 @@ pub fn sync<
 
 /// The same for replicas whose hashers give each key one digest, with one level base, in page format 2, for keys that their bytes tell
 /// apart: it is enough that no two unequal page streams have one digest and that equal digests of values mean equal values, in what is
-/// met before each of the four pulls.
+/// met before each of the four pulls. Its condition on clones is that of [`pull_by_turns`].
 ///
 /// # Errors
 ///
