@@ -1,8 +1,8 @@
 //! The digests that the hashers of the tests give, and their clones.
 
 use merkle_digest::{Hasher, SipHasher, default_level_base, level};
-use std::test::Fail;
 use sample_trees::trees::hasher;
+use std::test::Fail;
 use testing::{LevelHasher, number_key};
 
 #[test]

@@ -5,10 +5,10 @@ use merkle_diff::diff;
 use merkle_digest::{Hasher, KeyBytes};
 use merkle_search_tree::MerkleSearchTree;
 use merkle_search_tree::builder::Builder;
-use std::alloc::{AllocError, Global};
-use std::test::Fail;
 use sample_trees::tally::Tally;
 use sample_trees::trees::value_at;
+use std::alloc::{AllocError, Global};
+use std::test::Fail;
 use testing::{CaselessText, DescendingNumber, LevelHasher, Value, number_key};
 
 /// A kind of keys: five of them, in ascending order.

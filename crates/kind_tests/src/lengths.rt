@@ -3,10 +3,10 @@
 use merkle_digest::{Hasher, PageDigest, RootHash, Sip24};
 use merkle_search_tree::MerkleSearchTree;
 use merkle_search_tree::builder::{Builder, PageFormat};
-use std::alloc::{AllocError, Global};
-use std::test::Fail;
 use sample_trees::tally::Tally;
 use sample_trees::trees::{gives_its_list, value_at};
+use std::alloc::{AllocError, Global};
+use std::test::Fail;
 use testing::{LevelHasher, Value, number_key};
 
 /// A tree of texts, all on level 0.

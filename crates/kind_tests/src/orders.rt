@@ -3,9 +3,9 @@
 use merkle_digest::SipHasher;
 use merkle_search_tree::MerkleSearchTree;
 use merkle_search_tree::builder::Builder;
+use sample_trees::trees::{gives_its_list, value_at};
 use std::alloc::Global;
 use std::test::Fail;
-use sample_trees::trees::{gives_its_list, value_at};
 use testing::{CaselessText, DescendingNumber, LevelHasher, Value};
 
 /// A tree of numbers in descending order.

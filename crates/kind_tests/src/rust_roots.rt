@@ -4,9 +4,9 @@
 use merkle_digest::SipHasher;
 use merkle_search_tree::MerkleSearchTree;
 use merkle_search_tree::builder::{Builder, PageFormat};
+use sample_trees::trees::gives_its_list;
 use std::alloc::Global;
 use std::test::Fail;
-use sample_trees::trees::gives_its_list;
 
 /// A line for each size of a default tree: the root hash, the number of page ranges, and the spans of the first of them. The keys
 /// are the texts k0000, k0001 and so on, and the value of the key of i is i * i.

@@ -7,8 +7,8 @@ use crate::upserts::UPSERTS;
 use merkle_digest::{Hasher, KeyBytes};
 use merkle_search_tree::visitor::Visitor;
 use merkle_search_tree::{MerkleSearchTree, Node, Page};
-use std::test::Fail;
 use sample_trees::trees::{keys_of, numbers_of, tree_of};
+use std::test::Fail;
 
 /// Counts the nodes.
 #[derive(Drop)]

@@ -2,10 +2,10 @@
 
 use merkle_digest::SipHasher;
 use merkle_search_tree::{MerkleSearchTree, Page};
+use sample_trees::root_pages::root_copy;
 use std::alloc::Global;
 use std::test::Fail;
 use testing::number_key;
-use sample_trees::root_pages::root_copy;
 
 /// The default tree of the tests.
 type Tree = MerkleSearchTree<[u8; 2], u64, SipHasher, 16>;

@@ -7,10 +7,10 @@ use crate::upserts::UPSERTS;
 use merkle_digest::SipHasher;
 use merkle_search_tree::builder::Builder;
 use merkle_search_tree::{LoadRefused, MerkleSearchTree};
-use std::alloc::{AllocError, Global};
-use std::test::Fail;
 use sample_trees::root_pages::root_copy;
 use sample_trees::trees::{Tree, hasher, keys_of, nodes, numbers_of, tree, value_at};
+use std::alloc::{AllocError, Global};
+use std::test::Fail;
 use testing::{LevelHasher, Value, number_key};
 
 /// A number key and its value.

@@ -3,12 +3,12 @@
 use merkle_digest::{RootHash, SipHasher};
 use merkle_search_tree::MerkleSearchTree;
 use merkle_search_tree::builder::{Builder, PageFormat};
+use sample_trees::tally::Tally;
+use sample_trees::trees::{Tree, defined_root, put, tree};
 use std::alloc::{AllocError, Global};
 use std::process::Abort;
 use std::test::Fail;
 use testing::number_key;
-use sample_trees::tally::Tally;
-use sample_trees::trees::{Tree, defined_root, put, tree};
 
 /// The default tree of texts.
 type Texts = MerkleSearchTree<&'static str, u64, SipHasher, 16>;

@@ -2,9 +2,9 @@
 
 use merkle_diff::{DiffRange, PageRange, diff};
 use merkle_search_tree::PageRangeIter;
+use sample_trees::trees::{Tree, gives_its_list, tree_of};
 use std::alloc::{AllocError, Global};
 use std::test::Fail;
-use sample_trees::trees::{Tree, gives_its_list, tree_of};
 
 /// A line for each: the keys of a tree with their levels, how many pages it has, and their spans.
 pub const SPANS: &str = "\

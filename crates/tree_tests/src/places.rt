@@ -1,8 +1,8 @@
 //! Places of keys in root pages.
 
+use sample_trees::trees::{keys_of, tree};
 use std::test::Fail;
 use testing::number_key;
-use sample_trees::trees::{keys_of, tree};
 
 #[test]
 fn places_of_keys_in_a_root_page(rt: HostRuntime) -> Result<(), Fail> {

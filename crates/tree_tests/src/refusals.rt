@@ -4,9 +4,9 @@
 use merkle_diff::{PageRange, PageRangeSnapshot};
 use merkle_digest::RootHash;
 use merkle_search_tree::PageRangeIter;
-use std::alloc::{AllocError, Global};
 use sample_trees::root_pages::root_copy;
 use sample_trees::trees::{Tree, copy, defined_root, hashed, nodes, put, tree, value_at};
+use std::alloc::{AllocError, Global};
 use testing::{Value, number_key};
 
 /// Nine keys on their levels.

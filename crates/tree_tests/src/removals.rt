@@ -3,13 +3,13 @@
 
 use crate::shapes::pages_of;
 use merkle_search_tree::builder::PageFormat;
-use std::alloc::{AllocError, Global};
-use std::test::Fail;
-use testing::number_key;
 use sample_trees::root_pages::root_copy;
 use sample_trees::trees::{
     FORMATS, Tree, copy, defined_root, empty, gives_its_list, keys_of, put, tree, tree_in,
 };
+use std::alloc::{AllocError, Global};
+use std::test::Fail;
+use testing::number_key;
 
 /// The hashed tree of the keys of a text in a page format.
 fn hashed_tree(alloc: Global, format: PageFormat, text: &str) -> Result<Tree, Fail> {

@@ -4,9 +4,9 @@ ghost use Rattle.std.specs.Prelude.{◌≡◌};
 
 use merkle_search_tree::visitor::Visitor;
 use merkle_search_tree::{Node, Page};
+use sample_trees::trees::{Tree, hashed, keys_of, put, tree_of};
 use std::alloc::{AllocError, Global};
 use std::test::Fail;
-use sample_trees::trees::{Tree, hashed, keys_of, put, tree_of};
 
 /// A line for each tree: its keys with their levels, in the order in which they are upserted, then `=` and its pages. A page is a space,
 /// or `^` for a high page, its level, and in brackets its nodes with the page below each before it; the high page follows.

@@ -3,11 +3,11 @@
 use merkle_digest::{RootHash, SipHasher};
 use merkle_search_tree::MerkleSearchTree;
 use merkle_search_tree::builder::PageFormat;
-use std::alloc::Global;
-use std::test::Fail;
 use sample_trees::trees::{
     FORMATS, Tree, copy, defined_root, hashed_in, keys_of, nodes, put, tree_in, tree_of,
 };
+use std::alloc::Global;
+use std::test::Fail;
 use testing::{Value, number_key};
 
 /// A line for each tree: its keys with their levels, in the order in which they are upserted.
