@@ -4,6 +4,11 @@
 struct bytes16 { uint8_t bytes[16]; };
 struct spot { size_t first_at, first_len, last_at, last_len, digest_at; };
 
+/* What the proved calls take these types to be; a compiler refuses an array of less than no items. */
+typedef char handle_is_one_pointer[sizeof(struct mst_tree) == sizeof(void *) ? 1 : -1];
+typedef char size_is_8_bytes[sizeof(size_t) == 8 ? 1 : -1];
+typedef char spot_is_5_sizes[sizeof(struct spot) == 5 * sizeof(size_t) ? 1 : -1];
+
 uint32_t mst_proved_tree_new(struct mst_tree *, const struct bytes16 *, uint8_t, uint8_t);
 uint32_t mst_proved_tree_clone(struct mst_tree *, struct mst_tree *);
 void mst_proved_tree_free(struct mst_tree *);

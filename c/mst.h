@@ -6,9 +6,13 @@
  * something to point to is MST_BAD_ARGUMENT, and so is a length above PTRDIFF_MAX; where a length is 0, its pointer may be null.
  *
  * What the caller owes, since no call can test it: a length is at most that of the memory behind its pointer; a handle is changed
- * by these calls alone, is copied by mst_tree_clone and not by `=`, and is used by one thread at a time; what a call writes to
- * overlaps nothing else that the call is given; malloc, realloc and free are those of one allocator, and no call is made from a
- * signal handler. */
+ * by these calls alone, is copied by mst_tree_clone and not by `=`, and is used by the thread alone that made its tree, by
+ * mst_tree_len and mst_tree_clone too (lists may go to any thread, and different threads may have handles of their own); what a call
+ * writes to overlaps nothing else that the call is given; malloc, realloc and free are those of one allocator, whose blocks are
+ * aligned to each power of two up to 16 that divides their size; and no call is made from a signal handler, or from the forked child
+ * of a process with threads.
+ *
+ * The tree is that of Auvolat and Taïani, "Merkle Search Trees: Efficient State-Based CRDTs in Open Networks". */
 #ifndef MST_H
 #define MST_H
 
@@ -39,16 +43,16 @@ struct mst_tree { void *at; };
  * MST_NO_MEMORY. One request for memory. */
 int mst_tree_new(struct mst_tree *out);
 
-/* The same with a key of SipHash, a level base and a page format, which peers that compare trees have in common: mst_diff can't
- * tell that they haven't, and asks for far too much, or for nothing. The level base is from 1 to 255: from 2 to 128, about one key in
- * so many stands above level 0, so that a lesser base makes more and smaller pages; about one in 256 stands above level 1, whatever
- * the base. The page format is 1, or 2, in which what a page digest is made of can be read in one way only: take 2 where no peer
- * needs root hashes of the Rust crate. MST_BAD_ARGUMENT for any other base or format, too; MST_NO_MEMORY. One request for memory. */
+/* The same with a key of SipHash for keys and values (pages are hashed under the zero key always), a level base and a page format.
+ * Peers that compare trees have all three in common: mst_diff can't tell that they haven't, and asks for far too much. The level
+ * base is from 1 to 255: from 2 to 128, about one key in so many stands above level 0, so that a lesser base makes more and smaller
+ * pages; about one in 256 stands above level 1, whatever the base. The page format is 1, or 2, in which what a page digest is made
+ * of can be read in one way only: take 2 where no peer needs root hashes of the Rust crate. MST_BAD_ARGUMENT for any other base or
+ * format, too; MST_NO_MEMORY. One request for memory. */
 int mst_tree_new_with(struct mst_tree *out, const uint8_t key[16], uint8_t level_base, uint8_t page_format);
 
 /* Gives `out`, which has no tree, a copy of the tree and of the digests that its pages have; mst_tree_free lets it go.
- * MST_BAD_ARGUMENT where `tree` has none or `out` has one, for which MST_NO_MEMORY may be answered too; MST_NO_MEMORY. Time and memory
- * in proportion to the tree. */
+ * MST_BAD_ARGUMENT where `tree` has none or `out` has one; MST_NO_MEMORY. Time and memory in proportion to the tree. */
 int mst_tree_clone(struct mst_tree *tree, struct mst_tree *out);
 
 /* Lets the tree of a handle go, and leaves the handle without one, so that to free it twice does no harm; a null pointer does
@@ -57,17 +61,18 @@ void mst_tree_free(struct mst_tree *tree);
 
 /* Sets a key to the digest of a value. Both may be empty, and have any bytes. The key is copied; the value is hashed where it lies,
  * and not kept. MST_NO_MEMORY; MST_BAD_ARGUMENT where the handle has no tree. Time in proportion to the logarithm of the number of
- * keys, on average. */
+ * keys, on average, and to the lengths of key and value. */
 int mst_tree_upsert(struct mst_tree *tree, const uint8_t *key, size_t key_len, const uint8_t *value, size_t value_len);
 
-/* Takes a key out. MST_ABSENT where the tree has no such key, and then it is as before, digests included; MST_NO_MEMORY;
- * MST_BAD_ARGUMENT. Time as for mst_tree_upsert. */
+/* Takes a key out. MST_ABSENT where the tree has no such key, and then it is as before, digests included; MST_NO_MEMORY, since the
+ * key is copied first; MST_BAD_ARGUMENT. Time as for mst_tree_upsert. */
 int mst_tree_remove(struct mst_tree *tree, const uint8_t *key, size_t key_len);
 
 /* Makes these rows the map of a tree, in place of the one that it has; the key of SipHash, the level base and the page format stay.
  * The rows come as a list of rows (below) and ascend strictly by key, as memcmp orders them and each key before those that it begins;
  * MST_MALFORMED where they don't, or where it is no such list. MST_NO_MEMORY; MST_BAD_ARGUMENT. Each row is read once, and each page
- * written once. */
+ * written once, with a copy of each key; the list isn't kept. Until it is done there is memory for both trees and once more for the
+ * keys, and the next root hash hashes every page. */
 int mst_tree_load(struct mst_tree *tree, const uint8_t *rows, size_t rows_len);
 
 /* Writes how many keys a tree has. It counts them, in time in proportion to the tree, and takes memory for the path on which it goes.
@@ -82,19 +87,21 @@ int mst_tree_root_hash(struct mst_tree *tree, uint8_t out[16]);
 
 /* Writes the page ranges of a tree as a list (below), which may be sent to a peer as it is, and how many bytes they are. To learn
  * that number alone, give an `out_len` of 0, which answers MST_TOO_SHORT. It hashes what mst_tree_root_hash would, where it answers
- * MST_TOO_SHORT or MST_NO_MEMORY too. MST_TOO_SHORT; MST_NO_MEMORY; MST_BAD_ARGUMENT. Time and memory in proportion to the pages. */
+ * MST_TOO_SHORT or MST_NO_MEMORY too. MST_TOO_SHORT; MST_NO_MEMORY; MST_BAD_ARGUMENT. Time and memory in proportion to the list,
+ * which is made also where its length alone is asked for. */
 int mst_tree_page_ranges(struct mst_tree *tree, uint8_t *out, size_t out_len, size_t *needed);
 
 /* Compares two lists of page ranges, one's own and a peer's, and writes the ranges of keys to ask the peer for, as a list of key
  * ranges, and how many bytes that is (an `out_len` of 0 as above). The ranges ascend, and no two meet. They may hold many more keys
  * than differ, and there may be none though the root hashes differ: pulls by turns go on until the root hashes are equal. The peer's
  * list may be any bytes. MST_TOO_SHORT; MST_MALFORMED where one of them is no list of page ranges; MST_NO_MEMORY; MST_BAD_ARGUMENT.
- * Memory in proportion to both lists, and time too but for a sort of the ranges in which they differ. */
+ * Memory in proportion to both lists, and time too but for a sort of the ranges in which they differ: as much where the length alone
+ * is asked for. */
 int mst_diff(const uint8_t *local, size_t local_len, const uint8_t *peer, size_t peer_len, uint8_t *out, size_t out_len,
              size_t *needed);
 
-/* A range of a list: its first and its last key, both in it, and the 16 bytes of its page's digest (null in a list of key ranges).
- * The pointers are into the list. */
+/* A range of a list: its first and its last key, both in it, in the order of memcmp with each key before those that it begins, and the
+ * 16 bytes of its page's digest (null in a list of key ranges). The pointers are into the list. */
 struct mst_range {
     const uint8_t *first;
     size_t first_len;

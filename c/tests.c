@@ -1,8 +1,11 @@
 /* The calls of mst.h: root hashes of the Rust crate and of a second program, each status, each request for memory refused in turn, and
  * lists that are cut, altered or made at random. */
+#define _DEFAULT_SOURCE
 #include <stdio.h>
 #include <stdlib.h>
 #include <string.h>
+#include <sys/mman.h>
+#include <unistd.h>
 
 #include "mst.h"
 
@@ -41,11 +44,15 @@ static int put(struct mst_tree *tree, unsigned i, uint64_t value) {
     return mst_tree_upsert(tree, key, len, bytes, 8);
 }
 
+static void squares_under(struct mst_tree *tree, const uint8_t key[16], uint8_t level_base, uint8_t format, unsigned size) {
+    unsigned i;
+    WANT(mst_tree_new_with(tree, key, level_base, format) == MST_DONE);
+    for (i = 0; i < size; i++) WANT(put(tree, i, i) == MST_DONE);
+}
+
 static void squares(struct mst_tree *tree, unsigned size, uint8_t format) {
     static const uint8_t zero_key[16];
-    unsigned i;
-    WANT(mst_tree_new_with(tree, zero_key, 16, format) == MST_DONE);
-    for (i = 0; i < size; i++) WANT(put(tree, i, i) == MST_DONE);
+    squares_under(tree, zero_key, 16, format, size);
 }
 
 static void root_text(struct mst_tree *tree, char text[33]) {
@@ -53,6 +60,12 @@ static void root_text(struct mst_tree *tree, char text[33]) {
     int i;
     WANT(mst_tree_root_hash(tree, root) == MST_DONE);
     for (i = 0; i < 16; i++) snprintf(text + 2 * i, 3, "%02x", root[i]);
+}
+
+static int has_root(struct mst_tree *tree, const char *root) {
+    char text[33];
+    root_text(tree, text);
+    return !strcmp(text, root);
 }
 
 static uint8_t *page_ranges(struct mst_tree *tree, size_t *len) {
@@ -101,40 +114,65 @@ static const struct { unsigned size, ranges; const char *first, *second; } ROOTS
     {2000, 124, "7403625a7202b066aed4f896a23b6dbc", "eadb43485db68d74bb5d81756856e954"},
 };
 
-static void roots_and_loads(void) {
+/* The same for 500 keys under the key of SipHash 00 01 .. 0f, by level base. */
+static const struct { uint8_t level_base; unsigned ranges; const char *first, *second; } BASES[] = {
+    {1, 5, "943ebbaf1652f9a0296e5ad760b80238", "b77f759be26ccaaf038bf89d72e0c609"},
+    {4, 101, "7e48a06ba06be2b468ea6dd8075afeb5", "d77ecb8cc22a96cadae5719905b82590"},
+    {128, 7, "0c9503cdaef72b1981df6df63e48c57c", "578a7dab0c81c92573088eaae4d00249"},
+    {255, 9, "86ed190f5351ccc301057fa942b0e922", "cdf41ea7186c4a138feb9f32112c4c81"},
+};
+
+/* The page ranges of a tree: so many, the first of them with the digest of the root page. No step over them takes memory. */
+static void are_ranges(struct mst_tree *tree, unsigned ranges) {
+    size_t len, place = 0;
+    unsigned found = 0;
+    struct mst_range range;
+    uint8_t *list = page_ranges(tree, &len), root[16];
+    made = 0;
+    WANT(mst_tree_root_hash(tree, root) == MST_DONE);
+    while (mst_ranges_next(list, len, &place, &range) == MST_DONE) {
+        WANT(range.digest && range.first_len == 5 && range.last_len == 5 && memcmp(range.first, range.last, 5) <= 0);
+        WANT(found || !memcmp(range.digest, root, sizeof root));
+        found++;
+    }
+    WANT(!made);
+    WANT(found == ranges && place == (found ? len : 0));
+    free(list);
+}
+
+/* A tree of so many squares, its copy, and the tree that a load of the same rows makes of it once it has another key. */
+static void is_tree(struct mst_tree *tree, unsigned size, unsigned ranges, const char *root) {
     static uint8_t rows[1 << 17];
+    struct mst_tree copy = MST_NO_TREE;
+    size_t count;
+    WANT(has_root(tree, root));
+    are_ranges(tree, ranges);
+    WANT(mst_tree_len(tree, &count) == MST_DONE && count == size);
+    WANT(mst_tree_clone(tree, &copy) == MST_DONE);
+    WANT(put(tree, 9999, 1) == MST_DONE && !has_root(tree, root));
+    WANT(has_root(&copy, root));
+    WANT(mst_tree_load(tree, rows, row_list(rows, size, 0)) == MST_DONE);
+    WANT(has_root(tree, root));
+    mst_tree_free(tree);
+    mst_tree_free(&copy);
+}
+
+static void roots_and_loads(void) {
+    struct mst_tree tree = MST_NO_TREE;
+    uint8_t key[16], format;
     size_t at;
-    for (at = 0; at < sizeof ROOTS / sizeof *ROOTS; at++) {
-        int format;
-        for (format = 1; format <= 2; format++) {
-            struct mst_tree tree = MST_NO_TREE, copy = MST_NO_TREE;
-            const char *root = format == 1 ? ROOTS[at].first : ROOTS[at].second;
-            size_t len, place = 0, count;
-            unsigned found = 0;
-            struct mst_range range;
-            uint8_t *list;
-            char text[33];
-            squares(&tree, ROOTS[at].size, (uint8_t)format);
-            root_text(&tree, text);
-            WANT(!strcmp(text, root));
-            list = page_ranges(&tree, &len);
-            while (mst_ranges_next(list, len, &place, &range) == MST_DONE) {
-                WANT(range.digest && range.first_len == 5 && range.last_len == 5 && memcmp(range.first, range.last, 5) <= 0);
-                found++;
-            }
-            WANT(found == ROOTS[at].ranges && place == (found ? len : 0));
-            free(list);
-            WANT(mst_tree_len(&tree, &count) == MST_DONE && count == ROOTS[at].size);
-            WANT(mst_tree_clone(&tree, &copy) == MST_DONE);
-            WANT(put(&tree, 9999, 1) == MST_DONE);
-            root_text(&copy, text);
-            WANT(!strcmp(text, root));
-            len = row_list(rows, ROOTS[at].size, 0);
-            WANT(mst_tree_load(&tree, rows, len) == MST_DONE);
-            root_text(&tree, text);
-            WANT(!strcmp(text, root));
-            mst_tree_free(&tree);
-            mst_tree_free(&copy);
+    made = 0;
+    WANT(mst_tree_new(&tree) == MST_DONE && made == 1);
+    mst_tree_free(&tree);
+    for (at = 0; at < sizeof key; at++) key[at] = (uint8_t)at;
+    for (format = 1; format <= 2; format++) {
+        for (at = 0; at < sizeof ROOTS / sizeof *ROOTS; at++) {
+            squares(&tree, ROOTS[at].size, format);
+            is_tree(&tree, ROOTS[at].size, ROOTS[at].ranges, format == 1 ? ROOTS[at].first : ROOTS[at].second);
+        }
+        for (at = 0; at < sizeof BASES / sizeof *BASES; at++) {
+            squares_under(&tree, key, BASES[at].level_base, format, 500);
+            is_tree(&tree, 500, BASES[at].ranges, format == 1 ? BASES[at].first : BASES[at].second);
         }
     }
 }
@@ -181,13 +219,15 @@ static void difference(void) {
 static void bad_arguments(void) {
     static const size_t NO_LENGTHS[] = {SIZE_MAX, (size_t)PTRDIFF_MAX + 1};
     static const uint8_t zero_key[16];
-    struct mst_tree tree = MST_NO_TREE, none = MST_NO_TREE, empty = MST_NO_TREE;
+    struct mst_tree tree = MST_NO_TREE, none = MST_NO_TREE, empty = MST_NO_TREE, other = MST_NO_TREE;
     struct mst_range range = {0};
     uint8_t key[16], out[16] = {0}, *list;
     size_t len = key_of(key, 3), list_len, count = 77, needed = 3, at = 0, i;
-    char before[33], after[33];
+    char before[33], others[33];
     squares(&tree, 20, 1);
+    squares(&other, 3, 1);
     root_text(&tree, before);
+    root_text(&other, others);
     list = page_ranges(&tree, &list_len);
 
     BAD(mst_tree_new_with(&none, zero_key, 0, 1));
@@ -197,6 +237,7 @@ static void bad_arguments(void) {
     BAD(mst_tree_new(&tree));
     BAD(mst_tree_new_with(&tree, zero_key, 16, 1));
     BAD(mst_tree_clone(&tree, &tree));
+    BAD(mst_tree_clone(&tree, &other));
     BAD(mst_tree_clone(&none, &tree));
     BAD(mst_tree_clone(&none, &empty));
     BAD(mst_tree_upsert(&none, key, len, key, len));
@@ -247,14 +288,14 @@ static void bad_arguments(void) {
     }
 
     /* none of them has written anything */
-    root_text(&tree, after);
-    WANT(!strcmp(before, after));
+    WANT(has_root(&tree, before) && has_root(&other, others));
     WANT(!none.at && !empty.at && count == 77 && needed == 3 && !at && !range.first && !range.last && !range.digest);
     for (i = 0; i < sizeof out; i++) WANT(!out[i]);
 
     mst_tree_free(&tree);
     BAD(mst_tree_len(&tree, &count));
     mst_tree_free(&tree);
+    mst_tree_free(&other);
     free(list);
 }
 
@@ -473,17 +514,27 @@ static void is_difference(const struct list *own, const struct list *peer, const
     }
 }
 
+/* The bytes where they end right before memory that can't be read, so that a step beyond them ends the program. They stay until the
+ * next call. */
+static const uint8_t *before_a_wall(const uint8_t *bytes, size_t len) {
+    enum { ROOM = 1 << 16 };
+    static uint8_t *room;
+    if (!room) {
+        room = mmap(NULL, ROOM + (size_t)sysconf(_SC_PAGESIZE), PROT_READ | PROT_WRITE, MAP_PRIVATE | MAP_ANONYMOUS, -1, 0);
+        WANT(room != MAP_FAILED);
+        WANT(!mprotect(room + ROOM, (size_t)sysconf(_SC_PAGESIZE), PROT_NONE));
+    }
+    WANT(len <= ROOM);
+    if (len) memcpy(room + ROOM - len, bytes, len);
+    return room + ROOM - len;
+}
+
 /* Whether any bytes of a peer are answered by a difference, which is then a right one, and not by MST_MALFORMED. */
 static int differs(const uint8_t *own, size_t own_len, const uint8_t *peer, size_t peer_len) {
     static struct list owns, peers, asked;
     static uint8_t out[1 << 16];
     size_t needed = 0;
-    uint8_t *exact = __real_malloc(peer_len ? peer_len : 1);
-    int status;
-    WANT(exact);
-    memcpy(exact, peer, peer_len);
-    status = mst_diff(own, own_len, exact, peer_len, out, sizeof out, &needed);
-    free(exact);
+    int status = mst_diff(own, own_len, before_a_wall(peer, peer_len), peer_len, out, sizeof out, &needed);
     if (status == MST_MALFORMED) return 0;
     WANT(status == MST_DONE);
     read_list(own, own_len, &owns);
@@ -505,11 +556,35 @@ static void ends(const uint8_t *list, size_t len) {
     }
 }
 
+/* A list that is cut or has a byte too many, or is of another kind, is malformed wherever it is given, and moves and changes nothing. */
+static void cut_lists(struct mst_tree *tree, const uint8_t *own, size_t own_len, const uint8_t *peer, size_t peer_len) {
+    static uint8_t rows[1 << 12], asked[1 << 12];
+    size_t rows_len = row_list(rows, 40, 0), asked_len, len, needed, at = 0;
+    struct mst_range range;
+    char root[33];
+    root_text(tree, root);
+    WANT(mst_diff(own, own_len, peer, peer_len, asked, sizeof asked - 1, &asked_len) == MST_DONE && asked_len > 12);
+    for (len = 0; len <= asked_len + 1; len++)
+        if (len != asked_len) WANT(mst_ranges_next(before_a_wall(asked, len), len, &at, &range) == MST_MALFORMED && !at);
+    for (len = 0; len <= rows_len + 1; len++)
+        if (len != rows_len) WANT(mst_tree_load(tree, before_a_wall(rows, len), len) == MST_MALFORMED);
+    WANT(mst_tree_load(tree, peer, peer_len) == MST_MALFORMED);
+    WANT(mst_tree_load(tree, asked, asked_len) == MST_MALFORMED);
+    WANT(mst_diff(own, own_len, asked, asked_len, NULL, 0, &needed) == MST_MALFORMED);
+    WANT(mst_diff(rows, rows_len, peer, peer_len, NULL, 0, &needed) == MST_MALFORMED);
+    WANT(mst_ranges_next(rows, rows_len, &at, &range) == MST_MALFORMED && !at);
+    /* the second key is the first once more */
+    memcpy(rows + 12 + 8 + 5 + 16 + 8, rows + 12 + 8, 5);
+    WANT(mst_tree_load(tree, rows, rows_len) == MST_MALFORMED);
+    WANT(has_root(tree, root));
+}
+
 static void hostile(void) {
     static const char *const MARKS[] = {"MSTp", "MSTk", "MSTr"};
     struct mst_tree tree = MST_NO_TREE, other = MST_NO_TREE, later = MST_NO_TREE;
     size_t len, own_len, later_len, cut;
     uint8_t *list, *own, *behind, any[256];
+    const uint8_t *held;
     long lists = 0, all;
     unsigned i;
     squares(&tree, 300, 1);
@@ -527,6 +602,7 @@ static void hostile(void) {
     WANT(differs(own, own_len, list, len));
     WANT(differs(list, len, behind, later_len));
     ends(list, len);
+    cut_lists(&tree, own, own_len, list, len);
     for (cut = 0; cut < len; cut++) WANT(!differs(own, own_len, list, cut));
     for (cut = 0; cut < len; cut++) {
         uint8_t kept = list[cut];
@@ -551,10 +627,13 @@ static void hostile(void) {
             add_number(any + 4, draw() % 4);
         }
         differs(own, own_len, any, size);
-        while (mst_ranges_next(any, size, &place, &range) == MST_DONE) WANT(range.first_len <= size && range.last_len <= size);
+        held = before_a_wall(any, size);
+        while (mst_ranges_next(held, size, &place, &range) == MST_DONE)
+            WANT(range.first + range.first_len <= held + size && range.last + range.last_len <= held + size);
         place = draw() % 300;
-        mst_ranges_next(any, size, &place, &range);
-        WANT(mst_tree_load(&tree, any, size) != MST_NO_MEMORY);
+        if (mst_ranges_next(held, size, &place, &range) == MST_DONE)
+            WANT(range.first + range.first_len <= held + size && range.last + range.last_len <= held + size);
+        WANT(mst_tree_load(&tree, held, size) != MST_NO_MEMORY);
     }
     puts("20000 lists of random bytes");
     free(list);

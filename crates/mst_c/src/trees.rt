@@ -1,5 +1,5 @@
 //! Calls that make trees, copy them, let them go and count their keys.
-ghost use Rattle.std.specs.Prelude.{◌≡◌, ◌≢◌, ◌↔◌, ◌⊎◌, None, Err, IfOk, IfErr};
+ghost use Rattle.std.specs.Prelude.{◌≡◌, ◌≢◌, ◌↔◌, ◌⊎◌, true, None, Err, IfOk, IfErr};
 ghost use Rattle.std.specs.Int.NonZero.{non_zero_u8_get};
 ghost use Rattle.merkle_search_tree.specs.State.{IsNew};
 ghost use Rattle.merkle_search_tree.specs.declared.builder.PageFormat.TheVariants.{V1, V2};
@@ -46,7 +46,7 @@ pub extern "C" fn mst_proved_tree_new(
                 alloc,
                 ByteTree::new(alloc, &key.bytes, base, PageFormat::V1),
             ),
-            put,
+            give,
         )
     } else if page_format == 2 {
         mem::replace_with(
@@ -55,7 +55,7 @@ pub extern "C" fn mst_proved_tree_new(
                 alloc,
                 ByteTree::new(alloc, &key.bytes, base, PageFormat::V2),
             ),
-            put,
+            give,
         )
     } else {
         ARGUMENT
@@ -63,7 +63,7 @@ pub extern "C" fn mst_proved_tree_new(
 }
 
 /// Gives a handle that has no tree this one.
-fn put(handle: MstTree, asked: (Global, ByteTree)) -> (MstTree, u32)
+fn give(handle: MstTree, asked: (Global, ByteTree)) -> (MstTree, u32)
     ensures done { result.1 ≡ 0 → HasTree result.0.tree (λ s. s ≡ asked.1.tree) }
     ensures empty { result.1 ≢ 4 → handle.tree ≡ None }
     ensures unchanged { result.1 ≢ 0 → result.0.tree ≡ handle.tree }
@@ -82,8 +82,7 @@ fn put(handle: MstTree, asked: (Global, ByteTree)) -> (MstTree, u32)
 
 /// Gives a handle that has no tree a copy of another handle's.
 ///
-/// `DONE`; `MEMORY`; `ARGUMENT` where `handle` has no tree, or `copy` has one, for which `MEMORY` may be answered too. Refused, both
-/// are as before.
+/// `DONE`; `MEMORY`; `ARGUMENT` where `handle` has no tree, or `copy` has one. Refused, both are as before.
 #[unsafe(no_mangle)]
 pub extern "C" fn mst_proved_tree_clone(
     alloc: Global,
@@ -96,11 +95,26 @@ pub extern "C" fn mst_proved_tree_clone(
     ensures unchanged { result ≢ 0 → copy.new.tree ≡ copy.old.tree }
     ensures argument { result ≡ 4 → (handle.old.tree ≡ None) ⊎ (copy.old.tree ≢ None) }
     ensures no_tree { handle.old.tree ≡ None → result ≡ 4 }
+    ensures held { copy.old.tree ≢ None → result ≡ 4 }
     ensures status { (result ≡ 0) ⊎ (result ≡ 1) ⊎ (result ≡ 4) }
 {
+    if mem::replace_with(copy, alloc, has_tree) {
+        return ARGUMENT;
+    }
     match mem::replace_with(handle, alloc, copy_of) {
-        Ok(tree) => mem::replace_with(copy, (alloc, tree), put),
+        Ok(tree) => mem::replace_with(copy, (alloc, tree), give),
         Err(status) => status,
+    }
+}
+
+/// Whether a handle has a tree.
+fn has_tree(handle: MstTree, alloc: Global) -> (MstTree, bool)
+    ensures held { (result.1 ≡ true) ↔ (handle.tree ≢ None) }
+    ensures kept { result.0.tree ≡ handle.tree }
+{
+    match handle.into_box() {
+        Some(held) => (MstTree::of_box(held), true),
+        None => (MstTree::empty(alloc), false),
     }
 }
 
