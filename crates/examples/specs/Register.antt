@@ -1,5 +1,5 @@
 -- Registers that keep what was written last.
-use Rattle.std.specs.Prelude.{◌≡◌, ℕ, List, ◌++◌, Some}
+use Rattle.std.specs.Prelude.{◌≡◌, ℕ, List, [], ◌∷◌, ◌++◌}
 use Rattle.std.specs.Int.{w64, to_le_bytes}
 use Rattle.std.specs.Ordering.{ord_max}
 use Rattle.std.specs.declared.cmp.Ordering.{Ordering}
@@ -12,6 +12,7 @@ use Rattle.examples.specs.declared.register.Register.{Register}
 abbrev pub register_bytes : Register → List ℕ
 register_bytes r = to_le_bytes w64 r.time ++ to_le_bytes w64 r.writer ++ to_le_bytes w64 r.value
 
--- of this name there is then the later of the register that was there, if any, and the one that is written
+-- each name has then the later of the registers that it had and that are written, where there is one: only this name's is written
 abbrev pub IsWritten : (Register → Register → Ordering) → List (Text × Register) → Text → Register → List (Text × Register) → Type 0
-IsWritten cmp rows name register after = get text_order after name ≡ joined (ord_max cmp) (get text_order rows name) (Some register)
+IsWritten cmp rows name register after =
+    (k : Text) → get text_order after k ≡ joined (ord_max cmp) (get text_order rows k) (get text_order ((name, register) ∷ []) k)

@@ -45,8 +45,8 @@ pub fn ranges_to_ask<
     local.ranges_to_ask(peer)
 }
 
-/// Replicas of equal maps, whose hashers give each key one digest, with one level base and page format, ask each other for nothing and
-/// take no memory for it.
+/// One of two replicas of equal maps, whose hashers give each key one digest, with one level base and page format, asks the other for
+/// nothing, and is never refused.
 ///
 /// # Errors
 ///

@@ -1,13 +1,20 @@
 //! What the README of the repository shows.
-ghost use Rattle.merkle_replica.specs.Contents.{SameSetup};
+
+ghost use Rattle.std.specs.Prelude.{◌≡◌, ℕ, List, [], ◌∷◌, IfOk, max, nat_eq};
+ghost use Rattle.key_order.specs.Join.{IsJoin};
+ghost use Rattle.examples.specs.Texts.{Text, text_order};
+ghost use Rattle.merkle_replica.specs.Contents.{Contents, side};
+ghost use Rattle.merkle_replica.specs.Pulls.{HoldTheJoin};
+ghost use Rattle.examples.specs.Sync.{IsFaithfulSync};
 
 use anyhow::Result;
 use merkle_digest::SipHasher;
-use merkle_replica::{Replica, pull_by_turns};
+use merkle_replica::{Lawful, Replica, pull_by_turns};
 use merkle_search_tree::builder::Builder;
 use std::alloc::Global;
 
-/// Puts a row into a new replica, which then pulls from another, and makes four pulls by turns with it.
+/// Puts a row into a new replica, which then makes four pulls by turns with another: while digests are faithful in what is met before
+/// each of them, both come to hold the join of that row and the rows of the other.
 ///
 /// # Errors
 ///
@@ -18,13 +25,13 @@ pub fn two_replicas(
     key: String,
     b: &mut Replica<String, u64, SipHasher, 16>,
 ) -> Result<Replica<String, u64, SipHasher, 16>>
-    ensures { SameSetup b.old b.new }
+    ensures join { let laws = ⟦<SipHasher as Lawful<16, String, u64>>⟧.laws in IfOk result (λ a. (one : Contents Text ℕ (List ℕ))
+        × IsJoin text_order nat_eq max [] ((key, 42) ∷ []) one.rows
+        × IsFaithfulSync laws (HoldTheJoin laws (side one) (side b.old) a.rows b.new.rows) one b.old a b.new) }
 {
     let mut a: Replica<String, u64, SipHasher, 16> = Replica::new(alloc, Builder::default());
     a.put(key, 42)?;
-    // a joins what b has in the ranges of keys in which they differ
-    let _pulled = a.pull(b)?;
-    // both come to hold the join of their maps
+    // each pulls from the other, by turns, what is in the ranges of keys in which they differ: both come to hold the join
     pull_by_turns(alloc, &mut a, b, 4)?;
     Ok(a)
 }

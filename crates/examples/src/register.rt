@@ -1,10 +1,12 @@
 //! Registers of which the last writer wins.
-ghost use Rattle.std.specs.Prelude.{◌≡◌, OnOk, OnErr};
+ghost use Rattle.std.specs.Prelude.{◌≡◌, [], ◌∷◌, OnOk, OnErr};
 ghost use Rattle.std.specs.Cmp.Rules.{comparing};
 ghost use Rattle.std.proofs.Common.{rules};
+ghost use Rattle.key_order.specs.Join.{IsJoin};
 ghost use Rattle.merkle_digest.specs.Sip24.{Holds};
 ghost use Rattle.merkle_replica.specs.Contents.{SameSetup};
 ghost use Rattle.examples.specs.Register.{IsWritten};
+ghost use Rattle.examples.specs.Texts.{text_order};
 
 use crate::store::Store;
 use merkle_digest::{HashBytes, Sip24};
@@ -77,6 +79,8 @@ pub type Stamped = Store<Greatest<(u64, u64)>>;
 /// Want of memory, which leaves all registers as they were.
 #[tactic(auto, using(key_order::proofs::Clones::string_clone))]
 pub fn stamp(registers: &mut Stamped, name: String, time: u64, value: u64) -> Result<(), AllocError>
+    ensures joined { OnOk result (IsJoin text_order ⟦<Greatest<(u64, u64)> as PartialEq>⟧.eq ⟦<Greatest<(u64, u64)> as Join>⟧.join_of
+        registers.old.rows ((name, record { 0 = (time, value) }) ∷ []) registers.new.rows) }
     ensures unchanged { OnErr result (registers.new ≡ registers.old) }
     ensures setup { SameSetup registers.old registers.new }
 {

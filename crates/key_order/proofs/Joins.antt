@@ -1,13 +1,13 @@
 -- Joins of maps, and of a map with one row.
 use Rattle.std.proofs.Common.{◌≡◌, Bool, true, false, ◌||◌, cond, List, [], ◌∷◌, Option, Some, None, refl, sym, ap, ◌∙◌, subst, ◌⊎◌, inl, inr}
-use Rattle.std.specs.Cmp.{IsTotalOrder, IsEquivalence, tied_itself}
+use Rattle.std.specs.Cmp.{IsTotalOrder, IsEquivalence}
 use Rattle.std.specs.Ordering.{is_eq}
 use Rattle.std.specs.declared.cmp.Ordering.{Ordering}
 use Rattle.key_order.specs.Map.{SameValue, IsMap, get, set, has_key, SameMap}
 use Rattle.key_order.specs.Join.{IsJoining, IsJoin, joined}
 use Rattle.key_order.proofs.Bools.{which}
 use Rattle.key_order.proofs.Keys.{has_get, there_alike, there_joined}
-use Rattle.key_order.proofs.Maps.{is_equal, get_same, same_by_get, at_head}
+use Rattle.key_order.proofs.Maps.{is_equal, get_same, same_by_get}
 use Rattle.key_order.proofs.Sets.{ascending_set, get_set}
 use Rattle.key_order.proofs.Values.{Eq, back, on, to_none}
 
@@ -43,8 +43,6 @@ module _ {K V : Type 0} (cmp : K → K → Ordering) (o : IsTotalOrder cmp) (eq 
     is_value (Some a) None h = absurd h
     is_value (Some a) (Some b) h = ap Some (exact a b h)
 
-    -- where a row is joined, its key has the join of the value there and the row's
-    pub join_at : (a c : List (K × V)) (k : K) (v : V) → IsJoin cmp eq join a ((k, v) ∷ []) c → get cmp c k ≡ joined join (get cmp a k) (Some v)
-    join_at a c k v h =
-        is_value (get cmp c k) (joined join (get cmp a k) (get cmp ((k, v) ∷ []) k)) (h.values k)
-        ∙ ap (joined join (get cmp a k)) (at_head cmp o (k, v) [] k (tied_itself o k))
+    -- each key has in a join the join of what it has in the two maps
+    pub join_at : (a b c : List (K × V)) → IsJoin cmp eq join a b c → (k : K) → get cmp c k ≡ joined join (get cmp a k) (get cmp b k)
+    join_at a b c h k = is_value (get cmp c k) (joined join (get cmp a k) (get cmp b k)) (h.values k)
