@@ -5,7 +5,8 @@
 //! local list with a peer's, and answers the ranges of keys that the local side can ask for. Both lists may be any lists: nothing
 //! that a peer sends makes it fail, and all that it promises of any list is in its contract.
 //!
-//! Keys are compared by their order alone, and borrowed, never cloned, but where a snapshot is made of borrowed ranges.
+//! [`diff`] compares keys by their order alone. Keys are borrowed, and cloned only where owned ranges or snapshots are made of borrowed
+//! ones or copied.
 #![tactic(auto)]
 
 mod at_hand;

@@ -11,8 +11,8 @@ use std::alloc::AllocError;
 use std::fmt;
 use std::marker::Model;
 
-/// The digest of the root page of a tree, 16 bytes, which stands for all that the tree holds: trees of equal keys and values have equal
-/// root hashes. The converse holds only as far as no digests collide. It prints as a [`Digest`] does.
+/// The digest of the root page of a tree, 16 bytes, which stands for all that the tree holds: under one hasher, level base and page
+/// format, trees of equal keys and values have equal root hashes. The converse holds only as far as no digests collide. It prints as a [`Digest`] does.
 #[derive(Debug, Drop, Eq)]
 pub struct RootHash {
     digest: Digest<16>,

@@ -10,7 +10,7 @@ use std::alloc::{AllocError, Global};
 /// A number joins to the greater one, and `()` to itself; a [`Replica`](crate::Replica) of the latter is a set of keys:
 ///
 /// ```rust
-/// let both = 3.join(alloc, &5)?; // 5
+/// let both = 3u64.join(alloc, &5)?; // 5
 /// ```
 ///
 /// A replica joins two values at each [`put`](crate::Replica::put) of a key that is there, and at each row of a pull whose key it
@@ -23,8 +23,8 @@ pub trait Join: Eq {
     ///
     /// # Errors
     ///
-    /// `AllocError` where memory for the join is refused, and nowhere else. The joins of numbers, of [`Greatest`](crate::Greatest)
-    /// and of `()` take none and are never refused.
+    /// `AllocError` where an implementation can't make the join, as for want of memory. The joins of numbers, of
+    /// [`Greatest`](crate::Greatest) and of `()` take no memory and are never refused.
     fn join(&self, alloc: Global, other: &Self) -> Result<Self, AllocError>
         ensures { IfOk result (λ both. Self.eq both (join_of self.now other.now) ≡ true) };
 

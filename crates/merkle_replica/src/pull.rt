@@ -88,8 +88,8 @@ impl<
     /// before a row is joined. Own rows below the first range stay where they are; those from it on are moved out of the way and back
     /// in one pass, so a pull costs no more a row where it joins many. Where it joins none, none moves.
     ///
-    /// Replicas of equal rows whose trees are in different page formats don't look the same, as far as no digests collide: a pull then
-    /// asks for ranges, and joins what is there already. Whatever it joins is right all the same, and no row is lost.
+    /// Replicas of equal rows, at least one, whose trees are in different page formats don't look the same, as far as no digests collide: a
+    /// pull then asks for ranges, and joins what is there already. Whatever it joins is right all the same, and no row is lost.
     ///
     /// Its condition on clones is proved by a lemma of `key_order::proofs::Clones`: `string_clone`, `vec_clone` or `array_clone` for texts,
     /// vectors and arrays of bytes, `exact_clone` for what a clone gives back as it is.

@@ -9,8 +9,8 @@ ghost use Rattle.merkle_replica.specs.Steps.{AreRanges};
 use crate::seek::{is_below, is_upto, seek};
 use std::marker::Model;
 
-/// The rows of a replica in ranges of keys that are still to come, in ascending key order. A contract sees the list of them. It walks
-/// over the rows and the ranges once, and takes no memory.
+/// Of the rows of a replica in given ranges of keys those that are still to come, in ascending key order. A contract sees the list of
+/// them. It walks over the rows and the ranges once, and takes no memory.
 #[derive(Drop)]
 pub struct RowsWithin<'a, K: Ord, V> {
     rows: &'a [(K, V)],

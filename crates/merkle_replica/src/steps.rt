@@ -63,7 +63,8 @@ impl<
     }
 
     /// The second step of a pull, on the peer's side: its rows in these ranges, in ascending key order, without memory. `None` where a
-    /// range ends before it starts, or doesn't start behind the end of the one before it.
+    /// range ends before it starts, or doesn't start behind the end of the one before it. It looks at the bounds of each range once, and the
+    /// iterator then walks over rows and ranges once.
     pub fn rows_within<'a>(&'a self, ranges: &'a [(K, K)]) -> Option<RowsWithin<'a, K, V>>
         ensures some { IsSome result ↔ AreRanges K.cmp (spans_of ranges.now) }
         ensures rows { IfSome result (λ rows. rows ≡ rows_in K.cmp (spans_of ranges.now) self.now.rows) }

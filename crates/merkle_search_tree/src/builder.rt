@@ -98,8 +98,8 @@ impl<H> Builder<H> {
     }
 
     /// The builder with this level base, from 1 to 255. A key's level is two for each zero byte at the front of its digest, and one
-    /// more where the base divides the byte after them: for one key in `level_base`, roughly. So a greater base makes larger pages.
-    /// Peers that compare their trees take one base.
+    /// more where the base divides the byte after them: up to 128 for about one key in `level_base`, so that a greater base makes larger
+    /// pages; above 128 for about one in 128. Peers that compare their trees take one base.
     pub fn with_level_base(self, level_base: NonZeroU8) -> Self
         ensures { result ≡ record { hasher = self.hasher; base = non_zero_u8_get level_base; format = self.format } }
     {

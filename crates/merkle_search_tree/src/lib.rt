@@ -1,6 +1,6 @@
-//! A Merkle search tree: a map from keys to digests of values, kept as a tree of pages whose shape and digests depend on the map
-//! alone (Auvolat and Taïani, "Merkle Search Trees: Efficient State-Based CRDTs in Open Networks"). Peers that hold the same map
-//! have the same root hash, in whatever order their keys came.
+//! A Merkle search tree: a map from keys to digests of values, kept as a tree of pages whose shape and digests depend on the map and on
+//! the tree's settings alone (Auvolat and Taïani, "Merkle Search Trees: Efficient State-Based CRDTs in Open Networks"). Peers that hold
+//! the same map under the same settings have the same root hash, in whatever order their keys came.
 //!
 //! The level of a key, from 0 to 255, is read off its digest. The keys of the greatest level are the nodes of the root page, and
 //! the keys between two nodes stand in a page below, by the same rule.

@@ -164,13 +164,13 @@ impl<
     /// The tree of rows that stay where they are and ascend strictly by key, as [`from_ascending`](Self::from_ascending) builds it, with
     /// clones of their keys. It costs what that does, and a clone of each key.
     ///
+    /// Its condition on clones is proved by a lemma of `key_order::proofs::Clones`: `string_clone`, `vec_clone` or `array_clone` for texts,
+    /// vectors and arrays of bytes, `exact_clone` for what a clone gives back as it is.
+    ///
     /// # Errors
     ///
     /// [`LoadRefused::NotAscending`] at the first row whose key isn't above that of the row before it, with its place, and
     /// [`LoadRefused::Memory`] where memory is refused, for a clone of a key too. The builder is then given up.
-    ///
-    /// Its condition on clones is proved by a lemma of `key_order::proofs::Clones`: `string_clone`, `vec_clone` or `array_clone` for texts,
-    /// vectors and arrays of bytes, `exact_clone` for what a clone gives back as it is.
     pub fn from_ascending_slice(
         alloc: Global,
         builder: Builder<H>,

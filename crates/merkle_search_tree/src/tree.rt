@@ -44,7 +44,7 @@ use std::num::NonZeroU8;
 /// ```
 ///
 /// At most 256 pages stand below one another, one for each level. With a hasher that spreads its digests evenly, and the level base b,
-/// about one key in b is above level 0, and one in 256 above level 1; at base 16 a page so has about 16 nodes.
+/// about one key in b is above level 0 (one in 128 for b above 128), and one in 256 above level 1; at base 16 a page so has about 16 nodes.
 ///
 /// A contract sees the tree as its hasher, its level base, its page format, its root page with all caches, and its cached root hash. Of every
 /// tree it holds that the keys ascend, that the pages are the tree of the map, that each cached digest is that of its page with
@@ -212,12 +212,12 @@ impl<K: Ord + KeyBytes + Clone, V, H: Hasher<N, K> + Clone, const N: usize> Merk
     /// A tree of an equal map, with equal pages, all cached digests included, a clone of the hasher, and the same level base, page format
     /// and cached root hash. It clones each key once, and hashes nothing.
     ///
+    /// Its condition on clones of keys is proved by a lemma of `key_order::proofs::Clones`: `string_clone`, `vec_clone` or `array_clone` for
+    /// texts, vectors and arrays of bytes, `exact_clone` for what a clone gives back as it is.
+    ///
     /// # Errors
     ///
     /// `AllocError` where memory is refused: for a page or its nodes, or for the clone of a key or of the hasher.
-    ///
-    /// Its condition on clones is proved by a lemma of `key_order::proofs::Clones`: `string_clone`, `vec_clone` or `array_clone` for texts,
-    /// vectors and arrays of bytes, `exact_clone` for what a clone gives back as it is.
     pub fn try_clone(&self) -> Result<Self, AllocError>
         // A clone of a key equals the key, and a clone of a hasher gives the digests that the hasher gives.
         requires keys { (a b : K) → K.is_clone a b → Same K.cmp a b }

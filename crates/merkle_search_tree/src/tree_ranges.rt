@@ -51,7 +51,7 @@ impl<K: Ord + KeyBytes, V, H: Hasher<N, K>, const N: usize> MerkleSearchTree<K, 
     }
 
     /// The ranges of all pages, as [`serialise_page_ranges`](Self::serialise_page_ranges) lists them, one at a time; `None` where the
-    /// tree isn't hashed. It compares no keys.
+    /// tree isn't hashed. It compares no keys, and goes to each page once, and for its first and last key down to the pages that have them.
     ///
     /// # Errors
     ///

@@ -12,7 +12,8 @@
 //! `specs/` says what the lines of an input are (`Lines`), what each line asks for (`Requests`), what it is
 //! answered (`Engine`), and what a whole run reads and writes (`Run`).
 //!
-//! The replicas are those of the crate `merkle_replica`, whose public names are here too.
+//! The replicas are those of the crate `merkle_replica`, of which what the engine speaks of is here too: `Replica`, `Join`,
+//! `ValueHasher`, `Pulled`, `PullError`, `TurnsError` and `pull_by_turns`.
 #![tactic(auto)]
 
 mod answers;
