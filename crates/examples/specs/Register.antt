@@ -5,7 +5,7 @@ use Rattle.std.specs.Ordering.{ord_max}
 use Rattle.std.specs.declared.cmp.Ordering.{Ordering}
 use Rattle.key_order.specs.Map.{get}
 use Rattle.key_order.specs.Join.{joined}
-use Rattle.examples.specs.Texts.{Text, text_order}
+use Rattle.key_order.specs.Text.{Text, text_order}
 use Rattle.examples.specs.declared.register.Register.{Register}
 
 -- the bytes of its three numbers

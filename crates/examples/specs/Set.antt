@@ -1,7 +1,7 @@
 -- Sets of names.
 use Rattle.std.specs.Prelude.{◌≡◌, ◌||◌, List}
 use Rattle.key_order.specs.Map.{has_key}
-use Rattle.examples.specs.Texts.{Text, text_order}
+use Rattle.key_order.specs.Text.{Text, text_order}
 
 -- `union` has the names of a and of b, and no others
 abbrev pub IsUnion : List (Text × Unit {0}) → List (Text × Unit {0}) → List (Text × Unit {0}) → Type 0

@@ -1,24 +1,14 @@
 -- Replicas whose keys are texts, under SipHash.
-use Rattle.std.specs.Prelude.{◌≡◌, ℕ, List, string_bytes, string_cmp}
-use Rattle.std.specs.declared.alloc.Global.{Global}
-use Rattle.std.specs.declared.cmp.Ordering.{Ordering}
-use Rattle.std.specs.declared.string.String.{String}
+use Rattle.std.specs.Prelude.{◌≡◌, ℕ, List, string_bytes}
+use Rattle.key_order.specs.Text.{Text, text_order}
 use Rattle.merkle_digest.specs.SipHash.{siphash128, zero_key}
 use Rattle.merkle_search_tree.specs.Canonical.{IsTreeOf}
+use Rattle.merkle_search_tree.specs.Loading.{digests}
 use Rattle.merkle_search_tree.specs.State.{State}
 use Rattle.merkle_search_tree.specs.Stream.{page_digest}
 use Rattle.merkle_search_tree.specs.Tree.{Tree}
 use Rattle.merkle_search_tree.specs.declared.builder.PageFormat.{PageFormat}
 use Rattle.merkle_search_tree.specs.declared.builder.PageFormat.TheVariants.{V1}
-use Rattle.merkle_replica.specs.Contents.{digests}
-
--- a text, as a replica keeps it
-abbrev pub Text : Type 0
-Text = String Global
-
--- texts are in the order of their bytes
-abbrev pub text_order : Text → Text → Ordering
-text_order = string_cmp
 
 -- the digest of a text under a key of SipHash
 abbrev pub text_digest : List ℕ → Text → List ℕ

@@ -2,7 +2,7 @@
 
 ghost use Rattle.std.specs.Prelude.{◌≡◌, ℕ, List, [], ◌∷◌, IfOk, max, nat_eq};
 ghost use Rattle.key_order.specs.Join.{IsJoin};
-ghost use Rattle.examples.specs.Texts.{Text, text_order};
+ghost use Rattle.key_order.specs.Text.{Text, text_order};
 ghost use Rattle.merkle_replica.specs.Contents.{Contents, side};
 ghost use Rattle.merkle_replica.specs.Pulls.{HoldTheJoin};
 ghost use Rattle.examples.specs.Sync.{IsFaithfulSync};

@@ -3,10 +3,10 @@ ghost use Rattle.std.specs.Prelude.{◌≡◌, [], ◌∷◌, OnOk, OnErr};
 ghost use Rattle.std.specs.Cmp.Rules.{comparing};
 ghost use Rattle.std.proofs.Common.{rules};
 ghost use Rattle.key_order.specs.Join.{IsJoin};
+ghost use Rattle.key_order.specs.Text.{text_order};
 ghost use Rattle.merkle_digest.specs.Sip24.{Holds};
-ghost use Rattle.merkle_replica.specs.Contents.{SameSetup};
+ghost use Rattle.merkle_search_tree.specs.State.{SameSettings};
 ghost use Rattle.examples.specs.Register.{IsWritten};
-ghost use Rattle.examples.specs.Texts.{text_order};
 
 use crate::store::Store;
 use merkle_digest::{HashBytes, Sip24};
@@ -64,7 +64,7 @@ pub type Registers = Store<Register>;
 pub fn write(registers: &mut Registers, name: String, register: Register) -> Result<(), AllocError>
     ensures latest { OnOk result (IsWritten ⟦<Register as Ord>⟧.cmp registers.old.rows name register registers.new.rows) }
     ensures unchanged { OnErr result (registers.new ≡ registers.old) }
-    ensures setup { SameSetup registers.old registers.new }
+    ensures settings { SameSettings registers.old.tree registers.new.tree }
 {
     registers.put(name, register)
 }
@@ -82,7 +82,7 @@ pub fn stamp(registers: &mut Stamped, name: String, time: u64, value: u64) -> Re
     ensures joined { OnOk result (IsJoin text_order ⟦<Greatest<(u64, u64)> as PartialEq>⟧.eq ⟦<Greatest<(u64, u64)> as Join>⟧.join_of
         registers.old.rows ((name, record { 0 = (time, value) }) ∷ []) registers.new.rows) }
     ensures unchanged { OnErr result (registers.new ≡ registers.old) }
-    ensures setup { SameSetup registers.old registers.new }
+    ensures settings { SameSettings registers.old.tree registers.new.tree }
 {
     registers.put(name, Greatest((time, value)))
 }

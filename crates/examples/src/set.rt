@@ -1,6 +1,6 @@
 //! A set of names that only grows: a replica with `()` for values.
 ghost use Rattle.std.specs.Prelude.{◌≡◌, [], ◌∷◌, OnOk, OnErr};
-ghost use Rattle.merkle_replica.specs.Contents.{SameSetup};
+ghost use Rattle.merkle_search_tree.specs.State.{SameSettings};
 ghost use Rattle.examples.specs.Set.{IsUnion};
 ghost use Rattle.examples.specs.Sync.{IsFaithfulSync};
 
@@ -22,7 +22,7 @@ pub type Names = Store<()>;
 pub fn add(names: &mut Names, name: String) -> Result<(), AllocError>
     ensures added { OnOk result (IsUnion names.old.rows ((name, tt) ∷ []) names.new.rows) }
     ensures unchanged { OnErr result (names.new ≡ names.old) }
-    ensures setup { SameSetup names.old names.new }
+    ensures settings { SameSettings names.old.tree names.new.tree }
 {
     names.put(name, ())
 }

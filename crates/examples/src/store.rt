@@ -2,9 +2,10 @@
 ghost use Rattle.std.specs.Prelude.{◌≡◌, [], ◌∷◌, IfOk, max, nat_eq};
 ghost use Rattle.std.specs.Int.{w64, to_le_bytes};
 ghost use Rattle.key_order.specs.Join.{IsJoin};
+ghost use Rattle.key_order.specs.Text.{text_order};
 ghost use Rattle.merkle_digest.specs.SipHash.{zero_key};
 ghost use Rattle.merkle_search_tree.specs.declared.builder.PageFormat.TheVariants.{V1};
-ghost use Rattle.examples.specs.Texts.{text_order, HasDefaultSettings, IsRootHashOf};
+ghost use Rattle.examples.specs.Texts.{HasDefaultSettings, IsRootHashOf};
 
 use merkle_digest::{HashBytes, RootHash, SipHasher};
 use merkle_replica::{Join, Replica};

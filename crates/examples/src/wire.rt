@@ -4,8 +4,8 @@
 //! its bytes and its bytes, in UTF-8; a digest is its 16 bytes. Nothing that came is trusted.
 ghost use Rattle.std.specs.Prelude.{◌≡◌, ◌⊎◌, ℕ, List, OnOk, OnErr, max, nat_eq};
 ghost use Rattle.key_order.specs.Join.{IsJoin};
-ghost use Rattle.merkle_replica.specs.Contents.{SameSetup};
-ghost use Rattle.examples.specs.Texts.{Text, text_order};
+ghost use Rattle.key_order.specs.Text.{Text, text_order};
+ghost use Rattle.merkle_search_tree.specs.State.{SameSettings};
 
 use crate::store::Store;
 use merkle_diff::{OwnedPageRange, PageRangeSnapshot};
@@ -35,7 +35,7 @@ impl From<AllocError> for WireFault {
 /// Want of memory.
 pub fn send_page_ranges(alloc: Global, store: &mut Store<u64>) -> Result<Vec<u8>, AllocError>
     ensures rows { store.new.rows ≡ store.old.rows }
-    ensures setup { SameSetup store.old store.new }
+    ensures settings { SameSettings store.old.tree store.new.tree }
 {
     store.hash();
     let ranges = match store.tree().serialise_page_ranges()? {
@@ -60,7 +60,7 @@ pub fn send_page_ranges(alloc: Global, store: &mut Store<u64>) -> Result<Vec<u8>
 #[tactic(auto, using(key_order::proofs::Clones::string_clone))]
 pub fn ask(alloc: Global, store: &mut Store<u64>, page_ranges: &[u8]) -> Result<Vec<u8>, WireFault>
     ensures rows { store.new.rows ≡ store.old.rows }
-    ensures setup { SameSetup store.old store.new }
+    ensures settings { SameSettings store.old.tree store.new.tree }
 {
     let theirs = page_ranges_of(alloc, page_ranges)?;
     let asked = store.ranges_to_ask_of(&theirs)?;
@@ -103,7 +103,7 @@ pub fn send_rows(alloc: Global, store: &Store<u64>, asked: &[u8]) -> Result<Vec<
 pub fn join(alloc: Global, store: &mut Store<u64>, rows: &[u8]) -> Result<(), WireFault>
     ensures joined { OnOk result ((came : List (Text × ℕ)) × IsJoin text_order nat_eq max store.old.rows came store.new.rows) }
     ensures refused { OnErr result ((store.new.rows ≡ store.old.rows) ⊎ ((came : List (Text × ℕ)) × IsJoin text_order nat_eq max store.old.rows came store.new.rows)) }
-    ensures setup { SameSetup store.old store.new }
+    ensures settings { SameSettings store.old.tree store.new.tree }
 {
     let rows = rows_of(alloc, rows)?;
     match store.join_rows(rows) {

@@ -2,3 +2,4 @@ pub mod Order
 pub mod Interval
 pub mod Map
 pub mod Join
+pub mod Text

@@ -8,8 +8,8 @@ use Rattle.key_order.specs.Interval.{Span, IsOrdered, IsIn, IsCovered, IsWithin,
 use Rattle.key_order.specs.Order.{Upto, Below, Same, AnyByRecursion}
 use Rattle.merkle_diff.proofs.Cuts.{any-cut, some-cut, left-down, left-up, left-ordered}
 use Rattle.merkle_diff.proofs.Each.{any-map, each-with, each-both, each-not, none-of, any-get, any-unmapped}
-use Rattle.merkle_diff.proofs.Edges.{Edge, bound, Before, Behind, Across, Free, part, low, before, behind, not_both_sides, across-in, across-within, free-same, bound-in, own-free, to-bound, those-named, those-again}
-use Rattle.merkle_diff.proofs.Edges.Edge.{Start, End}
+use Rattle.merkle_diff.proofs.Borders.{Border, bound, Before, Behind, Across, Free, part, low, before, behind, not_both_sides, across-in, across-within, free-same, bound-in, own-free, to-bound, those-named, those-again}
+use Rattle.merkle_diff.proofs.Borders.Border.{Start, End}
 use Rattle.merkle_diff.proofs.Merged.{merge-to, merge-from, merge-is_apart, merge-is_ordered, merge-holds}
 use Rattle.merkle_diff.proofs.OrderTests.{same_back}
 use Rattle.merkle_diff.specs.Cut.{IsExactCut, cut_one, pieces_left}
@@ -24,7 +24,7 @@ any-member P R (x ∷ xs) r (inr h) = let m = any-member P R xs r h in (m.0, m.1
 module _ {K : Type 0} (cmp : K → K → Ordering) (o : IsTotalOrder cmp) where
   -- ---- a merge runs across the edges that its list does
 
-  module _ (e : Edge) where
+  module _ (e : Border) where
     free-of_merge : (ss ms : List (Span K)) → AllByRecursion (IsOrdered cmp) ss → IsMerge cmp ss ms → (k : K) → Free cmp e ms k → Free cmp e ss k
     free-of_merge ss ms d m k f = each-not (Across cmp e k) ss (λ h.
         let x = any-member (Across cmp e k) (IsWithin cmp) ss (λ s. (up_self cmp o s.first, up_self cmp o s.last)) h in
@@ -64,7 +64,7 @@ module _ {K : Type 0} (cmp : K → K → Ordering) (o : IsTotalOrder cmp) where
   left-again Q N law bad xs ys f h = let r = left-down cmp o Q N law.down bad xs h in left-up cmp o Q N law.up bad ys r.0 (f r.1)
 
   -- a piece that runs across an edge is of a range that does, and the edge is not across what is cut out
-  across-left : (e : Edge) (k : K) → IsLeft (Across cmp e k) (λ g. ¬ (Across cmp e k g))
+  across-left : (e : Border) (k : K) → IsLeft (Across cmp e k) (λ g. ¬ (Across cmp e k g))
   across-left e k = record { down = down; up = λ g s i n. some-cut cmp o (Across cmp e k) g s i (λ m. up g s i n (part cmp o e k g.first) (part cmp o e k g.last)) }
     where
       down : (g s : Span K) → AnyByRecursion (Across cmp e k) (cut_one cmp g s) → Across cmp e k s × ¬ (Across cmp e k g)
@@ -98,7 +98,7 @@ module _ {K : Type 0} (cmp : K → K → Ordering) (o : IsTotalOrder cmp) where
 
   module _ (bad xs ys : List (Span K)) where
     -- a cut by xs covers no key that a cut by ys does not, where the two lists agree on what they cover and run across
-    covered-again : (k : K) → ((e : Edge) → Free cmp e xs k → Free cmp e ys k) → (AllByRecursion (λ g. ¬ (IsIn cmp k g)) xs → AllByRecursion (λ g. ¬ (IsIn cmp k g)) ys)
+    covered-again : (k : K) → ((e : Border) → Free cmp e xs k → Free cmp e ys k) → (AllByRecursion (λ g. ¬ (IsIn cmp k g)) xs → AllByRecursion (λ g. ¬ (IsIn cmp k g)) ys)
         → IsCovered cmp k (pieces_left cmp bad xs) → IsCovered cmp k (pieces_left cmp bad ys)
     covered-again k f h i = go (part cmp o Start k m.0.first) (part cmp o End k m.0.last)
       where
@@ -108,7 +108,7 @@ module _ {K : Type 0} (cmp : K → K → Ordering) (o : IsTotalOrder cmp) where
         again : (Q N : Span K → Type 0) → IsLeft Q N → ((s : Span K) → Q s → IsIn cmp k s) → (AllByRecursion N xs → AllByRecursion N ys) → Q m.0 → IsCovered cmp k (pieces_left cmp bad ys)
         again Q N law holds g q = any-map Q (IsIn cmp k) (pieces_left cmp bad ys) holds (left-again Q N law bad xs ys g (any-map (λ y. m.0 ≡ y) Q (pieces_left cmp bad xs) (λ y e. subst Q e q) m.2))
 
-        across : (e : Edge) → Across cmp e k m.0 → IsCovered cmp k (pieces_left cmp bad ys)
+        across : (e : Border) → Across cmp e k m.0 → IsCovered cmp k (pieces_left cmp bad ys)
         across e = again (Across cmp e k) (λ g. ¬ (Across cmp e k g)) (across-left e k) (across-in cmp o e k) (f e)
 
         -- the key is behind the start, or before the end, or the whole range
@@ -117,17 +117,17 @@ module _ {K : Type 0} (cmp : K → K → Ordering) (o : IsTotalOrder cmp) where
         go (inr u) (inr b) = across End (m.1.0, b)
         go (inr u) (inl v) = again (IsPoint k) (λ g. ¬ (IsIn cmp k g)) (point-left k) (λ s p. (p.0, p.1)) h (m.1.0, m.1.1, u, v)
 
-    free-again : (e : Edge) (k : K) → (Free cmp e ys k → Free cmp e xs k) → Free cmp e (pieces_left cmp bad xs) k → Free cmp e (pieces_left cmp bad ys) k
+    free-again : (e : Border) (k : K) → (Free cmp e ys k → Free cmp e xs k) → Free cmp e (pieces_left cmp bad xs) k → Free cmp e (pieces_left cmp bad ys) k
     free-again e k f n = each-not (Across cmp e k) (pieces_left cmp bad ys) (λ h. none-of (Across cmp e k) (pieces_left cmp bad xs) n (left-again (Across cmp e k) (λ g. ¬ (Across cmp e k g)) (across-left e k) bad ys xs f h))
 
   -- the cut by the merge of a list is the cut by the list
   pub cut-by_merge : (bad good merged result : List (Span K)) → AllByRecursion (IsOrdered cmp) bad → AllByRecursion (IsOrdered cmp) good → IsMerge cmp good merged → IsExactCut cmp bad merged result → IsExactCut cmp bad good result
   cut-by_merge bad good merged result db dg m c = record { starts = those Start (map (λ s. s.first) result) c.starts; ends = those End (map (λ s. s.last) result) c.ends }
     where
-      free-from : (e : Edge) (k : K) → Free cmp e merged k → Free cmp e good k
+      free-from : (e : Border) (k : K) → Free cmp e merged k → Free cmp e good k
       free-from e k = free-of_merge e good merged dg m k
 
-      free-to : (e : Edge) (k : K) → Free cmp e good k → Free cmp e merged k
+      free-to : (e : Border) (k : K) → Free cmp e good k → Free cmp e merged k
       free-to Start k = merge-free Start good merged dg m m.starts k
       free-to End k = merge-free End good merged dg m m.ends k
 
@@ -137,7 +137,7 @@ module _ {K : Type 0} (cmp : K → K → Ordering) (o : IsTotalOrder cmp) where
       keys-to : (k : K) → AllByRecursion (λ g. ¬ (IsIn cmp k g)) good → AllByRecursion (λ g. ¬ (IsIn cmp k g)) merged
       keys-to k n = each-not (IsIn cmp k) merged (λ h. none-of (IsIn cmp k) good n (merge-from cmp o k good merged dg m h))
 
-      those : (e : Edge) (ks : List K) → AreThose cmp (map (bound e) (pieces_left cmp bad merged)) (Free cmp e (pieces_left cmp bad merged)) ks → AreThose cmp (map (bound e) (pieces_left cmp bad good)) (Free cmp e (pieces_left cmp bad good)) ks
+      those : (e : Border) (ks : List K) → AreThose cmp (map (bound e) (pieces_left cmp bad merged)) (Free cmp e (pieces_left cmp bad merged)) ks → AreThose cmp (map (bound e) (pieces_left cmp bad good)) (Free cmp e (pieces_left cmp bad good)) ks
       those e ks =
           those-again cmp o e (pieces_left cmp bad merged) (pieces_left cmp bad good) ks (left-ordered cmp o bad merged db) (left-ordered cmp o bad good db)
           (λ k. covered-again bad merged good k (λ e. free-from e k) (keys-from k)) (λ k. covered-again bad good merged k (λ e. free-to e k) (keys-to k))

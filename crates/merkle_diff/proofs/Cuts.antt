@@ -10,8 +10,8 @@ use Rattle.merkle_diff.specs.Cut.{IsCut, IsExactCut, IsBoundOf, piece, cut_one, 
 use Rattle.key_order.proofs.Orders.{up_up, up_low, low_up, low_is_up, not_both, either}
 use Rattle.merkle_diff.proofs.Merged.{merge-to, merge-from, merge-is_apart, merge-is_ordered}
 use Rattle.merkle_diff.proofs.Each.{any-map, each-with, each-both, each-not, any-get, any-left, any-right, any-split, any-unmapped, each-unmapped, each-append}
-use Rattle.merkle_diff.proofs.Edges.{Edge, bound, Free}
-use Rattle.merkle_diff.proofs.Edges.Edge.{Start, End}
+use Rattle.merkle_diff.proofs.Borders.{Border, bound, Free}
+use Rattle.merkle_diff.proofs.Borders.Border.{Start, End}
 use Rattle.merkle_diff.proofs.OrderTests.{same_trans, meets_by, not_meets, same-self}
 
 module _ {K : Type 0} (cmp : K → K → Ordering) (o : IsTotalOrder cmp) where
@@ -136,7 +136,7 @@ module _ {K : Type 0} (cmp : K → K → Ordering) (o : IsTotalOrder cmp) where
   pub merge-bounds : (P : K → Type 0) (ss merged : List (Span K)) → ((k j : K) → Same cmp k j → P j → P k) → AllByRecursion (Bounds P) ss → IsMerge cmp ss merged → AllByRecursion (Bounds P) merged
   merge-bounds P ss merged f d m = each-both (λ s. P s.first) (λ s. P s.last) (Bounds P) merged (λ s p q. (p, q)) (those Start (λ s b. b.0) m.starts) (those End (λ s b. b.1) m.ends)
     where
-      those : (e : Edge) → ((s : Span K) → Bounds P s → P (bound e s)) → AreThose cmp (map (bound e) ss) (Free cmp e ss) (map (bound e) merged) → AllByRecursion (λ s. P (bound e s)) merged
+      those : (e : Border) → ((s : Span K) → Bounds P s → P (bound e s)) → AreThose cmp (map (bound e) ss) (Free cmp e ss) (map (bound e) merged) → AllByRecursion (λ s. P (bound e s)) merged
       those e p t =
           each-unmapped (bound e) P merged (each-with (λ k. AnyByRecursion (λ j. Same cmp k j × Free cmp e ss j) (map (bound e) ss)) P (map (bound e) merged)
           (λ k h. any-get (Bounds P) (λ s. Same cmp k (bound e s) × Free cmp e ss (bound e s)) (P k) ss (λ s b q. f k (bound e s) q.0 (p s b)) d (any-unmapped (bound e) (λ j. Same cmp k j × Free cmp e ss j) ss h)) t.sound)

@@ -1,7 +1,7 @@
 pub mod Each
 pub mod Slices
 pub mod OrderTests
-pub mod Edges
+pub mod Borders
 pub mod Queues
 pub mod Merges
 pub mod Ranges

@@ -10,8 +10,8 @@ use Rattle.merkle_diff.specs.Sweep.{greater, sweep, swept}
 use Rattle.key_order.proofs.Orders.{same_down, up_self, up_up, low_up, up_low, not_both, low_is_up}
 use Rattle.merkle_diff.proofs.Ascents.{IsAscendingByStart}
 use Rattle.merkle_diff.proofs.Each.{any-get, any-with, each-with, each-both, each-mapped}
-use Rattle.merkle_diff.proofs.Edges.{Edge, bound, Before, Behind, Across, Free, part, before, behind, across-in, bound-in, own-free, those-again}
-use Rattle.merkle_diff.proofs.Edges.Edge.{Start, End}
+use Rattle.merkle_diff.proofs.Borders.{Border, bound, Before, Behind, Across, Free, part, before, behind, across-in, bound-in, own-free, those-again}
+use Rattle.merkle_diff.proofs.Borders.Border.{Start, End}
 use Rattle.merkle_diff.proofs.OrderTests.{by_upto, by_above, same-self}
 
 pub none-merged : {K : Type 0} (cmp : K → K → Ordering) → IsMerge cmp [] []
@@ -36,7 +36,7 @@ module _ {K : Type 0} (cmp : K → K → Ordering) (o : IsTotalOrder cmp) where
     top = greater cmp cur.last s.last
 
     -- the top is one of the two ends: where it lies behind an edge, one of them does
-    behind-top : (e : Edge) (k : K) → Behind cmp e k top → Behind cmp e k cur.last ⊎ (Before cmp e k cur.last × Behind cmp e k s.last)
+    behind-top : (e : Border) (k : K) → Behind cmp e k top → Behind cmp e k cur.last ⊎ (Before cmp e k cur.last × Behind cmp e k s.last)
     behind-top e k h = go (upto cmp s.last cur.last) (part cmp o e k cur.last) h
       where
         go : (t : Bool) → Before cmp e k cur.last ⊎ Behind cmp e k cur.last → Behind cmp e k (if t then cur.last else s.last) → Behind cmp e k cur.last ⊎ (Before cmp e k cur.last × Behind cmp e k s.last)
@@ -60,13 +60,13 @@ module _ {K : Type 0} (cmp : K → K → Ordering) (o : IsTotalOrder cmp) where
     in-grown k ss (inr i) = inr (inr i)
 
     -- the grown range runs across the edges that one of the two does
-    free-more : (e : Edge) (ss : List (Span K)) (k : K) → Free cmp e (grown cur s ∷ ss) k → Free cmp e (cur ∷ s ∷ ss) k
+    free-more : (e : Border) (ss : List (Span K)) (k : K) → Free cmp e (grown cur s ∷ ss) k → Free cmp e (cur ∷ s ∷ ss) k
     free-more e ss k h = (
       (λ c. h.0 (c.0, behind cmp o e k cur.last top (greater-both cur.last s.last).0 c.1)),
       ((λ c. h.0 (before cmp o e k cur.first s.first after c.0, behind cmp o e k s.last top (greater-both cur.last s.last).1 c.1)), h.1),
     )
 
-    free-less : (e : Edge) (ss : List (Span K)) (k : K) → Free cmp e (cur ∷ s ∷ ss) k → Free cmp e (grown cur s ∷ ss) k
+    free-less : (e : Border) (ss : List (Span K)) (k : K) → Free cmp e (cur ∷ s ∷ ss) k → Free cmp e (grown cur s ∷ ss) k
     free-less e ss k h = ((λ c. go c (behind-top e k c.1)), h.1.1)
       where
         go : Across cmp e k (grown cur s) → Behind cmp e k cur.last ⊎ (Before cmp e k cur.last × Behind cmp e k s.last) → ⊥
@@ -83,23 +83,23 @@ module _ {K : Type 0} (cmp : K → K → Ordering) (o : IsTotalOrder cmp) where
       ends = those End (map (λ t. t.last) ys) m.ends;
     }
       where
-        those : (e : Edge) (ks : List K) → AreThose cmp (map (bound e) (grown cur s ∷ ss)) (Free cmp e (grown cur s ∷ ss)) ks → AreThose cmp (map (bound e) (cur ∷ s ∷ ss)) (Free cmp e (cur ∷ s ∷ ss)) ks
+        those : (e : Border) (ks : List K) → AreThose cmp (map (bound e) (grown cur s ∷ ss)) (Free cmp e (grown cur s ∷ ss)) ks → AreThose cmp (map (bound e) (cur ∷ s ∷ ss)) (Free cmp e (cur ∷ s ∷ ss)) ks
         those e ks = those-again cmp o e (grown cur s ∷ ss) (cur ∷ s ∷ ss) ks (ordered-grown ss d) d (λ k. in-grown k ss) (λ k. within-grown (record { first = k; last = k }) ss) (free-more e ss) (free-less e ss)
 
   -- ---- a range that ends before all others begin
 
   module _ (cur : Span K) (ts : List (Span K)) (ordered : IsOrdered cmp cur) (gap : AllByRecursion (λ t. Below cmp cur.last t.first × IsOrdered cmp t) ts) where
-    above : (e : Edge) → AllByRecursion (λ j. Below cmp cur.last j) (map (bound e) ts)
+    above : (e : Border) → AllByRecursion (λ j. Below cmp cur.last j) (map (bound e) ts)
     above e = each-mapped (bound e) (λ j. Below cmp cur.last j) ts (each-with (λ t. Below cmp cur.last t.first × IsOrdered cmp t) (λ t. Below cmp cur.last (bound e t)) ts (λ t b. low_up cmp o cur.last t.first (bound e t) b.0 (bound-in cmp o e t b.1).0) gap)
 
-    cur-free : (e : Edge) → Free cmp e (cur ∷ ts) (bound e cur)
+    cur-free : (e : Border) → Free cmp e (cur ∷ ts) (bound e cur)
     cur-free e = (
       own-free cmp o e cur,
       each-with (λ t. Below cmp cur.last t.first × IsOrdered cmp t) (λ t. ¬ (Across cmp e (bound e cur) t)) ts
           (λ t b a. not_both cmp o t.first cur.last (up_up cmp o t.first (bound e cur) cur.last (across-in cmp o e (bound e cur) t a).0 (bound-in cmp o e cur ordered).1) b.0) gap,
     )
 
-    those-apart : (e : Edge) (ks : List K) → AreThose cmp (map (bound e) ts) (Free cmp e ts) ks → AreThose cmp (map (bound e) (cur ∷ ts)) (Free cmp e (cur ∷ ts)) (bound e cur ∷ ks)
+    those-apart : (e : Border) (ks : List K) → AreThose cmp (map (bound e) ts) (Free cmp e ts) ks → AreThose cmp (map (bound e) (cur ∷ ts)) (Free cmp e (cur ∷ ts)) (bound e cur ∷ ks)
     those-apart e ks m = record {
       ascends = (
         each-with (λ k. AnyByRecursion (λ j. Same cmp k j × Free cmp e ts j) (map (bound e) ts)) (λ k. Below cmp (bound e cur) k) ks

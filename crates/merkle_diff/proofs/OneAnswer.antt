@@ -13,8 +13,8 @@ use Rattle.merkle_diff.specs.Entry.{Entry, span_of}
 use Rattle.merkle_diff.specs.Merge.{AreThose, IsMerge, SameSpans}
 use Rattle.merkle_diff.proofs.Beginnings.{inv-empty, inv-outside, inv-nil, inv-held, inv-between, inv-into, agree-by, differ-by}
 use Rattle.merkle_diff.proofs.Each.{any-map, each-with}
-use Rattle.merkle_diff.proofs.Edges.{Edge, bound, Across, Free, across-same, across-within}
-use Rattle.merkle_diff.proofs.Edges.Edge.{Start, End}
+use Rattle.merkle_diff.proofs.Borders.{Border, bound, Across, Free, across-same, across-within}
+use Rattle.merkle_diff.proofs.Borders.Border.{Start, End}
 use Rattle.merkle_diff.proofs.OrderTests.{same_trans, same_back}
 use Rattle.merkle_diff.proofs.Unique.{SameKeys, merge-unique, same-back, each-same}
 use Rattle.merkle_diff.specs.Walk.{Walk, no_peer, outside, held, no_local, between, agrees, differs, Mark, Bad, Good, bad_of, good_of, bad_marks, front_within, after_within, after_holders}
@@ -105,11 +105,11 @@ module _ {K : Type 0} (cmp : K → K → Ordering) (o : IsTotalOrder cmp) where
         (λ a b f g i. any-map (Same cmp a) (Same cmp b) ks (λ x r. same_trans cmp o b a x (same_back cmp o a b f) r) (g (q a b f i))) from to e m.complete;
   }
 
-  module _ (e : Edge) where
+  module _ (e : Border) where
     bound-same : (s t : Span K) → SameSpan cmp s t → Same cmp (bound e s) (bound e t)
     bound-same s t h = go e
       where
-        go : (e : Edge) → Same cmp (bound e s) (bound e t)
+        go : (e : Border) → Same cmp (bound e s) (bound e t)
         go Start = h.0
         go End = h.1
 

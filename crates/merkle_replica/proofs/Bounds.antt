@@ -10,7 +10,7 @@ use Rattle.key_order.specs.Map.{IsPresent, IsMap, get, last_key}
 use Rattle.key_order.proofs.Bools.{which}
 use Rattle.key_order.proofs.Maps.{is_equal, at_head, get_same}
 use Rattle.key_order.proofs.Orders.{up_up, low_up, same_up, same_down, low_is_up, up_self}
-use Rattle.merkle_replica.specs.Contents.{digests}
+use Rattle.merkle_search_tree.specs.Loading.{digests}
 
 module _ {K : Type 0} (cmp : K → K → Ordering) (o : IsTotalOrder cmp) where
   module _ {X : Type 0} where

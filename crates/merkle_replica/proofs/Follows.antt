@@ -6,8 +6,9 @@ use Rattle.std.specs.declared.cmp.Ordering.TheVariants.{Less, Equal, Greater}
 use Rattle.key_order.specs.Order.{Same}
 use Rattle.key_order.specs.Map.{IsMap, SameMap, set}
 use Rattle.key_order.proofs.Sets.{ascending_set}
+use Rattle.merkle_search_tree.specs.Loading.{digests}
 use Rattle.merkle_search_tree.specs.State.{State, map_of}
-use Rattle.merkle_replica.specs.Contents.{IsKept, digests}
+use Rattle.merkle_replica.specs.Contents.{IsKept}
 
 module _ {K V D : Type 0} (cmp : K → K → Ordering) (o : IsTotalOrder cmp) (hash : V → D) where
   -- a key and an equal one set on both sides

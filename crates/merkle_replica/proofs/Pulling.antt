@@ -5,11 +5,13 @@ use Rattle.key_order.specs.Interval.{Span}
 use Rattle.key_order.specs.Map.{IsMap, last_key, rows_in}
 use Rattle.key_order.specs.Join.{IsJoin}
 use Rattle.merkle_diff.specs.Entry.{Entry}
+use Rattle.merkle_search_tree.specs.Loading.{digests}
 use Rattle.merkle_search_tree.specs.Page.{pairs}
 use Rattle.merkle_search_tree.specs.Ranges.{IsPageOf}
+use Rattle.merkle_search_tree.specs.State.{SameSettings}
 use Rattle.merkle_search_tree.specs.Stream.{page_digest}
 use Rattle.merkle_replica.specs.Laws.{Laws}
-use Rattle.merkle_replica.specs.Contents.{Contents, Side, SameSetup, side, digests, tree_map}
+use Rattle.merkle_replica.specs.Contents.{Contents, Side, side, tree_map}
 use Rattle.merkle_replica.specs.Steps.{IsAnswerTo}
 use Rattle.merkle_replica.specs.Pulls.{IsAnswerFor, IsPull, IsPartOfPull, HasRanges}
 use Rattle.merkle_replica.specs.Faithful.{SpanHolds, HaveFaithfulPages, MissesNone}
@@ -21,7 +23,7 @@ use Rattle.merkle_replica.proofs.Sides.{same_side}
 
 module _ {K V H : Type 0} (laws : Laws K V H) where
   -- an answer for replicas that were hashed is one for them as they were
-  pub answered_before : (local peer local' peer' : Contents K V H) (found : List (Span K)) → local'.rows ≡ local.rows → peer'.rows ≡ peer.rows → SameSetup local local' → SameSetup peer peer'
+  pub answered_before : (local peer local' peer' : Contents K V H) (found : List (Span K)) → local'.rows ≡ local.rows → peer'.rows ≡ peer.rows → SameSettings local.tree local'.tree → SameSettings peer.tree peer'.tree
       → IsAnswerFor laws (side local') (side peer') found → IsAnswerFor laws (side local) (side peer) found
   answered_before local peer local' peer' found lr pr ls ps a =
       subst (λ s. IsAnswerFor laws s (side peer) found) (same_side local local' lr ls) (subst (λ s. IsAnswerFor laws (side local') s found) (same_side peer peer' pr ps) a)

@@ -8,8 +8,9 @@ use Rattle.std.specs.declared.cmp.Ordering.TheVariants.{Less, Equal, Greater}
 use Rattle.key_order.specs.Map.{IsMap, SameMap, has_key, del}
 use Rattle.key_order.proofs.Dels.{ascending_del}
 use Rattle.key_order.proofs.Places.{del_at_place, has_at_place, has_in_gap}
+use Rattle.merkle_search_tree.specs.Loading.{digests}
 use Rattle.merkle_search_tree.specs.State.{State, map_of}
-use Rattle.merkle_replica.specs.Contents.{IsKept, digests}
+use Rattle.merkle_replica.specs.Contents.{IsKept}
 use Rattle.merkle_replica.specs.Places.{IsPlaceOf, IsGapFor}
 
 module _ {K V D : Type 0} (cmp : K → K → Ordering) (o : IsTotalOrder cmp) (hash : V → D) where

@@ -3,8 +3,9 @@ use Rattle.std.proofs.Common.{◌≡◌, ◌≤◌, Bool, true, false, not, List
 use Rattle.std.specs.Cmp.{IsTotalOrder, IsEquivalence}
 use Rattle.key_order.specs.Map.{IsMap}
 use Rattle.key_order.specs.Join.{IsJoining}
+use Rattle.merkle_search_tree.specs.State.{SameSettings}
 use Rattle.merkle_replica.specs.Laws.{Laws}
-use Rattle.merkle_replica.specs.Contents.{Contents, Side, SameSetup, side, with_rows}
+use Rattle.merkle_replica.specs.Contents.{Contents, Side, side, with_rows}
 use Rattle.merkle_replica.specs.Pulls.{Answer, IsPull, IsByTurns, HoldTheJoin}
 use Rattle.merkle_replica.specs.Faithful.{AllFaithful}
 use Rattle.merkle_replica.specs.Answers.{answer_of, IsRefused, StopsByTurns}
@@ -26,7 +27,7 @@ module _ {K V H : Type 0} (laws : Laws K V H) where
 
   module _ (Whole : List (Answer K) → List (K × V) → List (K × V) → Type 0) (Stopped : List (Pulled K) → PullError K → List (K × V) → List (K × V) → Type 0) (done : List (Pulled K)) (p q : Contents K V H) (t : Turns Whole Stopped done p q) where
     -- one more turn
-    turn : (p1 q1 : Contents K V H) (pulled : Pulled K) → SameSetup p p1 → SameSetup q q1 → IsPull laws (side p) (side q) (answer_of pulled) p1.rows × (q1.rows ≡ q.rows) → Turns (λ qs x y. Whole qs y x) (λ ps fault x y. Stopped ps fault y x) (done ++ pulled ∷ []) q1 p1
+    turn : (p1 q1 : Contents K V H) (pulled : Pulled K) → SameSettings p.tree p1.tree → SameSettings q.tree q1.tree → IsPull laws (side p) (side q) (answer_of pulled) p1.rows × (q1.rows ≡ q.rows) → Turns (λ qs x y. Whole qs y x) (λ ps fault x y. Stopped ps fault y x) (done ++ pulled ∷ []) q1 p1
     turn p1 q1 pulled sp sq h = record {
       follows = λ qs q' p' met more.
           let rest = subst (λ s. IsByTurns laws qs s (with_rows (side p) p1.rows) q' p' met) (same_side q q1 h.1 sq) (subst (λ s. IsByTurns laws qs (side q1) s q' p' met) (rows_alone p p1 sp) more) in
@@ -44,7 +45,7 @@ module _ {K V H : Type 0} (laws : Laws K V H) where
     end : Whole (map answer_of done) p.rows q.rows
     end = subst (λ qs. Whole qs p.rows q.rows) (append-nil (map answer_of done)) (t.follows [] p.rows q.rows [] (refl, refl, refl))
 
-  further : (a b c : Contents K V H) → SameSetup a b → SameSetup b c → SameSetup a c
+  further : (a b c : Contents K V H) → SameSettings a.tree b.tree → SameSettings b.tree c.tree → SameSettings a.tree c.tree
   further a b c s t = (t.0 ∙ s.0, t.1 ∙ s.1, t.2 ∙ s.2)
 
   -- a has pulled, or b has
@@ -70,22 +71,22 @@ module _ {K V H : Type 0} (laws : Laws K V H) where
     Going done false a b = Turns (λ qs x y. Whole qs y x) (λ ps fault x y. Stopped ps fault y x) done b a
 
     pub record Goes (done : List (Pulled K)) (next : Bool) (a b : Contents K V H) : Type 0 where
-      pub setup_a : SameSetup a0 a
-      pub setup_b : SameSetup b0 b
+      pub settings_a : SameSettings a0.tree a.tree
+      pub settings_b : SameSettings b0.tree b.tree
       pub turns : Going done next a b
 
     pub starts : Goes [] true a0 b0
-    starts = record { setup_a = (refl, refl, refl); setup_b = (refl, refl, refl); turns = record { follows = λ qs a' b' met t. (met, t); stops = λ ps fault a' b' t. t } }
+    starts = record { settings_a = (refl, refl, refl); settings_b = (refl, refl, refl); turns = record { follows = λ qs a' b' met t. (met, t); stops = λ ps fault a' b' t. t } }
 
     module _ (a b : Contents K V H) (done : List (Pulled K)) where
-      turned : (next : Bool) (a1 b1 : Contents K V H) (pulled : Pulled K) → SameSetup a a1 → SameSetup b b1 → Pulls next a b (answer_of pulled) a1 b1 → Going done next a b → Going (done ++ pulled ∷ []) (not next) a1 b1
+      turned : (next : Bool) (a1 b1 : Contents K V H) (pulled : Pulled K) → SameSettings a.tree a1.tree → SameSettings b.tree b1.tree → Pulls next a b (answer_of pulled) a1 b1 → Going done next a b → Going (done ++ pulled ∷ []) (not next) a1 b1
       turned true a1 b1 pulled sa sb h t = turn _ _ done a b t a1 b1 pulled sa sb h
       turned false a1 b1 pulled sa sb h t = turn _ _ done b a t b1 a1 pulled sb sa h
 
-      pub goes_on : (next : Bool) (a1 b1 : Contents K V H) (done' : List (Pulled K)) (pulled : Pulled K) → done' ≡ done ++ pulled ∷ [] → SameSetup a a1 → SameSetup b b1 → Pulls next a b (answer_of pulled) a1 b1 → Goes done next a b → Goes done' (not next) a1 b1
+      pub goes_on : (next : Bool) (a1 b1 : Contents K V H) (done' : List (Pulled K)) (pulled : Pulled K) → done' ≡ done ++ pulled ∷ [] → SameSettings a.tree a1.tree → SameSettings b.tree b1.tree → Pulls next a b (answer_of pulled) a1 b1 → Goes done next a b → Goes done' (not next) a1 b1
       goes_on next a1 b1 done' pulled d sa sb h g = record {
-        setup_a = further a0 a a1 g.setup_a sa;
-        setup_b = further b0 b b1 g.setup_b sb;
+        settings_a = further a0 a a1 g.settings_a sa;
+        settings_b = further b0 b b1 g.settings_b sb;
         turns = subst (λ ps. Going ps (not next) a1 b1) (sym d) (turned next a1 b1 pulled sa sb h g.turns);
       }
 

@@ -1,10 +1,11 @@
 -- What a replica is seen as.
-use Rattle.std.specs.Prelude.{◌≡◌, ℕ, List, [], map, Some}
+use Rattle.std.specs.Prelude.{◌≡◌, ℕ, List, [], Some}
 use Rattle.std.specs.Coded.{Coded, coded_list, coded×, code_by}
 use Rattle.std.specs.declared.cmp.Ordering.{Ordering}
 use Rattle.std.proofs.Common.{refl}
 use Rattle.key_order.specs.Map.{IsMap, SameMap}
 use Rattle.merkle_search_tree.specs.Cache.{filled}
+use Rattle.merkle_search_tree.specs.Loading.{digests}
 use Rattle.merkle_search_tree.specs.Stream.{page_digest}
 use Rattle.merkle_search_tree.specs.State.{State, state_code, map_of, IsNew}
 use Rattle.merkle_search_tree.specs.declared.builder.PageFormat.{PageFormat}
@@ -19,10 +20,6 @@ abbrev pub contents_code : {K V H : Type 0} → Coded K → Coded V → Coded H 
 contents_code {K} {V} {H} k v h =
     code_by (List (K × V) × State K H) (coded× (coded_list (coded× k v)) (state_code k h))
     (λ c. (c.rows, c.tree)) (λ p. record { rows = p.0; tree = p.1 }) (λ _. refl)
-
--- the rows with each value replaced by its digest
-abbrev pub digests : {K V D : Type 0} → (V → D) → List (K × V) → List (K × D)
-digests hash = map (λ r. (r.0, hash r.1))
 
 -- what pulls see of a replica: the hasher, the level base and the page format of its tree, and its rows
 pub record Side (K V H : Type 0) : Type 0 where
@@ -50,10 +47,6 @@ pub record IsKept {K V H : Type 0} (cmp : K → K → Ordering) (digest_of : H �
 -- no row, and the empty tree with this hasher, level base and page format
 abbrev pub IsEmpty : {K V H : Type 0} → H → ℕ → PageFormat → Contents K V H → Type 0
 IsEmpty hasher base format c = (c.rows ≡ []) × IsNew hasher base format c.tree
-
--- the hasher, the level base and the page format stay
-abbrev pub SameSetup : {K V H : Type 0} → Contents K V H → Contents K V H → Type 0
-SameSetup a b = (b.tree.hasher ≡ a.tree.hasher) × (b.tree.base ≡ a.tree.base) × (b.tree.format ≡ a.tree.format)
 
 -- the tree with every digest in place, and that of its root page as its root hash
 abbrev pub hashed : {K H : Type 0} → (K → List ℕ) → State K H → State K H

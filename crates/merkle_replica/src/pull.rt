@@ -4,7 +4,8 @@ ghost use Rattle.key_order.specs.Order.{Same};
 ghost use Rattle.merkle_diff.specs.DiffRange.{spans};
 ghost use Rattle.merkle_diff.specs.Merge.{SameSpans};
 ghost use Rattle.merkle_diff.specs.PageRangeSnapshot.{snapshot_entries};
-ghost use Rattle.merkle_replica.specs.Contents.{SameSetup, hashed, side};
+ghost use Rattle.merkle_search_tree.specs.State.{SameSettings};
+ghost use Rattle.merkle_replica.specs.Contents.{hashed, side};
 ghost use Rattle.merkle_replica.specs.Pulls.{IsAnswerFor, IsPull};
 ghost use Rattle.merkle_replica.specs.Faithful.{SpanHolds, HaveFaithfulPages, MissesNone};
 ghost use Rattle.merkle_replica.specs.Answers.{spans_of, answer_of, IsRefused, PartMissesNone};
@@ -73,8 +74,8 @@ impl<
         // Both trees are hashed, whatever it answers.
         ensures tree { self.new.tree ≡ hashed K.bytes_of self.old.tree }
         ensures peer_tree { peer.new.tree ≡ hashed K.bytes_of peer.old.tree }
-        ensures setup { SameSetup self.old self.new }
-        ensures peer_setup { SameSetup peer.old peer.new }
+        ensures settings { SameSettings self.old.tree self.new.tree }
+        ensures peer_settings { SameSettings peer.old.tree peer.new.tree }
     {
         self.hash();
         peer.hash();
@@ -115,8 +116,8 @@ impl<
             → SpanHolds K.cmp peer.old.rows self.old.rows → PartMissesNone laws (side self.old) (side peer.old) fault) }
 
         ensures peer_rows { peer.new.rows ≡ peer.old.rows }
-        ensures setup { SameSetup self.old self.new }
-        ensures peer_setup { SameSetup peer.old peer.new }
+        ensures settings { SameSettings self.old.tree self.new.tree }
+        ensures peer_settings { SameSettings peer.old.tree peer.new.tree }
     {
         self.rows_ascend();
         peer.rows_ascend();

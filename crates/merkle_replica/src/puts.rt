@@ -1,7 +1,7 @@
 //! Many rows put at once.
 ghost use Rattle.std.specs.Prelude.{◌≡◌, OnOk, IfErr};
 ghost use Rattle.key_order.specs.Order.{Same};
-ghost use Rattle.merkle_replica.specs.Contents.{SameSetup};
+ghost use Rattle.merkle_search_tree.specs.State.{SameSettings};
 ghost use Rattle.merkle_replica.specs.Puts.{IsPuts, IsPutsTo};
 
 use crate::join::Join;
@@ -39,7 +39,7 @@ impl<
 
         ensures joined { OnOk result (IsPuts K.cmp V.eq V.join_of self.old.rows rows.items self.new.rows) }
         ensures cut { IfErr result (λ cut. IsPutsTo K.cmp V.eq V.join_of self.old.rows rows.items cut.done self.new.rows) }
-        ensures setup { SameSetup self.old self.new }
+        ensures settings { SameSettings self.old.tree self.new.tree }
     {
         self.rows_ascend();
         let mut sorted = rows;

@@ -5,9 +5,10 @@ ghost use Rattle.key_order.specs.Map.{IsMap, SameMap};
 ghost use Rattle.key_order.specs.Join.{IsJoin};
 ghost use Rattle.merkle_digest.specs.Level.{level_of};
 ghost use Rattle.merkle_search_tree.specs.Cache.{missing};
+ghost use Rattle.merkle_search_tree.specs.Loading.{digests};
 ghost use Rattle.merkle_search_tree.specs.Page.{level};
-ghost use Rattle.merkle_search_tree.specs.State.{map_of};
-ghost use Rattle.merkle_replica.specs.Contents.{IsEmpty, SameSetup, digests};
+ghost use Rattle.merkle_search_tree.specs.State.{map_of, SameSettings};
+ghost use Rattle.merkle_replica.specs.Contents.{IsEmpty};
 ghost use Rattle.merkle_replica.specs.Places.{IsPlaceOf, IsGapFor};
 
 use crate::join::Join;
@@ -164,7 +165,7 @@ impl<
 
         ensures joined { OnOk result (IsJoin K.cmp V.eq V.join_of self.old.rows ((key, value) ∷ []) self.new.rows) }
         ensures unchanged { OnErr result (self.new ≡ self.old) }
-        ensures setup { SameSetup self.old self.new }
+        ensures settings { SameSettings self.old.tree self.new.tree }
 
         // Few digests of the tree are dropped.
         ensures few_more { OnOk result (missing self.new.tree.root
@@ -218,7 +219,7 @@ impl<
         // The rows no longer have the key, and the answer says whether they had it.
         ensures rows { OnOk result (self.new.rows ≡ del K.cmp self.old.rows key.now) }
         ensures found { IfOk result (λ found. found ≡ has_key K.cmp self.old.rows key.now) }
-        ensures setup { SameSetup self.old self.new }
+        ensures settings { SameSettings self.old.tree self.new.tree }
 
         // Few digests of the tree are dropped.
         ensures few_more { OnOk result (missing self.new.tree.root ≤ missing self.old.tree.root + (level self.old.tree.root + 1)) }
@@ -317,7 +318,7 @@ impl<
         requires ascending { IsMap K.cmp theirs.now }
         ensures all { IfOk result (λ joined. IsDone K.cmp V.eq V.join_of (rows_in K.cmp (spans_of ranges.now) theirs.now) self.old.rows joined self.new.rows) }
         ensures stopped { IfErr result (λ stopped. IsPartlyDone K.cmp V.eq V.join_of (rows_in K.cmp (spans_of ranges.now) theirs.now) self.old.rows stopped.done stopped.joined self.new.rows) }
-        ensures setup { SameSetup self.old self.new }
+        ensures settings { SameSettings self.old.tree self.new.tree }
     {
         join_all(self.alloc, &mut self.rows, &mut self.tree, theirs, ranges)
     }
@@ -328,7 +329,7 @@ impl<
         requires rising { IsRising K.cmp theirs.items }
         ensures all { OnOk result (HasGathered K.cmp V.eq V.join_of self.old.rows theirs.items self.new.rows) }
         ensures cut { IfErr result (λ done. IsGatheredTo K.cmp V.eq V.join_of self.old.rows theirs.items done self.new.rows) }
-        ensures setup { SameSetup self.old self.new }
+        ensures settings { SameSettings self.old.tree self.new.tree }
     {
         join_owned(self.alloc, &mut self.rows, &mut self.tree, theirs)
     }

@@ -4,8 +4,9 @@ ghost use Rattle.key_order.specs.Order.{Same};
 ghost use Rattle.key_order.specs.Map.{IsMap, rows_in};
 ghost use Rattle.key_order.specs.Join.{IsJoin};
 ghost use Rattle.merkle_diff.specs.PageRangeSnapshot.{snapshot_entries};
+ghost use Rattle.merkle_search_tree.specs.State.{SameSettings};
 ghost use Rattle.merkle_replica.specs.Answers.{spans_of};
-ghost use Rattle.merkle_replica.specs.Contents.{SameSetup, hashed, side};
+ghost use Rattle.merkle_replica.specs.Contents.{hashed, side};
 ghost use Rattle.merkle_replica.specs.Steps.{AreRanges, IsAnswerTo, IsJoinRefused};
 
 use crate::join::Join;
@@ -56,7 +57,7 @@ impl<
 
         // The tree is hashed, whatever it answers.
         ensures tree { self.new.tree ≡ hashed K.bytes_of self.old.tree }
-        ensures setup { SameSetup self.old self.new }
+        ensures settings { SameSettings self.old.tree self.new.tree }
     {
         self.hash();
         ask_of(self.alloc, self, theirs)
@@ -98,7 +99,7 @@ impl<
 
         // Rows that don't ascend leave the replica, caches included.
         ensures unchanged { ¬ (IsMap K.cmp rows.items) → self.new ≡ self.old }
-        ensures setup { SameSetup self.old self.new }
+        ensures settings { SameSettings self.old.tree self.new.tree }
     {
         if !ascend(&rows) {
             return Err(JoinRefused::NotAscending(rows));

@@ -1,7 +1,8 @@
 //! Pulls by turns, by which two replicas come to hold the join of their maps.
 ghost use Rattle.std.specs.Prelude.{◌≡◌, ◌<◌, ◌≤◌, List, IfOk, IfErr, map, length};
 ghost use Rattle.key_order.specs.Order.{Same};
-ghost use Rattle.merkle_replica.specs.Contents.{Side, SameSetup, side};
+ghost use Rattle.merkle_search_tree.specs.State.{SameSettings};
+ghost use Rattle.merkle_replica.specs.Contents.{Side, side};
 ghost use Rattle.merkle_replica.specs.Pulls.{IsByTurns, HoldTheJoin};
 ghost use Rattle.merkle_replica.specs.Faithful.{AllFaithful};
 ghost use Rattle.merkle_replica.specs.Answers.{answer_of, StopsByTurns};
@@ -65,8 +66,8 @@ pub fn pull_by_turns<
         (side a.old) (side b.old) a.new.rows b.new.rows) }
     ensures fewer { IfErr result (λ error. length error.finished.items < n) }
 
-    ensures a_setup { SameSetup a.old a.new }
-    ensures b_setup { SameSetup b.old b.new }
+    ensures a_settings { SameSettings a.old.tree a.new.tree }
+    ensures b_settings { SameSettings b.old.tree b.new.tree }
 {
     a.rows_ascend();
     b.rows_ascend();

@@ -12,7 +12,7 @@ use Rattle.key_order.proofs.Orders.{low_low}
 use Rattle.key_order.proofs.SameMaps.{same-append, same_is_map, ascends}
 use Rattle.key_order.proofs.Bools.{false_not_true}
 use Rattle.merkle_search_tree.specs.Edge.{is_above}
-use Rattle.merkle_search_tree.specs.Loading.{row_count, digests_of, RowFails, LoadFails}
+use Rattle.merkle_search_tree.specs.Loading.{row_count, digests, RowFails, LoadFails}
 use Rattle.merkle_search_tree.specs.declared.load.LoadRefused.{LoadRefused}
 use Rattle.merkle_search_tree.specs.declared.load.LoadRefused.TheVariants.{Memory, NotAscending}
 
@@ -52,36 +52,36 @@ count-more rows r n e =
 
 -- the digests of rows
 module _ {K V D : Type 0} (f : V → D) where
-  pub digests-more : (rows : List (K × V)) (k : K) (v : V) → digests_of f (rows ++ (k, v) ∷ []) ≡ digests_of f rows ++ (k, f v) ∷ []
+  pub digests-more : (rows : List (K × V)) (k : K) (v : V) → digests f (rows ++ (k, v) ∷ []) ≡ digests f rows ++ (k, f v) ∷ []
   digests-more [] k v = refl
   digests-more (r ∷ rs) k v = ap (λ xs. (r.0, f r.1) ∷ xs) (digests-more rs k v)
 
   module _ (cmp : K → K → Ordering) where
-    all-digests : (k : K) (rows : List (K × V)) → AllByRecursion (λ s. Below cmp k s.0) (digests_of f rows) → AllByRecursion (λ s. Below cmp k s.0) rows
+    all-digests : (k : K) (rows : List (K × V)) → AllByRecursion (λ s. Below cmp k s.0) (digests f rows) → AllByRecursion (λ s. Below cmp k s.0) rows
     all-digests k [] a = tt
     all-digests k (r ∷ rs) a = (a.0, all-digests k rs a.1)
 
     -- rows ascend where the pairs of their digests do, and the other way round
-    pub rows-map : (rows : List (K × V)) → IsMap cmp (digests_of f rows) → IsMap cmp rows
+    pub rows-map : (rows : List (K × V)) → IsMap cmp (digests f rows) → IsMap cmp rows
     rows-map [] a = tt
     rows-map (r ∷ rs) a = (all-digests r.0 rs a.0, rows-map rs a.1)
 
-    digests-all : (k : K) (rows : List (K × V)) → AllByRecursion (λ s. Below cmp k s.0) rows → AllByRecursion (λ s. Below cmp k s.0) (digests_of f rows)
+    digests-all : (k : K) (rows : List (K × V)) → AllByRecursion (λ s. Below cmp k s.0) rows → AllByRecursion (λ s. Below cmp k s.0) (digests f rows)
     digests-all k [] a = tt
     digests-all k (r ∷ rs) a = (a.0, digests-all k rs a.1)
 
-    pub digests-map : (rows : List (K × V)) → IsMap cmp rows → IsMap cmp (digests_of f rows)
+    pub digests-map : (rows : List (K × V)) → IsMap cmp rows → IsMap cmp (digests f rows)
     digests-map [] a = tt
     digests-map (r ∷ rs) a = (digests-all r.0 rs a.0, digests-map rs a.1)
 
-  digests-length : (rows : List (K × V)) → length (digests_of f rows) ≡ length rows
+  digests-length : (rows : List (K × V)) → length (digests f rows) ≡ length rows
   digests-length [] = refl
   digests-length (r ∷ rs) = ap suc (digests-length rs)
 
 -- pairs whose keys equal those of rows, and whose digests are those of the rows' values
 module _ {K V D : Type 0} (f : V → D) (cmp : K → K → Ordering) (o : IsTotalOrder cmp) where
   abbrev pub Holds : List (K × D) → List (K × V) → Type 0
-  Holds ps rows = SameMap cmp (λ d e. d ≡ e) ps (digests_of f rows)
+  Holds ps rows = SameMap cmp (λ d e. d ≡ e) ps (digests f rows)
 
   same-length : (ps qs : List (K × D)) → SameMap cmp (λ d e. d ≡ e) ps qs → length ps ≡ length qs
   same-length [] [] a = refl
@@ -91,11 +91,11 @@ module _ {K V D : Type 0} (f : V → D) (cmp : K → K → Ordering) (o : IsTota
 
   -- one more row
   pub holds-more : (ps : List (K × D)) (rows : List (K × V)) (j k : K) (v : V) → Holds ps rows → Same cmp j k → Holds (ps ++ (j, f v) ∷ []) (rows ++ (k, v) ∷ [])
-  holds-more ps rows j k v a e = subst (SameMap cmp (λ d x. d ≡ x) (ps ++ (j, f v) ∷ [])) (sym (digests-more f rows k v)) (same-append cmp ps ((j, f v) ∷ []) (digests_of f rows) ((k, f v) ∷ []) a (e, refl, tt))
+  holds-more ps rows j k v a e = subst (SameMap cmp (λ d x. d ≡ x) (ps ++ (j, f v) ∷ [])) (sym (digests-more f rows k v)) (same-append cmp ps ((j, f v) ∷ []) (digests f rows) ((k, f v) ∷ []) a (e, refl, tt))
 
   -- the rows ascend
   pub holds-map : (ps : List (K × D)) (rows : List (K × V)) → Holds ps rows → IsMap cmp ps → IsMap cmp rows
-  holds-map ps rows a m = rows-map f cmp rows (same_is_map cmp o (λ d e. d ≡ e) ps (digests_of f rows) a m)
+  holds-map ps rows a m = rows-map f cmp rows (same_is_map cmp o (λ d e. d ≡ e) ps (digests f rows) a m)
 
   -- a row that is refused behind the pairs is refused behind the rows
   pub holds-fails : (Came : List (K × V) → Type 0) (ps : List (K × D)) (rows : List (K × V)) (j k : K) (v : V) (fault : LoadRefused) → Holds ps rows → Same cmp j k → Came (rows ++ (k, v) ∷ [])
@@ -105,8 +105,8 @@ module _ {K V D : Type 0} (f : V → D) (cmp : K → K → Ordering) (o : IsTota
     rows,
     (k, v),
     w,
-    (holds-map ps rows a r.0.0, λ x m. r.0.1 (f x) (ascends cmp o (λ d y. d ≡ y) (ps ++ (j, f x) ∷ []) (digests_of f (rows ++ (k, x) ∷ [])) (holds-more ps rows j k x a e) (digests-map f cmp (rows ++ (k, x) ∷ []) m))),
-    r.1 ∙ ap (λ n. min n (2 ^ 64 - 1)) (same-length ps (digests_of f rows) a ∙ digests-length f rows),
+    (holds-map ps rows a r.0.0, λ x m. r.0.1 (f x) (ascends cmp o (λ d y. d ≡ y) (ps ++ (j, f x) ∷ []) (digests f (rows ++ (k, x) ∷ [])) (holds-more ps rows j k x a e) (digests-map f cmp (rows ++ (k, x) ∷ []) m))),
+    r.1 ∙ ap (λ n. min n (2 ^ 64 - 1)) (same-length ps (digests f rows) a ∙ digests-length f rows),
   )
 
 -- items that came, and one more

@@ -19,9 +19,9 @@ pub record IsLoading {K H : Type 0} (cmp : K → K → Ordering) (digest_of : H 
   pub fits : IsEdge (λ k. level_of (digest_of settings.hasher k) settings.base) 256 loading.edge.items
   pub counted : loading.count ≡ row_count (edge_pairs loading.edge.items)
 
--- each key with the digest of its value
-abbrev pub digests_of : {K V D : Type 0} → (V → D) → List (K × V) → List (K × D)
-digests_of digest_of = map (λ r. (r.0, digest_of r.1))
+-- the rows with each value replaced by its digest
+abbrev pub digests : {K V D : Type 0} → (V → D) → List (K × V) → List (K × D)
+digests digest_of = map (λ r. (r.0, digest_of r.1))
 
 -- the rows begin with these
 abbrev pub BeginsWith : {X : Type 0} → List X → List X → Type 0

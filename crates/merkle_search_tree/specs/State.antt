@@ -24,6 +24,10 @@ map_of s = pairs s.root
 abbrev pub IsNew : {K H : Type 0} → H → ℕ → PageFormat → State K H → Type 0
 IsNew hasher base format s = s ≡ record { hasher = hasher; base = base; format = format; root = page 0 None (high nothing); root_hash = None }
 
+-- the hasher, the level base and the page format stay
+abbrev pub SameSettings : {K H : Type 0} → State K H → State K H → Type 0
+SameSettings old new = (new.hasher ≡ old.hasher) × (new.base ≡ old.base) × (new.format ≡ old.format)
+
 abbrev pub state_code : {K H : Type 0} → Coded K → Coded H → Coded (State K H)
 state_code {K} {H} k h =
     code_by (H × (ℕ × (PageFormat × (Tree K (List ℕ) × Option (List ℕ))))) (coded× h (coded× coded_ℕ (coded× format_code (coded× (tree_code k (coded_list coded_ℕ)) (coded_option (coded_list coded_ℕ))))))

@@ -6,7 +6,7 @@ ghost use Rattle.key_order.specs.Order.{Same};
 ghost use Rattle.key_order.specs.Map.{IsMap, SameMap};
 ghost use Rattle.merkle_diff.specs.Iterable.{Gives, Begins};
 ghost use Rattle.merkle_search_tree.specs.Edge.{edge_pairs};
-ghost use Rattle.merkle_search_tree.specs.Loading.{digests_of, IsLoading, RowFails, LoadFails, BeginsWith};
+ghost use Rattle.merkle_search_tree.specs.Loading.{digests, IsLoading, RowFails, LoadFails, BeginsWith};
 ghost use Rattle.merkle_search_tree.specs.State.{map_of};
 ghost use Rattle.merkle_search_tree.specs.declared.load.LoadRefused.TheVariants.{Memory};
 
@@ -134,7 +134,7 @@ impl<
 
         // The map is the rows that were given, which ascend, with the digests of their values.
         ensures map { IfOk result (λ tree. (given : _) × Gives T.into_iter_gives T.IntoIter.next_gives rows given
-            × IsMap K.cmp given × (map_of tree ≡ digests_of (⟦<H as Hasher<N, V>>⟧.digest_of builder.hasher) given)) }
+            × IsMap K.cmp given × (map_of tree ≡ digests (⟦<H as Hasher<N, V>>⟧.digest_of builder.hasher) given)) }
 
         ensures hasher { IfOk result (λ tree. tree.hasher ≡ builder.hasher) }
         ensures base { IfOk result (λ tree. tree.base ≡ builder.base) }
@@ -180,7 +180,7 @@ impl<
         requires clones { (a b : K) → K.is_clone a b → Same K.cmp a b }
 
         // The map is the rows with the digests of their values.
-        ensures map { IfOk result (λ tree. SameMap K.cmp (λ d e. d ≡ e) (map_of tree) (digests_of (⟦<H as Hasher<N, V>>⟧.digest_of builder.hasher) rows.now)) }
+        ensures map { IfOk result (λ tree. SameMap K.cmp (λ d e. d ≡ e) (map_of tree) (digests (⟦<H as Hasher<N, V>>⟧.digest_of builder.hasher) rows.now)) }
 
         ensures ascending { IfOk result (λ tree. IsMap K.cmp rows.now) }
         ensures hasher { IfOk result (λ tree. tree.hasher ≡ builder.hasher) }

@@ -9,7 +9,7 @@ use Rattle.std.specs.declared.cmp.Ordering.{Ordering}
 use Rattle.std.specs.declared.vec.IntoIter.{IntoIter}
 use Rattle.key_order.specs.Map.{IsMap}
 use Rattle.key_order.specs.Order.{Below}
-use Rattle.merkle_search_tree.specs.Loading.{LoadFails, digests_of}
+use Rattle.merkle_search_tree.specs.Loading.{LoadFails, digests}
 use Rattle.merkle_search_tree.specs.declared.load.LoadRefused.{LoadRefused}
 use Rattle.merkle_search_tree.specs.declared.load.LoadRefused.TheVariants.{NotAscending}
 use Rattle.mst_c.specs.Trees.{bytes_cmp, by_bytes, key_cmp}
@@ -32,7 +32,7 @@ module _ {K L X Y : Type 0} (cmp : K → K → Ordering) (other : L → L → Or
   map_from [] a = tt
   map_from (r ∷ rs) a = (all_from r rs a.0, map_from rs a.1)
 
-module _ (h : List ℕ → List ℕ) (pairs : List (Vec ℕ × List ℕ)) (rows : List (List ℕ × List ℕ)) (e : map by_bytes pairs ≡ digests_of h rows) where
+module _ (h : List ℕ → List ℕ) (pairs : List (Vec ℕ × List ℕ)) (rows : List (List ℕ × List ℕ)) (e : map by_bytes pairs ≡ digests h rows) where
   -- the rows ascend where the pairs do that have their keys
   pub rows_ascend : IsMap key_cmp pairs → IsMap bytes_cmp rows
   rows_ascend a = map_from bytes_cmp bytes_cmp (λ r. (r.0, h r.1)) (λ r s. λ i. bytes_cmp r.0 s.0) rows

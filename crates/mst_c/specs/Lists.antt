@@ -8,8 +8,9 @@ use Rattle.key_order.specs.Order.{Upto}
 use Rattle.merkle_digest.specs.SipHash.{siphash128}
 use Rattle.merkle_diff.specs.Difference.{IsAnswer}
 use Rattle.merkle_diff.specs.Entry.{Entry}
-use Rattle.merkle_search_tree.specs.Loading.{digests_of}
-use Rattle.mst_c.specs.Trees.{ByteState, SameSettings, bytes_cmp, key_cmp, rows_of}
+use Rattle.merkle_search_tree.specs.Loading.{digests}
+use Rattle.merkle_search_tree.specs.State.{SameSettings}
+use Rattle.mst_c.specs.Trees.{ByteState, bytes_cmp, key_cmp, rows_of}
 use Rattle.mst_c.specs.Wire.{page_ranges_bytes, key_ranges_bytes, rows_bytes}
 
 -- an entry of a list of page ranges has a digest of 16 bytes, and its first key is at most its last
@@ -26,7 +27,7 @@ AreRows bytes rows = (bytes ≡ rows_bytes rows) × IsMap bytes_cmp rows
 
 -- the map is the rows that the bytes spell, each with the digest of its value, and the settings stay
 abbrev pub IsLoaded : List ℕ → ByteState → ByteState → Type 0
-IsLoaded bytes old new = (rows : List (List ℕ × List ℕ)) × AreRows bytes rows × (rows_of new ≡ digests_of (siphash128 old.hasher) rows) × SameSettings old new
+IsLoaded bytes old new = (rows : List (List ℕ × List ℕ)) × AreRows bytes rows × (rows_of new ≡ digests (siphash128 old.hasher) rows) × SameSettings old new
 
 -- the bytes are the list of the key ranges that `diff` may answer on the page ranges that local and peer spell
 abbrev pub IsDiffOf : List ℕ → List ℕ → List ℕ → Type 0

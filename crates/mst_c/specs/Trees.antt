@@ -11,7 +11,7 @@ use Rattle.merkle_digest.specs.SipHash.{siphash128}
 use Rattle.merkle_search_tree.specs.Cache.{missing}
 use Rattle.merkle_search_tree.specs.Copy.{IsCopy}
 use Rattle.merkle_search_tree.specs.Page.{level}
-use Rattle.merkle_search_tree.specs.State.{State, map_of}
+use Rattle.merkle_search_tree.specs.State.{State, SameSettings, map_of}
 
 -- a tree whose keys are byte strings and whose hasher is a key of SipHash
 abbrev pub ByteState : Type 0
@@ -36,12 +36,6 @@ by_bytes r = (r.0.items, r.1)
 -- the map of a tree: its keys in order, each with the digest of its value
 abbrev pub rows_of : ByteState → List (List ℕ × List ℕ)
 rows_of s = map by_bytes (map_of s)
-
--- the hasher, the level base and the page format stay
-pub record SameSettings (old new : ByteState) : Type 0 where
-  pub hasher : new.hasher ≡ old.hasher
-  pub base : new.base ≡ old.base
-  pub format : new.format ≡ old.format
 
 -- the map and the settings stay
 pub record SameRows (old new : ByteState) : Type 0 where

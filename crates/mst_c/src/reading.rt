@@ -7,7 +7,7 @@ ghost use Rattle.merkle_digest.specs.SipHash.{siphash128};
 ghost use Rattle.merkle_diff.specs.Entry.{Entry};
 ghost use Rattle.merkle_diff.specs.OwnedPageRange.{owned_entry, owned_entries};
 ghost use Rattle.merkle_diff.specs.PageRangeSnapshot.{snapshot_entries};
-ghost use Rattle.merkle_search_tree.specs.Loading.{digests_of};
+ghost use Rattle.merkle_search_tree.specs.Loading.{digests};
 ghost use Rattle.mst_c.specs.Lists.{IsPageRange, ArePageRanges, IsDiffOf};
 ghost use Rattle.mst_c.specs.Trees.{by_bytes};
 ghost use Rattle.mst_c.specs.Wire.{number_bytes, text_bytes, row_bytes, entry_bytes, rows_bytes};
@@ -150,7 +150,7 @@ fn rows_of(
     body: &[u8],
 ) -> Result<Vec<(Vec<u8>, [u8; 16])>, ReadError>
     ensures rows { IfOk result (λ rows. (given : List (List ℕ × List ℕ)) × (body.now ≡ flat_map row_bytes given) × (length given ≡ count)
-        × (map by_bytes rows.items ≡ digests_of (siphash128 hasher.now) given)) }
+        × (map by_bytes rows.items ≡ digests (siphash128 hasher.now) given)) }
     ensures malformed { result ≡ Err Malformed → (given : List (List ℕ × List ℕ)) → length given ≡ count → body.now ≢ flat_map row_bytes given }
 {
     let mut rows = Vec::new(alloc);
@@ -179,7 +179,7 @@ pub fn decode_rows(
     bytes: &[u8],
 ) -> Result<Vec<(Vec<u8>, [u8; 16])>, ReadError>
     ensures rows { IfOk result (λ rows. (given : List (List ℕ × List ℕ)) × (bytes.now ≡ rows_bytes given)
-        × (map by_bytes rows.items ≡ digests_of (siphash128 hasher.now) given)) }
+        × (map by_bytes rows.items ≡ digests (siphash128 hasher.now) given)) }
     ensures malformed { result ≡ Err Malformed → (given : List (List ℕ × List ℕ)) → bytes.now ≢ rows_bytes given }
 {
     let Some((count, body)) = body_of(&ROWS, bytes) else {

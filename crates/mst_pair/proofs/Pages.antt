@@ -5,18 +5,20 @@ use Rattle.std.specs.List.{flat_map}
 use Rattle.std.proofs.lemmas.Map.Lookups.{exact_bytes}
 use Rattle.key_order.specs.Order.{Same}
 use Rattle.key_order.specs.Map.{SameMap}
+use Rattle.key_order.specs.Text.{Text, text_order}
 use Rattle.merkle_digest.specs.SipHash.{siphash128}
 use Rattle.merkle_diff.specs.Entry.{Entry, span_of}
 use Rattle.merkle_diff.specs.SameEntries.{SameEntries}
 use Rattle.merkle_search_tree.specs.Canonical.{SamePages, IsTreeOf}
+use Rattle.merkle_search_tree.specs.Loading.{digests}
 use Rattle.merkle_search_tree.specs.Sound.{IsSound}
 use Rattle.merkle_search_tree.specs.State.{map_of}
 use Rattle.merkle_search_tree.specs.Tree.{Tree}
 use Rattle.merkle_search_tree.specs.TreeOf.{defined_tree}
-use Rattle.merkle_replica.specs.Contents.{Contents, digests}
+use Rattle.merkle_replica.specs.Contents.{Contents}
 use Rattle.mst_pair.specs.Pages.{tree, page_ranges, HasDefaults}
 use Rattle.mst_pair.specs.Replies.{text_line, range_text, ranges_text, end_line}
-use Rattle.mst_pair.specs.Replicas.{Text, TextRow, text_order}
+use Rattle.mst_pair.specs.Replicas.{TextRow}
 use Rattle.merkle_search_tree.specs.declared.builder.PageFormat.{PageFormat}
 
 -- equal texts have equal bytes

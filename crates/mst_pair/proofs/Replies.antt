@@ -1,10 +1,10 @@
 -- The lines of what is shown.
 use Rattle.std.proofs.Common.{◌≡◌, List, [], ◌∷◌, ◌++◌, map, ap, ◌∙◌, refl}
 use Rattle.std.specs.List.{flat_map}
+use Rattle.key_order.specs.Text.{Text}
 use Rattle.merkle_replica.specs.Answers.{spans_of, answer_of}
 use Rattle.merkle_replica.specs.Pulls.{Answer}
 use Rattle.mst_pair.specs.Replies.{range_text, ranges_text, joined_text, turns_text, end_line}
-use Rattle.mst_pair.specs.Replicas.{Text}
 use Rattle.merkle_replica.specs.declared.pull.Pulled.{Pulled}
 
 -- the lines of items that are seen as others

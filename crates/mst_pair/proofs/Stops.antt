@@ -1,13 +1,14 @@
 -- Pulls of replicas of the program, in the words of the engine.
 use Rattle.std.proofs.Common.{◌≡◌, ℕ, List, [], ◌∷◌, inl, inr, subst, map, Result, Ok, Err, IfErr, OnErr}
 use Rattle.key_order.specs.Interval.{Span}
+use Rattle.key_order.specs.Text.{Text}
 use Rattle.merkle_search_tree.specs.declared.builder.PageFormat.{PageFormat}
 use Rattle.merkle_replica.specs.Answers.{answer_of, IsRefused, StopsByTurns}
 use Rattle.merkle_replica.specs.Contents.{Contents, Side, side}
 use Rattle.mst_pair.specs.Engine.{AreRangesToAsk, StopsPulling, StopsAfter}
 use Rattle.mst_pair.specs.Pages.{HasDefaults, text_laws, side_of}
 use Rattle.merkle_replica.specs.Pulls.{IsAnswerFor}
-use Rattle.mst_pair.specs.Replicas.{Text, TextRow}
+use Rattle.mst_pair.specs.Replicas.{TextRow}
 use Rattle.merkle_replica.specs.declared.pull.Pulled.{Pulled}
 use Rattle.merkle_replica.specs.declared.pull.PullError.{PullError}
 use Rattle.merkle_replica.specs.declared.pull.PullError.TheVariants.{Memory, Partly}

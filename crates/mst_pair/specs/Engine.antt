@@ -1,6 +1,7 @@
 -- The engine: what a line is answered, and the state that it leaves.
 use Rattle.std.specs.Prelude.{◌≡◌, ◌≢◌, ℕ, Bool, if◌then◌else◌, ◌<◌, List, [], ◌∷◌, ◌⊎◌, map, length, codes}
 use Rattle.key_order.specs.Interval.{Span}
+use Rattle.key_order.specs.Text.{Text}
 use Rattle.merkle_digest.specs.Digest.{base64_of}
 use Rattle.merkle_diff.specs.Entry.{span_of}
 use Rattle.merkle_search_tree.specs.declared.builder.PageFormat.{PageFormat}
@@ -9,7 +10,7 @@ use Rattle.merkle_replica.specs.Contents.{Side}
 use Rattle.merkle_replica.specs.Pulls.{Answer, IsAnswerFor, IsPull, IsPartOfPull, IsByTurns}
 use Rattle.mst_pair.specs.Replies.{text_line, rows_text, ranges_text, pull_text, turns_text}
 use Rattle.mst_pair.specs.Requests.{Request, put, del, keys, root, pages, diff, pull, same, turns, set_format, IsSpelled, IsBad}
-use Rattle.mst_pair.specs.Replicas.{Text, TextRow, Replicas, HasNoRow, rows, other_rows, JoinsRow, DeletesRow}
+use Rattle.mst_pair.specs.Replicas.{TextRow, Replicas, HasNoRow, rows, other_rows, JoinsRow, DeletesRow}
 
 -- ranges that local may ask of the peer: any that meet the interval laws of `diff` and its laws on trees, on the page ranges of both
 abbrev pub AreRangesToAsk : PageFormat → List TextRow → List TextRow → List (Span Text) → Type 0
@@ -25,7 +26,9 @@ StopsPulling format local peer after = (after ≡ local) ⊎ ((answer : Answer T
 
 -- pulls by turns, local first, with these answers
 abbrev pub TakesTurns : PageFormat → List (Answer Text) → List TextRow → List TextRow → List TextRow → List TextRow → Type 0
-TakesTurns format answers local peer local' peer' = (met : List (Side Text ℕ (List ℕ) × Side Text ℕ (List ℕ))) × IsByTurns text_laws answers (side_of format local) (side_of format peer) local' peer' met
+TakesTurns format answers local peer local' peer' =
+    (met : List (Side Text ℕ (List ℕ) × Side Text ℕ (List ℕ)))
+    × IsByTurns text_laws answers (side_of format local) (side_of format peer) local' peer' met
 
 -- pulls by turns, local first, of which those with these answers were made, and memory was refused to the next
 abbrev pub StopsAfter : PageFormat → List (Answer Text) → List TextRow → List TextRow → List TextRow → List TextRow → Type 0
@@ -50,17 +53,28 @@ deleted_text found = text_line (if found then (codes "ok") else (codes "absent")
 
 -- from old, a request may get this reply and leave new
 abbrev pub Answers : Replicas → Request → List ℕ → Replicas → Type 0
-Answers old (put name key n) reply new = ((reply ≡ text_line (codes "ok")) × JoinsRow (rows old name) (rows new name) key n × (other_rows new name ≡ other_rows old name) × (new.format ≡ old.format)) ⊎ LacksMemory old reply new
-Answers old (del name key) reply new = ((found : Bool) × (reply ≡ deleted_text found) × DeletesRow (rows old name) (rows new name) key found × (other_rows new name ≡ other_rows old name) × (new.format ≡ old.format)) ⊎ LacksMemory old reply new
+Answers old (put name key n) reply new =
+    ((reply ≡ text_line (codes "ok")) × JoinsRow (rows old name) (rows new name) key n
+    × (other_rows new name ≡ other_rows old name) × (new.format ≡ old.format))
+    ⊎ LacksMemory old reply new
+Answers old (del name key) reply new =
+    ((found : Bool) × (reply ≡ deleted_text found) × DeletesRow (rows old name) (rows new name) key found
+    × (other_rows new name ≡ other_rows old name) × (new.format ≡ old.format))
+    ⊎ LacksMemory old reply new
 Answers old (keys name) reply new = (reply ≡ rows_text (rows old name)) × (new ≡ old)
 Answers old (root name) reply new = (reply ≡ text_line (base64_of (root_digest old.format (rows old name)))) × (new ≡ old)
 Answers old (pages name) reply new = ((reply ≡ ranges_text (map span_of (page_ranges old.format (rows old name)))) × (new ≡ old)) ⊎ LacksMemory old reply new
-Answers old (diff name) reply new = ((found : List (Span Text)) × AreRangesToAsk old.format (rows old name) (other_rows old name) found × (reply ≡ ranges_text found) × (new ≡ old)) ⊎ LacksMemory old reply new
+Answers old (diff name) reply new =
+    ((found : List (Span Text)) × AreRangesToAsk old.format (rows old name) (other_rows old name) found × (reply ≡ ranges_text found) × (new ≡ old))
+    ⊎ LacksMemory old reply new
 Answers old (pull name) reply new =
     (other_rows new name ≡ other_rows old name) × (new.format ≡ old.format)
     × (((answer : Answer Text) × Pulls old.format (rows old name) (other_rows old name) answer (rows new name) × (reply ≡ pull_text answer))
     ⊎ ((reply ≡ no_memory) × StopsPulling old.format (rows old name) (other_rows old name) (rows new name)))
-Answers old same reply new = (((root_digest old.format old.a ≡ root_digest old.format old.b) × (reply ≡ text_line (codes "same"))) ⊎ ((root_digest old.format old.a ≢ root_digest old.format old.b) × (reply ≡ text_line (codes "differ")))) × (new ≡ old)
+Answers old same reply new =
+    (((root_digest old.format old.a ≡ root_digest old.format old.b) × (reply ≡ text_line (codes "same")))
+    ⊎ ((root_digest old.format old.a ≢ root_digest old.format old.b) × (reply ≡ text_line (codes "differ"))))
+    × (new ≡ old)
 Answers old (turns d) reply new =
     (new.format ≡ old.format)
     × (((answers : List (Answer Text)) × (length answers ≡ d) × TakesTurns old.format answers old.a old.b new.a new.b × (reply ≡ turns_text answers))

@@ -1,16 +1,18 @@
 -- The tree that shows what a replica holds, with the default hasher and level base, SipHash under the zero key and 16, in a page format.
 use Rattle.std.specs.Prelude.{◌≡◌, ℕ, List, max, nat_eq, string_bytes}
 use Rattle.std.specs.Int.{w64, to_le_bytes}
+use Rattle.key_order.specs.Text.{Text, text_order}
 use Rattle.merkle_digest.specs.SipHash.{siphash128, zero_key}
 use Rattle.merkle_diff.specs.Entry.{Entry}
+use Rattle.merkle_search_tree.specs.Loading.{digests}
 use Rattle.merkle_search_tree.specs.Ranges.{ranges_of}
 use Rattle.merkle_search_tree.specs.Stream.{page_digest}
 use Rattle.merkle_search_tree.specs.Tree.{Tree}
 use Rattle.merkle_search_tree.specs.TreeOf.{defined_tree}
 use Rattle.merkle_search_tree.specs.declared.builder.PageFormat.{PageFormat}
 use Rattle.merkle_replica.specs.Laws.{Laws}
-use Rattle.merkle_replica.specs.Contents.{Contents, Side, digests}
-use Rattle.mst_pair.specs.Replicas.{Text, TextRow, text_order}
+use Rattle.merkle_replica.specs.Contents.{Contents, Side}
+use Rattle.mst_pair.specs.Replicas.{TextRow}
 
 -- the digest of a key: that of its bytes
 abbrev pub key_digest : Text → List ℕ

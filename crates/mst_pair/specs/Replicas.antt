@@ -1,22 +1,12 @@
 -- The state of the engine: two replicas, as maps from texts to numbers, and the page format of their trees.
-use Rattle.std.specs.Prelude.{◌≡◌, ℕ, Bool, List, [], ◌∷◌, max, nat_eq, string_bytes, string_cmp}
-use Rattle.std.specs.declared.string.String.{String}
-use Rattle.std.specs.declared.alloc.Global.{Global}
-use Rattle.std.specs.declared.cmp.Ordering.{Ordering}
+use Rattle.std.specs.Prelude.{◌≡◌, ℕ, Bool, List, [], ◌∷◌, max, nat_eq, string_bytes}
 use Rattle.key_order.specs.Join.{IsJoin}
 use Rattle.key_order.specs.Map.{has_key, del}
+use Rattle.key_order.specs.Text.{Text, text_order}
 use Rattle.merkle_search_tree.specs.declared.builder.PageFormat.{PageFormat}
 use Rattle.merkle_search_tree.specs.declared.builder.PageFormat.TheVariants.{V1}
 use Rattle.mst_pair.specs.declared.engine.ReplicaName.{ReplicaName}
 use Rattle.mst_pair.specs.declared.engine.ReplicaName.TheVariants.{A, B}
-
--- a text, as a replica keeps it
-abbrev pub Text : Type 0
-Text = String Global
-
--- texts are in the order of their bytes
-abbrev pub text_order : Text → Text → Ordering
-text_order = string_cmp
 
 -- a key, and its number
 abbrev pub TextRow : Type 0

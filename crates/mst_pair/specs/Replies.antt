@@ -3,9 +3,10 @@ use Rattle.std.specs.Prelude.{ℕ, List, [], ◌∷◌, ◌++◌, codes, string_
 use Rattle.std.specs.List.{flat_map}
 use Rattle.std.specs.Fmt.{decimal}
 use Rattle.key_order.specs.Interval.{Span}
+use Rattle.key_order.specs.Text.{Text}
 use Rattle.mst_pair.specs.Lines.{newline}
 use Rattle.merkle_replica.specs.Pulls.{Answer}
-use Rattle.mst_pair.specs.Replicas.{Text, TextRow}
+use Rattle.mst_pair.specs.Replicas.{TextRow}
 
 -- a text as a line of a reply
 abbrev pub text_line : List ℕ → List ℕ

@@ -1,6 +1,6 @@
 //! Pulls for which a clone of a key is refused.
 
-use crate::text::Text;
+use crate::text::CountedText;
 use merkle_digest::SipHasher;
 use merkle_replica::{PullError, Pulled, Replica};
 use merkle_search_tree::builder::Builder;
@@ -9,10 +9,10 @@ use std::cell::Cell;
 use std::test::Fail;
 
 /// A map of texts.
-type Texts<'a> = Replica<Text<'a>, u64, SipHasher, 16>;
+type Texts<'a> = Replica<CountedText<'a>, u64, SipHasher, 16>;
 
 /// Puts a row.
-fn put<'a>(replica: &mut Texts<'a>, key: Text<'a>, value: u64) -> Result<(), AllocError> {
+fn put<'a>(replica: &mut Texts<'a>, key: CountedText<'a>, value: u64) -> Result<(), AllocError> {
     replica.put(key, value)
 }
 
@@ -20,7 +20,7 @@ fn put<'a>(replica: &mut Texts<'a>, key: Text<'a>, value: u64) -> Result<(), All
 fn pull_texts<'a>(
     local: &mut Texts<'a>,
     peer: &mut Texts<'a>,
-) -> Result<Pulled<Text<'a>>, PullError<Text<'a>>> {
+) -> Result<Pulled<CountedText<'a>>, PullError<CountedText<'a>>> {
     local.pull(peer)
 }
 
@@ -32,7 +32,7 @@ fn texts<'a>(
 ) -> Result<Texts<'a>, AllocError> {
     let mut replica = Texts::new(alloc, Builder::default());
     for (text, number) in rows {
-        let key = Text {
+        let key = CountedText {
             text: *text,
             clones_left,
         };
@@ -42,7 +42,7 @@ fn texts<'a>(
 }
 
 /// How many rows a pull from a peer of three rows says that it joined; none where it says it wrongly.
-fn count_of(answer: Result<Pulled<Text<'_>>, PullError<Text<'_>>>) -> Option<usize> {
+fn count_of(answer: Result<Pulled<CountedText<'_>>, PullError<CountedText<'_>>>) -> Option<usize> {
     match answer {
         Ok(pulled) => if pulled.joined == 3 { Some(3) } else { None },
         Err(PullError::Memory) => Some(0),

@@ -11,19 +11,19 @@ use std::cell::Cell;
 /// A text that counts its clones down, and refuses to be cloned where none is left.
 #[derive(Drop)]
 #[derive_where(PartialEq, Eq, PartialOrd, Ord)]
-pub struct Text<'a> {
+pub struct CountedText<'a> {
     pub text: &'a str,
     #[derive_where(skip)]
     pub clones_left: &'a Cell<u8>,
 }
 
-impl Clone for Text<'_> {
+impl Clone for CountedText<'_> {
     ghost is_clone = { λ key clone. clone.text ≡ key.text };
 
     fn clone(&self) -> Result<Self, AllocError> {
         let left = self.clones_left.get().checked_sub(1).ok_or(AllocError)?;
         self.clones_left.set(left);
-        Ok(Text {
+        Ok(CountedText {
             text: self.text,
             clones_left: self.clones_left,
         })
@@ -31,7 +31,7 @@ impl Clone for Text<'_> {
 }
 
 /// The UTF-8 bytes of the text.
-impl KeyBytes for Text<'_> {
+impl KeyBytes for CountedText<'_> {
     ghost bytes_of = { λ key. key.text.now };
 
     ghost bytes_respect_eq = { λ a b equal. same_text a.text.now b.text.now (sym equal) };
@@ -42,7 +42,7 @@ impl KeyBytes for Text<'_> {
 }
 
 /// The UTF-8 bytes of the text.
-impl HashBytes for Text<'_> {
+impl HashBytes for CountedText<'_> {
     ghost fed_bytes = { λ key. key.text.now };
 
     ghost fed_bytes_respect_eq = { λ a b equal. same_text a.text.now b.text.now (sym equal) };

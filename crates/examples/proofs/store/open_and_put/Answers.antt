@@ -5,5 +5,5 @@ use Rattle.examples.proofs.store.open_and_put.Goals as goal
 pub returns-clause-root_hash : goal.returns-clause-root_hash
 returns-clause-root_hash c =
     let d = c.in_ok-store.ensures.defaults in
-    let s = c.in_ok-put.ensures.setup in
+    let s = c.in_ok-put.ensures.settings in
     rw c.root_hash.ensures.rows (rw (s.0 ∙ d.hasher, s.1 ∙ d.base, s.2 ∙ d.format) at c.in_ok-digest.ensures.digest)

@@ -35,10 +35,10 @@ turning-preserved g c =
       goes = elim c.if-a_pulls.branch [
         | then-a_pulls w ↦
             let done = subst (λ r. IfOk r (λ pulled. IsPull laws (side c.turning.a) (side c.turning.b) (answer_of pulled) w.pull-answer.new.self.rows)) (sym w.answer-is ∙ c.in-Ok-answer.is) w.pull-answer.ensures.done in
-            rw (w.a-is, w.b-is) (goes_on laws c.args.a.now c.args.b.now c.turning.a c.turning.b c.turning.all.items c.turning.a_pulls w.pull-answer.new.self w.pull-answer.new.peer c.push.new.self.items c.in-Ok-answer.pulled c.in-Ok-push.ensures.items w.pull-answer.ensures.setup w.pull-answer.ensures.peer_setup (rw w.if-a_pulls.true (done, w.pull-answer.ensures.peer_rows)) c.turning.invariant.goes)
+            rw (w.a-is, w.b-is) (goes_on laws c.args.a.now c.args.b.now c.turning.a c.turning.b c.turning.all.items c.turning.a_pulls w.pull-answer.new.self w.pull-answer.new.peer c.push.new.self.items c.in-Ok-answer.pulled c.in-Ok-push.ensures.items w.pull-answer.ensures.settings w.pull-answer.ensures.peer_settings (rw w.if-a_pulls.true (done, w.pull-answer.ensures.peer_rows)) c.turning.invariant.goes)
         | else-a_pulls w ↦
             let done = subst (λ r. IfOk r (λ pulled. IsPull laws (side c.turning.b) (side c.turning.a) (answer_of pulled) w.pull-answer-else-a_pulls.new.self.rows)) (sym w.answer-is ∙ c.in-Ok-answer.is) w.pull-answer-else-a_pulls.ensures.done in
-            rw (w.a-is, w.b-is) (goes_on laws c.args.a.now c.args.b.now c.turning.a c.turning.b c.turning.all.items c.turning.a_pulls w.pull-answer-else-a_pulls.new.peer w.pull-answer-else-a_pulls.new.self c.push.new.self.items c.in-Ok-answer.pulled c.in-Ok-push.ensures.items w.pull-answer-else-a_pulls.ensures.peer_setup w.pull-answer-else-a_pulls.ensures.setup (rw w.if-a_pulls.false (done, w.pull-answer-else-a_pulls.ensures.peer_rows)) c.turning.invariant.goes)
+            rw (w.a-is, w.b-is) (goes_on laws c.args.a.now c.args.b.now c.turning.a c.turning.b c.turning.all.items c.turning.a_pulls w.pull-answer-else-a_pulls.new.peer w.pull-answer-else-a_pulls.new.self c.push.new.self.items c.in-Ok-answer.pulled c.in-Ok-push.ensures.items w.pull-answer-else-a_pulls.ensures.peer_settings w.pull-answer-else-a_pulls.ensures.settings (rw w.if-a_pulls.false (done, w.pull-answer-else-a_pulls.ensures.peer_rows)) c.turning.invariant.goes)
       ];
       taken = let t = c.turning.invariant.taken in ap length c.in-Ok-push.ensures.items ∙ length-append c.turning.all.items (c.in-Ok-answer.pulled ∷ []) ∙ omega arith;
       counted = let t = c.turning.invariant.counted in let u = c.in-Ok-push.ensures.len in u ∙ omega arith;

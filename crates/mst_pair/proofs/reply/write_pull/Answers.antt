@@ -1,10 +1,10 @@
 -- The ranges and the last line, and then how many rows were joined.
 use Rattle.std.proofs.Common.{◌≡◌, ℕ, List, [], ◌++◌, ap, ◌∙◌, subst}
 use Rattle.std.specs.List.{flat_map}
+use Rattle.key_order.specs.Text.{Text}
 use Rattle.merkle_replica.specs.Answers.{spans_of}
 use Rattle.mst_pair.specs.Devices.{Writes, WritesPart}
 use Rattle.mst_pair.specs.Replies.{range_text, ranges_text, joined_text, end_line}
-use Rattle.mst_pair.specs.Replicas.{Text}
 use Rattle.mst_pair.proofs.Devices.{writes_err, writes_flushed, part_less, passed_part, passed_more}
 use Rattle.mst_pair.proofs.Replies.{lines_as}
 use Rattle.mst_pair.proofs.reply.write_pull.Goals as goal

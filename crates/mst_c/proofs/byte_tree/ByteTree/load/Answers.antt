@@ -3,8 +3,9 @@ use Rattle.std.proofs.IntoIterSteps.{All-taken}
 use Rattle.std.proofs.lemmas.List.{map-id}
 use Rattle.key_order.specs.Map.{IsMap}
 use Rattle.merkle_digest.specs.SipHash.{siphash128}
-use Rattle.merkle_search_tree.specs.Loading.{digests_of}
-use Rattle.mst_c.specs.Trees.{SameSettings, bytes_cmp, by_bytes, key_cmp}
+use Rattle.merkle_search_tree.specs.Loading.{digests}
+use Rattle.merkle_search_tree.specs.State.{SameSettings}
+use Rattle.mst_c.specs.Trees.{bytes_cmp, by_bytes, key_cmp}
 use Rattle.mst_c.proofs.Loads.{no_ascent, pairs_ascend, rows_ascend}
 use Rattle.mst_c.proofs.Ranges.{one_list_of_rows}
 use Rattle.mst_c.proofs.byte_tree.ByteTree.load.Goals as goal
@@ -18,7 +19,7 @@ returns-in-Ok-clause-done c =
     let settings : SameSettings old.tree c.in-Ok.tree = search rules in (
       spelled.0,
       (spelled.1, rows_ascend (siphash128 old.hasher) pairs spelled.0 spelled.2 (subst (IsMap key_cmp) same made.2)),
-      ap (map by_bytes) (made.3 ∙ map-id made.0 ∙ same) ∙ spelled.2 ∙ ap (λ hasher. digests_of (siphash128 hasher) spelled.0) old.same_hasher,
+      ap (map by_bytes) (made.3 ∙ map-id made.0 ∙ same) ∙ spelled.2 ∙ ap (λ hasher. digests (siphash128 hasher) spelled.0) old.same_hasher,
       settings,
     )
 

@@ -7,5 +7,5 @@ returns-clause-kept c =
     let same = c.root_hash_counted-digest.ensures.tree in
     record {
       rows = ap (map by_bytes) c.root_hash_counted-digest.ensures.map;
-      settings = record { hasher = ap (λ s. s.hasher) same; base = ap (λ s. s.base) same; format = ap (λ s. s.format) same };
+      settings = (ap (λ s. s.hasher) same, ap (λ s. s.base) same, ap (λ s. s.format) same);
     }
