@@ -558,7 +558,7 @@ static void ends(const uint8_t *list, size_t len) {
 
 /* A list that is cut or has a byte too many, or is of another kind, is malformed wherever it is given, and moves and changes nothing. */
 static void cut_lists(struct mst_tree *tree, const uint8_t *own, size_t own_len, const uint8_t *peer, size_t peer_len) {
-    static uint8_t rows[1 << 12], asked[1 << 12];
+    static uint8_t rows[1 << 12], asked[1 << 12], more[1 << 12];
     size_t rows_len = row_list(rows, 40, 0), asked_len, len, needed, at = 0;
     struct mst_range range;
     char root[33];
@@ -568,6 +568,10 @@ static void cut_lists(struct mst_tree *tree, const uint8_t *own, size_t own_len,
         if (len != asked_len) WANT(mst_ranges_next(before_a_wall(asked, len), len, &at, &range) == MST_MALFORMED && !at);
     for (len = 0; len <= rows_len + 1; len++)
         if (len != rows_len) WANT(mst_tree_load(tree, before_a_wall(rows, len), len) == MST_MALFORMED);
+    WANT(peer_len < sizeof more);
+    memcpy(more, peer, peer_len);
+    WANT(mst_diff(own, own_len, before_a_wall(more, peer_len + 1), peer_len + 1, NULL, 0, &needed) == MST_MALFORMED);
+    WANT(mst_diff(before_a_wall(more, peer_len + 1), peer_len + 1, own, own_len, NULL, 0, &needed) == MST_MALFORMED);
     WANT(mst_tree_load(tree, peer, peer_len) == MST_MALFORMED);
     WANT(mst_tree_load(tree, asked, asked_len) == MST_MALFORMED);
     WANT(mst_diff(own, own_len, asked, asked_len, NULL, 0, &needed) == MST_MALFORMED);

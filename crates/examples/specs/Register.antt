@@ -12,7 +12,7 @@ use Rattle.examples.specs.declared.register.Register.{Register}
 abbrev pub register_bytes : Register → List ℕ
 register_bytes r = to_le_bytes w64 r.time ++ to_le_bytes w64 r.writer ++ to_le_bytes w64 r.value
 
--- each name has then the later of the registers that it had and that are written, where there is one: only this name's is written
+-- this name has then the later of the register that it had, if any, and the one that is written, and each other name what it had
 abbrev pub IsWritten : (Register → Register → Ordering) → List (Text × Register) → Text → Register → List (Text × Register) → Type 0
 IsWritten cmp rows name register after =
     (k : Text) → get text_order after k ≡ joined (ord_max cmp) (get text_order rows k) (get text_order ((name, register) ∷ []) k)

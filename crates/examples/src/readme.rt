@@ -3,9 +3,11 @@
 ghost use Rattle.std.specs.Prelude.{◌≡◌, ℕ, List, [], ◌∷◌, IfOk, max, nat_eq};
 ghost use Rattle.key_order.specs.Join.{IsJoin};
 ghost use Rattle.key_order.specs.Text.{Text, text_order};
+ghost use Rattle.merkle_search_tree.specs.State.{SameSettings};
 ghost use Rattle.merkle_replica.specs.Contents.{Contents, side};
 ghost use Rattle.merkle_replica.specs.Pulls.{HoldTheJoin};
 ghost use Rattle.examples.specs.Sync.{IsFaithfulSync};
+ghost use Rattle.examples.specs.Texts.{HasDefaultSettings};
 
 use anyhow::Result;
 use merkle_digest::SipHasher;
@@ -14,11 +16,11 @@ use merkle_search_tree::builder::Builder;
 use std::alloc::Global;
 
 /// Puts a row into a new replica, which then makes four pulls by turns with another: while digests are faithful in what is met before
-/// each of them, both come to hold the join of that row and the rows of the other.
+/// each of them, both come to hold the join of that row and the rows of the other. It costs what a put and four pulls do.
 ///
 /// # Errors
 ///
-/// Want of memory.
+/// Want of memory: each pull that was made until then stays.
 #[tactic(auto, using(key_order::proofs::Clones::string_clone))]
 pub fn two_replicas(
     alloc: Global,
@@ -28,6 +30,8 @@ pub fn two_replicas(
     ensures join { let laws = ⟦<SipHasher as Lawful<16, String, u64>>⟧.laws in IfOk result (λ a. (one : Contents Text ℕ (List ℕ))
         × IsJoin text_order nat_eq max [] ((key, 42) ∷ []) one.rows
         × IsFaithfulSync laws (HoldTheJoin laws (side one) (side b.old) a.rows b.new.rows) one b.old a b.new) }
+    ensures defaults { IfOk result (λ a. HasDefaultSettings a.tree) }
+    ensures settings { SameSettings b.old.tree b.new.tree }
 {
     let mut a: Replica<String, u64, SipHasher, 16> = Replica::new(alloc, Builder::default());
     a.put(key, 42)?;
