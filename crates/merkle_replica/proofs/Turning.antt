@@ -9,6 +9,7 @@ use Rattle.merkle_replica.specs.Contents.{Contents, Side, side, with_rows}
 use Rattle.merkle_replica.specs.Pulls.{Answer, IsPull, IsByTurns, HoldTheJoin}
 use Rattle.merkle_replica.specs.Faithful.{AllFaithful}
 use Rattle.merkle_replica.specs.Answers.{answer_of, IsRefused, StopsByTurns}
+use Rattle.merkle_replica.specs.ByTurns.{IsTurn, IsTurnRefused}
 use Rattle.merkle_replica.specs.declared.pull.Pulled.{Pulled}
 use Rattle.merkle_replica.specs.declared.pull.PullError.{PullError}
 use Rattle.merkle_replica.proofs.Converging.{converges}
@@ -48,16 +49,6 @@ module _ {K V H : Type 0} (laws : Laws K V H) where
   further : (a b c : Contents K V H) → SameSettings a.tree b.tree → SameSettings b.tree c.tree → SameSettings a.tree c.tree
   further a b c s t = (t.0 ∙ s.0, t.1 ∙ s.1, t.2 ∙ s.2)
 
-  -- a has pulled, or b has
-  abbrev pub Pulls : Bool → Contents K V H → Contents K V H → Answer K → Contents K V H → Contents K V H → Type 0
-  Pulls true a b answer a1 b1 = IsPull laws (side a) (side b) answer a1.rows × (b1.rows ≡ b.rows)
-  Pulls false a b answer a1 b1 = IsPull laws (side b) (side a) answer b1.rows × (a1.rows ≡ a.rows)
-
-  -- a met the fault, or b did
-  abbrev pub Stops : Bool → Contents K V H → Contents K V H → PullError K → List (K × V) → List (K × V) → Type 0
-  Stops true a b fault a' b' = IsRefused laws (side a) (side b) fault a' × (b' ≡ b.rows)
-  Stops false a b fault a' b' = IsRefused laws (side b) (side a) fault b' × (a' ≡ a.rows)
-
   module _ (a0 b0 : Contents K V H) where
     abbrev Whole : List (Answer K) → List (K × V) → List (K × V) → Type 0
     Whole qs a' b' = (met : List (Side K V H × Side K V H)) × IsByTurns laws qs (side a0) (side b0) a' b' met
@@ -79,18 +70,18 @@ module _ {K V H : Type 0} (laws : Laws K V H) where
     starts = record { settings_a = (refl, refl, refl); settings_b = (refl, refl, refl); turns = record { follows = λ qs a' b' met t. (met, t); stops = λ ps fault a' b' t. t } }
 
     module _ (a b : Contents K V H) (done : List (Pulled K)) where
-      turned : (next : Bool) (a1 b1 : Contents K V H) (pulled : Pulled K) → SameSettings a.tree a1.tree → SameSettings b.tree b1.tree → Pulls next a b (answer_of pulled) a1 b1 → Going done next a b → Going (done ++ pulled ∷ []) (not next) a1 b1
+      turned : (next : Bool) (a1 b1 : Contents K V H) (pulled : Pulled K) → SameSettings a.tree a1.tree → SameSettings b.tree b1.tree → IsTurn laws next a b (answer_of pulled) a1.rows b1.rows → Going done next a b → Going (done ++ pulled ∷ []) (not next) a1 b1
       turned true a1 b1 pulled sa sb h t = turn _ _ done a b t a1 b1 pulled sa sb h
       turned false a1 b1 pulled sa sb h t = turn _ _ done b a t b1 a1 pulled sb sa h
 
-      pub goes_on : (next : Bool) (a1 b1 : Contents K V H) (done' : List (Pulled K)) (pulled : Pulled K) → done' ≡ done ++ pulled ∷ [] → SameSettings a.tree a1.tree → SameSettings b.tree b1.tree → Pulls next a b (answer_of pulled) a1 b1 → Goes done next a b → Goes done' (not next) a1 b1
+      pub goes_on : (next : Bool) (a1 b1 : Contents K V H) (done' : List (Pulled K)) (pulled : Pulled K) → done' ≡ done ++ pulled ∷ [] → SameSettings a.tree a1.tree → SameSettings b.tree b1.tree → IsTurn laws next a b (answer_of pulled) a1.rows b1.rows → Goes done next a b → Goes done' (not next) a1 b1
       goes_on next a1 b1 done' pulled d sa sb h g = record {
         settings_a = further a0 a a1 g.settings_a sa;
         settings_b = further b0 b b1 g.settings_b sb;
         turns = subst (λ ps. Going ps (not next) a1 b1) (sym d) (turned next a1 b1 pulled sa sb h g.turns);
       }
 
-      pub stops_here : (next : Bool) (fault : PullError K) (a' b' : List (K × V)) → Stops next a b fault a' b' → Going done next a b → StopsByTurns laws done fault (side a0) (side b0) a' b'
+      pub stops_here : (next : Bool) (fault : PullError K) (a' b' : List (K × V)) → IsTurnRefused laws next a b fault a' b' → Going done next a b → StopsByTurns laws done fault (side a0) (side b0) a' b'
       stops_here true fault a' b' h t = halt _ _ done a b t fault a' b' h
       stops_here false fault a' b' h t = halt _ _ done b a t fault b' a' h
 

@@ -3,6 +3,7 @@ pub mod Contents
 pub mod Pulls
 pub mod Faithful
 pub mod Answers
+pub mod ByTurns
 pub mod Places
 pub mod Puts
 pub mod Parted

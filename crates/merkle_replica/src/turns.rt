@@ -6,6 +6,7 @@ ghost use Rattle.merkle_replica.specs.Contents.{Side, side};
 ghost use Rattle.merkle_replica.specs.Pulls.{IsByTurns, HoldTheJoin};
 ghost use Rattle.merkle_replica.specs.Faithful.{AllFaithful};
 ghost use Rattle.merkle_replica.specs.Answers.{answer_of, StopsByTurns};
+ghost use Rattle.merkle_replica.specs.ByTurns.{IsTurn, IsTurnRefused};
 
 use crate::join::Join;
 use crate::lawful::Lawful;
@@ -22,6 +23,29 @@ pub struct TurnsError<K> {
     pub finished: Vec<Pulled<K>>,
     /// What came in place of the next one.
     pub fault: PullError<K>,
+}
+
+/// One turn: a pull by `a`, or one by `b`.
+fn turn<
+    K: Ord + KeyBytes + Clone + Drop,
+    V: Join + Drop,
+    H: Hasher<N, K> + Hasher<N, V>,
+    const N: usize,
+>(
+    a: &mut Replica<K, V, H, N>,
+    b: &mut Replica<K, V, H, N>,
+    a_pulls: bool,
+) -> Result<Pulled<K>, PullError<K>>
+    requires clones { (x y : K) → K.is_clone x y → Same K.cmp x y }
+    ensures done { IfOk result (λ pulled. IsTurn ⟦<H as Lawful<N, K, V>>⟧.laws a_pulls a.old b.old (answer_of pulled) a.new.rows b.new.rows) }
+    ensures refused { IfErr result (λ fault. IsTurnRefused ⟦<H as Lawful<N, K, V>>⟧.laws a_pulls a.old b.old fault a.new.rows b.new.rows) }
+    ensures a_settings { SameSettings a.old.tree a.new.tree }
+    ensures b_settings { SameSettings b.old.tree b.new.tree }
+{
+    if a_pulls {
+        return a.pull(b);
+    }
+    b.pull(a)
 }
 
 /// Makes `n` pulls by turns, the first of them by `a`, and answers what they did. It costs what `n` pulls do
@@ -83,8 +107,7 @@ pub fn pull_by_turns<
     };
     let mut a_pulls = true;
     'turning: for _turn in 0..n {
-        let answer = if a_pulls { a.pull(b) } else { b.pull(a) };
-        match answer {
+        match turn(a, b, a_pulls) {
             Ok(pulled) => match all.push(pulled) {
                 Ok(()) => {}
                 Err(_) => unreachable!(),

@@ -1,12 +1,9 @@
-use Rattle.std.proofs.Common.{IfOk, IfErr, [], ◌∷◌, length, length-append, arith, refl, sym, ◌∙◌, ap, subst}
+use Rattle.std.proofs.Common.{[], ◌∷◌, length, length-append, arith, refl, ◌∙◌, ap}
 use Rattle.std.proofs.lemmas.List.{length-map}
-use Rattle.merkle_replica.specs.Contents.{side}
-use Rattle.merkle_replica.specs.Answers.{answer_of, IsRefused}
-use Rattle.merkle_replica.specs.Pulls.{IsPull}
+use Rattle.merkle_replica.specs.Answers.{answer_of}
 use Rattle.merkle_replica.proofs.Sides.{laws_of}
 use Rattle.merkle_replica.proofs.Turning.{starts, goes_on, stops_here, ends_converged}
 use Rattle.merkle_replica.proofs.turns.pull_by_turns.Goals as goal
-use Rattle.merkle_replica.proofs.turns.pull_by_turns.Goals.{then-a_pulls, else-a_pulls}
 
 pub turning-init : goal.turning-init
 turning-init g c = record {
@@ -32,27 +29,14 @@ pub turning-preserved : goal.turning-preserved
 turning-preserved g c =
     let laws = laws_of g.K.Ord.cmp g.K.KeyBytes.bytes_of g.H.Hasher-1.digest_of g.V.PartialEq.eq g.V.Join.join_of g.H.Hasher-2.digest_of in
     record {
-      goes = elim c.if-a_pulls.branch [
-        | then-a_pulls w ↦
-            let done = subst (λ r. IfOk r (λ pulled. IsPull laws (side c.turning.a) (side c.turning.b) (answer_of pulled) w.pull-answer.new.self.rows)) (sym w.answer-is ∙ c.in-Ok-answer.is) w.pull-answer.ensures.done in
-            rw (w.a-is, w.b-is) (goes_on laws c.args.a.now c.args.b.now c.turning.a c.turning.b c.turning.all.items c.turning.a_pulls w.pull-answer.new.self w.pull-answer.new.peer c.push.new.self.items c.in-Ok-answer.pulled c.in-Ok-push.ensures.items w.pull-answer.ensures.settings w.pull-answer.ensures.peer_settings (rw w.if-a_pulls.true (done, w.pull-answer.ensures.peer_rows)) c.turning.invariant.goes)
-        | else-a_pulls w ↦
-            let done = subst (λ r. IfOk r (λ pulled. IsPull laws (side c.turning.b) (side c.turning.a) (answer_of pulled) w.pull-answer-else-a_pulls.new.self.rows)) (sym w.answer-is ∙ c.in-Ok-answer.is) w.pull-answer-else-a_pulls.ensures.done in
-            rw (w.a-is, w.b-is) (goes_on laws c.args.a.now c.args.b.now c.turning.a c.turning.b c.turning.all.items c.turning.a_pulls w.pull-answer-else-a_pulls.new.peer w.pull-answer-else-a_pulls.new.self c.push.new.self.items c.in-Ok-answer.pulled c.in-Ok-push.ensures.items w.pull-answer-else-a_pulls.ensures.peer_settings w.pull-answer-else-a_pulls.ensures.settings (rw w.if-a_pulls.false (done, w.pull-answer-else-a_pulls.ensures.peer_rows)) c.turning.invariant.goes)
-      ];
-      taken = let t = c.turning.invariant.taken in ap length c.in-Ok-push.ensures.items ∙ length-append c.turning.all.items (c.in-Ok-answer.pulled ∷ []) ∙ omega arith;
+      goes = goes_on laws c.args.a.now c.args.b.now c.turning.a c.turning.b c.turning.all.items c.turning.a_pulls c.turn.new.a c.turn.new.b c.push.new.self.items c.in-Ok-turn.pulled c.in-Ok-push.ensures.items
+          c.turn.ensures.a_settings c.turn.ensures.b_settings c.in-Ok-turn.ensures.done c.turning.invariant.goes;
+      taken = let t = c.turning.invariant.taken in ap length c.in-Ok-push.ensures.items ∙ length-append c.turning.all.items (c.in-Ok-turn.pulled ∷ []) ∙ omega arith;
       counted = let t = c.turning.invariant.counted in let u = c.in-Ok-push.ensures.len in u ∙ omega arith;
       room = let r = c.turning.invariant.room in let u = c.push.ensures.capacity in omega arith;
     }
 
-pub returns-in-Err-answer-clause-stopped : goal.returns-in-Err-answer-clause-stopped
-returns-in-Err-answer-clause-stopped g c =
-    let laws = laws_of g.K.Ord.cmp g.K.KeyBytes.bytes_of g.H.Hasher-1.digest_of g.V.PartialEq.eq g.V.Join.join_of g.H.Hasher-2.digest_of in
-    elim c.if-a_pulls.branch [
-      | then-a_pulls w ↦
-          let fault = subst (λ r. IfErr r (λ fault. IsRefused laws (side c.turning.a) (side c.turning.b) fault w.pull-answer.new.self.rows)) (sym w.answer-is ∙ c.in-Err-answer.is) w.pull-answer.ensures.refused in
-          rw (w.a-is, w.b-is) (stops_here laws c.args.a.now c.args.b.now c.turning.a c.turning.b c.turning.all.items c.turning.a_pulls c.in-Err-answer.fault w.pull-answer.new.self.rows w.pull-answer.new.peer.rows (rw w.if-a_pulls.true (fault, w.pull-answer.ensures.peer_rows)) c.turning.invariant.goes.turns)
-      | else-a_pulls w ↦
-          let fault = subst (λ r. IfErr r (λ fault. IsRefused laws (side c.turning.b) (side c.turning.a) fault w.pull-answer-else-a_pulls.new.self.rows)) (sym w.answer-is ∙ c.in-Err-answer.is) w.pull-answer-else-a_pulls.ensures.refused in
-          rw (w.a-is, w.b-is) (stops_here laws c.args.a.now c.args.b.now c.turning.a c.turning.b c.turning.all.items c.turning.a_pulls c.in-Err-answer.fault w.pull-answer-else-a_pulls.new.peer.rows w.pull-answer-else-a_pulls.new.self.rows (rw w.if-a_pulls.false (fault, w.pull-answer-else-a_pulls.ensures.peer_rows)) c.turning.invariant.goes.turns)
-    ]
+pub returns-in-Err-turn-clause-stopped : goal.returns-in-Err-turn-clause-stopped
+returns-in-Err-turn-clause-stopped g c =
+    stops_here (laws_of g.K.Ord.cmp g.K.KeyBytes.bytes_of g.H.Hasher-1.digest_of g.V.PartialEq.eq g.V.Join.join_of g.H.Hasher-2.digest_of)
+    c.args.a.now c.args.b.now c.turning.a c.turning.b c.turning.all.items c.turning.a_pulls c.in-Err-turn.fault c.turn.new.a.rows c.turn.new.b.rows c.in-Err-turn.ensures.refused c.turning.invariant.goes.turns
