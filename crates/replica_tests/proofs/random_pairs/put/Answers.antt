@@ -1,6 +1,6 @@
 use Rattle.std.proofs.Common.{arith}
-use Rattle.testing.proofs.Clones.{tied_clones}
+use Rattle.key_order.proofs.Clones.{array_clone}
 use Rattle.replica_tests.proofs.random_pairs.put.Goals as goal
 
 pub put-requires : goal.put-requires
-put-requires c = (omega arith, λ a b h. tied_clones a b h.whole)
+put-requires c = (omega arith, array_clone _)

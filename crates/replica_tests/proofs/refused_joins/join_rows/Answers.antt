@@ -1,6 +1,6 @@
 use Rattle.std.proofs.Common.{arith}
-use Rattle.testing.proofs.Clones.{tied_clones}
+use Rattle.key_order.proofs.Clones.{array_clone}
 use Rattle.replica_tests.proofs.refused_joins.join_rows.Goals as goal
 
 pub join_rows-requires : goal.join_rows-requires
-join_rows-requires c = (omega arith, λ a b h. tied_clones a b h.whole)
+join_rows-requires c = (omega arith, array_clone _)
