@@ -37,7 +37,9 @@ use std::alloc::{AllocError, Global};
 /// Both are taken to their end, unless memory is refused. It takes one walk over both, and a sort of the ranges that the walk marks,
 /// at most one for each page range of the peer. Memory is taken for these and for the page ranges of the peer that are open, at most as
 /// many as are nested. [`diff_lists`](crate::diff_lists), [`diff_slices`](crate::diff_slices) and
-/// [`diff_snapshots`](crate::diff_snapshots) say what is promised of lists that the caller has at hand.
+/// [`diff_snapshots`](crate::diff_snapshots) say what is promised of lists that the caller has at hand. Who hands in an iterator whose
+/// contract says what it has left (`YieldsFirstBy`) knows by the lemma `drained` of `merkle_diff::proofs::Snapshots` that this is what
+/// was given.
 ///
 /// # Errors
 ///

@@ -80,8 +80,10 @@ fn is_set_or_handed_back(alloc: Global, keys: &[(u16, u8)], last: u16) -> Result
     match tree.upsert(number_key(last), &value_at(last)) {
         Ok(()) => is_set(alloc, &mut tree, keys),
         Err(refused) => {
+            let is_told = format!(in alloc; "{refused}")?.as_str()
+                == "memory was refused, and the key was not set";
             let is_back = refused.into_key() == number_key(last);
-            Ok(is_back && is_as_before(alloc, &tree, &before)?)
+            Ok(is_told && is_back && is_as_before(alloc, &tree, &before)?)
         }
     }
 }
