@@ -1,24 +1,13 @@
 -- Replicas whose keys are texts, under SipHash.
 use Rattle.std.specs.Prelude.{◌≡◌, ℕ, List, string_bytes}
 use Rattle.key_order.specs.Text.{Text, text_order}
-use Rattle.merkle_digest.specs.SipHash.{siphash128, zero_key}
+use Rattle.merkle_digest.specs.SipDigests.{text_digest}
+use Rattle.merkle_digest.specs.SipHash.{siphash128}
 use Rattle.merkle_search_tree.specs.Canonical.{IsTreeOf}
 use Rattle.merkle_search_tree.specs.Loading.{digests}
-use Rattle.merkle_search_tree.specs.State.{State}
 use Rattle.merkle_search_tree.specs.Stream.{page_digest}
 use Rattle.merkle_search_tree.specs.Tree.{Tree}
 use Rattle.merkle_search_tree.specs.declared.builder.PageFormat.{PageFormat}
-use Rattle.merkle_search_tree.specs.declared.builder.PageFormat.TheVariants.{V1}
-
--- the digest of a text under a key of SipHash
-abbrev pub text_digest : List ℕ → Text → List ℕ
-text_digest key text = siphash128 key (string_bytes text)
-
--- SipHash under the zero key, level base 16, and format 1
-pub record HasDefaultSettings {K : Type 0} (tree : State K (List ℕ)) : Type 0 where
-  pub hasher : tree.hasher ≡ zero_key
-  pub base : tree.base ≡ 16
-  pub format : tree.format ≡ V1
 
 module _ {V : Type 0} (fed_bytes : V → List ℕ) where
   -- the digest of a value that feeds these bytes

@@ -3,11 +3,12 @@
 ghost use Rattle.std.specs.Prelude.{◌≡◌, ℕ, List, [], ◌∷◌, IfOk, max, nat_eq};
 ghost use Rattle.key_order.specs.Join.{IsJoin};
 ghost use Rattle.key_order.specs.Text.{Text, text_order};
-ghost use Rattle.merkle_search_tree.specs.State.{SameSettings};
+ghost use Rattle.merkle_search_tree.specs.Settings.{default_settings};
+ghost use Rattle.merkle_search_tree.specs.State.{HasSettings, SameSettings};
+ghost use Rattle.merkle_search_tree.specs.declared.builder.PageFormat.TheVariants.{V1};
 ghost use Rattle.merkle_replica.specs.Contents.{Contents, side};
 ghost use Rattle.merkle_replica.specs.Pulls.{HoldTheJoin};
 ghost use Rattle.examples.specs.Sync.{IsFaithfulSync};
-ghost use Rattle.examples.specs.Texts.{HasDefaultSettings};
 
 use anyhow::Result;
 use merkle_digest::SipHasher;
@@ -30,7 +31,7 @@ pub fn two_replicas(
     ensures join { let laws = ⟦<SipHasher as Lawful<16, String, u64>>⟧.laws in IfOk result (λ a. (one : Contents Text ℕ (List ℕ))
         × IsJoin text_order nat_eq max [] ((key, 42) ∷ []) one.rows
         × IsFaithfulSync laws (HoldTheJoin laws (side one) (side b.old) a.rows b.new.rows) one b.old a b.new) }
-    ensures defaults { IfOk result (λ a. HasDefaultSettings a.tree) }
+    ensures defaults { IfOk result (λ a. HasSettings (default_settings V1) a.tree) }
     ensures settings { SameSettings b.old.tree b.new.tree }
 {
     let mut a: Replica<String, u64, SipHasher, 16> = Replica::new(alloc, Builder::default());

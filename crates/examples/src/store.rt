@@ -4,8 +4,10 @@ ghost use Rattle.std.specs.Int.{w64, to_le_bytes};
 ghost use Rattle.key_order.specs.Join.{IsJoin};
 ghost use Rattle.key_order.specs.Text.{text_order};
 ghost use Rattle.merkle_digest.specs.SipHash.{zero_key};
+ghost use Rattle.merkle_search_tree.specs.Settings.{default_settings};
+ghost use Rattle.merkle_search_tree.specs.State.{HasSettings};
 ghost use Rattle.merkle_search_tree.specs.declared.builder.PageFormat.TheVariants.{V1};
-ghost use Rattle.examples.specs.Texts.{HasDefaultSettings, IsRootHashOf};
+ghost use Rattle.examples.specs.Texts.{IsRootHashOf};
 
 use merkle_digest::{HashBytes, RootHash, SipHasher};
 use merkle_replica::{Join, Replica};
@@ -28,7 +30,7 @@ pub fn open_rows<V: Join + HashBytes + Drop>(
     rows: Vec<(String, V)>,
 ) -> Result<Store<V>, LoadRefused>
     ensures rows { IfOk result (λ store. store.rows ≡ rows.items) }
-    ensures defaults { IfOk result (λ store. HasDefaultSettings store.tree) }
+    ensures defaults { IfOk result (λ store. HasSettings (default_settings V1) store.tree) }
 {
     match Replica::from_rows(alloc, Builder::default(), rows) {
         Ok(store) => Ok(store),

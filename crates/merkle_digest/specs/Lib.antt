@@ -1,4 +1,5 @@
 pub mod Digest
 pub mod Level
 pub mod SipHash
+pub mod SipDigests
 pub mod Sip24

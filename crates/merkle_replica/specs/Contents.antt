@@ -1,12 +1,10 @@
 -- What a replica is seen as.
-use Rattle.std.specs.Prelude.{◌≡◌, ℕ, List, [], Some}
+use Rattle.std.specs.Prelude.{◌≡◌, ℕ, List, []}
 use Rattle.std.specs.Coded.{Coded, coded_list, coded×, code_by}
 use Rattle.std.specs.declared.cmp.Ordering.{Ordering}
 use Rattle.std.proofs.Common.{refl}
 use Rattle.key_order.specs.Map.{IsMap, SameMap}
-use Rattle.merkle_search_tree.specs.Cache.{filled}
 use Rattle.merkle_search_tree.specs.Loading.{digests}
-use Rattle.merkle_search_tree.specs.Stream.{page_digest}
 use Rattle.merkle_search_tree.specs.State.{State, state_code, map_of, IsNew}
 use Rattle.merkle_search_tree.specs.declared.builder.PageFormat.{PageFormat}
 use Rattle.merkle_replica.specs.Laws.{Laws}
@@ -47,7 +45,3 @@ pub record IsKept {K V H : Type 0} (cmp : K → K → Ordering) (digest_of : H �
 -- no row, and the empty tree with this hasher, level base and page format
 abbrev pub IsEmpty : {K V H : Type 0} → H → ℕ → PageFormat → Contents K V H → Type 0
 IsEmpty hasher base format c = (c.rows ≡ []) × IsNew hasher base format c.tree
-
--- the tree with every digest in place, and that of its root page as its root hash
-abbrev pub hashed : {K H : Type 0} → (K → List ℕ) → State K H → State K H
-hashed bytes_of tree = record tree { root = filled tree.format bytes_of tree.root; root_hash = Some (page_digest tree.format bytes_of tree.root) }

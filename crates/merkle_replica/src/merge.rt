@@ -8,6 +8,7 @@ ghost use Rattle.key_order.specs.Order.{Same, Below};
 ghost use Rattle.key_order.specs.Interval.{IsApart, IsOrdered};
 ghost use Rattle.key_order.specs.Map.{IsMap, rows_in};
 ghost use Rattle.key_order.specs.Join.{IsJoin};
+ghost use Rattle.merkle_search_tree.specs.State.{SameSettings};
 ghost use Rattle.merkle_replica.specs.Contents.{IsKept};
 ghost use Rattle.merkle_replica.specs.Answers.{spans_of, IsDone, IsPartlyDone};
 ghost use Rattle.merkle_replica.specs.Puts.{IsRising, HasGathered, IsGatheredTo};
@@ -112,9 +113,7 @@ where
     ensures below { AllByRecursion (λ s. Below K.cmp s.0 key) front.new.items }
     ensures len { vec_len front.new + vec_len back.new ≤ vec_len front.old + vec_len back.old + 1 }
     ensures capacity { vec_capacity front.old ≤ vec_capacity front.new }
-    ensures hasher { tree.new.hasher ≡ tree.old.hasher }
-    ensures base { tree.new.base ≡ tree.old.base }
-    ensures format { tree.new.format ≡ tree.old.format }
+    ensures settings { SameSettings tree.old tree.new }
 {
     pass(front, back, &key);
     if is_next(back, &key) {
@@ -160,9 +159,7 @@ where
     ensures below { OnOk result (AllByRecursion (λ s. Below K.cmp s.0 row.now.0) front.new.items) }
     ensures len { vec_len front.new + vec_len back.new ≤ vec_len front.old + vec_len back.old + 1 }
     ensures capacity { vec_capacity front.old ≤ vec_capacity front.new }
-    ensures hasher { tree.new.hasher ≡ tree.old.hasher }
-    ensures base { tree.new.base ≡ tree.old.base }
-    ensures format { tree.new.format ≡ tree.old.format }
+    ensures settings { SameSettings tree.old tree.new }
 {
     let key = row.0.clone()?;
     let value = row.1.join(alloc, &row.1)?;
@@ -189,9 +186,7 @@ where
     ensures kept { IsKept K.cmp ⟦<H as Hasher<N, V>>⟧.digest_of (record { rows = rows.new.items; tree = tree.new }) }
     ensures all { IfOk result (λ joined. IsDone K.cmp V.eq V.join_of (rows_in K.cmp (spans_of ranges.now) theirs.now) rows.old.items joined rows.new.items) }
     ensures stopped { IfErr result (λ stopped. IsPartlyDone K.cmp V.eq V.join_of (rows_in K.cmp (spans_of ranges.now) theirs.now) rows.old.items stopped.done stopped.joined rows.new.items) }
-    ensures hasher { tree.new.hasher ≡ tree.old.hasher }
-    ensures base { tree.new.base ≡ tree.old.base }
-    ensures format { tree.new.format ≡ tree.old.format }
+    ensures settings { SameSettings tree.old tree.new }
 {
     let joined = count_within(ranges, theirs);
     if joined == 0 {
@@ -236,9 +231,7 @@ where
     ensures kept { IsKept K.cmp ⟦<H as Hasher<N, V>>⟧.digest_of (record { rows = rows.new.items; tree = tree.new }) }
     ensures all { OnOk result (HasGathered K.cmp V.eq V.join_of rows.old.items theirs.items rows.new.items) }
     ensures cut { IfErr result (λ done. IsGatheredTo K.cmp V.eq V.join_of rows.old.items theirs.items done rows.new.items) }
-    ensures hasher { tree.new.hasher ≡ tree.old.hasher }
-    ensures base { tree.new.base ≡ tree.old.base }
-    ensures format { tree.new.format ≡ tree.old.format }
+    ensures settings { SameSettings tree.old tree.new }
 {
     let joined = theirs.len();
     if joined == 0 {

@@ -4,8 +4,9 @@ ghost use Rattle.key_order.specs.Order.{Same};
 ghost use Rattle.merkle_diff.specs.DiffRange.{spans};
 ghost use Rattle.merkle_diff.specs.Merge.{SameSpans};
 ghost use Rattle.merkle_diff.specs.PageRangeSnapshot.{snapshot_entries};
+ghost use Rattle.merkle_search_tree.specs.Hashed.{hashed_tree};
 ghost use Rattle.merkle_search_tree.specs.State.{SameSettings};
-ghost use Rattle.merkle_replica.specs.Contents.{hashed, side};
+ghost use Rattle.merkle_replica.specs.Contents.{side};
 ghost use Rattle.merkle_replica.specs.Pulls.{IsAnswerFor, IsPull};
 ghost use Rattle.merkle_replica.specs.Faithful.{SpanHolds, HaveFaithfulPages, MissesNone};
 ghost use Rattle.merkle_replica.specs.Answers.{spans_of, answer_of, IsRefused, PartMissesNone};
@@ -72,8 +73,8 @@ impl<
         ensures peer_rows { peer.new.rows ≡ peer.old.rows }
 
         // Both trees are hashed, whatever it answers.
-        ensures tree { self.new.tree ≡ hashed K.bytes_of self.old.tree }
-        ensures peer_tree { peer.new.tree ≡ hashed K.bytes_of peer.old.tree }
+        ensures tree { self.new.tree ≡ hashed_tree K.bytes_of self.old.tree }
+        ensures peer_tree { peer.new.tree ≡ hashed_tree K.bytes_of peer.old.tree }
         ensures settings { SameSettings self.old.tree self.new.tree }
         ensures peer_settings { SameSettings peer.old.tree peer.new.tree }
     {

@@ -1,13 +1,11 @@
 //! A replica: a map from keys to values, with the tree of their digests.
-ghost use Rattle.std.specs.Prelude.{◌≡◌, ◌+◌, ◌≤◌, OnOk, OnErr, IfOk, IfErr, [], ◌∷◌, None};
+ghost use Rattle.std.specs.Prelude.{◌≡◌, OnOk, OnErr, IfOk, IfErr, [], ◌∷◌, None};
 ghost use Rattle.key_order.specs.Order.{Same};
 ghost use Rattle.key_order.specs.Map.{IsMap, SameMap};
 ghost use Rattle.key_order.specs.Join.{IsJoin};
-ghost use Rattle.merkle_digest.specs.Level.{level_of};
-ghost use Rattle.merkle_search_tree.specs.Cache.{missing};
+ghost use Rattle.merkle_search_tree.specs.Dropped.{UpsertDropsFew, RemovalDropsFew};
 ghost use Rattle.merkle_search_tree.specs.Loading.{digests};
-ghost use Rattle.merkle_search_tree.specs.Page.{level};
-ghost use Rattle.merkle_search_tree.specs.State.{map_of, SameSettings};
+ghost use Rattle.merkle_search_tree.specs.State.{map_of, HasSettings, SameSettings};
 ghost use Rattle.merkle_replica.specs.Contents.{IsEmpty};
 ghost use Rattle.merkle_replica.specs.Places.{IsPlaceOf, IsGapFor};
 
@@ -112,7 +110,7 @@ impl<
 > Replica<K, V, H, N> {
     ghost use Rattle.std.specs.Prelude.{◌≡◌, ⊤};
     ghost use Rattle.merkle_search_tree.specs.Stream.{page_digest};
-    ghost use Rattle.merkle_replica.specs.Contents.{hashed};
+    ghost use Rattle.merkle_search_tree.specs.Hashed.{hashed_tree};
     ghost use Rattle.merkle_replica.specs.contracts.replica.Replica.{the_row};
     ghost use Rattle.std.specs.Borrow.{sem};
     ghost use mathlib.Core.Option.{none};
@@ -122,7 +120,7 @@ impl<
     /// Fills in the digests that pages of the tree lack, so that the tree is hashed then. It takes no memory.
     pub fn hash(&mut self)
         ensures rows { self.new.rows ≡ self.old.rows }
-        ensures tree { self.new.tree ≡ hashed K.bytes_of self.old.tree }
+        ensures tree { self.new.tree ≡ hashed_tree K.bytes_of self.old.tree }
     {
         let _ = self.tree.root_hash_counted();
     }
@@ -132,7 +130,7 @@ impl<
     /// converse holds only as far as no digests collide.
     pub fn root_hash(&mut self) -> &RootHash
         ensures* hashed { let row = the_row K.row V.row H.row (number N) K.Ord.own K.PartialEq K.PartialOrd.own K.KeyBytes.own K.Clone V.Join.own V.PartialEq H.Hasher H.ValueHasher in
-            sem 𝓛 (follows_so row row self.entry.ghost_name none (λ _ _. ⊤) (λ t. (t.rows ≡ self.old.rows) × (t.tree ≡ hashed K.bytes_of self.old.tree))) }
+            sem 𝓛 (follows_so row row self.entry.ghost_name none (λ _ _. ⊤) (λ t. (t.rows ≡ self.old.rows) × (t.tree ≡ hashed_tree K.bytes_of self.old.tree))) }
         ensures digest { result.now ≡ page_digest self.old.tree.format K.bytes_of self.old.tree.root }
     {
         self.hash();
@@ -168,8 +166,7 @@ impl<
         ensures settings { SameSettings self.old.tree self.new.tree }
 
         // Few digests of the tree are dropped.
-        ensures few_more { OnOk result (missing self.new.tree.root
-            ≤ missing self.old.tree.root + (level self.new.tree.root + level_of (⟦<H as Hasher<N, K>>⟧.digest_of self.old.tree.hasher key) self.old.tree.base + 1)) }
+        ensures few_more { OnOk result (UpsertDropsFew (⟦<H as Hasher<N, K>>⟧.digest_of self.old.tree.hasher key) self.old.tree self.new.tree) }
     {
         match place(&self.rows, &key) {
             Ok(at) => {
@@ -222,7 +219,7 @@ impl<
         ensures settings { SameSettings self.old.tree self.new.tree }
 
         // Few digests of the tree are dropped.
-        ensures few_more { OnOk result (missing self.new.tree.root ≤ missing self.old.tree.root + (level self.old.tree.root + 1)) }
+        ensures few_more { OnOk result (RemovalDropsFew self.old.tree self.new.tree) }
 
         // Where there is no such row, and where it is refused, nothing changes.
         ensures absent { IfOk result (λ found. found ≡ false → self.new ≡ self.old) }
@@ -278,9 +275,7 @@ impl<
         requires clones { (a b : K) → K.is_clone a b → Same K.cmp a b }
 
         ensures rows { IfOk result (λ replica. replica.rows ≡ rows.items) }
-        ensures hasher { IfOk result (λ replica. replica.tree.hasher ≡ builder.hasher) }
-        ensures base { IfOk result (λ replica. replica.tree.base ≡ builder.base) }
-        ensures format { IfOk result (λ replica. replica.tree.format ≡ builder.format) }
+        ensures settings { IfOk result (λ replica. HasSettings builder replica.tree) }
         ensures not_hashed { IfOk result (λ replica. replica.tree.root_hash ≡ None) }
 
         // Refused, the rows are handed back, with the first that doesn't ascend where there is one.

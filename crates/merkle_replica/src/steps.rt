@@ -4,9 +4,10 @@ ghost use Rattle.key_order.specs.Order.{Same};
 ghost use Rattle.key_order.specs.Map.{IsMap, rows_in};
 ghost use Rattle.key_order.specs.Join.{IsJoin};
 ghost use Rattle.merkle_diff.specs.PageRangeSnapshot.{snapshot_entries};
+ghost use Rattle.merkle_search_tree.specs.Hashed.{hashed_tree};
 ghost use Rattle.merkle_search_tree.specs.State.{SameSettings};
 ghost use Rattle.merkle_replica.specs.Answers.{spans_of};
-ghost use Rattle.merkle_replica.specs.Contents.{hashed, side};
+ghost use Rattle.merkle_replica.specs.Contents.{side};
 ghost use Rattle.merkle_replica.specs.Steps.{AreRanges, IsAnswerTo, IsJoinRefused};
 
 use crate::join::Join;
@@ -56,7 +57,7 @@ impl<
         ensures rows { self.new.rows ≡ self.old.rows }
 
         // The tree is hashed, whatever it answers.
-        ensures tree { self.new.tree ≡ hashed K.bytes_of self.old.tree }
+        ensures tree { self.new.tree ≡ hashed_tree K.bytes_of self.old.tree }
         ensures settings { SameSettings self.old.tree self.new.tree }
     {
         self.hash();

@@ -171,10 +171,29 @@ module _ {K D : Type 0} (cmp : K → K → Ordering) (n : ℕ) (k : K) (d : D) w
   finds_less m c (e ∷ es) h q =
       ap (λ o. match_ordering o (row_finds cmp n k d true (row (e ∷ es) h)) (row_finds cmp n k d false (row (e ∷ es) h)) false) q
 
-  -- the same of a page that is told by its nodes
-  module _ {m : ℕ} {c : Option (List ℕ)} {t : Tree K D} (es : List (Node K D)) (h : Held K D) (is : page m c (row es h) ≡ t) (q : level_order n (page m c (row es h)) ≡ Less) where
-    pub page_set-less : page m None (row_sink cmp n k d (row es h)) ≡ tree_set cmp n k d t
-    page_set-less = sym (set_less m c es h q) ∙ ap (tree_set cmp n k d) is
+  -- the same of a page that is told by its nodes, and whose level was found to be greater
+  module _ {m : ℕ} {c : Option (List ℕ)} {t : Tree K D} {o : Ordering} (es : List (Node K D)) (h : Held K D) (is : page m c (row es h) ≡ t) (compared : o ≡ level_order n t) (less : o ≡ Less) where
+    is_less : level_order n (page m c (row es h)) ≡ Less
+    is_less = ap (level_order n) is ∙ sym compared ∙ less
 
-    pub page_finds-less : tree_finds cmp n k d t ≡ row_finds cmp n k d true (row es h)
-    page_finds-less = ap (tree_finds cmp n k d) (sym is) ∙ finds_less m c es h q
+    page_set : page m None (row_sink cmp n k d (row es h)) ≡ tree_set cmp n k d t
+    page_set = sym (set_less m c es h is_less) ∙ ap (tree_set cmp n k d) is
+
+    page_finds : tree_finds cmp n k d t ≡ row_finds cmp n k d true (row es h)
+    page_finds = ap (tree_finds cmp n k d) (sym is) ∙ finds_less m c es h is_less
+
+    pub page_set-high : place cmp k es ≡ length es → page m None (row es (held_set cmp n k d h)) ≡ tree_set cmp n k d t
+    page_set-high all = ap (page m None) (sym (sink_high cmp n k d es h all)) ∙ page_set
+
+    pub page_finds-high : place cmp k es ≡ length es → tree_finds cmp n k d t ≡ held_finds cmp n k d h
+    page_finds-high all = page_finds ∙ finds_high cmp n k d true es h all
+
+    module _ (i : ℕ) (x : Node K D) (at : i ≡ place cmp k es) (within : i < length es) where
+      pub page_set-equal : cmp k (get_or es i x).key ≡ Equal → page m None (row (slice_set es i (with_digest (get_or es i x) d)) h) ≡ tree_set cmp n k d t
+      page_set-equal same = ap (page m None) (sym (sink_equal cmp n k d es h i x at within same)) ∙ page_set
+
+      pub page_set-at : cmp k (get_or es i x).key ≢ Equal → page m None (row (slice_set es i (with_lt (get_or es i x) (held_set cmp n k d (get_or es i x).lt))) h) ≡ tree_set cmp n k d t
+      page_set-at other = ap (page m None) (sym (sink_at cmp n k d es h i x at within other)) ∙ page_set
+
+      pub page_finds-at : cmp k (get_or es i x).key ≢ Equal → tree_finds cmp n k d t ≡ held_finds cmp n k d (get_or es i x).lt
+      page_finds-at other = page_finds ∙ finds_at cmp n k d true es h i x at within other

@@ -1,6 +1,7 @@
 -- Pages that are the same, apart from the caches, are canonical alike, and have the same digest.
 use Rattle.std.proofs.Common.{◌≡◌, ℕ, suc, ◌<◌, List, ◌++◌, length, refl, ap, sym, subst, ◌∙◌}
 use Rattle.merkle_digest.specs.SipHash.{siphash128, zero_key}
+use Rattle.std.specs.Cmp.{IsTotalOrder, tied_back}
 use Rattle.std.specs.declared.cmp.Ordering.{Ordering}
 use Rattle.key_order.specs.Order.{Same}
 use Rattle.merkle_search_tree.specs.Tree.{Tree, page, Row, high, node, Held, nothing, below}
@@ -50,6 +51,24 @@ module _ {K D : Type 0} (cmp : K → K → Ordering) (lev : K → ℕ) (respects
   same-root (page l c (high (below t))) u a p = absurd p
   same-root (page l c (node h k d r)) (page l' c' (high h')) a p = absurd a.2
   same-root (page l c (node h k d r)) (page l' c' (node h' k' d' r')) a p = same-canonical (page l c (node h k d r)) (page l' c' (node h' k' d' r')) a p
+
+module _ {K D : Type 0} (cmp : K → K → Ordering) (o : IsTotalOrder cmp) where
+  mutual
+    -- sameness of pages can be turned
+    pub same-back : (t u : Tree K D) → SamePages cmp t u → SamePages cmp u t
+    same-back (page l c r) (page l' c' r') a = (sym a.0, tt, row_same-back r r' a.2)
+
+    row_same-back : (r s : Row K D) → SameRow cmp r s → SameRow cmp s r
+    row_same-back (high h) (high h') a = held_same-back h h' a
+    row_same-back (high h) (node h' k' d' r') a = absurd a
+    row_same-back (node h k d r) (high h') a = absurd a
+    row_same-back (node h k d r) (node h' k' d' r') a = (held_same-back h h' a.0, tied_back o k k' a.1, sym a.2, row_same-back r r' a.3)
+
+    held_same-back : (h g : Held K D) → SameHeld cmp h g → SameHeld cmp g h
+    held_same-back nothing nothing a = tt
+    held_same-back nothing (below t') a = absurd a
+    held_same-back (below t) nothing a = absurd a
+    held_same-back (below t) (below t') a = same-back t t' a
 
 module _ {K : Type 0} (cmp : K → K → Ordering) (format : PageFormat) (b : K → List ℕ) (respects : (x y : K) → Same cmp x y → b x ≡ b y) where
   mutual

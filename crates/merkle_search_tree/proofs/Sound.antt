@@ -42,11 +42,11 @@ module _ {K H : Type 0} (cmp : K → K → Ordering) (o : IsTotalOrder cmp) (eq 
       is_tree_of (λ k. level_of (digest_of s.hasher k) s.base) (λ k. level_low (digest_of s.hasher k) s.base) cmp (alike s) s.root (map_of s) a.canonical (same_map-own cmp o (map_of s))
 
   -- sound trees of equal maps, under one hasher and base, have the same pages
-  pub same_pages : (s t : State K H) → IsSound cmp digest_of bytes_of s → IsSound cmp digest_of bytes_of t → s.hasher ≡ t.hasher → s.base ≡ t.base
+  pub same_pages : (s t : State K H) → IsSound cmp digest_of bytes_of s → IsSound cmp digest_of bytes_of t → ((k : K) → digest_of s.hasher k ≡ digest_of t.hasher k) → s.base ≡ t.base
       → SameMap cmp (λ d e. d ≡ e) (map_of s) (map_of t) → SamePages cmp s.root t.root
   same_pages s t a b h e m =
       unique_root (λ k. level_of (digest_of s.hasher k) s.base) cmp (alike s) s.root t.root a.canonical
-      (subst (λ n. IsCanonicalRoot (λ k. level_of (digest_of s.hasher k) n) t.root) (sym e) (subst (λ j. IsCanonicalRoot (λ k. level_of (digest_of j k) t.base) t.root) (sym h) b.canonical)) m
+      (subst (λ n. IsCanonicalRoot (λ k. level_of (digest_of s.hasher k) n) t.root) (sym e) (subst (λ (lev : K → ℕ). IsCanonicalRoot lev t.root) (λ i k. level_of (sym (h k) i) t.base) b.canonical)) m
 
   -- a copy of the pages of a sound tree, with a hasher that gives the same digests, and the same base and root hash, is sound
   pub copy_sound : ((x y : K) → eq x y ≡ true → bytes_of x ≡ bytes_of y) → (s : State K H) → IsSound cmp digest_of bytes_of s → (h : H) (t : Tree K (List ℕ)) (r : Option (List ℕ)) → ((k : K) → digest_of h k ≡ digest_of s.hasher k) → r ≡ s.root_hash → IsCopy (Same cmp) (λ d e. d ≡ e) s.root t

@@ -10,6 +10,8 @@ use Rattle.merkle_search_tree.specs.Canonical.{HasNode, IsRow, IsGap, IsCanonica
 use Rattle.key_order.specs.Map.{SameMap}
 use Rattle.key_order.proofs.SameMaps.{same_map-own, same_across, same_map-back}
 use Rattle.merkle_search_tree.specs.TreeOf.{any_at, row_of, gap_of, root_of, tree_of}
+use Rattle.merkle_search_tree.proofs.Same.{same-root, same-back}
+use Rattle.merkle_search_tree.proofs.SameRanges.{same-pairs}
 use Rattle.merkle_search_tree.proofs.Unique.{Under, Under-append, unique_root}
 
 -- a level below n + 1 that is not n is below n
@@ -104,6 +106,14 @@ module _ {K D : Type 0} (lev : K → ℕ) (low : (k : K) → lev k < 256) (cmp :
   -- and it is a tree of the map
   pub tree_of-is : IsTotalOrder cmp → (m : List (K × D)) → IsCanonicalRoot lev (tree_of lev m) × SameMap cmp (λ d e. d ≡ e) (pairs (tree_of lev m)) m
   tree_of-is o m = (tree_of-canonical lev m (all_under m), subst (λ ps. SameMap cmp (λ d e. d ≡ e) ps m) (sym (tree_of-pairs lev m (all_under m))) (same_map-own cmp o m))
+
+module _ {K : Type 0} (lev : K → ℕ) (low : (k : K) → lev k < 256) (cmp : K → K → Ordering) (respects : (a b : K) → Same cmp a b → lev a ≡ lev b) (o : IsTotalOrder cmp) where
+  -- what has the pages of the tree of a map is a canonical root of that map
+  pub same-tree_of : (t : Tree K (List ℕ)) (m : List (K × List ℕ)) → SamePages cmp t (tree_of lev m) → IsCanonicalRoot lev t × SameMap cmp (λ d e. d ≡ e) (pairs t) m
+  same-tree_of t m s = (
+    same-root cmp lev respects (tree_of lev m) t (same-back cmp o t (tree_of lev m) s) (tree_of-canonical lev m (all_under lev low cmp respects m)),
+    subst (SameMap cmp (λ d e. d ≡ e) (pairs t)) (tree_of-pairs lev m (all_under lev low cmp respects m)) (same-pairs cmp t (tree_of lev m) s),
+  )
 
 module _ {K : Type 0} (cmp : K → K → Ordering) (o : IsTotalOrder cmp) where
   -- the trees of two equal maps have equal maps

@@ -15,7 +15,8 @@ both {a} {b} p = both_by a b p
 join : {a b : Bool} → a ≡ true → b ≡ true → a && b ≡ true
 join p q = λ i. p i && q i
 
-module _ {K D : Type 0} (C : Option (List ℕ) → Option (List ℕ) → Bool) (E : K → K → Bool) (F : D → D → Bool) (c : IsPartialEquivalence C) (e : IsPartialEquivalence E) (f : IsPartialEquivalence F) where
+module _ {K D : Type 0} (C : Option (List ℕ) → Option (List ℕ) → Bool) (E : K → K → Bool) (F : D → D → Bool)
+    (c : IsPartialEquivalence C) (e : IsPartialEquivalence E) (f : IsPartialEquivalence F) where
   mutual
     pub tree_symm : (x y : Tree K D) → tree_eq C E F x y ≡ tree_eq C E F y x
     tree_symm (page l c1 r) (page l' c' r') = λ i. (nat_eq_equiv.symm l l' i && c.symm c1 c' i) && row_symm r r' i
@@ -81,7 +82,10 @@ module _ {K D : Type 0} (C : Option (List ℕ) → Option (List ℕ) → Bool) (
     held_refl (below t) = tree_refl t
 
   pub tree_eq_equivalence : IsEquivalence (tree_eq C E F)
-  tree_eq_equivalence = equiv (tree_eq_laws C E F (partial_equiv_from_equiv c) (partial_equiv_from_equiv e) (partial_equiv_from_equiv f)) tree_refl
+  tree_eq_equivalence =
+      equiv (tree_eq_laws C E F (partial_equiv_from_equiv c) (partial_equiv_from_equiv e) (partial_equiv_from_equiv f)) tree_refl
 
   pub node_eq_equivalence : IsEquivalence (node_eq C E F)
-  node_eq_equivalence = equiv (node_eq_laws C E F (partial_equiv_from_equiv c) (partial_equiv_from_equiv e) (partial_equiv_from_equiv f)) (λ x. join (join (held_refl x.lt) (e.refl x.key)) (f.refl x.digest))
+  node_eq_equivalence =
+      equiv (node_eq_laws C E F (partial_equiv_from_equiv c) (partial_equiv_from_equiv e) (partial_equiv_from_equiv f))
+      (λ x. join (join (held_refl x.lt) (e.refl x.key)) (f.refl x.digest))

@@ -23,6 +23,7 @@ pub mod Settings
 pub mod State
 pub mod Sound
 pub mod Hashed
+pub mod Dropped
 pub mod Search
 pub mod Upsert
 pub mod Chain

@@ -5,7 +5,7 @@ use Rattle.std.proofs.Common.{refl}
 use Rattle.merkle_search_tree.specs.Tree.{Tree, page, high, nothing}
 use Rattle.merkle_search_tree.specs.TreeCode.{tree_code}
 use Rattle.merkle_search_tree.specs.Page.{pairs}
-use Rattle.merkle_search_tree.specs.Settings.{format_code}
+use Rattle.merkle_search_tree.specs.Settings.{Settings, format_code}
 use Rattle.merkle_search_tree.specs.declared.builder.PageFormat.{PageFormat}
 
 -- the hasher, the level base, the page format, the root page with all caches, and the cached root hash
@@ -24,11 +24,17 @@ map_of s = pairs s.root
 abbrev pub IsNew : {K H : Type 0} → H → ℕ → PageFormat → State K H → Type 0
 IsNew hasher base format s = s ≡ record { hasher = hasher; base = base; format = format; root = page 0 None (high nothing); root_hash = None }
 
+-- the tree has the hasher, the level base and the page format of a builder
+abbrev pub HasSettings : {K H : Type 0} → Settings H → State K H → Type 0
+HasSettings builder tree = (tree.hasher ≡ builder.hasher) × (tree.base ≡ builder.base) × (tree.format ≡ builder.format)
+
 -- the hasher, the level base and the page format stay
 abbrev pub SameSettings : {K H : Type 0} → State K H → State K H → Type 0
 SameSettings old new = (new.hasher ≡ old.hasher) × (new.base ≡ old.base) × (new.format ≡ old.format)
 
 abbrev pub state_code : {K H : Type 0} → Coded K → Coded H → Coded (State K H)
 state_code {K} {H} k h =
-    code_by (H × (ℕ × (PageFormat × (Tree K (List ℕ) × Option (List ℕ))))) (coded× h (coded× coded_ℕ (coded× format_code (coded× (tree_code k (coded_list coded_ℕ)) (coded_option (coded_list coded_ℕ))))))
-    (λ s. (s.hasher, (s.base, (s.format, (s.root, s.root_hash))))) (λ p. record { hasher = p.0; base = p.1.0; format = p.1.1.0; root = p.1.1.1.0; root_hash = p.1.1.1.1 }) (λ _. refl)
+    code_by (H × (ℕ × (PageFormat × (Tree K (List ℕ) × Option (List ℕ)))))
+    (coded× h (coded× coded_ℕ (coded× format_code (coded× (tree_code k (coded_list coded_ℕ)) (coded_option (coded_list coded_ℕ))))))
+    (λ s. (s.hasher, (s.base, (s.format, (s.root, s.root_hash)))))
+    (λ p. record { hasher = p.0; base = p.1.0; format = p.1.1.0; root = p.1.1.1.0; root_hash = p.1.1.1.1 }) (λ _. refl)

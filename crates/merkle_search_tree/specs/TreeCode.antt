@@ -44,7 +44,9 @@ module _ {K D : Type 0} (k : Coded K) (d : Coded D) where
     inj_r (high h) (high h') p = ap high (inj_h h h' (ap rest p))
     inj_r (high h) (node h' x' y' r') p = absurd (subst (λ g. IsPair (first g)) (sym p) tt)
     inj_r (node h x y r) (high h') p = absurd (subst (λ g. IsPair (first g)) p tt)
-    inj_r (node h x y r) (node h' x' y' r') p = λ i. node (inj_h h h' (ap (λ g. first (first g)) p) i) (k.inj x x' (ap (λ g. first (rest (first g))) p) i) (d.inj y y' (ap (λ g. rest (rest (first g))) p) i) (inj_r r r' (ap rest p) i)
+    inj_r (node h x y r) (node h' x' y' r') p =
+        λ i. node (inj_h h h' (ap (λ g. first (first g)) p) i) (k.inj x x' (ap (λ g. first (rest (first g))) p) i)
+        (d.inj y y' (ap (λ g. rest (rest (first g))) p) i) (inj_r r r' (ap rest p) i)
 
     pub inj_h : (x y : Held K D) → code_h x ≡ code_h y → x ≡ y
     inj_h nothing nothing p = refl

@@ -136,8 +136,8 @@ fn write_key(format: PageFormat, bytes: &[u8], sip: &mut Sip24)
 }
 
 impl<K: Ord + KeyBytes, V, H: Hasher<N, K>, const N: usize> MerkleSearchTree<K, V, H, N> {
-    ghost use Rattle.std.specs.Prelude.{◌≢◌, Some, None, ⊤};
-    ghost use Rattle.merkle_search_tree.specs.Hashed.{IsHashed};
+    ghost use Rattle.std.specs.Prelude.{◌≢◌, None, ⊤};
+    ghost use Rattle.merkle_search_tree.specs.Hashed.{hashed_tree, IsHashed};
     ghost use Rattle.merkle_search_tree.specs.State.{map_of};
     ghost use Rattle.merkle_search_tree.specs.contracts.tree.MerkleSearchTree.{the_row};
     ghost use Rattle.std.specs.Borrow.{sem};
@@ -173,7 +173,7 @@ impl<K: Ord + KeyBytes, V, H: Hasher<N, K>, const N: usize> MerkleSearchTree<K, 
     /// The root hash, as [`root_hash`](Self::root_hash) gives it, and how many pages were hashed in this call: one for each page
     /// that lacked a digest, but at most `usize::MAX`.
     pub fn root_hash_counted(&mut self) -> (RootHash, usize)
-        ensures tree { self.new ≡ record self.old { root = filled self.old.format K.bytes_of self.old.root; root_hash = Some (page_digest self.old.format K.bytes_of self.old.root) } }
+        ensures tree { self.new ≡ hashed_tree K.bytes_of self.old }
         ensures map { map_of self.new ≡ map_of self.old }
         ensures digest { result.0 ≡ page_digest self.old.format K.bytes_of self.old.root }
         ensures count { result.1 ≡ min (missing self.old.root) (2 ^ 64 - 1) }

@@ -67,18 +67,21 @@ pub fn equal_keys_are_on_one_level<K: Ord, H: Hasher<N, K>, const N: usize>()
     ensures most { (digest : List ℕ) (base : ℕ) → level_of digest base ≤ 255 }
 {}
 
-/// Filling in the digests that pages lack leaves the map as it is, in any page format.
+/// Filling in the digests that pages lack leaves the map as it is and no page without a digest, in any page format.
 pub fn filled_pages_keep_their_map<K: KeyBytes>()
-    ensures { (format : PageFormat) (t : Tree K (List ℕ)) → pairs (filled format K.bytes_of t) ≡ pairs t }
+    ensures map { (format : PageFormat) (t : Tree K (List ℕ)) → pairs (filled format K.bytes_of t) ≡ pairs t }
+    ensures hashed { (format : PageFormat) (t : Tree K (List ℕ)) → missing (filled format K.bytes_of t) ≡ 0 }
 {}
 
-/// A map has one tree: under any hasher and level base there is one, and any other has its pages apart from caches; trees of equal maps
-/// have equal pages, and, in any page format, root pages of equal digest and equal page ranges. At most 256 pages of a tree of a map
-/// stand below one another, and no more than the level of its root and one.
+/// A map has one tree: under any hasher and level base there is one, any other has its pages apart from caches, and what has its pages
+/// is a tree of the map; trees of equal maps have equal pages, and, in any page format, root pages of equal digest and equal page
+/// ranges. At most 256 pages of a tree of a map stand below one another, and no more than the level of its root and one.
 pub fn a_map_has_one_tree<K: Ord + KeyBytes, H: Hasher<N, K>, const N: usize>()
     ensures defined { (hasher : H) (base : ℕ) (m : List (K × List ℕ)) → IsTreeOf K.cmp (H.digest_of hasher) base (defined_tree (H.digest_of hasher) base m) m }
     ensures only { (hasher : H) (base : ℕ) (m : List (K × List ℕ)) (t : Tree K (List ℕ))
         → IsTreeOf K.cmp (H.digest_of hasher) base t m → SamePages K.cmp t (defined_tree (H.digest_of hasher) base m) }
+    ensures enough { (hasher : H) (base : ℕ) (m : List (K × List ℕ)) (t : Tree K (List ℕ))
+        → SamePages K.cmp t (defined_tree (H.digest_of hasher) base m) → IsTreeOf K.cmp (H.digest_of hasher) base t m }
     ensures pages { (hasher : H) (base : ℕ) (a b : List (K × List ℕ)) (t u : Tree K (List ℕ)) → SameMap K.cmp (λ d e. d ≡ e) a b
         → IsTreeOf K.cmp (H.digest_of hasher) base t a → IsTreeOf K.cmp (H.digest_of hasher) base u b → SamePages K.cmp t u }
     ensures digests { (hasher : H) (base : ℕ) (format : PageFormat) (a b : List (K × List ℕ)) (t u : Tree K (List ℕ)) → SameMap K.cmp (λ d e. d ≡ e) a b
@@ -114,13 +117,13 @@ pub fn a_traversal_visits_nodes_in_order<K>()
     ensures { (is_high : Bool) (t : Tree K (List ℕ)) → visited_nodes (events_of is_high t) ≡ nodes_in_order t }
 {}
 
-/// Trees of equal maps, under one hasher and level base, have equal pages apart from caches, and, in one page format, equal root
-/// digests.
+/// Trees of equal maps, under one level base and hashers that give each key one digest, have equal pages apart from caches, and, in
+/// one page format, equal root digests.
 pub fn equal_maps_have_equal_pages<K: Ord + KeyBytes, V, H: Hasher<N, K>, const N: usize>(
     a: &MerkleSearchTree<K, V, H, N>,
     b: &MerkleSearchTree<K, V, H, N>,
 )
-    requires hasher { a.now.hasher ≡ b.now.hasher }
+    requires hashers { (k : K) → H.digest_of a.now.hasher k ≡ H.digest_of b.now.hasher k }
     requires base { a.now.base ≡ b.now.base }
     requires maps { SameMap K.cmp (λ d e. d ≡ e) (map_of a.now) (map_of b.now) }
     ensures pages { SamePages K.cmp a.now.root b.now.root }
@@ -159,13 +162,13 @@ pub fn page_ranges_list_the_map<K: Ord + KeyBytes, V, H: Hasher<N, K>, const N: 
     let _ = &tree.root;
 }
 
-/// Trees of equal maps, under one hasher, level base and page format, have page ranges that agree in span and digest, place by
-/// place, so that what [`diff`](merkle_diff::diff) answers on them is empty in both directions.
+/// Trees of equal maps, under one level base and page format and hashers that give each key one digest, have page ranges that agree in
+/// span and digest, place by place, so that what [`diff`](merkle_diff::diff) answers on them is empty in both directions.
 pub fn equal_maps_have_equal_page_ranges<K: Ord + KeyBytes, V, H: Hasher<N, K>, const N: usize>(
     a: &MerkleSearchTree<K, V, H, N>,
     b: &MerkleSearchTree<K, V, H, N>,
 )
-    requires hasher { a.now.hasher ≡ b.now.hasher }
+    requires hashers { (k : K) → H.digest_of a.now.hasher k ≡ H.digest_of b.now.hasher k }
     requires base { a.now.base ≡ b.now.base }
     requires format { a.now.format ≡ b.now.format }
     requires maps { SameMap K.cmp (λ d e. d ≡ e) (map_of a.now) (map_of b.now) }

@@ -7,7 +7,7 @@ ghost use Rattle.key_order.specs.Map.{IsMap, SameMap};
 ghost use Rattle.merkle_diff.specs.Iterable.{Gives, Begins};
 ghost use Rattle.merkle_search_tree.specs.Edge.{edge_pairs};
 ghost use Rattle.merkle_search_tree.specs.Loading.{digests, IsLoading, RowFails, LoadFails, BeginsWith};
-ghost use Rattle.merkle_search_tree.specs.State.{map_of};
+ghost use Rattle.merkle_search_tree.specs.State.{map_of, HasSettings};
 ghost use Rattle.merkle_search_tree.specs.declared.load.LoadRefused.TheVariants.{Memory};
 
 use crate::builder::Builder;
@@ -94,9 +94,7 @@ fn finished<K: Ord + KeyBytes + Drop, V, H: Hasher<N, K> + Drop, const N: usize>
 ) -> Result<MerkleSearchTree<K, V, H, N>, LoadRefused>
     requires { IsLoading K.cmp H.digest_of builder loading }
     ensures map { IfOk result (λ tree. map_of tree ≡ edge_pairs loading.edge.items) }
-    ensures hasher { IfOk result (λ tree. tree.hasher ≡ builder.hasher) }
-    ensures base { IfOk result (λ tree. tree.base ≡ builder.base) }
-    ensures format { IfOk result (λ tree. tree.format ≡ builder.format) }
+    ensures settings { IfOk result (HasSettings builder) }
     ensures not_hashed { IfOk result (λ tree. tree.root_hash ≡ None) }
     ensures refused { IfErr result (λ fault. fault ≡ Memory) }
 {
@@ -136,9 +134,7 @@ impl<
         ensures map { IfOk result (λ tree. (given : _) × Gives T.into_iter_gives T.IntoIter.next_gives rows given
             × IsMap K.cmp given × (map_of tree ≡ digests (⟦<H as Hasher<N, V>>⟧.digest_of builder.hasher) given)) }
 
-        ensures hasher { IfOk result (λ tree. tree.hasher ≡ builder.hasher) }
-        ensures base { IfOk result (λ tree. tree.base ≡ builder.base) }
-        ensures format { IfOk result (λ tree. tree.format ≡ builder.format) }
+        ensures settings { IfOk result (HasSettings builder) }
         ensures not_hashed { IfOk result (λ tree. tree.root_hash ≡ None) }
 
         // Refused, it is at the first row that doesn't ascend, or for want of memory.
@@ -183,9 +179,7 @@ impl<
         ensures map { IfOk result (λ tree. SameMap K.cmp (λ d e. d ≡ e) (map_of tree) (digests (⟦<H as Hasher<N, V>>⟧.digest_of builder.hasher) rows.now)) }
 
         ensures ascending { IfOk result (λ tree. IsMap K.cmp rows.now) }
-        ensures hasher { IfOk result (λ tree. tree.hasher ≡ builder.hasher) }
-        ensures base { IfOk result (λ tree. tree.base ≡ builder.base) }
-        ensures format { IfOk result (λ tree. tree.format ≡ builder.format) }
+        ensures settings { IfOk result (HasSettings builder) }
         ensures not_hashed { IfOk result (λ tree. tree.root_hash ≡ None) }
 
         // Refused, it is at the first row that doesn't ascend, or for want of memory.

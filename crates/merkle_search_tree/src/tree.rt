@@ -12,8 +12,9 @@ ghost use Rattle.merkle_search_tree.specs.Page.{level, pair_of, nodes_of, nodes_
 ghost use Rattle.merkle_search_tree.specs.Upsert.{place};
 ghost use Rattle.merkle_search_tree.specs.Cache.{missing, KeyUncached};
 ghost use Rattle.merkle_search_tree.specs.Copy.{IsCopy};
+ghost use Rattle.merkle_search_tree.specs.Dropped.{UpsertDropsFew, RemovalDropsFew};
 ghost use Rattle.merkle_search_tree.specs.Sound.{IsSound};
-ghost use Rattle.merkle_search_tree.specs.State.{map_of, IsNew};
+ghost use Rattle.merkle_search_tree.specs.State.{map_of, IsNew, SameSettings};
 ghost use Rattle.merkle_search_tree.specs.Stream.{page_digest};
 ghost use Rattle.merkle_search_tree.specs.declared.builder.PageFormat.TheVariants.{V1};
 
@@ -273,14 +274,11 @@ impl<
         // No digest over the key is left, and few others are dropped: few are missing in a tree that was hashed.
         ensures forgotten { OnOk result (self.new.root_hash ≡ None) }
         ensures dropped { OnOk result (KeyUncached K.cmp key self.new.root) }
-        ensures few_more { OnOk result (missing self.new.root
-            ≤ missing self.old.root + (level self.new.root + level_of (⟦<H as Hasher<N, K>>⟧.digest_of self.old.hasher key) self.old.base + 1)) }
+        ensures few_more { OnOk result (UpsertDropsFew (⟦<H as Hasher<N, K>>⟧.digest_of self.old.hasher key) self.old self.new) }
         ensures few { OnOk result (self.old.root_hash ≢ None → missing self.new.root
             ≤ level self.new.root + level_of (⟦<H as Hasher<N, K>>⟧.digest_of self.old.hasher key) self.old.base + 1) }
 
-        ensures hasher { self.new.hasher ≡ self.old.hasher }
-        ensures base { self.new.base ≡ self.old.base }
-        ensures format { self.new.format ≡ self.old.format }
+        ensures settings { SameSettings self.old self.new }
 
         // Refused, it leaves the tree and hands the key back.
         ensures unchanged { OnErr result (self.new ≡ self.old) }
@@ -330,12 +328,10 @@ impl<K: Ord + KeyBytes + Drop, V, H: Hasher<N, K>, const N: usize> MerkleSearchT
         ensures forgotten { IfOk result (λ found. found ≢ None → self.new.root_hash ≡ None) }
 
         // Few digests are dropped, and few are missing in a tree that was hashed.
-        ensures few_more { OnOk result (missing self.new.root ≤ missing self.old.root + (level self.old.root + 1)) }
+        ensures few_more { OnOk result (RemovalDropsFew self.old self.new) }
         ensures few { OnOk result (self.old.root_hash ≢ None → missing self.new.root ≤ level self.old.root + 1) }
 
-        ensures hasher { self.new.hasher ≡ self.old.hasher }
-        ensures base { self.new.base ≡ self.old.base }
-        ensures format { self.new.format ≡ self.old.format }
+        ensures settings { SameSettings self.old self.new }
 
         // Refused, it leaves the tree.
         ensures unchanged { OnErr result (self.new ≡ self.old) }

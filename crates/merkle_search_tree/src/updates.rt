@@ -4,7 +4,7 @@ ghost use Rattle.std.specs.Prelude.{◌≡◌, IfOk, length, is_some, [], false}
 ghost use Rattle.merkle_diff.specs.SameEntries.{SameEntries};
 ghost use Rattle.merkle_search_tree.specs.Canonical.{SamePages};
 ghost use Rattle.merkle_search_tree.specs.Ranges.{ranges_of};
-ghost use Rattle.merkle_search_tree.specs.State.{map_of};
+ghost use Rattle.merkle_search_tree.specs.State.{map_of, HasSettings, SameSettings};
 ghost use Rattle.merkle_search_tree.specs.Updates.{map_after, map_after_one, hashed_after_one, tree_after, root_hash_after, IsAcceptedIfFree, FreeAreAccepted};
 
 use crate::builder::Builder;
@@ -36,9 +36,7 @@ where
     ensures map { map_of tree.new ≡ map_after_one K.cmp (⟦<H as Hasher<N, V>>⟧.digest_of tree.old.hasher) (map_of tree.old) update result }
     ensures hashed { is_some tree.new.root_hash ≡ hashed_after_one K.cmp (⟦<H as Hasher<N, V>>⟧.digest_of tree.old.hasher) (map_of tree.old) (is_some tree.old.root_hash) update result }
     ensures free { IsAcceptedIfFree K.cmp (⟦<H as Hasher<N, V>>⟧.digest_of tree.old.hasher) (map_of tree.old) update result }
-    ensures hasher { tree.new.hasher ≡ tree.old.hasher }
-    ensures base { tree.new.base ≡ tree.old.base }
-    ensures format { tree.new.format ≡ tree.old.format }
+    ensures settings { SameSettings tree.old tree.new }
 {
     match update {
         Update::Upsert(key, value) => tree.upsert(key, &value).is_ok(),
@@ -79,9 +77,7 @@ where
         (tree_after K.cmp ⟦<H as Hasher<N, K>>⟧.digest_of ⟦<H as Hasher<N, V>>⟧.digest_of builder updates.items r.1.items))) }
     ensures root_hash { IfOk result (λ r. r.0.root_hash
         ≡ root_hash_after K.cmp ⟦<H as Hasher<N, K>>⟧.digest_of ⟦<H as Hasher<N, V>>⟧.digest_of K.bytes_of builder updates.items r.1.items) }
-    ensures hasher { IfOk result (λ r. r.0.hasher ≡ builder.hasher) }
-    ensures base { IfOk result (λ r. r.0.base ≡ builder.base) }
-    ensures format { IfOk result (λ r. r.0.format ≡ builder.format) }
+    ensures settings { IfOk result (λ r. HasSettings builder r.0) }
 {
     let mut accepted = Vec::with_capacity(alloc, updates.len())?;
     let mut tree = builder.build(alloc);

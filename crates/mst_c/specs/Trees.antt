@@ -1,16 +1,14 @@
 -- What a tree of byte strings is, and what the calls do to it.
-use Rattle.std.specs.Prelude.{◌≡◌, ℕ, ◌+◌, ◌≤◌, Bool, List, map}
+use Rattle.std.specs.Prelude.{◌≡◌, ℕ, Bool, List, map}
 use Rattle.std.specs.Global.{Vec}
 use Rattle.std.specs.Cmp.Lexicographic.{slice_cmp}
 use Rattle.std.specs.Ordering.{nat_cmp}
 use Rattle.std.specs.declared.cmp.Ordering.{Ordering}
 use Rattle.key_order.specs.Order.{Same}
 use Rattle.key_order.specs.Map.{set, del, has_key}
-use Rattle.merkle_digest.specs.Level.{level_of}
 use Rattle.merkle_digest.specs.SipHash.{siphash128}
-use Rattle.merkle_search_tree.specs.Cache.{missing}
 use Rattle.merkle_search_tree.specs.Copy.{IsCopy}
-use Rattle.merkle_search_tree.specs.Page.{level}
+use Rattle.merkle_search_tree.specs.Dropped.{UpsertDropsFew}
 use Rattle.merkle_search_tree.specs.State.{State, SameSettings, map_of}
 
 -- a tree whose keys are byte strings and whose hasher is a key of SipHash
@@ -53,13 +51,9 @@ pub record IsDel (key : List ℕ) (found : Bool) (old new : ByteState) : Type 0 
   pub answer : found ≡ has_key bytes_cmp (rows_of old) key
   pub settings : SameSettings old new
 
--- at most level of the new root + level of the key + 1 pages more than before lack a digest
+-- an upsert of the key: few pages more than before lack a digest
 abbrev pub SetDropsFew : List ℕ → ByteState → ByteState → Type 0
-SetDropsFew key old new = missing new.root ≤ missing old.root + (level new.root + level_of (siphash128 old.hasher key) old.base + 1)
-
--- at most level of the old root + 1 pages more than before lack a digest
-abbrev pub DelDropsFew : ByteState → ByteState → Type 0
-DelDropsFew old new = missing new.root ≤ missing old.root + (level old.root + 1)
+SetDropsFew key old = UpsertDropsFew (siphash128 old.hasher key) old
 
 -- the pages are equal, and so are all cached digests and the cached root hash
 pub record IsCopied (old copy : ByteState) : Type 0 where

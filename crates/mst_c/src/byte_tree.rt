@@ -1,13 +1,14 @@
 //! What a handle holds: a tree of byte strings.
 ghost use Rattle.std.specs.Prelude.{◌≡◌, ◌≢◌, ℕ, List, None, Err, OnOk, OnErr, IfOk, false, length};
 ghost use Rattle.std.specs.Int.NonZero.{non_zero_u8_get};
+ghost use Rattle.merkle_search_tree.specs.Dropped.{RemovalDropsFew};
 ghost use Rattle.merkle_search_tree.specs.Hashed.{IsHashed};
 ghost use Rattle.merkle_search_tree.specs.State.{IsNew, map_of};
 ghost use Rattle.merkle_search_tree.specs.Stream.{page_digest};
 ghost use Rattle.merkle_search_tree.specs.Ranges.{ranges_of};
 ghost use Rattle.merkle_search_tree.specs.Loading.{row_count};
 ghost use Rattle.mst_c.specs.Lists.{ArePageRanges, AreRows, IsLoaded};
-ghost use Rattle.mst_c.specs.Trees.{bytes_of, SameRows, IsSet, SetDropsFew, IsDel, DelDropsFew, IsCopied};
+ghost use Rattle.mst_c.specs.Trees.{bytes_of, SameRows, IsSet, SetDropsFew, IsDel, IsCopied};
 ghost use Rattle.mst_c.specs.declared.reading.ReadError.TheVariants.{Malformed};
 
 use crate::byte_hasher::ByteHasher;
@@ -70,7 +71,7 @@ impl ByteTree {
     pub fn remove(&mut self, alloc: Global, key: &[u8]) -> Result<bool, AllocError>
         ensures done { IfOk result (λ found. IsDel key.now found self.old.tree self.new.tree) }
         ensures absent { IfOk result (λ found. found ≡ false → self.new ≡ self.old) }
-        ensures few_more { OnOk result (DelDropsFew self.old.tree self.new.tree) }
+        ensures few_more { OnOk result (RemovalDropsFew self.old.tree self.new.tree) }
         ensures unchanged { OnErr result (self.new ≡ self.old) }
     {
         let own_key = Vec::from_slice(alloc, key)?;

@@ -1,8 +1,9 @@
 //! Calls that change the map of a tree.
 ghost use Rattle.std.specs.Prelude.{◌≡◌, ◌≢◌, ◌↔◌, ◌⊎◌, ℕ, List, None, true, false};
+ghost use Rattle.merkle_search_tree.specs.Dropped.{RemovalDropsFew};
 ghost use Rattle.mst_c.specs.Handles.{Changes};
 ghost use Rattle.mst_c.specs.Lists.{AreRows, IsLoaded};
-ghost use Rattle.mst_c.specs.Trees.{IsSet, SetDropsFew, IsDel, DelDropsFew};
+ghost use Rattle.mst_c.specs.Trees.{IsSet, SetDropsFew, IsDel};
 
 use crate::handle::MstTree;
 use crate::reading::ReadError;
@@ -52,7 +53,7 @@ fn upsert(handle: MstTree, row: (Global, &[u8], &[u8])) -> (MstTree, u32)
 #[unsafe(no_mangle)]
 pub extern "C" fn mst_proved_tree_remove(alloc: Global, handle: &mut MstTree, key: &[u8]) -> u32
     ensures done { result ≡ 0 → Changes handle.old.tree handle.new.tree (IsDel key.now true) }
-    ensures few_more { result ≡ 0 → Changes handle.old.tree handle.new.tree DelDropsFew }
+    ensures few_more { result ≡ 0 → Changes handle.old.tree handle.new.tree RemovalDropsFew }
     ensures absent { result ≡ 5 → Changes handle.old.tree handle.new.tree (IsDel key.now false) }
     ensures unchanged { result ≢ 0 → handle.new.tree ≡ handle.old.tree }
     ensures argument { (result ≡ 4) ↔ (handle.old.tree ≡ None) }
@@ -63,7 +64,7 @@ pub extern "C" fn mst_proved_tree_remove(alloc: Global, handle: &mut MstTree, ke
 
 fn remove(handle: MstTree, asked: (Global, &[u8])) -> (MstTree, u32)
     ensures done { result.1 ≡ 0 → Changes handle.tree result.0.tree (IsDel asked.entry.1.now true) }
-    ensures few_more { result.1 ≡ 0 → Changes handle.tree result.0.tree DelDropsFew }
+    ensures few_more { result.1 ≡ 0 → Changes handle.tree result.0.tree RemovalDropsFew }
     ensures absent { result.1 ≡ 5 → Changes handle.tree result.0.tree (IsDel asked.entry.1.now false) }
     ensures unchanged { result.1 ≢ 0 → result.0.tree ≡ handle.tree }
     ensures argument { (result.1 ≡ 4) ↔ (handle.tree ≡ None) }

@@ -1,12 +1,11 @@
 -- The tree of a replica of the program is the tree of its rows.
 use Rattle.std.proofs.Common.{◌≡◌, ℕ, List, [], ◌∷◌, ◌++◌, map, ap, refl, codes, string_bytes}
-use Rattle.std.specs.Int.{w64, to_le_bytes}
 use Rattle.std.specs.List.{flat_map}
 use Rattle.std.proofs.lemmas.Map.Lookups.{exact_bytes}
 use Rattle.key_order.specs.Order.{Same}
 use Rattle.key_order.specs.Map.{SameMap}
 use Rattle.key_order.specs.Text.{Text, text_order}
-use Rattle.merkle_digest.specs.SipHash.{siphash128}
+use Rattle.merkle_digest.specs.SipDigests.{text_digest, number_digest}
 use Rattle.merkle_diff.specs.Entry.{Entry, span_of}
 use Rattle.merkle_diff.specs.SameEntries.{SameEntries}
 use Rattle.merkle_search_tree.specs.Canonical.{SamePages, IsTreeOf}
@@ -25,16 +24,12 @@ use Rattle.merkle_search_tree.specs.declared.builder.PageFormat.{PageFormat}
 same_text : (x y : Text) → Same text_order x y → string_bytes x ≡ string_bytes y
 same_text x y e = exact_bytes (string_bytes x) (string_bytes y) e
 
--- the digests of keys under a hasher
-abbrev digests_by : List ℕ → Text → List ℕ
-digests_by hasher key = siphash128 hasher (string_bytes key)
-
 -- the pages are the tree of the rows, apart from caches, where a map has one tree
-pub pages_are : ((hasher : List ℕ) (base : ℕ) (m : List (Text × List ℕ)) (t : Tree Text (List ℕ)) → IsTreeOf text_order (digests_by hasher) base t m → SamePages text_order t (defined_tree (digests_by hasher) base m))
-    → (format : PageFormat) (c : Contents Text ℕ (List ℕ)) → HasDefaults format c → IsSound text_order digests_by string_bytes c.tree
-    → SameMap text_order (λ d e. d ≡ e) (map_of c.tree) (digests (λ n. siphash128 c.tree.hasher (to_le_bytes w64 n)) c.rows) → SamePages text_order c.tree.root (tree c.rows)
+pub pages_are : ((hasher : List ℕ) (base : ℕ) (m : List (Text × List ℕ)) (t : Tree Text (List ℕ)) → IsTreeOf text_order (text_digest hasher) base t m → SamePages text_order t (defined_tree (text_digest hasher) base m))
+    → (format : PageFormat) (c : Contents Text ℕ (List ℕ)) → HasDefaults format c → IsSound text_order text_digest string_bytes c.tree
+    → SameMap text_order (λ d e. d ≡ e) (map_of c.tree) (digests (number_digest c.tree.hasher) c.rows) → SamePages text_order c.tree.root (tree c.rows)
 pages_are only format c (hasher, base, same_format) sound digested =
-    rw (hasher, base) at (only c.tree.hasher c.tree.base (digests (λ n. siphash128 c.tree.hasher (to_le_bytes w64 n)) c.rows) c.tree.root (sound.canonical, digested))
+    rw (hasher, base) at (only c.tree.hasher c.tree.base (digests (number_digest c.tree.hasher) c.rows) c.tree.root (sound.canonical, digested))
 
 -- equal ranges are shown alike
 same_lines : (es fs : List (Entry Text (List ℕ))) → SameEntries text_order es fs → flat_map range_text (map span_of es) ≡ flat_map range_text (map span_of fs)

@@ -1,11 +1,13 @@
 -- The tree that shows what a replica holds, with the default hasher and level base, SipHash under the zero key and 16, in a page format.
-use Rattle.std.specs.Prelude.{◌≡◌, ℕ, List, max, nat_eq, string_bytes}
-use Rattle.std.specs.Int.{w64, to_le_bytes}
+use Rattle.std.specs.Prelude.{ℕ, List, max, nat_eq, string_bytes}
 use Rattle.key_order.specs.Text.{Text, text_order}
-use Rattle.merkle_digest.specs.SipHash.{siphash128, zero_key}
+use Rattle.merkle_digest.specs.SipDigests.{text_digest, number_digest}
+use Rattle.merkle_digest.specs.SipHash.{zero_key}
 use Rattle.merkle_diff.specs.Entry.{Entry}
 use Rattle.merkle_search_tree.specs.Loading.{digests}
 use Rattle.merkle_search_tree.specs.Ranges.{ranges_of}
+use Rattle.merkle_search_tree.specs.Settings.{default_settings}
+use Rattle.merkle_search_tree.specs.State.{HasSettings}
 use Rattle.merkle_search_tree.specs.Stream.{page_digest}
 use Rattle.merkle_search_tree.specs.Tree.{Tree}
 use Rattle.merkle_search_tree.specs.TreeOf.{defined_tree}
@@ -14,17 +16,9 @@ use Rattle.merkle_replica.specs.Laws.{Laws}
 use Rattle.merkle_replica.specs.Contents.{Contents, Side}
 use Rattle.mst_pair.specs.Replicas.{TextRow}
 
--- the digest of a key: that of its bytes
-abbrev pub key_digest : Text → List ℕ
-key_digest key = siphash128 zero_key (string_bytes key)
-
--- the digest of a number: that of its eight bytes, the lowest first
-abbrev pub number_digest : ℕ → List ℕ
-number_digest n = siphash128 zero_key (to_le_bytes w64 n)
-
 -- the tree of the keys and the digests of their numbers
 abbrev pub tree : List TextRow → Tree Text (List ℕ)
-tree rows = defined_tree key_digest 16 (digests number_digest rows)
+tree rows = defined_tree (text_digest zero_key) 16 (digests (number_digest zero_key) rows)
 
 -- its page ranges
 abbrev pub page_ranges : PageFormat → List TextRow → List (Entry Text (List ℕ))
@@ -39,10 +33,10 @@ abbrev pub text_laws : Laws Text ℕ (List ℕ)
 text_laws = record {
   cmp = text_order;
   bytes_of = string_bytes;
-  key_digest = λ h key. siphash128 h (string_bytes key);
+  key_digest = text_digest;
   eq = nat_eq;
   join = max;
-  value_digest = λ h n. siphash128 h (to_le_bytes w64 n);
+  value_digest = number_digest;
 }
 
 -- these rows in such a tree
@@ -51,4 +45,4 @@ side_of format rows = record { hasher = zero_key; base = 16; format = format; ro
 
 -- the replica has the default hasher and level base, and this page format
 abbrev pub HasDefaults : PageFormat → Contents Text ℕ (List ℕ) → Type 0
-HasDefaults format c = (c.tree.hasher ≡ zero_key) × (c.tree.base ≡ 16) × (c.tree.format ≡ format)
+HasDefaults format c = HasSettings (default_settings format) c.tree

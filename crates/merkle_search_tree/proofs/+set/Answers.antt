@@ -2,7 +2,7 @@ use Rattle.std.proofs.Common.{◌≡◌, slice_set, true, None, arith, ap, sym, 
 use Rattle.merkle_search_tree.specs.Tree.{page, Node, row, held_of}
 use Rattle.merkle_search_tree.specs.Upsert.{place, level_order, held_set, held_finds, tree_set, lifted}
 use Rattle.merkle_search_tree.proofs.Parts.{lt_back, lt_changed, on_err_always, on_ok_map}
-use Rattle.merkle_search_tree.proofs.Gaps.{sink_at, sink_equal, sink_high, finds_at, finds_high, set_greater, page_set-less, page_finds-less, with_digest}
+use Rattle.merkle_search_tree.proofs.Gaps.{page_set-high, page_set-equal, page_set-at, page_finds-high, page_finds-at, set_greater, with_digest}
 use Rattle.merkle_search_tree.proofs.Search.{page_nodes-ascend, page_high-map, page_gap-map, all_below, one_at, key_there, key_elsewhere}
 use Rattle.merkle_search_tree.proofs.Rows.{page_size-high, page_size-gap}
 use Rattle.merkle_search_tree.proofs.+set.Goals as goal
@@ -11,18 +11,14 @@ pub page::PageOf::set-returns-in_err-set_below-in-Less-clause-absent : goal.page
 page::PageOf::set-returns-in_err-set_below-in-Less-clause-absent g t c =
     let s = c.self.inside in
     let all = all_below g.K.Ord.cmp c.args.key c.search-spot.ensures.found c.deref.ensures.value c.if-at-len.true c.len.ensures s.nodes.ok.0 in
-    let is = ap (level_order c.args.level) c.self.view_is ∙ sym c.compare_level.ensures ∙ c.in-Less.is in
-    on_err_always _ _ (page_finds-less g.K.Ord.cmp c.args.level c.args.key c.args.digest s.nodes.items (held_of s.high_page) c.self.view_is is
-    ∙ finds_high g.K.Ord.cmp c.args.level c.args.key c.args.digest true s.nodes.items (held_of s.high_page) all ∙ c.in_err-set_below-in-Less.ensures.absent)
+    on_err_always _ _ (page_finds-high g.K.Ord.cmp c.args.level c.args.key c.args.digest s.nodes.items (held_of s.high_page) c.self.view_is c.compare_level.ensures c.in-Less.is all ∙ c.in_err-set_below-in-Less.ensures.absent)
 
 pub page::PageOf::set-returns-then-at-len-clause-done : goal.page::PageOf::set-returns-then-at-len-clause-done
 page::PageOf::set-returns-then-at-len-clause-done g t c =
     let s = c.self.inside in
     let all = all_below g.K.Ord.cmp c.args.key c.search-spot.ensures.found c.deref.ensures.value c.if-at-len.true c.len.ensures s.nodes.ok.0 in
-    let is = ap (level_order c.args.level) c.self.view_is ∙ sym c.compare_level.ensures ∙ c.in-Less.is in
     ap (λ o. page s.level None (row s.nodes.items o)) c.in_ok-set_below-in-Less.ensures.done
-    ∙ ap (page s.level None) (sym (sink_high g.K.Ord.cmp c.args.level c.args.key c.args.digest s.nodes.items (held_of s.high_page) all))
-    ∙ page_set-less g.K.Ord.cmp c.args.level c.args.key c.args.digest s.nodes.items (held_of s.high_page) c.self.view_is is
+    ∙ page_set-high g.K.Ord.cmp c.args.level c.args.key c.args.digest s.nodes.items (held_of s.high_page) c.self.view_is c.compare_level.ensures c.in-Less.is all
 
 pub page::PageOf::set-returns-then-spot-clause-done : goal.page::PageOf::set-returns-then-spot-clause-done
 page::PageOf::set-returns-then-spot-clause-done g t c =
@@ -32,10 +28,8 @@ page::PageOf::set-returns-then-spot-clause-done g t c =
     let at = c.search-spot.ensures.found ∙ ap (place g.K.Ord.cmp c.args.key) c.deref.ensures.value in
     let within = one_at c.search-spot.ensures.within c.deref.ensures.value c.if-at-len.false c.len.ensures s.nodes.ok.0 in
     let same = key_there g.K.Ord.cmp c.args.key i c.search-spot.ensures.there c.deref.ensures.value c.if-spot.true x within in
-    let is = ap (level_order c.args.level) c.self.view_is ∙ sym c.compare_level.ensures ∙ c.in-Less.is in
     ap (λ (e : Node g.row.K.Denot g.row.D.Denot). page s.level None (row (slice_set s.nodes.items i (with_digest e c.args.digest)) (held_of s.high_page))) (c.found.view_is ∙ c.index_mut-found.ensures.value)
-    ∙ ap (page s.level None) (sym (sink_equal g.K.Ord.cmp c.args.level c.args.key c.args.digest s.nodes.items (held_of s.high_page) i x at within same))
-    ∙ page_set-less g.K.Ord.cmp c.args.level c.args.key c.args.digest s.nodes.items (held_of s.high_page) c.self.view_is is
+    ∙ page_set-equal g.K.Ord.cmp c.args.level c.args.key c.args.digest s.nodes.items (held_of s.high_page) c.self.view_is c.compare_level.ensures c.in-Less.is i x at within same
 
 pub page::PageOf::set-returns-in_err-set_below-in-Less-2-clause-unchanged : goal.page::PageOf::set-returns-in_err-set_below-in-Less-2-clause-unchanged
 page::PageOf::set-returns-in_err-set_below-in-Less-2-clause-unchanged g t c =
@@ -53,9 +47,7 @@ page::PageOf::set-returns-in_err-set_below-in-Less-2-clause-absent g t c =
     let at = c.search-spot.ensures.found ∙ ap (place g.K.Ord.cmp c.args.key) c.deref.ensures.value in
     let within = one_at c.search-spot.ensures.within c.deref.ensures.value c.if-at-len.false c.len.ensures s.nodes.ok.0 in
     let other = key_elsewhere g.K.Ord.cmp c.args.key i c.search-spot.ensures.there c.deref.ensures.value c.if-spot.false x within in
-    let is = ap (level_order c.args.level) c.self.view_is ∙ sym c.compare_level.ensures ∙ c.in-Less.is in
-    on_err_always _ _ (page_finds-less g.K.Ord.cmp c.args.level c.args.key c.args.digest s.nodes.items (held_of s.high_page) c.self.view_is is
-    ∙ finds_at g.K.Ord.cmp c.args.level c.args.key c.args.digest true s.nodes.items (held_of s.high_page) i x at within other
+    on_err_always _ _ (page_finds-at g.K.Ord.cmp c.args.level c.args.key c.args.digest s.nodes.items (held_of s.high_page) c.self.view_is c.compare_level.ensures c.in-Less.is i x at within other
     ∙ ap (λ (e : Node g.row.K.Denot g.row.D.Denot). held_finds g.K.Ord.cmp c.args.level c.args.key c.args.digest e.lt) (sym (c.behind-self.view_is ∙ c.index_mut.ensures.value))
     ∙ c.in_err-set_below-in-Less-2.ensures.absent)
 
@@ -77,11 +69,9 @@ page::PageOf::set-returns-in_ok-set_below-in-Less-2-clause-done g t c =
     let at = c.search-spot.ensures.found ∙ ap (place g.K.Ord.cmp c.args.key) c.deref.ensures.value in
     let within = one_at c.search-spot.ensures.within c.deref.ensures.value c.if-at-len.false c.len.ensures s.nodes.ok.0 in
     let other = key_elsewhere g.K.Ord.cmp c.args.key i c.search-spot.ensures.there c.deref.ensures.value c.if-spot.false x within in
-    let is = ap (level_order c.args.level) c.self.view_is ∙ sym c.compare_level.ensures ∙ c.in-Less.is in
     let new = lt_changed (held_set g.K.Ord.cmp c.args.level c.args.key c.args.digest) n.key n.value_hash (c.behind-self.view_is ∙ c.index_mut.ensures.value) c.in_ok-set_below-in-Less-2.ensures.done in
     (λ j. page s.level None (row (slice_set s.nodes.items i (new j)) (held_of s.high_page)))
-    ∙ ap (page s.level None) (sym (sink_at g.K.Ord.cmp c.args.level c.args.key c.args.digest s.nodes.items (held_of s.high_page) i x at within other))
-    ∙ page_set-less g.K.Ord.cmp c.args.level c.args.key c.args.digest s.nodes.items (held_of s.high_page) c.self.view_is is
+    ∙ page_set-at g.K.Ord.cmp c.args.level c.args.key c.args.digest s.nodes.items (held_of s.high_page) c.self.view_is c.compare_level.ensures c.in-Less.is i x at within other
 
 pub page::PageOf::set-search-spot-requires : goal.page::PageOf::set-search-spot-requires
 page::PageOf::set-search-spot-requires g t c =

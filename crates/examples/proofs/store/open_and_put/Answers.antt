@@ -6,4 +6,4 @@ pub returns-clause-root_hash : goal.returns-clause-root_hash
 returns-clause-root_hash c =
     let d = c.in_ok-store.ensures.defaults in
     let s = c.in_ok-put.ensures.settings in
-    rw c.root_hash.ensures.rows (rw (s.0 ∙ d.hasher, s.1 ∙ d.base, s.2 ∙ d.format) at c.in_ok-digest.ensures.digest)
+    rw c.root_hash.ensures.rows (rw (s.0 ∙ d.0, s.1 ∙ d.1, s.2 ∙ d.2) at c.in_ok-digest.ensures.digest)

@@ -3,7 +3,7 @@ use Rattle.key_order.specs.Text.{Text}
 use Rattle.merkle_digest.specs.Level.{level_of}
 use Rattle.merkle_search_tree.specs.Canonical.{IsCanonicalRoot}
 use Rattle.merkle_search_tree.specs.State.{State}
-use Rattle.examples.specs.Texts.{text_digest}
+use Rattle.merkle_digest.specs.SipDigests.{text_digest}
 use Rattle.examples.proofs.store.root_hash.Goals as goal
 
 -- the root page is the tree of the rows

@@ -103,9 +103,9 @@ joining-preserved g c =
                 let rise = rows_rise g.K.Ord.cmp g.met.K.Ord.total theirs i j row d c.requires.ascending (omega (arith, p)) q in
                 low-further g.K.Ord.cmp g.met.K.Ord.total row.0 (get_or theirs j d).0 w.take_row.new.front.items (low_is_up g.K.Ord.cmp g.met.K.Ord.total row.0 (get_or theirs j d).0 (subst (λ (r : g.row.K.Denot × g.row.V.Denot). Below g.K.Ord.cmp r.0 (get_or theirs j d).0) (sym c.row-item.is) rise)) low;
             room = omega (arith, c.joining.invariant.room, w.take_row.ensures.len, w.take_row.ensures.capacity);
-            hasher = w.take_row.ensures.hasher ∙ c.joining.invariant.hasher;
-            base = w.take_row.ensures.base ∙ c.joining.invariant.base;
-            format = w.take_row.ensures.format ∙ c.joining.invariant.format;
+            hasher = w.take_row.ensures.settings.0 ∙ c.joining.invariant.hasher;
+            base = w.take_row.ensures.settings.1 ∙ c.joining.invariant.base;
+            format = w.take_row.ensures.settings.2 ∙ c.joining.invariant.format;
           })
       | else-found w ↦
           rw (w.rows-is, w.tree-is, w.back-is, w.done-is)

@@ -63,7 +63,7 @@ joining-preserved g c =
       rising = up.1;
       low = low-all cmp g.met.K.Ord.total r.0 c.join_here.new.front.items (into_iter_items c.next.new.self) c.join_here.ensures.below up.0;
       room = let short = ap length steps in omega (arith, short, i.room, c.join_here.ensures.len, c.join_here.ensures.capacity);
-      hasher = c.join_here.ensures.hasher ∙ i.hasher;
-      base = c.join_here.ensures.base ∙ i.base;
-      format = c.join_here.ensures.format ∙ i.format;
+      hasher = c.join_here.ensures.settings.0 ∙ i.hasher;
+      base = c.join_here.ensures.settings.1 ∙ i.base;
+      format = c.join_here.ensures.settings.2 ∙ i.format;
     }

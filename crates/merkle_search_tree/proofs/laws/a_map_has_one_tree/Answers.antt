@@ -5,7 +5,7 @@ use Rattle.merkle_search_tree.proofs.Depths.{root_depth, root_deepest}
 use Rattle.merkle_search_tree.proofs.Same.{same_digest}
 use Rattle.merkle_search_tree.proofs.SameRanges.{same_ranges}
 use Rattle.merkle_search_tree.proofs.Sound.{level_low, same_bytes}
-use Rattle.merkle_search_tree.proofs.TreeOf.{tree_of-is, is_tree_of, same_pairs}
+use Rattle.merkle_search_tree.proofs.TreeOf.{tree_of-is, is_tree_of, same-tree_of, same_pairs}
 use Rattle.merkle_search_tree.proofs.Unique.{unique_root}
 use Rattle.merkle_search_tree.proofs.laws.a_map_has_one_tree.Goals as goal
 
@@ -18,6 +18,11 @@ pub returns-clause-only : goal.returns-clause-only
 returns-clause-only g c hasher base m t f =
     is_tree_of (λ k. level_of (g.H.Hasher.digest_of hasher k) base) (λ k. level_low (g.H.Hasher.digest_of hasher k) base) g.K.Ord.cmp
     (λ x y q. ap (λ d. level_of d base) (g.met.H.Hasher.respects_eq hasher x y (g.met.K.Ord.matches_eq x y ∙ ap is_eq q))) t m f.0 f.1
+
+pub returns-clause-enough : goal.returns-clause-enough
+returns-clause-enough g c hasher base m t s =
+    same-tree_of (λ k. level_of (g.H.Hasher.digest_of hasher k) base) (λ k. level_low (g.H.Hasher.digest_of hasher k) base) g.K.Ord.cmp
+    (λ x y q. ap (λ d. level_of d base) (g.met.H.Hasher.respects_eq hasher x y (g.met.K.Ord.matches_eq x y ∙ ap is_eq q))) g.met.K.Ord.total t m s
 
 pub returns-clause-pages : goal.returns-clause-pages
 returns-clause-pages g c hasher base a b t u h f e =

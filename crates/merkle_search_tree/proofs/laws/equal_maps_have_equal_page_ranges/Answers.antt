@@ -14,7 +14,7 @@ returns-clause-ranges g c =
     (same_pages g.K.Ord.cmp g.met.K.Ord.total g.K.PartialEq.eq g.met.K.Ord.matches_eq g.H.Hasher.digest_of g.met.H.Hasher.respects_eq g.K.KeyBytes.bytes_of c.args.a.now c.args.b.now
     (subst (IsSound g.K.Ord.cmp g.H.Hasher.digest_of g.K.KeyBytes.bytes_of) c.a.view_is c.a.invariant)
     (subst (IsSound g.K.Ord.cmp g.H.Hasher.digest_of g.K.KeyBytes.bytes_of) c.b.view_is c.b.invariant)
-    c.requires.hasher c.requires.base c.requires.maps))
+    c.requires.hashers c.requires.base c.requires.maps))
 
 pub returns-clause-nothing_to_ask_b_for : goal.returns-clause-nothing_to_ask_b_for
 returns-clause-nothing_to_ask_b_for g c =

@@ -43,9 +43,9 @@ updates-preserved g c =
           ∙ (λ i. hashed_after_one cmp (d c.args.builder.hasher) (kept.map i) (kept.hashed i) u c.carry_out.result)
           ∙ sym (hashed_after-more cmp (d c.args.builder.hasher) [] false c.updates.yielded u c.updates.accepted.items c.carry_out.result kept.answers)
           ∙ ap (hashed_after cmp (d c.args.builder.hasher) [] false (c.updates.yielded ++ u ∷ [])) (sym c.in_ok-push.ensures.items);
-      hasher = c.carry_out.ensures.hasher ∙ kept.hasher;
-      base = c.carry_out.ensures.base ∙ kept.base;
-      format = c.carry_out.ensures.format ∙ kept.format;
+      hasher = c.carry_out.ensures.settings.0 ∙ kept.hasher;
+      base = c.carry_out.ensures.settings.1 ∙ kept.base;
+      format = c.carry_out.ensures.settings.2 ∙ kept.format;
     }
 
 -- at the end all updates were carried out

@@ -19,7 +19,7 @@ invariant_of-self-in-Ok-1 g c =
     kept_set g.K.Ord.cmp g.H.Hasher-2.digest_of g.met.K.Ord.total rows _ c.self.inside.tree c.upsert.new.self c.args.key c.args.key c.in_ok-stored-in-Ok.stored
     (set_there g.K.Ord.cmp g.met.K.Ord.total rows c.in-Ok.at c.index_mut.result.now c.args.key c.in_ok-stored-in-Ok.stored c.self.invariant.ascending place c.index_mut.ensures.value)
     (went c.upsert.result (sym c.is_err.ensures.value ∙ c.if-is_err.false) c.upsert.ensures.set)
-    c.upsert.ensures.hasher (tied_itself g.met.K.Ord.total c.args.key) c.self.invariant
+    c.upsert.ensures.settings.0 (tied_itself g.met.K.Ord.total c.args.key) c.self.invariant
 
 pub invariant_of-self-in-Err : goal.invariant_of-self-in-Err
 invariant_of-self-in-Err g c =
@@ -28,7 +28,7 @@ invariant_of-self-in-Err g c =
     kept_set g.K.Ord.cmp g.H.Hasher-2.digest_of g.met.K.Ord.total rows _ c.self.inside.tree c.upsert-in-Err.new.self c.in_ok-own-in-Err.own c.args.key c.args.value
     (c.in-Ok-insert.ensures.items ∙ (ap (λ xs. insert xs c.in-Err.at (c.args.key, c.args.value)) c.reserve.ensures.items ∙ set_new g.K.Ord.cmp g.met.K.Ord.total rows c.in-Err.at c.args.key c.args.value gap))
     (went c.upsert-in-Err.result (sym c.is_err-in-Err.ensures.value ∙ c.if-is_err-2.false) c.upsert-in-Err.ensures.set)
-    c.upsert-in-Err.ensures.hasher (tied_back g.met.K.Ord.total c.args.key c.in_ok-own-in-Err.own (c.requires.clones c.args.key c.in_ok-own-in-Err.own c.in_ok-own-in-Err.ensures.cases)) c.self.invariant
+    c.upsert-in-Err.ensures.settings.0 (tied_back g.met.K.Ord.total c.args.key c.in_ok-own-in-Err.own (c.requires.clones c.args.key c.in_ok-own-in-Err.own c.in_ok-own-in-Err.ensures.cases)) c.self.invariant
 
 pub returns-else-is_err-clause-joined : goal.returns-else-is_err-clause-joined
 returns-else-is_err-clause-joined g c =

@@ -11,7 +11,7 @@ returns-in-None-clause-done c =
     record {
       rows = ap (map by_bytes) c.in_ok-remove.ensures.map ∙ rows_del (map_of old) key ∙ ap (del bytes_cmp (rows_of old)) same;
       answer = absent (map_of old) key (sym c.in_ok-remove.ensures.found ∙ c.in-None.is) ∙ ap (has_key bytes_cmp (rows_of old)) same;
-      settings = (c.remove.ensures.hasher, c.remove.ensures.base, c.remove.ensures.format);
+      settings = c.remove.ensures.settings;
     }
 
 pub returns-clause-done : goal.returns-clause-done
@@ -20,5 +20,5 @@ returns-clause-done c =
     record {
       rows = ap (map by_bytes) c.in_ok-remove.ensures.map ∙ rows_del (map_of old) key ∙ ap (del bytes_cmp (rows_of old)) same;
       answer = present (map_of old) key c.in-Some.field-0 (sym c.in_ok-remove.ensures.found ∙ c.in-Some.is) ∙ ap (has_key bytes_cmp (rows_of old)) same;
-      settings = (c.remove.ensures.hasher, c.remove.ensures.base, c.remove.ensures.format);
+      settings = c.remove.ensures.settings;
     }

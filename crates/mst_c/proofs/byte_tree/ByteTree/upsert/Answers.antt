@@ -18,7 +18,7 @@ returns-clause-done c =
           rw w.result-is
           (record {
             rows = ap (map by_bytes) is_set ∙ rows_set (map_of old) key digest ∙ (λ i. set bytes_cmp (rows_of old) (same i) (hashed i));
-            settings = (c.upsert.ensures.hasher, c.upsert.ensures.base, c.upsert.ensures.format);
+            settings = c.upsert.ensures.settings;
           })
       | in-Err w ↦ rw w.result-is tt
     ]
