@@ -1,6 +1,7 @@
 -- Clones of keys equal their originals.
-use Rattle.std.proofs.Common.{◌≡◌, ℕ, List, [], ◌∷◌, refl, sym, subst, string_bytes, vec_len}
+use Rattle.std.proofs.Common.{◌≡◌, ℕ, List, [], ◌∷◌, ap, refl, sym, subst, string_bytes, vec_len}
 use Rattle.std.specs.Array.{AllZipBelow}
+use Rattle.std.specs.Borrow.{Bor}
 use Rattle.std.specs.Cmp.{IsTotalOrder, tied_itself}
 use Rattle.std.specs.Cmp.Lexicographic.{slice_cmp}
 use Rattle.std.specs.List.{AllZip}
@@ -21,7 +22,11 @@ alike xs ys e = subst (λ zs. slice_cmp nat_cmp xs zs ≡ Equal) (sym e) (tied_i
 pub string_clone : {Z : Type 0} (x y : String Z) → string_bytes y ≡ string_bytes x → Same (string_cmp {Z = Z}) x y
 string_clone x y e = alike (string_bytes x) (string_bytes y) e
 
--- of a `&str`, and of any value whose clone is the value itself
+-- of a `&str`
+pub str_clone : (x y : Bor (List ℕ)) → y ≡ x → Same (λ v w. slice_cmp nat_cmp v.now w.now) x y
+str_clone x y e = alike x.now y.now (ap (λ v. v.now) e)
+
+-- of any value whose clone is the value itself
 pub exact_clone : {K : Type 0} (cmp : K → K → Ordering) → IsTotalOrder cmp → (x y : K) → y ≡ x → Same cmp x y
 exact_clone cmp o x y e = subst (λ z. cmp x z ≡ Equal) (sym e) (tied_itself o x)
 
