@@ -1,18 +1,13 @@
 -- Equal registers are one, and so they feed equal bytes.
-use Rattle.std.proofs.Common.{◌≡◌, Bool, true, false, ◌&&◌, nat_eq, refl, ap}
-use Rattle.std.proofs.lemmas.Bool.{eqb-true}
+use Rattle.std.proofs.Common.{◌≡◌, true, ◌&&◌, nat_eq, ap}
+use Rattle.std.proofs.lemmas.Bool.{eqb-true, and_parts}
 use Rattle.examples.specs.Register.{register_bytes}
 use Rattle.examples.specs.declared.register.Register.{Register}
 
-both : (x y : Bool) → x && y ≡ true → (x ≡ true) × (y ≡ true)
-both true true h = (refl, refl)
-both true false h = absurd (cc)
-both false y h = absurd (cc)
-
 pub exact : (a b : Register) → nat_eq a.time b.time && (nat_eq a.writer b.writer && nat_eq a.value b.value) ≡ true → a ≡ b
 exact a b h =
-    let (t, rest) = both (nat_eq a.time b.time) (nat_eq a.writer b.writer && nat_eq a.value b.value) h in
-    let (w, v) = both (nat_eq a.writer b.writer) (nat_eq a.value b.value) rest in
+    let (t, rest) = and_parts (nat_eq a.time b.time) (nat_eq a.writer b.writer && nat_eq a.value b.value) h in
+    let (w, v) = and_parts (nat_eq a.writer b.writer) (nat_eq a.value b.value) rest in
     λ i. record { time = eqb-true a.time b.time t i; writer = eqb-true a.writer b.writer w i; value = eqb-true a.value b.value v i }
 
 pub same_bytes : (a b : Register) → nat_eq a.time b.time && (nat_eq a.writer b.writer && nat_eq a.value b.value) ≡ true → register_bytes a ≡ register_bytes b

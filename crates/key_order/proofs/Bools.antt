@@ -1,12 +1,12 @@
 -- Tests, by cases.
-use Rattle.std.proofs.Common.{◌≡◌, Bool, true, false, not, ◌&&◌, ◌||◌, refl, ◌⊎◌, inl, inr}
+use Rattle.std.proofs.Common.{◌≡◌, Bool, true, false, not, ◌&&◌, refl, ◌⊎◌, inl, inr}
+use Rattle.std.specs.Ordering.{is_eq, is_lt, is_gt}
+use Rattle.std.specs.declared.cmp.Ordering.{Ordering}
+use Rattle.std.specs.declared.cmp.Ordering.TheVariants.{Less, Equal, Greater}
 
 pub which : (b : Bool) → (b ≡ false) ⊎ (b ≡ true)
 which false = inl refl
 which true = inr refl
-
-pub false_not_true : false ≡ true → ⊥
-false_not_true h = cc
 
 pub both_not : (a b : Bool) → not a && not b ≡ true → (a ≡ false) × (b ≡ false)
 both_not false false h = (refl, refl)
@@ -18,14 +18,18 @@ and_not false false h k = refl
 and_not false true h k = cc
 and_not true b h k = cc
 
-pub one_of : (a b : Bool) → a || b ≡ true → (a ≡ true) ⊎ (b ≡ true)
-one_of true b h = inl refl
-one_of false b h = inr h
+-- what a test of a comparison tells
+pub is_less : (r : Ordering) → is_lt r ≡ true → r ≡ Less
+is_less Less h = refl
+is_less Equal h = cc
+is_less Greater h = cc
 
-pub or_left : (a b : Bool) → a ≡ true → a || b ≡ true
-or_left true b h = refl
-or_left false b h = cc
+pub is_equal : (r : Ordering) → is_eq r ≡ true → r ≡ Equal
+is_equal Less h = cc
+is_equal Equal h = refl
+is_equal Greater h = cc
 
-pub or_right : (a b : Bool) → b ≡ true → a || b ≡ true
-or_right true b h = refl
-or_right false b h = h
+pub is_greater : (r : Ordering) → is_gt r ≡ true → r ≡ Greater
+is_greater Less h = cc
+is_greater Equal h = cc
+is_greater Greater h = refl

@@ -5,8 +5,7 @@ use Rattle.std.specs.Ordering.{ord_max, eq_by_cmp, is_eq, is_lt}
 use Rattle.std.specs.declared.cmp.Ordering.{Ordering}
 use Rattle.key_order.specs.Join.{IsJoining}
 use Rattle.key_order.specs.Order.{Below, Same, Upto}
-use Rattle.key_order.proofs.Bools.{which}
-use Rattle.key_order.proofs.Maps.{is_equal}
+use Rattle.key_order.proofs.Bools.{which, is_equal}
 use Rattle.key_order.proofs.Orders.{either, low_is_up, low_low, not_both, same_from, up_self, up_up}
 
 module _ {V : Type 0} (cmp : V → V → Ordering) (o : IsTotalOrder cmp) (eq : V → V → Bool) (ties : (a b : V) → eq a b ≡ eq_by_cmp cmp a b) where

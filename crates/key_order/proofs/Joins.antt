@@ -5,9 +5,9 @@ use Rattle.std.specs.Ordering.{is_eq}
 use Rattle.std.specs.declared.cmp.Ordering.{Ordering}
 use Rattle.key_order.specs.Map.{SameValue, IsMap, get, set, has_key, SameMap}
 use Rattle.key_order.specs.Join.{IsJoining, IsJoin, joined}
-use Rattle.key_order.proofs.Bools.{which}
+use Rattle.key_order.proofs.Bools.{which, is_equal}
 use Rattle.key_order.proofs.Keys.{has_get, there_alike, there_joined}
-use Rattle.key_order.proofs.Maps.{is_equal, get_same, same_by_get}
+use Rattle.key_order.proofs.Maps.{get_same, same_by_get}
 use Rattle.key_order.proofs.Sets.{ascending_set, get_set}
 use Rattle.key_order.proofs.Values.{Eq, back, on, to_none}
 

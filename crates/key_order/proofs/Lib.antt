@@ -1,6 +1,7 @@
 pub mod Bools
 pub mod Orders
 pub mod Spans
+pub mod Parts
 pub mod Maps
 pub mod SameMaps
 pub mod Values

@@ -9,12 +9,7 @@ use Rattle.std.specs.declared.cmp.Ordering.TheVariants.{Less, Equal, Greater}
 use Rattle.key_order.specs.Order.{Below, Same, Upto}
 use Rattle.key_order.proofs.Orders.{not_both, up_low, low_low, same_up, same_down, same_from, either}
 use Rattle.key_order.specs.Map.{SameValue, IsMap, get, SameMap, rows_at}
-use Rattle.key_order.proofs.Bools.{which}
-
-pub is_equal : (r : Ordering) → is_eq r ≡ true → r ≡ Equal
-is_equal Less h = cc
-is_equal Equal h = refl
-is_equal Greater h = cc
+use Rattle.key_order.proofs.Bools.{which, is_equal}
 
 not_less : (r : Ordering) → is_eq r ≡ true → is_lt r ≡ true → ⊥
 not_less Less h k = cc

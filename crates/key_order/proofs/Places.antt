@@ -1,5 +1,6 @@
 -- Where a key is among the pairs of a map, or would go, and what an edit at that place makes of the map.
 use Rattle.std.proofs.Common.{◌≡◌, ℕ, zero, suc, ◌<◌, ◌≤◌, true, false, List, [], ◌∷◌, length, get_or, set as list_set, Some, None, refl, sym, ◌∙◌, ap, arith}
+use Rattle.std.proofs.lemmas.Bool.{or_right}
 use Rattle.std.specs.List.{AllByRecursion, AllWithin, insert, remove}
 use Rattle.std.specs.List.Sorted.{IsNonDecreasingBy}
 use Rattle.std.specs.Cmp.{IsTotalOrder, tied_back}
@@ -8,14 +9,9 @@ use Rattle.std.specs.declared.cmp.Ordering.{Ordering}
 use Rattle.std.specs.declared.cmp.Ordering.TheVariants.{Less, Equal, Greater}
 use Rattle.key_order.specs.Order.{Below, Same}
 use Rattle.key_order.specs.Map.{IsMap, get, has_key, set, del}
-use Rattle.key_order.proofs.Bools.{or_right}
+use Rattle.key_order.proofs.Bools.{is_less}
 use Rattle.key_order.proofs.Orders.{low_low, low_up, up_low, same_up}
 use Rattle.key_order.proofs.Dels.{NoEqual, del-here, del-past, del-none}
-
-is_less : (r : Ordering) → is_lt r ≡ true → r ≡ Less
-is_less Less h = refl
-is_less Equal h = cc
-is_less Greater h = cc
 
 upto_two : (r : Ordering) → ordering_index r ≤ 2
 upto_two Less = omega arith

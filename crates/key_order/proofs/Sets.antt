@@ -8,7 +8,7 @@ use Rattle.std.specs.declared.cmp.Ordering.TheVariants.{Less, Equal, Greater}
 use Rattle.key_order.specs.Order.{Below}
 use Rattle.key_order.proofs.Orders.{low_up, low_low, same_up, same_down, not_both, turned}
 use Rattle.key_order.specs.Map.{IsMap, get, set}
-use Rattle.key_order.proofs.Maps.{is_equal}
+use Rattle.key_order.proofs.Bools.{is_equal}
 
 module _ {K : Type 0} (cmp : K → K → Ordering) (o : IsTotalOrder cmp) where
   above : (k : K) (r : K) → cmp k r ≡ Greater → Below cmp r k

@@ -1,11 +1,12 @@
 -- The tests of "in a span" and "in one of the spans".
 use Rattle.std.proofs.Common.{◌≡◌, true, List, [], ◌∷◌, refl, ◌⊎◌, inl, inr}
+use Rattle.std.proofs.lemmas.Bool.{or_cases, or_left, or_right}
 use Rattle.std.specs.Cmp.{IsTotalOrder, alike_right}
 use Rattle.std.specs.Ordering.{is_gt}
 use Rattle.std.specs.declared.cmp.Ordering.{Ordering}
 use Rattle.key_order.specs.Order.{Same}
 use Rattle.key_order.specs.Interval.{Span, IsIn, IsCovered, is_in, is_covered}
-use Rattle.key_order.proofs.Bools.{both_not, and_not, one_of, or_left, or_right}
+use Rattle.key_order.proofs.Bools.{both_not, and_not}
 
 module _ {K : Type 0} (cmp : K → K → Ordering) (o : IsTotalOrder cmp) where
   pub in_from_test : (k : K) (s : Span K) → is_in cmp k s ≡ true → IsIn cmp k s
@@ -23,7 +24,7 @@ module _ {K : Type 0} (cmp : K → K → Ordering) (o : IsTotalOrder cmp) where
 
   pub covered_from_test : (ss : List (Span K)) (k : K) → is_covered cmp k ss ≡ true → IsCovered cmp k ss
   covered_from_test [] k h = cc
-  covered_from_test (s ∷ ss) k h = go (covered_from_test ss k) (one_of (is_in cmp k s) (is_covered cmp k ss) h)
+  covered_from_test (s ∷ ss) k h = go (covered_from_test ss k) (or_cases (is_in cmp k s) (is_covered cmp k ss) h)
     where
       go : (is_covered cmp k ss ≡ true → IsCovered cmp k ss) → (is_in cmp k s ≡ true) ⊎ (is_covered cmp k ss ≡ true) → IsCovered cmp k (s ∷ ss)
       go f (inl e) = inl (in_from_test k s e)

@@ -66,18 +66,6 @@ pub each-unmapped : {X Y : Type 0} (v : X → Y) (P : Y → Type 0) (xs : List X
 each-unmapped v P [] h = tt
 each-unmapped v P (x ∷ xs) h = (h.0, each-unmapped v P xs h.1)
 
-pub each-append : {X : Type 0} (Q : X → Type 0) (xs ys : List X) → AllByRecursion Q xs → AllByRecursion Q ys → AllByRecursion Q (xs ++ ys)
-each-append Q [] ys h k = k
-each-append Q (x ∷ xs) ys h k = (h.0, each-append Q xs ys h.1 k)
-
-pub each-before : {X : Type 0} (Q : X → Type 0) (xs ys : List X) → AllByRecursion Q (xs ++ ys) → AllByRecursion Q xs
-each-before Q [] ys h = tt
-each-before Q (x ∷ xs) ys h = (h.0, each-before Q xs ys h.1)
-
-pub each-behind : {X : Type 0} (Q : X → Type 0) (xs ys : List X) → AllByRecursion Q (xs ++ ys) → AllByRecursion Q ys
-each-behind Q [] ys h = h
-each-behind Q (x ∷ xs) ys h = each-behind Q xs ys h.1
-
 pub every-in : {X : Type 0} (xs : List X) → AllByRecursion (λ x. AnyByRecursion (λ y. y ≡ x) xs) xs
 every-in [] = tt
 every-in (x ∷ xs) = (inl refl, each-with (λ z. AnyByRecursion (λ y. y ≡ z) xs) (λ z. AnyByRecursion (λ y. y ≡ z) (x ∷ xs)) xs (λ z h. inr h) (every-in xs))

@@ -1,5 +1,6 @@
 -- Where the first entries have no range for an answer.
 use Rattle.std.proofs.Common.{◌≡◌, Bool, true, false, ◌&&◌, List, [], ◌∷◌, Option, Some, None, Result, Ok, Err, OnErr, refl, sym, ◌∙◌, ap, subst, ◌⊎◌, inl, inr}
+use Rattle.std.proofs.lemmas.Bool.{or_cases, and_parts, or_parts}
 use Rattle.std.specs.Cmp.{IsTotalOrder}
 use Rattle.std.specs.declared.cmp.Ordering.{Ordering}
 use Rattle.merkle_digest.specs.declared.PageDigest.{PageDigest}
@@ -14,21 +15,20 @@ use Rattle.merkle_diff.specs.Iterable.{Gives, Begins}
 use Rattle.merkle_diff.specs.PageRange.{entry, entries}
 use Rattle.merkle_diff.specs.Turn.{may_answer, head_may_answer, HeadsMayAnswer}
 use Rattle.merkle_diff.specs.Difference.{IsByFirsts, IsByWalk, MayAnswer}
-use Rattle.key_order.proofs.Bools.{one_of}
 use Rattle.key_order.proofs.Orders.{either, low_up, low_is_up, not_both, same_up, same_down}
 use Rattle.merkle_diff.proofs.Merges.{none-merged}
 use Rattle.merkle_diff.proofs.Queues.{front_of, Drains-from}
-use Rattle.merkle_diff.proofs.OrderTests.{both, or-left, or-right, not_upto, to_within, within_self, within_by}
+use Rattle.merkle_diff.proofs.OrderTests.{not_upto, to_within, within_self, within_by}
 
 module _ {K : Type 0} (cmp : K → K → Ordering) (o : IsTotalOrder cmp) where
   nothing : (a b : Entry K PageDigest) (ls ps : List (Entry K PageDigest)) → IsOrdered cmp (span_of b) → may_answer cmp (span_of a) (span_of b) ≡ false → Walk cmp (span_of b) None (b ∷ ps) (a ∷ ls) [] ps (a ∷ ls)
   nothing a b ls ps d h = go (is_within cmp (span_of b) (span_of a)) refl
     where
       f : is_within cmp (span_of a) (span_of b) ≡ false
-      f = or-left (is_within cmp (span_of a) (span_of b)) (below cmp b.first a.first && below cmp b.last a.last) h
+      f = (or_parts (is_within cmp (span_of a) (span_of b)) (below cmp b.first a.first && below cmp b.last a.last) h).0
 
       n : below cmp b.first a.first && below cmp b.last a.last ≡ false
-      n = or-right (is_within cmp (span_of a) (span_of b)) (below cmp b.first a.first && below cmp b.last a.last) h
+      n = (or_parts (is_within cmp (span_of a) (span_of b)) (below cmp b.first a.first && below cmp b.last a.last) h).1
 
       early : Below cmp a.first b.first → gap_mark cmp b.first (gap_end cmp b (a ∷ ls)) ≡ []
       early x = rw (not_upto cmp o b.last a.first (low_up cmp o a.first b.first b.last x d)) (rw (not_upto cmp o b.first a.first x) refl)
@@ -47,11 +47,11 @@ module _ {K : Type 0} (cmp : K → K → Ordering) (o : IsTotalOrder cmp) where
       go false e = subst (λ m. Walk cmp (span_of b) None (b ∷ ps) (a ∷ ls) m ps (a ∷ ls)) (gone e (either cmp o b.first a.first)) (between (within_self cmp o (span_of b)) f e)
 
   pub may-be : (a b : Entry K PageDigest) → may_answer cmp (span_of a) (span_of b) ≡ true → MayAnswer cmp a b
-  may-be a b h = go (one_of (is_within cmp (span_of a) (span_of b)) (below cmp b.first a.first && below cmp b.last a.last) h)
+  may-be a b h = go (or_cases (is_within cmp (span_of a) (span_of b)) (below cmp b.first a.first && below cmp b.last a.last) h)
     where
       go : (is_within cmp (span_of a) (span_of b) ≡ true) ⊎ (below cmp b.first a.first && below cmp b.last a.last ≡ true) → MayAnswer cmp a b
       go (inl x) = inr (within_by cmp o (span_of a) (span_of b) x)
-      go (inr x) = inl (both (below cmp b.first a.first) (below cmp b.last a.last) x)
+      go (inr x) = inl (and_parts (below cmp b.first a.first) (below cmp b.last a.last) x)
 
 -- a range may be answered, or none is
 module _ {K D : Type 0} (cmp : K → K → Ordering) (o : IsTotalOrder cmp) where

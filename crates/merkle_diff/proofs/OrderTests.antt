@@ -1,49 +1,30 @@
 -- The tests of the order and of spans.
 use Rattle.std.proofs.Common.{◌≡◌, Bool, true, false, not, ◌&&◌, ◌||◌, refl, sym, ◌∙◌, ap}
+use Rattle.std.proofs.lemmas.Bool.{not-true, not-false, and_parts}
 use Rattle.std.specs.Cmp.{IsTotalOrder, upto as upto_trans, tied_back}
 use Rattle.std.specs.Ordering.{is_gt, is_eq}
 use Rattle.std.specs.declared.cmp.Ordering.{Ordering}
 use Rattle.key_order.specs.Interval.{Span, Meets, IsWithin, SameSpan, meets, is_within, same_span}
 use Rattle.key_order.specs.Order.{Upto, Below, Same, upto}
-use Rattle.key_order.proofs.Maps.{is_equal}
+use Rattle.key_order.proofs.Bools.{is_equal}
 use Rattle.key_order.proofs.Orders.{turned, same_from, up_self}
-
-pub both : (a b : Bool) → (a && b) ≡ true → (a ≡ true) × (b ≡ true)
-both true b h = (refl, h)
-both false b h = cc
 
 pub not-or : (a b : Bool) → not (a || b) ≡ true → a ≡ false
 not-or true b h = cc
 not-or false b h = refl
 
-pub is_true : (b : Bool) → not b ≡ true → b ≡ false
-is_true true h = cc
-is_true false h = refl
-
-pub is_false : (b : Bool) → not b ≡ false → b ≡ true
-is_false true h = refl
-is_false false h = cc
-
-pub or-left : (a b : Bool) → (a || b) ≡ false → a ≡ false
-or-left true b h = h
-or-left false b h = refl
-
-pub or-right : (a b : Bool) → (a || b) ≡ false → b ≡ false
-or-right true b h = cc
-or-right false b h = h
-
 module _ {K : Type 0} (cmp : K → K → Ordering) (o : IsTotalOrder cmp) where
   pub by_upto : (a b : K) → upto cmp a b ≡ true → Upto cmp a b
-  by_upto a b h = is_true (is_gt (cmp a b)) h
+  by_upto a b h = not-true (is_gt (cmp a b)) h
 
   pub by_above : (a b : K) → upto cmp a b ≡ false → Below cmp b a
-  by_above a b h = turned cmp o a b ∙ is_false (is_gt (cmp a b)) h
+  by_above a b h = turned cmp o a b ∙ not-false (is_gt (cmp a b)) h
 
   pub same_trans : (a b c : K) → Same cmp a b → Same cmp b c → Same cmp a c
   same_trans a b c h k = o.congr a b c h ∙ k
 
   pub meets_by : (s t : Span K) → meets cmp s t ≡ true → Meets cmp s t
-  meets_by s t h = let p = both (upto cmp s.first t.last) (upto cmp t.first s.last) h in (by_upto s.first t.last p.0, by_upto t.first s.last p.1)
+  meets_by s t h = let p = and_parts (upto cmp s.first t.last) (upto cmp t.first s.last) h in (by_upto s.first t.last p.0, by_upto t.first s.last p.1)
 
   pub to_meets : (s t : Span K) → Meets cmp s t → meets cmp s t ≡ true
   to_meets s t h = ap (λ b. not b && upto cmp t.first s.last) h.0 ∙ ap not h.1
@@ -65,7 +46,7 @@ module _ {K : Type 0} (cmp : K → K → Ordering) (o : IsTotalOrder cmp) where
 
   pub within_by : (s t : Span K) → is_within cmp s t ≡ true → IsWithin cmp s t
   within_by s t h =
-      let p = both (upto cmp t.first s.first) (upto cmp s.last t.last) h in
+      let p = and_parts (upto cmp t.first s.first) (upto cmp s.last t.last) h in
       (by_upto t.first s.first p.0, by_upto s.last t.last p.1)
 
   pub not_within : (s t : Span K) → ¬ (IsWithin cmp s t) → is_within cmp s t ≡ false
@@ -85,4 +66,4 @@ module _ {K : Type 0} (cmp : K → K → Ordering) (o : IsTotalOrder cmp) where
   same_back a b h = tied_back o a b h
 
   pub same_by : (s t : Span K) → same_span cmp s t ≡ true → SameSpan cmp s t
-  same_by s t h = let p = both (is_eq (cmp s.first t.first)) (is_eq (cmp s.last t.last)) h in (is_equal (cmp s.first t.first) p.0, is_equal (cmp s.last t.last) p.1)
+  same_by s t h = let p = and_parts (is_eq (cmp s.first t.first)) (is_eq (cmp s.last t.last)) h in (is_equal (cmp s.first t.first) p.0, is_equal (cmp s.last t.last) p.1)

@@ -1,5 +1,6 @@
 -- What agrees is spared, on two tree-shaped lists.
 use Rattle.std.proofs.Common.{◌≡◌, Bool, true, false, not, ◌&&◌, List, [], ◌∷◌, ◌++◌, Option, Some, None, refl, sym, ◌∙◌, ap, subst, if◌then◌else◌, ◌⊎◌, inl, inr}
+use Rattle.std.proofs.lemmas.Bool.{and_parts}
 use Rattle.std.specs.Cmp.{IsTotalOrder}
 use Rattle.std.specs.List.{AllByRecursion, list_any}
 use Rattle.std.specs.declared.cmp.Ordering.{Ordering}
@@ -19,7 +20,7 @@ use Rattle.merkle_diff.proofs.Beginnings.{Into, inv-into, inv-outside, inv-empty
 use Rattle.merkle_diff.proofs.NoAnswer.{may-or_none}
 use Rattle.merkle_diff.proofs.IntervalLaws.{no-found, by-table, law, good-ordered}
 use Rattle.merkle_diff.proofs.Each.{each-with, any-get, any-left, any-right, each-all}
-use Rattle.merkle_diff.proofs.OrderTests.{both, not-or, by_above, to_meets, to_within, not_within, within_self, same_by}
+use Rattle.merkle_diff.proofs.OrderTests.{not-or, by_above, to_meets, to_within, not_within, within_self, same_by}
 
 module _ {K : Type 0} (cmp : K → K → Ordering) (o : IsTotalOrder cmp) where
   in-good : (g : Span K) (ms : List (Mark K)) → AnyByRecursion (λ m. m ≡ Good g) ms → AnyByRecursion (IsWithin cmp g) (good_of ms)
@@ -70,7 +71,7 @@ module _ {K D : Type 0} (cmp : K → K → Ordering) (o : IsTotalOrder cmp) wher
       lies t = not_within cmp o (span_of b2) (span_of b) no
         where
           q : (same_span cmp (span_of a2) (span_of b2) ≡ true) × (not (list_any (meets cmp (span_of a2)) (span_of a ∷ seen)) ≡ true)
-          q = both (same_span cmp (span_of a2) (span_of b2)) (not (list_any (meets cmp (span_of a2)) (span_of a ∷ seen))) t
+          q = and_parts (same_span cmp (span_of a2) (span_of b2)) (not (list_any (meets cmp (span_of a2)) (span_of a ∷ seen))) t
 
           no : IsWithin cmp (span_of b2) (span_of b) → ⊥
           no x =
@@ -123,7 +124,7 @@ module _ {K D : Type 0} (cmp : K → K → Ordering) (o : IsTotalOrder cmp) wher
       go : (t : Bool) → same_span cmp (span_of a) (span_of b) && not (list_any (meets cmp (span_of a)) seen) ≡ t
           → ((after : List (Mark K)) → Walk cmp R (Some (span_of b)) P L after P' L' → AllByRecursion (Spared after) (leading_from cmp (span_of a ∷ seen) L P))
           → AllByRecursion (Spared ms) (if t then ((a, b) ∷ leading_from cmp (span_of a ∷ seen) L P) else [])
-      go true t rec = here (same_by cmp o (span_of a) (span_of b) (both (same_span cmp (span_of a) (span_of b)) (not (list_any (meets cmp (span_of a)) seen)) t).0) rec
+      go true t rec = here (same_by cmp o (span_of a) (span_of b) (and_parts (same_span cmp (span_of a) (span_of b)) (not (list_any (meets cmp (span_of a)) seen)) t).0) rec
       go false t rec = tt
 
   -- ---- the answer
@@ -142,7 +143,7 @@ module _ {K D : Type 0} (cmp : K → K → Ordering) (o : IsTotalOrder cmp) wher
       go : (t : Bool) → same_span cmp (span_of a) (span_of b) && not (list_any (meets cmp (span_of a)) seen) ≡ t
           → AllByRecursion (λ pr. EntryWithin cmp pr.0 A × SameSpan cmp (span_of pr.0) (span_of pr.1)) (leading_from cmp (span_of a ∷ seen) L P)
           → AllByRecursion (λ pr. EntryWithin cmp pr.0 A × SameSpan cmp (span_of pr.0) (span_of pr.1)) (if t then ((a, b) ∷ leading_from cmp (span_of a ∷ seen) L P) else [])
-      go true e r = ((h.0, same_by cmp o (span_of a) (span_of b) (both (same_span cmp (span_of a) (span_of b)) (not (list_any (meets cmp (span_of a)) seen)) e).0), r)
+      go true e r = ((h.0, same_by cmp o (span_of a) (span_of b) (and_parts (same_span cmp (span_of a) (span_of b)) (not (list_any (meets cmp (span_of a)) seen)) e).0), r)
       go false e r = tt
 
   module _ (a : Entry K D) (ls : List (Entry K D)) (b : Entry K D) (ps : List (Entry K D)) (found : List (Span K)) (d : AllOrdered (b ∷ ps))

@@ -1,6 +1,6 @@
 -- The level of a digest, found by reading byte after byte.
 use Rattle.std.proofs.Common.{◌+◌, ◌⊎◌, inl, inr, ◌*◌, ◌%◌, min, cond, ◌≡◌, ◌≢◌, ℕ, zero, suc, ◌<◌, ◌≤◌, Bool, true, false, eqb, List, [], ◌∷◌, length, take, get_or, refl, sym, ◌∙◌, arith}
-use Rattle.std.proofs.lemmas.Bool.{eqb-true, eq-eqb, cases_lt}
+use Rattle.std.proofs.lemmas.Bool.{eqb-true, eq-eqb, cases_lt, false_from_ne_true}
 use Rattle.std.proofs.lemmas.List.{take_more}
 use Rattle.std.proofs.lemmas.List.Folds.{list_all-append}
 use Rattle.std.specs.List.{list_all}
@@ -31,16 +31,12 @@ zero_within (x ∷ xs) zero i h lt within = absurd (omega arith)
 zero_within (x ∷ xs) (suc k) zero h lt within = eqb-true x 0 (first_so (eqb x 0) (all_zero (take k xs)) h)
 zero_within (x ∷ xs) (suc k) (suc i) h lt within = zero_within xs k i (second_so (eqb x 0) (all_zero (take k xs)) h) (omega arith) (omega arith)
 
--- a test that can't be true is false
-not_true : (b : Bool) → (b ≢ true) → b ≡ false
-not_true b other = elim b as (λ (v : Bool). (v ≢ true) → v ≡ false) [ true ↦ λ not_so. absurd (not_so refl) | false ↦ λ not_so. refl ] other
-
 -- the first i bytes are zero and the next one is not
 pub zeros_at_front-stop : (bytes : List ℕ) (i : ℕ) → all_zero (take i bytes) ≡ true → i < length bytes → get_or bytes i 0 ≢ 0 → zeros_at_front bytes ≡ i
 unfolding zeros_at_front
 zeros_at_front-stop bytes i so_far within other =
     greatest-last (λ z. all_zero (take z bytes)) (length bytes) i (omega arith) so_far
-    (λ k more fits. not_true (all_zero (take k bytes)) (λ all. other (zero_within bytes k i all more within)))
+    (λ k more fits. false_from_ne_true (all_zero (take k bytes)) (λ all. other (zero_within bytes k i all more within)))
 
 -- every byte is zero
 pub zeros_at_front-all : (bytes : List ℕ) (i : ℕ) → all_zero (take i bytes) ≡ true → length bytes ≡ i → zeros_at_front bytes ≡ i
@@ -59,7 +55,7 @@ pub level_of-stop : (bytes : List ℕ) (base i b level d r : ℕ) → all_zero (
 unfolding level_of
 level_of-stop bytes base i b level d r so_far within other counted same divides answer =
     let at : zeros_at_front bytes ≡ i = zeros_at_front-stop bytes i so_far within other in
-    let inside : eqb i (length bytes) ≡ false = not_true (eqb i (length bytes)) (λ e. absurd (omega (arith, eqb-true i (length bytes) e))) in
+    let inside : eqb i (length bytes) ≡ false = false_from_ne_true (eqb i (length bytes)) (λ e. absurd (omega (arith, eqb-true i (length bytes) e))) in
     rw (at, inside) (by (eqb (get_or bytes i 0 % base) 0) (rw same at divides))
   where
     by : (t : Bool) → d ≡ bool_byte t → r ≡ min 255 (2 * i + cond t 1 0)

@@ -7,8 +7,8 @@ use Rattle.std.specs.Ordering.{is_eq}
 use Rattle.std.specs.declared.cmp.Ordering.{Ordering}
 use Rattle.key_order.specs.Order.{Upto, Below, Same}
 use Rattle.key_order.specs.Map.{IsPresent, IsMap, get, last_key}
-use Rattle.key_order.proofs.Bools.{which}
-use Rattle.key_order.proofs.Maps.{is_equal, at_head, get_same}
+use Rattle.key_order.proofs.Bools.{which, is_equal}
+use Rattle.key_order.proofs.Maps.{at_head, get_same}
 use Rattle.key_order.proofs.Orders.{up_up, low_up, same_up, same_down, low_is_up, up_self}
 use Rattle.merkle_search_tree.specs.Loading.{digests}
 

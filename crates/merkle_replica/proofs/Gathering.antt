@@ -8,9 +8,9 @@ use Rattle.std.specs.declared.cmp.Ordering.{Ordering}
 use Rattle.key_order.specs.Order.{Below, Upto}
 use Rattle.key_order.specs.Map.{IsMap, get, set}
 use Rattle.key_order.specs.Join.{joined, IsJoin, IsJoining}
-use Rattle.key_order.proofs.Bools.{which}
+use Rattle.key_order.proofs.Bools.{which, is_equal}
 use Rattle.key_order.proofs.Joins.{put_joins}
-use Rattle.key_order.proofs.Maps.{is_equal, absent}
+use Rattle.key_order.proofs.Maps.{absent}
 use Rattle.key_order.proofs.Orders.{low_is_up, up_low, same_down}
 use Rattle.key_order.proofs.Values.{Eq, same, back, on, assoc, cong, to_none}
 use Rattle.merkle_diff.proofs.Each.{each-with}

@@ -7,9 +7,9 @@ use Rattle.std.specs.declared.cmp.Ordering.{Ordering}
 use Rattle.key_order.specs.Order.{Below, Same}
 use Rattle.key_order.specs.Map.{IsMap, get}
 use Rattle.key_order.specs.Join.{joined, IsJoin, IsJoining}
-use Rattle.key_order.proofs.Bools.{which}
+use Rattle.key_order.proofs.Bools.{which, is_equal}
 use Rattle.key_order.proofs.Orders.{up_low, same_down}
-use Rattle.key_order.proofs.Maps.{is_equal, absent}
+use Rattle.key_order.proofs.Maps.{absent}
 use Rattle.key_order.proofs.Values.{Eq, same, back, on, assoc, cong, to_none}
 
 module _ {K V : Type 0} (cmp : K → K → Ordering) (o : IsTotalOrder cmp) (eq : V → V → Bool) (e : IsEquivalence eq) (join : V → V → V) (j : IsJoining eq join) where

@@ -8,8 +8,9 @@ use Rattle.std.specs.declared.cmp.Ordering.{Ordering}
 use Rattle.std.specs.declared.cmp.Ordering.TheVariants.{Less, Equal, Greater}
 use Rattle.key_order.specs.Order.{Below, Upto, Same}
 use Rattle.key_order.specs.Map.{IsMap}
-use Rattle.key_order.proofs.Maps.{is_equal}
+use Rattle.key_order.proofs.Bools.{is_less, is_equal}
 use Rattle.key_order.proofs.Orders.{low_low, low_up, same_up}
+use Rattle.key_order.proofs.Parts.{map-rest}
 use Rattle.merkle_diff.proofs.Each.{each-with}
 use Rattle.std.specs.Cmp.{IsEquivalence}
 use Rattle.key_order.specs.Join.{IsJoin, IsJoining}
@@ -18,11 +19,6 @@ use Rattle.merkle_replica.proofs.Joined.{join_none}
 use Rattle.merkle_replica.specs.Places.{IsPlaceOf, IsGapFor}
 use Rattle.merkle_replica.specs.Puts.{IsRising}
 use Rattle.merkle_replica.specs.Parted.{whole, FirstNotBelow, first_is}
-
-is_less' : (r : Ordering) → is_lt r ≡ true → r ≡ Less
-is_less' Less h = refl
-is_less' Equal h = cc
-is_less' Greater h = cc
 
 greater : (r : Ordering) → (r ≡ Less → ⊥) → is_eq r ≡ false → r ≡ Greater
 greater Less n h = absurd (n refl)
@@ -67,10 +63,6 @@ module _ {X : Type 0} where
   within-back P (x ∷ xs) ys a (suc j) d from to = within-back P xs ys a j d (omega arith) (omega arith)
 
 module _ {K V : Type 0} (cmp : K → K → Ordering) (o : IsTotalOrder cmp) where
-  map-behind : (xs ys : List (K × V)) → IsMap cmp (xs ++ ys) → IsMap cmp ys
-  map-behind [] ys m = m
-  map-behind (x ∷ xs) ys m = map-behind xs ys m.1
-
   -- whether the last row in the second list has the key
   pub next-is : (key : K) (back : List (K × V)) (n : ℕ) (r : K × V) → suc n ≡ length back → r ≡ get_or back n r → first_is cmp key (reverse back) ≡ is_eq (cmp r.0 key)
   next-is key back n r e read =
@@ -102,7 +94,7 @@ module _ {K V : Type 0} (cmp : K → K → Ordering) (o : IsTotalOrder cmp) wher
   highs key (r ∷ rs) m n f =
       let g : cmp r.0 key ≡ Greater = greater (cmp r.0 key) n f in
       let less : cmp key r.0 ≡ Less = o.antisymm key r.0 ∙ ap ordering_reverse g in
-      (g, each-with (λ s. Below cmp r.0 s.0) (λ s. cmp s.0 key ≡ Greater) rs (λ s b. o.antisymm s.0 key ∙ ap ordering_reverse (is_less' (cmp key s.0) (low_low cmp o key r.0 s.0 (ap is_lt less) b))) m.0)
+      (g, each-with (λ s. Below cmp r.0 s.0) (λ s. cmp s.0 key ≡ Greater) rs (λ s b. o.antisymm s.0 key ∙ ap ordering_reverse (is_less (cmp key s.0) (low_low cmp o key r.0 s.0 (ap is_lt less) b))) m.0)
 
   -- no row has the key: a new one at the place
   pub at-gap : (front back : List (K × V)) (key : K) (v : V) → AllByRecursion (λ s. Below cmp s.0 key) front → IsMap cmp (whole front back) → FirstNotBelow cmp key (reverse back) → first_is cmp key (reverse back) ≡ false
@@ -111,8 +103,8 @@ module _ {K V : Type 0} (cmp : K → K → Ordering) (o : IsTotalOrder cmp) wher
       let l : length (whole front back) ≡ length front + length (reverse back) = length-append front (reverse back) in (
         record {
           in_range = omega (arith, l);
-          lower = within-front (λ s. cmp s.0 key ≡ Less) front (reverse back) (each-with (λ s. Below cmp s.0 key) (λ s. cmp s.0 key ≡ Less) front (λ s b. is_less' (cmp s.0 key) b) low);
-          higher = within-back (λ s. cmp s.0 key ≡ Greater) front (reverse back) (highs key (reverse back) (map-behind front (reverse back) m) n f);
+          lower = within-front (λ s. cmp s.0 key ≡ Less) front (reverse back) (each-with (λ s. Below cmp s.0 key) (λ s. cmp s.0 key ≡ Less) front (λ s b. is_less (cmp s.0 key) b) low);
+          higher = within-back (λ s. cmp s.0 key ≡ Greater) front (reverse back) (highs key (reverse back) (map-rest cmp front (reverse back) m) n f);
         },
         ap (λ t. front ++ t) (reverse-append back ((key, v) ∷ [])) ∙ sym (insert-here front (reverse back) (key, v)),
       )

@@ -1,10 +1,10 @@
 -- What a pull takes of one key, up to equality.
 use Rattle.std.proofs.Common.{◌≡◌, Bool, true, false, cond, Option, Some, None, ◌∙◌, ◌⊎◌, inl, inr}
+use Rattle.std.proofs.lemmas.Bool.{false≢true}
 use Rattle.std.specs.Prelude.{⊤}
 use Rattle.std.specs.Cmp.{IsEquivalence}
 use Rattle.key_order.specs.Map.{IsPresent}
 use Rattle.key_order.specs.Join.{IsJoining}
-use Rattle.key_order.proofs.Bools.{false_not_true}
 use Rattle.key_order.proofs.Values.{Eq, J, same, back, on, assoc, cong, idem, to_none}
 
 module _ {V : Type 0} (eq : V → V → Bool) (e : IsEquivalence eq) (join : V → V → V) (j : IsJoining eq join) where
@@ -34,7 +34,7 @@ module _ {V : Type 0} (eq : V → V → Bool) (e : IsEquivalence eq) (join : V �
   -- a pull that takes all that differs leaves the join of both
   pub takes_all : (q : Bool) (x y x' : Option V) → Eq eq e join j x' (J eq e join j x (Taken q y)) → (q ≡ true) ⊎ SameOrAbsent x y → Eq eq e join j x' (J eq e join j x y)
   takes_all true x y x' h k = h
-  takes_all false x y x' h (inl k) = absurd (false_not_true k)
+  takes_all false x y x' h (inl k) = absurd (false≢true k)
   takes_all false x y x' h (inr k) = on eq e join j x' x (J eq e join j x y) (on eq e join j x' (J eq e join j x None) x h (to_none eq e join j x)) (same_join x y k)
 
   -- a pull between two that are at the join stays there

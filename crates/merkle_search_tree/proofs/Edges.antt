@@ -13,6 +13,7 @@ use Rattle.merkle_search_tree.specs.Chain.{high_of, with_high, row_of_page, rema
 use Rattle.merkle_search_tree.specs.Edge.{row_more, IsBare, RowIsBare, HeldIsBare, last_level, edge_pairs, is_above, IsOpen, IsEdge, ClosesPages, Appends}
 use Rattle.merkle_search_tree.specs.declared.builder.PageFormat.{PageFormat}
 use Rattle.merkle_search_tree.proofs.RangeEnds.{last-append}
+use Rattle.merkle_search_tree.proofs.Roots.{root-pairs, root-canonical}
 
 -- rows
 module _ {K D : Type 0} where
@@ -145,22 +146,13 @@ module _ {K D : Type 0} where
           edge-pairs us (page n None (node h k d (high nothing))) ∙ sym (append_assoc (edge_pairs us) (held_pairs h) ((k, d) ∷ [])) ∙ ap (λ z. z ++ (k, d) ∷ []) a.3,
         )
 
-    closed-root : (h : Held K D) → IsGap lev 256 h → IsCanonicalRoot lev (root_of h)
-    closed-root nothing a = refl
-    closed-root (below (page l c (high g))) a = absurd a.1
-    closed-root (below (page l c (node g k d r))) a = a.2
-
-    root-pairs : (h : Held K D) → pairs (root_of h) ≡ held_pairs h
-    root-pairs nothing = refl
-    root-pairs (below t) = refl
-
     root-bare : (h : Held K D) → HeldIsBare h → IsBare (root_of h)
     root-bare nothing a = tt
     root-bare (below t) a = a
 
     -- all pages are closed
     pub closes-all : (ts us : List (Tree K D)) (h : Held K D) → 256 ≤ last_level 256 us → ClosesPages lev 256 ts us h → IsCanonicalRoot lev (root_of h) × IsBare (root_of h) × (pairs (root_of h) ≡ edge_pairs ts)
-    closes-all ts [] h s a = (closed-root h a.2.0, root-bare h a.2.1, root-pairs h ∙ a.3)
+    closes-all ts [] h s a = (root-canonical lev 256 h a.2.0, root-bare h a.2.1, root-pairs h ∙ a.3)
     closes-all ts (u ∷ us) h s a = absurd (omega (arith, s, edge-low (level u) us a.0.2, a.0.0))
 
 -- pages without digests hold no wrong one

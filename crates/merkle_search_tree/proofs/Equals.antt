@@ -6,11 +6,6 @@ use Rattle.std.specs.Cmp.{nat_eq_equiv}
 use Rattle.merkle_search_tree.specs.Tree.{page, Held, Node, row}
 use Rattle.merkle_search_tree.specs.Equal.{tree_eq, row_eq, held_eq, node_eq}
 
--- what is not true is false
-pub both_false : (b : Bool) → (b ≡ true → ⊥) → b ≡ false
-both_false true n = absurd (n refl)
-both_false false n = refl
-
 eqb-true-from : (l m : ℕ) → l ≡ m → (l == m) ≡ true
 eqb-true-from l m e = ap (λ n. l == n) (sym e) ∙ nat_eq_equiv.refl l
 

@@ -1,11 +1,12 @@
 -- In format 2, without collisions, equal digests of pages tell that the maps of their subtrees are equal.
-use Rattle.std.proofs.Common.{◌≡◌, ℕ, ◌<◌, ◌^◌, List, [], ◌∷◌, ◌++◌, length, inl, inr, refl, ap, sym, subst, ◌∙◌}
+use Rattle.std.proofs.Common.{◌≡◌, ℕ, ◌<◌, ◌^◌, List, [], ◌∷◌, length, inl, inr, refl, ap, sym, subst, ◌∙◌}
 use Rattle.std.specs.List.{AllByRecursion}
 use Rattle.std.specs.declared.cmp.Ordering.{Ordering}
 use Rattle.std.specs.Cmp.{IsTotalOrder}
 use Rattle.key_order.specs.Order.{Same}
 use Rattle.key_order.specs.Map.{SameMap}
 use Rattle.key_order.proofs.SameMaps.{same_across, same-append}
+use Rattle.key_order.proofs.Parts.{each-before, each-behind}
 use Rattle.merkle_search_tree.specs.Tree.{Tree, page, Row, high, node, Held, nothing, below}
 use Rattle.merkle_search_tree.specs.Page.{pairs, row_pairs, held_pairs, nodes_of}
 use Rattle.merkle_search_tree.specs.Canonical.{IsTreeOf}
@@ -15,15 +16,6 @@ use Rattle.merkle_search_tree.specs.Stream.{page_digest, stream_of}
 use Rattle.merkle_search_tree.proofs.SameParts.{SameBelow, SameParts}
 use Rattle.merkle_search_tree.specs.Faithful.{IsSmall, NoCollision, HasFaithfulPages}
 use Rattle.merkle_search_tree.proofs.Streams.{RowMeasured, page_tells}
-
-module _ {X : Type 0} (P : X → Type 0) where
-  all-first : (xs ys : List X) → AllByRecursion P (xs ++ ys) → AllByRecursion P xs
-  all-first [] ys a = tt
-  all-first (x ∷ xs) ys a = (a.0, all-first xs ys a.1)
-
-  all-rest : (xs ys : List X) → AllByRecursion P (xs ++ ys) → AllByRecursion P ys
-  all-rest [] ys a = a
-  all-rest (x ∷ xs) ys a = all-rest xs ys a.1
 
 module _ {K D : Type 0} where
   mutual
@@ -50,8 +42,8 @@ module _ {K D : Type 0} where
 
       all_in_row : (s : Tree K D) (r : Row K D) → IsPageInRow s r → AllByRecursion P (row_pairs r) → AllByRecursion P (pairs s)
       all_in_row s (high h) b a = all_in_held s h b a
-      all_in_row s (node h k d r) (inl b) a = all_in_held s h b (all-first P (held_pairs h) ((k, d) ∷ row_pairs r) a)
-      all_in_row s (node h k d r) (inr b) a = all_in_row s r b (all-rest P (held_pairs h) ((k, d) ∷ row_pairs r) a).1
+      all_in_row s (node h k d r) (inl b) a = all_in_held s h b (each-before P (held_pairs h) ((k, d) ∷ row_pairs r) a)
+      all_in_row s (node h k d r) (inr b) a = all_in_row s r b (each-behind P (held_pairs h) ((k, d) ∷ row_pairs r) a).1
 
       all_in_held : (s : Tree K D) (h : Held K D) → IsPageInHeld s h → AllByRecursion P (held_pairs h) → AllByRecursion P (pairs s)
       all_in_held s nothing b a = absurd b
@@ -63,7 +55,7 @@ module _ {K : Type 0} (cmp : K → K → Ordering) (bytes_of : K → List ℕ) (
 
   row_measured : (r : Row K (List ℕ)) → AllByRecursion Measured (row_pairs r) → RowMeasured bytes_of n r
   row_measured (high h) a = tt
-  row_measured (node h k d r) a = let b = all-rest Measured (held_pairs h) ((k, d) ∷ row_pairs r) a in (b.0.0, b.0.1, row_measured r b.1)
+  row_measured (node h k d r) a = let b = each-behind Measured (held_pairs h) ((k, d) ∷ row_pairs r) a in (b.0.0, b.0.1, row_measured r b.1)
 
   module _ (tell : (x y : K) → bytes_of x ≡ bytes_of y → Same cmp x y) (A B : Tree K (List ℕ) → Type 0)
       (small_a : (s : Tree K (List ℕ)) → A s → length (nodes_of s) < 2 ^ 64) (small_b : (s : Tree K (List ℕ)) → B s → length (nodes_of s) < 2 ^ 64)
@@ -85,8 +77,8 @@ module _ {K : Type 0} (cmp : K → K → Ordering) (bytes_of : K → List ℕ) (
       row_same (node h k d r) (high h') in_a in_b m m' w = absurd w
       row_same (node h k d r) (node h' k' d' r') in_a in_b m m' w =
           same-append cmp (held_pairs h) ((k, d) ∷ row_pairs r) (held_pairs h') ((k', d') ∷ row_pairs r')
-          (held_same h h' (λ x p. in_a x (inl p)) (λ x p. in_b x (inl p)) (all-first Measured (held_pairs h) ((k, d) ∷ row_pairs r) m) (all-first Measured (held_pairs h') ((k', d') ∷ row_pairs r') m') w.0)
-          (tell k k' w.1, w.2, row_same r r' (λ x p. in_a x (inr p)) (λ x p. in_b x (inr p)) (all-rest Measured (held_pairs h) ((k, d) ∷ row_pairs r) m).1 (all-rest Measured (held_pairs h') ((k', d') ∷ row_pairs r') m').1 w.3)
+          (held_same h h' (λ x p. in_a x (inl p)) (λ x p. in_b x (inl p)) (each-before Measured (held_pairs h) ((k, d) ∷ row_pairs r) m) (each-before Measured (held_pairs h') ((k', d') ∷ row_pairs r') m') w.0)
+          (tell k k' w.1, w.2, row_same r r' (λ x p. in_a x (inr p)) (λ x p. in_b x (inr p)) (each-behind Measured (held_pairs h) ((k, d) ∷ row_pairs r) m).1 (each-behind Measured (held_pairs h') ((k', d') ∷ row_pairs r') m').1 w.3)
 
       held_same : (h h' : Held K (List ℕ)) → ((x : Tree K (List ℕ)) → IsPageInHeld x h → A x) → ((x : Tree K (List ℕ)) → IsPageInHeld x h' → B x)
           → AllByRecursion Measured (held_pairs h) → AllByRecursion Measured (held_pairs h') → SameBelow V2 bytes_of h h' → SameMap cmp (λ d e. d ≡ e) (held_pairs h) (held_pairs h')

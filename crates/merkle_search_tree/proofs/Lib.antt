@@ -5,6 +5,7 @@ pub mod Partings
 pub mod Apart
 pub mod Gaps
 pub mod Unique
+pub mod Roots
 pub mod TreeOf
 pub mod Sides
 pub mod Search

@@ -4,6 +4,7 @@ use Rattle.std.specs.Prelude.{⊤, true, is_some, MatchOption}
 use Rattle.std.specs.Cmp.{IsTotalOrder}
 use Rattle.std.specs.declared.cmp.Ordering.{Ordering}
 use Rattle.key_order.specs.Map.{IsMap}
+use Rattle.key_order.proofs.Parts.{each-append, map-first, map-rest}
 use Rattle.merkle_search_tree.specs.Tree.{Tree, page, Row, high, node, Held, nothing, below}
 use Rattle.merkle_search_tree.specs.Page.{pairs, row_pairs, held_pairs, nodes_of, cache, pages_in_order, row_pages, held_pages}
 use Rattle.merkle_search_tree.specs.Canonical.{HasNode, IsCanonical, IsRow, IsGap, IsCanonicalRoot}
@@ -12,11 +13,10 @@ use Rattle.merkle_search_tree.specs.Sound.{RootHashHolds}
 use Rattle.merkle_search_tree.specs.Stream.{page_digest}
 use Rattle.merkle_search_tree.specs.Ranges.{entry_of, ranges_of, row_ranges, held_ranges}
 use Rattle.merkle_search_tree.specs.PagesToCome.{HasRange}
-use Rattle.merkle_diff.proofs.Each.{each-append}
 use Rattle.std.specs.List.{AllByRecursion}
 use Rattle.merkle_search_tree.specs.CachedRanges.{as_list, range_from, cached_ranges, row_cached, held_cached}
 use Rattle.merkle_search_tree.proofs.Keeps.{none_missing}
-use Rattle.merkle_search_tree.proofs.RangeKeys.{map-first, map-rest, first_last, not-none}
+use Rattle.merkle_search_tree.proofs.RangeKeys.{first_last, not-none}
 use Rattle.merkle_search_tree.specs.declared.builder.PageFormat.{PageFormat}
 
 module _ {K : Type 0} (cmp : K → K → Ordering) (o : IsTotalOrder cmp) where

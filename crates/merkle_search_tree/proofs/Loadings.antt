@@ -1,5 +1,6 @@
 -- Rows that come in ascending key order.
 use Rattle.std.proofs.Common.{◌≡◌, ℕ, ◌+◌, ◌-◌, List, [], ◌∷◌, ◌++◌, ◌<◌, length, take, get_or, suc, Option, Some, refl, ap, sym, subst, ◌∙◌, arith}
+use Rattle.std.proofs.lemmas.Bool.{false≢true}
 use Rattle.std.proofs.lemmas.List.{length_push, take_more}
 use Rattle.std.specs.Prelude.{◌^◌, min, true, false}
 use Rattle.std.specs.Iterator.{Yields}
@@ -10,7 +11,6 @@ use Rattle.key_order.specs.Order.{Below, Same}
 use Rattle.key_order.specs.Map.{IsMap, SameMap, last_key}
 use Rattle.key_order.proofs.Orders.{low_low}
 use Rattle.key_order.proofs.SameMaps.{same-append, same_is_map, ascends}
-use Rattle.key_order.proofs.Bools.{false_not_true}
 use Rattle.merkle_search_tree.specs.Edge.{is_above}
 use Rattle.merkle_search_tree.specs.Loading.{row_count, digests, RowFails, LoadFails}
 use Rattle.merkle_search_tree.specs.declared.load.LoadRefused.{LoadRefused}
@@ -43,7 +43,7 @@ module _ {K X : Type 0} (cmp : K → K → Ordering) where
   map-last (p ∷ q ∷ qs) k x a = map-last (q ∷ qs) k x a.1
 
   pub no-more : (rows : List (K × X)) (k : K) → is_above cmp k rows ≡ false → (x : X) → ¬ (IsMap cmp (rows ++ (k, x) ∷ []))
-  no-more rows k e x a = false_not_true (sym e ∙ map-last rows k x a)
+  no-more rows k e x a = false≢true (sym e ∙ map-last rows k x a)
 
 -- one row more is counted
 pub count-more : {X : Type 0} (rows : List X) (r : X) (n : ℕ) → n ≡ row_count rows → min (n + 1) (2 ^ 64 - 1) ≡ row_count (rows ++ r ∷ [])

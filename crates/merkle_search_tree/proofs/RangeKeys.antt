@@ -7,16 +7,13 @@ use Rattle.std.specs.declared.cmp.Ordering.{Ordering}
 use Rattle.key_order.specs.Order.{Upto, Below}
 use Rattle.key_order.specs.Map.{IsMap, last_key}
 use Rattle.key_order.proofs.Orders.{up_up, low_is_up, up_self}
+use Rattle.key_order.proofs.Parts.{each-append, each-before, each-behind}
 use Rattle.merkle_diff.specs.Entry.{Entry}
-use Rattle.merkle_diff.proofs.Each.{each-append, each-before, each-behind}
 use Rattle.merkle_search_tree.specs.Tree.{Tree, page, Row, high, node, Held, nothing, below}
 use Rattle.merkle_search_tree.specs.Page.{pairs, row_pairs, held_pairs}
 use Rattle.merkle_search_tree.specs.Stream.{page_digest}
 use Rattle.merkle_search_tree.specs.Ranges.{entry_of, ranges_of, row_ranges, held_ranges}
 use Rattle.merkle_search_tree.specs.declared.builder.PageFormat.{PageFormat}
-
-pub each-at : {X : Type 0} (P : X → Type 0) (xs : List X) (y : X) (ys : List X) → AllByRecursion P (xs ++ y ∷ ys) → P y
-each-at P xs y ys a = (each-behind P xs (y ∷ ys) a).0
 
 -- a list with something in it is not empty
 pub not-none : {X : Type 0} (xs : List X) (y : X) (ys : List X) → xs ++ y ∷ ys ≡ [] → ⊥
@@ -59,19 +56,6 @@ module _ {K : Type 0} (P : K → Type 0) where
       of_held (below t) a = of_tree t a
 
 module _ {K D : Type 0} (cmp : K → K → Ordering) where
-  pub map-first : (xs ys : List (K × D)) → IsMap cmp (xs ++ ys) → IsMap cmp xs
-  map-first [] ys m = tt
-  map-first (x ∷ xs) ys m = (each-before (λ s. Below cmp x.0 s.0) xs ys m.0, map-first xs ys m.1)
-
-  pub map-rest : (xs ys : List (K × D)) → IsMap cmp (xs ++ ys) → IsMap cmp ys
-  map-rest [] ys m = m
-  map-rest (x ∷ xs) ys m = map-rest xs ys m.1
-
-  -- the keys before a pair are below its key
-  pub map-before : (xs : List (K × D)) (y : K × D) (ys : List (K × D)) → IsMap cmp (xs ++ y ∷ ys) → AllByRecursion (λ p. Below cmp p.0 y.0) xs
-  map-before [] y ys m = tt
-  map-before (x ∷ xs) y ys m = (each-at (λ s. Below cmp x.0 s.0) xs y ys m.0, map-before xs y ys m.1)
-
   -- k is from the first to the last key of the pairs, where there are such
   abbrev pub InSpan : K → List (K × D) → Type 0
   InSpan k [] = ⊤

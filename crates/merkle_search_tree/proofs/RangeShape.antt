@@ -6,15 +6,16 @@ use Rattle.std.specs.declared.cmp.Ordering.{Ordering}
 use Rattle.key_order.specs.Order.{Below}
 use Rattle.key_order.specs.Map.{IsMap, last_key}
 use Rattle.key_order.proofs.Orders.{up_up, up_low, low_low, not_both}
+use Rattle.key_order.proofs.Parts.{each-append, each-at, map-before, map-first, map-rest}
 use Rattle.merkle_diff.specs.Entry.{Entry, EntryWithin}
 use Rattle.merkle_diff.specs.TreeShape.{HoldsNoneBefore, IsTreeShaped}
-use Rattle.merkle_diff.proofs.Each.{each-with, each-append}
+use Rattle.merkle_diff.proofs.Each.{each-with}
 use Rattle.merkle_search_tree.specs.Tree.{Tree, page, Row, high, node, Held, nothing, below}
 use Rattle.merkle_search_tree.specs.Page.{pairs, row_pairs, held_pairs}
 use Rattle.merkle_search_tree.specs.Stream.{page_digest}
 use Rattle.merkle_search_tree.specs.Canonical.{HasNode, IsCanonical, IsRow, IsGap, IsCanonicalRoot}
 use Rattle.merkle_search_tree.specs.Ranges.{entry_of, ranges_of, row_ranges, held_ranges}
-use Rattle.merkle_search_tree.proofs.RangeKeys.{each-at, not-none, OfBounds, of_row, of_held, map-first, map-rest, map-before, InSpan, each_in_span}
+use Rattle.merkle_search_tree.proofs.RangeKeys.{not-none, OfBounds, of_row, of_held, InSpan, each_in_span}
 use Rattle.merkle_search_tree.specs.declared.builder.PageFormat.{PageFormat}
 
 module _ {K : Type 0} (cmp : K → K → Ordering) (o : IsTotalOrder cmp) where

@@ -6,6 +6,7 @@ use Rattle.std.specs.Ordering.{is_eq, match_ordering}
 use Rattle.std.specs.Cmp.{IsTotalOrder}
 use Rattle.key_order.specs.Map.{IsMap, has_key, del, entry}
 use Rattle.key_order.proofs.Dels.{NoEqual, del-append, del-here, del-past, del-none, entry-here, entry-past, entry-behind, entry-before}
+use Rattle.key_order.proofs.Parts.{map-first, map-rest}
 use Rattle.merkle_search_tree.specs.Tree.{Tree, page, Row, high, node, Held, nothing, below}
 use Rattle.merkle_search_tree.specs.TreeOf.{root_of}
 use Rattle.merkle_search_tree.specs.Page.{level, pairs, row_pairs, held_pairs}
@@ -13,10 +14,11 @@ use Rattle.merkle_search_tree.specs.Cache.{missing, row_missing, held_missing, C
 use Rattle.merkle_search_tree.specs.Canonical.{IsCanonical, IsRow, IsGap, IsCanonicalRoot}
 use Rattle.merkle_search_tree.specs.Upsert.{as_held}
 use Rattle.merkle_search_tree.specs.Remove.{row_append, row_del, held_del, tree_del, root_del, row_entry, held_entry, tree_entry, HasFreeGap, RowHasFreeGap, HeldHasFreeGap}
-use Rattle.merkle_search_tree.proofs.Sides.{map-first, map-rest, has_key-append, none-before, none-after}
+use Rattle.merkle_search_tree.proofs.Sides.{has_key-append, none-before, none-after}
 use Rattle.merkle_search_tree.proofs.Keeps.{rows_hold, as_held-gap, as_held-few, root_from}
 use Rattle.merkle_search_tree.proofs.Set.{as_held-pairs}
 use Rattle.merkle_search_tree.proofs.Joins.{append-pairs, append-row, append-hold, append-few}
+use Rattle.merkle_search_tree.proofs.Roots.{root-pairs}
 use Rattle.merkle_search_tree.specs.declared.builder.PageFormat.{PageFormat}
 
 module _ {K D : Type 0} (cmp : K → K → Ordering) (o : IsTotalOrder cmp) (k : K) where
@@ -50,12 +52,8 @@ module _ {K D : Type 0} (cmp : K → K → Ordering) (o : IsTotalOrder cmp) (k :
     pub tree_del-pairs : (t : Tree K D) → IsMap cmp (pairs t) → held_pairs (tree_del cmp k t) ≡ del cmp (pairs t) k
     tree_del-pairs (page l c r) a = as_held-pairs l None (row_del cmp k r) ∙ row_del-pairs r a
 
-  root_of-pairs : (h : Held K D) → pairs (root_of h) ≡ held_pairs h
-  root_of-pairs nothing = refl
-  root_of-pairs (below t) = refl
-
   pub root_del-pairs : (t : Tree K D) → IsMap cmp (pairs t) → pairs (root_del cmp k t) ≡ del cmp (pairs t) k
-  root_del-pairs t a = root_of-pairs (tree_del cmp k t) ∙ tree_del-pairs t a
+  root_del-pairs t a = root-pairs (tree_del cmp k t) ∙ tree_del-pairs t a
 
   -- what is found on the key's path is what the map has
   mutual

@@ -1,33 +1,30 @@
 -- The place of a key among ascending nodes, and how a search by halving comes to it.
-use Rattle.std.proofs.Common.{◌≡◌, ◌≢◌, ℕ, zero, suc, ◌+◌, ◌-◌, ◌/◌, ◌^◌, ◌<◌, ◌≤◌, List, [], ◌∷◌, ◌++◌, length, get_or, Bool, true, false, if◌then◌else◌, Option, refl, ap, sym, subst, ◌∙◌, arith}
+use Rattle.std.proofs.Common.{◌≡◌, ◌≢◌, ℕ, zero, suc, ◌+◌, ◌-◌, ◌/◌, ◌^◌, ◌<◌, ◌≤◌, List, [], ◌∷◌, length, get_or, Bool, true, false, if◌then◌else◌, Option, ap, sym, subst, ◌∙◌, arith}
 use Rattle.std.proofs.Math.Nat.{pow-succ'}
 use Rattle.std.specs.List.{AllByRecursion}
 use Rattle.std.specs.declared.cmp.Ordering.{Ordering}
-use Rattle.std.specs.declared.cmp.Ordering.TheVariants.{Less, Equal, Greater}
+use Rattle.std.specs.declared.cmp.Ordering.TheVariants.{Equal}
 use Rattle.std.specs.Ordering.{is_gt, is_eq}
 use Rattle.std.specs.Cmp.{IsTotalOrder}
 use Rattle.key_order.specs.Order.{Below}
 use Rattle.key_order.specs.Map.{IsMap}
 use Rattle.key_order.proofs.Orders.{turned, low_low, low_up, same_down}
+use Rattle.key_order.proofs.Parts.{each-behind, map-first, map-rest}
+use Rattle.key_order.proofs.Bools.{is_equal}
 use Rattle.merkle_search_tree.specs.Tree.{Tree, page, Row, high, node, Node, Held, row}
 use Rattle.merkle_search_tree.specs.Page.{pairs, row_pairs, held_pairs, row_nodes, nodes_of}
 use Rattle.merkle_search_tree.specs.Search.{NodesAscend}
 use Rattle.merkle_search_tree.specs.Upsert.{place}
-use Rattle.merkle_search_tree.proofs.Sides.{map-first, map-rest}
 
 all_at : {X : Type 0} (P : X → Type 0) (xs : List X) (i : ℕ) (x : X) → AllByRecursion P xs → i < length xs → P (get_or xs i x)
 all_at P [] i x a r = absurd (omega arith)
 all_at P (y ∷ ys) zero x a r = a.0
 all_at P (y ∷ ys) (suc i) x a r = all_at P ys i x a.1 (omega arith)
 
-all_behind : {X : Type 0} (P : X → Type 0) (xs ys : List X) → AllByRecursion P (xs ++ ys) → AllByRecursion P ys
-all_behind P [] ys a = a
-all_behind P (x ∷ xs) ys a = all_behind P xs ys a.1
-
 module _ {K D : Type 0} (P : K → Type 0) where
   all_nodes : (es : List (Node K D)) (h : Held K D) → AllByRecursion (λ p. P p.0) (row_pairs (row es h)) → AllByRecursion (λ (e : Node K D). P e.key) es
   all_nodes [] h a = tt
-  all_nodes (e ∷ es) h a = let b = all_behind (λ p. P p.0) (held_pairs e.lt) ((e.key, e.digest) ∷ row_pairs (row es h)) a in (b.0, all_nodes es h b.1)
+  all_nodes (e ∷ es) h a = let b = each-behind (λ p. P p.0) (held_pairs e.lt) ((e.key, e.digest) ∷ row_pairs (row es h)) a in (b.0, all_nodes es h b.1)
 
 module _ {K D : Type 0} (cmp : K → K → Ordering) where
   -- the nodes of a row whose keys ascend
@@ -89,11 +86,6 @@ module _ {K D : Type 0} (cmp : K → K → Ordering) (k : K) where
       let p = ap (λ b. if b then (suc (place cmp k es)) else 0) (sym (turned cmp o k e.key) ∙ low) in
       omega (arith, p, place-above o es i x a.1 (omega arith) q)
 
-pub is_there : (r : Ordering) → is_eq r ≡ true → r ≡ Equal
-is_there Less e = cc
-is_there Equal e = refl
-is_there Greater e = cc
-
 pub not_there : (r : Ordering) → is_eq r ≡ false → r ≢ Equal
 not_there r e f = let g = sym e ∙ ap is_eq f in cc
 
@@ -110,7 +102,7 @@ module _ {K D : Type 0} {ys es : List (Node K D)} where
     there_at = subst (λ zs. (x : Node K D) → i < length zs → b ≡ is_eq (cmp k (get_or zs i x).key)) lent there
 
     pub key_there : b ≡ true → (x : Node K D) → i < length es → cmp k (get_or es i x).key ≡ Equal
-    key_there t x r = is_there _ (sym (there_at x r) ∙ t)
+    key_there t x r = is_equal _ (sym (there_at x r) ∙ t)
 
     pub key_elsewhere : b ≡ false → (x : Node K D) → i < length es → cmp k (get_or es i x).key ≢ Equal
     key_elsewhere f x r = not_there _ (sym (there_at x r) ∙ f)
@@ -144,7 +136,7 @@ halved_more size rest count m z h r =
 module _ {K D : Type 0} (cmp : K → K → Ordering) where
   all_row_nodes : (P : K → Type 0) (r : Row K D) → AllByRecursion (λ p. P p.0) (row_pairs r) → AllByRecursion (λ (e : Node K D). P e.key) (row_nodes r)
   all_row_nodes P (high h) a = tt
-  all_row_nodes P (node h k d r) a = let b = all_behind (λ p. P p.0) (held_pairs h) ((k, d) ∷ row_pairs r) a in (b.0, all_row_nodes P r b.1)
+  all_row_nodes P (node h k d r) a = let b = each-behind (λ p. P p.0) (held_pairs h) ((k, d) ∷ row_pairs r) a in (b.0, all_row_nodes P r b.1)
 
   nodes-ascend : (r : Row K D) → IsMap cmp (row_pairs r) → NodesAscend cmp (row_nodes r)
   nodes-ascend (high h) a = tt

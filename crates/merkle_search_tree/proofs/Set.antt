@@ -12,7 +12,8 @@ use Rattle.merkle_search_tree.specs.Upsert.{as_held, kept, lower, upper, held_lo
 use Rattle.merkle_search_tree.proofs.Unique.{Under, Under-more, Under-row, Under-gap}
 use Rattle.key_order.proofs.Dels.{NoEqual}
 use Rattle.key_order.proofs.Orders.{same_down, low_is_up, turned}
-use Rattle.merkle_search_tree.proofs.Sides.{AllAbove, AllBelow, above-append, below-append, no_equal-first, no_equal-rest, map-first, map-rest, map-before, no_equal-under, set-stop, set-front, set-pass, below-more, above-more, less-below, less-upto, greater-upto, not_above}
+use Rattle.key_order.proofs.Parts.{map-before, map-first, map-rest}
+use Rattle.merkle_search_tree.proofs.Sides.{AllAbove, AllBelow, above-append, below-append, no_equal-first, no_equal-rest, no_equal-under, set-stop, set-front, set-pass, below-more, above-more, less-below, less-upto, greater-upto, not_above}
 
 module _ {K D : Type 0} where
   pub as_held-pairs : (l : ℕ) (c : Option (List ℕ)) (r : Row K D) → held_pairs (as_held l c r) ≡ row_pairs r

@@ -9,29 +9,9 @@ use Rattle.key_order.specs.Order.{Upto, Below}
 use Rattle.key_order.specs.Map.{IsMap, set, has_key}
 use Rattle.key_order.proofs.Orders.{turned, low_up, up_low, low_is_up, same_up, same_down}
 use Rattle.key_order.proofs.Dels.{NoEqual}
+use Rattle.key_order.proofs.Parts.{each-append, each-before, each-behind, map-before, map-rest}
+use Rattle.key_order.proofs.Bools.{is_less, is_greater}
 use Rattle.merkle_search_tree.proofs.Unique.{Under}
-
-all-append : {X : Type 0} (P : X → Type 0) (xs ys : List X) → AllByRecursion P xs → AllByRecursion P ys → AllByRecursion P (xs ++ ys)
-all-append P [] ys a b = b
-all-append P (x ∷ xs) ys a b = (a.0, all-append P xs ys a.1 b)
-
-all-first : {X : Type 0} (P : X → Type 0) (xs ys : List X) → AllByRecursion P (xs ++ ys) → AllByRecursion P xs
-all-first P [] ys a = tt
-all-first P (x ∷ xs) ys a = (a.0, all-first P xs ys a.1)
-
-all-rest : {X : Type 0} (P : X → Type 0) (xs ys : List X) → AllByRecursion P (xs ++ ys) → AllByRecursion P ys
-all-rest P [] ys a = a
-all-rest P (x ∷ xs) ys a = all-rest P xs ys a.1
-
-is_less : (r : Ordering) → is_lt r ≡ true → r ≡ Less
-is_less Less h = refl
-is_less Equal h = cc
-is_less Greater h = cc
-
-is_greater : (r : Ordering) → is_gt r ≡ true → r ≡ Greater
-is_greater Less h = cc
-is_greater Equal h = cc
-is_greater Greater h = refl
 
 -- what is neither above nor equal is below
 pub not_above : (r : Ordering) → r ≢ Equal → is_gt r ≡ false → is_lt r ≡ true
@@ -71,30 +51,16 @@ module _ {K D : Type 0} (cmp : K → K → Ordering) where
   AllBelow k = AllByRecursion (λ p. Below cmp p.0 k)
 
   pub above-append : (k : K) (xs ys : List (K × D)) → AllAbove k xs → AllAbove k ys → AllAbove k (xs ++ ys)
-  above-append k = all-append (λ p. Below cmp k p.0)
+  above-append k = each-append (λ p. Below cmp k p.0)
 
   pub below-append : (k : K) (xs ys : List (K × D)) → AllBelow k xs → AllBelow k ys → AllBelow k (xs ++ ys)
-  below-append k = all-append (λ p. Below cmp p.0 k)
+  below-append k = each-append (λ p. Below cmp p.0 k)
 
   pub no_equal-first : (k : K) (xs ys : List (K × D)) → NoEqual cmp k (xs ++ ys) → NoEqual cmp k xs
-  no_equal-first k = all-first (λ p. cmp k p.0 ≢ Equal)
+  no_equal-first k = each-before (λ p. cmp k p.0 ≢ Equal)
 
   pub no_equal-rest : (k : K) (xs ys : List (K × D)) → NoEqual cmp k (xs ++ ys) → NoEqual cmp k ys
-  no_equal-rest k = all-rest (λ p. cmp k p.0 ≢ Equal)
-
-  -- parts of a map are maps
-  pub map-first : (xs ys : List (K × D)) → IsMap cmp (xs ++ ys) → IsMap cmp xs
-  map-first [] ys a = tt
-  map-first (x ∷ xs) ys a = (all-first (λ p. Below cmp x.0 p.0) xs ys a.0, map-first xs ys a.1)
-
-  pub map-rest : (xs ys : List (K × D)) → IsMap cmp (xs ++ ys) → IsMap cmp ys
-  map-rest [] ys a = a
-  map-rest (x ∷ xs) ys a = map-rest xs ys a.1
-
-  -- what stands before a key is below it
-  pub map-before : (xs : List (K × D)) (p : K × D) (ys : List (K × D)) → IsMap cmp (xs ++ p ∷ ys) → AllBelow p.0 xs
-  map-before [] p ys a = tt
-  map-before (x ∷ xs) p ys a = ((all-rest (λ q. Below cmp x.0 q.0) xs (p ∷ ys) a.0).0, map-before xs p ys a.1)
+  no_equal-rest k = each-behind (λ p. cmp k p.0 ≢ Equal)
 
   pub no_equal-above : (k : K) (ps : List (K × D)) → AllAbove k ps → NoEqual cmp k ps
   no_equal-above k [] a = tt
@@ -161,14 +127,14 @@ module _ {K D : Type 0} (cmp : K → K → Ordering) where
       where
         by : (q : Ordering) → cmp k x ≡ q → q ≢ Less → NoEqual cmp k xs
         by Less q n = absurd (n refl)
-        by Equal q n = no_equal-below k xs (below-more k x xs (same_down cmp o k x q) (map-before xs (x, e) ys a))
-        by Greater q n = no_equal-below k xs (below-more k x xs (greater-upto cmp o k x q) (map-before xs (x, e) ys a))
+        by Equal q n = no_equal-below k xs (below-more k x xs (same_down cmp o k x q) (map-before cmp xs (x, e) ys a))
+        by Greater q n = no_equal-below k xs (below-more k x xs (greater-upto cmp o k x q) (map-before cmp xs (x, e) ys a))
 
     pub none-after : (k : K) (xs : List (K × D)) (x : K) (e : D) (ys : List (K × D)) → IsMap cmp (xs ++ (x, e) ∷ ys) → cmp k x ≢ Greater → NoEqual cmp k ys
     none-after k xs x e ys a ng = by (cmp k x) refl ng
       where
         rest : IsMap cmp ((x, e) ∷ ys)
-        rest = map-rest xs ((x, e) ∷ ys) a
+        rest = map-rest cmp xs ((x, e) ∷ ys) a
 
         by : (q : Ordering) → cmp k x ≡ q → q ≢ Greater → NoEqual cmp k ys
         by Less q n = no_equal-above k ys (above-more k x ys (less-upto cmp k x q) rest.0)

@@ -4,15 +4,16 @@ use Rattle.std.proofs.lemmas.Bool.{eqb-true, eqb-false}
 use Rattle.std.specs.Cmp.{IsTotalOrder}
 use Rattle.std.specs.declared.cmp.Ordering.{Ordering}
 use Rattle.key_order.specs.Order.{Same}
-use Rattle.merkle_search_tree.specs.Tree.{Tree, page, high, node, Held, nothing, below}
+use Rattle.merkle_search_tree.specs.Tree.{Tree, page, node, Held, below}
 use Rattle.merkle_search_tree.specs.Page.{pairs, row_pairs, held_pairs}
 use Rattle.merkle_search_tree.specs.Canonical.{HasNode, IsRow, IsGap, IsCanonicalRoot, IsTreeOf, SamePages}
 use Rattle.key_order.specs.Map.{SameMap}
 use Rattle.key_order.proofs.SameMaps.{same_map-own, same_across, same_map-back}
-use Rattle.merkle_search_tree.specs.TreeOf.{any_at, row_of, gap_of, root_of, tree_of}
+use Rattle.merkle_search_tree.specs.TreeOf.{any_at, row_of, gap_of, tree_of}
 use Rattle.merkle_search_tree.proofs.Same.{same-root, same-back}
 use Rattle.merkle_search_tree.proofs.SameRanges.{same-pairs}
 use Rattle.merkle_search_tree.proofs.Unique.{Under, Under-append, unique_root}
+use Rattle.merkle_search_tree.proofs.Roots.{root-pairs, root-canonical}
 
 -- a level below n + 1 that is not n is below n
 not_at : (k n : ℕ) → k < suc n → (k == n) ≡ false → k < n
@@ -76,22 +77,13 @@ module _ {K D : Type 0} (lev : K → ℕ) where
       by true e a b = (omega arith, row_of-node (gap_of lev n) n n [] ps e, a)
       by false e a b = b (none_at n ps e u)
 
-  root_of-pairs : (h : Held K D) → pairs (root_of h) ≡ held_pairs h
-  root_of-pairs nothing = refl
-  root_of-pairs (below t) = refl
-
-  root_of-canonical : (m : ℕ) (h : Held K D) → IsGap lev m h → IsCanonicalRoot lev (root_of h)
-  root_of-canonical m nothing g = refl
-  root_of-canonical m (below (page l c (high h))) g = absurd g.1
-  root_of-canonical m (below (page l c (node h k d r))) g = g.2
-
   pub tree_of-pairs : (ps : List (K × D)) → Under lev 256 ps → pairs (tree_of lev ps) ≡ ps
   unfolding tree_of
-  tree_of-pairs ps u = root_of-pairs (gap_of lev 256 ps) ∙ gap_of-pairs 256 ps u
+  tree_of-pairs ps u = root-pairs (gap_of lev 256 ps) ∙ gap_of-pairs 256 ps u
 
   pub tree_of-canonical : (ps : List (K × D)) → Under lev 256 ps → IsCanonicalRoot lev (tree_of lev ps)
   unfolding tree_of
-  tree_of-canonical ps u = root_of-canonical 256 (gap_of lev 256 ps) (gap_of-canonical 256 256 (omega arith) ps u)
+  tree_of-canonical ps u = root-canonical lev 256 (gap_of lev 256 ps) (gap_of-canonical 256 256 (omega arith) ps u)
 
 module _ {K D : Type 0} (lev : K → ℕ) (low : (k : K) → lev k < 256) (cmp : K → K → Ordering) (respects : (a b : K) → Same cmp a b → lev a ≡ lev b) where
   all_under : (ps : List (K × D)) → Under lev 256 ps

@@ -1,16 +1,13 @@
 -- Equality of pages and nodes has the laws that the equality of keys has.
-use Rattle.std.specs.Prelude.{ℕ, Option, List, Bool, true, false, ◌&&◌}
+use Rattle.std.specs.Prelude.{ℕ, Option, List, Bool, true, ◌&&◌}
 use Rattle.std.specs.Cmp.{IsPartialEquivalence, IsEquivalence, nat_eq_equiv, partial_equiv_from_equiv, equiv}
 use Rattle.std.proofs.Common.{◌≡◌, refl, ◌∙◌}
+use Rattle.std.proofs.lemmas.Bool.{and_parts}
 use Rattle.merkle_search_tree.specs.Tree.{Tree, page, Row, high, node, Held, nothing, below}
 use Rattle.merkle_search_tree.specs.Equal.{tree_eq, row_eq, held_eq, node_eq}
 
-both_by : (a b : Bool) → a && b ≡ true → (a ≡ true) × (b ≡ true)
-both_by true b p = (refl, p)
-both_by false b p = absurd (cc)
-
 both : {a b : Bool} → a && b ≡ true → (a ≡ true) × (b ≡ true)
-both {a} {b} p = both_by a b p
+both {a} {b} p = and_parts a b p
 
 join : {a b : Bool} → a ≡ true → b ≡ true → a && b ≡ true
 join p q = λ i. p i && q i

@@ -1,5 +1,6 @@
 -- The map of a tree by the bytes of its keys, beside its map by the keys themselves.
 use Rattle.std.proofs.Common.{◌≡◌, ℕ, Bool, true, false, cond, not, ◌||◌, List, [], ◌∷◌, map, refl, sym, ap, subst, ◌∙◌, Some, None, Equal, rules}
+use Rattle.std.proofs.lemmas.Bool.{false_from_ne_true, true_from_ne_false}
 use Rattle.std.specs.Global.{Vec}
 use Rattle.std.specs.List.{AllZip, each_same}
 use Rattle.std.specs.Ordering.{is_eq, match_ordering}
@@ -40,21 +41,13 @@ pub rows_have : (m : List ByteRow) (k : Vec ℕ) → has_key key_cmp m k ≡ has
 rows_have [] k = refl
 rows_have (r ∷ rs) k = ap (λ b. is_eq (key_cmp k r.0) || b) (rows_have rs k)
 
-is_false : (b : Bool) → (b ≡ true → ⊥) → b ≡ false
-is_false true f = absurd (f refl)
-is_false false f = refl
-
-is_true : (b : Bool) → (b ≡ false → ⊥) → b ≡ true
-is_true true f = refl
-is_true false f = absurd (f refl)
-
 -- a key without an entry isn't there, and one with an entry is
 pub absent : (m : List ByteRow) (k : Vec ℕ) → entry key_cmp m k ≡ None → false ≡ has_key bytes_cmp (map by_bytes m) k.items
-absent m k none = sym (is_false (has_key key_cmp m k) (λ there. entry-there key_cmp k m there none)) ∙ rows_have m k
+absent m k none = sym (false_from_ne_true (has_key key_cmp m k) (λ there. entry-there key_cmp k m there none)) ∙ rows_have m k
 
 pub present : (m : List ByteRow) (k : Vec ℕ) (found : ByteRow) → entry key_cmp m k ≡ Some found → true ≡ has_key bytes_cmp (map by_bytes m) k.items
 present m k found some =
-    sym (is_true (has_key key_cmp m k) (λ no. subst IsPresent (sym some ∙ entry-absent key_cmp k m no) tt)) ∙ rows_have m k
+    sym (true_from_ne_false (has_key key_cmp m k) (λ no. subst IsPresent (sym some ∙ entry-absent key_cmp k m no) tt)) ∙ rows_have m k
 
 bytes_order : IsTotalOrder bytes_cmp
 bytes_order = search (comparing, rules)

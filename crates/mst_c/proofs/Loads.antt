@@ -9,6 +9,7 @@ use Rattle.std.specs.declared.cmp.Ordering.{Ordering}
 use Rattle.std.specs.declared.vec.IntoIter.{IntoIter}
 use Rattle.key_order.specs.Map.{IsMap}
 use Rattle.key_order.specs.Order.{Below}
+use Rattle.key_order.proofs.Parts.{map-first}
 use Rattle.merkle_search_tree.specs.Loading.{LoadFails, digests}
 use Rattle.merkle_search_tree.specs.declared.load.LoadRefused.{LoadRefused}
 use Rattle.merkle_search_tree.specs.declared.load.LoadRefused.TheVariants.{NotAscending}
@@ -42,16 +43,6 @@ module _ (h : List ℕ → List ℕ) (pairs : List (Vec ℕ × List ℕ)) (rows 
   pairs_ascend a = map_from key_cmp bytes_cmp by_bytes (λ r s. λ i. key_cmp r.0 s.0) pairs
       (subst (IsMap bytes_cmp) (sym e) (map_to bytes_cmp bytes_cmp (λ r. (r.0, h r.1)) (λ r s. λ i. bytes_cmp r.0 s.0) rows a))
 
--- what is in front of a list that ascends ascends
-module _ {K X : Type 0} (cmp : K → K → Ordering) where
-  all_in_front : (P : K × X → Type 0) (xs ys : List (K × X)) → AllByRecursion P (xs ++ ys) → AllByRecursion P xs
-  all_in_front P [] ys a = tt
-  all_in_front P (x ∷ xs) ys a = (a.0, all_in_front P xs ys a.1)
-
-  pub front_ascends : (xs ys : List (K × X)) → IsMap cmp (xs ++ ys) → IsMap cmp xs
-  front_ascends [] ys a = tt
-  front_ascends (x ∷ xs) ys a = (all_in_front (λ s. Below cmp x.0 s.0) xs ys a.0, front_ascends xs ys a.1)
-
 -- what came of a vector is in front of what is left of it
 pub came : {X A : Type 0} (s t : IntoIter X A) (xs : List X) → Yields takes s xs t → s.rest.items ≡ xs ++ t.rest.items
 came s t [] y = ap (λ it. it.rest.items) y
@@ -68,4 +59,4 @@ module _ {A : Type 0} (starts : IntoIter (Vec ℕ × List ℕ) A → Type 0) (pa
       let begins = fails.2 in
       let seen = fails.0 ++ fails.1 ∷ [] in
       let front = sym (whole begins.0 begins.2) ∙ came begins.0 begins.1 seen begins.3 in
-      fails.3.1 fails.1.1 (front_ascends key_cmp seen begins.1.rest.items (subst (IsMap key_cmp) front ascends))
+      fails.3.1 fails.1.1 (map-first key_cmp seen begins.1.rest.items (subst (IsMap key_cmp) front ascends))

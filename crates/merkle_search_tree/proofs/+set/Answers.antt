@@ -1,4 +1,4 @@
-use Rattle.std.proofs.Common.{◌≡◌, slice_set, true, None, arith, ap, sym, ◌∙◌, rules}
+use Rattle.std.proofs.Common.{◌≡◌, slice_set, None, arith, ap, sym, ◌∙◌, rules}
 use Rattle.merkle_search_tree.specs.Tree.{page, Node, row, held_of}
 use Rattle.merkle_search_tree.specs.Upsert.{place, level_order, held_set, held_finds, tree_set, lifted}
 use Rattle.merkle_search_tree.proofs.Parts.{lt_back, lt_changed, on_err_always, on_ok_map}

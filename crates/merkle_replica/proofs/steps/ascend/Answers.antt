@@ -1,6 +1,6 @@
 use Rattle.std.proofs.Common.{◌≡◌, suc, ◌-◌, false, get_or, refl, sym, subst, ◌∙◌, arith}
+use Rattle.std.proofs.lemmas.Bool.{false≢true}
 use Rattle.key_order.specs.Order.{Below, below}
-use Rattle.key_order.proofs.Bools.{false_not_true}
 use Rattle.merkle_replica.proofs.Ranging.{next_further, beside, map_from}
 use Rattle.merkle_replica.proofs.Seeks.{rows_rise}
 use Rattle.merkle_replica.proofs.steps.ascend.Goals as goal
@@ -13,7 +13,7 @@ returns-then-not-is_below g c =
     let y = c.index-rows-i-in-testing.result in
     let b : below g.K.Ord.cmp (get_or rows (i - 1) x).0 (get_or rows i y).0 ≡ false =
     subst (λ (p : g.row.K.Denot × g.row.V.Denot). below g.K.Ord.cmp p.0 (get_or rows i y).0 ≡ false) c.index-rows-i.is (subst (λ (q : g.row.K.Denot × g.row.V.Denot). below g.K.Ord.cmp x.0 q.0 ≡ false) c.index-rows-i-in-testing.is (sym c.is_below.ensures ∙ c.if-not-is_below.true)) in
-    (λ t. absurd (false_not_true t), λ m. absurd (false_not_true (sym b ∙ rows_rise g.K.Ord.cmp g.met.K.Ord.total rows (i - 1) i c.index-rows-i.result c.index-rows-i-in-testing.result m (omega (arith, c.testing.auto.i)) (omega arith))))
+    (λ t. absurd (false≢true t), λ m. absurd (false≢true (sym b ∙ rows_rise g.K.Ord.cmp g.met.K.Ord.total rows (i - 1) i c.index-rows-i.result c.index-rows-i-in-testing.result m (omega (arith, c.testing.auto.i)) (omega arith))))
 
 pub testing-preserved : goal.testing-preserved
 testing-preserved g c =

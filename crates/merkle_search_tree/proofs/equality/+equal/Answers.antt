@@ -1,9 +1,10 @@
 use Rattle.std.proofs.Common.{rules, ◌≡◌, ◌<◌, ◌≤◌, length, Bool, true, false, not, refl, sym, ◌∙◌, arith, nat_eq}
+use Rattle.std.proofs.lemmas.Bool.{false_from_ne_true}
 use Rattle.std.specs.Option.{option_eq}
 use Rattle.std.specs.Cmp.Lexicographic.{pointwise}
 use Rattle.merkle_search_tree.specs.Tree.{held_of}
 use Rattle.merkle_search_tree.specs.Equal.{tree_eq, node_eq}
-use Rattle.merkle_search_tree.proofs.Equals.{nodes_eq, nodes_eq-length, nodes_eq-differ, nodes_eq-end, tree_eq-from, tree_eq-not, both_false}
+use Rattle.merkle_search_tree.proofs.Equals.{nodes_eq, nodes_eq-length, nodes_eq-differ, nodes_eq-end, tree_eq-from, tree_eq-not}
 use Rattle.merkle_search_tree.proofs.equality.+equal.Goals as goal
 
 pub same_page-returns-then-len : goal.same_page-returns-then-len
@@ -12,7 +13,7 @@ same_page-returns-then-len g t c =
     let o = c.b.inside in
     let C = option_eq (pointwise nat_eq) in
     let no : nodes_eq C g.K.PartialEq.eq g.D.PartialEq.eq s.nodes.items o.nodes.items ≡ false =
-    both_false _ (λ e. let l = nodes_eq-length C g.K.PartialEq.eq g.D.PartialEq.eq s.nodes.items o.nodes.items e in c.if-len.true (omega (arith, l, c.len.ensures, c.len-2.ensures, s.nodes.ok.0, o.nodes.ok.0))) in
+    false_from_ne_true _ (λ e. let l = nodes_eq-length C g.K.PartialEq.eq g.D.PartialEq.eq s.nodes.items o.nodes.items e in c.if-len.true (omega (arith, l, c.len.ensures, c.len-2.ensures, s.nodes.ok.0, o.nodes.ok.0))) in
     sym (tree_eq-not C g.K.PartialEq.eq g.D.PartialEq.eq s.level o.level s.tree_hash o.tree_hash s.nodes.items o.nodes.items (held_of s.high_page) (held_of o.high_page) no)
     ∙ (λ i. tree_eq C g.K.PartialEq.eq g.D.PartialEq.eq (c.a.view_is i) (c.b.view_is i))
 

@@ -1,4 +1,4 @@
-use Rattle.key_order.proofs.Maps.{is_equal}
+use Rattle.key_order.proofs.Bools.{is_equal}
 use Rattle.merkle_search_tree.proofs.Sound.{same_bytes}
 use Rattle.std.proofs.Common.{sym, ◌∙◌}
 use Rattle.merkle_search_tree.proofs.Faithful.{faithful_pages, roots_tell}
