@@ -17,9 +17,8 @@ returns-in_err-remove_from_root-clause-succeeds_absent g c =
     let s = c.self.inside in
     let cmp = g.K.Ord.cmp in
     let k = c.args.key.now in
-    let view : State g.row.K.Denot g.row.H.Denot = record { hasher = s.hasher; base = non_zero_u8_get s.level_base; format = s.page_format; root = s.root; root_hash = s.root_hash } in
     λ e.
-    let never : false ≡ true = c.in_err-remove_from_root.ensures.succeeds (remove-free g.K.Ord.cmp g.met.K.Ord.total g.H.Hasher.digest_of g.K.KeyBytes.bytes_of view c.self.invariant k (ap (λ (v : State g.row.K.Denot g.row.H.Denot). has_key cmp (map_of v) k) c.self.view_is ∙ e)) in
+    let never : false ≡ true = c.in_err-remove_from_root.ensures.succeeds (remove-free _ g.met.K.Ord.total _ _ _ c.self.invariant k (ap (λ (v : State g.row.K.Denot g.row.H.Denot). has_key cmp (map_of v) k) c.self.view_is ∙ e)) in
     absurd (cc)
 
 pub returns-in-None-clause-map : goal.returns-in-None-clause-map
@@ -27,9 +26,8 @@ returns-in-None-clause-map g c =
     let s = c.self.inside in
     let cmp = g.K.Ord.cmp in
     let k = c.args.key.now in
-    let view : State g.row.K.Denot g.row.H.Denot = record { hasher = s.hasher; base = non_zero_u8_get s.level_base; format = s.page_format; root = s.root; root_hash = s.root_hash } in
     let same : c.remove_from_root.new.self ≡ s.root = at_none _ _ _ c.in-None.is c.in_ok-remove_from_root.ensures.done in
-    let none = sym (remove-entry g.K.Ord.cmp g.met.K.Ord.total g.H.Hasher.digest_of g.K.KeyBytes.bytes_of view c.self.invariant k) ∙ sym c.in_ok-remove_from_root.ensures.found ∙ c.in-None.is in
+    let none = sym (remove-entry _ g.met.K.Ord.total _ _ _ c.self.invariant k) ∙ sym c.in_ok-remove_from_root.ensures.found ∙ c.in-None.is in
     ap pairs same ∙ sym (del-absent cmp k (pairs s.root) none) ∙ ap (λ (v : State g.row.K.Denot g.row.H.Denot). del cmp (map_of v) k) c.self.view_is
 
 pub returns-in-None-clause-found : goal.returns-in-None-clause-found
@@ -37,8 +35,7 @@ returns-in-None-clause-found g c =
     let s = c.self.inside in
     let cmp = g.K.Ord.cmp in
     let k = c.args.key.now in
-    let view : State g.row.K.Denot g.row.H.Denot = record { hasher = s.hasher; base = non_zero_u8_get s.level_base; format = s.page_format; root = s.root; root_hash = s.root_hash } in
-    sym c.in-None.is ∙ c.in_ok-remove_from_root.ensures.found ∙ remove-entry g.K.Ord.cmp g.met.K.Ord.total g.H.Hasher.digest_of g.K.KeyBytes.bytes_of view c.self.invariant k ∙ ap (λ (v : State g.row.K.Denot g.row.H.Denot). entry cmp (map_of v) k) c.self.view_is
+    sym c.in-None.is ∙ c.in_ok-remove_from_root.ensures.found ∙ remove-entry _ g.met.K.Ord.total _ _ _ c.self.invariant k ∙ ap (λ (v : State g.row.K.Denot g.row.H.Denot). entry cmp (map_of v) k) c.self.view_is
 
 pub returns-in-None-clause-few_more : goal.returns-in-None-clause-few_more
 returns-in-None-clause-few_more g c =
@@ -52,10 +49,9 @@ returns-in-None-clause-few g c =
     let s = c.self.inside in
     let cmp = g.K.Ord.cmp in
     let k = c.args.key.now in
-    let view : State g.row.K.Denot g.row.H.Denot = record { hasher = s.hasher; base = non_zero_u8_get s.level_base; format = s.page_format; root = s.root; root_hash = s.root_hash } in
     let same : c.remove_from_root.new.self ≡ s.root = at_none _ _ _ c.in-None.is c.in_ok-remove_from_root.ensures.done in
     subst (λ (v : State g.row.K.Denot g.row.H.Denot). v.root_hash ≢ None → missing c.remove_from_root.new.self ≤ level v.root + 1) c.self.view_is
-    (λ ne. subst (λ (t : Tree g.row.K.Denot (List ℕ)). missing t ≤ level s.root + 1) (sym same) (omega (arith, hashed-lacks g.K.Ord.cmp g.met.K.Ord.total g.H.Hasher.digest_of g.K.KeyBytes.bytes_of view c.self.invariant k ne)))
+    (λ ne. subst (λ (t : Tree g.row.K.Denot (List ℕ)). missing t ≤ level s.root + 1) (sym same) (omega (arith, hashed-lacks _ g.met.K.Ord.total _ _ _ c.self.invariant k ne)))
 
 pub invariant_of-self-2 : goal.invariant_of-self-2
 invariant_of-self-2 g c =
@@ -64,44 +60,40 @@ invariant_of-self-2 g c =
     let k = c.args.key.now in
     let view : State g.row.K.Denot g.row.H.Denot = record { hasher = s.hasher; base = non_zero_u8_get s.level_base; format = s.page_format; root = s.root; root_hash = s.root_hash } in
     let done : c.remove_from_root.new.self ≡ root_del cmp k s.root = at_some _ _ _ c.in-Some.entry c.in-Some.is c.in_ok-remove_from_root.ensures.done in
-    subst (λ (t : Tree g.row.K.Denot (List ℕ)). IsSound cmp g.H.Hasher.digest_of g.K.KeyBytes.bytes_of (record view { root = t; root_hash = None })) (sym done) (remove-sound g.K.Ord.cmp g.met.K.Ord.total g.H.Hasher.digest_of g.K.KeyBytes.bytes_of view c.self.invariant k)
+    subst (λ (t : Tree g.row.K.Denot (List ℕ)). IsSound cmp g.H.Hasher.digest_of g.K.KeyBytes.bytes_of (record view { root = t; root_hash = None })) (sym done) (remove-sound _ g.met.K.Ord.total _ _ _ c.self.invariant k)
 
 pub returns-clause-map : goal.returns-clause-map
 returns-clause-map g c =
     let s = c.self.inside in
     let cmp = g.K.Ord.cmp in
     let k = c.args.key.now in
-    let view : State g.row.K.Denot g.row.H.Denot = record { hasher = s.hasher; base = non_zero_u8_get s.level_base; format = s.page_format; root = s.root; root_hash = s.root_hash } in
     let done : c.remove_from_root.new.self ≡ root_del cmp k s.root = at_some _ _ _ c.in-Some.entry c.in-Some.is c.in_ok-remove_from_root.ensures.done in
-    ap pairs done ∙ remove-pairs g.K.Ord.cmp g.met.K.Ord.total g.H.Hasher.digest_of g.K.KeyBytes.bytes_of view c.self.invariant k ∙ ap (λ (v : State g.row.K.Denot g.row.H.Denot). del cmp (map_of v) k) c.self.view_is
+    ap pairs done ∙ remove-pairs _ g.met.K.Ord.total _ _ _ c.self.invariant k ∙ ap (λ (v : State g.row.K.Denot g.row.H.Denot). del cmp (map_of v) k) c.self.view_is
 
 pub returns-clause-found : goal.returns-clause-found
 returns-clause-found g c =
     let s = c.self.inside in
     let cmp = g.K.Ord.cmp in
     let k = c.args.key.now in
-    let view : State g.row.K.Denot g.row.H.Denot = record { hasher = s.hasher; base = non_zero_u8_get s.level_base; format = s.page_format; root = s.root; root_hash = s.root_hash } in
-    sym c.in-Some.is ∙ c.in_ok-remove_from_root.ensures.found ∙ remove-entry g.K.Ord.cmp g.met.K.Ord.total g.H.Hasher.digest_of g.K.KeyBytes.bytes_of view c.self.invariant k ∙ ap (λ (v : State g.row.K.Denot g.row.H.Denot). entry cmp (map_of v) k) c.self.view_is
+    sym c.in-Some.is ∙ c.in_ok-remove_from_root.ensures.found ∙ remove-entry _ g.met.K.Ord.total _ _ _ c.self.invariant k ∙ ap (λ (v : State g.row.K.Denot g.row.H.Denot). entry cmp (map_of v) k) c.self.view_is
 
 pub returns-clause-few_more : goal.returns-clause-few_more
 returns-clause-few_more g c =
     let s = c.self.inside in
     let cmp = g.K.Ord.cmp in
     let k = c.args.key.now in
-    let view : State g.row.K.Denot g.row.H.Denot = record { hasher = s.hasher; base = non_zero_u8_get s.level_base; format = s.page_format; root = s.root; root_hash = s.root_hash } in
     let done : c.remove_from_root.new.self ≡ root_del cmp k s.root = at_some _ _ _ c.in-Some.entry c.in-Some.is c.in_ok-remove_from_root.ensures.done in
     subst (λ (v : State g.row.K.Denot g.row.H.Denot). missing c.remove_from_root.new.self ≤ missing v.root + (level v.root + 1)) c.self.view_is
-    (subst (λ (t : Tree g.row.K.Denot (List ℕ)). missing t ≤ missing s.root + (level s.root + 1)) (sym done) (remove-few g.K.Ord.cmp g.met.K.Ord.total g.H.Hasher.digest_of g.K.KeyBytes.bytes_of view c.self.invariant k))
+    (subst (λ (t : Tree g.row.K.Denot (List ℕ)). missing t ≤ missing s.root + (level s.root + 1)) (sym done) (remove-few _ g.met.K.Ord.total _ _ _ c.self.invariant k))
 
 pub returns-clause-few : goal.returns-clause-few
 returns-clause-few g c =
     let s = c.self.inside in
     let cmp = g.K.Ord.cmp in
     let k = c.args.key.now in
-    let view : State g.row.K.Denot g.row.H.Denot = record { hasher = s.hasher; base = non_zero_u8_get s.level_base; format = s.page_format; root = s.root; root_hash = s.root_hash } in
     let done : c.remove_from_root.new.self ≡ root_del cmp k s.root = at_some _ _ _ c.in-Some.entry c.in-Some.is c.in_ok-remove_from_root.ensures.done in
     subst (λ (v : State g.row.K.Denot g.row.H.Denot). v.root_hash ≢ None → missing c.remove_from_root.new.self ≤ level v.root + 1) c.self.view_is
-    (λ ne. subst (λ (t : Tree g.row.K.Denot (List ℕ)). missing t ≤ level s.root + 1) (sym done) (omega (arith, remove-few g.K.Ord.cmp g.met.K.Ord.total g.H.Hasher.digest_of g.K.KeyBytes.bytes_of view c.self.invariant k, hashed-lacks g.K.Ord.cmp g.met.K.Ord.total g.H.Hasher.digest_of g.K.KeyBytes.bytes_of view c.self.invariant k ne)))
+    (λ ne. subst (λ (t : Tree g.row.K.Denot (List ℕ)). missing t ≤ level s.root + 1) (sym done) (omega (arith, remove-few _ g.met.K.Ord.total _ _ _ c.self.invariant k, hashed-lacks _ g.met.K.Ord.total _ _ _ c.self.invariant k ne)))
 
 pub remove_from_root-requires : goal.remove_from_root-requires
 remove_from_root-requires g c = record { ascending = c.self.invariant.ascending }

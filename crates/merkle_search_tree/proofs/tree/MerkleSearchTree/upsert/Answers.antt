@@ -14,11 +14,10 @@ use Rattle.merkle_search_tree.proofs.tree.MerkleSearchTree.upsert.Goals as goal
 pub returns-in_err-set-clause-succeeds : goal.returns-in_err-set-clause-succeeds
 returns-in_err-set-clause-succeeds g c =
     let s = c.self.inside in
-    let view : State g.row.K.Denot g.row.H.Denot = record { hasher = s.hasher; base = non_zero_u8_get s.level_base; format = s.page_format; root = s.root; root_hash = s.root_hash } in
     let at = sym (c.level-key_level.ensures ∙ ap (λ h. level_of h (non_zero_u8_get s.level_base)) c.hash-2.ensures) in
     λ e.
     let there : has_key g.K.Ord.cmp (pairs s.root) c.args.key ≡ true = ap (λ (v : State g.row.K.Denot g.row.H.Denot). has_key g.K.Ord.cmp (map_of v) c.args.key) c.self.view_is ∙ e in
-    let finds = upsert-finds g.K.Ord.cmp g.met.K.Ord.total g.K.PartialEq.eq g.met.K.Ord.matches_eq g.H.Hasher-1.digest_of g.met.H.Hasher-1.respects_eq g.K.KeyBytes.bytes_of view c.self.invariant _ c.args.key c.new-digest.result at there in
+    let finds = upsert-finds _ g.met.K.Ord.total _ g.met.K.Ord.matches_eq _ g.met.H.Hasher-1.respects_eq _ _ c.self.invariant _ c.args.key c.new-digest.result at there in
     let never : true ≡ false = sym finds ∙ c.in_err-set.ensures.absent in
     absurd (cc)
 
@@ -28,32 +27,29 @@ invariant_of-self-2 g c =
     let view : State g.row.K.Denot g.row.H.Denot = record { hasher = s.hasher; base = non_zero_u8_get s.level_base; format = s.page_format; root = s.root; root_hash = s.root_hash } in
     let at = sym (c.level-key_level.ensures ∙ ap (λ h. level_of h (non_zero_u8_get s.level_base)) c.hash-2.ensures) in
     subst (λ (t : Tree g.row.K.Denot (List ℕ)). IsSound g.K.Ord.cmp g.H.Hasher-1.digest_of g.K.KeyBytes.bytes_of (record view { root = t; root_hash = None })) (sym c.in_ok-set.ensures.done)
-    (upsert-sound g.K.Ord.cmp g.met.K.Ord.total g.K.PartialEq.eq g.met.K.Ord.matches_eq g.H.Hasher-1.digest_of g.met.H.Hasher-1.respects_eq g.K.KeyBytes.bytes_of view c.self.invariant _ c.args.key c.new-digest.result at)
+    (upsert-sound _ g.met.K.Ord.total _ g.met.K.Ord.matches_eq _ g.met.H.Hasher-1.respects_eq _ _ c.self.invariant _ c.args.key c.new-digest.result at)
 
 pub returns-clause-set : goal.returns-clause-set
 returns-clause-set g c =
     let s = c.self.inside in
-    let view : State g.row.K.Denot g.row.H.Denot = record { hasher = s.hasher; base = non_zero_u8_get s.level_base; format = s.page_format; root = s.root; root_hash = s.root_hash } in
     let at = sym (c.level-key_level.ensures ∙ ap (λ h. level_of h (non_zero_u8_get s.level_base)) c.hash-2.ensures) in
     ap pairs c.in_ok-set.ensures.done
-    ∙ upsert-pairs g.K.Ord.cmp g.met.K.Ord.total g.K.PartialEq.eq g.met.K.Ord.matches_eq g.H.Hasher-1.digest_of g.met.H.Hasher-1.respects_eq g.K.KeyBytes.bytes_of view c.self.invariant _ c.args.key c.new-digest.result at
+    ∙ upsert-pairs _ g.met.K.Ord.total _ g.met.K.Ord.matches_eq _ g.met.H.Hasher-1.respects_eq _ _ c.self.invariant _ c.args.key c.new-digest.result at
     ∙ ap (set g.K.Ord.cmp (pairs s.root) c.args.key) (c.new-digest.ensures ∙ c.hash.ensures)
     ∙ ap (λ (v : State g.row.K.Denot g.row.H.Denot). set g.K.Ord.cmp (map_of v) c.args.key (g.H.Hasher-2.digest_of v.hasher c.args.value.now)) c.self.view_is
 
 pub returns-clause-dropped : goal.returns-clause-dropped
 returns-clause-dropped g c =
     let s = c.self.inside in
-    let view : State g.row.K.Denot g.row.H.Denot = record { hasher = s.hasher; base = non_zero_u8_get s.level_base; format = s.page_format; root = s.root; root_hash = s.root_hash } in
     let at = sym (c.level-key_level.ensures ∙ ap (λ h. level_of h (non_zero_u8_get s.level_base)) c.hash-2.ensures) in
     subst (KeyUncached g.K.Ord.cmp c.args.key) (sym c.in_ok-set.ensures.done)
-    (upsert-dropped g.K.Ord.cmp g.met.K.Ord.total g.K.PartialEq.eq g.met.K.Ord.matches_eq g.H.Hasher-1.digest_of g.met.H.Hasher-1.respects_eq g.K.KeyBytes.bytes_of view c.self.invariant _ c.args.key c.new-digest.result at)
+    (upsert-dropped _ g.met.K.Ord.total _ g.met.K.Ord.matches_eq _ g.met.H.Hasher-1.respects_eq _ _ c.self.invariant _ c.args.key c.new-digest.result at)
 
 pub returns-clause-few_more : goal.returns-clause-few_more
 returns-clause-few_more g c =
     let s = c.self.inside in
-    let view : State g.row.K.Denot g.row.H.Denot = record { hasher = s.hasher; base = non_zero_u8_get s.level_base; format = s.page_format; root = s.root; root_hash = s.root_hash } in
     let lev = c.level-key_level.ensures ∙ ap (λ h. level_of h (non_zero_u8_get s.level_base)) c.hash-2.ensures in
-    let few = upsert-few g.K.Ord.cmp g.met.K.Ord.total g.K.PartialEq.eq g.met.K.Ord.matches_eq g.H.Hasher-1.digest_of g.met.H.Hasher-1.respects_eq g.K.KeyBytes.bytes_of view c.self.invariant _ c.args.key c.new-digest.result (sym lev) in
+    let few = upsert-few _ g.met.K.Ord.total _ g.met.K.Ord.matches_eq _ g.met.H.Hasher-1.respects_eq _ _ c.self.invariant _ c.args.key c.new-digest.result (sym lev) in
     subst (λ (v : State g.row.K.Denot g.row.H.Denot). missing c.set.new.self ≤ missing v.root + (level c.set.new.self + level_of (g.H.Hasher-1.digest_of v.hasher c.args.key) v.base + 1)) c.self.view_is
     (subst (λ (t : Tree g.row.K.Denot (List ℕ)). missing t ≤ missing s.root + (level t + level_of (g.H.Hasher-1.digest_of s.hasher c.args.key) (non_zero_u8_get s.level_base) + 1)) (sym c.in_ok-set.ensures.done)
     (subst (λ (m : ℕ). missing (tree_set g.K.Ord.cmp c.level-key_level.result c.args.key c.new-digest.result s.root) ≤ missing s.root + (level (tree_set g.K.Ord.cmp c.level-key_level.result c.args.key c.new-digest.result s.root) + m + 1)) lev few))
@@ -61,9 +57,8 @@ returns-clause-few_more g c =
 pub returns-clause-few : goal.returns-clause-few
 returns-clause-few g c =
     let s = c.self.inside in
-    let view : State g.row.K.Denot g.row.H.Denot = record { hasher = s.hasher; base = non_zero_u8_get s.level_base; format = s.page_format; root = s.root; root_hash = s.root_hash } in
     let lev = c.level-key_level.ensures ∙ ap (λ h. level_of h (non_zero_u8_get s.level_base)) c.hash-2.ensures in
-    let few = upsert-few g.K.Ord.cmp g.met.K.Ord.total g.K.PartialEq.eq g.met.K.Ord.matches_eq g.H.Hasher-1.digest_of g.met.H.Hasher-1.respects_eq g.K.KeyBytes.bytes_of view c.self.invariant _ c.args.key c.new-digest.result (sym lev) in
+    let few = upsert-few _ g.met.K.Ord.total _ g.met.K.Ord.matches_eq _ g.met.H.Hasher-1.respects_eq _ _ c.self.invariant _ c.args.key c.new-digest.result (sym lev) in
     let few_more = subst (λ (v : State g.row.K.Denot g.row.H.Denot). missing c.set.new.self ≤ missing v.root + (level c.set.new.self + level_of (g.H.Hasher-1.digest_of v.hasher c.args.key) v.base + 1)) c.self.view_is
     (subst (λ (t : Tree g.row.K.Denot (List ℕ)). missing t ≤ missing s.root + (level t + level_of (g.H.Hasher-1.digest_of s.hasher c.args.key) (non_zero_u8_get s.level_base) + 1)) (sym c.in_ok-set.ensures.done)
     (subst (λ (m : ℕ). missing (tree_set g.K.Ord.cmp c.level-key_level.result c.args.key c.new-digest.result s.root) ≤ missing s.root + (level (tree_set g.K.Ord.cmp c.level-key_level.result c.args.key c.new-digest.result s.root) + m + 1)) lev few)) in
