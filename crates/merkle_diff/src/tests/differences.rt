@@ -1,7 +1,7 @@
 //! `diff`, by answers that were worked out by hand and by those of the Rust crate.
 use super::rust_answers::RUST_ANSWERS;
 use super::texts::{Bounds, Entry, bounds_of, difference, entries, page_ranges, ranges};
-use crate::{PageRange, diff, diff_slices};
+use crate::{PageRange, diff, diff_lists, diff_slices};
 use merkle_digest::PageDigest;
 use std::alloc::{AllocError, Global};
 use std::process::Abort;
@@ -24,6 +24,12 @@ const WORKED_ANSWERS: &str = "\
 0-10:7 5-6:2 3-4:4 | 0-10:1 5-6:2 8-9:3 | 0-5 6-10
 ";
 
+/// What `diff_lists` answers.
+fn listed(alloc: Global, local: &[Entry], peer: &[Entry]) -> Result<Vec<Bounds>, AllocError> {
+    let found = diff_lists(alloc, page_ranges(alloc, local)?, page_ranges(alloc, peer)?)?;
+    bounds_of(alloc, &found)
+}
+
 /// What `diff_slices` answers.
 fn sliced(alloc: Global, local: &[Entry], peer: &[Entry]) -> Result<Vec<Bounds>, AllocError> {
     let local = page_ranges(alloc, local)?;
@@ -41,6 +47,12 @@ fn answers_as_told(rt: &impl Abort, alloc: Global, text: &str) -> Result<(), Fai
         let answer = ranges(alloc, answer)?;
         let found = difference(alloc, &local, &peer)?;
         assert_eq!(rt; found.as_slice(), answer.as_slice(), "at {line}");
+        let found = listed(alloc, &local, &peer)?;
+        assert_eq!(rt;
+            found.as_slice(),
+            answer.as_slice(),
+            "of vectors, at {line}"
+        );
         let found = sliced(alloc, &local, &peer)?;
         assert_eq!(rt; found.as_slice(), answer.as_slice(), "of slices, at {line}");
     }
