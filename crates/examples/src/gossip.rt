@@ -46,7 +46,7 @@ pub fn ranges_to_ask<
 }
 
 /// One of two replicas of equal maps, whose hashers give each key one digest, with one level base and page format, asks the other for
-/// nothing, and is never refused.
+/// nothing, and is never refused. Its condition on clones is that of [`Replica::ranges_to_ask`].
 ///
 /// # Errors
 ///

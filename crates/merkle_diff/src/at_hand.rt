@@ -12,7 +12,7 @@ use crate::page_range_snapshot::PageRangeSnapshot;
 use crate::slice_iter::SliceIter;
 use std::alloc::{AllocError, Global};
 
-/// The ranges of keys that `local` may ask of `peer`, two vectors, as [`diff`](crate::diff) answers them.
+/// The ranges of keys that `local` may ask of `peer`, two vectors, as [`diff`](crate::diff) answers them, and at its cost.
 ///
 /// # Errors
 ///
@@ -29,8 +29,8 @@ pub fn diff_lists<'p, K: Ord>(
     diff(alloc, local, peer)
 }
 
-/// The ranges of keys that `local` may ask of `peer`, two slices, as [`diff`](crate::diff) answers them. It copies one page range after
-/// the other, and takes no memory for that.
+/// The ranges of keys that `local` may ask of `peer`, two slices, as [`diff`](crate::diff) answers them, and at its cost. It copies one
+/// page range after the other, and takes no memory for that.
 ///
 /// # Errors
 ///
@@ -47,7 +47,8 @@ pub fn diff_slices<'p, K: Ord>(
     diff(alloc, SliceIter::new(local), SliceIter::new(peer))
 }
 
-/// The ranges of keys that the side of the snapshot `local` may ask of that of `peer`, as [`diff`](crate::diff) answers them.
+/// The ranges of keys that the side of the snapshot `local` may ask of that of `peer`, as [`diff`](crate::diff) answers them, and at its
+/// cost. It copies no key.
 ///
 /// # Errors
 ///

@@ -62,7 +62,7 @@ impl<'a, K: Ord> Clone for DiffRange<'a, K> {
 
 impl<'a, K: Ord> Copy for DiffRange<'a, K> {}
 
-// Ranges are equal where their bounds are.
+/// Ranges are equal where their bounds are.
 impl<'a, K: Ord> PartialEq for DiffRange<'a, K> {
     ghost use Rattle.merkle_diff.specs.DiffRange.{span};
 

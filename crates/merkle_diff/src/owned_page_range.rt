@@ -83,10 +83,10 @@ impl<K: Ord + Clone> OwnedPageRange<K> {
     ghost use Rattle.merkle_diff.specs.PageRange.{entry};
     ghost use Rattle.merkle_diff.specs.SameEntries.{SameEntry};
 
-    /// The range with clones of its keys. The allocator is not used: a key is cloned on its own.
+    /// The range with clones of its two keys. The allocator is not used: a key is cloned on its own.
     ///
-    /// Its condition on clones is proved by a lemma of `key_order::proofs::Clones`: `string_clone`, `vec_clone` or `array_clone` for texts,
-    /// vectors and arrays of bytes, `exact_clone` for what a clone gives back as it is.
+    /// Its condition on clones is proved by a lemma of `key_order::proofs::Clones`: `string_clone` or `str_clone` for texts,
+    /// `vec_clone` or `array_clone` for vectors and arrays of bytes, `exact_clone` for what a clone gives back as it is.
     ///
     /// # Errors
     ///
@@ -108,7 +108,7 @@ impl<K: Ord + Clone> OwnedPageRange<K> {
         })
     }
 
-    /// An equal range, with clones of the keys. The allocator is not used: a key is cloned on its own. Its condition on clones is that of
+    /// An equal range, with clones of its two keys. The allocator is not used: a key is cloned on its own. Its condition on clones is that of
     /// [`from_range`](Self::from_range).
     ///
     /// # Errors
@@ -124,7 +124,7 @@ impl<K: Ord + Clone> OwnedPageRange<K> {
     }
 }
 
-// Ranges are equal where their bounds and digests are.
+/// Ranges are equal where their bounds and digests are.
 impl<K: Ord> PartialEq for OwnedPageRange<K> {
     ghost use Rattle.merkle_diff.specs.OwnedPageRange.{owned_entry};
     ghost use Rattle.merkle_diff.specs.SameEntries.{same_entry};

@@ -99,7 +99,7 @@ impl<'a, K: Ord> Clone for PageRange<'a, K> {
     }
 }
 
-// Ranges are equal where their bounds and digests are.
+/// Ranges are equal where their bounds and digests are.
 impl<'a, K: Ord> PartialEq for PageRange<'a, K> {
     ghost use Rattle.merkle_diff.specs.PageRange.{entry};
 
@@ -116,7 +116,7 @@ impl<'a, K: Ord> Eq for PageRange<'a, K> {
     ghost laws = { Prim.search (comparing, rules) };
 }
 
-// A range prints as `(start, end)`.
+/// A range prints as `(start, end)`.
 impl<'a, K: Ord + fmt::Display> fmt::Display for PageRange<'a, K> {
     ghost use Rattle.merkle_diff.specs.PageRange.{entry};
 

@@ -78,10 +78,10 @@ impl<K: Ord + Drop> PageRangeSnapshot<K> {
 }
 
 impl<K: Ord + Clone> PageRangeSnapshot<K> {
-    /// The snapshot of `ranges`, in their order, with clones of the keys.
+    /// The snapshot of `ranges`, in their order, with clones of the keys, two a range.
     ///
-    /// Its condition on clones is proved by a lemma of `key_order::proofs::Clones`: `string_clone`, `vec_clone` or `array_clone` for texts,
-    /// vectors and arrays of bytes, `exact_clone` for what a clone gives back as it is.
+    /// Its condition on clones is proved by a lemma of `key_order::proofs::Clones`: `string_clone` or `str_clone` for texts,
+    /// `vec_clone` or `array_clone` for vectors and arrays of bytes, `exact_clone` for what a clone gives back as it is.
     ///
     /// # Errors
     ///
@@ -96,8 +96,8 @@ impl<K: Ord + Clone> PageRangeSnapshot<K> {
         PageRangeSnapshot::collect_ranges(alloc, ranges)
     }
 
-    /// The snapshot of the ranges that `iter` gives, in their order, with clones of the keys. The iterator has to end, and is
-    /// taken to its end unless memory is refused. Its condition on clones is that of [`from_ranges`](Self::from_ranges).
+    /// The snapshot of the ranges that `iter` gives, in their order, with clones of the keys, two a range. The iterator has to end, and
+    /// is taken to its end unless memory is refused. Its condition on clones is that of [`from_ranges`](Self::from_ranges).
     ///
     /// # Errors
     ///
@@ -119,7 +119,7 @@ impl<K: Ord + Clone> PageRangeSnapshot<K> {
         PageRangeSnapshot::from_owned(alloc, ranges)
     }
 
-    /// An equal snapshot, with clones of the keys. Its condition on clones is that of [`from_ranges`](Self::from_ranges).
+    /// An equal snapshot, with clones of the keys, two a range. Its condition on clones is that of [`from_ranges`](Self::from_ranges).
     ///
     /// # Errors
     ///
@@ -133,7 +133,7 @@ impl<K: Ord + Clone> PageRangeSnapshot<K> {
     }
 }
 
-// Snapshots are equal where they have as many ranges, and these are equal place by place.
+/// Snapshots are equal where they have as many ranges, and these are equal place by place.
 impl<K: Ord> PartialEq for PageRangeSnapshot<K> {
     ghost eq = { on snapshot_entries (same_entries K.eq ⟦<PageDigest as PartialEq>⟧.eq) };
 

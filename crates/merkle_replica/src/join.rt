@@ -13,8 +13,8 @@ use std::alloc::{AllocError, Global};
 /// let both = 3u64.join(alloc, &5)?; // 5
 /// ```
 ///
-/// A replica joins two values at each [`put`](crate::Replica::put) of a key that is there, and at each row of a pull whose key it
-/// has, so a join should cost about what a copy of the value does.
+/// A replica joins two values wherever a row comes whose key it has, by a [`put`](crate::Replica::put), as one of several, or in a pull,
+/// which joins each value with itself before that, for a copy. So a join should cost about what a copy of the value does.
 pub trait Join: Eq {
     /// The join of two values, up to equality.
     ghost join_of: { Self → Self → Self };

@@ -55,8 +55,8 @@ impl<
     /// differ. It hashes the pages of both trees that lack a digest, walks over the pages of both once, and copies the bounds of the
     /// ranges.
     ///
-    /// Its condition on clones is proved by a lemma of `key_order::proofs::Clones`: `string_clone`, `vec_clone` or `array_clone` for texts,
-    /// vectors and arrays of bytes, `exact_clone` for what a clone gives back as it is.
+    /// Its condition on clones is proved by a lemma of `key_order::proofs::Clones`: `string_clone` or `str_clone` for texts,
+    /// `vec_clone` or `array_clone` for vectors and arrays of bytes, `exact_clone` for what a clone gives back as it is.
     ///
     /// # Errors
     ///
@@ -86,15 +86,16 @@ impl<
     /// Hashes both trees, and joins each row of the peer whose key is in a range of keys in which the trees differ, one after the
     /// other in key order, each key cloned when its turn comes. The peer's rows stay.
     ///
-    /// A value that is new here is copied by joining it with itself. The bounds of the ranges are copied, and room for all rows is made,
-    /// before a row is joined. Own rows below the first range stay where they are; those from it on are moved out of the way and back
-    /// in one pass, so a pull costs no more a row where it joins many. Where it joins none, none moves.
+    /// A value is copied by joining it with itself, and then joined with the one that is here, if there is one. The bounds of the ranges
+    /// are copied, and room for all rows is made, before a row is joined. Own rows below the first range stay where they are; those from
+    /// it on are moved out of the way and back in one pass, so a pull costs no more a row where it joins many. Where it joins none, none
+    /// moves.
     ///
     /// Replicas of equal rows, at least one, whose trees are in different page formats don't look the same, as far as no digests collide: a
     /// pull then asks for ranges, and joins what is there already. Whatever it joins is right all the same, and no row is lost.
     ///
-    /// Its condition on clones is proved by a lemma of `key_order::proofs::Clones`: `string_clone`, `vec_clone` or `array_clone` for texts,
-    /// vectors and arrays of bytes, `exact_clone` for what a clone gives back as it is.
+    /// Its condition on clones is proved by a lemma of `key_order::proofs::Clones`: `string_clone` or `str_clone` for texts,
+    /// `vec_clone` or `array_clone` for vectors and arrays of bytes, `exact_clone` for what a clone gives back as it is.
     ///
     /// # Errors
     ///

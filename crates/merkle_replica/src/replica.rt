@@ -151,8 +151,8 @@ impl<
     /// halving, and moves the rows behind a new one up by one: at a random place half of them. [`put_all`](Self::put_all) is for many
     /// rows. The tree then takes the value's digest, as [`MerkleSearchTree::upsert`] says.
     ///
-    /// Its condition on clones is proved by a lemma of `key_order::proofs::Clones`: `string_clone`, `vec_clone` or `array_clone` for texts,
-    /// vectors and arrays of bytes, `exact_clone` for what a clone gives back as it is.
+    /// Its condition on clones is proved by a lemma of `key_order::proofs::Clones`: `string_clone` or `str_clone` for texts,
+    /// `vec_clone` or `array_clone` for vectors and arrays of bytes, `exact_clone` for what a clone gives back as it is.
     ///
     /// # Errors
     ///
@@ -259,8 +259,8 @@ impl<
     ///
     /// The tree is built in one pass, as [`MerkleSearchTree::from_ascending_slice`] says.
     ///
-    /// Its condition on clones is proved by a lemma of `key_order::proofs::Clones`: `string_clone`, `vec_clone` or `array_clone` for texts,
-    /// vectors and arrays of bytes, `exact_clone` for what a clone gives back as it is.
+    /// Its condition on clones is proved by a lemma of `key_order::proofs::Clones`: `string_clone` or `str_clone` for texts,
+    /// `vec_clone` or `array_clone` for vectors and arrays of bytes, `exact_clone` for what a clone gives back as it is.
     ///
     /// # Errors
     ///

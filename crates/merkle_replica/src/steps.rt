@@ -40,8 +40,8 @@ impl<
     ///
     /// It hashes the pages of the tree that lack a digest, walks over its pages and the list once, and copies the bounds of the ranges.
     ///
-    /// Its condition on clones is proved by a lemma of `key_order::proofs::Clones`: `string_clone`, `vec_clone` or `array_clone` for texts,
-    /// vectors and arrays of bytes, `exact_clone` for what a clone gives back as it is.
+    /// Its condition on clones is proved by a lemma of `key_order::proofs::Clones`: `string_clone` or `str_clone` for texts,
+    /// `vec_clone` or `array_clone` for vectors and arrays of bytes, `exact_clone` for what a clone gives back as it is.
     ///
     /// # Errors
     ///
@@ -83,8 +83,8 @@ impl<
     /// Room for all of them is made before the first is joined. Own rows below the first of them stay where they are; those from it on
     /// are moved out of the way and back.
     ///
-    /// Its condition on clones is proved by a lemma of `key_order::proofs::Clones`: `string_clone`, `vec_clone` or `array_clone` for texts,
-    /// vectors and arrays of bytes, `exact_clone` for what a clone gives back as it is.
+    /// Its condition on clones is proved by a lemma of `key_order::proofs::Clones`: `string_clone` or `str_clone` for texts,
+    /// `vec_clone` or `array_clone` for vectors and arrays of bytes, `exact_clone` for what a clone gives back as it is.
     ///
     /// # Errors
     ///

@@ -56,8 +56,8 @@ fn turn<
 /// can be missing in the other. That holds of any two hashers, level bases and page formats; but only replicas that digest alike spare
 /// each other what they share.
 ///
-/// Its condition on clones is proved by a lemma of `key_order::proofs::Clones`: `string_clone`, `vec_clone` or `array_clone` for texts,
-/// vectors and arrays of bytes, `exact_clone` for what a clone gives back as it is.
+/// Its condition on clones is proved by a lemma of `key_order::proofs::Clones`: `string_clone` or `str_clone` for texts,
+/// `vec_clone` or `array_clone` for vectors and arrays of bytes, `exact_clone` for what a clone gives back as it is.
 ///
 /// # Errors
 ///

@@ -8,6 +8,7 @@ ghost use Rattle.merkle_search_tree.specs.Equal.{tree_eq, held_eq, node_eq};
 use crate::page::{NodeOf, PageOf};
 use merkle_digest::PageDigest;
 
+/// Nodes are equal where their keys, value digests and pages below are, with all cached digests.
 impl<K: PartialEq, D: PartialEq> PartialEq for NodeOf<K, D> {
     ghost use Rattle.merkle_search_tree.specs.Equal.{node_eq};
     ghost use Rattle.merkle_search_tree.specs.EqualLaws.{node_eq_laws};
@@ -23,6 +24,7 @@ impl<K: PartialEq, D: PartialEq> PartialEq for NodeOf<K, D> {
     }
 }
 
+/// Pages are equal where their levels, nodes and pages below are, with all cached digests: equal content with other caches is unequal.
 impl<K: PartialEq, D: PartialEq> PartialEq for PageOf<K, D> {
     ghost use Rattle.merkle_search_tree.specs.Equal.{tree_eq};
     ghost use Rattle.merkle_search_tree.specs.EqualLaws.{tree_eq_laws};

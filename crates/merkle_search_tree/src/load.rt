@@ -160,8 +160,8 @@ impl<
     /// The tree of rows that stay where they are and ascend strictly by key, as [`from_ascending`](Self::from_ascending) builds it, with
     /// clones of their keys. It costs what that does, and a clone of each key.
     ///
-    /// Its condition on clones is proved by a lemma of `key_order::proofs::Clones`: `string_clone`, `vec_clone` or `array_clone` for texts,
-    /// vectors and arrays of bytes, `exact_clone` for what a clone gives back as it is.
+    /// Its condition on clones is proved by a lemma of `key_order::proofs::Clones`: `string_clone` or `str_clone` for texts,
+    /// `vec_clone` or `array_clone` for vectors and arrays of bytes, `exact_clone` for what a clone gives back as it is.
     ///
     /// # Errors
     ///

@@ -213,8 +213,8 @@ impl<K: Ord + KeyBytes + Clone, V, H: Hasher<N, K> + Clone, const N: usize> Merk
     /// A tree of an equal map, with equal pages, all cached digests included, a clone of the hasher, and the same level base, page format
     /// and cached root hash. It clones each key once, and hashes nothing.
     ///
-    /// Its condition on clones of keys is proved by a lemma of `key_order::proofs::Clones`: `string_clone`, `vec_clone` or `array_clone` for
-    /// texts, vectors and arrays of bytes, `exact_clone` for what a clone gives back as it is.
+    /// Its condition on clones of keys is proved by a lemma of `key_order::proofs::Clones`: `string_clone` or `str_clone` for texts,
+    /// `vec_clone` or `array_clone` for vectors and arrays of bytes, `exact_clone` for what a clone gives back as it is.
     ///
     /// # Errors
     ///

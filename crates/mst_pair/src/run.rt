@@ -46,7 +46,8 @@ const CHUNK: usize = 8192;
 ///
 /// The reply to a line is written before the next line is carried out. Where a line needs memory that is refused, its reply is
 /// `no memory` and the run goes on; `put`, `del`, `pages`, `diff`, `pull` and `turns` may need some, and the other lines never do.
-/// Beside the rows and the pages of their trees a run holds 12 KiB: 8192 bytes that were read and 4096 that are to be written.
+/// Beside the rows and the pages of their trees a run holds 12 KiB: 8192 bytes that were read and 4096 that are to be written. A line
+/// takes the time of the calls of replicas that answer it, and time in proportion to its own length and its reply's.
 ///
 /// A run over text in memory:
 ///
