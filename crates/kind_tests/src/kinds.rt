@@ -2,7 +2,7 @@
 //! a table that was worked out by hand.
 
 use merkle_diff::diff;
-use merkle_digest::{Hasher, KeyBytes};
+use merkle_digest::{Hasher, KeyBytes, RootHash};
 use merkle_search_tree::MerkleSearchTree;
 use merkle_search_tree::builder::Builder;
 use sample_trees::tally::Tally;
@@ -227,6 +227,35 @@ where
     tally.counts()
 }
 
+/// The root hash of a hashed tree that has the five keys but one and pages of these spans; none where it hasn't.
+fn root_if_right<K: Kind + Ord + KeyBytes + Drop, const N: usize>(
+    alloc: Global,
+    tree: &TreeOf<K, N>,
+    but: Option<u16>,
+    spans: &[Places],
+) -> Result<Option<RootHash>, Fail>
+where
+    LevelHasher<K>: Hasher<N, K>,
+{
+    let is_right = has_nodes(alloc, tree, but)? && has_spans(alloc, tree, spans)?;
+    match tree.root_hash_cached() {
+        Some(root_hash) if is_right => Ok(Some(root_hash.clone()?)),
+        _ => Ok(None),
+    }
+}
+
+/// The same of the loaded tree of a table.
+fn root_of_loaded<K: Kind + Ord + KeyBytes + Drop, const N: usize>(
+    alloc: Global,
+    table: &Table,
+) -> Result<Option<RootHash>, Fail>
+where
+    LevelHasher<K>: Hasher<N, K> + Hasher<N, Value>,
+{
+    let tree: TreeOf<K, N> = loaded(alloc, &table.levels)?;
+    root_if_right(alloc, &tree, None, table.spans)
+}
+
 /// Whether the five keys make the tree of a table, upserted or loaded.
 fn makes_the_tree<K: Kind + Ord + KeyBytes + Drop, const N: usize>(
     alloc: Global,
@@ -235,18 +264,31 @@ fn makes_the_tree<K: Kind + Ord + KeyBytes + Drop, const N: usize>(
 where
     LevelHasher<K>: Hasher<N, K> + Hasher<N, Value>,
 {
-    let whole: TreeOf<K, N> = upserted(alloc, &table.levels, None)?;
-    let loaded: TreeOf<K, N> = loaded(alloc, &table.levels)?;
-    Ok(
-        has_nodes(alloc, &whole, None)?
-            && has_nodes(alloc, &loaded, None)?
-            && counts(&whole) == (table.spans.len(), table.high_pages, 5)
-            && has_spans(alloc, &whole, table.spans)?
-            && whole.root_hash_cached() == loaded.root_hash_cached(),
-    )
+    let tree: TreeOf<K, N> = upserted(alloc, &table.levels, None)?;
+    let has_counts = counts(&tree) == (table.spans.len(), table.high_pages, 5);
+    let root_hash = root_if_right(alloc, &tree, None, table.spans)?;
+    let of_loaded = root_of_loaded::<K, N>(alloc, table)?;
+    Ok(has_counts && root_hash.is_some() && root_hash == of_loaded)
 }
 
-/// Whether the tree of a table is right without one of its keys, taken out or never there, and asks the whole tree for it.
+/// The hashed tree of a table without one of its keys, which is taken out.
+fn left<K: Kind + Ord + KeyBytes + Drop, const N: usize>(
+    alloc: Global,
+    table: &Table,
+) -> Result<TreeOf<K, N>, Fail>
+where
+    LevelHasher<K>: Hasher<N, K> + Hasher<N, Value>,
+{
+    let key = K::equal_to(alloc, table.removed)?;
+    let mut tree: TreeOf<K, N> = loaded(alloc, &table.levels)?;
+    if tree.remove(&key)?.is_none() {
+        return Err(Fail::from("not there"));
+    }
+    tree.root_hash();
+    Ok(tree)
+}
+
+/// Whether the tree that is left is right, and has the root hash of one that never had the key.
 fn takes_a_key_out<K: Kind + Ord + KeyBytes + Drop, const N: usize>(
     alloc: Global,
     table: &Table,
@@ -254,20 +296,23 @@ fn takes_a_key_out<K: Kind + Ord + KeyBytes + Drop, const N: usize>(
 where
     LevelHasher<K>: Hasher<N, K> + Hasher<N, Value>,
 {
-    let removed = Some(table.removed);
+    let tree: TreeOf<K, N> = left(alloc, table)?;
+    let root_hash = root_if_right(alloc, &tree, Some(table.removed), table.left)?;
+    let others: TreeOf<K, N> = upserted(alloc, &table.levels, Some(table.removed))?;
+    Ok(root_hash.is_some() && root_hash.as_ref() == others.root_hash_cached())
+}
+
+/// Whether the tree that is left asks the whole tree for the key, and the whole tree itself for nothing.
+fn asks_for_the_key<K: Kind + Ord + KeyBytes + Drop, const N: usize>(
+    alloc: Global,
+    table: &Table,
+) -> Result<bool, Fail>
+where
+    LevelHasher<K>: Hasher<N, K> + Hasher<N, Value>,
+{
     let whole: TreeOf<K, N> = upserted(alloc, &table.levels, None)?;
-    let mut left: TreeOf<K, N> = loaded(alloc, &table.levels)?;
-    let is_out = left.remove(&K::equal_to(alloc, table.removed)?)?.is_some();
-    left.root_hash();
-    let others: TreeOf<K, N> = upserted(alloc, &table.levels, removed)?;
-    Ok(
-        is_out
-            && has_nodes(alloc, &left, removed)?
-            && has_spans(alloc, &left, table.left)?
-            && left.root_hash_cached() == others.root_hash_cached()
-            && asks_for(alloc, &left, &whole, table.asked)?
-            && asks_for(alloc, &whole, &whole, &[])?,
-    )
+    let left: TreeOf<K, N> = left(alloc, table)?;
+    Ok(asks_for(alloc, &left, &whole, table.asked)? && asks_for(alloc, &whole, &whole, &[])?)
 }
 
 #[test]
@@ -282,6 +327,7 @@ fn digests_of_no_byte(rt: HostRuntime) -> Result<(), Fail> {
     };
     assert!(rt; makes_the_tree::<String, 0>(rt.alloc(), &table)?);
     assert!(rt; takes_a_key_out::<String, 0>(rt.alloc(), &table)?);
+    assert!(rt; asks_for_the_key::<String, 0>(rt.alloc(), &table)?);
     Ok(())
 }
 
@@ -297,6 +343,7 @@ fn digests_of_one_byte(rt: HostRuntime) -> Result<(), Fail> {
     };
     assert!(rt; makes_the_tree::<String, 1>(rt.alloc(), &table)?);
     assert!(rt; takes_a_key_out::<String, 1>(rt.alloc(), &table)?);
+    assert!(rt; asks_for_the_key::<String, 1>(rt.alloc(), &table)?);
     Ok(())
 }
 
@@ -312,6 +359,7 @@ fn digests_of_200_bytes(rt: HostRuntime) -> Result<(), Fail> {
     };
     assert!(rt; makes_the_tree::<[u8; 2], 200>(rt.alloc(), &table)?);
     assert!(rt; takes_a_key_out::<[u8; 2], 200>(rt.alloc(), &table)?);
+    assert!(rt; asks_for_the_key::<[u8; 2], 200>(rt.alloc(), &table)?);
     Ok(())
 }
 
@@ -327,6 +375,7 @@ fn numbers_in_the_reversed_order(rt: HostRuntime) -> Result<(), Fail> {
     };
     assert!(rt; makes_the_tree::<DescendingNumber, 32>(rt.alloc(), &table)?);
     assert!(rt; takes_a_key_out::<DescendingNumber, 32>(rt.alloc(), &table)?);
+    assert!(rt; asks_for_the_key::<DescendingNumber, 32>(rt.alloc(), &table)?);
     Ok(())
 }
 
@@ -342,5 +391,6 @@ fn texts_equal_but_for_case(rt: HostRuntime) -> Result<(), Fail> {
     };
     assert!(rt; makes_the_tree::<CaselessText, 32>(rt.alloc(), &table)?);
     assert!(rt; takes_a_key_out::<CaselessText, 32>(rt.alloc(), &table)?);
+    assert!(rt; asks_for_the_key::<CaselessText, 32>(rt.alloc(), &table)?);
     Ok(())
 }
