@@ -69,15 +69,30 @@ fn orders_of_upserts_make_equal_pages(rt: HostRuntime) -> Result<(), Fail> {
     Ok(())
 }
 
+/// Sets the key 0 to 2 in both trees, one after the other, and says whether they differ in between.
+fn differ_until_both_change(
+    alloc: Global,
+    left: &mut Tree,
+    right: &mut Tree,
+) -> Result<bool, Fail> {
+    put(left, 0, 2)?;
+    let differ = hashed_root(alloc, left, right)?.is_none();
+    put(right, 0, 2)?;
+    Ok(differ)
+}
+
+/// Whether the root page of both trees is another one after equal changes.
+fn changes_alike(alloc: Global, left: &mut Tree, right: &mut Tree) -> Result<bool, Fail> {
+    let before = hashed_root(alloc, left, right)?.ok_or("the pages differ")?;
+    let differ = differ_until_both_change(alloc, left, right)?;
+    let after = hashed_root(alloc, left, right)?.ok_or("the pages differ")?;
+    Ok(differ && after != before)
+}
+
 #[test]
 fn equal_changes_leave_equal_pages(rt: HostRuntime) -> Result<(), Fail> {
     let mut mixed = built(rt.alloc(), 37, 64)?;
     let mut ascending = built(rt.alloc(), 1, 64)?;
-    let before = hashed_root(rt.alloc(), &mut mixed, &mut ascending)?.ok_or("the pages differ")?;
-    put(&mut mixed, 0, 2)?;
-    assert!(rt; hashed_root(rt.alloc(), &mut mixed, &mut ascending)?.is_none());
-    put(&mut ascending, 0, 2)?;
-    let after = hashed_root(rt.alloc(), &mut mixed, &mut ascending)?.ok_or("the pages differ")?;
-    assert!(rt; after != before);
+    assert!(rt; changes_alike(rt.alloc(), &mut mixed, &mut ascending)?);
     Ok(())
 }

@@ -145,16 +145,26 @@ fn hashed_tree_of(alloc: Global, text: &str) -> Result<Tree, Fail> {
     Ok(tree)
 }
 
+/// Whether the differences of two trees, by their lists of page ranges, are these ranges.
+fn differ_by_lists(alloc: Global, local: &Tree, peer: &Tree, wanted: &str) -> Result<bool, Fail> {
+    let found = differences(alloc, local, peer)?;
+    Ok(spans_of(alloc, &found)?.as_str() == wanted)
+}
+
+/// Whether the differences of two trees, by their page ranges one at a time, are these ranges.
+fn differ_in_turn(alloc: Global, local: &Tree, peer: &Tree, wanted: &str) -> Result<bool, Fail> {
+    let found = differences_in_turn(alloc, local, peer)?;
+    Ok(spans_of(alloc, &found)?.as_str() == wanted)
+}
+
 /// Whether the differences of the trees of a line are its ranges.
 fn differs_as_in(alloc: Global, line: &str) -> Result<bool, Fail> {
     let (local, peer, wanted) = parts(line).ok_or("no ranges")?;
     let local = hashed_tree_of(alloc, local)?;
     let peer = hashed_tree_of(alloc, peer)?;
-    let found = differences(alloc, &local, &peer)?;
-    let found_in_turn = differences_in_turn(alloc, &local, &peer)?;
     Ok(
-        spans_of(alloc, &found)?.as_str() == wanted
-            && spans_of(alloc, &found_in_turn)?.as_str() == wanted,
+        differ_by_lists(alloc, &local, &peer, wanted)?
+            && differ_in_turn(alloc, &local, &peer, wanted)?,
     )
 }
 
