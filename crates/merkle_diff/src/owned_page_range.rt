@@ -108,8 +108,8 @@ impl<K: Ord + Clone> OwnedPageRange<K> {
         })
     }
 
-    /// An equal range, with clones of its two keys. The allocator is not used: a key is cloned on its own. Its condition on clones is that of
-    /// [`from_range`](Self::from_range).
+    /// An equal range, with clones of its two keys. The allocator is not used: a key is cloned on its own. Its condition on clones is
+    /// that of [`from_range`](Self::from_range).
     ///
     /// # Errors
     ///

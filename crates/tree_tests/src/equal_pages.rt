@@ -81,7 +81,7 @@ fn differ_until_both_change(
     Ok(differ)
 }
 
-/// Whether the root page of both trees is another one after equal changes.
+/// Whether equal changes leave both trees with one root page, which isn't the one before, and with two where only one has changed.
 fn changes_alike(alloc: Global, left: &mut Tree, right: &mut Tree) -> Result<bool, Fail> {
     let before = hashed_root(alloc, left, right)?.ok_or("the pages differ")?;
     let differ = differ_until_both_change(alloc, left, right)?;
