@@ -7,6 +7,4 @@ pub mod register;
 pub mod set;
 pub mod store;
 pub mod sync;
-#[cfg(test)]
-mod tests;
 pub mod wire;

@@ -24,8 +24,6 @@ mod page_range_snapshot;
 mod range_list;
 mod reduce;
 mod slice_iter;
-#[cfg(test)]
-mod tests;
 mod walk;
 
 pub use at_hand::{diff_lists, diff_slices, diff_snapshots};

@@ -10,8 +10,6 @@ mod hasher;
 mod key_bytes;
 mod levels;
 pub mod siphash;
-#[cfg(test)]
-mod tests;
 mod wrappers;
 
 pub use digest::Digest;

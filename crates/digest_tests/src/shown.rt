@@ -1,0 +1,19 @@
+//! What the doc comments show. The digest is a published vector of SipHash.
+use merkle_digest::{Hasher, SipHasher, ValueDigest};
+use std::test::Fail;
+
+#[test]
+fn a_hasher_with_a_key(rt: HostRuntime) -> Result<(), Fail> {
+    let alloc = rt.alloc();
+    let hasher = SipHasher::new(&[0, 1, 2, 3, 4, 5, 6, 7, 8, 9, 10, 11, 12, 13, 14, 15]);
+    let digest = ValueDigest::new(hasher.hash(&[0u8, 1, 2]));
+    assert_eq!(rt;
+        *digest.as_bytes(),
+        0x9c70b60c5267a94e5f33b6b02985ed51u128.to_be_bytes()
+    );
+    assert_eq!(rt;
+        digest.to_string(alloc)?.as_str(),
+        "nHC2DFJnqU5fM7awKYXtUQ=="
+    );
+    Ok(())
+}

@@ -1,0 +1,49 @@
+use crate::rows::{are_rows, numbers};
+use examples::store::{Store, open_rows};
+use examples::wire::{WireFault, ask, join, send_page_ranges, send_rows};
+use std::alloc::Global;
+use std::test::Fail;
+
+/// A pull of `local` from `peer`, of which each sees nothing but bytes of the other.
+fn pull(alloc: Global, local: &mut Store<u64>, peer: &mut Store<u64>) -> Result<(), WireFault> {
+    let page_ranges = send_page_ranges(alloc, peer)?;
+    let asked = ask(alloc, local, &page_ranges)?;
+    let rows = send_rows(alloc, peer, &asked)?;
+    join(alloc, local, &rows)
+}
+
+#[test]
+fn four_pulls_over_bytes_leave_both_with_the_greater_numbers(rt: HostRuntime) -> Result<(), Fail> {
+    let alloc = rt.alloc();
+    let mut a = open_rows(alloc, numbers(alloc, &[("x", 1), ("y", 5)])?)?;
+    let mut b = open_rows(alloc, numbers(alloc, &[("w", 4), ("y", 3), ("z", 2)])?)?;
+    for _ in 0..2 {
+        pull(alloc, &mut a, &mut b)?;
+        pull(alloc, &mut b, &mut a)?;
+    }
+    let both = [("w", 4), ("x", 1), ("y", 5), ("z", 2)];
+    assert!(rt; are_rows(a.rows(), &both));
+    assert!(rt; are_rows(b.rows(), &both));
+    Ok(())
+}
+
+/// Lists of rows that are cut, too long, not UTF-8, or not ascending.
+const MALFORMED: [&[u8]; 6] = [
+    b"",
+    b"\x01\0\0\0\0\0\0",
+    b"\x01\0\0\0\0\0\0\0",
+    b"\0\0\0\0\0\0\0\0\0",
+    b"\x01\0\0\0\0\0\0\0\x01\0\0\0\0\0\0\0\xff\x07\0\0\0\0\0\0\0",
+    b"\x02\0\0\0\0\0\0\0\x01\0\0\0\0\0\0\0b\x07\0\0\0\0\0\0\0\x01\0\0\0\0\0\0\0a\x07\0\0\0\0\0\0\0",
+];
+
+#[test]
+fn bytes_that_are_no_rows_change_nothing(rt: HostRuntime) -> Result<(), Fail> {
+    let alloc = rt.alloc();
+    let mut store = open_rows(alloc, numbers(alloc, &[("a", 9)])?)?;
+    for bytes in MALFORMED {
+        assert!(rt; join(alloc, &mut store, bytes) == Err(WireFault::Malformed));
+        assert!(rt; are_rows(store.rows(), &[("a", 9)]));
+    }
+    Ok(())
+}

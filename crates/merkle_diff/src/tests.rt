@@ -1,9 +1,0 @@
-mod cuts;
-mod differences;
-mod page_ranges;
-mod range_lists;
-mod rust_answers;
-mod shown;
-mod snapshots;
-mod text_keys;
-mod texts;
