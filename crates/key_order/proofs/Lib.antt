@@ -1,7 +1,7 @@
 pub mod Bools
 pub mod Orders
 pub mod Spans
-pub mod Parts
+pub mod ListParts
 pub mod Maps
 pub mod SameMaps
 pub mod Values

@@ -44,22 +44,43 @@ fn ranges_to_ask<'a>(
     }
 }
 
+/// The spans of the ranges to ask the peer for, each after a space.
+fn asked(alloc: Global, local: &mut Tree, peer: &mut Tree) -> Result<String, AllocError> {
+    let mut spans = String::new(alloc);
+    for range in &ranges_to_ask(alloc, local, peer)? {
+        spans.push_str(format!(in alloc; " {}-{}", range.start(), range.end())?.as_str())?;
+    }
+    Ok(spans)
+}
+
+/// The default tree of `bananas`, and its root hash.
+fn bananas(alloc: Global) -> Result<(Tree, RootHash), AllocError> {
+    one_key(alloc, String::from_str(alloc, "bananas")?)
+}
+
+/// Sets a key to a value.
+fn set(tree: &mut Tree, key: String, value: u64) -> Result<(), AllocError> {
+    tree.upsert(key, &value)?;
+    Ok(())
+}
+
+/// What a tree of `bananas` asks another for, which has one root hash with it, and what once the other has another value.
+fn asked_before_and_after(alloc: Global) -> Result<(String, String), Fail> {
+    let (mut local, digest) = bananas(alloc)?;
+    let (mut peer, same) = bananas(alloc)?;
+    if digest != same {
+        return Err(Fail::from("two root hashes"));
+    }
+    let before = asked(alloc, &mut local, &mut peer)?;
+    set(&mut peer, String::from_str(alloc, "bananas")?, 24)?;
+    Ok((before, asked(alloc, &mut local, &mut peer)?))
+}
+
 #[test]
 fn a_peer_is_asked_for_the_one_key_that_differs(rt: HostRuntime) -> Result<(), Fail> {
-    let (mut local, digest) = one_key(rt.alloc(), String::from_str(rt.alloc(), "bananas")?)?;
-    let (mut peer, same) = one_key(rt.alloc(), String::from_str(rt.alloc(), "bananas")?)?;
-    assert!(rt; digest == same);
-    assert!(rt; ranges_to_ask(rt.alloc(), &mut local, &mut peer)?.is_empty());
-    if peer
-        .upsert(String::from_str(rt.alloc(), "bananas")?, &24)
-        .is_err()
-    {
-        return Err(Fail::from("no memory"));
-    }
-    let asked = ranges_to_ask(rt.alloc(), &mut local, &mut peer)?;
-    assert_eq!(rt; asked.len(), 1);
-    assert_eq!(rt; asked[0].start().as_str(), "bananas");
-    assert_eq!(rt; asked[0].end().as_str(), "bananas");
+    let (before, after) = asked_before_and_after(rt.alloc())?;
+    assert_eq!(rt; before.as_str(), "");
+    assert_eq!(rt; after.as_str(), " bananas-bananas");
     Ok(())
 }
 

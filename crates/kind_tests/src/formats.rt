@@ -21,40 +21,60 @@ fn clone_of(tree: &Numbers) -> Result<Numbers, AllocError> {
     tree.try_clone()
 }
 
-/// The trees that builders of a page format make: of the builder, of a clone of it, and of builders with another hasher and another
-/// level base; and a clone of the first.
-fn trees(alloc: Global, format: PageFormat) -> Result<[Numbers; 5], AllocError> {
-    let builder = || Builder::default().with_page_format(format);
+/// A builder of a page format.
+fn builder(format: PageFormat) -> Builder<SipHasher> {
+    Builder::default().with_page_format(format)
+}
+
+/// Builders of a page format: one, a clone of it, and two that then got another hasher and another level base.
+fn builders(format: PageFormat) -> Result<[Builder<SipHasher>; 4], AllocError> {
     let base = NonZeroU8::new(7).ok_or(AllocError)?;
-    let first: Numbers = builder().build(alloc);
-    let second = clone_of(&first)?;
     Ok([
-        first,
-        builder().try_clone()?.build(alloc),
-        builder().with_hasher(SipHasher::default()).build(alloc),
-        builder().with_level_base(base).build(alloc),
-        second,
+        builder(format),
+        builder(format).try_clone()?,
+        builder(format).with_hasher(SipHasher::default()),
+        builder(format).with_level_base(base),
     ])
+}
+
+/// The page format of a tree, and its root hash.
+fn format_and_root(alloc: Global, mut tree: Numbers) -> Result<(PageFormat, String), AllocError> {
+    Ok((
+        tree.page_format(),
+        format!(in alloc; "{}", tree.root_hash())?,
+    ))
+}
+
+/// The same of a clone of the tree of a page format.
+fn of_clone(alloc: Global, format: PageFormat) -> Result<(PageFormat, String), AllocError> {
+    let tree: Numbers = Builder::default().with_page_format(format).build(alloc);
+    format_and_root(alloc, clone_of(&tree)?)
 }
 
 #[test]
 fn builders_trees_and_clones_keep_the_format(rt: HostRuntime) -> Result<(), Fail> {
     for (format, root) in EMPTY_ROOTS {
-        for mut tree in trees(rt.alloc(), format)? {
-            assert_eq!(rt; tree.page_format(), format);
-            assert_eq!(rt;
-                format!(in rt.alloc(); "{}", tree.root_hash())?.as_str(),
-                root
-            );
+        for builder in builders(format)? {
+            let (found, root_hash) = format_and_root(rt.alloc(), builder.build(rt.alloc()))?;
+            assert_eq!(rt; (found, root_hash.as_str()), (format, root));
         }
+        let (found, root_hash) = of_clone(rt.alloc(), format)?;
+        assert_eq!(rt; (found, root_hash.as_str()), (format, root));
     }
     Ok(())
 }
 
+/// The page format of a tree.
+fn format_of(tree: Numbers) -> PageFormat {
+    tree.page_format()
+}
+
 #[test]
 fn the_default_is_format_1(rt: HostRuntime) {
-    let tree: Numbers = MerkleSearchTree::with_defaults(rt.alloc());
-    assert_eq!(rt; tree.page_format(), PageFormat::V1);
-    let built: Numbers = Builder::default().build(rt.alloc());
-    assert_eq!(rt; built.page_format(), PageFormat::V1);
+    let alloc = rt.alloc();
+    assert_eq!(rt;
+        format_of(MerkleSearchTree::with_defaults(alloc)),
+        PageFormat::V1
+    );
+    assert_eq!(rt; format_of(Builder::default().build(alloc)), PageFormat::V1);
 }

@@ -78,36 +78,35 @@ where
     Ok(spans)
 }
 
-/// Whether two hashed trees have one root hash, and each one page, of these spans.
-fn agree<const N: usize>(
+/// The spans of the pages of the tree of these texts, and its root hash.
+fn spans_and_root<const N: usize>(
     alloc: Global,
-    left: &Texts<N>,
-    right: &Texts<N>,
-    wanted: (&str, &str),
-) -> Result<bool, Fail>
+    rows: &[(&str, u64)],
+) -> Result<(String, RootHash), Fail>
 where
-    LevelHasher<String>: Hasher<N, String>,
+    LevelHasher<String>: Hasher<N, String> + Hasher<N, Value>,
 {
-    let have_spans = spans(alloc, left)?.as_str() == wanted.0
-        && spans(alloc, right)?.as_str() == wanted.1;
-    Ok(have_spans && left.root_hash_cached() == right.root_hash_cached())
+    let mut tree: Texts<N> = texts(alloc, rows)?;
+    Ok((spans(alloc, &tree)?, tree.root_hash_counted().0))
 }
 
 // With no byte of a value in the stream, the keys a, b and the one key ab have the same stream.
 #[test]
 fn digests_of_no_byte_leave_the_keys(rt: HostRuntime) -> Result<(), Fail> {
-    let two: Texts<0> = texts(rt.alloc(), &[("a", 1), ("b", 2)])?;
-    let one: Texts<0> = texts(rt.alloc(), &[("ab", 3)])?;
-    assert!(rt; agree(rt.alloc(), &two, &one, ("a-b ", "ab-ab "))?);
+    let (two, root) = spans_and_root::<0>(rt.alloc(), &[("a", 1), ("b", 2)])?;
+    let (one, same) = spans_and_root::<0>(rt.alloc(), &[("ab", 3)])?;
+    assert_eq!(rt; (two.as_str(), one.as_str()), ("a-b ", "ab-ab "));
+    assert!(rt; root == same);
     Ok(())
 }
 
 // The stream of both is 61 62 63 64: equal root hashes don't mean equal maps.
 #[test]
 fn streams_have_no_lengths(rt: HostRuntime) -> Result<(), Fail> {
-    let two: Texts<1> = texts(rt.alloc(), &[("a", 0x62), ("c", 0x64)])?;
-    let one: Texts<1> = texts(rt.alloc(), &[("abc", 0x64)])?;
-    assert!(rt; agree(rt.alloc(), &two, &one, ("a-c ", "abc-abc "))?);
+    let (two, root) = spans_and_root::<1>(rt.alloc(), &[("a", 0x62), ("c", 0x64)])?;
+    let (one, same) = spans_and_root::<1>(rt.alloc(), &[("abc", 0x64)])?;
+    assert_eq!(rt; (two.as_str(), one.as_str()), ("a-c ", "abc-abc "));
+    assert!(rt; root == same);
     Ok(())
 }
 
@@ -138,17 +137,21 @@ fn put(ladder: &mut Ladder, key: u16) -> Result<(), Fail> {
     }
 }
 
-#[test]
-fn levels_go_up_to_255(rt: HostRuntime) -> Result<(), Fail> {
-    let tree = ladder(rt.alloc())?;
-    assert_eq!(rt;
-        tree.serialise_page_ranges()?.ok_or("not hashed")?.len(),
-        256
-    );
-    assert!(rt; gives_its_list(&tree)?);
+/// How many page ranges the ladder lists, which it also gives one at a time, and how many pages, high pages and nodes it has.
+fn counts_of_ladder(alloc: Global) -> Result<(usize, (usize, usize, usize)), Fail> {
+    let tree = ladder(alloc)?;
+    if !gives_its_list(&tree)? {
+        return Err(Fail::from("other ranges"));
+    }
     let mut tally = Tally::new();
     tree.in_order_traversal(&mut tally);
-    assert_eq!(rt; tally.counts(), (256, 0, 256));
+    let ranges = tree.serialise_page_ranges()?.ok_or("not hashed")?;
+    Ok((ranges.len(), tally.counts()))
+}
+
+#[test]
+fn levels_go_up_to_255(rt: HostRuntime) -> Result<(), Fail> {
+    assert_eq!(rt; counts_of_ladder(rt.alloc())?, (256, (256, 0, 256)));
     Ok(())
 }
 

@@ -1,10 +1,10 @@
 //! Keys whose order or equality is not that of their bytes.
 
-use merkle_digest::SipHasher;
+use merkle_digest::{RootHash, SipHasher};
 use merkle_search_tree::MerkleSearchTree;
 use merkle_search_tree::builder::Builder;
 use sample_trees::trees::{gives_its_list, value_at};
-use std::alloc::Global;
+use std::alloc::{AllocError, Global};
 use std::test::Fail;
 use testing::{CaselessText, DescendingNumber, LevelHasher, Value};
 
@@ -44,13 +44,21 @@ fn spans(alloc: Global, tree: &Descending) -> Result<String, Fail> {
     Ok(spans)
 }
 
+/// The numbers of the nodes of the tree of the numbers 1 to 3, and the spans of its page ranges, which it also gives one at a time.
+fn nodes_and_spans(alloc: Global) -> Result<(String, String), Fail> {
+    let mut tree = descending(alloc)?;
+    tree.root_hash();
+    if !gives_its_list(&tree)? {
+        return Err(Fail::from("other ranges"));
+    }
+    Ok((numbers(alloc, &tree)?, spans(alloc, &tree)?))
+}
+
 #[test]
 fn goes_by_the_order_of_the_keys(rt: HostRuntime) -> Result<(), Fail> {
-    let mut tree = descending(rt.alloc())?;
-    tree.root_hash();
-    assert_eq!(rt; numbers(rt.alloc(), &tree)?.as_str(), " 3 2 1");
-    assert_eq!(rt; spans(rt.alloc(), &tree)?.as_str(), " 3-1");
-    assert!(rt; gives_its_list(&tree)?);
+    let (numbers, spans) = nodes_and_spans(rt.alloc())?;
+    assert_eq!(rt; numbers.as_str(), " 3 2 1");
+    assert_eq!(rt; spans.as_str(), " 3-1");
     Ok(())
 }
 
@@ -74,16 +82,27 @@ fn texts(alloc: Global, tree: &Caseless) -> Result<String, Fail> {
     Ok(texts)
 }
 
+/// The texts and the root hash of the tree of `Banana` with the value 1, which is then set by `BANANA` to 2.
+fn set_twice(alloc: Global) -> Result<(String, RootHash), Fail> {
+    let mut tree: Caseless = MerkleSearchTree::with_defaults(alloc);
+    set(alloc, &mut tree, "Banana", 1)?;
+    set(alloc, &mut tree, "BANANA", 2)?;
+    Ok((texts(alloc, &tree)?, tree.root_hash_counted().0))
+}
+
+/// The root hash of the default tree of one text and its value.
+fn root_of(alloc: Global, text: &str, value: u64) -> Result<RootHash, AllocError> {
+    let mut tree: MerkleSearchTree<&str, u64, SipHasher, 16> = MerkleSearchTree::with_defaults(
+        alloc,
+    );
+    tree.upsert(text, &value)?;
+    Ok(tree.root_hash_counted().0)
+}
+
 #[test]
 fn keeps_the_first_of_equal_keys(rt: HostRuntime) -> Result<(), Fail> {
-    let mut tree: Caseless = MerkleSearchTree::with_defaults(rt.alloc());
-    set(rt.alloc(), &mut tree, "Banana", 1)?;
-    set(rt.alloc(), &mut tree, "BANANA", 2)?;
-    assert_eq!(rt; texts(rt.alloc(), &tree)?.as_str(), " Banana");
-    let mut small: MerkleSearchTree<&str, u64, SipHasher, 16> = MerkleSearchTree::with_defaults(
-        rt.alloc(),
-    );
-    assert!(rt; small.upsert("banana", &2).is_ok());
-    assert!(rt; *tree.root_hash() == *small.root_hash());
+    let (texts, root_hash) = set_twice(rt.alloc())?;
+    assert_eq!(rt; texts.as_str(), " Banana");
+    assert!(rt; root_hash == root_of(rt.alloc(), "banana", 2)?);
     Ok(())
 }

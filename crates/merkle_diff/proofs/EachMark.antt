@@ -6,7 +6,7 @@ use Rattle.std.specs.declared.cmp.Ordering.{Ordering}
 use Rattle.key_order.specs.Interval.{Span, is_within}
 use Rattle.merkle_diff.specs.Entry.{Entry, span_of}
 use Rattle.key_order.specs.Order.{Upto, upto}
-use Rattle.key_order.proofs.Parts.{each-append}
+use Rattle.key_order.proofs.ListParts.{each-append}
 use Rattle.merkle_diff.specs.Walk.{Walk, Mark, no_peer, outside, held, no_local, between, agrees, differs, bad_of, good_of, gap_mark, gap_start, gap_end, front_within, bad_marks, last_holder, after_holders}
 use Rattle.merkle_diff.specs.Walk.Mark.{Bad, Good}
 use Rattle.merkle_diff.proofs.OrderTests.{by_upto}

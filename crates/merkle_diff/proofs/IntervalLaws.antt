@@ -12,7 +12,7 @@ use Rattle.merkle_diff.specs.Walk.{Walk, Mark, bad_of, good_of, gap_mark, gap_en
 use Rattle.merkle_diff.specs.Walk.Mark.{Bad, Good}
 use Rattle.merkle_diff.specs.Difference.{lesser, IsAgreed, IsByTable, HasDigestOf, IsBoundOfEntry, IsDifference, IsByWalk}
 use Rattle.key_order.proofs.Orders.{up_up, low_up, low_is_up, not_both, either, up_self, same_from}
-use Rattle.key_order.proofs.Parts.{each-before, each-behind}
+use Rattle.key_order.proofs.ListParts.{each-before, each-behind}
 use Rattle.merkle_diff.proofs.Unique.{same-back, apart-same, ordered-same}
 use Rattle.merkle_diff.proofs.Merged.{merge-to, merge-from, merge-is_ordered, merge-of_apart}
 use Rattle.merkle_diff.proofs.Cuts.{Bounds, bound-same, cut-out, cut-ordered, left-bounds, merge-bounds, own-bounds}

@@ -7,7 +7,7 @@ use Rattle.key_order.specs.Interval.{Span, IsOrdered, IsApart, meets}
 use Rattle.key_order.specs.Order.{Upto, Below, below}
 use Rattle.merkle_diff.specs.Cut.{piece, cut_one}
 use Rattle.key_order.proofs.Orders.{up_up, low_is_up, up_self}
-use Rattle.key_order.proofs.Parts.{each-append}
+use Rattle.key_order.proofs.ListParts.{each-append}
 use Rattle.merkle_diff.proofs.Ascents.{IsAscendingByStart}
 use Rattle.merkle_diff.proofs.Cuts.{each-piece, each-cut}
 use Rattle.merkle_diff.proofs.Each.{each-with}

@@ -9,7 +9,7 @@ use Rattle.key_order.specs.Order.{Upto, upto}
 use Rattle.merkle_diff.specs.Walk.{Walk, Mark, no_peer, outside, held, no_local, between, agrees, differs, gap_mark, gap_start, gap_end, front_within, after_within, bad_marks}
 use Rattle.merkle_diff.specs.Walk.Mark.{Bad, Good}
 use Rattle.key_order.proofs.Orders.{up_up, up_self, low_is_up}
-use Rattle.key_order.proofs.Parts.{each-append}
+use Rattle.key_order.proofs.ListParts.{each-append}
 use Rattle.merkle_diff.proofs.Each.{each-with}
 use Rattle.merkle_diff.proofs.OrderTests.{by_above, within_by, within_trans}
 

@@ -10,7 +10,7 @@ use Rattle.key_order.specs.Order.{Below, Upto, Same}
 use Rattle.key_order.specs.Map.{IsMap}
 use Rattle.key_order.proofs.Bools.{is_less, is_equal}
 use Rattle.key_order.proofs.Orders.{low_low, low_up, same_up}
-use Rattle.key_order.proofs.Parts.{map-rest}
+use Rattle.key_order.proofs.ListParts.{map-rest}
 use Rattle.merkle_diff.proofs.Each.{each-with}
 use Rattle.std.specs.Cmp.{IsEquivalence}
 use Rattle.key_order.specs.Join.{IsJoin, IsJoining}

@@ -12,7 +12,7 @@ use Rattle.merkle_search_tree.specs.Cache.{KeyUncached, RowKeyUncached, HeldKeyU
 use Rattle.merkle_search_tree.specs.Upsert.{held_lower, held_upper, tree_lower, tree_upper, row_put, row_sink, held_set, tree_set, lifted, tree_finds, row_finds, held_finds}
 use Rattle.merkle_search_tree.proofs.Unique.{Under-more, Under-row, Under-gap}
 use Rattle.key_order.proofs.Dels.{NoEqual}
-use Rattle.key_order.proofs.Parts.{map-first, map-rest}
+use Rattle.key_order.proofs.ListParts.{map-first, map-rest}
 use Rattle.merkle_search_tree.proofs.Sides.{none-before, none-after, no_equal-first, no_equal-rest, no_equal-above, no_equal-below, no_equal-under, has_key-none, has_key-append}
 use Rattle.merkle_search_tree.proofs.Set.{held_split-sides, tree_split-sides}
 

@@ -6,7 +6,7 @@ use Rattle.std.specs.Cmp.{IsTotalOrder}
 use Rattle.key_order.specs.Order.{Same}
 use Rattle.key_order.specs.Map.{SameMap}
 use Rattle.key_order.proofs.SameMaps.{same_across, same-append}
-use Rattle.key_order.proofs.Parts.{each-before, each-behind}
+use Rattle.key_order.proofs.ListParts.{each-before, each-behind}
 use Rattle.merkle_search_tree.specs.Tree.{Tree, page, Row, high, node, Held, nothing, below}
 use Rattle.merkle_search_tree.specs.Page.{pairs, row_pairs, held_pairs, nodes_of}
 use Rattle.merkle_search_tree.specs.Canonical.{IsTreeOf}

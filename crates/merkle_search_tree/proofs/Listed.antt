@@ -4,7 +4,7 @@ use Rattle.std.specs.Prelude.{⊤, true, is_some, MatchOption}
 use Rattle.std.specs.Cmp.{IsTotalOrder}
 use Rattle.std.specs.declared.cmp.Ordering.{Ordering}
 use Rattle.key_order.specs.Map.{IsMap}
-use Rattle.key_order.proofs.Parts.{each-append, map-first, map-rest}
+use Rattle.key_order.proofs.ListParts.{each-append, map-first, map-rest}
 use Rattle.merkle_search_tree.specs.Tree.{Tree, page, Row, high, node, Held, nothing, below}
 use Rattle.merkle_search_tree.specs.Page.{pairs, row_pairs, held_pairs, nodes_of, cache, pages_in_order, row_pages, held_pages}
 use Rattle.merkle_search_tree.specs.Canonical.{HasNode, IsCanonical, IsRow, IsGap, IsCanonicalRoot}

@@ -21,7 +21,7 @@ use Rattle.key_order.proofs.Bools.{which}
 use Rattle.merkle_search_tree.proofs.RangeKeys.{not-none}
 use Rattle.merkle_search_tree.proofs.SameRanges.{same_last}
 use Rattle.key_order.proofs.Spans.{test_from_in, in_from_test, is_in-same}
-use Rattle.key_order.proofs.Parts.{each-append, each-at}
+use Rattle.key_order.proofs.ListParts.{each-append, each-at}
 use Rattle.merkle_search_tree.specs.declared.builder.PageFormat.{PageFormat}
 
 module _ {K : Type 0} (cmp : K → K → Ordering) (o : IsTotalOrder cmp) where

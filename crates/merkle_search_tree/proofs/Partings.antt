@@ -3,7 +3,7 @@ use Rattle.std.proofs.Common.{◌≡◌, ℕ, zero, suc, ◌<◌, ◌≤◌, Lis
 use Rattle.std.specs.declared.cmp.Ordering.{Ordering}
 use Rattle.std.specs.Ordering.{is_gt}
 use Rattle.key_order.specs.Map.{IsMap}
-use Rattle.key_order.proofs.Parts.{map-first, map-rest}
+use Rattle.key_order.proofs.ListParts.{map-first, map-rest}
 use Rattle.merkle_search_tree.specs.Tree.{Tree, page, Row, high, node, Held, below, Node, row, tree_size, row_size, held_size}
 use Rattle.merkle_search_tree.specs.Page.{pairs, row_pairs, held_pairs, row_nodes, nodes_of}
 use Rattle.merkle_search_tree.specs.Upsert.{place, lower, upper, held_lower, held_upper, as_held, kept, kept_beside}

@@ -7,7 +7,7 @@ use Rattle.std.specs.declared.cmp.Ordering.{Ordering}
 use Rattle.key_order.specs.Order.{Upto, Below}
 use Rattle.key_order.specs.Map.{IsMap, last_key}
 use Rattle.key_order.proofs.Orders.{up_up, low_is_up, up_self}
-use Rattle.key_order.proofs.Parts.{each-append, each-before, each-behind}
+use Rattle.key_order.proofs.ListParts.{each-append, each-before, each-behind}
 use Rattle.merkle_diff.specs.Entry.{Entry}
 use Rattle.merkle_search_tree.specs.Tree.{Tree, page, Row, high, node, Held, nothing, below}
 use Rattle.merkle_search_tree.specs.Page.{pairs, row_pairs, held_pairs}

@@ -6,7 +6,7 @@ use Rattle.std.specs.declared.cmp.Ordering.{Ordering}
 use Rattle.key_order.specs.Order.{Below}
 use Rattle.key_order.specs.Map.{IsMap, last_key}
 use Rattle.key_order.proofs.Orders.{up_up, up_low, low_low, not_both}
-use Rattle.key_order.proofs.Parts.{each-append, each-at, map-before, map-first, map-rest}
+use Rattle.key_order.proofs.ListParts.{each-append, each-at, map-before, map-first, map-rest}
 use Rattle.merkle_diff.specs.Entry.{Entry, EntryWithin}
 use Rattle.merkle_diff.specs.TreeShape.{HoldsNoneBefore, IsTreeShaped}
 use Rattle.merkle_diff.proofs.Each.{each-with}

@@ -6,7 +6,7 @@ use Rattle.std.specs.Ordering.{is_eq, match_ordering}
 use Rattle.std.specs.Cmp.{IsTotalOrder}
 use Rattle.key_order.specs.Map.{IsMap, has_key, del, entry}
 use Rattle.key_order.proofs.Dels.{NoEqual, del-append, del-here, del-past, del-none, entry-here, entry-past, entry-behind, entry-before}
-use Rattle.key_order.proofs.Parts.{map-first, map-rest}
+use Rattle.key_order.proofs.ListParts.{map-first, map-rest}
 use Rattle.merkle_search_tree.specs.Tree.{Tree, page, Row, high, node, Held, nothing, below}
 use Rattle.merkle_search_tree.specs.TreeOf.{root_of}
 use Rattle.merkle_search_tree.specs.Page.{level, pairs, row_pairs, held_pairs}

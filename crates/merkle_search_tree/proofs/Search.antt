@@ -9,7 +9,7 @@ use Rattle.std.specs.Cmp.{IsTotalOrder}
 use Rattle.key_order.specs.Order.{Below}
 use Rattle.key_order.specs.Map.{IsMap}
 use Rattle.key_order.proofs.Orders.{turned, low_low, low_up, same_down}
-use Rattle.key_order.proofs.Parts.{each-behind, map-first, map-rest}
+use Rattle.key_order.proofs.ListParts.{each-behind, map-first, map-rest}
 use Rattle.key_order.proofs.Bools.{is_equal}
 use Rattle.merkle_search_tree.specs.Tree.{Tree, page, Row, high, node, Node, Held, row}
 use Rattle.merkle_search_tree.specs.Page.{pairs, row_pairs, held_pairs, row_nodes, nodes_of}

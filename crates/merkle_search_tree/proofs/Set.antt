@@ -12,7 +12,7 @@ use Rattle.merkle_search_tree.specs.Upsert.{as_held, kept, lower, upper, held_lo
 use Rattle.merkle_search_tree.proofs.Unique.{Under, Under-more, Under-row, Under-gap}
 use Rattle.key_order.proofs.Dels.{NoEqual}
 use Rattle.key_order.proofs.Orders.{same_down, low_is_up, turned}
-use Rattle.key_order.proofs.Parts.{map-before, map-first, map-rest}
+use Rattle.key_order.proofs.ListParts.{map-before, map-first, map-rest}
 use Rattle.merkle_search_tree.proofs.Sides.{AllAbove, AllBelow, above-append, below-append, no_equal-first, no_equal-rest, no_equal-under, set-stop, set-front, set-pass, below-more, above-more, less-below, less-upto, greater-upto, not_above}
 
 module _ {K D : Type 0} where

@@ -9,7 +9,7 @@ use Rattle.key_order.specs.Order.{Upto, Below}
 use Rattle.key_order.specs.Map.{IsMap, set, has_key}
 use Rattle.key_order.proofs.Orders.{turned, low_up, up_low, low_is_up, same_up, same_down}
 use Rattle.key_order.proofs.Dels.{NoEqual}
-use Rattle.key_order.proofs.Parts.{each-append, each-before, each-behind, map-before, map-rest}
+use Rattle.key_order.proofs.ListParts.{each-append, each-before, each-behind, map-before, map-rest}
 use Rattle.key_order.proofs.Bools.{is_less, is_greater}
 use Rattle.merkle_search_tree.proofs.Unique.{Under}
 

@@ -9,7 +9,7 @@ use Rattle.std.specs.declared.cmp.Ordering.{Ordering}
 use Rattle.std.specs.declared.vec.IntoIter.{IntoIter}
 use Rattle.key_order.specs.Map.{IsMap}
 use Rattle.key_order.specs.Order.{Below}
-use Rattle.key_order.proofs.Parts.{map-first}
+use Rattle.key_order.proofs.ListParts.{map-first}
 use Rattle.merkle_search_tree.specs.Loading.{LoadFails, digests}
 use Rattle.merkle_search_tree.specs.declared.load.LoadRefused.{LoadRefused}
 use Rattle.merkle_search_tree.specs.declared.load.LoadRefused.TheVariants.{NotAscending}

@@ -2,6 +2,7 @@
 //! of the keys left.
 
 use crate::shapes::pages_of;
+use merkle_digest::RootHash;
 use merkle_search_tree::builder::PageFormat;
 use sample_trees::root_pages::root_copy;
 use sample_trees::trees::{
@@ -145,37 +146,55 @@ fn leaves_the_pages_of_the_levels(rt: HostRuntime) -> Result<(), Fail> {
     Ok(())
 }
 
+/// The hashed tree of the keys of a text in format 1 without this one.
+fn hashed_without(alloc: Global, text: &str, key: u16) -> Result<Tree, Fail> {
+    let mut tree = hashed_tree(alloc, PageFormat::V1, text)?;
+    tree.remove(&number_key(key))?;
+    tree.root_hash();
+    Ok(tree)
+}
+
+/// The spans of the page ranges of a hashed tree, each after a space, which it also gives one at a time.
+fn spans(alloc: Global, tree: &Tree) -> Result<String, Fail> {
+    if !gives_its_list(tree)? {
+        return Err(Fail::from("other ranges"));
+    }
+    let mut spans = String::new(alloc);
+    for range in tree.serialise_page_ranges()?.ok_or("not hashed")? {
+        let start = u16::from_be_bytes(*range.start());
+        let end = u16::from_be_bytes(*range.end());
+        spans.push_str(format!(in alloc; " {start}-{end}")?.as_str())?;
+    }
+    Ok(spans)
+}
+
 #[test]
 fn joins_pages_of_one_level(rt: HostRuntime) -> Result<(), Fail> {
-    let mut tree = hashed_tree(rt.alloc(), PageFormat::V1, "2:64 6:20 4:20 3:52 5:64")?;
-    tree.remove(&number_key(5))?;
-    tree.root_hash();
-    let ranges = tree.serialise_page_ranges()?.ok_or("not hashed")?;
-    let wanted: [(u16, u16); 3] = [(2, 6), (3, 6), (4, 6)];
-    assert!(rt; ranges.len() == 3);
-    for i in 0..3 {
-        let is_wanted = *ranges[i].start() == number_key(wanted[i].0)
-            && *ranges[i].end() == number_key(wanted[i].1);
-        assert!(rt; is_wanted, "at {i}");
-    }
-    assert!(rt; gives_its_list(&tree)?);
+    let tree = hashed_without(rt.alloc(), "2:64 6:20 4:20 3:52 5:64", 5)?;
+    assert_eq!(rt; spans(rt.alloc(), &tree)?.as_str(), " 2-6 3-6 4-6");
     Ok(())
+}
+
+/// How many pages of the tree of the key 1 lack a digest without it, and then its root hash, which stays where it is asked again for
+/// the key's removal.
+fn without_the_last(alloc: Global) -> Result<(usize, RootHash), Fail> {
+    let mut tree = hashed_tree(alloc, PageFormat::V1, "1:0")?;
+    let is_out = tree.remove(&number_key(1))?.is_some();
+    let (root_hash, lacked) = tree.root_hash_counted();
+    let is_gone = tree.remove(&number_key(1))?.is_none();
+    if is_out && is_gone && tree.root_hash_cached() == Some(&root_hash) {
+        Ok((lacked, root_hash))
+    } else {
+        Err(Fail::from("another answer"))
+    }
 }
 
 #[test]
 fn the_last_key_leaves_a_new_tree(rt: HostRuntime) -> Result<(), Fail> {
-    let mut tree = hashed_tree(rt.alloc(), PageFormat::V1, "1:0")?;
-    assert!(rt; tree.remove(&number_key(1))?.is_some());
-    assert_eq!(rt; tree.pages_to_hash(), 1);
-    let new = empty(rt.alloc(), PageFormat::V1, &[])?
-        .root_hash_counted()
-        .0;
-    assert!(rt; tree.root_hash_counted() == (new, 1));
-    let new = empty(rt.alloc(), PageFormat::V1, &[])?
-        .root_hash_counted()
-        .0;
-    assert!(rt; tree.remove(&number_key(1))?.is_none());
-    assert!(rt; tree.root_hash_cached() == Some(&new));
+    let (lacked, root_hash) = without_the_last(rt.alloc())?;
+    assert_eq!(rt; lacked, 1);
+    let mut new = empty(rt.alloc(), PageFormat::V1, &[])?;
+    assert!(rt; root_hash == new.root_hash_counted().0);
     Ok(())
 }
 
