@@ -26,15 +26,27 @@ fn builder(format: PageFormat) -> Builder<SipHasher> {
     Builder::default().with_page_format(format)
 }
 
-/// Builders of a page format: one, a clone of it, and two that then got another hasher and another level base.
-fn builders(format: PageFormat) -> Result<[Builder<SipHasher>; 4], AllocError> {
-    let base = NonZeroU8::new(7).ok_or(AllocError)?;
-    Ok([
-        builder(format),
-        builder(format).try_clone()?,
-        builder(format).with_hasher(SipHasher::default()),
-        builder(format).with_level_base(base),
-    ])
+/// How a builder of a page format is made: as it is, as a clone, or with another hasher or level base set afterwards.
+#[derive(Clone, Copy)]
+enum Way {
+    Plain,
+    Clone,
+    Hasher,
+    LevelBase,
+}
+
+/// The four ways.
+const WAYS: [Way; 4] = [Way::Plain, Way::Clone, Way::Hasher, Way::LevelBase];
+
+/// A builder of a page format, made in this way.
+fn made(way: Way, format: PageFormat) -> Result<Builder<SipHasher>, AllocError> {
+    let builder = builder(format);
+    match way {
+        Way::Plain => Ok(builder),
+        Way::Clone => builder.try_clone(),
+        Way::Hasher => Ok(builder.with_hasher(SipHasher::default())),
+        Way::LevelBase => Ok(builder.with_level_base(NonZeroU8::new(7).ok_or(AllocError)?)),
+    }
 }
 
 /// The page format of a tree, and its root hash.
@@ -54,8 +66,9 @@ fn of_clone(alloc: Global, format: PageFormat) -> Result<(PageFormat, String), A
 #[test]
 fn builders_trees_and_clones_keep_the_format(rt: HostRuntime) -> Result<(), Fail> {
     for (format, root) in EMPTY_ROOTS {
-        for builder in builders(format)? {
-            let (found, root_hash) = format_and_root(rt.alloc(), builder.build(rt.alloc()))?;
+        for way in WAYS {
+            let tree = made(way, format)?.build(rt.alloc());
+            let (found, root_hash) = format_and_root(rt.alloc(), tree)?;
             assert_eq!(rt; (found, root_hash.as_str()), (format, root));
         }
         let (found, root_hash) = of_clone(rt.alloc(), format)?;
