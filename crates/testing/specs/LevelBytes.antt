@@ -26,3 +26,11 @@ bytes_from byte (suc n) i = byte i ∷ bytes_from byte n (suc i)
 pub level_at-same : {K : Type 0} (eq : K → K → Bool) → IsEquivalence eq → (ps : List (K × ℕ)) (a b : K) → eq a b ≡ true → level_at eq ps a ≡ level_at eq ps b
 level_at-same eq e [] a b h = refl
 level_at-same eq e (p ∷ ps) a b h = (λ i. if (e.symm p.0 a ∙ e.congr a b p.0 h ∙ e.symm b p.0) i then p.1 else level_at eq ps a) ∙ ap (λ n. if eq p.0 b then p.1 else n) (level_at-same eq e ps a b h)
+
+-- the digest of a key, n bytes long
+abbrev pub level_bytes : {K : Type 0} → ℕ → (K → K → Bool) → List (K × ℕ) → K → List ℕ
+level_bytes n eq ps k = bytes_from (level_byte (level_at eq ps k)) n 0
+
+-- equal keys have equal digests
+pub level_bytes-same : {K : Type 0} (n : ℕ) (eq : K → K → Bool) → IsEquivalence eq → (ps : List (K × ℕ)) (a b : K) → eq a b ≡ true → level_bytes n eq ps a ≡ level_bytes n eq ps b
+level_bytes-same n eq e ps a b h = ap (λ level. bytes_from (level_byte level) n 0) (level_at-same eq e ps a b h)

@@ -4,7 +4,7 @@ ghost use Rattle.std.specs.Prelude.{◌≡◌};
 ghost use Rattle.std.specs.Cmp.Rules.{comparing};
 ghost use Rattle.std.proofs.Common.{ap, lit<, refl, rules};
 ghost use Rattle.std.proofs.lemmas.Bool.{eqb-true};
-ghost use Rattle.testing.specs.LevelBytes.{level_at, level_byte, value_byte, bytes_from, level_at-same};
+ghost use Rattle.testing.specs.LevelBytes.{level_byte, value_byte, bytes_from, level_bytes, level_bytes-same};
 
 use super::{LevelHasher, Value, level_digest, level_of, value_digest};
 use crate::descending::DescendingNumber;
@@ -12,9 +12,9 @@ use crate::keys::CaselessText;
 use merkle_digest::{Digest, Hasher};
 
 impl Hasher<32, [u8; 2]> for LevelHasher<[u8; 2]> {
-    ghost digest_of = { λ hasher key. bytes_from (level_byte (level_at ⟦<[u8; 2] as PartialEq>⟧.eq hasher key)) 32 0 };
+    ghost digest_of = { level_bytes 32 ⟦<[u8; 2] as PartialEq>⟧.eq };
 
-    ghost respects_eq = { λ hasher a b equal. ap (λ level. bytes_from (level_byte level) 32 0) (level_at-same ⟦<[u8; 2] as PartialEq>⟧.eq (Prim.search (comparing, rules)) hasher a b equal) };
+    ghost respects_eq = { level_bytes-same 32 ⟦<[u8; 2] as PartialEq>⟧.eq (Prim.search (comparing, rules)) };
 
     ghost fits = { lit< tt };
 
@@ -24,9 +24,9 @@ impl Hasher<32, [u8; 2]> for LevelHasher<[u8; 2]> {
 }
 
 impl Hasher<200, [u8; 2]> for LevelHasher<[u8; 2]> {
-    ghost digest_of = { λ hasher key. bytes_from (level_byte (level_at ⟦<[u8; 2] as PartialEq>⟧.eq hasher key)) 200 0 };
+    ghost digest_of = { level_bytes 200 ⟦<[u8; 2] as PartialEq>⟧.eq };
 
-    ghost respects_eq = { λ hasher a b equal. ap (λ level. bytes_from (level_byte level) 200 0) (level_at-same ⟦<[u8; 2] as PartialEq>⟧.eq (Prim.search (comparing, rules)) hasher a b equal) };
+    ghost respects_eq = { level_bytes-same 200 ⟦<[u8; 2] as PartialEq>⟧.eq (Prim.search (comparing, rules)) };
 
     ghost fits = { lit< tt };
 
@@ -36,9 +36,9 @@ impl Hasher<200, [u8; 2]> for LevelHasher<[u8; 2]> {
 }
 
 impl Hasher<32, DescendingNumber> for LevelHasher<DescendingNumber> {
-    ghost digest_of = { λ hasher key. bytes_from (level_byte (level_at ⟦<DescendingNumber as PartialEq>⟧.eq hasher key)) 32 0 };
+    ghost digest_of = { level_bytes 32 ⟦<DescendingNumber as PartialEq>⟧.eq };
 
-    ghost respects_eq = { λ hasher a b equal. ap (λ level. bytes_from (level_byte level) 32 0) (level_at-same ⟦<DescendingNumber as PartialEq>⟧.eq (Prim.search (comparing, rules)) hasher a b equal) };
+    ghost respects_eq = { level_bytes-same 32 ⟦<DescendingNumber as PartialEq>⟧.eq (Prim.search (comparing, rules)) };
 
     ghost fits = { lit< tt };
 
@@ -48,9 +48,9 @@ impl Hasher<32, DescendingNumber> for LevelHasher<DescendingNumber> {
 }
 
 impl Hasher<32, CaselessText> for LevelHasher<CaselessText> {
-    ghost digest_of = { λ hasher key. bytes_from (level_byte (level_at ⟦<CaselessText as PartialEq>⟧.eq hasher key)) 32 0 };
+    ghost digest_of = { level_bytes 32 ⟦<CaselessText as PartialEq>⟧.eq };
 
-    ghost respects_eq = { λ hasher a b equal. ap (λ level. bytes_from (level_byte level) 32 0) (level_at-same ⟦<CaselessText as PartialEq>⟧.eq (Prim.search (comparing, rules)) hasher a b equal) };
+    ghost respects_eq = { level_bytes-same 32 ⟦<CaselessText as PartialEq>⟧.eq (Prim.search (comparing, rules)) };
 
     ghost fits = { lit< tt };
 
@@ -60,9 +60,9 @@ impl Hasher<32, CaselessText> for LevelHasher<CaselessText> {
 }
 
 impl Hasher<0, String> for LevelHasher<String> {
-    ghost digest_of = { λ hasher key. bytes_from (level_byte (level_at ⟦<String as PartialEq>⟧.eq hasher key)) 0 0 };
+    ghost digest_of = { level_bytes 0 ⟦<String as PartialEq>⟧.eq };
 
-    ghost respects_eq = { λ hasher a b equal. ap (λ level. bytes_from (level_byte level) 0 0) (level_at-same ⟦<String as PartialEq>⟧.eq (Prim.search (comparing, rules)) hasher a b equal) };
+    ghost respects_eq = { level_bytes-same 0 ⟦<String as PartialEq>⟧.eq (Prim.search (comparing, rules)) };
 
     ghost fits = { lit< tt };
 
@@ -72,9 +72,9 @@ impl Hasher<0, String> for LevelHasher<String> {
 }
 
 impl Hasher<1, String> for LevelHasher<String> {
-    ghost digest_of = { λ hasher key. bytes_from (level_byte (level_at ⟦<String as PartialEq>⟧.eq hasher key)) 1 0 };
+    ghost digest_of = { level_bytes 1 ⟦<String as PartialEq>⟧.eq };
 
-    ghost respects_eq = { λ hasher a b equal. ap (λ level. bytes_from (level_byte level) 1 0) (level_at-same ⟦<String as PartialEq>⟧.eq (Prim.search (comparing, rules)) hasher a b equal) };
+    ghost respects_eq = { level_bytes-same 1 ⟦<String as PartialEq>⟧.eq (Prim.search (comparing, rules)) };
 
     ghost fits = { lit< tt };
 
