@@ -7,7 +7,7 @@ use std::alloc::{AllocError, Global};
 use std::process::Abort;
 use std::test::Fail;
 
-/// A line for each: the local list, the peer's list, and the ranges. The last seven are of pages that lie within one another, and not.
+/// A line for each: the local list, the peer's list, and the ranges. In the last seven one page lies within the other, or neither does.
 const WORKED_ANSWERS: &str = "\
 3-7:1 | 1-5:2 | 1-3
 5-9:1 | 1-3:2 | 1-3

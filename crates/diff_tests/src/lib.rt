@@ -1,4 +1,4 @@
-//! Tests of page ranges, snapshots, lists of ranges and `diff`, by lists that were worked out by hand and answers of the Rust crate.
+//! Tests of page ranges, snapshots, lists of ranges and `diff`, by lists worked out by hand and answers of the Rust crate.
 #![tactic(auto)]
 
 #[cfg(test)]

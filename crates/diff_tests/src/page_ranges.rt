@@ -1,4 +1,4 @@
-//! Page ranges: the bounds that they take, and what they print.
+//! Page ranges: the bounds that they take, what they print, and their clones.
 use merkle_diff::{DiffRange, PageRange};
 use merkle_digest::PageDigest;
 use std::cmp::Reverse;

@@ -1,4 +1,4 @@
-//! What the doc comments show.
+//! What the doc comments of `merkle_diff` show.
 use merkle_diff::parts::RangeList;
 use merkle_diff::{OwnedPageRange, PageRange, PageRangeSnapshot, diff, diff_snapshots};
 use merkle_digest::PageDigest;

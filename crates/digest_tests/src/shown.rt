@@ -1,4 +1,4 @@
-//! What the doc comments show. The digest is a published vector of SipHash.
+//! What the doc comments of `merkle_digest` show. The digest is a published vector of SipHash.
 use merkle_digest::{Hasher, SipHasher, ValueDigest};
 use std::test::Fail;
 

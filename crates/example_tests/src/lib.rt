@@ -1,4 +1,4 @@
-//! Each example is run once, with answers that were worked out by hand.
+//! The examples are run, with answers worked out by hand or by another program.
 #![tactic(auto)]
 
 #[cfg(test)]

@@ -64,7 +64,7 @@ fn set(tree: &mut Tree, key: String, value: u64) -> Result<(), AllocError> {
     Ok(())
 }
 
-/// What a tree of `bananas` asks another for, which has one root hash with it, and what once the other has another value.
+/// What a tree of `bananas` asks an equal one for, and what once that one has another value.
 fn asked_before_and_after(alloc: Global) -> Result<(String, String), Fail> {
     let (mut local, digest) = bananas(alloc)?;
     let (mut peer, same) = bananas(alloc)?;

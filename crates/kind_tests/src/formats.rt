@@ -26,7 +26,7 @@ fn builder(format: PageFormat) -> Builder<SipHasher> {
     Builder::default().with_page_format(format)
 }
 
-/// How a builder of a page format is made: as it is, as a clone, or with another hasher or level base set afterwards.
+/// How a builder of a page format is made: as it is, as a clone, or with the hasher or another level base set afterwards.
 #[derive(Clone, Copy)]
 enum Way {
     Plain,

@@ -82,7 +82,7 @@ fn texts(alloc: Global, tree: &Caseless) -> Result<String, Fail> {
     Ok(texts)
 }
 
-/// The texts and the root hash of the tree of `Banana` with the value 1, which is then set by `BANANA` to 2.
+/// The texts and the root hash of the tree of `Banana`, set to 1 and then by `BANANA` to 2.
 fn set_twice(alloc: Global) -> Result<(String, RootHash), Fail> {
     let mut tree: Caseless = MerkleSearchTree::with_defaults(alloc);
     set(alloc, &mut tree, "Banana", 1)?;

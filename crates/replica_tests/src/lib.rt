@@ -1,4 +1,4 @@
-//! Tests that cross the crates: replicas that pull from each other, with answers from outside, and refused memory.
+//! Tests of replicas that pull from each other, with answers from outside, and of refused memory.
 #![tactic(auto)]
 
 #[cfg(test)]

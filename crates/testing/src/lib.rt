@@ -1,4 +1,4 @@
-//! What the tests of the crates share: a hasher that puts each key on the level that a test asks for, values, and kinds of keys.
+//! What tests of trees and of replicas share: a hasher that puts each key on the level that a test asks for, values, and kinds of keys.
 #![tactic(auto)]
 
 mod descending;

@@ -175,8 +175,7 @@ fn joins_pages_of_one_level(rt: HostRuntime) -> Result<(), Fail> {
     Ok(())
 }
 
-/// How many pages of the tree of the key 1 lack a digest without it, and then its root hash, which stays where it is asked again for
-/// the key's removal.
+/// How many digests the hashed tree of the key 1 lacks once the key is out, and its root hash then, which a second removal keeps.
 fn without_the_last(alloc: Global) -> Result<(usize, RootHash), Fail> {
     let mut tree = hashed_tree(alloc, PageFormat::V1, "1:0")?;
     let is_out = tree.remove(&number_key(1))?.is_some();
