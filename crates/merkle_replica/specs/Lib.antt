@@ -8,6 +8,7 @@ pub mod Places
 pub mod Puts
 pub mod Parted
 pub mod Steps
+pub mod Faults
 pub mod Seek
 pub use Rattle.key_order.specs.Order
 pub use Rattle.key_order.specs.Interval

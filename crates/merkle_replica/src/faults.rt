@@ -1,5 +1,9 @@
 //! What errors say.
 
+ghost use Rattle.std.specs.Prelude.{Some};
+ghost use Rattle.merkle_search_tree.specs.Loading.{refusal_text};
+ghost use Rattle.merkle_replica.specs.Faults.{cut_text, pull_text, turns_text, join_text};
+
 use crate::pull::PullError;
 use crate::puts::PutsCut;
 use crate::replica::RowsRefused;
@@ -10,6 +14,8 @@ use std::fmt;
 
 /// Says that memory was refused, and how many rows were joined before.
 impl<K> fmt::Display for PullError<K> {
+    ghost output = { λ error. Some (pull_text error) };
+
     fn fmt<W: fmt::Write>(&self, f: &mut fmt::Formatter<W>) -> fmt::Result {
         match self {
             PullError::Memory => write!(f, "memory was refused before a row was joined"),
@@ -28,6 +34,8 @@ impl<K: fmt::Debug + Drop> Error for PullError<K> {}
 
 /// Says how many pulls were made before the one that was refused, and what that one says.
 impl<K> fmt::Display for TurnsError<K> {
+    ghost output = { λ error. Some (turns_text error) };
+
     fn fmt<W: fmt::Write>(&self, f: &mut fmt::Formatter<W>) -> fmt::Result {
         write!(f, "after {} pulls {}", self.finished.len(), self.fault)
     }
@@ -37,6 +45,8 @@ impl<K: fmt::Debug + Drop> Error for TurnsError<K> {}
 
 /// Says that memory was refused, or which row doesn't ascend.
 impl<K, V> fmt::Display for RowsRefused<K, V> {
+    ghost output = { λ refused. Some (refusal_text refused.why) };
+
     fn fmt<W: fmt::Write>(&self, f: &mut fmt::Formatter<W>) -> fmt::Result {
         self.why.fmt(f)
     }
@@ -46,6 +56,8 @@ impl<K: fmt::Debug + Drop, V: fmt::Debug + Drop> Error for RowsRefused<K, V> {}
 
 /// Says that memory was refused, and how many rows were put before.
 impl fmt::Display for PutsCut {
+    ghost output = { λ cut. Some (cut_text cut.done) };
+
     fn fmt<W: fmt::Write>(&self, f: &mut fmt::Formatter<W>) -> fmt::Result {
         write!(f, "memory was refused after {} rows", self.done)
     }
@@ -55,6 +67,8 @@ impl Error for PutsCut {}
 
 /// Says that the rows don't ascend, or how many were joined before memory was refused.
 impl<K, V> fmt::Display for JoinRefused<K, V> {
+    ghost output = { λ refused. Some (join_text refused) };
+
     fn fmt<W: fmt::Write>(&self, f: &mut fmt::Formatter<W>) -> fmt::Result {
         match self {
             JoinRefused::NotAscending(_) => write!(

@@ -1,5 +1,6 @@
 -- A tree that is being loaded from rows in ascending key order.
-use Rattle.std.specs.Prelude.{◌≡◌, ℕ, ◌-◌, ◌^◌, min, List, [], ◌∷◌, ◌++◌, map, length, ⊤}
+use Rattle.std.specs.Prelude.{◌≡◌, ℕ, ◌-◌, ◌^◌, min, List, [], ◌∷◌, ◌++◌, map, length, codes, ⊤}
+use Rattle.std.specs.Fmt.{decimal}
 use Rattle.std.specs.declared.cmp.Ordering.{Ordering}
 use Rattle.key_order.specs.Map.{IsMap}
 use Rattle.merkle_digest.specs.Level.{level_of}
@@ -41,3 +42,8 @@ module _ {K X : Type 0} (cmp : K → K → Ordering) where
   abbrev pub LoadFails : (List (K × X) → Type 0) → LoadRefused → Type 0
   LoadFails Came Memory = ⊤
   LoadFails Came (NotAscending at) = (rows : List (K × X)) × (row : K × X) × Came (rows ++ row ∷ []) × EndsAscent rows row.0 × (at ≡ row_count rows)
+
+-- what a refusal says
+abbrev pub refusal_text : LoadRefused → List ℕ
+refusal_text Memory = codes "memory was refused, and no row was loaded"
+refusal_text (NotAscending at) = codes "the key at place " ++ decimal at ++ codes " isn't above the one before it, and no row was loaded"

@@ -38,6 +38,11 @@ impl From<AllocError> for LoadRefused {
 
 /// Says that memory was refused, or which row doesn't ascend.
 impl fmt::Display for LoadRefused {
+    ghost use Rattle.std.specs.Prelude.{Some};
+    ghost use Rattle.merkle_search_tree.specs.Loading.{refusal_text};
+
+    ghost output = { λ why. Some (refusal_text why) };
+
     fn fmt<W: fmt::Write>(&self, f: &mut fmt::Formatter<W>) -> fmt::Result {
         match self {
             LoadRefused::Memory => write!(f, "memory was refused, and no row was loaded"),

@@ -37,7 +37,12 @@ impl<K> UpsertRefused<K> {
     }
 }
 
+/// Says that memory was refused, and that the key was not set.
 impl<K> fmt::Display for UpsertRefused<K> {
+    ghost use Rattle.std.specs.Prelude.{Some, codes};
+
+    ghost output = { λ _. Some (codes "memory was refused, and the key was not set") };
+
     fn fmt<W: fmt::Write>(&self, f: &mut fmt::Formatter<W>) -> fmt::Result {
         write!(f, "memory was refused, and the key was not set")
     }

@@ -1,0 +1,26 @@
+-- What the errors of replicas say.
+use Rattle.std.specs.Prelude.{ℕ, List, ◌++◌, length, codes}
+use Rattle.std.specs.Fmt.{decimal}
+use Rattle.merkle_replica.specs.declared.pull.PullError.{PullError}
+use Rattle.merkle_replica.specs.declared.pull.PullError.TheVariants.{Memory, Partly}
+use Rattle.merkle_replica.specs.declared.turns.TurnsError.{TurnsError}
+use Rattle.merkle_replica.specs.declared.steps.JoinRefused.{JoinRefused}
+use Rattle.merkle_replica.specs.declared.steps.JoinRefused.TheVariants.{NotAscending, Memory}
+
+-- memory was refused after this many rows
+abbrev pub cut_text : ℕ → List ℕ
+cut_text done = codes "memory was refused after " ++ decimal done ++ codes " rows"
+
+-- a pull that was refused
+abbrev pub pull_text : {K : Type 0} → PullError K → List ℕ
+pull_text Memory = codes "memory was refused before a row was joined"
+pull_text (Partly pulled done) = codes "memory was refused after " ++ decimal done ++ codes " of " ++ decimal pulled.joined ++ codes " rows"
+
+-- pulls by turns that were refused
+abbrev pub turns_text : {K : Type 0} → TurnsError K → List ℕ
+turns_text error = codes "after " ++ decimal (length error.finished.items) ++ codes " pulls " ++ pull_text error.fault
+
+-- rows that were not all joined
+abbrev pub join_text : {K V : Type 0} → JoinRefused K V → List ℕ
+join_text (NotAscending rows) = codes "a key isn't above the one before it, and no row was joined"
+join_text (Memory done) = cut_text done
