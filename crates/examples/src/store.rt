@@ -1,9 +1,10 @@
 //! A store that begins with the rows which are at hand in key order, as a program does that reads them from a disk.
-ghost use Rattle.std.specs.Prelude.{◌≡◌, [], ◌∷◌, IfOk, max, nat_eq};
+ghost use Rattle.std.specs.Prelude.{◌≡◌, [], ◌∷◌, IfOk, IfErr, max, nat_eq};
 ghost use Rattle.std.specs.Int.{w64, to_le_bytes};
 ghost use Rattle.key_order.specs.Join.{IsJoin};
 ghost use Rattle.key_order.specs.Text.{text_order};
 ghost use Rattle.merkle_digest.specs.SipHash.{zero_key};
+ghost use Rattle.merkle_search_tree.specs.Loading.{LoadFails, BeginsWith};
 ghost use Rattle.merkle_search_tree.specs.Settings.{default_settings};
 ghost use Rattle.merkle_search_tree.specs.State.{HasSettings};
 ghost use Rattle.merkle_search_tree.specs.declared.builder.PageFormat.TheVariants.{V1};
@@ -31,6 +32,7 @@ pub fn open_rows<V: Join + HashBytes + Drop>(
 ) -> Result<Store<V>, LoadRefused>
     ensures rows { IfOk result (λ store. store.rows ≡ rows.items) }
     ensures defaults { IfOk result (λ store. HasSettings (default_settings V1) store.tree) }
+    ensures refused { IfErr result (λ why. LoadFails text_order (BeginsWith rows.items) why) }
 {
     match Replica::from_rows(alloc, Builder::default(), rows) {
         Ok(store) => Ok(store),
@@ -66,6 +68,7 @@ pub fn open_and_put(
 ) -> Result<(Store<u64>, RootHash), LoadRefused>
     ensures rows { IfOk result (λ opened. IsJoin text_order nat_eq max rows.items ((name, number) ∷ []) opened.0.rows) }
     ensures root_hash { IfOk result (λ opened. IsRootHashOf (to_le_bytes w64) zero_key 16 V1 opened.0.rows opened.1) }
+    ensures refused { IfErr result (λ why. LoadFails text_order (BeginsWith rows.items) why) }
 {
     let mut store = open_rows(alloc, rows)?;
     store.put(name, number)?;

@@ -23,6 +23,10 @@ pub enum WireFault {
 }
 
 impl From<AllocError> for WireFault {
+    ghost use Rattle.examples.specs.declared.wire.WireFault.TheVariants.{Memory};
+
+    ghost from_gives = { λ _ fault. fault ≡ Memory };
+
     fn from(_error: AllocError) -> Self {
         WireFault::Memory
     }
