@@ -4,3 +4,4 @@ pub mod Set
 pub mod Register
 pub mod RegisterLaws
 pub mod Gossip
+pub mod Wire

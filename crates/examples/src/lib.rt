@@ -2,9 +2,11 @@
 #![tactic(auto)]
 
 pub mod gossip;
+mod reading;
 pub mod readme;
 pub mod register;
 pub mod set;
+mod spelling;
 pub mod store;
 pub mod sync;
 pub mod wire;

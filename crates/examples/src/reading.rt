@@ -1,0 +1,157 @@
+//! What came, read from its bytes.
+ghost use Rattle.std.specs.Prelude.{◌≡◌, ◌++◌, [], OnOk, IfOk};
+ghost use Rattle.merkle_diff.specs.OwnedPageRange.{owned_entry};
+ghost use Rattle.merkle_diff.specs.PageRangeSnapshot.{snapshot_entries};
+ghost use Rattle.merkle_replica.specs.Answers.{spans_of};
+ghost use Rattle.examples.specs.Wire.{number_bytes, text_bytes, page_range_bytes, range_bytes, row_bytes, list_bytes};
+
+use crate::wire::WireFault;
+use merkle_diff::{OwnedPageRange, PageRangeSnapshot};
+use merkle_digest::PageDigest;
+use std::alloc::Global;
+
+/// Bytes that came, of which those that are left are still to be read.
+#[derive(Drop)]
+struct Reader<'a> {
+    alloc: Global,
+    left: &'a [u8],
+}
+
+/// The number that eight bytes spell.
+fn number_of(bytes: &[u8; 8]) -> u64
+    ensures { number_bytes result ≡ bytes.now }
+{
+    u64::from_le_bytes(*bytes)
+}
+
+impl Reader<'_> {
+    /// The next number.
+    fn number(&mut self) -> Result<u64, WireFault>
+        ensures { IfOk result (λ number. self.old.left.now ≡ number_bytes number ++ self.new.left.now) }
+    {
+        let Some((number, left)) = self.left.split_first_chunk::<8>() else {
+            return Err(WireFault::Malformed);
+        };
+        self.left = left;
+        Ok(number_of(number))
+    }
+
+    /// The next text.
+    fn text(&mut self) -> Result<String, WireFault>
+        ensures { IfOk result (λ text. self.old.left.now ≡ text_bytes text ++ self.new.left.now) }
+    {
+        let len = self.number()?;
+        let Some((text, left)) = self.left.split_at_checked(len as usize) else {
+            return Err(WireFault::Malformed);
+        };
+        self.left = left;
+        match String::from_utf8(Vec::from_slice(self.alloc, text)?) {
+            Ok(text) => Ok(text),
+            Err(_) => Err(WireFault::Malformed),
+        }
+    }
+
+    /// The next digest.
+    fn digest(&mut self) -> Result<PageDigest, WireFault>
+        ensures { IfOk result (λ digest. self.old.left.now ≡ digest ++ self.new.left.now) }
+    {
+        let Some((digest, left)) = self.left.split_first_chunk::<16>() else {
+            return Err(WireFault::Malformed);
+        };
+        self.left = left;
+        Ok(PageDigest::new(*digest))
+    }
+
+    /// The next page range.
+    fn page_range(&mut self) -> Result<OwnedPageRange<String>, WireFault>
+        ensures { IfOk result (λ range. self.old.left.now ≡ page_range_bytes (owned_entry range) ++ self.new.left.now) }
+    {
+        let first = self.text()?;
+        let last = self.text()?;
+        let digest = self.digest()?;
+        match OwnedPageRange::try_new(first, last, digest) {
+            Some(range) => Ok(range),
+            None => Err(WireFault::Malformed),
+        }
+    }
+
+    /// The next range of names.
+    fn range(&mut self) -> Result<(String, String), WireFault>
+        ensures { IfOk result (λ range. self.old.left.now ≡ range_bytes (record { first = range.0; last = range.1 }) ++ self.new.left.now) }
+    {
+        let first = self.text()?;
+        let last = self.text()?;
+        Ok((first, last))
+    }
+
+    /// The next row.
+    fn row(&mut self) -> Result<(String, u64), WireFault>
+        ensures { IfOk result (λ row. self.old.left.now ≡ row_bytes row ++ self.new.left.now) }
+    {
+        let name = self.text()?;
+        let number = self.number()?;
+        Ok((name, number))
+    }
+
+    /// Nothing: all bytes are read.
+    fn end(&self) -> Result<(), WireFault>
+        ensures { OnOk result (self.now.left.now ≡ []) }
+    {
+        if self.left.is_empty() {
+            Ok(())
+        } else {
+            Err(WireFault::Malformed)
+        }
+    }
+}
+
+/// The page ranges that came.
+pub fn read_page_ranges(alloc: Global, bytes: &[u8]) -> Result<PageRangeSnapshot<String>, WireFault>
+    ensures { IfOk result (λ snapshot. bytes.now ≡ list_bytes page_range_bytes (snapshot_entries snapshot)) }
+{
+    let mut reader = Reader { alloc, left: bytes };
+    let count = reader.number()?;
+    let mut ranges = Vec::new(alloc);
+    'entries: for _done in 0..count {
+        let next = reader.page_range()?;
+        if ranges.push(next).is_err() {
+            return Err(WireFault::Memory);
+        }
+    }
+    reader.end()?;
+    Ok(PageRangeSnapshot::from_owned(alloc, ranges)?)
+}
+
+/// The ranges of names that came.
+pub fn read_ranges(alloc: Global, bytes: &[u8]) -> Result<Vec<(String, String)>, WireFault>
+    ensures { IfOk result (λ ranges. bytes.now ≡ list_bytes range_bytes (spans_of ranges.items)) }
+{
+    let mut reader = Reader { alloc, left: bytes };
+    let count = reader.number()?;
+    let mut ranges = Vec::new(alloc);
+    'entries: for _done in 0..count {
+        let next = reader.range()?;
+        if ranges.push(next).is_err() {
+            return Err(WireFault::Memory);
+        }
+    }
+    reader.end()?;
+    Ok(ranges)
+}
+
+/// The rows that came.
+pub fn read_rows(alloc: Global, bytes: &[u8]) -> Result<Vec<(String, u64)>, WireFault>
+    ensures { IfOk result (λ rows. bytes.now ≡ list_bytes row_bytes rows.items) }
+{
+    let mut reader = Reader { alloc, left: bytes };
+    let count = reader.number()?;
+    let mut rows = Vec::new(alloc);
+    'entries: for _done in 0..count {
+        let next = reader.row()?;
+        if rows.push(next).is_err() {
+            return Err(WireFault::Memory);
+        }
+    }
+    reader.end()?;
+    Ok(rows)
+}

@@ -1,0 +1,87 @@
+//! What is sent, as bytes.
+ghost use Rattle.std.specs.Prelude.{◌≡◌, ◌++◌, OnOk, IfOk, map};
+ghost use Rattle.merkle_diff.specs.PageRange.{entry, entries};
+ghost use Rattle.merkle_replica.specs.Answers.{spans_of};
+ghost use Rattle.examples.specs.Wire.{number_bytes, text_bytes, page_range_bytes, range_bytes, row_bytes, list_bytes};
+
+use merkle_diff::PageRange;
+use std::alloc::{AllocError, Global};
+
+/// Writes a number.
+fn put_number(bytes: &mut Vec<u8>, number: u64) -> Result<(), AllocError>
+    ensures { OnOk result (bytes.new.items ≡ bytes.old.items ++ number_bytes number) }
+{
+    bytes.extend_from_slice(&number.to_le_bytes())
+}
+
+/// Writes a text.
+fn put_text(bytes: &mut Vec<u8>, text: &String) -> Result<(), AllocError>
+    ensures { OnOk result (bytes.new.items ≡ bytes.old.items ++ text_bytes text.now) }
+{
+    put_number(bytes, text.len() as u64)?;
+    bytes.extend_from_slice(text.as_bytes())
+}
+
+/// Writes a page range.
+fn put_page_range(bytes: &mut Vec<u8>, range: &PageRange<'_, String>) -> Result<(), AllocError>
+    ensures { OnOk result (bytes.new.items ≡ bytes.old.items ++ page_range_bytes (entry range.now)) }
+{
+    put_text(bytes, range.start())?;
+    put_text(bytes, range.end())?;
+    bytes.extend_from_slice(range.hash().as_bytes())
+}
+
+/// Page ranges as bytes.
+pub fn spell_page_ranges(
+    alloc: Global,
+    ranges: &[PageRange<'_, String>],
+) -> Result<Vec<u8>, AllocError>
+    ensures { IfOk result (λ bytes. bytes.items ≡ list_bytes page_range_bytes (entries ranges.now)) }
+{
+    let mut bytes = Vec::new(alloc);
+    put_number(&mut bytes, ranges.len() as u64)?;
+    'entries: for range in ranges {
+        put_page_range(&mut bytes, range)?;
+    }
+    Ok(bytes)
+}
+
+/// Writes a range of names.
+fn put_range(bytes: &mut Vec<u8>, range: &(String, String)) -> Result<(), AllocError>
+    ensures { OnOk result (bytes.new.items ≡ bytes.old.items ++ range_bytes (record { first = range.now.0; last = range.now.1 })) }
+{
+    put_text(bytes, &range.0)?;
+    put_text(bytes, &range.1)
+}
+
+/// Ranges of names as bytes.
+pub fn spell_ranges(alloc: Global, ranges: &[(String, String)]) -> Result<Vec<u8>, AllocError>
+    ensures { IfOk result (λ bytes. bytes.items ≡ list_bytes range_bytes (spans_of ranges.now)) }
+{
+    let mut bytes = Vec::new(alloc);
+    put_number(&mut bytes, ranges.len() as u64)?;
+    'entries: for range in ranges {
+        put_range(&mut bytes, range)?;
+    }
+    Ok(bytes)
+}
+
+/// Writes a row.
+fn put_row(bytes: &mut Vec<u8>, row: &(String, u64)) -> Result<(), AllocError>
+    ensures { OnOk result (bytes.new.items ≡ bytes.old.items ++ row_bytes row.now) }
+{
+    put_text(bytes, &row.0)?;
+    put_number(bytes, row.1)
+}
+
+/// Rows as bytes.
+pub fn spell_rows(alloc: Global, rows: &[&(String, u64)]) -> Result<Vec<u8>, AllocError>
+    ensures { IfOk result (λ bytes. bytes.items ≡ list_bytes row_bytes (map (λ row. row.now) rows.now)) }
+{
+    let mut bytes = Vec::new(alloc);
+    put_number(&mut bytes, rows.len() as u64)?;
+    'entries: for row in rows {
+        put_row(&mut bytes, row)?;
+    }
+    Ok(bytes)
+}
