@@ -4,8 +4,9 @@ use Rattle.std.specs.Bool.{⊤}
 use Rattle.std.specs.List.{AllByRecursion, flat_map}
 use Rattle.std.proofs.lemmas.List.{append_assoc, append-nil, length-append, map-append, take_more}
 use Rattle.std.proofs.lemmas.Grind.{flat_map-append}
+use Rattle.merkle_search_tree.proofs.Streams.{join_tells}
 use Rattle.mst_c.specs.Wire.{number_bytes, list_bytes}
-use Rattle.mst_c.proofs.Strings.{one_number, same_parts}
+use Rattle.mst_c.proofs.Strings.{one_number}
 
 -- one entry more is written
 pub one_more : {X Y : Type 0} (to : X → Y) (bytes : Y → List ℕ) (xs : List X) (i : ℕ) (x : X) (front old new : List ℕ)
@@ -80,7 +81,7 @@ module _ {X : Type 0} (bytes : X → List ℕ) (some : (x : X) → 1 ≤ length 
   pub same_body : (mark : List ℕ) (n : ℕ) (body all : List ℕ) (xs : List X) → n < 2 ^ 64 → length all < 2 ^ 64
       → all ≡ mark ++ (number_bytes n ++ body) → all ≡ list_bytes mark bytes xs → (n ≡ length xs) × (body ≡ flat_map bytes xs)
   same_body mark n body all xs fits short e f =
-      let behind = same_parts mark mark (number_bytes n ++ body) (number_bytes (length xs) ++ flat_map bytes xs) (λ i. length mark) (sym e ∙ f) in
+      let behind = join_tells mark mark (number_bytes n ++ body) (number_bytes (length xs) ++ flat_map bytes xs) (λ i. length mark) (sym e ∙ f) in
       one_number n (length xs) body (flat_map bytes xs) fits (few mark all xs short f) behind.1
 
   module _ {Y : Type 0} (P : X → Type 0) (seen : X → Y)

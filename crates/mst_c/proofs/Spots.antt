@@ -2,10 +2,11 @@
 use Rattle.std.proofs.Common.{◌≡◌, refl, Bool, true, false, ℕ, ◌-◌, ◌<◌, ◌≤◌, ◌^◌, List, [], ◌∷◌, ◌++◌, length, get_or, subst, drop, sym, ap, ◌∙◌, arith}
 use Rattle.std.specs.List.{AllByRecursion, flat_map}
 use Rattle.std.proofs.lemmas.List.{append_assoc, length-append, drop_at}
+use Rattle.merkle_search_tree.proofs.Streams.{join_tells}
 use Rattle.mst_c.specs.Spots.{AreEntries, IsList, EntryParts, digest_len, mark_of, parts_bytes}
 use Rattle.mst_c.specs.Wire.{list_bytes, number_bytes, row_bytes}
 use Rattle.mst_c.proofs.Lists.{list_length, same_body}
-use Rattle.mst_c.proofs.Strings.{one_row_with, same_parts, some_row}
+use Rattle.mst_c.proofs.Strings.{one_row_with, some_row}
 
 -- an entry as its keys, and its digest with what is behind
 pub parts_flat : (e : EntryParts) (rest : List ℕ) → parts_bytes e ++ rest ≡ row_bytes e.0 ++ (e.1 ++ rest)
@@ -44,7 +45,7 @@ module _ (list : List ℕ) (b : Bool) (m : ℕ) (body : List ℕ) (e : list ≡ 
 
   -- the mark tells which kind of list it is
   pub one_kind : (c : Bool) (n : ℕ) (other : List ℕ) → list ≡ mark_of c ++ (number_bytes n ++ other) → b ≡ c
-  one_kind c n other f = one_mark b c (same_parts (mark_of b) (mark_of c) (number_bytes m ++ body) (number_bytes n ++ other) (mark_length b ∙ sym (mark_length c)) (sym e ∙ f)).0
+  one_kind c n other f = one_mark b c (join_tells (mark_of b) (mark_of c) (number_bytes m ++ body) (number_bytes n ++ other) (mark_length b ∙ sym (mark_length c)) (sym e ∙ f)).0
 
   -- what is in front of the entries is read in one way
   pub one_front : m < 2 ^ 64 → length list < 2 ^ 64 → IsList list → AreEntries b m body

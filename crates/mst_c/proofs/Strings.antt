@@ -1,21 +1,13 @@
 -- Numbers, strings and rows as bytes: each tells where it ends, so it is read in one way.
-use Rattle.std.proofs.Common.{◌≡◌, ℕ, ◌+◌, ◌<◌, ◌≤◌, ◌^◌, List, ◌++◌, length, take, drop, sym, ap, ◌∙◌, arith}
-use Rattle.std.specs.Int.{w64, from_le_bytes}
-use Rattle.std.proofs.lemmas.List.{append_assoc, length-append, take_at, drop_at}
-use Rattle.std.proofs.lemmas.Nat.{from_le_bytes-to_le_bytes_8}
+use Rattle.std.proofs.Common.{◌≡◌, ℕ, ◌+◌, ◌<◌, ◌≤◌, ◌^◌, List, ◌++◌, length, sym, ap, ◌∙◌, arith}
+use Rattle.std.proofs.lemmas.List.{append_assoc, length-append}
+use Rattle.merkle_search_tree.proofs.Streams.{join_tells, number_tells}
 use Rattle.mst_c.specs.Wire.{number_bytes, text_bytes, row_bytes}
-
--- two appends of fronts of one length are part by part the same
-pub same_parts : {X : Type 0} (a b c d : List X) → length a ≡ length b → a ++ c ≡ b ++ d → (a ≡ b) × (c ≡ d)
-same_parts a b c d l e = (
-  sym (take_at a c (length b) l) ∙ ap (take (length b)) e ∙ take_at b d (length b) (λ i. length b),
-  sym (drop_at a c (length b) l) ∙ ap (drop (length b)) e ∙ drop_at b d (length b) (λ i. length b),
-)
 
 pub one_number : (m n : ℕ) (r s : List ℕ) → m < 2 ^ 64 → n < 2 ^ 64 → number_bytes m ++ r ≡ number_bytes n ++ s → (m ≡ n) × (r ≡ s)
 one_number m n r s p q e =
-    let both = same_parts (number_bytes m) (number_bytes n) r s (λ i. 8) e in
-    (sym (from_le_bytes-to_le_bytes_8 m p) ∙ ap (from_le_bytes w64) both.0 ∙ from_le_bytes-to_le_bytes_8 n q, both.1)
+    let both = join_tells (number_bytes m) (number_bytes n) r s (λ i. 8) e in
+    (number_tells m n p q both.0, both.1)
 
 -- a string that is written at the front isn't longer than the whole
 text_fits : (t r bytes : List ℕ) → bytes ≡ text_bytes t ++ r → length t + 8 + length r ≡ length bytes
@@ -27,7 +19,7 @@ one_text t u r s fits e =
     let at_t : length t < 2 ^ 64 = omega (arith, text_fits t r (text_bytes t ++ r) (λ i. text_bytes t ++ r)) in
     let at_u : length u < 2 ^ 64 = omega (arith, text_fits u s (text_bytes t ++ r) e) in
     let both = one_number (length t) (length u) (t ++ r) (u ++ s) at_t at_u flat in
-    same_parts t u r s both.0 both.1
+    join_tells t u r s both.0 both.1
 
 pub one_row : (x y : List ℕ × List ℕ) (r s : List ℕ) → length (row_bytes x ++ r) < 2 ^ 64 → row_bytes x ++ r ≡ row_bytes y ++ s → (x ≡ y) × (r ≡ s)
 one_row x y r s fits e =
@@ -41,7 +33,7 @@ pub one_row_with : (x y : List ℕ × List ℕ) (a b r s : List ℕ) → length 
     → row_bytes x ++ (a ++ r) ≡ row_bytes y ++ (b ++ s) → (x ≡ y) × (a ≡ b) × (r ≡ s)
 one_row_with x y a b r s same fits e =
     let both = one_row x y (a ++ r) (b ++ s) fits e in
-    let rest = same_parts a b r s same both.1 in
+    let rest = join_tells a b r s same both.1 in
     (both.0, rest.0, rest.1)
 
 pub row_length : (x : List ℕ × List ℕ) (rest : List ℕ) → length (row_bytes x ++ rest) ≡ 16 + length x.0 + length x.1 + length rest
