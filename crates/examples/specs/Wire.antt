@@ -1,9 +1,10 @@
 -- Page ranges, ranges of names, and rows, as bytes.
-use Rattle.std.specs.Prelude.{ℕ, List, ◌++◌, length, string_bytes}
+use Rattle.std.specs.Prelude.{◌≡◌, ℕ, List, ◌++◌, length, string_bytes}
 use Rattle.std.specs.List.{flat_map}
 use Rattle.std.specs.Int.{w64, to_le_bytes}
+use Rattle.key_order.specs.Order.{Upto}
 use Rattle.key_order.specs.Interval.{Span}
-use Rattle.key_order.specs.Text.{Text}
+use Rattle.key_order.specs.Text.{Text, text_order}
 use Rattle.merkle_diff.specs.Entry.{Entry}
 
 -- a number: eight bytes, the lowest first
@@ -29,3 +30,7 @@ row_bytes r = text_bytes r.0 ++ number_bytes r.1
 -- a list: how many entries it has, and the entries
 abbrev pub list_bytes : {X : Type 0} → (X → List ℕ) → List X → List ℕ
 list_bytes bytes xs = number_bytes (length xs) ++ flat_map bytes xs
+
+-- its first name isn't above its last, and its digest has 16 bytes
+abbrev pub IsPageRange : Entry Text (List ℕ) → Type 0
+IsPageRange e = Upto text_order e.first e.last × (length e.digest ≡ 16)

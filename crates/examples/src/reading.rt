@@ -1,9 +1,14 @@
 //! What came, read from its bytes.
-ghost use Rattle.std.specs.Prelude.{◌≡◌, ◌++◌, [], OnOk, IfOk};
+ghost use Rattle.std.specs.Prelude.{◌≡◌, ◌≢◌, ◌++◌, ℕ, List, [], OnOk, IfOk, Err, length};
+ghost use Rattle.std.specs.List.{AllByRecursion};
+ghost use Rattle.key_order.specs.Interval.{Span};
+ghost use Rattle.key_order.specs.Text.{Text};
+ghost use Rattle.merkle_diff.specs.Entry.{Entry};
 ghost use Rattle.merkle_diff.specs.OwnedPageRange.{owned_entry};
 ghost use Rattle.merkle_diff.specs.PageRangeSnapshot.{snapshot_entries};
 ghost use Rattle.merkle_replica.specs.Answers.{spans_of};
-ghost use Rattle.examples.specs.Wire.{number_bytes, text_bytes, page_range_bytes, range_bytes, row_bytes, list_bytes};
+ghost use Rattle.examples.specs.Wire.{number_bytes, text_bytes, page_range_bytes, range_bytes, row_bytes, list_bytes, IsPageRange};
+ghost use Rattle.examples.specs.declared.wire.WireFault.TheVariants.{Malformed};
 
 use crate::wire::WireFault;
 use merkle_diff::{OwnedPageRange, PageRangeSnapshot};
@@ -27,7 +32,8 @@ fn number_of(bytes: &[u8; 8]) -> u64
 impl Reader<'_> {
     /// The next number.
     fn number(&mut self) -> Result<u64, WireFault>
-        ensures { IfOk result (λ number. self.old.left.now ≡ number_bytes number ++ self.new.left.now) }
+        ensures read { IfOk result (λ number. self.old.left.now ≡ number_bytes number ++ self.new.left.now) }
+        ensures malformed { result ≡ Err Malformed → (number : ℕ) (rest : List ℕ) → self.old.left.now ≢ number_bytes number ++ rest }
     {
         let Some((number, left)) = self.left.split_first_chunk::<8>() else {
             return Err(WireFault::Malformed);
@@ -38,7 +44,8 @@ impl Reader<'_> {
 
     /// The next text.
     fn text(&mut self) -> Result<String, WireFault>
-        ensures { IfOk result (λ text. self.old.left.now ≡ text_bytes text ++ self.new.left.now) }
+        ensures read { IfOk result (λ text. self.old.left.now ≡ text_bytes text ++ self.new.left.now) }
+        ensures malformed { result ≡ Err Malformed → (text : Text) (rest : List ℕ) → self.old.left.now ≢ text_bytes text ++ rest }
     {
         let len = self.number()?;
         let Some((text, left)) = self.left.split_at_checked(len as usize) else {
@@ -53,7 +60,8 @@ impl Reader<'_> {
 
     /// The next digest.
     fn digest(&mut self) -> Result<PageDigest, WireFault>
-        ensures { IfOk result (λ digest. self.old.left.now ≡ digest ++ self.new.left.now) }
+        ensures read { IfOk result (λ digest. self.old.left.now ≡ digest ++ self.new.left.now) }
+        ensures malformed { result ≡ Err Malformed → (digest rest : List ℕ) → length digest ≡ 16 → self.old.left.now ≢ digest ++ rest }
     {
         let Some((digest, left)) = self.left.split_first_chunk::<16>() else {
             return Err(WireFault::Malformed);
@@ -64,7 +72,9 @@ impl Reader<'_> {
 
     /// The next page range.
     fn page_range(&mut self) -> Result<OwnedPageRange<String>, WireFault>
-        ensures { IfOk result (λ range. self.old.left.now ≡ page_range_bytes (owned_entry range) ++ self.new.left.now) }
+        ensures read { IfOk result (λ range. self.old.left.now ≡ page_range_bytes (owned_entry range) ++ self.new.left.now) }
+        ensures range { IfOk result (λ range. IsPageRange (owned_entry range)) }
+        ensures malformed { result ≡ Err Malformed → (range : Entry Text (List ℕ)) (rest : List ℕ) → IsPageRange range → self.old.left.now ≢ page_range_bytes range ++ rest }
     {
         let first = self.text()?;
         let last = self.text()?;
@@ -77,7 +87,8 @@ impl Reader<'_> {
 
     /// The next range of names.
     fn range(&mut self) -> Result<(String, String), WireFault>
-        ensures { IfOk result (λ range. self.old.left.now ≡ range_bytes (record { first = range.0; last = range.1 }) ++ self.new.left.now) }
+        ensures read { IfOk result (λ range. self.old.left.now ≡ range_bytes (record { first = range.0; last = range.1 }) ++ self.new.left.now) }
+        ensures malformed { result ≡ Err Malformed → (range : Span Text) (rest : List ℕ) → self.old.left.now ≢ range_bytes range ++ rest }
     {
         let first = self.text()?;
         let last = self.text()?;
@@ -86,7 +97,8 @@ impl Reader<'_> {
 
     /// The next row.
     fn row(&mut self) -> Result<(String, u64), WireFault>
-        ensures { IfOk result (λ row. self.old.left.now ≡ row_bytes row ++ self.new.left.now) }
+        ensures read { IfOk result (λ row. self.old.left.now ≡ row_bytes row ++ self.new.left.now) }
+        ensures malformed { result ≡ Err Malformed → (row : Text × ℕ) (rest : List ℕ) → self.old.left.now ≢ row_bytes row ++ rest }
     {
         let name = self.text()?;
         let number = self.number()?;
@@ -95,7 +107,8 @@ impl Reader<'_> {
 
     /// Nothing: all bytes are read.
     fn end(&self) -> Result<(), WireFault>
-        ensures { OnOk result (self.now.left.now ≡ []) }
+        ensures ended { OnOk result (self.now.left.now ≡ []) }
+        ensures malformed { result ≡ Err Malformed → self.now.left.now ≢ [] }
     {
         if self.left.is_empty() {
             Ok(())
@@ -107,7 +120,8 @@ impl Reader<'_> {
 
 /// The page ranges that came.
 pub fn read_page_ranges(alloc: Global, bytes: &[u8]) -> Result<PageRangeSnapshot<String>, WireFault>
-    ensures { IfOk result (λ snapshot. bytes.now ≡ list_bytes page_range_bytes (snapshot_entries snapshot)) }
+    ensures read { IfOk result (λ snapshot. bytes.now ≡ list_bytes page_range_bytes (snapshot_entries snapshot)) }
+    ensures malformed { result ≡ Err Malformed → (ranges : List (Entry Text (List ℕ))) → AllByRecursion IsPageRange ranges → bytes.now ≢ list_bytes page_range_bytes ranges }
 {
     let mut reader = Reader { alloc, left: bytes };
     let count = reader.number()?;
@@ -124,7 +138,8 @@ pub fn read_page_ranges(alloc: Global, bytes: &[u8]) -> Result<PageRangeSnapshot
 
 /// The ranges of names that came.
 pub fn read_ranges(alloc: Global, bytes: &[u8]) -> Result<Vec<(String, String)>, WireFault>
-    ensures { IfOk result (λ ranges. bytes.now ≡ list_bytes range_bytes (spans_of ranges.items)) }
+    ensures read { IfOk result (λ ranges. bytes.now ≡ list_bytes range_bytes (spans_of ranges.items)) }
+    ensures malformed { result ≡ Err Malformed → (ranges : List (Span Text)) → bytes.now ≢ list_bytes range_bytes ranges }
 {
     let mut reader = Reader { alloc, left: bytes };
     let count = reader.number()?;
@@ -141,7 +156,8 @@ pub fn read_ranges(alloc: Global, bytes: &[u8]) -> Result<Vec<(String, String)>,
 
 /// The rows that came.
 pub fn read_rows(alloc: Global, bytes: &[u8]) -> Result<Vec<(String, u64)>, WireFault>
-    ensures { IfOk result (λ rows. bytes.now ≡ list_bytes row_bytes rows.items) }
+    ensures read { IfOk result (λ rows. bytes.now ≡ list_bytes row_bytes rows.items) }
+    ensures malformed { result ≡ Err Malformed → (rows : List (Text × ℕ)) → bytes.now ≢ list_bytes row_bytes rows }
 {
     let mut reader = Reader { alloc, left: bytes };
     let count = reader.number()?;

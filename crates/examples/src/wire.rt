@@ -2,17 +2,19 @@
 //!
 //! What is sent is a list: how many entries it has, and the entries. A number is eight bytes, the lowest first; a text is the number of
 //! its bytes and its bytes, in UTF-8; a digest is its 16 bytes. Nothing that came is trusted.
-ghost use Rattle.std.specs.Prelude.{◌≡◌, ◌⊎◌, ℕ, List, IfOk, OnOk, OnErr, max, nat_eq, string_bytes};
+ghost use Rattle.std.specs.Prelude.{◌≡◌, ◌≢◌, ◌⊎◌, ℕ, List, IfOk, OnOk, OnErr, Err, max, nat_eq, string_bytes};
+ghost use Rattle.std.specs.List.{AllByRecursion};
 ghost use Rattle.key_order.specs.Interval.{Span};
 ghost use Rattle.key_order.specs.Join.{IsJoin};
-ghost use Rattle.key_order.specs.Map.{rows_in};
+ghost use Rattle.key_order.specs.Map.{IsMap, rows_in};
 ghost use Rattle.key_order.specs.Text.{Text, text_order};
 ghost use Rattle.merkle_diff.specs.Entry.{Entry};
 ghost use Rattle.merkle_search_tree.specs.Ranges.{ranges_of};
 ghost use Rattle.merkle_search_tree.specs.State.{SameSettings};
 ghost use Rattle.merkle_replica.specs.Contents.{side};
-ghost use Rattle.merkle_replica.specs.Steps.{IsAnswerTo};
-ghost use Rattle.examples.specs.Wire.{page_range_bytes, range_bytes, row_bytes, list_bytes};
+ghost use Rattle.merkle_replica.specs.Steps.{AreRanges, IsAnswerTo};
+ghost use Rattle.examples.specs.Wire.{IsPageRange, page_range_bytes, range_bytes, row_bytes, list_bytes};
+ghost use Rattle.examples.specs.declared.wire.WireFault.TheVariants.{Malformed};
 
 use crate::reading::{read_page_ranges, read_ranges, read_rows};
 use crate::spelling::{spell_page_ranges, spell_ranges, spell_rows};
@@ -66,6 +68,7 @@ pub fn send_page_ranges(alloc: Global, store: &mut Store<u64>) -> Result<Vec<u8>
 pub fn ask(alloc: Global, store: &mut Store<u64>, page_ranges: &[u8]) -> Result<Vec<u8>, WireFault>
     ensures asked { let laws = ⟦<SipHasher as Lawful<16, String, u64>>⟧.laws in IfOk result (λ bytes. (theirs : List (Entry Text (List ℕ))) × (found : List (Span Text))
         × (page_ranges.now ≡ list_bytes page_range_bytes theirs) × IsAnswerTo laws (side store.old) theirs found × (bytes.items ≡ list_bytes range_bytes found)) }
+    ensures malformed { result ≡ Err Malformed → (theirs : List (Entry Text (List ℕ))) → AllByRecursion IsPageRange theirs → page_ranges.now ≢ list_bytes page_range_bytes theirs }
     ensures rows { store.new.rows ≡ store.old.rows }
     ensures settings { SameSettings store.old.tree store.new.tree }
 {
@@ -83,6 +86,10 @@ pub fn ask(alloc: Global, store: &mut Store<u64>, page_ranges: &[u8]) -> Result<
 pub fn send_rows(alloc: Global, store: &Store<u64>, asked: &[u8]) -> Result<Vec<u8>, WireFault>
     ensures sent { IfOk result (λ bytes. (ranges : List (Span Text)) × (asked.now ≡ list_bytes range_bytes ranges)
         × (bytes.items ≡ list_bytes row_bytes (rows_in text_order ranges store.now.rows))) }
+
+    // The bytes spell no ranges, or some that don't ascend.
+    ensures malformed { result ≡ Err Malformed → ((ranges : List (Span Text)) → asked.now ≢ list_bytes range_bytes ranges)
+        ⊎ ((ranges : List (Span Text)) × (asked.now ≡ list_bytes range_bytes ranges) × ¬ (AreRanges text_order ranges)) }
 {
     let ranges = read_ranges(alloc, asked)?;
     let Some(found) = store.rows_within(&ranges) else {
@@ -102,6 +109,11 @@ pub fn send_rows(alloc: Global, store: &Store<u64>, asked: &[u8]) -> Result<Vec<
 #[tactic(auto, using(key_order::proofs::Clones::string_clone))]
 pub fn join(alloc: Global, store: &mut Store<u64>, rows: &[u8]) -> Result<(), WireFault>
     ensures joined { OnOk result ((came : List (Text × ℕ)) × (rows.now ≡ list_bytes row_bytes came) × IsJoin text_order nat_eq max store.old.rows came store.new.rows) }
+
+    // The bytes spell no rows, or some that don't ascend.
+    ensures malformed { result ≡ Err Malformed → ((came : List (Text × ℕ)) → rows.now ≢ list_bytes row_bytes came)
+        ⊎ ((came : List (Text × ℕ)) × (rows.now ≡ list_bytes row_bytes came) × ¬ (IsMap text_order came)) }
+
     ensures refused { OnErr result ((store.new.rows ≡ store.old.rows) ⊎ ((came : List (Text × ℕ)) × IsJoin text_order nat_eq max store.old.rows came store.new.rows)) }
     ensures settings { SameSettings store.old.tree store.new.tree }
 {

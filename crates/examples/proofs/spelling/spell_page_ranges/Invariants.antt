@@ -1,6 +1,6 @@
 use Rattle.std.proofs.Common.{◌≡◌, ◌++◌, length, take}
 use Rattle.std.specs.List.{flat_map}
-use Rattle.merkle_diff.specs.PageRange.{entry, entries}
+use Rattle.merkle_diff.specs.PageRange.{entries}
 use Rattle.examples.specs.Wire.{number_bytes, page_range_bytes}
 use Rattle.examples.proofs.spelling.spell_page_ranges.Given as goal
 

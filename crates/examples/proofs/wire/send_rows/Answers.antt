@@ -7,11 +7,11 @@ use Rattle.examples.specs.Wire.{row_bytes, list_bytes}
 use Rattle.examples.proofs.wire.send_rows.Goals as goal
 
 -- the rows that were collected are those in the ranges
-pub returns : goal.returns
-returns c =
+pub returns-clause-sent : goal.returns-clause-sent
+returns-clause-sent c =
     let ran = c.in_ok-rows.ensures.ran in
     let whole = ran.1.2 tt in
     let rows = drained (λ row. row.now) (λ rest. rest) c.in-Some.found ran.0 (whole.0, (ran.1.0, ran.1.1, whole.1)) in
     let collected = ap (map (λ row. row.now)) (c.deref-2.ensures.value ∙ ran.2.0) in
     let within = c.in-Some.ensures.rows ∙ ap (λ ranges. rows_in text_order (spans_of ranges) c.args.store.now.rows) c.deref.ensures.value in
-    record { sent = (spans_of c.in_ok-ranges.ranges.items, c.in_ok-ranges.ensures, c.in_ok-bytes.ensures ∙ ap (list_bytes row_bytes) (collected ∙ rows ∙ within)) }
+    (spans_of c.in_ok-ranges.ranges.items, c.in_ok-ranges.ensures.read, c.in_ok-bytes.ensures ∙ ap (list_bytes row_bytes) (collected ∙ rows ∙ within))
