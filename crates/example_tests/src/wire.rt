@@ -47,3 +47,33 @@ fn bytes_that_are_no_rows_change_nothing(rt: HostRuntime) -> Result<(), Fail> {
     }
     Ok(())
 }
+
+/// A list of one range, from a to a.
+const ASKED: &[u8] = b"\x01\0\0\0\0\0\0\0\x01\0\0\0\0\0\0\0a\x01\0\0\0\0\0\0\0a";
+/// A list of one row, a with 9.
+const SENT: &[u8] = b"\x01\0\0\0\0\0\0\0\x01\0\0\0\0\0\0\0a\x09\0\0\0\0\0\0\0";
+/// A list of two ranges that don't ascend, from b to b and from a to a.
+const FALLING: &[u8] =
+    b"\x02\0\0\0\0\0\0\0\x01\0\0\0\0\0\0\0b\x01\0\0\0\0\0\0\0b\x01\0\0\0\0\0\0\0a\x01\0\0\0\0\0\0\0a";
+
+#[test]
+fn ranges_are_answered_with_their_rows(rt: HostRuntime) -> Result<(), Fail> {
+    let alloc = rt.alloc();
+    let store = open_rows(alloc, numbers(alloc, &[("a", 9), ("b", 7)])?)?;
+    assert_eq!(rt; send_rows(alloc, &store, ASKED)?.as_slice(), SENT);
+    for bytes in MALFORMED {
+        assert!(rt; send_rows(alloc, &store, bytes).err() == Some(WireFault::Malformed));
+    }
+    assert!(rt; send_rows(alloc, &store, FALLING).err() == Some(WireFault::Malformed));
+    Ok(())
+}
+
+#[test]
+fn bytes_that_are_no_page_ranges_are_malformed(rt: HostRuntime) -> Result<(), Fail> {
+    let alloc = rt.alloc();
+    let mut store = open_rows(alloc, numbers(alloc, &[("a", 9)])?)?;
+    for bytes in MALFORMED {
+        assert!(rt; ask(alloc, &mut store, bytes).err() == Some(WireFault::Malformed));
+    }
+    Ok(())
+}

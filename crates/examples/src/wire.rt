@@ -28,7 +28,7 @@ use std::alloc::{AllocError, Global};
 pub enum WireFault {
     /// Memory was refused.
     Memory,
-    /// The bytes are no such list.
+    /// The bytes are no such list, or one of ranges or rows that don't ascend.
     Malformed,
 }
 
