@@ -19,13 +19,6 @@ written_more to bytes xs i x front old new low is was put =
     put ∙ ap (λ t. t ++ bytes (to x)) was ∙ append_assoc front (flat_map bytes (map to (take i xs))) (bytes (to x))
     ∙ ap (λ t. front ++ t) (sym (one_more bytes (map to (take i xs)) (to x)) ∙ ap (flat_map bytes) (sym more ∙ ap (map to) (sym taken)))
 
--- one entry more is read
-pub read_more : {X : Type 0} (bytes : X → List ℕ) (done new : List X) (x : X) (front all left behind : List ℕ)
-    → new ≡ done ++ x ∷ [] → all ≡ front ++ (flat_map bytes done ++ left) → left ≡ bytes x ++ behind → all ≡ front ++ (flat_map bytes new ++ behind)
-read_more bytes done new x front all left behind more was read =
-    was ∙ ap (λ t. front ++ (flat_map bytes done ++ t)) read
-    ∙ ap (λ t. front ++ t) (sym (append_assoc (flat_map bytes done) (bytes x) behind) ∙ ap (λ t. t ++ behind) (sym (one_more bytes done x) ∙ ap (flat_map bytes) (sym more)))
-
 -- what is behind others isn't longer than all
 pub behind_fits : (a b rest all : List ℕ) → length all < 2 ^ 64 → all ≡ a ++ (b ++ rest) → length rest < 2 ^ 64
 behind_fits a b rest all fits e = omega (arith, fits, ap length e, length-append a (b ++ rest), length-append b rest)
@@ -49,43 +42,61 @@ module _ {X : Type 0} (P : X → Type 0) (bytes : X → List ℕ) where
   SpellsRest whole count done left = (all : List X) → AllByRecursion P all → whole ≡ list_bytes bytes all
       → (others : List X) × AllByRecursion P others × (length others + done ≡ count) × (left ≡ flat_map bytes others)
 
-  -- where no entry is read, these are all
-  pub none_read : (some : (x : X) → 1 ≤ length (bytes x)) (whole left : List ℕ) (count : ℕ)
-      → count < 2 ^ 64 → length whole < 2 ^ 64 → whole ≡ number_bytes count ++ left → SpellsRest whole count 0 left
-  none_read some whole left count low fits e all each spelled =
-      let heads = join_tells (number_bytes count) (number_bytes (length all)) left (flat_map bytes all) (λ i. 8) (sym e ∙ spelled) in
-      let few : length all < 2 ^ 64 = omega (arith, no_more all, fits, ap length spelled, length-append (number_bytes (length all)) (flat_map bytes all)) in
-      (all, each, omega (arith, number_tells count (length all) low few heads.0), heads.1)
+  -- of a list of so many entries these were read, and the rest is still to be
+  pub record IsReading (whole : List ℕ) (count done : ℕ) (entries : List X) (left : List ℕ) : Type 0 where
+    pub read : whole ≡ number_bytes count ++ (flat_map bytes entries ++ left)
+    pub counted : length entries ≡ done
+    pub rest : SpellsRest whole count done left
+
+  -- none is read before the first
+  pub none_read : (some : (x : X) → 1 ≤ length (bytes x)) (whole left : List ℕ) (count : ℕ) (entries : List X)
+      → count < 2 ^ 64 → length whole < 2 ^ 64 → entries ≡ [] → whole ≡ number_bytes count ++ left → IsReading whole count 0 entries left
+  none_read some whole left count entries low fits none e = record {
+    read = e ∙ ap (λ xs. number_bytes count ++ (flat_map bytes xs ++ left)) (sym none);
+    counted = ap length none;
+    rest = λ all each spelled.
+        let few : length all < 2 ^ 64 = omega (arith, no_more all, fits, ap length spelled, length-append (number_bytes (length all)) (flat_map bytes all)) in
+        let heads = join_tells (number_bytes count) (number_bytes (length all)) left (flat_map bytes all) (λ i. 8) (sym e ∙ spelled) in
+        (all, each, omega (arith, number_tells count (length all) low few heads.0), heads.1);
+  }
     where
       no_more : (xs : List X) → length xs ≤ length (flat_map bytes xs)
       no_more [] = omega arith
       no_more (x ∷ xs) = omega (arith, some x, no_more xs, length-append (bytes x) (flat_map bytes xs))
 
+  -- one entry more is read
+  pub one_read : (ends : (x y : X) (r s all : List ℕ) → P x → P y → length all < 2 ^ 64 → all ≡ bytes x ++ r → all ≡ bytes y ++ s → r ≡ s)
+      (whole left behind : List ℕ) (count done : ℕ) (entries new : List X) (x : X) → IsReading whole count done entries left
+      → done < count → P x → length whole < 2 ^ 64 → new ≡ entries ++ x ∷ [] → left ≡ bytes x ++ behind → IsReading whole count (done + 1) new behind
+  one_read ends whole left behind count done entries new x kept low p fits more next = record {
+    read = kept.read ∙ ap (λ t. number_bytes count ++ (flat_map bytes entries ++ t)) next
+        ∙ ap (λ t. number_bytes count ++ t) (sym (append_assoc (flat_map bytes entries) (bytes x) behind) ∙ ap (λ t. t ++ behind) (sym (one_more bytes entries x) ∙ ap (flat_map bytes) (sym more)));
+    counted = omega (arith, ap length more, length-append entries (x ∷ []), kept.counted);
+    rest = λ all each spelled. let b = kept.rest all each spelled in after b.0 b.1 b.2 b.3;
+  }
+    where
+      left_fits : length left < 2 ^ 64
+      left_fits = behind_fits (number_bytes count) (flat_map bytes entries) left whole fits kept.read
+
+      after : (xs : List X) → AllByRecursion P xs → length xs + done ≡ count → left ≡ flat_map bytes xs
+          → (others : List X) × AllByRecursion P others × (length others + (done + 1) ≡ count) × (behind ≡ flat_map bytes others)
+      after [] ps n e = absurd (omega (arith, n, low))
+      after (y ∷ ys) ps n e = (ys, ps.1, omega (arith, n), ends x y behind (flat_map bytes ys) left p ps.0 left_fits next e)
+
   -- before all are read, an entry is next
-  pub next_left : (whole left : List ℕ) (count done : ℕ) → SpellsRest whole count done left → done < count
+  pub next_left : (whole left : List ℕ) (count done : ℕ) (entries : List X) → IsReading whole count done entries left → done < count
       → (all : List X) → AllByRecursion P all → whole ≡ list_bytes bytes all → (x : X) × (rest : List ℕ) × P x × (left ≡ bytes x ++ rest)
-  next_left whole left count done spells low all each spelled = let b = spells all each spelled in first b.0 b.1 b.2 b.3
+  next_left whole left count done entries kept low all each spelled = let b = kept.rest all each spelled in first b.0 b.1 b.2 b.3
     where
       first : (xs : List X) → AllByRecursion P xs → length xs + done ≡ count → left ≡ flat_map bytes xs → (x : X) × (rest : List ℕ) × P x × (left ≡ bytes x ++ rest)
       first [] ps n e = absurd (omega (arith, n, low))
       first (x ∷ xs) ps n e = (x, flat_map bytes xs, ps.0, e)
 
   -- once all are read, nothing is left
-  pub nothing_left : (whole left : List ℕ) (count done : ℕ) → SpellsRest whole count done left → done ≡ count
+  pub nothing_left : (whole left : List ℕ) (count done : ℕ) (entries : List X) → IsReading whole count done entries left → done ≡ count
       → (all : List X) → AllByRecursion P all → whole ≡ list_bytes bytes all → left ≡ []
-  nothing_left whole left count done spells last all each spelled = let b = spells all each spelled in none b.0 b.2 b.3
+  nothing_left whole left count done entries kept last all each spelled = let b = kept.rest all each spelled in none b.0 b.2 b.3
     where
       none : (xs : List X) → length xs + done ≡ count → left ≡ flat_map bytes xs → left ≡ []
       none [] n e = e
       none (x ∷ xs) n e = absurd (omega (arith, n, last))
-
-  -- an entry is read
-  pub rest_after : (ends : (x y : X) (r s all : List ℕ) → P x → P y → length all < 2 ^ 64 → all ≡ bytes x ++ r → all ≡ bytes y ++ s → r ≡ s)
-      (whole left behind : List ℕ) (count done : ℕ) (x : X) → SpellsRest whole count done left → done < count → P x → length left < 2 ^ 64 → left ≡ bytes x ++ behind
-      → SpellsRest whole count (done + 1) behind
-  rest_after ends whole left behind count done x spells low p fits read all each spelled = let b = spells all each spelled in after b.0 b.1 b.2 b.3
-    where
-      after : (xs : List X) → AllByRecursion P xs → length xs + done ≡ count → left ≡ flat_map bytes xs
-          → (others : List X) × AllByRecursion P others × (length others + (done + 1) ≡ count) × (behind ≡ flat_map bytes others)
-      after [] ps n e = absurd (omega (arith, n, low))
-      after (y ∷ ys) ps n e = (ys, ps.1, omega (arith, n), ends x y behind (flat_map bytes ys) left p ps.0 fits read e)

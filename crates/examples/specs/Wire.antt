@@ -31,6 +31,6 @@ row_bytes r = text_bytes r.0 ++ number_bytes r.1
 abbrev pub list_bytes : {X : Type 0} → (X → List ℕ) → List X → List ℕ
 list_bytes bytes xs = number_bytes (length xs) ++ flat_map bytes xs
 
--- its first name isn't above its last, and its digest has 16 bytes
+-- what a page range keeps to: its first name isn't above its last, and its digest has 16 bytes
 abbrev pub IsPageRange : Entry Text (List ℕ) → Type 0
 IsPageRange e = Upto text_order e.first e.last × (length e.digest ≡ 16)
