@@ -120,7 +120,7 @@ fn answers_on_100_000_equal_ranges(rt: HostRuntime) -> Result<(), Fail> {
 }
 
 /// A local list, the peer's list, and the ranges.
-const REFUSED: [(&[Entry], &[Entry], &[Bounds]); 3] = [
+const REFUSED: [(&[Entry], &[Entry], &[Bounds]); 4] = [
     (
         &[(1, 4, 1), (1, 2, 2), (4, 4, 3)],
         &[(1, 5, 4), (1, 2, 2), (5, 5, 5)],
@@ -129,6 +129,11 @@ const REFUSED: [(&[Entry], &[Entry], &[Bounds]); 3] = [
     (
         &[(2, 15, 1), (2, 6, 2), (2, 2, 3), (5, 5, 4), (15, 15, 5)],
         &[(2, 11, 42), (2, 6, 2), (2, 2, 3), (5, 5, 4)],
+        &[],
+    ),
+    (
+        &[(2, 15, 1), (2, 6, 2), (2, 2, 3), (5, 5, 4), (15, 15, 5)],
+        &[(2, 15, 1), (2, 6, 2), (2, 2, 3), (5, 5, 4), (15, 15, 5)],
         &[],
     ),
     (

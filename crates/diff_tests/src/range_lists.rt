@@ -68,10 +68,11 @@ fn merges_as_worked_out(rt: HostRuntime) -> Result<(), Fail> {
 }
 
 /// Ranges that are inserted, and what they become.
-const REFUSED: [(&[Bounds], &[Bounds]); 3] = [
+const REFUSED: [(&[Bounds], &[Bounds]); 4] = [
     (&[(0, 0), (4, 4), (1, 4)], &[(0, 0), (1, 4)]),
     (&[(0, 2), (2, 42)], &[(0, 42)]),
     (&[(2, 15), (2, 6), (2, 6)], &[(2, 15)]),
+    (&[(2, 8), (3, 9)], &[(2, 9)]),
 ];
 
 // Under `rt try --test --fail-alloc N` the Nth request for memory is refused: then an insert is. The merge takes none.

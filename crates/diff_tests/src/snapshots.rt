@@ -1,7 +1,8 @@
 ghost use Rattle.std.specs.Prelude.{◌≡◌};
+ghost use Rattle.key_order.proofs.Clones.{unsigned_clone};
 
 use merkle_diff::{OwnedPageRange, PageRange, PageRangeSnapshot, diff_snapshots};
-use merkle_digest::PageDigest;
+use merkle_digest::{PageDigest, SameClone};
 use std::alloc::{AllocError, Global};
 use std::cell::Cell;
 use std::cmp::Reverse;
@@ -206,6 +207,11 @@ impl Clone for Counted<'_> {
             clones_left: self.clones_left,
         })
     }
+}
+
+/// A clone has the same number, by which keys are compared.
+impl SameClone for Counted<'_> {
+    ghost clone_is_same = { λ a b h. unsigned_clone a.number b.number h };
 }
 
 fn counted_ranges<'a>(

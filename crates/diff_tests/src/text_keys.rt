@@ -34,13 +34,11 @@ fn is_right(snapshot: &PageRangeSnapshot<String>) -> bool {
 }
 
 /// A clone of a snapshot.
-#[tactic(auto, using(key_order::proofs::Clones::string_clone))]
 fn cloned(snapshot: &PageRangeSnapshot<String>) -> Result<PageRangeSnapshot<String>, AllocError> {
     snapshot.try_clone()
 }
 
 /// A snapshot of the ranges that a snapshot gives.
-#[tactic(auto, using(key_order::proofs::Clones::string_clone))]
 fn made_anew(
     alloc: Global,
     snapshot: &PageRangeSnapshot<String>,
@@ -53,7 +51,6 @@ fn made_anew(
 }
 
 /// A range with keys of its own.
-#[tactic(auto, using(key_order::proofs::Clones::string_clone))]
 fn owned(
     alloc: Global,
     range: PageRange<'_, String>,
@@ -62,7 +59,6 @@ fn owned(
 }
 
 /// A clone of a range with keys of its own.
-#[tactic(auto, using(key_order::proofs::Clones::string_clone))]
 fn cloned_range(
     alloc: Global,
     range: &OwnedPageRange<String>,

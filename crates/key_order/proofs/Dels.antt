@@ -4,9 +4,10 @@ use Rattle.std.specs.List.{AllByRecursion}
 use Rattle.std.proofs.lemmas.List.Elements.{filter-append}
 use Rattle.std.specs.declared.cmp.Ordering.{Ordering}
 use Rattle.std.specs.declared.cmp.Ordering.TheVariants.{Less, Equal, Greater}
-use Rattle.std.specs.Ordering.{is_eq}
-use Rattle.key_order.specs.Order.{Below}
-use Rattle.key_order.specs.Map.{IsMap, has_key, del, entry}
+use Rattle.std.specs.Cmp.{IsTotalOrder}
+use Rattle.std.specs.Ordering.{is_eq, match_ordering}
+use Rattle.key_order.specs.Order.{Below, Same}
+use Rattle.key_order.specs.Map.{IsMap, has_key, set, del, entry}
 
 module _ {K X : Type 0} (cmp : K → K → Ordering) (k : K) where
   -- no key is equal to k
@@ -99,3 +100,35 @@ module _ {K X : Type 0} (cmp : K → K → Ordering) (k : K) where
       by : (b : Bool) → b || has_key cmp ps k ≡ false → (has_key cmp ps k ≡ false → entry cmp ps k ≡ None) → cond b (Some p) (entry cmp ps k) ≡ None
       by true e f = absurd (cc)
       by false e f = f e
+
+  -- a key that was taken out is not there
+  pub has_key-del : (m : List (K × X)) → has_key cmp (del cmp m k) k ≡ false
+  has_key-del [] = refl
+  has_key-del (p ∷ ps) = by (is_eq (cmp k p.0)) refl (has_key-del ps)
+    where
+      by : (b : Bool) → is_eq (cmp k p.0) ≡ b → has_key cmp (del cmp ps k) k ≡ false → has_key cmp (cond (not b) (p ∷ del cmp ps k) (del cmp ps k)) k ≡ false
+      by true e h = h
+      by false e h = rw e h
+
+module _ {K X : Type 0} (cmp : K → K → Ordering) (o : IsTotalOrder cmp) where
+  -- a new key that is set and taken out again leaves the map
+  pub del-set : (m : List (K × X)) (k j : K) (d : X) → Same cmp j k → has_key cmp m j ≡ false → del cmp (set cmp m k d) j ≡ m
+  del-set [] k j d s h = del-here cmp j (k, d) [] s
+  del-set (r ∷ rs) k j d s h = go (cmp k r.0) refl (del-set rs k j d s (parts (is_eq (cmp j r.0)) (has_key cmp rs j) h).1)
+    where
+      parts : (a b : Bool) → a || b ≡ false → (a ≡ false) × (b ≡ false)
+      parts true b h = absurd (cc)
+      parts false b h = (refl, h)
+
+      not_equal : (w : Ordering) → is_eq w ≡ false → w ≢ Equal
+      not_equal Less h e = cc
+      not_equal Equal h e = absurd (cc)
+      not_equal Greater h e = cc
+
+      other : cmp j r.0 ≢ Equal
+      other = not_equal (cmp j r.0) (parts (is_eq (cmp j r.0)) (has_key cmp rs j) h).0
+
+      go : (w : Ordering) → cmp k r.0 ≡ w → del cmp (set cmp rs k d) j ≡ rs → del cmp (match_ordering w ((k, d) ∷ r ∷ rs) ((r.0, d) ∷ rs) (r ∷ set cmp rs k d)) j ≡ r ∷ rs
+      go Less e rest = del-here cmp j (k, d) (r ∷ rs) s ∙ del-absent cmp j (r ∷ rs) (entry-absent cmp j (r ∷ rs) h)
+      go Equal e rest = absurd (other (o.congr j k r.0 s ∙ e))
+      go Greater e rest = del-past cmp j r (set cmp rs k d) other ∙ ap (λ xs. r ∷ xs) rest

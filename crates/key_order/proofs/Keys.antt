@@ -8,7 +8,7 @@ use Rattle.std.specs.declared.cmp.Ordering.TheVariants.{Less, Equal, Greater}
 use Rattle.key_order.specs.Map.{SameValue, IsPresent, get, has_key}
 use Rattle.key_order.specs.Join.{joined}
 
-eq_reverse : (r : Ordering) → is_eq (ordering_reverse r) ≡ is_eq r
+pub eq_reverse : (r : Ordering) → is_eq (ordering_reverse r) ≡ is_eq r
 eq_reverse Less = refl
 eq_reverse Equal = refl
 eq_reverse Greater = refl

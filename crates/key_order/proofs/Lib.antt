@@ -13,3 +13,6 @@ pub mod Places
 pub mod Numbers
 pub mod Greater
 pub mod Clones
+pub mod SameKeys
+pub mod SameRows
+pub mod Latest

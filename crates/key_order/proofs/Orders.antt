@@ -1,7 +1,7 @@
 -- Laws of a total order, as chains of keys.
 use Rattle.std.proofs.Common.{◌≡◌, ℕ, Bool, true, false, not, ◌&&◌, List, [], ◌∷◌, refl, sym, ◌∙◌, ap, ◌⊎◌, inl, inr, arith, rules}
 use Rattle.std.proofs.lemmas.Grind.{common_steps}
-use Rattle.std.specs.Cmp.{IsTotalOrder, upto as upto_trans, tied_itself, tied_back}
+use Rattle.std.specs.Cmp.{IsTotalOrder, upto as upto_trans, tied_itself, tied_back, alike_right}
 use Rattle.std.specs.Ordering.{is_gt, is_lt, ordering_reverse}
 use Rattle.std.specs.declared.cmp.Ordering.{Ordering}
 use Rattle.std.specs.declared.cmp.Ordering.TheVariants.{Less, Equal, Greater}
@@ -84,6 +84,16 @@ module _ {K : Type 0} (cmp : K → K → Ordering) (o : IsTotalOrder cmp) where
 
   pub same_from : (a b : K) → Upto cmp a b → Upto cmp b a → Same cmp a b
   same_from a b h k = neither (cmp a b) h (sym (turned' a b) ∙ k)
+
+  -- equal keys compare alike
+  pub compare-same : (a b c d : K) → Same cmp a b → Same cmp c d → cmp a c ≡ cmp b d
+  compare-same a b c d h k = o.congr a b c h ∙ alike_right o c d b k
+
+  pub upto-same : (a b c d : K) → Same cmp a b → Same cmp c d → Upto cmp a c → Upto cmp b d
+  upto-same a b c d h k u = sym (ap is_gt (compare-same a b c d h k)) ∙ u
+
+  pub below-same : (a b c d : K) → Same cmp a b → Same cmp c d → Below cmp a c → Below cmp b d
+  below-same a b c d h k l = sym (ap is_lt (compare-same a b c d h k)) ∙ l
 
   -- what `grind` needs of an order
   pub ruleset chains = (arith, common_steps, up_up, up_low, low_up, low_low, low_is_up, not_both, not_low_self, up_self)

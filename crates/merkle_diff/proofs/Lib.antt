@@ -28,3 +28,7 @@ pub mod OnePass
 pub mod Snapshots
 pub mod AtHand
 pub mod EqualEntries
+pub mod SameSpans
+pub mod SameEntries
+pub mod SameLists
+pub mod SameWalks

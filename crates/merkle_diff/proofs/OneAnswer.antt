@@ -1,12 +1,14 @@
 -- The walk has one answer: two answers on the same lists have the same spans.
-use Rattle.std.proofs.Common.{◌≡◌, Bool, true, false, if◌then◌else◌, List, [], ◌∷◌, ◌++◌, map, Option, Some, None, refl, ◌∙◌, subst, inl, inr}
+use Rattle.std.proofs.Common.{◌≡◌, Bool, true, false, if◌then◌else◌, List, [], ◌∷◌, ◌++◌, map, Option, Some, None, refl, ◌∙◌, subst}
 use Rattle.std.proofs.lemmas.List.Concat.{flat_map-cons}
-use Rattle.std.specs.Cmp.{IsTotalOrder, alike_right}
-use Rattle.std.specs.List.{AllByRecursion, flat_map}
+use Rattle.std.specs.Cmp.{IsTotalOrder}
+use Rattle.std.specs.List.{flat_map}
 use Rattle.std.specs.declared.cmp.Ordering.{Ordering}
 use Rattle.key_order.specs.Order.{AnyByRecursion, Same, below}
 use Rattle.key_order.specs.Interval.{Span, SameSpan, meets}
-use Rattle.key_order.proofs.Orders.{same_up, same_down}
+use Rattle.key_order.specs.SameKeys.{SameKeys}
+use Rattle.key_order.proofs.SameKeys.{any-same, all-same}
+use Rattle.key_order.proofs.Orders.{compare-same, same_up, same_down}
 use Rattle.merkle_diff.specs.Cut.{piece, cut_one, pieces_left}
 use Rattle.merkle_diff.specs.Difference.{IsByWalk}
 use Rattle.merkle_diff.specs.Entry.{Entry, span_of}
@@ -16,7 +18,7 @@ use Rattle.merkle_diff.proofs.Each.{any-map, each-with}
 use Rattle.merkle_diff.proofs.Borders.{Border, bound, Across, Free, across-same, across-within}
 use Rattle.merkle_diff.proofs.Borders.Border.{Start, End}
 use Rattle.merkle_diff.proofs.OrderTests.{same_trans, same_back}
-use Rattle.merkle_diff.proofs.Unique.{SameKeys, merge-unique, same-back, each-same}
+use Rattle.merkle_diff.proofs.Unique.{merge-unique, same-back, each-same}
 use Rattle.merkle_diff.specs.Walk.{Walk, no_peer, outside, held, no_local, between, agrees, differs, Mark, Bad, Good, bad_of, good_of, bad_marks, front_within, after_within, after_holders}
 
 module _ {K D : Type 0} (cmp : K → K → Ordering) where
@@ -42,17 +44,14 @@ module _ {K D : Type 0} (cmp : K → K → Ordering) where
       (x.8 ∙ (λ k. (if t k then Good (span_of p) else Bad (span_of p)) ∷ (m.0 k ++ (bad_marks cmp (front_within cmp (span_of p) (m.1 k)) ++ n.0 k))), n.1, n.2)
 
 module _ {K : Type 0} (cmp : K → K → Ordering) (o : IsTotalOrder cmp) where
-  cmp-same : (a b c d : K) → Same cmp a b → Same cmp c d → cmp a c ≡ cmp b d
-  cmp-same a b c d e f = o.congr a b c e ∙ alike_right o c d b f
-
-  spans-append : (xs ys us vs : List (Span K)) → SameSpans cmp xs us → SameSpans cmp ys vs → SameSpans cmp (xs ++ ys) (us ++ vs)
+  pub spans-append : (xs ys us vs : List (Span K)) → SameSpans cmp xs us → SameSpans cmp ys vs → SameSpans cmp (xs ++ ys) (us ++ vs)
   spans-append [] ys [] vs e f = f
   spans-append [] ys (u ∷ us) vs e f = absurd e
   spans-append (x ∷ xs) ys [] vs e f = absurd e
   spans-append (x ∷ xs) ys (u ∷ us) vs e f = (e.0, spans-append xs ys us vs e.1 f)
 
   piece-same : (a b c d : K) → Same cmp a b → Same cmp c d → SameSpans cmp (piece cmp a c) (piece cmp b d)
-  piece-same a b c d e f = by (below cmp a c) (below cmp b d) (rw (cmp-same a b c d e f) refl)
+  piece-same a b c d e f = by (below cmp a c) (below cmp b d) (rw (compare-same cmp o a b c d e f) refl)
     where
       by : (p q : Bool) → p ≡ q → SameSpans cmp (if p then (record { first = a; last = c } ∷ []) else []) (if q then (record { first = b; last = d } ∷ []) else [])
       by true true r = ((e, f), tt)
@@ -61,7 +60,7 @@ module _ {K : Type 0} (cmp : K → K → Ordering) (o : IsTotalOrder cmp) where
       by false true r = absurd (cc)
 
   cut-same : (g h s t : Span K) → SameSpan cmp g h → SameSpan cmp s t → SameSpans cmp (cut_one cmp g s) (cut_one cmp h t)
-  cut-same g h s t e f = by (meets cmp g s) (meets cmp h t) (rw (cmp-same g.first h.first s.last t.last e.0 f.1, cmp-same s.first t.first g.last h.last f.0 e.1) refl)
+  cut-same g h s t e f = by (meets cmp g s) (meets cmp h t) (rw (compare-same cmp o g.first h.first s.last t.last e.0 f.1, compare-same cmp o s.first t.first g.last h.last f.0 e.1) refl)
     where
       by : (p q : Bool) → p ≡ q → SameSpans cmp (if p then (piece cmp s.first g.first ++ piece cmp g.last s.last) else (s ∷ [])) (if q then (piece cmp t.first h.first ++ piece cmp h.last t.last) else (t ∷ []))
       by true true r =
@@ -84,24 +83,12 @@ module _ {K : Type 0} (cmp : K → K → Ordering) (o : IsTotalOrder cmp) where
   left-same (g ∷ good) [] e bad poor f = absurd e
   left-same (g ∷ good) (h ∷ fine) e bad poor f = left-same good fine e.1 (flat_map (cut_one cmp g) bad) (flat_map (cut_one cmp h) poor) (flat-same g h e.0 bad poor f)
 
-  any-same : (P Q : K → Type 0) → ((a b : K) → Same cmp a b → P a → Q b) → (ks js : List K) → SameKeys cmp o ks js → AnyByRecursion P ks → AnyByRecursion Q js
-  any-same P Q f [] js e h = absurd h
-  any-same P Q f (k ∷ ks) [] e h = absurd e
-  any-same P Q f (k ∷ ks) (j ∷ js) e (inl h) = inl (f k j e.0 h)
-  any-same P Q f (k ∷ ks) (j ∷ js) e (inr h) = inr (any-same P Q f ks js e.1 h)
-
-  all-same : (P Q : K → Type 0) → ((a b : K) → Same cmp a b → P a → Q b) → (ks js : List K) → SameKeys cmp o ks js → AllByRecursion P ks → AllByRecursion Q js
-  all-same P Q f [] [] e h = tt
-  all-same P Q f [] (j ∷ js) e h = absurd e
-  all-same P Q f (k ∷ ks) [] e h = absurd e
-  all-same P Q f (k ∷ ks) (j ∷ js) e h = (f k j e.0 h.0, all-same P Q f ks js e.1 h.1)
-
-  those-same : (P Q : K → Type 0) → ((a b : K) → Same cmp a b → P a → Q b) → ((a b : K) → Same cmp a b → Q b → P a) → (from to ks : List K) → SameKeys cmp o from to → AreThose cmp from P ks → AreThose cmp to Q ks
+  those-same : (P Q : K → Type 0) → ((a b : K) → Same cmp a b → P a → Q b) → ((a b : K) → Same cmp a b → Q b → P a) → (from to ks : List K) → SameKeys cmp from to → AreThose cmp from P ks → AreThose cmp to Q ks
   those-same P Q p q from to ks e m = record {
     ascends = m.ascends;
     sound = each-with (λ k. AnyByRecursion (λ j. Same cmp k j × P j) from) (λ k. AnyByRecursion (λ j. Same cmp k j × Q j) to) ks
-        (λ k h. any-same (λ j. Same cmp k j × P j) (λ j. Same cmp k j × Q j) (λ a b f i. (same_trans cmp o k a b i.0 f, p a b f i.1)) from to e h) m.sound;
-    complete = all-same (λ j. P j → AnyByRecursion (Same cmp j) ks) (λ j. Q j → AnyByRecursion (Same cmp j) ks)
+        (λ k h. any-same cmp (λ j. Same cmp k j × P j) (λ j. Same cmp k j × Q j) (λ a b f i. (same_trans cmp o k a b i.0 f, p a b f i.1)) from to e h) m.sound;
+    complete = all-same cmp (λ j. P j → AnyByRecursion (Same cmp j) ks) (λ j. Q j → AnyByRecursion (Same cmp j) ks)
         (λ a b f g i. any-map (Same cmp a) (Same cmp b) ks (λ x r. same_trans cmp o b a x (same_back cmp o a b f) r) (g (q a b f i))) from to e m.complete;
   }
 
@@ -113,7 +100,7 @@ module _ {K : Type 0} (cmp : K → K → Ordering) (o : IsTotalOrder cmp) where
         go Start = h.0
         go End = h.1
 
-    bounds-same : (xs ys : List (Span K)) → SameSpans cmp xs ys → SameKeys cmp o (map (bound e) xs) (map (bound e) ys)
+    bounds-same : (xs ys : List (Span K)) → SameSpans cmp xs ys → SameKeys cmp (map (bound e) xs) (map (bound e) ys)
     bounds-same [] [] h = tt
     bounds-same [] (y ∷ ys) h = absurd h
     bounds-same (x ∷ xs) [] h = absurd h
@@ -126,7 +113,8 @@ module _ {K : Type 0} (cmp : K → K → Ordering) (o : IsTotalOrder cmp) where
     those-alike : (xs ys : List (Span K)) (ks : List K) → SameSpans cmp xs ys → AreThose cmp (map (bound e) xs) (Free cmp e xs) ks → AreThose cmp (map (bound e) ys) (Free cmp e ys) ks
     those-alike xs ys ks h = those-same (Free cmp e xs) (Free cmp e ys) (free-alike xs ys h) (λ a b q. free-alike ys xs (same-back cmp o xs ys h) b a (same_back cmp o a b q)) (map (bound e) xs) (map (bound e) ys) ks (bounds-same xs ys h)
 
-  merge-same : (xs ys merged : List (Span K)) → SameSpans cmp xs ys → IsMerge cmp xs merged → IsMerge cmp ys merged
+  -- the same spans have the same merges
+  pub merge-same : (xs ys merged : List (Span K)) → SameSpans cmp xs ys → IsMerge cmp xs merged → IsMerge cmp ys merged
   merge-same xs ys merged h m = record { starts = those-alike Start xs ys (map (λ s. s.first) merged) h m.starts; ends = those-alike End xs ys (map (λ s. s.last) merged) h m.ends }
 
 module _ {K D : Type 0} (cmp : K → K → Ordering) (o : IsTotalOrder cmp) where

@@ -12,7 +12,7 @@ use Rattle.merkle_diff.proofs.OrderTests.{same_back}
 use Rattle.merkle_diff.proofs.Unique.{same-back, each-same, in-same, apart-same, ordered-same}
 
 module _ {K : Type 0} (cmp : K → K → Ordering) (o : IsTotalOrder cmp) where
-  none-same : (xs ys : List (Span K)) → SameSpans cmp xs ys → xs ≡ [] → ys ≡ []
+  pub none-same : (xs ys : List (Span K)) → SameSpans cmp xs ys → xs ≡ [] → ys ≡ []
   none-same [] [] h e = refl
   none-same [] (y ∷ ys) h e = absurd h
   none-same (x ∷ xs) ys h e = cc

@@ -5,19 +5,13 @@ use Rattle.std.specs.List.{AllByRecursion}
 use Rattle.std.specs.declared.cmp.Ordering.{Ordering}
 use Rattle.key_order.specs.Interval.{Span, IsOrdered, IsCovered, IsWithin, IsApart, SameSpan}
 use Rattle.key_order.specs.Order.{Below, Same, IsAscending, AnyByRecursion}
+use Rattle.key_order.specs.SameKeys.{SameKeys}
 use Rattle.merkle_diff.specs.Merge.{AreThose, IsMerge, Opens, Closes, SameSpans}
 use Rattle.key_order.proofs.Orders.{same_up, same_down, up_up, low_up, up_low, not_both, low_is_up}
 use Rattle.merkle_diff.proofs.Each.{any-map, each-with, each-both, any-get}
 use Rattle.merkle_diff.proofs.OrderTests.{same_trans, same_back}
 
 module _ {K : Type 0} (cmp : K → K → Ordering) (o : IsTotalOrder cmp) where
-  -- the same keys, place by place
-  abbrev pub SameKeys : List K → List K → Type 0
-  SameKeys [] [] = Unit {0}
-  SameKeys [] (j ∷ js) = ⊥
-  SameKeys (k ∷ ks) [] = ⊥
-  SameKeys (k ∷ ks) (j ∷ js) = Same cmp k j × SameKeys ks js
-
   abbrev pub AllIn : List K → List K → Type 0
   AllIn ks js = AllByRecursion (λ k. AnyByRecursion (Same cmp k) js) ks
 
@@ -36,7 +30,7 @@ module _ {K : Type 0} (cmp : K → K → Ordering) (o : IsTotalOrder cmp) where
       one x b (inl h) = absurd (not_both cmp o x k (up_up cmp o x j k (same_up cmp o x j h) (same_down cmp o k j e)) b)
       one x b (inr h) = h
 
-  unique : (ks js : List K) → IsAscending cmp ks → IsAscending cmp js → AllIn ks js → AllIn js ks → SameKeys ks js
+  unique : (ks js : List K) → IsAscending cmp ks → IsAscending cmp js → AllIn ks js → AllIn js ks → SameKeys cmp ks js
   unique [] [] a b f g = tt
   unique [] (j ∷ js) a b f g = absurd g.0
   unique (k ∷ ks) [] a b f g = absurd f.0
@@ -50,10 +44,10 @@ module _ {K : Type 0} (cmp : K → K → Ordering) (o : IsTotalOrder cmp) where
       (λ k h. any-get (λ j. P j → AnyByRecursion (Same cmp j) js) (λ j. Same cmp k j × P j) (AnyByRecursion (Same cmp k) js) from
       (λ j c e. any-map (Same cmp j) (Same cmp k) js (λ x q. same_trans cmp o k j x e.0 q) (c e.1)) n.complete h) m.sound
 
-  those-unique : (from : List K) (P : K → Type 0) (ks js : List K) → AreThose cmp from P ks → AreThose cmp from P js → SameKeys ks js
+  those-unique : (from : List K) (P : K → Type 0) (ks js : List K) → AreThose cmp from P ks → AreThose cmp from P js → SameKeys cmp ks js
   those-unique from P ks js m n = unique ks js m.ascends n.ascends (those-in from P ks js m n) (those-in from P js ks n m)
 
-  zipped : (xs ys : List (Span K)) → SameKeys (map (λ s. s.first) xs) (map (λ s. s.first) ys) → SameKeys (map (λ s. s.last) xs) (map (λ s. s.last) ys) → SameSpans cmp xs ys
+  zipped : (xs ys : List (Span K)) → SameKeys cmp (map (λ s. s.first) xs) (map (λ s. s.first) ys) → SameKeys cmp (map (λ s. s.last) xs) (map (λ s. s.last) ys) → SameSpans cmp xs ys
   zipped [] [] f g = tt
   zipped [] (y ∷ ys) f g = absurd f
   zipped (x ∷ xs) [] f g = absurd f

@@ -3,10 +3,10 @@ ghost use Rattle.std.proofs.Common.{rules};
 ghost use Rattle.std.specs.Cmp.Rules.{comparing};
 ghost use Rattle.std.specs.Ordering.{on};
 ghost use Rattle.std.specs.Prelude.{◌≡◌, ◌↔◌, true, IfOk, IfSome, IsOk, IsSome};
-ghost use Rattle.key_order.specs.Order.{Same, Upto};
+ghost use Rattle.key_order.specs.Order.{Upto};
 
 use crate::page_range::PageRange;
-use merkle_digest::PageDigest;
+use merkle_digest::{PageDigest, SameClone};
 use std::alloc::{AllocError, Global};
 
 /// A [`PageRange`] that owns its keys: the span of a page, from the least to the greatest key of its subtree, both in it, and
@@ -78,15 +78,12 @@ impl<K: Ord + Drop> OwnedPageRange<K> {
     }
 }
 
-impl<K: Ord + Clone> OwnedPageRange<K> {
+impl<K: SameClone> OwnedPageRange<K> {
     ghost use Rattle.merkle_diff.specs.OwnedPageRange.{owned_entry};
     ghost use Rattle.merkle_diff.specs.PageRange.{entry};
     ghost use Rattle.merkle_diff.specs.SameEntries.{SameEntry};
 
     /// The range with clones of its two keys. The allocator is not used: a key is cloned on its own.
-    ///
-    /// Its condition on clones is proved by a lemma of `key_order::proofs::Clones`: `string_clone` or `str_clone` for texts,
-    /// `vec_clone` or `array_clone` for vectors and arrays of bytes, `exact_clone` for what a clone gives back as it is.
     ///
     /// # Errors
     ///
@@ -95,7 +92,6 @@ impl<K: Ord + Clone> OwnedPageRange<K> {
         _alloc: Global,
         range: PageRange<'_, K>,
     ) -> Result<OwnedPageRange<K>, AllocError>
-        requires clones { (a b : K) → K.is_clone a b → Same K.cmp a b }
         ensures same { IfOk result (λ owned. SameEntry K.cmp (entry range.entry) (owned_entry owned)) }
         ensures succeeds { K.is_infallible (entry range.entry).first → K.is_infallible (entry range.entry).last → IsOk result }
     {
@@ -108,14 +104,12 @@ impl<K: Ord + Clone> OwnedPageRange<K> {
         })
     }
 
-    /// An equal range, with clones of its two keys. The allocator is not used: a key is cloned on its own. Its condition on clones is
-    /// that of [`from_range`](Self::from_range).
+    /// An equal range, with clones of its two keys. The allocator is not used: a key is cloned on its own.
     ///
     /// # Errors
     ///
     /// `AllocError` where the clone of a key is refused, and only there.
     pub fn try_clone(&self, alloc: Global) -> Result<OwnedPageRange<K>, AllocError>
-        requires clones { (a b : K) → K.is_clone a b → Same K.cmp a b }
         ensures same { IfOk result (λ copy. SameEntry K.cmp (owned_entry self.now) (owned_entry copy)) }
         ensures equal { IfOk result (λ copy. (⟦<OwnedPageRange<K> as PartialEq>⟧.eq self.now copy ≡ true) × (⟦<OwnedPageRange<K> as PartialEq>⟧.eq copy self.now ≡ true)) }
         ensures succeeds { K.is_infallible (owned_entry self.now).first → K.is_infallible (owned_entry self.now).last → IsOk result }

@@ -7,7 +7,6 @@ ghost use Rattle.std.specs.Iterator.{IsFiniteIterable, UpTo, YieldsFirstBy, item
 ghost use Rattle.std.specs.Iterator.SizeHint.{IsWithinCount};
 ghost use Rattle.std.specs.Ordering.{on};
 ghost use Rattle.std.specs.Prelude.{◌≡◌, true, IfOk, IfSome, IsOkAnd, length};
-ghost use Rattle.key_order.specs.Order.{Same};
 ghost use Rattle.merkle_diff.specs.Iterable.{Gives};
 ghost use Rattle.merkle_diff.specs.OwnedPageRange.{owned_entries};
 ghost use Rattle.merkle_diff.specs.PageRange.{entries, entry};
@@ -16,7 +15,7 @@ ghost use Rattle.merkle_diff.specs.SameEntries.{SameEntries, same_entries};
 
 use crate::owned_page_range::OwnedPageRange;
 use crate::page_range::PageRange;
-use merkle_digest::PageDigest;
+use merkle_digest::{PageDigest, SameClone};
 use std::alloc::{AllocError, Global};
 use std::iter::FusedIterator;
 
@@ -77,11 +76,8 @@ impl<K: Ord + Drop> PageRangeSnapshot<K> {
     }
 }
 
-impl<K: Ord + Clone> PageRangeSnapshot<K> {
+impl<K: SameClone> PageRangeSnapshot<K> {
     /// The snapshot of `ranges`, in their order, with clones of the keys, two a range.
-    ///
-    /// Its condition on clones is proved by a lemma of `key_order::proofs::Clones`: `string_clone` or `str_clone` for texts,
-    /// `vec_clone` or `array_clone` for vectors and arrays of bytes, `exact_clone` for what a clone gives back as it is.
     ///
     /// # Errors
     ///
@@ -90,14 +86,13 @@ impl<K: Ord + Clone> PageRangeSnapshot<K> {
         alloc: Global,
         ranges: Vec<PageRange<'_, K>>,
     ) -> Result<PageRangeSnapshot<K>, AllocError>
-        requires clones { (a b : K) → K.is_clone a b → Same K.cmp a b }
         ensures { IfOk result (λ snapshot. SameEntries K.cmp (entries ranges.entry.items) (snapshot_entries snapshot)) }
     {
         PageRangeSnapshot::collect_ranges(alloc, ranges)
     }
 
     /// The snapshot of the ranges that `iter` gives, in their order, with clones of the keys, two a range. The iterator has to end, and
-    /// is taken to its end unless memory is refused. Its condition on clones is that of [`from_ranges`](Self::from_ranges).
+    /// is taken to its end unless memory is refused.
     ///
     /// # Errors
     ///
@@ -106,7 +101,6 @@ impl<K: Ord + Clone> PageRangeSnapshot<K> {
     where
         K: 'a,
         T: IntoIterator<Item = PageRange<'a, K>>,
-        requires clones { (a b : K) → K.is_clone a b → Same K.cmp a b }
         requires ends { IsFiniteIterable T.into_iter_gives T.IntoIter.can_next T.IntoIter.remaining iter }
         ensures { IfOk result (λ snapshot. (ranges : _) × Gives T.into_iter_gives T.IntoIter.next_gives iter ranges
             × SameEntries K.cmp (entries ranges) (snapshot_entries snapshot)) }
@@ -119,13 +113,12 @@ impl<K: Ord + Clone> PageRangeSnapshot<K> {
         PageRangeSnapshot::from_owned(alloc, ranges)
     }
 
-    /// An equal snapshot, with clones of the keys, two a range. Its condition on clones is that of [`from_ranges`](Self::from_ranges).
+    /// An equal snapshot, with clones of the keys, two a range.
     ///
     /// # Errors
     ///
     /// Want of memory, for the snapshot or for the clone of a key. This snapshot stays.
     pub fn try_clone(&self) -> Result<PageRangeSnapshot<K>, AllocError>
-        requires clones { (a b : K) → K.is_clone a b → Same K.cmp a b }
         ensures same { IfOk result (λ copy. SameEntries K.cmp (snapshot_entries self.now) (snapshot_entries copy)) }
         ensures equal { IfOk result (λ copy. (⟦<PageRangeSnapshot<K> as PartialEq>⟧.eq self.now copy ≡ true) × (⟦<PageRangeSnapshot<K> as PartialEq>⟧.eq copy self.now ≡ true)) }
     {

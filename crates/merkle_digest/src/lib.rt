@@ -7,6 +7,7 @@
 mod digest;
 mod hash_bytes;
 mod hasher;
+mod key;
 mod key_bytes;
 mod levels;
 pub mod siphash;
@@ -15,6 +16,7 @@ mod wrappers;
 pub use digest::Digest;
 pub use hash_bytes::HashBytes;
 pub use hasher::Hasher;
+pub use key::{Key, SameClone};
 pub use key_bytes::{KeyBytes, KeyBytesExact};
 pub use levels::{default_level_base, level};
 pub use siphash::{Sip24, SipHasher};

@@ -3,12 +3,12 @@ use Rattle.std.proofs.Common.{◌≡◌, ℕ, ◌+◌, ◌<◌, ◌≤◌, List,
 use Rattle.std.specs.declared.boxed.Box.{Box}
 use Rattle.std.specs.declared.alloc.Global.{Global}
 use Rattle.std.specs.declared.cmp.Ordering.{Ordering}
-use Rattle.merkle_search_tree.specs.Tree.{Tree, page, Row, Held, nothing, below}
-use Rattle.merkle_search_tree.specs.Upsert.{held_lower, held_upper, kept_beside}
-use Rattle.merkle_search_tree.specs.Chain.{page_length, high_of, first_of, with_high, with_first, row_take, row_drop, remade, row_of_page, hung, HaveNodes}
+use Rattle.merkle_tree_theory.specs.Tree.{Tree, page, Row, Held, nothing, below}
+use Rattle.merkle_tree_theory.specs.Upsert.{held_lower, held_upper, kept_beside}
+use Rattle.merkle_tree_theory.specs.Chain.{page_length, high_of, first_of, with_high, with_first, row_take, row_drop, remade, row_of_page, hung, HaveNodes}
 use Rattle.merkle_search_tree.specs.Parting.{gap, row_place}
 use Rattle.merkle_search_tree.specs.Split.{stale_of}
-use Rattle.merkle_search_tree.proofs.Hung.{hung-stale, hung-kept, hung-all, have-more, with_high-twice, with_first-twice, length-first, length-drop}
+use Rattle.merkle_tree_theory.proofs.Hung.{hung-stale, hung-kept, hung-all, have-more, with_high-twice, with_first-twice, length-first, length-drop}
 use Rattle.merkle_search_tree.proofs.Partings.{gap-all, gap-at, page-all, page-none, page-at}
 
 stale_of-same : {K D : Type 0} (h : Held K D) (n : ℕ) → stale_of h n n ≡ n

@@ -11,7 +11,7 @@ use Rattle.key_order.specs.Order.{Below, Same}
 use Rattle.key_order.specs.Map.{IsMap, SameMap, last_key}
 use Rattle.key_order.proofs.Orders.{low_low}
 use Rattle.key_order.proofs.SameMaps.{same-append, same_is_map, ascends}
-use Rattle.merkle_search_tree.specs.Edge.{is_above}
+use Rattle.merkle_tree_theory.specs.Edge.{is_above}
 use Rattle.merkle_search_tree.specs.Loading.{row_count, digests, RowFails, LoadFails}
 use Rattle.merkle_search_tree.specs.declared.load.LoadRefused.{LoadRefused}
 use Rattle.merkle_search_tree.specs.declared.load.LoadRefused.TheVariants.{Memory, NotAscending}

@@ -4,13 +4,13 @@ use Rattle.std.specs.declared.cmp.Ordering.{Ordering}
 use Rattle.std.specs.Ordering.{is_gt}
 use Rattle.key_order.specs.Map.{IsMap}
 use Rattle.key_order.proofs.ListParts.{map-first, map-rest}
-use Rattle.merkle_search_tree.specs.Tree.{Tree, page, Row, high, node, Held, below, Node, row, tree_size, row_size, held_size}
-use Rattle.merkle_search_tree.specs.Page.{pairs, row_pairs, held_pairs, row_nodes, nodes_of}
-use Rattle.merkle_search_tree.specs.Upsert.{place, lower, upper, held_lower, held_upper, as_held, kept, kept_beside}
-use Rattle.merkle_search_tree.specs.Chain.{row_length, page_length, high_of, first_of, with_high, with_first, row_take, row_drop, row_of_page}
+use Rattle.merkle_tree_theory.specs.Tree.{Tree, page, Row, high, node, Held, below, Node, row, tree_size, row_size, held_size}
+use Rattle.merkle_tree_theory.specs.Page.{pairs, row_pairs, held_pairs, row_nodes, nodes_of}
+use Rattle.merkle_tree_theory.specs.Upsert.{place, lower, upper, held_lower, held_upper, as_held, kept, kept_beside}
+use Rattle.merkle_tree_theory.specs.Chain.{row_length, page_length, high_of, first_of, with_high, with_first, row_take, row_drop, row_of_page}
 use Rattle.merkle_search_tree.specs.Parting.{gap, row_place, parting_place, PartsNodes, PartingFits, PartingsFit}
 use Rattle.merkle_search_tree.specs.declared.parting.Parting.{Parting}
-use Rattle.merkle_search_tree.proofs.Hung.{length-first, length-drop, some-held, some-kept}
+use Rattle.merkle_tree_theory.proofs.Hung.{length-first, length-drop, some-held, some-kept}
 
 module _ {K D : Type 0} (cmp : K → K → Ordering) (at : K) where
   pub gap-all : (r : Row K D) → row_place cmp at r ≡ row_length r → gap cmp at r ≡ high_of r

@@ -3,7 +3,7 @@ use Rattle.std.proofs.Common.{◌≡◌, ℕ, List, [], ◌∷◌, ◌++◌, len
 use Rattle.std.specs.Bool.{⊤}
 use Rattle.std.specs.declared.cmp.Ordering.{Ordering}
 use Rattle.std.specs.Prelude.{Result, Ok, Err, IfOk, OnErr, is_ok}
-use Rattle.merkle_search_tree.specs.State.{State}
+use Rattle.merkle_tree_theory.specs.State.{State}
 use Rattle.merkle_search_tree.specs.declared.updates.Update.TheVariants.{Remove}
 use Rattle.key_order.specs.Map.{has_key, entry}
 use Rattle.key_order.proofs.Dels.{entry-there, entry-absent}

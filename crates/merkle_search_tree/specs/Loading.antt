@@ -4,8 +4,8 @@ use Rattle.std.specs.Fmt.{decimal}
 use Rattle.std.specs.declared.cmp.Ordering.{Ordering}
 use Rattle.key_order.specs.Map.{IsMap}
 use Rattle.merkle_digest.specs.Level.{level_of}
-use Rattle.merkle_search_tree.specs.Edge.{IsEdge, edge_pairs}
-use Rattle.merkle_search_tree.specs.Settings.{Settings}
+use Rattle.merkle_tree_theory.specs.Edge.{IsEdge, edge_pairs}
+use Rattle.merkle_tree_theory.specs.Settings.{Settings}
 use Rattle.merkle_search_tree.specs.declared.load.Loading.{Loading}
 use Rattle.merkle_search_tree.specs.declared.load.LoadRefused.{LoadRefused}
 use Rattle.merkle_search_tree.specs.declared.load.LoadRefused.TheVariants.{Memory, NotAscending}

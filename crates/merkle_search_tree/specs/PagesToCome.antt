@@ -1,17 +1,14 @@
 -- What an iteration over the page ranges of a tree has left.
 use Rattle.std.specs.Prelude.{◌≡◌, ℕ, ◌+◌, ◌<◌, List, [], ◌++◌, Option, Some, None}
 use Rattle.std.specs.Coded.{Coded, coded×, code_by}
-use Rattle.std.specs.List.{AllByRecursion, flat_map}
+use Rattle.std.specs.List.{AllByRecursion}
 use Rattle.std.specs.declared.cmp.Ordering.{Ordering}
 use Rattle.std.proofs.Common.{refl}
 use denote.Ref.{Bor}
-use Rattle.key_order.specs.Map.{IsMap}
 use Rattle.merkle_diff.specs.Entry.{Entry}
-use Rattle.merkle_search_tree.specs.Tree.{Tree, below}
-use Rattle.merkle_search_tree.specs.Page.{level, pairs, pages_in_order, LevelsFall}
-use Rattle.merkle_search_tree.specs.Canonical.{HasNode}
-use Rattle.merkle_search_tree.specs.Cache.{HasCache}
-use Rattle.merkle_search_tree.specs.CachedRanges.{as_list, range_of}
+use Rattle.merkle_tree_theory.specs.Tree.{Tree}
+use Rattle.merkle_tree_theory.specs.Page.{level, pages_in_order, LevelsFall}
+use Rattle.merkle_tree_theory.specs.CachedRanges.{HasRange}
 use Rattle.merkle_search_tree.specs.Path.{pages_left, PathFits}
 use Rattle.merkle_search_tree.specs.declared.path.Visit.{Visit}
 
@@ -30,16 +27,8 @@ module _ {K D : Type 0} where
   NextFits len capacity (Some t) vs = LevelsFall t.now × (len + level t.now < capacity)
 
 module _ {K D : Type 0} (cmp : K → K → Ordering) where
-  -- the page has a node and a cached digest, and its keys and those below it ascend
-  abbrev pub HasRange : Tree K D → Type 0
-  HasRange t = HasNode t × HasCache (below t) × IsMap cmp (pairs t)
-
-  -- the ranges of the pages that have one
-  abbrev pub ranges_to_come : List (Tree K D) → List (Entry K (List ℕ))
-  ranges_to_come ts = flat_map (λ t. as_list (range_of cmp t)) ts
-
   -- `next` needs no memory, and each page that is left has a range
   pub record IsIteration (len capacity : ℕ) (next : Option (Bor (Tree K D))) (vs : List (Visit K D)) : Type 0 where
     pub path_fits : PathFits capacity 0 vs
     pub next_fits : NextFits len capacity next vs
-    pub ranges : AllByRecursion HasRange (pages_to_come next vs)
+    pub ranges : AllByRecursion (HasRange cmp) (pages_to_come next vs)

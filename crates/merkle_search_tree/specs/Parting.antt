@@ -3,8 +3,8 @@ use Rattle.std.specs.Prelude.{◌≡◌, ℕ, suc, ◌-◌, ◌<◌, ◌≤◌, 
 use Rattle.std.specs.Vec.{vec_capacity}
 use Rattle.std.specs.declared.cmp.Ordering.{Ordering}
 use Rattle.std.specs.Ordering.{is_gt}
-use Rattle.merkle_search_tree.specs.Tree.{page, Row, high, node, Held, nothing, below}
-use Rattle.merkle_search_tree.specs.Chain.{row_length}
+use Rattle.merkle_tree_theory.specs.Tree.{page, Row, high, node, Held, nothing, below}
+use Rattle.merkle_tree_theory.specs.Chain.{row_length}
 use Rattle.merkle_search_tree.specs.declared.parting.Parting.{Parting}
 use Rattle.merkle_search_tree.specs.declared.parting.Parting.TheVariants.{Start, Inside, End}
 

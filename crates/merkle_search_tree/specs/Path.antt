@@ -1,7 +1,7 @@
 -- The pages on the way to what comes next in an iteration, the root first.
 use Rattle.std.specs.Prelude.{ℕ, suc, ◌+◌, ◌<◌, ◌≤◌, List, [], ◌∷◌, ◌++◌, length, ⊤}
-use Rattle.merkle_search_tree.specs.Tree.{Tree, Row, high, node, Held, row, held_of, Node}
-use Rattle.merkle_search_tree.specs.Page.{row_in_order, held_in_order, row_pages, held_pages, RowFalls, HeldFalls}
+use Rattle.merkle_tree_theory.specs.Tree.{Tree, Row, high, node, Held, row, held_of, Node}
+use Rattle.merkle_tree_theory.specs.Page.{row_in_order, held_in_order, row_pages, held_pages, RowFalls, HeldFalls}
 use Rattle.merkle_search_tree.specs.declared.path.Visit.{Visit}
 
 module _ {K D : Type 0} where

@@ -2,9 +2,9 @@
 use Rattle.std.specs.Prelude.{◌≡◌, ℕ, ◌+◌, ◌≤◌, length}
 use Rattle.std.specs.Vec.{vec_capacity}
 use Rattle.std.specs.declared.cmp.Ordering.{Ordering}
-use Rattle.merkle_search_tree.specs.Tree.{Held, nothing, below}
-use Rattle.merkle_search_tree.specs.Upsert.{held_lower, held_upper}
-use Rattle.merkle_search_tree.specs.Chain.{with_high, with_first, hung, HaveNodes}
+use Rattle.merkle_tree_theory.specs.Tree.{Held, nothing, below}
+use Rattle.merkle_tree_theory.specs.Upsert.{held_lower, held_upper}
+use Rattle.merkle_tree_theory.specs.Chain.{with_high, with_first, hung, HaveNodes}
 use Rattle.merkle_search_tree.specs.declared.split.Sides.{Sides}
 
 module _ {K D : Type 0} where

@@ -4,7 +4,7 @@ use Rattle.std.specs.declared.boxed.Box.{Box}
 use Rattle.std.specs.declared.alloc.Global.{Global}
 use Rattle.std.proofs.Common.{arith}
 use denote.Param.Weighed.{most}
-use Rattle.merkle_search_tree.specs.Tree.{Tree, Held, nothing, below, Node, held_of, row, row_size, held_size, node_size}
+use Rattle.merkle_tree_theory.specs.Tree.{Tree, Held, nothing, below, Node, held_of, row, row_size, held_size, node_size}
 use Rattle.merkle_search_tree.specs.declared.page.NodeOf.TheInside.{Inside}
 use Rattle.merkle_search_tree.specs.declared.page.PageOf.TheInside.{Inside as PageInside}
 use Rattle.merkle_search_tree.specs.declared.page.NodeOf.TheDeep.{deep-NodeOf, deep-PageOf}

@@ -3,26 +3,15 @@
 ghost use Rattle.std.specs.Prelude.{◌≡◌, IfOk, IsOk};
 ghost use Rattle.std.specs.Int.NonZero.{non_zero_u8_get};
 ghost use Rattle.merkle_digest.specs.SipHash.{zero_key};
-ghost use Rattle.merkle_search_tree.specs.State.{IsNew};
-ghost use Rattle.merkle_search_tree.specs.declared.builder.PageFormat.TheVariants.{V1};
+ghost use Rattle.merkle_tree_theory.specs.State.{IsNew};
+ghost use Rattle.merkle_tree_theory.specs.declared.page_format.PageFormat.TheVariants.{V1};
 
 use crate::tree::MerkleSearchTree;
 use merkle_digest::{Hasher, KeyBytes, SipHasher, default_level_base};
+pub use merkle_tree_theory::PageFormat;
 use std::alloc::{AllocError, Global};
 use std::marker::Model;
 use std::num::NonZeroU8;
-
-/// How a page is written as the stream of bytes that its digest is made of. Peers that compare their trees take one format: in
-/// different formats trees of equal maps never look the same, as far as no digests collide.
-#[derive(Clone, Copy, Debug, PartialEq, Eq)]
-pub enum PageFormat {
-    /// For each node the digest of the page below it, the bytes of its key and its value digest, and at the end the digest of the
-    /// high page. It has no lengths and no level, so pages of unlike nodes can have one stream.
-    V1,
-    /// With a mark, the level and the number of nodes in front, the length of each key before its bytes, and a mark for each page
-    /// below, also where there is none. The stream tells all these parts apart.
-    V2,
-}
 
 /// Makes trees with a hasher, a level base and a page format. A contract sees the three.
 ///
@@ -41,7 +30,7 @@ pub struct Builder<H> {
 
 impl<H> Model for Builder<H> {
     ghost use Rattle.std.specs.Int.NonZero.{non_zero_u8_get};
-    ghost use Rattle.merkle_search_tree.specs.Settings.{Settings, settings_code};
+    ghost use Rattle.merkle_tree_theory.specs.Settings.{Settings, settings_code};
 
     ghost Value = { Settings H };
 

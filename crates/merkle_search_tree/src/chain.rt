@@ -2,8 +2,8 @@
 
 ghost use Rattle.std.specs.Prelude.{◌≡◌, ◌<◌, ◌≤◌, [], ◌∷◌, ◌++◌, IfOk};
 ghost use Rattle.std.specs.Vec.{vec_len, vec_capacity};
-ghost use Rattle.merkle_search_tree.specs.Tree.{nothing, held_of};
-ghost use Rattle.merkle_search_tree.specs.Chain.{page_length, with_high, with_first, row_of_page, remade, hung, HaveNodes};
+ghost use Rattle.merkle_tree_theory.specs.Tree.{nothing, held_of};
+ghost use Rattle.merkle_tree_theory.specs.Chain.{page_length, with_high, with_first, row_of_page, remade, hung, HaveNodes};
 
 use crate::page::PageOf;
 use std::alloc::{AllocError, Global};

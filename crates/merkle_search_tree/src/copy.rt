@@ -1,8 +1,8 @@
 //! Copies of pages and nodes.
 
 ghost use Rattle.std.specs.Prelude.{◌≡◌, true, IfOk};
-ghost use Rattle.merkle_search_tree.specs.Tree.{held_of};
-ghost use Rattle.merkle_search_tree.specs.Copy.{IsCopy, HeldIsCopy, NodeIsCopy};
+ghost use Rattle.merkle_tree_theory.specs.Tree.{held_of};
+ghost use Rattle.merkle_tree_theory.specs.Copy.{IsCopy, HeldIsCopy, NodeIsCopy};
 
 use crate::page::{Node, NodeOf, Page, PageOf};
 use merkle_digest::PageDigest;

@@ -1,9 +1,9 @@
 //! The open pages of a tree's right edge, to which nodes are still added.
 
 ghost use Rattle.std.specs.Prelude.{◌≡◌, ◌≤◌, ℕ, IfOk};
-ghost use Rattle.merkle_search_tree.specs.Tree.{held_of};
-ghost use Rattle.merkle_search_tree.specs.Chain.{row_of_page, remade};
-ghost use Rattle.merkle_search_tree.specs.Edge.{row_more, last_level, edge_pairs, is_above, IsEdge, ClosesPages, Appends, IsRootOf};
+ghost use Rattle.merkle_tree_theory.specs.Tree.{held_of};
+ghost use Rattle.merkle_tree_theory.specs.Chain.{row_of_page, remade};
+ghost use Rattle.merkle_tree_theory.specs.Edge.{row_more, last_level, edge_pairs, is_above, IsEdge, ClosesPages, Appends, IsRootOf};
 
 use crate::page::{NodeOf, PageOf};
 use crate::page_ranges::last_key;

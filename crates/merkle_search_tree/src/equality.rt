@@ -2,16 +2,16 @@
 //! unequal.
 
 ghost use Rattle.std.specs.Prelude.{◌≡◌};
-ghost use Rattle.merkle_search_tree.specs.Tree.{held_of};
-ghost use Rattle.merkle_search_tree.specs.Equal.{tree_eq, held_eq, node_eq};
+ghost use Rattle.merkle_tree_theory.specs.Tree.{held_of};
+ghost use Rattle.merkle_tree_theory.specs.Equal.{tree_eq, held_eq, node_eq};
 
 use crate::page::{NodeOf, PageOf};
 use merkle_digest::PageDigest;
 
 /// Nodes are equal where their keys, value digests and pages below are, with all cached digests.
 impl<K: PartialEq, D: PartialEq> PartialEq for NodeOf<K, D> {
-    ghost use Rattle.merkle_search_tree.specs.Equal.{node_eq};
-    ghost use Rattle.merkle_search_tree.specs.EqualLaws.{node_eq_laws};
+    ghost use Rattle.merkle_tree_theory.specs.Equal.{node_eq};
+    ghost use Rattle.merkle_tree_theory.specs.EqualLaws.{node_eq_laws};
     ghost use Rattle.std.proofs.Common.{rules};
     ghost use Rattle.std.specs.Cmp.Rules.{comparing};
 
@@ -26,8 +26,8 @@ impl<K: PartialEq, D: PartialEq> PartialEq for NodeOf<K, D> {
 
 /// Pages are equal where their levels, nodes and pages below are, with all cached digests: equal content with other caches is unequal.
 impl<K: PartialEq, D: PartialEq> PartialEq for PageOf<K, D> {
-    ghost use Rattle.merkle_search_tree.specs.Equal.{tree_eq};
-    ghost use Rattle.merkle_search_tree.specs.EqualLaws.{tree_eq_laws};
+    ghost use Rattle.merkle_tree_theory.specs.Equal.{tree_eq};
+    ghost use Rattle.merkle_tree_theory.specs.EqualLaws.{tree_eq_laws};
     ghost use Rattle.std.proofs.Common.{rules};
     ghost use Rattle.std.specs.Cmp.Rules.{comparing};
 
@@ -41,7 +41,7 @@ impl<K: PartialEq, D: PartialEq> PartialEq for PageOf<K, D> {
 }
 
 impl<K: Eq, D: Eq> Eq for NodeOf<K, D> {
-    ghost use Rattle.merkle_search_tree.specs.EqualLaws.{node_eq_equivalence};
+    ghost use Rattle.merkle_tree_theory.specs.EqualLaws.{node_eq_equivalence};
     ghost use Rattle.std.proofs.Common.{rules};
     ghost use Rattle.std.specs.Cmp.Rules.{comparing};
 
@@ -49,7 +49,7 @@ impl<K: Eq, D: Eq> Eq for NodeOf<K, D> {
 }
 
 impl<K: Eq, D: Eq> Eq for PageOf<K, D> {
-    ghost use Rattle.merkle_search_tree.specs.EqualLaws.{tree_eq_equivalence};
+    ghost use Rattle.merkle_tree_theory.specs.EqualLaws.{tree_eq_equivalence};
     ghost use Rattle.std.proofs.Common.{rules};
     ghost use Rattle.std.specs.Cmp.Rules.{comparing};
 

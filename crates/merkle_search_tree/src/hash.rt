@@ -2,9 +2,9 @@
 
 ghost use Rattle.std.specs.Prelude.{◌≡◌, ◌++◌, ◌-◌, ◌^◌, ℕ, List, min};
 ghost use Rattle.merkle_digest.specs.Sip24.{Holds};
-ghost use Rattle.merkle_search_tree.specs.Tree.{held_of};
-ghost use Rattle.merkle_search_tree.specs.Stream.{page_digest, held_stream, head_bytes, none_bytes, below_bytes, key_bytes};
-ghost use Rattle.merkle_search_tree.specs.Cache.{CachesHold, HeldCachesHold, missing, held_missing, filled, held_filled};
+ghost use Rattle.merkle_tree_theory.specs.Tree.{held_of};
+ghost use Rattle.merkle_tree_theory.specs.Stream.{page_digest, held_stream, head_bytes, none_bytes, below_bytes, key_bytes};
+ghost use Rattle.merkle_tree_theory.specs.Cache.{CachesHold, HeldCachesHold, missing, held_missing, filled, held_filled};
 
 use crate::builder::PageFormat;
 use crate::page::{Page, PageOf};
@@ -137,8 +137,8 @@ fn write_key(format: PageFormat, bytes: &[u8], sip: &mut Sip24)
 
 impl<K: Ord + KeyBytes, V, H: Hasher<N, K>, const N: usize> MerkleSearchTree<K, V, H, N> {
     ghost use Rattle.std.specs.Prelude.{◌≢◌, None, ⊤};
-    ghost use Rattle.merkle_search_tree.specs.Hashed.{hashed_tree, IsHashed};
-    ghost use Rattle.merkle_search_tree.specs.State.{map_of};
+    ghost use Rattle.merkle_tree_theory.specs.Hashed.{hashed_tree, IsHashed};
+    ghost use Rattle.merkle_tree_theory.specs.State.{map_of};
     ghost use Rattle.merkle_search_tree.specs.contracts.tree.MerkleSearchTree.{the_row};
     ghost use Rattle.std.specs.Borrow.{sem};
     ghost use mathlib.Core.Option.{none};

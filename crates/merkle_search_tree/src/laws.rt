@@ -1,34 +1,31 @@
-//! Laws over the definitions alone. Each function has no effect and takes no memory; what it ensures holds of every tree, or, where
-//! it takes no tree, of every map and every tree that a contract can speak of.
+//! Laws over the definitions alone. Each function has no effect and takes no memory; what it ensures holds of every tree, or, of
+//! the laws of `merkle_tree_theory`, which take no tree, of every map and every tree that a contract can speak of.
 //!
 //! A body that borrows a field of a tree, as `let _ = &tree.root;`, does nothing but bring the tree's invariant into view of its proof.
 
-ghost use Rattle.std.specs.Prelude.{◌≡◌, ◌+◌, ◌≤◌, ⊤, ℕ, Bool, List, MatchOption};
-ghost use Rattle.key_order.specs.Order.{Same};
-ghost use Rattle.key_order.specs.Map.{IsMap, SameMap};
-ghost use Rattle.merkle_digest.specs.Level.{level_of};
-ghost use Rattle.merkle_diff.specs.Entry.{Entry};
+ghost use Rattle.std.specs.Prelude.{◌≡◌, ◌+◌, ◌≤◌, ⊤, MatchOption};
+ghost use Rattle.key_order.specs.Map.{SameMap};
 ghost use Rattle.merkle_diff.specs.SameEntries.{SameEntries};
 ghost use Rattle.merkle_diff.specs.TreeShape.{IsTreeShaped};
-ghost use Rattle.merkle_search_tree.specs.Cache.{missing, filled};
-ghost use Rattle.merkle_search_tree.specs.Depth.{depth};
-ghost use Rattle.merkle_search_tree.specs.Events.{events_of};
-ghost use Rattle.merkle_search_tree.specs.Listing.{ListsPages};
-ghost use Rattle.merkle_search_tree.specs.Page.{level, nodes_in_order, pairs};
-ghost use Rattle.merkle_search_tree.specs.Ranges.{IsPageOf, IsRangesOf, NothingToAsk, ranges_of};
-ghost use Rattle.merkle_search_tree.specs.Canonical.{SamePages, IsTreeOf};
-ghost use Rattle.merkle_search_tree.specs.Faithful.{IsSmall, NoCollision, HasFaithfulPages};
-ghost use Rattle.merkle_search_tree.specs.Tree.{Tree};
-ghost use Rattle.merkle_search_tree.specs.TreeOf.{defined_tree};
-ghost use Rattle.merkle_search_tree.specs.declared.builder.PageFormat.{PageFormat};
-ghost use Rattle.merkle_search_tree.specs.declared.builder.PageFormat.TheVariants.{V2};
-ghost use Rattle.merkle_search_tree.specs.Stream.{page_digest};
-ghost use Rattle.merkle_search_tree.specs.State.{map_of};
-ghost use Rattle.merkle_search_tree.specs.Sound.{IsSound};
-ghost use Rattle.merkle_search_tree.specs.Visited.{visited_nodes};
+ghost use Rattle.merkle_tree_theory.specs.Cache.{missing};
+ghost use Rattle.merkle_tree_theory.specs.Depth.{depth};
+ghost use Rattle.merkle_tree_theory.specs.Listing.{ListsPages};
+ghost use Rattle.merkle_tree_theory.specs.Page.{level};
+ghost use Rattle.merkle_tree_theory.specs.Ranges.{NothingToAsk, ranges_of};
+ghost use Rattle.merkle_tree_theory.specs.Canonical.{SamePages};
+ghost use Rattle.merkle_tree_theory.specs.Faithful.{IsSmall};
+ghost use Rattle.merkle_tree_theory.specs.TreeOf.{defined_tree};
+ghost use Rattle.merkle_tree_theory.specs.Stream.{page_digest};
+ghost use Rattle.merkle_tree_theory.specs.State.{map_of};
+ghost use Rattle.merkle_tree_theory.specs.Sound.{IsSound};
 
 use crate::tree::MerkleSearchTree;
-use merkle_digest::{Hasher, KeyBytes, KeyBytesExact};
+use merkle_digest::{Hasher, KeyBytes};
+pub use merkle_tree_theory::laws::{
+    a_map_has_one_tree, a_traversal_visits_nodes_in_order, equal_keys_are_on_one_level,
+    equal_keys_have_equal_bytes, equal_pages_have_equal_maps, exact_keys_make_pages_faithful,
+    filled_pages_keep_their_map, outlines_lead_down, page_ranges_of_a_map,
+};
 
 /// What holds of every tree: its keys ascend, its pages are canonical and so the tree of its map, its cached digests are true,
 /// with every page below a cached one cached too, and a cached root hash is that of the root page. The digest of its root page and its
@@ -55,67 +52,6 @@ pub fn a_tree_is_at_most_256_pages_deep<K: Ord + KeyBytes, V, H: Hasher<N, K>, c
 {
     let _ = &tree.root;
 }
-
-/// Keys that the order doesn't tell apart have equal bytes.
-pub fn equal_keys_have_equal_bytes<K: Ord + KeyBytes>()
-    ensures { (a b : K) → Same K.cmp a b → K.bytes_of a ≡ K.bytes_of b }
-{}
-
-/// Keys that the order doesn't tell apart are on one level, under any hasher and level base, and a level is at most 255.
-pub fn equal_keys_are_on_one_level<K: Ord, H: Hasher<N, K>, const N: usize>()
-    ensures level { (hasher : H) (base : ℕ) (a b : K) → Same K.cmp a b → level_of (H.digest_of hasher a) base ≡ level_of (H.digest_of hasher b) base }
-    ensures most { (digest : List ℕ) (base : ℕ) → level_of digest base ≤ 255 }
-{}
-
-/// Filling in the digests that pages lack leaves the map as it is and no page without a digest, in any page format.
-pub fn filled_pages_keep_their_map<K: KeyBytes>()
-    ensures map { (format : PageFormat) (t : Tree K (List ℕ)) → pairs (filled format K.bytes_of t) ≡ pairs t }
-    ensures hashed { (format : PageFormat) (t : Tree K (List ℕ)) → missing (filled format K.bytes_of t) ≡ 0 }
-{}
-
-/// A map has one tree: under any hasher and level base there is one, any other has its pages apart from caches, and what has its pages
-/// is a tree of the map; trees of equal maps have equal pages, and, in any page format, root pages of equal digest and equal page
-/// ranges. At most 256 pages of a tree of a map stand below one another, and no more than the level of its root and one.
-pub fn a_map_has_one_tree<K: Ord + KeyBytes, H: Hasher<N, K>, const N: usize>()
-    ensures defined { (hasher : H) (base : ℕ) (m : List (K × List ℕ)) → IsTreeOf K.cmp (H.digest_of hasher) base (defined_tree (H.digest_of hasher) base m) m }
-    ensures only { (hasher : H) (base : ℕ) (m : List (K × List ℕ)) (t : Tree K (List ℕ))
-        → IsTreeOf K.cmp (H.digest_of hasher) base t m → SamePages K.cmp t (defined_tree (H.digest_of hasher) base m) }
-    ensures enough { (hasher : H) (base : ℕ) (m : List (K × List ℕ)) (t : Tree K (List ℕ))
-        → SamePages K.cmp t (defined_tree (H.digest_of hasher) base m) → IsTreeOf K.cmp (H.digest_of hasher) base t m }
-    ensures pages { (hasher : H) (base : ℕ) (a b : List (K × List ℕ)) (t u : Tree K (List ℕ)) → SameMap K.cmp (λ d e. d ≡ e) a b
-        → IsTreeOf K.cmp (H.digest_of hasher) base t a → IsTreeOf K.cmp (H.digest_of hasher) base u b → SamePages K.cmp t u }
-    ensures digests { (hasher : H) (base : ℕ) (format : PageFormat) (a b : List (K × List ℕ)) (t u : Tree K (List ℕ)) → SameMap K.cmp (λ d e. d ≡ e) a b
-        → IsTreeOf K.cmp (H.digest_of hasher) base t a → IsTreeOf K.cmp (H.digest_of hasher) base u b → page_digest format K.bytes_of t ≡ page_digest format K.bytes_of u }
-    ensures ranges { (hasher : H) (base : ℕ) (format : PageFormat) (a b : List (K × List ℕ)) (t u : Tree K (List ℕ)) → SameMap K.cmp (λ d e. d ≡ e) a b
-        → IsTreeOf K.cmp (H.digest_of hasher) base t a → IsTreeOf K.cmp (H.digest_of hasher) base u b → SameEntries K.cmp (ranges_of format K.bytes_of t) (ranges_of format K.bytes_of u) }
-    ensures by_level { (hasher : H) (base : ℕ) (m : List (K × List ℕ)) (t : Tree K (List ℕ)) → IsTreeOf K.cmp (H.digest_of hasher) base t m → depth t ≤ level t + 1 }
-    ensures deepest { (hasher : H) (base : ℕ) (m : List (K × List ℕ)) (t : Tree K (List ℕ)) → IsTreeOf K.cmp (H.digest_of hasher) base t m → depth t ≤ 256 }
-{}
-
-/// Equal pages, apart from caches, have equal maps, and, in any page format, equal digests and equal page ranges.
-pub fn equal_pages_have_equal_maps<K: Ord + KeyBytes>()
-    ensures maps { (t u : Tree K (List ℕ)) → SamePages K.cmp t u → SameMap K.cmp (λ d e. d ≡ e) (pairs t) (pairs u) }
-    ensures digests { (format : PageFormat) (t u : Tree K (List ℕ)) → SamePages K.cmp t u → page_digest format K.bytes_of t ≡ page_digest format K.bytes_of u }
-    ensures ranges { (format : PageFormat) (t u : Tree K (List ℕ)) → SamePages K.cmp t u → SameEntries K.cmp (ranges_of format K.bytes_of t) (ranges_of format K.bytes_of u) }
-{}
-
-/// The page ranges of the tree of any map are tree-shaped, and say where the pages of the map are, in any page format. On those of
-/// equal maps what [`diff`](merkle_diff::diff) answers is empty in both directions.
-pub fn page_ranges_of_a_map<K: Ord + KeyBytes, H: Hasher<N, K>, const N: usize>()
-    ensures shaped { (hasher : H) (base : ℕ) (format : PageFormat) (m : List (K × List ℕ)) (es : List (Entry K (List ℕ))) → IsMap K.cmp m
-        → IsRangesOf K.cmp (H.digest_of hasher) base format K.bytes_of m es → IsTreeShaped K.cmp es }
-    ensures listing { (hasher : H) (base : ℕ) (format : PageFormat) (m : List (K × List ℕ)) (es : List (Entry K (List ℕ))) → IsMap K.cmp m
-        → IsRangesOf K.cmp (H.digest_of hasher) base format K.bytes_of m es → ListsPages K.cmp (H.digest_of hasher) base format K.bytes_of m es }
-    ensures nothing_to_ask_b_for { (hasher : H) (base : ℕ) (format : PageFormat) (a b : List (K × List ℕ)) (es fs : List (Entry K (List ℕ))) → SameMap K.cmp (λ d e. d ≡ e) a b
-        → IsRangesOf K.cmp (H.digest_of hasher) base format K.bytes_of a es → IsRangesOf K.cmp (H.digest_of hasher) base format K.bytes_of b fs → NothingToAsk K.cmp es fs }
-    ensures nothing_to_ask_a_for { (hasher : H) (base : ℕ) (format : PageFormat) (a b : List (K × List ℕ)) (es fs : List (Entry K (List ℕ))) → SameMap K.cmp (λ d e. d ≡ e) a b
-        → IsRangesOf K.cmp (H.digest_of hasher) base format K.bytes_of a es → IsRangesOf K.cmp (H.digest_of hasher) base format K.bytes_of b fs → NothingToAsk K.cmp fs es }
-{}
-
-/// The nodes that a traversal visits, where each call answers true, are those of the tree in order, as an iteration over nodes gives them.
-pub fn a_traversal_visits_nodes_in_order<K>()
-    ensures { (is_high : Bool) (t : Tree K (List ℕ)) → visited_nodes (events_of is_high t) ≡ nodes_in_order t }
-{}
 
 /// Trees of equal maps, under one level base and hashers that give each key one digest, have equal pages apart from caches, and, in
 /// one page format, equal root digests.
@@ -189,18 +125,3 @@ pub fn a_tree_in_memory_is_small<K: Ord + KeyBytes, V, H: Hasher<N, K>, const N:
 {
     tree.root.look();
 }
-
-/// In format 2, where the bytes of a key tell it from every other, page digests are as faithful as the hash of streams. For any two
-/// maps under one hasher and level base: where no page of one tree and page of the other have unequal streams of one digest, pages
-/// with equal digests have equal maps below them, and root pages with equal digests have equal maps.
-pub fn exact_keys_make_pages_faithful<K: Ord + KeyBytesExact, H: Hasher<N, K>, const N: usize>()
-    ensures pages { (hasher : H) (base : ℕ) (a b : List (K × List ℕ))
-        → IsSmall K.cmp (H.digest_of hasher) base K.bytes_of N a → IsSmall K.cmp (H.digest_of hasher) base K.bytes_of N b
-        → NoCollision K.cmp (H.digest_of hasher) base V2 K.bytes_of a b
-        → HasFaithfulPages K.cmp (IsPageOf K.cmp (H.digest_of hasher) base) (IsPageOf K.cmp (H.digest_of hasher) base) (page_digest V2 K.bytes_of) (page_digest V2 K.bytes_of) pairs a b }
-    ensures maps { (hasher : H) (base : ℕ) (a b : List (K × List ℕ)) (t u : Tree K (List ℕ))
-        → IsSmall K.cmp (H.digest_of hasher) base K.bytes_of N a → IsSmall K.cmp (H.digest_of hasher) base K.bytes_of N b
-        → NoCollision K.cmp (H.digest_of hasher) base V2 K.bytes_of a b
-        → IsTreeOf K.cmp (H.digest_of hasher) base t a → IsTreeOf K.cmp (H.digest_of hasher) base u b
-        → page_digest V2 K.bytes_of t ≡ page_digest V2 K.bytes_of u → SameMap K.cmp (λ d e. d ≡ e) a b }
-{}

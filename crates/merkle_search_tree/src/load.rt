@@ -2,19 +2,18 @@
 
 ghost use Rattle.std.specs.Prelude.{◌≡◌, [], ◌∷◌, ◌++◌, IfOk, IfErr, OnOk, None};
 ghost use Rattle.std.specs.Iterator.{IsFiniteIterable};
-ghost use Rattle.key_order.specs.Order.{Same};
 ghost use Rattle.key_order.specs.Map.{IsMap, SameMap};
 ghost use Rattle.merkle_diff.specs.Iterable.{Gives, Begins};
-ghost use Rattle.merkle_search_tree.specs.Edge.{edge_pairs};
+ghost use Rattle.merkle_tree_theory.specs.Edge.{edge_pairs};
 ghost use Rattle.merkle_search_tree.specs.Loading.{digests, IsLoading, RowFails, LoadFails, BeginsWith};
-ghost use Rattle.merkle_search_tree.specs.State.{map_of, HasSettings};
+ghost use Rattle.merkle_tree_theory.specs.State.{map_of, HasSettings};
 ghost use Rattle.merkle_search_tree.specs.declared.load.LoadRefused.TheVariants.{Memory};
 
 use crate::builder::Builder;
 use crate::edge::{append, is_above, root_of};
 use crate::page::PageOf;
 use crate::tree::MerkleSearchTree;
-use merkle_digest::{Hasher, KeyBytes, ValueDigest, level};
+use merkle_digest::{Hasher, Key, KeyBytes, ValueDigest, level};
 use std::alloc::{AllocError, Global};
 use std::error::Error;
 use std::fmt;
@@ -156,17 +155,14 @@ impl<
     }
 }
 
-impl<
-    K: Ord + KeyBytes + Clone + Drop,
-    V: Eq,
-    H: Hasher<N, K> + Hasher<N, V> + Drop,
-    const N: usize,
-> MerkleSearchTree<K, V, H, N> {
+impl<K: Key + Drop, V: Eq, H: Hasher<N, K> + Hasher<N, V> + Drop, const N: usize> MerkleSearchTree<
+    K,
+    V,
+    H,
+    N,
+> {
     /// The tree of rows that stay where they are and ascend strictly by key, as [`from_ascending`](Self::from_ascending) builds it, with
     /// clones of their keys. It costs what that does, and a clone of each key.
-    ///
-    /// Its condition on clones is proved by a lemma of `key_order::proofs::Clones`: `string_clone` or `str_clone` for texts,
-    /// `vec_clone` or `array_clone` for vectors and arrays of bytes, `exact_clone` for what a clone gives back as it is.
     ///
     /// # Errors
     ///
@@ -177,9 +173,6 @@ impl<
         builder: Builder<H>,
         rows: &[(K, V)],
     ) -> Result<Self, LoadRefused>
-        // A clone of a key equals its original.
-        requires clones { (a b : K) → K.is_clone a b → Same K.cmp a b }
-
         // The map is the rows with the digests of their values.
         ensures map { IfOk result (λ tree. SameMap K.cmp (λ d e. d ≡ e) (map_of tree) (digests (⟦<H as Hasher<N, V>>⟧.digest_of builder.hasher) rows.now)) }
 

@@ -1,8 +1,8 @@
 //! What follows from that a tree is in memory: its pages have few nodes, its keys are short, and its value digests have their length.
 
 ghost use Rattle.std.specs.Prelude.{◌≡◌, length};
-ghost use Rattle.merkle_search_tree.specs.Tree.{held_of};
-ghost use Rattle.merkle_search_tree.specs.Small.{IsHeldInMemory, BelowIsHeld};
+ghost use Rattle.merkle_tree_theory.specs.Tree.{held_of};
+ghost use Rattle.merkle_tree_theory.specs.Small.{IsHeldInMemory, BelowIsHeld};
 
 use crate::page::Page;
 use merkle_digest::KeyBytes;

@@ -2,8 +2,8 @@
 
 ghost use Rattle.std.specs.Prelude.{◌≡◌, ◌++◌, ◌∷◌, [], IfOk, MatchOption};
 ghost use Rattle.std.specs.Vec.{vec_len, vec_capacity};
-ghost use Rattle.merkle_search_tree.specs.Tree.{held_of};
-ghost use Rattle.merkle_search_tree.specs.Page.{nodes_in_order, held_in_order, LevelsFall};
+ghost use Rattle.merkle_tree_theory.specs.Tree.{held_of};
+ghost use Rattle.merkle_tree_theory.specs.Page.{nodes_in_order, held_in_order, LevelsFall};
 ghost use Rattle.merkle_search_tree.specs.Path.{rest_of, HasRoom, PathFits};
 
 use crate::page::{NodeOf, PageOf};
@@ -27,8 +27,8 @@ pub struct NodeIterOf<'a, K, D> {
 impl<'a, K, D> Model for NodeIterOf<'a, K, D> {
     ghost use Rattle.std.specs.Prelude.{List};
     ghost use Rattle.std.specs.Vec.{vec_capacity};
-    ghost use Rattle.merkle_search_tree.specs.Tree.{Node};
-    ghost use Rattle.merkle_search_tree.specs.TreeCode.{node_code};
+    ghost use Rattle.merkle_tree_theory.specs.Tree.{Node};
+    ghost use Rattle.merkle_tree_theory.specs.TreeCode.{node_code};
     ghost use Rattle.std.specs.Coded.{coded_list};
 
     ghost Value = { List (Node K D) };

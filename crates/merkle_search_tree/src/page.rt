@@ -2,8 +2,8 @@
 
 ghost use Rattle.std.specs.Prelude.{◌≡◌, None};
 ghost use Rattle.std.specs.Option.{option_map};
-ghost use Rattle.merkle_search_tree.specs.Tree.{page, high, nothing};
-ghost use Rattle.merkle_search_tree.specs.Page.{level, cache, nodes_of};
+ghost use Rattle.merkle_tree_theory.specs.Tree.{page, high, nothing};
+ghost use Rattle.merkle_tree_theory.specs.Page.{level, cache, nodes_of};
 
 use merkle_digest::{PageDigest, ValueDigest};
 use std::alloc::Global;
@@ -28,8 +28,8 @@ pub struct NodeOf<K, D> {
 }
 
 impl<K, D> Model for NodeOf<K, D> {
-    ghost use Rattle.merkle_search_tree.specs.Tree.{Node, held_of, node_size};
-    ghost use Rattle.merkle_search_tree.specs.TreeCode.{node_code};
+    ghost use Rattle.merkle_tree_theory.specs.Tree.{Node, held_of, node_size};
+    ghost use Rattle.merkle_tree_theory.specs.TreeCode.{node_code};
 
     ghost Value = { Node K D };
 
@@ -58,8 +58,8 @@ pub struct PageOf<K, D> {
 }
 
 impl<K, D> Model for PageOf<K, D> {
-    ghost use Rattle.merkle_search_tree.specs.Tree.{Tree, page, row, held_of, tree_size};
-    ghost use Rattle.merkle_search_tree.specs.TreeCode.{tree_code};
+    ghost use Rattle.merkle_tree_theory.specs.Tree.{Tree, page, row, held_of, tree_size};
+    ghost use Rattle.merkle_tree_theory.specs.TreeCode.{tree_code};
 
     ghost Value = { Tree K D };
 

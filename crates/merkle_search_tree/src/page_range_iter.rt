@@ -4,10 +4,11 @@ ghost use Rattle.std.specs.Prelude.{◌≡◌, ◌+◌, ◌<◌, ◌++◌, [], I
 ghost use Rattle.std.specs.List.{AllByRecursion};
 ghost use Rattle.std.specs.Vec.{vec_len, vec_capacity};
 ghost use Rattle.merkle_diff.specs.PageRange.{entry};
-ghost use Rattle.merkle_search_tree.specs.Tree.{held_of};
-ghost use Rattle.merkle_search_tree.specs.Page.{level, pages_in_order, held_pages, pages_below, LevelsFall};
+ghost use Rattle.merkle_tree_theory.specs.Tree.{held_of};
+ghost use Rattle.merkle_tree_theory.specs.Page.{level, pages_in_order, held_pages, pages_below, LevelsFall};
 ghost use Rattle.merkle_search_tree.specs.Path.{pages_left, HasRoom, PathFits};
-ghost use Rattle.merkle_search_tree.specs.PagesToCome.{pages_to_come, ranges_to_come, HasRange, NextFits};
+ghost use Rattle.merkle_search_tree.specs.PagesToCome.{pages_to_come, NextFits};
+ghost use Rattle.merkle_tree_theory.specs.CachedRanges.{ranges_to_come, HasRange};
 
 use crate::page::PageOf;
 use crate::path::{Visit, enter, pass};
@@ -40,7 +41,8 @@ impl<'a, K: Ord, D> Model for PageRangeIterOf<'a, K, D> {
 
     ghost coded = { coded_list (entry_code K.code (coded_list coded_ℕ)) };
 
-    ghost use Rattle.merkle_search_tree.specs.PagesToCome.{pages_to_come, ranges_to_come, IsIteration};
+    ghost use Rattle.merkle_search_tree.specs.PagesToCome.{pages_to_come, IsIteration};
+    ghost use Rattle.merkle_tree_theory.specs.CachedRanges.{ranges_to_come};
 
     ghost view = { λ a. ranges_to_come K.cmp (pages_to_come a.upcoming a.path.items) };
 

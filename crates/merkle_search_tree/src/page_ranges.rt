@@ -3,10 +3,9 @@
 ghost use Rattle.std.specs.Prelude.{◌≡◌, ℕ, ◌++◌, ◌∷◌, [], OnOk};
 ghost use Rattle.std.specs.Option.{option_map};
 ghost use Rattle.merkle_diff.specs.PageRange.{entry, entries};
-ghost use Rattle.merkle_search_tree.specs.Tree.{held_of};
-ghost use Rattle.merkle_search_tree.specs.Page.{pairs, held_pairs, LevelsFall, HeldFalls};
-ghost use Rattle.merkle_search_tree.specs.CachedRanges.{as_list, first_of, last_of, range_of, cached_ranges, held_cached};
-ghost use Rattle.merkle_search_tree.specs.PagesToCome.{HasRange};
+ghost use Rattle.merkle_tree_theory.specs.Tree.{held_of};
+ghost use Rattle.merkle_tree_theory.specs.Page.{pairs, held_pairs, LevelsFall, HeldFalls};
+ghost use Rattle.merkle_tree_theory.specs.CachedRanges.{as_list, first_of, last_of, range_of, cached_ranges, held_cached, HasRange};
 
 use crate::page::PageOf;
 use merkle_diff::PageRange;

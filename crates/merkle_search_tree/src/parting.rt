@@ -2,9 +2,9 @@
 
 ghost use Rattle.std.specs.Prelude.{◌≡◌, ◌≤◌, IfOk};
 ghost use Rattle.key_order.specs.Map.{IsMap};
-ghost use Rattle.merkle_search_tree.specs.Page.{held_pairs};
-ghost use Rattle.merkle_search_tree.specs.Tree.{held_of};
-ghost use Rattle.merkle_search_tree.specs.Chain.{first_of, row_drop, row_of_page};
+ghost use Rattle.merkle_tree_theory.specs.Page.{held_pairs};
+ghost use Rattle.merkle_tree_theory.specs.Tree.{held_of};
+ghost use Rattle.merkle_tree_theory.specs.Chain.{first_of, row_drop, row_of_page};
 ghost use Rattle.merkle_search_tree.specs.Parting.{parting_place, PartsNodes, PartingsFit};
 
 use crate::page::PageOf;

@@ -2,8 +2,8 @@
 
 ghost use Rattle.std.specs.Prelude.{◌≡◌, ◌+◌, ◌<◌, ◌≤◌, ◌++◌, ◌∷◌, [], length, IfSome, MatchOption};
 ghost use Rattle.std.specs.Vec.{vec_len, vec_capacity};
-ghost use Rattle.merkle_search_tree.specs.Tree.{row, held_of, held_size, tree_size};
-ghost use Rattle.merkle_search_tree.specs.Page.{level, nodes_in_order, held_in_order, row_pages, held_pages, LevelsFall, RowFalls, HeldFalls, pages_below};
+ghost use Rattle.merkle_tree_theory.specs.Tree.{row, held_of, held_size, tree_size};
+ghost use Rattle.merkle_tree_theory.specs.Page.{level, nodes_in_order, held_in_order, row_pages, held_pages, LevelsFall, RowFalls, HeldFalls, pages_below};
 ghost use Rattle.merkle_search_tree.specs.Path.{from_first, behind_first, rest_of, pages_left, HasRoom, PathFits};
 
 use crate::page::{NodeOf, PageOf};

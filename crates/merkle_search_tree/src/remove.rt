@@ -3,10 +3,10 @@
 ghost use Rattle.std.specs.Prelude.{◌≡◌, ◌⊎◌, ◌<◌, length, Some, None, OnOk, OnErr, IfOk, IsOk, MatchOption};
 ghost use Rattle.std.specs.Vec.{vec_len};
 ghost use Rattle.key_order.specs.Map.{IsMap};
-ghost use Rattle.merkle_search_tree.specs.Page.{pairs, held_pairs};
-ghost use Rattle.merkle_search_tree.specs.Tree.{high, nothing, row, held_of};
-ghost use Rattle.merkle_search_tree.specs.Remove.{held_join, row_append, row_del, held_del, tree_without, root_del, row_entry, held_entry, tree_entry};
-ghost use Rattle.merkle_search_tree.specs.Remove.{row_without, pair_at, IsNothing, BeginsFree, IsFreeAt, HasFreeGap, HeldHasFreeGap};
+ghost use Rattle.merkle_tree_theory.specs.Page.{pairs, held_pairs};
+ghost use Rattle.merkle_tree_theory.specs.Tree.{high, nothing, row, held_of};
+ghost use Rattle.merkle_tree_theory.specs.Remove.{held_join, row_append, row_del, held_del, tree_without, root_del, row_entry, held_entry, tree_entry};
+ghost use Rattle.merkle_tree_theory.specs.Remove.{row_without, pair_at, IsNothing, BeginsFree, IsFreeAt, HasFreeGap, HeldHasFreeGap};
 
 use crate::page::{NodeOf, PageOf};
 use crate::spot::search;

@@ -2,7 +2,7 @@
 
 ghost use Rattle.std.specs.Prelude.{◌≡◌, ◌+◌, ◌≤◌, [], take, drop, None, IfOk};
 ghost use Rattle.std.specs.Vec.{vec_len, vec_capacity};
-ghost use Rattle.merkle_search_tree.specs.Tree.{page, row, held_of};
+ghost use Rattle.merkle_tree_theory.specs.Tree.{page, row, held_of};
 
 use crate::page::{NodeOf, PageOf};
 use std::alloc::{AllocError, Global};

@@ -4,10 +4,10 @@ ghost use Rattle.std.specs.Prelude.{◌≡◌, ℕ, suc, ◌+◌, ◌<◌, ◌�
 ghost use Rattle.std.specs.Vec.{vec_capacity};
 ghost use Rattle.std.specs.declared.cmp.Ordering.{Ordering};
 ghost use Rattle.key_order.specs.Map.{IsMap};
-ghost use Rattle.merkle_search_tree.specs.Page.{held_pairs};
-ghost use Rattle.merkle_search_tree.specs.Tree.{Held, below, nothing, held_of};
-ghost use Rattle.merkle_search_tree.specs.Upsert.{held_lower, held_upper};
-ghost use Rattle.merkle_search_tree.specs.Chain.{page_length, high_of, first_of, with_high, with_first, row_take, row_drop, row_of_page, remade};
+ghost use Rattle.merkle_tree_theory.specs.Page.{held_pairs};
+ghost use Rattle.merkle_tree_theory.specs.Tree.{Held, below, nothing, held_of};
+ghost use Rattle.merkle_tree_theory.specs.Upsert.{held_lower, held_upper};
+ghost use Rattle.merkle_tree_theory.specs.Chain.{page_length, high_of, first_of, with_high, with_first, row_take, row_drop, row_of_page, remade};
 ghost use Rattle.merkle_search_tree.specs.Parting.{gap, PartsNodes, PartingFits};
 ghost use Rattle.merkle_search_tree.specs.Split.{HaveRoom, InParts};
 
@@ -46,6 +46,7 @@ impl<K: Drop, D: Drop> PageOf<K, D> {
         ensures goes { result.value ≡ remade 1 self.old (row_drop at (row_of_page self.old)) }
     {
         move_tail(&mut self.nodes, at, &mut spare.nodes);
+        self.nodes.shrink_to_fit();
         let above = mem::replace(&mut self.high_page, None);
         self.tree_hash = None;
         spare.into_page(self.level, above)

@@ -2,9 +2,9 @@
 
 ghost use Rattle.std.specs.Ordering.{is_eq};
 ghost use Rattle.std.specs.Prelude.{slice_index_or, ◌≡◌, ℕ, ◌^◌, ◌<◌, ◌≤◌, length};
-ghost use Rattle.merkle_search_tree.specs.Tree.{Node};
-ghost use Rattle.merkle_search_tree.specs.Search.{NodesAscend};
-ghost use Rattle.merkle_search_tree.specs.Upsert.{place};
+ghost use Rattle.merkle_tree_theory.specs.Tree.{Node};
+ghost use Rattle.merkle_tree_theory.specs.Search.{NodesAscend};
+ghost use Rattle.merkle_tree_theory.specs.Upsert.{place};
 
 use crate::page::NodeOf;
 use std::cmp::Ordering;

@@ -7,16 +7,16 @@ ghost use Rattle.key_order.specs.Order.{Same};
 ghost use Rattle.key_order.specs.Map.{SameMap, set, has_key};
 ghost use Rattle.merkle_digest.specs.Level.{level_of};
 ghost use Rattle.merkle_digest.specs.SipHash.{zero_key};
-ghost use Rattle.merkle_search_tree.specs.Tree.{page, high, nothing};
-ghost use Rattle.merkle_search_tree.specs.Page.{level, pair_of, nodes_of, nodes_in_order};
-ghost use Rattle.merkle_search_tree.specs.Upsert.{place};
-ghost use Rattle.merkle_search_tree.specs.Cache.{missing, KeyUncached};
-ghost use Rattle.merkle_search_tree.specs.Copy.{IsCopy};
-ghost use Rattle.merkle_search_tree.specs.Dropped.{UpsertDropsFew, RemovalDropsFew};
-ghost use Rattle.merkle_search_tree.specs.Sound.{IsSound};
-ghost use Rattle.merkle_search_tree.specs.State.{map_of, IsNew, SameSettings};
-ghost use Rattle.merkle_search_tree.specs.Stream.{page_digest};
-ghost use Rattle.merkle_search_tree.specs.declared.builder.PageFormat.TheVariants.{V1};
+ghost use Rattle.merkle_tree_theory.specs.Tree.{page, high, nothing};
+ghost use Rattle.merkle_tree_theory.specs.Page.{level, pair_of, nodes_of, nodes_in_order};
+ghost use Rattle.merkle_tree_theory.specs.Upsert.{place};
+ghost use Rattle.merkle_tree_theory.specs.Cache.{missing, KeyUncached};
+ghost use Rattle.merkle_tree_theory.specs.Copy.{IsCopy};
+ghost use Rattle.merkle_tree_theory.specs.Dropped.{UpsertDropsFew, RemovalDropsFew};
+ghost use Rattle.merkle_tree_theory.specs.Sound.{IsSound};
+ghost use Rattle.merkle_tree_theory.specs.State.{map_of, IsNew, SameSettings};
+ghost use Rattle.merkle_tree_theory.specs.Stream.{page_digest};
+ghost use Rattle.merkle_tree_theory.specs.declared.page_format.PageFormat.TheVariants.{V1};
 
 use crate::builder::{Builder, PageFormat};
 use crate::node_iter::NodeIter;
@@ -24,7 +24,7 @@ use crate::page::Page;
 use crate::spot::search;
 use crate::upsert::UpsertRefused;
 use crate::visitor::{Visitor, traverse_page};
-use merkle_digest::{Hasher, KeyBytes, RootHash, SipHasher, ValueDigest, level};
+use merkle_digest::{Hasher, Key, KeyBytes, RootHash, SipHasher, ValueDigest, level};
 use std::alloc::{AllocError, Global};
 use std::marker::{Model, PhantomData};
 use std::num::NonZeroU8;
@@ -65,7 +65,7 @@ pub struct MerkleSearchTree<K: Ord + KeyBytes, V, H: Hasher<N, K>, const N: usiz
 
 impl<K: Ord + KeyBytes, V, H: Hasher<N, K>, const N: usize> Model for MerkleSearchTree<K, V, H, N> {
     ghost use Rattle.std.specs.Int.NonZero.{non_zero_u8_get};
-    ghost use Rattle.merkle_search_tree.specs.State.{State, state_code};
+    ghost use Rattle.merkle_tree_theory.specs.State.{State, state_code};
 
     ghost Value = { State K H };
 
@@ -73,7 +73,7 @@ impl<K: Ord + KeyBytes, V, H: Hasher<N, K>, const N: usize> Model for MerkleSear
 
     ghost view = { λ a. record { hasher = a.hasher; base = non_zero_u8_get a.level_base; format = a.page_format; root = a.root; root_hash = a.root_hash } };
 
-    ghost use Rattle.merkle_search_tree.specs.Sound.{IsSound};
+    ghost use Rattle.merkle_tree_theory.specs.Sound.{IsSound};
 
     ghost invariant = { λ a. IsSound K.cmp H.digest_of K.bytes_of
         (record { hasher = a.hasher; base = non_zero_u8_get a.level_base; format = a.page_format; root = a.root; root_hash = a.root_hash }) };
@@ -186,8 +186,8 @@ impl<K: Ord + KeyBytes, V, H: Hasher<N, K>, const N: usize> MerkleSearchTree<K, 
 
 impl<K: Ord + KeyBytes, V, H: Hasher<N, K>, const N: usize> MerkleSearchTree<K, V, H, N> {
     ghost use Rattle.std.specs.Prelude.{Bool, false};
-    ghost use Rattle.merkle_search_tree.specs.Events.{events_of};
-    ghost use Rattle.merkle_search_tree.specs.Traversal.{Visits};
+    ghost use Rattle.merkle_tree_theory.specs.Events.{events_of};
+    ghost use Rattle.merkle_tree_theory.specs.Traversal.{Visits};
 
     /// Calls a visitor at each page and node, the root page first. At a page it calls `visit_page`; for each node in order
     /// `pre_visit_node`, then all calls at the page below the node, then `visit_node` and `post_visit_node`; then
@@ -204,24 +204,15 @@ impl<K: Ord + KeyBytes, V, H: Hasher<N, K>, const N: usize> MerkleSearchTree<K, 
     }
 }
 
-impl<K: Ord + KeyBytes + Clone, V, H: Hasher<N, K> + Clone, const N: usize> MerkleSearchTree<
-    K,
-    V,
-    H,
-    N,
-> {
+impl<K: Key, V, H: Hasher<N, K> + Clone, const N: usize> MerkleSearchTree<K, V, H, N> {
     /// A tree of an equal map, with equal pages, all cached digests included, a clone of the hasher, and the same level base, page format
     /// and cached root hash. It clones each key once, and hashes nothing.
-    ///
-    /// Its condition on clones of keys is proved by a lemma of `key_order::proofs::Clones`: `string_clone` or `str_clone` for texts,
-    /// `vec_clone` or `array_clone` for vectors and arrays of bytes, `exact_clone` for what a clone gives back as it is.
     ///
     /// # Errors
     ///
     /// `AllocError` where memory is refused: for a page or its nodes, or for the clone of a key or of the hasher.
     pub fn try_clone(&self) -> Result<Self, AllocError>
-        // A clone of a key equals the key, and a clone of a hasher gives the digests that the hasher gives.
-        requires keys { (a b : K) → K.is_clone a b → Same K.cmp a b }
+        // A clone of a hasher gives the digests that the hasher gives.
         requires hashers { (a b : H) → H.is_clone a b → (k : K) → H.digest_of b k ≡ H.digest_of a k }
 
         ensures map { IfOk result (λ copy. SameMap K.cmp (λ d e. d ≡ e) (map_of self.now) (map_of copy)) }
@@ -299,7 +290,7 @@ impl<
 impl<K: Ord + KeyBytes + Drop, V, H: Hasher<N, K>, const N: usize> MerkleSearchTree<K, V, H, N> {
     ghost use Rattle.std.specs.Prelude.{false};
     ghost use Rattle.key_order.specs.Map.{del, entry};
-    ghost use Rattle.merkle_search_tree.specs.Remove.{HasFreeGap};
+    ghost use Rattle.merkle_tree_theory.specs.Remove.{HasFreeGap};
 
     /// Takes `key` out, and hands out the stored key and its value digest. Where no equal key is there, it answers `Ok(None)` and
     /// changes nothing.

@@ -2,8 +2,8 @@
 
 ghost use Rattle.std.specs.Prelude.{◌≡◌, ◌≢◌, None, [], IfOk, IfSome, IsOk, MatchOption};
 ghost use Rattle.merkle_diff.specs.PageRange.{entries};
-ghost use Rattle.merkle_search_tree.specs.Ranges.{ranges_of};
-ghost use Rattle.merkle_search_tree.specs.State.{map_of};
+ghost use Rattle.merkle_tree_theory.specs.Ranges.{ranges_of};
+ghost use Rattle.merkle_tree_theory.specs.State.{map_of};
 
 use crate::page_range_iter::PageRangeIter;
 use crate::tree::MerkleSearchTree;

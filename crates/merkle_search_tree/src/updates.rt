@@ -2,9 +2,9 @@
 
 ghost use Rattle.std.specs.Prelude.{◌≡◌, IfOk, length, is_some, [], false};
 ghost use Rattle.merkle_diff.specs.SameEntries.{SameEntries};
-ghost use Rattle.merkle_search_tree.specs.Canonical.{SamePages};
-ghost use Rattle.merkle_search_tree.specs.Ranges.{ranges_of};
-ghost use Rattle.merkle_search_tree.specs.State.{map_of, HasSettings, SameSettings};
+ghost use Rattle.merkle_tree_theory.specs.Canonical.{SamePages};
+ghost use Rattle.merkle_tree_theory.specs.Ranges.{ranges_of};
+ghost use Rattle.merkle_tree_theory.specs.State.{map_of, HasSettings, SameSettings};
 ghost use Rattle.merkle_search_tree.specs.Updates.{map_after, map_after_one, hashed_after_one, tree_after, root_hash_after, IsAcceptedIfFree, FreeAreAccepted};
 
 use crate::builder::Builder;

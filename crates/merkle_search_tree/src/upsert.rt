@@ -2,9 +2,9 @@
 
 ghost use Rattle.std.specs.Prelude.{◌≡◌, ℕ, false, OnOk, OnErr, IfErr};
 ghost use Rattle.key_order.specs.Map.{IsMap};
-ghost use Rattle.merkle_search_tree.specs.Page.{pairs, row_pairs, held_pairs};
-ghost use Rattle.merkle_search_tree.specs.Tree.{row, held_of};
-ghost use Rattle.merkle_search_tree.specs.Upsert.{level_order, lifted, row_put, row_finds, tree_set, tree_finds, held_set, held_finds};
+ghost use Rattle.merkle_tree_theory.specs.Page.{pairs, row_pairs, held_pairs};
+ghost use Rattle.merkle_tree_theory.specs.Tree.{row, held_of};
+ghost use Rattle.merkle_tree_theory.specs.Upsert.{level_order, lifted, row_put, row_finds, tree_set, tree_finds, held_set, held_finds};
 
 use crate::page::{NodeOf, PageOf};
 use crate::spare::Spare;

@@ -1,9 +1,9 @@
 //! Visitors, which a traversal of a tree calls at each of its pages and nodes.
 
 ghost use Rattle.std.specs.Prelude.{Bool, List, ℕ};
-ghost use Rattle.merkle_search_tree.specs.Tree.{held_of};
-ghost use Rattle.merkle_search_tree.specs.Events.{Event, visit_page, pre_visit_node, visit_node, post_visit_node, post_visit_page, events_of, held_events};
-ghost use Rattle.merkle_search_tree.specs.Traversal.{Visits, node_events};
+ghost use Rattle.merkle_tree_theory.specs.Tree.{held_of};
+ghost use Rattle.merkle_tree_theory.specs.Events.{Event, visit_page, pre_visit_node, visit_node, post_visit_node, post_visit_page, events_of, held_events};
+ghost use Rattle.merkle_tree_theory.specs.Traversal.{Visits, node_events};
 
 use crate::page::{Node, Page};
 

@@ -4,11 +4,11 @@ use Rattle.std.proofs.lemmas.List.Sums.{sum_by-cons}
 use Rattle.std.proofs.lemmas.List.{get_or-drop, take_more, drop_more, drop_all, length-drop}
 use Rattle.std.proofs.lemmas.Option.{same_Some}
 use Rattle.merkle_digest.specs.SipHash.{siphash128, zero_key}
-use Rattle.merkle_search_tree.specs.Tree.{page, node, high, Held, nothing, below}
-use Rattle.merkle_search_tree.specs.Page.{row_nodes}
-use Rattle.merkle_search_tree.specs.Stream.{page_digest, row_stream, held_stream, head_bytes, none_bytes, key_bytes}
-use Rattle.merkle_search_tree.specs.declared.builder.PageFormat.{PageFormat}
-use Rattle.merkle_search_tree.specs.TreeOf.{any_at, row_of, gap_of, root_of, tree_of}
+use Rattle.merkle_tree_theory.specs.Tree.{page, node, high, Held, nothing, below}
+use Rattle.merkle_tree_theory.specs.Page.{row_nodes}
+use Rattle.merkle_tree_theory.specs.Stream.{page_digest, row_stream, held_stream, head_bytes, none_bytes, key_bytes}
+use Rattle.merkle_tree_theory.specs.declared.page_format.PageFormat.{PageFormat}
+use Rattle.merkle_tree_theory.specs.TreeOf.{any_at, row_of, gap_of, root_of, tree_of}
 use Rattle.sample_trees.specs.Defined.{gap_digest, written}
 
 -- the part of a list from start to i

@@ -1,8 +1,8 @@
 -- What the plain program that makes the defined tree answers.
 use Rattle.std.specs.Prelude.{ℕ, List, Option, Some, None}
-use Rattle.merkle_search_tree.specs.Tree.{Held, nothing, below}
-use Rattle.merkle_search_tree.specs.Stream.{page_digest, none_bytes, below_bytes}
-use Rattle.merkle_search_tree.specs.declared.builder.PageFormat.{PageFormat}
+use Rattle.merkle_tree_theory.specs.Tree.{Held, nothing, below}
+use Rattle.merkle_tree_theory.specs.Stream.{page_digest, none_bytes, below_bytes}
+use Rattle.merkle_tree_theory.specs.declared.page_format.PageFormat.{PageFormat}
 
 -- the digest in the format of the page that stands in a gap, where there is one
 abbrev pub gap_digest : {K : Type 0} → PageFormat → (K → List ℕ) → Held K (List ℕ) → Option (List ℕ)

@@ -3,8 +3,8 @@
 ghost use Rattle.std.specs.Prelude.{◌≡◌, ◌≤◌, ℕ, List, ◌++◌, ◌==◌, count_by};
 ghost use Rattle.merkle_digest.specs.Level.{level_of};
 ghost use Rattle.merkle_digest.specs.Sip24.{Holds};
-ghost use Rattle.merkle_search_tree.specs.TreeOf.{gap_of, tree_of};
-ghost use Rattle.merkle_search_tree.specs.Stream.{page_digest, head_bytes, key_bytes};
+ghost use Rattle.merkle_tree_theory.specs.TreeOf.{gap_of, tree_of};
+ghost use Rattle.merkle_tree_theory.specs.Stream.{page_digest, head_bytes, key_bytes};
 ghost use Rattle.sample_trees.specs.Defined.{gap_digest, written};
 
 use merkle_digest::{

@@ -1,9 +1,9 @@
 -- A traversal meets each key once.
 use Rattle.std.proofs.Common.{◌≡◌, ℕ, ◌+◌, ◌-◌, ◌^◌, ◌≤◌, min, Bool, true, false, List, [], ◌∷◌, ◌++◌, length, length-append, refl, sym, ◌∙◌, ap, arith}
-use Rattle.merkle_search_tree.specs.Tree.{Tree, page, Row, high, node, Held, nothing, below}
-use Rattle.merkle_search_tree.specs.Page.{pairs, row_pairs, held_pairs}
-use Rattle.merkle_search_tree.specs.Events.{Event, events_of, row_events, held_events}
-use Rattle.merkle_search_tree.specs.Traversal.{Visits, over, ends, goes_on}
+use Rattle.merkle_tree_theory.specs.Tree.{Tree, page, Row, high, node, Held, nothing, below}
+use Rattle.merkle_tree_theory.specs.Page.{pairs, row_pairs, held_pairs}
+use Rattle.merkle_tree_theory.specs.Events.{Event, events_of, row_events, held_events}
+use Rattle.merkle_tree_theory.specs.Traversal.{Visits, over, ends, goes_on}
 use Rattle.tree_tests.specs.Count.{counted}
 
 -- the count after so many more nodes

@@ -1,6 +1,6 @@
 -- How many calls of a traversal are at a node in its place.
 use Rattle.std.specs.Prelude.{ℕ, ◌+◌, ◌-◌, ◌^◌, min}
-use Rattle.merkle_search_tree.specs.Events.{Event, visit_page, pre_visit_node, visit_node, post_visit_node, post_visit_page}
+use Rattle.merkle_tree_theory.specs.Events.{Event, visit_page, pre_visit_node, visit_node, post_visit_node, post_visit_page}
 
 module _ {K D : Type 0} where
   -- the count after a call; it stops at what a `usize` holds

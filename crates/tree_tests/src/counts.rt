@@ -1,7 +1,7 @@
 //! A visitor that counts nodes, whose count is proved to be the number of keys; and what a call on trees tells its caller.
 
 ghost use Rattle.std.specs.Prelude.{◌≡◌, ◌-◌, ◌^◌, length, min};
-ghost use Rattle.merkle_search_tree.specs.State.{map_of};
+ghost use Rattle.merkle_tree_theory.specs.State.{map_of};
 
 use crate::upserts::UPSERTS;
 use merkle_digest::{Hasher, KeyBytes};

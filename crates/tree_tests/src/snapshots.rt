@@ -18,7 +18,6 @@ fn put(alloc: Global, tree: &mut Tree, value: u64) -> Result<(), Fail> {
 }
 
 /// A snapshot of the page ranges of a tree, which it hashes.
-#[tactic(auto, using(key_order::proofs::Clones::string_clone))]
 fn snapshot(alloc: Global, tree: &mut Tree) -> Result<PageRangeSnapshot<String>, Fail> {
     tree.root_hash();
     let ranges = tree.serialise_page_ranges()?.ok_or("not hashed")?;

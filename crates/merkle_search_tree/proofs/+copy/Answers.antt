@@ -2,9 +2,9 @@ use Rattle.std.proofs.Common.{◌≡◌, ◌+◌, ◌<◌, ◌≤◌, List, [], 
 use Rattle.std.proofs.lemmas.List.{take_all, take_more}
 use Rattle.std.proofs.lemmas.List.Elements.{AllZip-push}
 use Rattle.std.specs.List.{AllZip}
-use Rattle.merkle_search_tree.specs.Tree.{Tree, Node, page, row, held_of}
-use Rattle.merkle_search_tree.specs.Copy.{IsCopy, NodeIsCopy}
-use Rattle.merkle_search_tree.proofs.Copies.{copy-row}
+use Rattle.merkle_tree_theory.specs.Tree.{Tree, Node, page, row, held_of}
+use Rattle.merkle_tree_theory.specs.Copy.{IsCopy, NodeIsCopy}
+use Rattle.merkle_tree_theory.proofs.Copies.{copy-row}
 use Rattle.merkle_search_tree.proofs.+copy.Goals as goal
 
 pub page::PageOf::copied-returns : goal.page::PageOf::copied-returns

@@ -1,6 +1,6 @@
 use Rattle.std.proofs.Common.{take}
 use Rattle.std.specs.List.{AllZip}
-use Rattle.merkle_search_tree.specs.Copy.{NodeIsCopy}
+use Rattle.merkle_tree_theory.specs.Copy.{NodeIsCopy}
 use Rattle.merkle_search_tree.proofs.+copy.Given as goal
 
 abbrev pub invariant-page::PageOf::copied-nodes : goal.invariant-page::PageOf::copied-nodes

@@ -2,13 +2,13 @@ use Rattle.std.proofs.Common.{◌≡◌, ◌<◌, ◌+◌, ◌++◌, get_or, len
 use Rattle.std.proofs.lemmas.List.{take_all}
 use Rattle.std.specs.List.{flat_map}
 use Rattle.merkle_diff.specs.PageRange.{entries}
-use Rattle.merkle_search_tree.specs.Tree.{Tree, Node, row, held_of, tree_size, row_size, held_size}
-use Rattle.merkle_search_tree.specs.Page.{level, LevelsFall, HeldFalls}
-use Rattle.merkle_search_tree.specs.CachedRanges.{as_list, range_of, cached_ranges, row_cached, held_cached}
-use Rattle.merkle_search_tree.proofs.Parts.{on_ok_map}
-use Rattle.merkle_search_tree.proofs.Rows.{size_at, size_high}
-use Rattle.merkle_search_tree.proofs.Paths.{at-falls, high-falls}
-use Rattle.merkle_search_tree.proofs.RangeEnds.{node_cached, row_cached-row, only_own, regroup}
+use Rattle.merkle_tree_theory.specs.Tree.{Tree, Node, row, held_of, tree_size, row_size, held_size}
+use Rattle.merkle_tree_theory.specs.Page.{level, LevelsFall, HeldFalls}
+use Rattle.merkle_tree_theory.specs.CachedRanges.{as_list, range_of, cached_ranges, row_cached, held_cached}
+use Rattle.merkle_tree_theory.proofs.Parts.{on_ok_map}
+use Rattle.merkle_tree_theory.proofs.Rows.{size_at, size_high}
+use Rattle.merkle_tree_theory.proofs.Falls.{at-falls, high-falls}
+use Rattle.merkle_tree_theory.proofs.RangeEnds.{node_cached, row_cached-row, only_own, regroup}
 use Rattle.merkle_search_tree.proofs.+list.Goals as goal
 
 pub page::PageOf::list_ranges-returns-then-self-eq0 : goal.page::PageOf::list_ranges-returns-then-self-eq0

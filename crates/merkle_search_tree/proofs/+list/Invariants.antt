@@ -1,8 +1,8 @@
 use Rattle.std.proofs.Common.{◌≡◌, ◌+◌, ◌*◌, ◌++◌, take}
 use Rattle.std.specs.List.{flat_map}
 use Rattle.merkle_diff.specs.PageRange.{entries}
-use Rattle.merkle_search_tree.specs.Tree.{tree_size, held_size, held_of}
-use Rattle.merkle_search_tree.proofs.RangeEnds.{node_cached}
+use Rattle.merkle_tree_theory.specs.Tree.{tree_size, held_size, held_of}
+use Rattle.merkle_tree_theory.proofs.RangeEnds.{node_cached}
 use Rattle.merkle_search_tree.proofs.+list.Given as goal
 
 abbrev pub invariant-page::PageOf::list_ranges-nodes : goal.invariant-page::PageOf::list_ranges-nodes

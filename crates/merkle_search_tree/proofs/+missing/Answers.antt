@@ -1,8 +1,8 @@
 use Rattle.std.proofs.Common.{◌≡◌, ◌+◌, sum_by, take, arith, ap, sym, ◌∙◌}
 use Rattle.std.proofs.lemmas.List.{take_all}
-use Rattle.merkle_search_tree.specs.Tree.{held_of}
-use Rattle.merkle_search_tree.specs.Cache.{missing, held_missing, one_without}
-use Rattle.merkle_search_tree.proofs.Fill.{node_missing, row_missing-row}
+use Rattle.merkle_tree_theory.specs.Tree.{held_of}
+use Rattle.merkle_tree_theory.specs.Cache.{missing, held_missing, one_without}
+use Rattle.merkle_tree_theory.proofs.Fill.{node_missing, row_missing-row}
 use Rattle.merkle_search_tree.proofs.+missing.Goals as goal
 
 pub page::PageOf::missing-returns : goal.page::PageOf::missing-returns

@@ -1,14 +1,14 @@
 use Rattle.std.proofs.Common.{rules, ◌≡◌, ℕ, ◌<◌, List, [], ◌∷◌, length, slice_set, None, true, false, arith, ap, sym, subst, ◌∙◌, refl}
 use Rattle.std.proofs.lemmas.Bool.{eqb-true, eqb-false}
 use Rattle.std.specs.Vec.{vec_len}
-use Rattle.merkle_search_tree.specs.Tree.{page, Node, below, row, held_of}
-use Rattle.merkle_search_tree.specs.Upsert.{place}
-use Rattle.merkle_search_tree.proofs.Search.{page_nodes-ascend, page_high-map, page_gap-map, all_below, one_at, key_there, key_elsewhere}
-use Rattle.merkle_search_tree.proofs.Rows.{page_size-high, page_size-gap}
-use Rattle.merkle_search_tree.specs.Remove.{held_del, tree_del, tree_without, IsFreeAt, HasFreeGap, HeldHasFreeGap}
-use Rattle.merkle_search_tree.proofs.Parts.{lt_back, lt_changed, on_err_always}
-use Rattle.merkle_search_tree.proofs.Seams.{gives_way, way_some, way_same, without_gives, at_some, at_none, free_equal, free_gap, free_high}
-use Rattle.merkle_search_tree.proofs.Seams.{page_entry-high, page_without-high, page_entry-equal, page_without-equal, page_entry-gap, page_without-gap}
+use Rattle.merkle_tree_theory.specs.Tree.{page, Node, below, row, held_of}
+use Rattle.merkle_tree_theory.specs.Upsert.{place}
+use Rattle.merkle_tree_theory.proofs.Search.{page_nodes-ascend, page_high-map, page_gap-map, all_below, one_at, key_there, key_elsewhere}
+use Rattle.merkle_tree_theory.proofs.Rows.{page_size-high, page_size-gap}
+use Rattle.merkle_tree_theory.specs.Remove.{held_del, tree_del, tree_without, IsFreeAt, HasFreeGap, HeldHasFreeGap}
+use Rattle.merkle_tree_theory.proofs.Parts.{lt_back, lt_changed, on_err_always}
+use Rattle.merkle_tree_theory.proofs.Seams.{gives_way, way_some, way_same, without_gives, at_some, at_none, free_equal, free_gap, free_high}
+use Rattle.merkle_tree_theory.proofs.Seams.{page_entry-high, page_without-high, page_entry-equal, page_without-equal, page_entry-gap, page_without-gap}
 use Rattle.merkle_search_tree.proofs.+remove.Goals as goal
 use Rattle.merkle_search_tree.proofs.+remove.Goals.{remove::remove_below-then-is_empty+in-Some-1, remove::remove_below-then-is_empty+in-None-1, remove::remove_below-else-is_empty}
 

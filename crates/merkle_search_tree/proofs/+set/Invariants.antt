@@ -1,5 +1,5 @@
 use Rattle.std.proofs.Common.{◌+◌, ◌*◌}
-use Rattle.merkle_search_tree.specs.Tree.{tree_size, held_size, held_of}
+use Rattle.merkle_tree_theory.specs.Tree.{tree_size, held_size, held_of}
 use Rattle.merkle_search_tree.proofs.+set.Given as goal
 
 abbrev pub decreases-page::PageOf::set : goal.decreases-page::PageOf::set

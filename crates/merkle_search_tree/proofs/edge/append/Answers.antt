@@ -1,7 +1,7 @@
 use Rattle.std.proofs.Common.{[], ◌∷◌, ◌++◌, None, ap, sym, subst, ◌∙◌, arith}
-use Rattle.merkle_search_tree.specs.Tree.{held_of, page, row, nothing, Node}
-use Rattle.merkle_search_tree.specs.Edge.{last_level, ClosesPages}
-use Rattle.merkle_search_tree.proofs.Edges.{append-at, append-new}
+use Rattle.merkle_tree_theory.specs.Tree.{held_of, page, row, nothing, Node}
+use Rattle.merkle_tree_theory.specs.Edge.{last_level, ClosesPages}
+use Rattle.merkle_tree_theory.proofs.Edges.{append-at, append-new}
 use Rattle.merkle_search_tree.proofs.edge.append.Goals as goal
 
 pub returns-in_ok-push-in-Some : goal.returns-in_ok-push-in-Some

@@ -1,8 +1,8 @@
 use Rattle.std.proofs.Common.{ap, ◌∙◌, arith}
-use Rattle.merkle_search_tree.specs.Tree.{held_of}
-use Rattle.merkle_search_tree.specs.Chain.{remade, row_of_page, with_high}
-use Rattle.merkle_search_tree.specs.Edge.{last_level}
-use Rattle.merkle_search_tree.proofs.Edges.{closes-more, last-level}
+use Rattle.merkle_tree_theory.specs.Tree.{held_of}
+use Rattle.merkle_tree_theory.specs.Chain.{remade, row_of_page, with_high}
+use Rattle.merkle_tree_theory.specs.Edge.{last_level}
+use Rattle.merkle_tree_theory.proofs.Edges.{closes-more, last-level}
 use Rattle.merkle_search_tree.proofs.edge.close.Goals as goal
 
 pub close-preserved : goal.close-preserved

@@ -1,6 +1,6 @@
 use Rattle.std.proofs.Common.{ℕ, vec_len}
-use Rattle.merkle_search_tree.specs.Tree.{held_of}
-use Rattle.merkle_search_tree.specs.Edge.{IsEdge, ClosesPages}
+use Rattle.merkle_tree_theory.specs.Tree.{held_of}
+use Rattle.merkle_tree_theory.specs.Edge.{IsEdge, ClosesPages}
 use Rattle.merkle_search_tree.proofs.edge.close.Given as goal
 
 abbrev pub invariant-close : goal.invariant-close

@@ -1,9 +1,9 @@
 use Rattle.std.proofs.Common.{◌≡◌, ◌-◌, length, ap, ◌∙◌, arith, rules}
 use Rattle.key_order.specs.Order.{below as below_key}
-use Rattle.merkle_search_tree.specs.Tree.{Tree}
-use Rattle.merkle_search_tree.specs.Page.{pairs}
-use Rattle.merkle_search_tree.specs.CachedRanges.{last_of}
-use Rattle.merkle_search_tree.proofs.Edges.{above-edge, no-last}
+use Rattle.merkle_tree_theory.specs.Tree.{Tree}
+use Rattle.merkle_tree_theory.specs.Page.{pairs}
+use Rattle.merkle_tree_theory.specs.CachedRanges.{last_of}
+use Rattle.merkle_tree_theory.proofs.Edges.{above-edge, no-last}
 use Rattle.merkle_search_tree.proofs.edge.is_above.Goals as goal
 
 pub returns-in-None-last_key : goal.returns-in-None-last_key

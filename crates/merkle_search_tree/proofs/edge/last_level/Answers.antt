@@ -1,6 +1,6 @@
 use Rattle.std.proofs.Common.{◌-◌, length, ap, sym, ◌∙◌, arith}
-use Rattle.merkle_search_tree.specs.Page.{level}
-use Rattle.merkle_search_tree.proofs.Edges.{last-is}
+use Rattle.merkle_tree_theory.specs.Page.{level}
+use Rattle.merkle_tree_theory.proofs.Edges.{last-is}
 use Rattle.merkle_search_tree.proofs.edge.last_level.Goals as goal
 
 pub returns-in-Some : goal.returns-in-Some

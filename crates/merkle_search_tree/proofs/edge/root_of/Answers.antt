@@ -1,8 +1,8 @@
 use Rattle.std.proofs.Common.{ap, sym, subst, ◌∙◌}
-use Rattle.merkle_search_tree.specs.Tree.{held_of}
-use Rattle.merkle_search_tree.specs.TreeOf.{root_of}
-use Rattle.merkle_search_tree.specs.Edge.{IsRootOf}
-use Rattle.merkle_search_tree.proofs.Edges.{closes-all}
+use Rattle.merkle_tree_theory.specs.Tree.{held_of}
+use Rattle.merkle_tree_theory.specs.TreeOf.{root_of}
+use Rattle.merkle_tree_theory.specs.Edge.{IsRootOf}
+use Rattle.merkle_tree_theory.proofs.Edges.{closes-all}
 use Rattle.merkle_search_tree.proofs.edge.root_of.Goals as goal
 
 pub returns-in-Some : goal.returns-in-Some

@@ -8,14 +8,14 @@ use Rattle.std.specs.declared.alloc.Global.{Global}
 use Rattle.merkle_digest.specs.SipHash.{siphash128, zero_key}
 use Rattle.merkle_digest.specs.Sip24.{Holds}
 use Rattle.merkle_digest.specs.declared.siphash.Sip24.{Sip24}
-use Rattle.merkle_search_tree.specs.Tree.{Tree, page, row, Held, Node, held_of, tree_size, held_size, row_size}
-use Rattle.merkle_search_tree.specs.Page.{cache}
-use Rattle.merkle_search_tree.specs.Stream.{page_digest, stream_of, held_stream, row_stream, head_bytes, key_bytes}
-use Rattle.merkle_search_tree.specs.declared.builder.PageFormat.{PageFormat}
-use Rattle.merkle_search_tree.specs.Cache.{HeldCachesHold, missing, held_missing, one_without, filled, held_filled}
-use Rattle.merkle_search_tree.proofs.Rows.{row_nodes-row, size_at, size_high}
-use Rattle.merkle_search_tree.proofs.Keeps.{none_missing}
-use Rattle.merkle_search_tree.proofs.Fill.{node_filled, node_stream, node_missing, row_missing-row, row_filled-row, row_stream-row, caches_at, caches_high, row_of_caches, filled_of_caches, reads_old}
+use Rattle.merkle_tree_theory.specs.Tree.{Tree, page, row, Held, Node, held_of, tree_size, held_size, row_size}
+use Rattle.merkle_tree_theory.specs.Page.{cache}
+use Rattle.merkle_tree_theory.specs.Stream.{page_digest, stream_of, held_stream, row_stream, head_bytes, key_bytes}
+use Rattle.merkle_tree_theory.specs.declared.page_format.PageFormat.{PageFormat}
+use Rattle.merkle_tree_theory.specs.Cache.{HeldCachesHold, missing, held_missing, one_without, filled, held_filled}
+use Rattle.merkle_tree_theory.proofs.Rows.{row_nodes-row, size_at, size_high}
+use Rattle.merkle_tree_theory.proofs.Keeps.{none_missing}
+use Rattle.merkle_tree_theory.proofs.Fill.{node_filled, node_stream, node_missing, row_missing-row, row_filled-row, row_stream-row, caches_at, caches_high, row_of_caches, filled_of_caches, reads_old}
 use Rattle.merkle_search_tree.proofs.hash.+fill.Goals as goal
 
 pub Page+N+K::fill-returns-in-Some-clause-pages : goal.Page+N+K::fill-returns-in-Some-clause-pages

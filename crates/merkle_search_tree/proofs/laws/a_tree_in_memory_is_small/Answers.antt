@@ -1,11 +1,11 @@
 use Rattle.std.proofs.Common.{ℕ, subst}
 use Rattle.merkle_digest.specs.Level.{level_of}
-use Rattle.merkle_search_tree.specs.Sound.{IsSound}
-use Rattle.merkle_search_tree.specs.Small.{IsHeldInMemory}
-use Rattle.merkle_search_tree.specs.State.{State}
-use Rattle.merkle_search_tree.proofs.Small.{keys_short, digests_long, pages_few}
-use Rattle.merkle_search_tree.proofs.Sound.{alike}
-use Rattle.merkle_search_tree.proofs.Unique.{unique_root}
+use Rattle.merkle_tree_theory.specs.Sound.{IsSound}
+use Rattle.merkle_tree_theory.specs.Small.{IsHeldInMemory}
+use Rattle.merkle_tree_theory.specs.State.{State}
+use Rattle.merkle_tree_theory.proofs.Small.{keys_short, digests_long, pages_few}
+use Rattle.merkle_tree_theory.proofs.Sound.{alike}
+use Rattle.merkle_tree_theory.proofs.Unique.{unique_root}
 use Rattle.merkle_search_tree.proofs.laws.a_tree_in_memory_is_small.Goals as goal
 
 pub returns : goal.returns

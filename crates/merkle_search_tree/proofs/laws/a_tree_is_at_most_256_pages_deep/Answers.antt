@@ -1,8 +1,8 @@
 use Rattle.std.proofs.Common.{subst}
 use Rattle.merkle_digest.specs.Level.{level_of}
-use Rattle.merkle_search_tree.specs.Sound.{IsSound}
-use Rattle.merkle_search_tree.proofs.Depths.{root_depth, root_deepest}
-use Rattle.merkle_search_tree.proofs.Sound.{level_low}
+use Rattle.merkle_tree_theory.specs.Sound.{IsSound}
+use Rattle.merkle_tree_theory.proofs.Depths.{root_depth, root_deepest}
+use Rattle.merkle_tree_theory.proofs.Sound.{level_low}
 use Rattle.merkle_search_tree.proofs.laws.a_tree_is_at_most_256_pages_deep.Goals as goal
 
 pub returns-clause-by_level : goal.returns-clause-by_level

@@ -1,10 +1,10 @@
 use Rattle.std.proofs.Common.{subst}
 use Rattle.merkle_diff.specs.SameEntries.{SameEntries}
-use Rattle.merkle_search_tree.specs.Ranges.{ranges_of}
-use Rattle.merkle_search_tree.specs.Sound.{IsSound}
-use Rattle.merkle_search_tree.proofs.NoDifference.{nothing_to_ask, same-entries-back}
-use Rattle.merkle_search_tree.proofs.SameRanges.{same_ranges}
-use Rattle.merkle_search_tree.proofs.Sound.{same_pages, same_bytes}
+use Rattle.merkle_tree_theory.specs.Ranges.{ranges_of}
+use Rattle.merkle_tree_theory.specs.Sound.{IsSound}
+use Rattle.merkle_tree_theory.proofs.NoDifference.{nothing_to_ask, same-entries-back}
+use Rattle.merkle_tree_theory.proofs.SameRanges.{same_ranges}
+use Rattle.merkle_tree_theory.proofs.Sound.{same_pages, same_bytes}
 use Rattle.merkle_search_tree.proofs.laws.equal_maps_have_equal_page_ranges.Goals as goal
 
 pub returns-clause-ranges : goal.returns-clause-ranges

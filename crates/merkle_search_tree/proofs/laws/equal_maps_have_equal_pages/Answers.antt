@@ -1,8 +1,8 @@
 use Rattle.std.proofs.Common.{ap, subst, ◌∙◌}
-use Rattle.merkle_search_tree.specs.Sound.{IsSound}
-use Rattle.merkle_search_tree.specs.Stream.{page_digest}
-use Rattle.merkle_search_tree.proofs.Same.{same_digest}
-use Rattle.merkle_search_tree.proofs.Sound.{same_pages, same_bytes}
+use Rattle.merkle_tree_theory.specs.Sound.{IsSound}
+use Rattle.merkle_tree_theory.specs.Stream.{page_digest}
+use Rattle.merkle_tree_theory.proofs.Same.{same_digest}
+use Rattle.merkle_tree_theory.proofs.Sound.{same_pages, same_bytes}
 use Rattle.merkle_search_tree.proofs.laws.equal_maps_have_equal_pages.Goals as goal
 
 pub returns-clause-pages : goal.returns-clause-pages

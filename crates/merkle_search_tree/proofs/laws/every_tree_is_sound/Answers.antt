@@ -1,11 +1,11 @@
 use Rattle.std.proofs.Common.{subst}
 use Rattle.merkle_digest.specs.Level.{level_of}
-use Rattle.merkle_search_tree.specs.Sound.{IsSound}
-use Rattle.merkle_search_tree.specs.TreeOf.{tree_of}
-use Rattle.merkle_search_tree.specs.State.{map_of}
-use Rattle.merkle_search_tree.proofs.Same.{same_digest}
-use Rattle.merkle_search_tree.proofs.SameRanges.{same_ranges}
-use Rattle.merkle_search_tree.proofs.Sound.{sound_defined, same_bytes}
+use Rattle.merkle_tree_theory.specs.Sound.{IsSound}
+use Rattle.merkle_tree_theory.specs.TreeOf.{tree_of}
+use Rattle.merkle_tree_theory.specs.State.{map_of}
+use Rattle.merkle_tree_theory.proofs.Same.{same_digest}
+use Rattle.merkle_tree_theory.proofs.SameRanges.{same_ranges}
+use Rattle.merkle_tree_theory.proofs.Sound.{sound_defined, same_bytes}
 use Rattle.merkle_search_tree.proofs.laws.every_tree_is_sound.Goals as goal
 
 pub returns-clause-sound : goal.returns-clause-sound

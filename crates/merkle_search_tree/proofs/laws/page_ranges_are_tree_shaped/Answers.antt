@@ -1,7 +1,7 @@
 use Rattle.std.proofs.Common.{subst}
 use Rattle.merkle_digest.specs.Level.{level_of}
-use Rattle.merkle_search_tree.specs.Sound.{IsSound}
-use Rattle.merkle_search_tree.proofs.RangeShape.{tree_shaped}
+use Rattle.merkle_tree_theory.specs.Sound.{IsSound}
+use Rattle.merkle_tree_theory.proofs.RangeShape.{tree_shaped}
 use Rattle.merkle_search_tree.proofs.laws.page_ranges_are_tree_shaped.Goals as goal
 
 pub returns : goal.returns

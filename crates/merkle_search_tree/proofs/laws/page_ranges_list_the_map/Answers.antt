@@ -1,9 +1,9 @@
 use Rattle.std.proofs.Common.{refl, subst}
 use Rattle.key_order.proofs.SameMaps.{same_map-own}
-use Rattle.merkle_search_tree.specs.Ranges.{ranges_of}
-use Rattle.merkle_search_tree.specs.Sound.{IsSound}
-use Rattle.merkle_search_tree.specs.State.{map_of}
-use Rattle.merkle_search_tree.proofs.Listing.{lists}
+use Rattle.merkle_tree_theory.specs.Ranges.{ranges_of}
+use Rattle.merkle_tree_theory.specs.Sound.{IsSound}
+use Rattle.merkle_tree_theory.specs.State.{map_of}
+use Rattle.merkle_tree_theory.proofs.Listing.{lists}
 use Rattle.merkle_search_tree.proofs.laws.page_ranges_list_the_map.Goals as goal
 
 pub returns : goal.returns

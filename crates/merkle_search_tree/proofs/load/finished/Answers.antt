@@ -1,8 +1,8 @@
 use Rattle.std.proofs.Common.{ℕ, sym, subst, rules}
 use Rattle.key_order.specs.Map.{IsMap}
 use Rattle.merkle_digest.specs.Level.{level_of}
-use Rattle.merkle_search_tree.specs.Edge.{IsRootOf}
-use Rattle.merkle_search_tree.proofs.Edges.{bare-hold}
+use Rattle.merkle_tree_theory.specs.Edge.{IsRootOf}
+use Rattle.merkle_tree_theory.proofs.Edges.{bare-hold}
 use Rattle.merkle_search_tree.proofs.load.finished.Goals as goal
 
 pub with_root-requires : goal.with_root-requires

@@ -2,8 +2,8 @@ use Rattle.std.proofs.Common.{◌≡◌, ℕ, true, false, ap, sym, subst, ◌�
 use Rattle.std.specs.Int.NonZero.{non_zero_u8_get}
 use Rattle.key_order.specs.Map.{IsMap}
 use Rattle.merkle_digest.specs.Level.{level_of}
-use Rattle.merkle_search_tree.specs.Settings.{Settings}
-use Rattle.merkle_search_tree.specs.Edge.{edge_pairs, is_above, IsEdge, Appends}
+use Rattle.merkle_tree_theory.specs.Settings.{Settings}
+use Rattle.merkle_tree_theory.specs.Edge.{edge_pairs, is_above, IsEdge, Appends}
 use Rattle.merkle_search_tree.specs.Loading.{row_count}
 use Rattle.merkle_search_tree.proofs.Loadings.{map-more, no-more, count-more}
 use Rattle.merkle_search_tree.proofs.load.push_row.Goals as goal

@@ -1,11 +1,11 @@
 use Rattle.std.proofs.Common.{◌≡◌, ℕ, ◌<◌, ◌≤◌, ◌^◌, List, ap, subst, sym, ◌∙◌, length, arith}
 use Rattle.std.proofs.lemmas.List.{take_all}
 use Rattle.std.specs.List.{AllByRecursion}
-use Rattle.merkle_search_tree.specs.Tree.{Node, row, held_of}
-use Rattle.merkle_search_tree.specs.Page.{row_nodes}
-use Rattle.merkle_search_tree.specs.Small.{IsHeldInMemory}
-use Rattle.merkle_search_tree.proofs.Rows.{row_nodes-row}
-use Rattle.merkle_search_tree.proofs.Small.{NodeIsHeld, RowIsHeld-row, all-more}
+use Rattle.merkle_tree_theory.specs.Tree.{Node, row, held_of}
+use Rattle.merkle_tree_theory.specs.Page.{row_nodes}
+use Rattle.merkle_tree_theory.specs.Small.{IsHeldInMemory}
+use Rattle.merkle_tree_theory.proofs.Rows.{row_nodes-row}
+use Rattle.merkle_tree_theory.proofs.Small.{NodeIsHeld, RowIsHeld-row, all-more}
 use Rattle.merkle_search_tree.proofs.measure.+look.Goals as goal
 
 pub Page+N+K::look-nodes-preserved : goal.Page+N+K::look-nodes-preserved

@@ -1,6 +1,6 @@
 use Rattle.std.proofs.Common.{take}
 use Rattle.std.specs.List.{AllByRecursion}
-use Rattle.merkle_search_tree.proofs.Small.{NodeIsHeld}
+use Rattle.merkle_tree_theory.proofs.Small.{NodeIsHeld}
 use Rattle.merkle_search_tree.proofs.measure.+look.Given as goal
 
 -- the nodes so far are held

@@ -1,7 +1,7 @@
 use Rattle.std.proofs.Common.{◌≡◌, ◌++◌}
 use Rattle.std.specs.Vec.{vec_len, vec_capacity}
-use Rattle.merkle_search_tree.specs.Tree.{held_of, held_size}
-use Rattle.merkle_search_tree.specs.Page.{held_in_order}
+use Rattle.merkle_tree_theory.specs.Tree.{held_of, held_size}
+use Rattle.merkle_tree_theory.specs.Page.{held_in_order}
 use Rattle.merkle_search_tree.specs.Path.{rest_of, HasRoom, PathFits}
 use Rattle.merkle_search_tree.proofs.node_iter.descend.Given as goal
 

@@ -1,7 +1,7 @@
 use Rattle.std.proofs.Common.{◌≡◌, ◌++◌, length}
 use Rattle.std.specs.Vec.{vec_len, vec_capacity}
-use Rattle.merkle_search_tree.specs.Tree.{held_of}
-use Rattle.merkle_search_tree.specs.Page.{held_pages}
+use Rattle.merkle_tree_theory.specs.Tree.{held_of}
+use Rattle.merkle_tree_theory.specs.Page.{held_pages}
 use Rattle.merkle_search_tree.specs.Path.{rest_of, pages_left, HasRoom, PathFits}
 use Rattle.merkle_search_tree.proofs.page_range_iter.first_page.Given as goal
 

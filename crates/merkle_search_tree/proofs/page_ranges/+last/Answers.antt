@@ -1,9 +1,9 @@
 use Rattle.std.proofs.Common.{◌≡◌, ◌-◌, ap, sym, ◌∙◌, length, Some}
 use Rattle.std.specs.Prelude.{slice_get}
-use Rattle.merkle_search_tree.specs.Tree.{Tree, Node, held_of}
-use Rattle.merkle_search_tree.specs.Page.{pairs}
-use Rattle.merkle_search_tree.specs.CachedRanges.{last_of}
-use Rattle.merkle_search_tree.proofs.RangeEnds.{last-high, last-own}
+use Rattle.merkle_tree_theory.specs.Tree.{Tree, Node, held_of}
+use Rattle.merkle_tree_theory.specs.Page.{pairs}
+use Rattle.merkle_tree_theory.specs.CachedRanges.{last_of}
+use Rattle.merkle_tree_theory.proofs.RangeEnds.{last-high, last-own}
 use Rattle.merkle_search_tree.proofs.page_ranges.+last.Goals as goal
 
 pub last_key-returns-in-Some : goal.last_key-returns-in-Some

@@ -1,13 +1,13 @@
 use Rattle.std.proofs.Common.{◌≡◌, ◌∷◌, [], ◌++◌, length, ap, sym, subst, ◌∙◌, arith, append-nil, append_assoc}
 use Rattle.key_order.specs.Map.{IsMap}
-use Rattle.merkle_search_tree.specs.Tree.{Held, below, held_of, held_size}
-use Rattle.merkle_search_tree.specs.Page.{held_pairs, nodes_of}
-use Rattle.merkle_search_tree.specs.Search.{NodesAscend}
-use Rattle.merkle_search_tree.specs.Upsert.{place}
-use Rattle.merkle_search_tree.specs.Chain.{page_length, first_of, row_drop, row_of_page}
+use Rattle.merkle_tree_theory.specs.Tree.{Held, below, held_of, held_size}
+use Rattle.merkle_tree_theory.specs.Page.{held_pairs, nodes_of}
+use Rattle.merkle_tree_theory.specs.Search.{NodesAscend}
+use Rattle.merkle_tree_theory.specs.Upsert.{place}
+use Rattle.merkle_tree_theory.specs.Chain.{page_length, first_of, row_drop, row_of_page}
 use Rattle.merkle_search_tree.specs.Parting.{PartsNodes, parting_place, PartingsFit}
-use Rattle.merkle_search_tree.proofs.Rows.{row_nodes-row}
-use Rattle.merkle_search_tree.proofs.Search.{page-ascends}
+use Rattle.merkle_tree_theory.proofs.Rows.{row_nodes-row}
+use Rattle.merkle_tree_theory.proofs.Search.{page-ascends}
 use Rattle.merkle_search_tree.proofs.Partings.{page_place, page_length-nodes, partings-more, page_held-map, page_held-size}
 use Rattle.merkle_search_tree.proofs.parting.partings_of.Goals as goal
 

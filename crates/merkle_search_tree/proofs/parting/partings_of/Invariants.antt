@@ -1,7 +1,7 @@
 use Rattle.std.proofs.Common.{List, ◌++◌}
 use Rattle.key_order.specs.Map.{IsMap}
-use Rattle.merkle_search_tree.specs.Page.{held_pairs}
-use Rattle.merkle_search_tree.specs.Tree.{held_of, held_size}
+use Rattle.merkle_tree_theory.specs.Page.{held_pairs}
+use Rattle.merkle_tree_theory.specs.Tree.{held_of, held_size}
 use Rattle.merkle_search_tree.specs.Parting.{PartingsFit}
 use Rattle.merkle_search_tree.specs.declared.parting.Parting.{Parting}
 use Rattle.merkle_search_tree.proofs.parting.partings_of.Given as goal

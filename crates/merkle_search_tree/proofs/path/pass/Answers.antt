@@ -1,10 +1,11 @@
 use Rattle.std.proofs.Common.{◌≡◌, ℕ, ◌<◌, List, ◌∷◌, [], ◌++◌, length, ap, sym, subst, ◌∙◌, arith, get_or}
 use Rattle.std.proofs.lemmas.Bool.{eqb-true, eqb-false}
-use Rattle.merkle_search_tree.specs.Tree.{Node, Held, row, held_of}
-use Rattle.merkle_search_tree.specs.Page.{RowFalls, HeldFalls, held_in_order, held_pages}
+use Rattle.merkle_tree_theory.specs.Tree.{Node, Held, row, held_of}
+use Rattle.merkle_tree_theory.specs.Page.{RowFalls, HeldFalls, held_in_order, held_pages}
 use Rattle.merkle_search_tree.specs.Path.{rest_of, pages_left, from_first, behind_first, VisitFits, PathFits}
 use Rattle.merkle_search_tree.specs.declared.path.Visit.{Visit}
-use Rattle.merkle_search_tree.proofs.Paths.{rest_of-push, fits-more, fits-front, fits-last, first-rest, none-rest, pages_left-push, first-pages, none-pages, at-falls, high-falls}
+use Rattle.merkle_search_tree.proofs.Paths.{rest_of-push, fits-more, fits-front, fits-last, first-rest, none-rest, pages_left-push, first-pages, none-pages}
+use Rattle.merkle_tree_theory.proofs.Falls.{at-falls, high-falls}
 use Rattle.merkle_search_tree.proofs.path.pass.Goals as goal
 
 -- the path below the last page still fits

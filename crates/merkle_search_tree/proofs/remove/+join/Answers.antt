@@ -1,9 +1,9 @@
 use Rattle.std.proofs.Common.{◌≡◌, ◌++◌, None, length, arith, ap, sym, ◌∙◌}
 use Rattle.std.specs.declared.cmp.Ordering.TheVariants.{Equal, Greater}
 use Rattle.std.specs.Ordering.{nat_cmp}
-use Rattle.merkle_search_tree.specs.Tree.{page, high, below, row, held_of}
-use Rattle.merkle_search_tree.specs.Remove.{held_join, row_append}
-use Rattle.merkle_search_tree.proofs.Seams.{join_none, join_equal, join_greater, append_at, append_high, written_back}
+use Rattle.merkle_tree_theory.specs.Tree.{page, high, below, row, held_of}
+use Rattle.merkle_tree_theory.specs.Remove.{held_join, row_append}
+use Rattle.merkle_tree_theory.proofs.Seams.{join_none, join_equal, join_greater, append_at, append_high, written_back}
 use Rattle.merkle_search_tree.proofs.remove.+join.Goals as goal
 
 pub join_below-returns-in-None-upper-clause-joined :

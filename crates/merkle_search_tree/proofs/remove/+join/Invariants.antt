@@ -1,5 +1,5 @@
 use Rattle.std.proofs.Common.{◌+◌, ◌*◌}
-use Rattle.merkle_search_tree.specs.Tree.{row, held_of, held_size, row_size}
+use Rattle.merkle_tree_theory.specs.Tree.{row, held_of, held_size, row_size}
 use Rattle.merkle_search_tree.proofs.remove.+join.Given as goal
 
 abbrev pub decreases-join_below : goal.decreases-join_below

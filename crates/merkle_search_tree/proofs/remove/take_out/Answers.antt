@@ -1,8 +1,8 @@
 use Rattle.std.proofs.Common.{◌≡◌, ◌⊎◌, List, subst, suc, ◌+◌, ◌-◌, ◌<◌, ◌++◌, length, take, drop, get_or, slice_set, Some, ap, sym, ◌∙◌, arith}
 use Rattle.std.specs.List.{remove}
-use Rattle.merkle_search_tree.specs.Tree.{Node, Held, high, row, held_of}
-use Rattle.merkle_search_tree.specs.Remove.{row_append, IsNothing, BeginsFree}
-use Rattle.merkle_search_tree.proofs.Seams.{tail_lent, tail_back, removed_at, got_at, set_at_back, without_at, pair_at-is, free_at-is}
+use Rattle.merkle_tree_theory.specs.Tree.{Node, Held, high, row, held_of}
+use Rattle.merkle_tree_theory.specs.Remove.{row_append, IsNothing, BeginsFree}
+use Rattle.merkle_tree_theory.proofs.Seams.{tail_lent, tail_back, removed_at, got_at, set_at_back, without_at, pair_at-is, free_at-is}
 use Rattle.merkle_search_tree.proofs.remove.take_out.Goals as goal
 
 pub returns-in-Err-clause-nodes_unchanged : goal.returns-in-Err-clause-nodes_unchanged

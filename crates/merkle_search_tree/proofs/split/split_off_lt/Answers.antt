@@ -1,6 +1,6 @@
 use Rattle.std.proofs.Common.{◌≡◌, ap, sym, subst, length, arith}
 use Rattle.std.specs.Vec.Iter.{into_iter_items}
-use Rattle.merkle_search_tree.specs.Tree.{below, held_of}
+use Rattle.merkle_tree_theory.specs.Tree.{below, held_of}
 use Rattle.merkle_search_tree.specs.Parting.{PartingsFit}
 use Rattle.merkle_search_tree.specs.Split.{HaveRoom, InParts}
 use Rattle.merkle_search_tree.proofs.Partings.{first-parting}

@@ -3,9 +3,9 @@ use native.Mathlib.Numerals.{unary_clauses}
 use Rattle.std.proofs.lemmas.List.{get_or_read}
 use Rattle.std.specs.declared.cmp.Ordering.TheVariants.{Equal}
 use Rattle.std.specs.Ordering.{is_gt, is_eq}
-use Rattle.merkle_search_tree.specs.Tree.{Node}
-use Rattle.merkle_search_tree.proofs.Search.{place-upto, place-above, place-within, place-equal, halved_more}
-use Rattle.merkle_search_tree.proofs.Gaps.{get_or_same}
+use Rattle.merkle_tree_theory.specs.Tree.{Node}
+use Rattle.merkle_tree_theory.proofs.Search.{place-upto, place-above, place-within, place-equal, halved_more}
+use Rattle.merkle_tree_theory.proofs.Gaps.{get_or_same}
 use Rattle.merkle_search_tree.proofs.spot.search.Goals as goal
 
 pub halves-init : goal.halves-init

@@ -1,7 +1,7 @@
 use Rattle.std.proofs.Common.{◌≡◌, ℕ, false, get_or, ◌-◌, ◌^◌, ◌<◌, ◌≤◌, length}
 use Rattle.std.specs.Ordering.{is_eq}
-use Rattle.merkle_search_tree.specs.Tree.{Node}
-use Rattle.merkle_search_tree.specs.Upsert.{place}
+use Rattle.merkle_tree_theory.specs.Tree.{Node}
+use Rattle.merkle_tree_theory.specs.Upsert.{place}
 use Rattle.merkle_search_tree.proofs.spot.search.Given as goal
 
 abbrev pub invariant-halves : goal.invariant-halves

@@ -1,5 +1,5 @@
 use Rattle.std.proofs.Common.{is_some, refl, ap, sym, ◌∙◌}
-use Rattle.merkle_search_tree.specs.State.{map_of}
+use Rattle.merkle_tree_theory.specs.State.{map_of}
 use Rattle.merkle_search_tree.specs.Updates.{hashed_after_one}
 use Rattle.merkle_search_tree.specs.declared.updates.Update.TheVariants.{Remove}
 use Rattle.merkle_search_tree.proofs.Replays.{removal_result}

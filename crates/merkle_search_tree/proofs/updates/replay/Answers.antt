@@ -1,17 +1,17 @@
 use Rattle.std.proofs.Common.{◌≡◌, ℕ, ◌+◌, length, length-append, append_assoc, append-nil, arith, List, false, is_some, ap, sym, subst, ◌∙◌, ◌++◌, [], ◌∷◌}
 use Rattle.std.specs.Vec.Iter.{into_iter_items}
 use Rattle.merkle_digest.specs.Level.{level_of}
-use Rattle.merkle_search_tree.specs.Canonical.{SamePages}
+use Rattle.merkle_tree_theory.specs.Canonical.{SamePages}
 use Rattle.std.specs.Prelude.{⊤, MatchOption}
-use Rattle.merkle_search_tree.specs.Cache.{missing}
-use Rattle.merkle_search_tree.specs.Stream.{page_digest}
-use Rattle.merkle_search_tree.specs.State.{map_of}
-use Rattle.merkle_search_tree.specs.TreeOf.{tree_of}
+use Rattle.merkle_tree_theory.specs.Cache.{missing}
+use Rattle.merkle_tree_theory.specs.Stream.{page_digest}
+use Rattle.merkle_tree_theory.specs.State.{map_of}
+use Rattle.merkle_tree_theory.specs.TreeOf.{tree_of}
 use Rattle.merkle_search_tree.specs.Updates.{map_after, map_after_one, hashed_after, hashed_after_one, IsAcceptedIfFree, FreeAreAccepted}
 use Rattle.merkle_search_tree.proofs.Replays.{map_after-more, hashed_after-more, free-more, hashed_is}
-use Rattle.merkle_search_tree.proofs.Same.{same_digest}
-use Rattle.merkle_search_tree.proofs.SameRanges.{same_ranges}
-use Rattle.merkle_search_tree.proofs.Sound.{same_bytes}
+use Rattle.merkle_tree_theory.proofs.Same.{same_digest}
+use Rattle.merkle_tree_theory.proofs.SameRanges.{same_ranges}
+use Rattle.merkle_tree_theory.proofs.Sound.{same_bytes}
 use Rattle.merkle_search_tree.proofs.updates.replay.Goals as goal
 
 pub updates-preserved : goal.updates-preserved

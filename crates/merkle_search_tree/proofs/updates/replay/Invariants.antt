@@ -1,6 +1,6 @@
 use Rattle.std.proofs.Common.{◌≡◌, [], ◌++◌, length, false, is_some}
 use Rattle.std.specs.Vec.Iter.{into_iter_items, into_iter_len}
-use Rattle.merkle_search_tree.specs.State.{map_of}
+use Rattle.merkle_tree_theory.specs.State.{map_of}
 use Rattle.merkle_search_tree.specs.Updates.{map_after, hashed_after, FreeAreAccepted}
 use Rattle.merkle_search_tree.proofs.updates.replay.Given as goal
 

@@ -1,13 +1,13 @@
 use Rattle.std.proofs.Common.{◌<◌, [], ◌∷◌, ◌++◌, length, get_or, slice_set, false, arith, ap, sym, subst, ◌∙◌}
 use Rattle.std.specs.List.{insert}
-use Rattle.merkle_search_tree.specs.Tree.{Node, nothing, row, held_of}
-use Rattle.merkle_search_tree.specs.Upsert.{place, held_lower, held_upper}
-use Rattle.merkle_search_tree.proofs.Parts.{new_node, lt_back, lt_changed}
-use Rattle.merkle_search_tree.proofs.Gaps.{put_at, put_equal, put_high, finds_at, finds_high, with_digest}
+use Rattle.merkle_tree_theory.specs.Tree.{Node, nothing, row, held_of}
+use Rattle.merkle_tree_theory.specs.Upsert.{place, held_lower, held_upper}
+use Rattle.merkle_tree_theory.proofs.Parts.{new_node, lt_back, lt_changed}
+use Rattle.merkle_tree_theory.proofs.Gaps.{put_at, put_equal, put_high, finds_at, finds_high, with_digest}
 use Rattle.key_order.specs.Map.{IsMap}
-use Rattle.merkle_search_tree.specs.Page.{held_pairs}
-use Rattle.merkle_search_tree.specs.Search.{NodesAscend}
-use Rattle.merkle_search_tree.proofs.Search.{row-ascends, gap-map, high-map, all_below, one_at, key_there, key_elsewhere}
+use Rattle.merkle_tree_theory.specs.Page.{held_pairs}
+use Rattle.merkle_tree_theory.specs.Search.{NodesAscend}
+use Rattle.merkle_tree_theory.proofs.Search.{row-ascends, gap-map, high-map, all_below, one_at, key_there, key_elsewhere}
 use Rattle.merkle_search_tree.proofs.upsert.set_in_page.Goals as goal
 
 pub returns-then-is_err-clause-absent : goal.returns-then-is_err-clause-absent

@@ -1,7 +1,7 @@
 use Rattle.std.proofs.Common.{Bool, drop}
-use Rattle.merkle_search_tree.specs.Tree.{row, held_of}
-use Rattle.merkle_search_tree.specs.Events.{row_events}
-use Rattle.merkle_search_tree.specs.Traversal.{Visits}
+use Rattle.merkle_tree_theory.specs.Tree.{row, held_of}
+use Rattle.merkle_tree_theory.specs.Events.{row_events}
+use Rattle.merkle_tree_theory.specs.Traversal.{Visits}
 use Rattle.merkle_search_tree.proofs.visitor.+traverse.Given as goal
 
 abbrev pub invariant-traverse_page-nodes : goal.invariant-traverse_page-nodes

@@ -2,7 +2,7 @@ use Rattle.std.proofs.Common.{rules, ◌≡◌, ℕ, suc, [], ◌++◌, ◌-◌,
 use Rattle.merkle_digest.specs.Level.{level_of}
 use Rattle.merkle_digest.specs.Sip24.{Holds}
 use Rattle.merkle_digest.specs.SipHash.{siphash128, zero_key}
-use Rattle.merkle_search_tree.specs.Stream.{head_bytes, key_bytes}
+use Rattle.merkle_tree_theory.specs.Stream.{head_bytes, key_bytes}
 use Rattle.sample_trees.specs.Defined.{written}
 use Rattle.sample_trees.proofs.Scan.{left, node-step, run-step, last-step, gap-here, gap-lower}
 use Rattle.sample_trees.proofs.defined.+defined_digest.Goals as goal

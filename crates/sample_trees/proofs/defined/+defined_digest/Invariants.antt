@@ -2,7 +2,7 @@ use Rattle.std.proofs.Common.{◌≡◌, ℕ, List, [], ◌++◌, ◌≤◌, dro
 use Rattle.merkle_digest.specs.Level.{level_of}
 use Rattle.merkle_digest.specs.Sip24.{Holds}
 use Rattle.merkle_digest.specs.SipHash.{zero_key}
-use Rattle.merkle_search_tree.specs.Stream.{head_bytes}
+use Rattle.merkle_tree_theory.specs.Stream.{head_bytes}
 use Rattle.sample_trees.proofs.Scan.{part, left}
 use Rattle.sample_trees.proofs.defined.+defined_digest.Given as goal
 

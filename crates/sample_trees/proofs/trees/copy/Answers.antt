@@ -1,6 +1,5 @@
 use Rattle.std.proofs.Common.{arith}
-use Rattle.key_order.proofs.Clones.{array_clone}
 use Rattle.sample_trees.proofs.trees.copy.Goals as goal
 
 pub try_clone-requires : goal.try_clone-requires
-try_clone-requires c = (omega arith, (array_clone _, λ a b h k. cc))
+try_clone-requires c = (omega arith, λ a b h k. cc)

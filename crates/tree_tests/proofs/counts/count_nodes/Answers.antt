@@ -1,6 +1,6 @@
 use Rattle.std.proofs.Common.{false, ◌∙◌, length, arith}
-use Rattle.merkle_search_tree.specs.State.{map_of}
-use Rattle.merkle_search_tree.specs.Events.{events_of}
+use Rattle.merkle_tree_theory.specs.State.{map_of}
+use Rattle.merkle_tree_theory.specs.Events.{events_of}
 use Rattle.tree_tests.proofs.Counting.{after_page, visits_after, plus-from_zero}
 use Rattle.tree_tests.proofs.counts.count_nodes.Goals as goal
 

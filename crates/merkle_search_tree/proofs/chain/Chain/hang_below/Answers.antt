@@ -1,7 +1,7 @@
 use Rattle.std.proofs.Common.{ap, sym, ◌∙◌, arith}
-use Rattle.merkle_search_tree.specs.Tree.{Tree, below, held_of}
-use Rattle.merkle_search_tree.specs.Chain.{with_high, hung, remade, row_of_page}
-use Rattle.merkle_search_tree.proofs.Hung.{hang_stale, hang_kept}
+use Rattle.merkle_tree_theory.specs.Tree.{Tree, below, held_of}
+use Rattle.merkle_tree_theory.specs.Chain.{with_high, hung, remade, row_of_page}
+use Rattle.merkle_tree_theory.proofs.Hung.{hang_stale, hang_kept}
 use Rattle.merkle_search_tree.proofs.chain.Chain.hang_below.Goals as goal
 use Rattle.merkle_search_tree.proofs.chain.Chain.hang_below.Goals.{then-len-stale, else-len-stale}
 

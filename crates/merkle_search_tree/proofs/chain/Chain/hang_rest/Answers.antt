@@ -1,7 +1,7 @@
 use Rattle.std.proofs.Common.{◌<◌, ap, sym, subst, ◌∙◌, arith}
-use Rattle.merkle_search_tree.specs.Tree.{Tree, below, held_of}
-use Rattle.merkle_search_tree.specs.Chain.{with_first, hung, remade, row_of_page, page_length, HaveNodes}
-use Rattle.merkle_search_tree.proofs.Hung.{hang_stale, hang_kept, have-last}
+use Rattle.merkle_tree_theory.specs.Tree.{Tree, below, held_of}
+use Rattle.merkle_tree_theory.specs.Chain.{with_first, hung, remade, row_of_page, page_length, HaveNodes}
+use Rattle.merkle_tree_theory.proofs.Hung.{hang_stale, hang_kept, have-last}
 use Rattle.merkle_search_tree.proofs.chain.Chain.hang_rest.Goals as goal
 use Rattle.merkle_search_tree.proofs.chain.Chain.hang_rest.Goals.{then-len-stale, else-len-stale}
 

@@ -1,6 +1,6 @@
 use Rattle.std.proofs.Common.{◌≡◌, vec_len}
-use Rattle.merkle_search_tree.specs.Tree.{nothing, held_of}
-use Rattle.merkle_search_tree.specs.Chain.{with_first, hung, HaveNodes}
+use Rattle.merkle_tree_theory.specs.Tree.{nothing, held_of}
+use Rattle.merkle_tree_theory.specs.Chain.{with_first, hung, HaveNodes}
 use Rattle.merkle_search_tree.proofs.chain.Chain.hang_rest.Given as goal
 
 abbrev pub invariant-hang : goal.invariant-hang

@@ -3,7 +3,7 @@ use Rattle.std.proofs.lemmas.Result.{IfOk-weaker}
 use Rattle.std.specs.Cmp.Lexicographic.{pointwise}
 use Rattle.std.specs.Cmp.Rules.{comparing}
 use Rattle.std.specs.Option.{option_eq}
-use Rattle.merkle_search_tree.proofs.Alike.{node_equal}
+use Rattle.merkle_tree_theory.proofs.Alike.{node_equal}
 use Rattle.merkle_search_tree.proofs.copy.Node+N+K.try_clone.Goals as goal
 
 pub returns-clause-equal : goal.returns-clause-equal

@@ -1,6 +1,6 @@
 use Rattle.std.proofs.Common.{sym, ap, ◌∙◌}
-use Rattle.merkle_search_tree.specs.Page.{nodes_of}
-use Rattle.merkle_search_tree.proofs.Rows.{row_nodes-row}
+use Rattle.merkle_tree_theory.specs.Page.{nodes_of}
+use Rattle.merkle_tree_theory.proofs.Rows.{row_nodes-row}
 use Rattle.merkle_search_tree.proofs.page.Page+N+K.nodes.Goals as goal
 
 pub returns : goal.returns

@@ -1,9 +1,9 @@
 use Rattle.std.proofs.Common.{ap, sym, ◌∙◌, arith}
 use Rattle.std.proofs.lemmas.Bool.{eqb-true, eqb-false}
 use Rattle.std.specs.Vec.{vec_len}
-use Rattle.merkle_search_tree.specs.Tree.{held_of}
-use Rattle.merkle_search_tree.specs.Upsert.{level_order}
-use Rattle.merkle_search_tree.proofs.Gaps.{order_none, order_some}
+use Rattle.merkle_tree_theory.specs.Tree.{held_of}
+use Rattle.merkle_tree_theory.specs.Upsert.{level_order}
+use Rattle.merkle_tree_theory.proofs.Gaps.{order_none, order_some}
 use Rattle.merkle_search_tree.proofs.page.PageOf.compare_level.Goals as goal
 
 pub returns-then-is_empty : goal.returns-then-is_empty

@@ -1,7 +1,7 @@
 use Rattle.std.proofs.Common.{ap, sym, ◌∙◌}
-use Rattle.merkle_search_tree.specs.Tree.{Tree, page, held_of}
-use Rattle.merkle_search_tree.specs.Chain.{with_high, row_of_page, remade}
-use Rattle.merkle_search_tree.proofs.Hung.{with_high-row}
+use Rattle.merkle_tree_theory.specs.Tree.{Tree, page, held_of}
+use Rattle.merkle_tree_theory.specs.Chain.{with_high, row_of_page, remade}
+use Rattle.merkle_tree_theory.proofs.Hung.{with_high-row}
 use Rattle.merkle_search_tree.proofs.page.PageOf.hang_high.Goals as goal
 
 pub returns : goal.returns

@@ -1,4 +1,4 @@
-use Rattle.merkle_search_tree.proofs.RangeEnds.{has-first, ends-upto}
+use Rattle.merkle_tree_theory.proofs.RangeEnds.{has-first, ends-upto}
 use Rattle.merkle_search_tree.proofs.page.PageOf.hashed_range.Goals as goal
 
 pub unreachable-requires-in-None-least_key : goal.unreachable-requires-in-None-least_key

@@ -1,6 +1,6 @@
 use Rattle.std.proofs.Common.{get_or, length, ap, sym, ◌∙◌, arith}
-use Rattle.merkle_search_tree.specs.Tree.{Tree, Node, held_of}
-use Rattle.merkle_search_tree.specs.Chain.{first_of, row_drop, row_of_page}
+use Rattle.merkle_tree_theory.specs.Tree.{Tree, Node, held_of}
+use Rattle.merkle_tree_theory.specs.Chain.{first_of, row_drop, row_of_page}
 use Rattle.merkle_search_tree.proofs.Partings.{first-at, first-last}
 use Rattle.merkle_search_tree.proofs.page.PageOf.held_at.Goals as goal
 

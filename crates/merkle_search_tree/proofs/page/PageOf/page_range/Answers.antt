@@ -2,10 +2,10 @@ use Rattle.std.proofs.Common.{◌≡◌, Some, length, ap, sym, ◌∙◌, arith
 use Rattle.std.specs.Prelude.{◌≢◌}
 use Rattle.std.proofs.lemmas.Bool.{eqb-false}
 use Rattle.merkle_diff.specs.PageRange.{entry}
-use Rattle.merkle_search_tree.specs.Tree.{Tree, held_of}
-use Rattle.merkle_search_tree.specs.Page.{pairs}
-use Rattle.merkle_search_tree.specs.CachedRanges.{first_of, last_of, range_of}
-use Rattle.merkle_search_tree.proofs.RangeEnds.{range-ends, made-range}
+use Rattle.merkle_tree_theory.specs.Tree.{Tree, held_of}
+use Rattle.merkle_tree_theory.specs.Page.{pairs}
+use Rattle.merkle_tree_theory.specs.CachedRanges.{first_of, last_of, range_of}
+use Rattle.merkle_tree_theory.proofs.RangeEnds.{range-ends, made-range}
 use Rattle.merkle_search_tree.proofs.page.PageOf.page_range.Goals as goal
 
 pub returns : goal.returns

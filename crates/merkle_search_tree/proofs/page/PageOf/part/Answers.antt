@@ -1,7 +1,7 @@
 use Rattle.std.proofs.Common.{None, ap, sym, ◌∙◌, arith}
-use Rattle.merkle_search_tree.specs.Tree.{Tree, page, row, held_of}
-use Rattle.merkle_search_tree.specs.Chain.{page_length, row_take, row_drop, row_of_page, remade}
-use Rattle.merkle_search_tree.proofs.Hung.{row_length-row, row_take-row, row_drop-row}
+use Rattle.merkle_tree_theory.specs.Tree.{Tree, page, row, held_of}
+use Rattle.merkle_tree_theory.specs.Chain.{page_length, row_take, row_drop, row_of_page, remade}
+use Rattle.merkle_tree_theory.proofs.Hung.{row_length-row, row_take-row, row_drop-row}
 use Rattle.merkle_search_tree.proofs.page.PageOf.part.Goals as goal
 
 pub move_tail-requires-clause-in_bounds : goal.move_tail-requires-clause-in_bounds
@@ -19,7 +19,7 @@ move_tail-requires-clause-room g c =
 pub returns-clause-stays : goal.returns-clause-stays
 returns-clause-stays g c =
     let s = c.self.inside in
-    (λ j. page s.level None (row (c.move_tail.ensures.kept j) (held_of (c.replace-above.ensures.after j))))
+    (λ j. page s.level None (row ((c.shrink_to_fit.ensures.items ∙ c.move_tail.ensures.kept) j) (held_of (c.replace-above.ensures.after j))))
     ∙ sym (ap (page s.level None) (row_take-row c.args.at s.nodes.items (held_of s.high_page)))
     ∙ ap (λ (t : Tree g.row.K.Denot g.row.D.Denot). remade 1 t (row_take c.args.at (row_of_page t))) c.self.view_is
 

@@ -1,8 +1,8 @@
 use Rattle.std.proofs.Common.{ap, sym, ◌∙◌}
-use Rattle.merkle_search_tree.specs.Tree.{Tree, page, row, held_of}
-use Rattle.merkle_search_tree.specs.Chain.{row_of_page, remade}
-use Rattle.merkle_search_tree.specs.Edge.{row_more}
-use Rattle.merkle_search_tree.proofs.Edges.{row_more-row}
+use Rattle.merkle_tree_theory.specs.Tree.{Tree, page, row, held_of}
+use Rattle.merkle_tree_theory.specs.Chain.{row_of_page, remade}
+use Rattle.merkle_tree_theory.specs.Edge.{row_more}
+use Rattle.merkle_tree_theory.proofs.Edges.{row_more-row}
 use Rattle.merkle_search_tree.proofs.page.PageOf.push_node.Goals as goal
 
 pub returns : goal.returns

@@ -1,10 +1,10 @@
 use Rattle.std.proofs.Common.{◌≡◌, length, arith, ap, sym, ◌∙◌}
 use Rattle.std.proofs.lemmas.Bool.{eqb-true, eqb-false}
 use Rattle.std.specs.Vec.{vec_len}
-use Rattle.merkle_search_tree.specs.Tree.{page, row, held_of}
-use Rattle.merkle_search_tree.specs.TreeOf.{root_of}
-use Rattle.merkle_search_tree.specs.Remove.{tree_del, tree_without}
-use Rattle.merkle_search_tree.proofs.Seams.{at_some, gives_way, way_none, way_some, without_gives}
+use Rattle.merkle_tree_theory.specs.Tree.{page, row, held_of}
+use Rattle.merkle_tree_theory.specs.TreeOf.{root_of}
+use Rattle.merkle_tree_theory.specs.Remove.{tree_del, tree_without}
+use Rattle.merkle_tree_theory.proofs.Seams.{at_some, gives_way, way_none, way_some, without_gives}
 use Rattle.merkle_search_tree.proofs.page.PageOf.remove_from_root.Goals as goal
 use Rattle.merkle_search_tree.proofs.page.PageOf.remove_from_root.Goals.{then-is_empty+in-None-replace+in-Some-1, then-is_empty+in-None-replace+in-None-1, then-is_empty+in-Some-replace, else-is_empty}
 

@@ -1,7 +1,7 @@
 use Rattle.std.proofs.Common.{ap, sym, ◌∙◌}
-use Rattle.merkle_search_tree.specs.Tree.{Tree, page, row, held_of, nothing}
-use Rattle.merkle_search_tree.specs.Chain.{high_of, with_high, row_of_page, remade}
-use Rattle.merkle_search_tree.proofs.Hung.{high_of-row, with_high-row}
+use Rattle.merkle_tree_theory.specs.Tree.{Tree, page, row, held_of, nothing}
+use Rattle.merkle_tree_theory.specs.Chain.{high_of, with_high, row_of_page, remade}
+use Rattle.merkle_tree_theory.proofs.Hung.{high_of-row, with_high-row}
 use Rattle.merkle_search_tree.proofs.page.PageOf.take_high.Goals as goal
 
 pub returns-clause-taken : goal.returns-clause-taken

@@ -1,9 +1,9 @@
 use Rattle.std.proofs.Common.{◌≡◌, length, ap, sym, subst, ◌∙◌, arith}
 use Rattle.std.specs.Box.{with_value}
-use Rattle.merkle_search_tree.specs.Tree.{Tree, nothing}
-use Rattle.merkle_search_tree.specs.Chain.{page_length, high_of, first_of, with_high, with_first, row_drop, row_take, row_of_page, remade}
+use Rattle.merkle_tree_theory.specs.Tree.{Tree, nothing}
+use Rattle.merkle_tree_theory.specs.Chain.{page_length, high_of, first_of, with_high, with_first, row_drop, row_take, row_of_page, remade}
 use Rattle.merkle_search_tree.specs.Parting.{PartsNodes, PartingFits}
-use Rattle.merkle_search_tree.proofs.Hung.{page_length-is, remade-first, first-remade, length_remade}
+use Rattle.merkle_tree_theory.proofs.Hung.{page_length-is, remade-first, first-remade, length_remade}
 use Rattle.merkle_search_tree.proofs.Partings.{gap-all, gap-at}
 use Rattle.merkle_search_tree.proofs.Apart.{parts-start, parts-end, parts-inside}
 use Rattle.merkle_search_tree.proofs.split.Sides.part_page.Goals as goal

@@ -1,9 +1,9 @@
 use Rattle.std.proofs.Common.{ℕ, ◌^◌, ◌<◌, ◌≤◌, length, sym, ap, subst, ◌∙◌}
-use Rattle.merkle_search_tree.specs.Page.{nodes_of}
-use Rattle.merkle_search_tree.specs.Search.{NodesAscend}
-use Rattle.merkle_search_tree.specs.Upsert.{place}
-use Rattle.merkle_search_tree.specs.State.{State}
-use Rattle.merkle_search_tree.proofs.Search.{page-ascends}
+use Rattle.merkle_tree_theory.specs.Page.{nodes_of}
+use Rattle.merkle_tree_theory.specs.Search.{NodesAscend}
+use Rattle.merkle_tree_theory.specs.Upsert.{place}
+use Rattle.merkle_tree_theory.specs.State.{State}
+use Rattle.merkle_tree_theory.proofs.Search.{page-ascends}
 use Rattle.merkle_search_tree.proofs.tree.MerkleSearchTree.find_counted.Goals as goal
 
 pub search-spot-requires : goal.search-spot-requires

@@ -1,5 +1,5 @@
 use Rattle.std.proofs.Common.{◌≡◌}
-use Rattle.merkle_search_tree.specs.Edge.{edge_pairs}
+use Rattle.merkle_tree_theory.specs.Edge.{edge_pairs}
 use Rattle.merkle_search_tree.specs.Loading.{digests, IsLoading}
 use Rattle.merkle_search_tree.proofs.tree.MerkleSearchTree.from_ascending.Given as goal
 

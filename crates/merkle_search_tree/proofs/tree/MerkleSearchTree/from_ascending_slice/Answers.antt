@@ -4,7 +4,7 @@ use Rattle.std.proofs.lemmas.List.{take-append-drop, take_all}
 use Rattle.std.proofs.lemmas.Result.{IfOk-weaker, err_from_is_err_and}
 use Rattle.key_order.specs.Order.{Same}
 use Rattle.key_order.specs.Map.{IsMap}
-use Rattle.merkle_search_tree.specs.Edge.{edge_pairs}
+use Rattle.merkle_tree_theory.specs.Edge.{edge_pairs}
 use Rattle.merkle_search_tree.specs.Loading.{BeginsWith}
 use Rattle.merkle_search_tree.proofs.Loadings.{Holds, holds-more, holds-map, holds-fails, item-more}
 use Rattle.merkle_search_tree.proofs.tree.MerkleSearchTree.from_ascending_slice.Goals as goal
@@ -16,7 +16,7 @@ returns-in_err-push_row-clause-refused g c =
     let i = c.rows.key-index in
     let r = c.rows-item.result in
     let own = c.in_ok-clone.field-0 in
-    let same : Same g.K.Ord.cmp own r.0 = tied_back g.met.K.Ord.total r.0 own (c.requires.clones r.0 own c.in_ok-clone.ensures.cases) in
+    let same : Same g.K.Ord.cmp own r.0 = tied_back g.met.K.Ord.total r.0 own (g.met.K.SameClone.clone_is_same r.0 own c.in_ok-clone.ensures.cases) in
     let p = err_from_is_err_and c.from_residual-in_err-push_row.result c.from_residual-in_err-push_row.ensures.1 in
     rw (p.1, p.2) (holds-fails d g.K.Ord.cmp g.met.K.Ord.total (BeginsWith rows) _ (take i rows) own r.0 r.1 _ c.rows.invariant.held same
     (subst (BeginsWith rows) (item-more rows i r c.rows-test.true c.rows-item.is) (drop (i + 1) rows, take-append-drop (i + 1) rows))
@@ -30,7 +30,7 @@ rows-preserved g c =
     let r = c.rows-item.result in
     let own = c.in_ok-clone.field-0 in
     let pairs = edge_pairs c.push_row.new.loading.edge.items in
-    let same : Same g.K.Ord.cmp own r.0 = tied_back g.met.K.Ord.total r.0 own (c.requires.clones r.0 own c.in_ok-clone.ensures.cases) in
+    let same : Same g.K.Ord.cmp own r.0 = tied_back g.met.K.Ord.total r.0 own (g.met.K.SameClone.clone_is_same r.0 own c.in_ok-clone.ensures.cases) in
     record {
       loading = c.in_ok-push_row.ensures.loading;
       held = subst (Holds d g.K.Ord.cmp g.met.K.Ord.total pairs) (sym (item-more rows i r c.rows-test.true c.rows-item.is))

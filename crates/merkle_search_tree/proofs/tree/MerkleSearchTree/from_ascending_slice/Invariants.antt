@@ -1,6 +1,6 @@
 use Rattle.std.proofs.Common.{◌≡◌, take}
 use Rattle.key_order.specs.Map.{SameMap}
-use Rattle.merkle_search_tree.specs.Edge.{edge_pairs}
+use Rattle.merkle_tree_theory.specs.Edge.{edge_pairs}
 use Rattle.merkle_search_tree.specs.Loading.{digests, IsLoading}
 use Rattle.merkle_search_tree.proofs.tree.MerkleSearchTree.from_ascending_slice.Given as goal
 

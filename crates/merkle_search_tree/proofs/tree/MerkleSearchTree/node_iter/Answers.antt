@@ -1,10 +1,10 @@
 use Rattle.std.proofs.Common.{map, ap, ◌∙◌}
 use Rattle.std.specs.Int.NonZero.{non_zero_u8_get}
 use Rattle.merkle_digest.specs.Level.{level_of}
-use Rattle.merkle_search_tree.specs.Page.{pair_of}
-use Rattle.merkle_search_tree.specs.State.{State, map_of}
-use Rattle.merkle_search_tree.proofs.Parts.{if_ok_map}
-use Rattle.merkle_search_tree.proofs.Paths.{root-falls, in_order-pairs}
+use Rattle.merkle_tree_theory.specs.Page.{pair_of}
+use Rattle.merkle_tree_theory.specs.State.{State, map_of}
+use Rattle.merkle_tree_theory.proofs.Parts.{if_ok_map}
+use Rattle.merkle_tree_theory.proofs.Falls.{root-falls, in_order-pairs}
 use Rattle.merkle_search_tree.proofs.tree.MerkleSearchTree.node_iter.Goals as goal
 
 pub new-requires : goal.new-requires

@@ -3,11 +3,11 @@ use Rattle.std.specs.Int.NonZero.{non_zero_u8_get}
 use Rattle.std.specs.Prelude.{is_some}
 use Rattle.std.proofs.lemmas.Bool.{eqb-false}
 use Rattle.merkle_digest.specs.Level.{level_of}
-use Rattle.merkle_search_tree.specs.Ranges.{ranges_of}
-use Rattle.merkle_search_tree.specs.State.{State, map_of}
-use Rattle.merkle_search_tree.proofs.Paths.{root-falls}
-use Rattle.merkle_search_tree.proofs.RangeEnds.{each-cached}
-use Rattle.merkle_search_tree.proofs.Listed.{hashed_listed, hashed_ranges, no_nodes}
+use Rattle.merkle_tree_theory.specs.Ranges.{ranges_of}
+use Rattle.merkle_tree_theory.specs.State.{State, map_of}
+use Rattle.merkle_tree_theory.proofs.Falls.{root-falls}
+use Rattle.merkle_tree_theory.proofs.RangeEnds.{each-cached}
+use Rattle.merkle_tree_theory.proofs.Listed.{hashed_listed, hashed_ranges, no_nodes}
 use Rattle.merkle_search_tree.proofs.tree.MerkleSearchTree.page_range_iter.Goals as goal
 
 pub new-requires-clause-falls : goal.new-requires-clause-falls

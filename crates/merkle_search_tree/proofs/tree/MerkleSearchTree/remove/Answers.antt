@@ -2,14 +2,14 @@ use Rattle.std.proofs.Common.{◌≡◌, ◌≢◌, ℕ, ◌+◌, ◌≤◌, Lis
 use Rattle.std.specs.Int.NonZero.{non_zero_u8_get}
 use Rattle.key_order.specs.Map.{has_key, del, entry}
 use Rattle.key_order.proofs.Dels.{del-absent}
-use Rattle.merkle_search_tree.specs.Tree.{Tree}
-use Rattle.merkle_search_tree.specs.State.{State, map_of}
-use Rattle.merkle_search_tree.specs.Page.{pairs, level}
-use Rattle.merkle_search_tree.specs.Cache.{missing}
-use Rattle.merkle_search_tree.specs.Sound.{IsSound}
-use Rattle.merkle_search_tree.specs.Remove.{root_del}
-use Rattle.merkle_search_tree.proofs.Seams.{at_some, at_none}
-use Rattle.merkle_search_tree.proofs.Removals.{remove-pairs, remove-entry, remove-sound, remove-few, hashed-lacks, remove-free}
+use Rattle.merkle_tree_theory.specs.Tree.{Tree}
+use Rattle.merkle_tree_theory.specs.State.{State, map_of}
+use Rattle.merkle_tree_theory.specs.Page.{pairs, level}
+use Rattle.merkle_tree_theory.specs.Cache.{missing}
+use Rattle.merkle_tree_theory.specs.Sound.{IsSound}
+use Rattle.merkle_tree_theory.specs.Remove.{root_del}
+use Rattle.merkle_tree_theory.proofs.Seams.{at_some, at_none}
+use Rattle.merkle_tree_theory.proofs.Removals.{remove-pairs, remove-entry, remove-sound, remove-few, hashed-lacks, remove-free}
 use Rattle.merkle_search_tree.proofs.tree.MerkleSearchTree.remove.Goals as goal
 
 pub returns-in_err-remove_from_root-clause-succeeds_absent : goal.returns-in_err-remove_from_root-clause-succeeds_absent

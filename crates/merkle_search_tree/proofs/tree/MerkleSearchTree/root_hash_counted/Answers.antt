@@ -1,10 +1,10 @@
 use Rattle.std.proofs.Common.{rules, ap, ◌∙◌}
 use Rattle.std.specs.Int.NonZero.{non_zero_u8_get}
 use Rattle.merkle_digest.specs.Level.{level_of}
-use Rattle.merkle_search_tree.specs.Cache.{missing}
-use Rattle.merkle_search_tree.specs.Page.{pairs}
-use Rattle.merkle_search_tree.specs.State.{State, map_of}
-use Rattle.merkle_search_tree.proofs.Fill.{pairs-filled, IsCanonicalRoot-filled, CachesHold-filled, cache-filled, missing-filled}
+use Rattle.merkle_tree_theory.specs.Cache.{missing}
+use Rattle.merkle_tree_theory.specs.Page.{pairs}
+use Rattle.merkle_tree_theory.specs.State.{State, map_of}
+use Rattle.merkle_tree_theory.proofs.Fill.{pairs-filled, IsCanonicalRoot-filled, CachesHold-filled, cache-filled, missing-filled}
 use Rattle.merkle_search_tree.proofs.tree.MerkleSearchTree.root_hash_counted.Goals as goal
 
 pub fill-digest-requires : goal.fill-digest-requires

@@ -1,14 +1,14 @@
 use Rattle.std.proofs.Common.{◌≡◌, ℕ, ◌+◌, ◌≤◌, List, true, false, None, ap, sym, subst, ◌∙◌, arith}
 use Rattle.std.specs.Int.NonZero.{non_zero_u8_get}
 use Rattle.merkle_digest.specs.Level.{level_of}
-use Rattle.merkle_search_tree.specs.Tree.{Tree}
-use Rattle.merkle_search_tree.specs.State.{State, map_of}
-use Rattle.merkle_search_tree.specs.Page.{pairs, level}
-use Rattle.merkle_search_tree.specs.Cache.{missing, KeyUncached}
-use Rattle.merkle_search_tree.specs.Sound.{IsSound}
+use Rattle.merkle_tree_theory.specs.Tree.{Tree}
+use Rattle.merkle_tree_theory.specs.State.{State, map_of}
+use Rattle.merkle_tree_theory.specs.Page.{pairs, level}
+use Rattle.merkle_tree_theory.specs.Cache.{missing, KeyUncached}
+use Rattle.merkle_tree_theory.specs.Sound.{IsSound}
 use Rattle.key_order.specs.Map.{set, has_key}
-use Rattle.merkle_search_tree.specs.Upsert.{tree_set}
-use Rattle.merkle_search_tree.proofs.Upserts.{upsert-pairs, upsert-sound, upsert-dropped, upsert-few, upsert-finds, none_of_hashed}
+use Rattle.merkle_tree_theory.specs.Upsert.{tree_set}
+use Rattle.merkle_tree_theory.proofs.Upserts.{upsert-pairs, upsert-sound, upsert-dropped, upsert-few, upsert-finds, none_of_hashed}
 use Rattle.merkle_search_tree.proofs.tree.MerkleSearchTree.upsert.Goals as goal
 
 pub returns-in_err-set-clause-succeeds : goal.returns-in_err-set-clause-succeeds

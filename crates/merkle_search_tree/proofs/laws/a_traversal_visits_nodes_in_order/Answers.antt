@@ -1,5 +1,0 @@
-use Rattle.merkle_search_tree.proofs.Visited.{visits_in_order}
-use Rattle.merkle_search_tree.proofs.laws.a_traversal_visits_nodes_in_order.Goals as goal
-
-pub returns : goal.returns
-returns g c is_high t = visits_in_order is_high t
