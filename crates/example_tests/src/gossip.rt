@@ -4,7 +4,6 @@ use examples::store::open_rows;
 use std::test::Fail;
 
 #[test]
-#[tactic(auto, using(key_order::proofs::Clones::string_clone))]
 fn only_replicas_that_differ_ask(rt: HostRuntime) -> Result<(), Fail> {
     let alloc = rt.alloc();
     let mut local = open_rows(alloc, numbers(alloc, &[("a", 1), ("c", 3)])?)?;

@@ -2,6 +2,8 @@
 #![tactic(auto)]
 
 #[cfg(test)]
+mod catch_up_wire;
+#[cfg(test)]
 mod gossip;
 #[cfg(test)]
 mod readme;

@@ -4,7 +4,6 @@ use examples::sync::sync;
 use std::test::Fail;
 
 #[test]
-#[tactic(auto, using(key_order::proofs::Clones::string_clone))]
 fn both_hold_the_greater_numbers_of_both(rt: HostRuntime) -> Result<(), Fail> {
     let alloc = rt.alloc();
     let mut a = open_rows(alloc, numbers(alloc, &[("x", 1), ("y", 5)])?)?;

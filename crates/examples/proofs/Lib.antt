@@ -1,3 +1,6 @@
 pub mod Outcomes
 pub mod Spelled
 pub mod Entries
+pub mod Told
+pub mod Rounds
+pub mod Trees

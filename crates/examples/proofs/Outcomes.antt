@@ -1,5 +1,5 @@
 -- What follows from a call that succeeds, and syncs under another premise or with another outcome.
-use Rattle.std.proofs.Common.{List, OnOk, Result, Ok, Err}
+use Rattle.std.proofs.Common.{List, IfOk, OnOk, Result, Ok, Err}
 use Rattle.std.specs.List.{AllByRecursion}
 use Rattle.merkle_replica.specs.Laws.{Laws}
 use Rattle.merkle_replica.specs.Contents.{Contents, Side, side}
@@ -9,6 +9,10 @@ use Rattle.examples.specs.Sync.{IsSync}
 pub on_ok : {A E : Type 0} (r : Result A E) (P Q : Type 0) → (P → Q) → OnOk r P → OnOk r Q
 on_ok (Ok x) P Q f h = f h
 on_ok (Err e) P Q f h = tt
+
+pub if_ok_both : {A E : Type 0} (r : Result A E) (P : A → Type 0) (Q : Type 0) (R : A → Type 0) → ((x : A) → P x → Q → R x) → IfOk r P → OnOk r Q → IfOk r R
+if_ok_both (Ok x) P Q R f h k = f x h k
+if_ok_both (Err e) P Q R f h k = tt
 
 module _ {K V H : Type 0} (laws : Laws K V H) where
   -- a premise from which the first one follows does as well, and so does what follows from the outcome

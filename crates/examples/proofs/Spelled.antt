@@ -1,10 +1,11 @@
 -- Texts and lists as bytes: one entry more is written or read, and a list is read in one way.
-use Rattle.std.proofs.Common.{◌≡◌, ℕ, ◌+◌, ◌<◌, ◌≤◌, ◌^◌, List, [], ◌∷◌, ◌++◌, map, length, take, get_or, string_bytes, sym, ap, ◌∙◌, arith}
+use Rattle.std.proofs.Common.{◌≡◌, ℕ, zero, suc, refl, ◌+◌, ◌<◌, ◌≤◌, ◌^◌, List, [], ◌∷◌, ◌++◌, map, length, take, get_or, string_bytes, sym, ap, ◌∙◌, subst, arith}
 use Rattle.std.specs.List.{AllByRecursion, flat_map}
 use Rattle.std.proofs.lemmas.List.{append_assoc, append-nil, length-append, map-append, take_more}
 use Rattle.std.proofs.lemmas.Grind.{flat_map-append}
 use Rattle.key_order.specs.Text.{Text}
-use Rattle.merkle_search_tree.proofs.Streams.{join_tells, number_tells}
+use Rattle.key_order.proofs.ListParts.{each-append}
+use Rattle.merkle_tree_theory.proofs.Streams.{join_tells, number_tells}
 use Rattle.examples.specs.Wire.{number_bytes, text_bytes, list_bytes}
 
 one_more : {X : Type 0} (bytes : X → List ℕ) (xs : List X) (x : X) → flat_map bytes (xs ++ x ∷ []) ≡ flat_map bytes xs ++ bytes x
@@ -18,6 +19,19 @@ written_more to bytes xs i x front old new low is was put =
     let taken = take_more xs i x low ∙ ap (λ y. take i xs ++ y ∷ []) (sym is) in
     put ∙ ap (λ t. t ++ bytes (to x)) was ∙ append_assoc front (flat_map bytes (map to (take i xs))) (bytes (to x))
     ∙ ap (λ t. front ++ t) (sym (one_more bytes (map to (take i xs)) (to x)) ∙ ap (flat_map bytes) (sym more ∙ ap (map to) (sym taken)))
+
+-- what is taken of a list up to its end is the list
+pub take_whole : {X : Type 0} (n : ℕ) (xs : List X) → length xs ≤ n → take n xs ≡ xs
+take_whole zero [] h = refl
+take_whole zero (x ∷ xs) h = absurd (omega arith)
+take_whole (suc n) [] h = refl
+take_whole (suc n) (x ∷ xs) h = ap (λ ys. x ∷ ys) (take_whole n xs (omega arith))
+
+-- what holds of the first entries and of one more
+pub each_more : {X Y : Type 0} (to : X → Y) (P : Y → Type 0) (xs : List X) (i : ℕ) (x : X) → i < length xs → x ≡ get_or xs i x → AllByRecursion P (map to (take i xs)) → P (to x) → AllByRecursion P (map to (take (i + 1) xs))
+each_more to P xs i x low is each one =
+    let taken = take_more xs i x low ∙ ap (λ y. take i xs ++ y ∷ []) (sym is) in
+    subst (AllByRecursion P) (sym (ap (map to) taken ∙ map-append to (take i xs) (x ∷ []))) (each-append P (map to (take i xs)) (to x ∷ []) each (one, tt))
 
 -- what is behind others isn't longer than all
 pub behind_fits : (a b rest all : List ℕ) → length all < 2 ^ 64 → all ≡ a ++ (b ++ rest) → length rest < 2 ^ 64
@@ -46,6 +60,7 @@ module _ {X : Type 0} (P : X → Type 0) (bytes : X → List ℕ) where
   pub record IsReading (whole : List ℕ) (count done : ℕ) (entries : List X) (left : List ℕ) : Type 0 where
     pub read : whole ≡ number_bytes count ++ (flat_map bytes entries ++ left)
     pub counted : length entries ≡ done
+    pub each : AllByRecursion P entries
     pub rest : SpellsRest whole count done left
 
   -- none is read before the first
@@ -54,6 +69,7 @@ module _ {X : Type 0} (P : X → Type 0) (bytes : X → List ℕ) where
   none_read some whole left count entries low fits none e = record {
     read = e ∙ ap (λ xs. number_bytes count ++ (flat_map bytes xs ++ left)) (sym none);
     counted = ap length none;
+    each = subst (AllByRecursion P) (sym none) tt;
     rest = λ all each spelled.
         let few : length all < 2 ^ 64 = omega (arith, no_more all, fits, ap length spelled, length-append (number_bytes (length all)) (flat_map bytes all)) in
         let heads = join_tells (number_bytes count) (number_bytes (length all)) left (flat_map bytes all) (λ i. 8) (sym e ∙ spelled) in
@@ -72,6 +88,7 @@ module _ {X : Type 0} (P : X → Type 0) (bytes : X → List ℕ) where
     read = kept.read ∙ ap (λ t. number_bytes count ++ (flat_map bytes entries ++ t)) next
         ∙ ap (λ t. number_bytes count ++ t) (sym (append_assoc (flat_map bytes entries) (bytes x) behind) ∙ ap (λ t. t ++ behind) (sym (one_more bytes entries x) ∙ ap (flat_map bytes) (sym more)));
     counted = omega (arith, ap length more, length-append entries (x ∷ []), kept.counted);
+    each = subst (AllByRecursion P) (sym more) (each-append P entries (x ∷ []) kept.each (p, tt));
     rest = λ all each spelled. let b = kept.rest all each spelled in after b.0 b.1 b.2 b.3;
   }
     where

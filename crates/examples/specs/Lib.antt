@@ -5,3 +5,7 @@ pub mod Register
 pub mod RegisterLaws
 pub mod Gossip
 pub mod Wire
+pub mod StoreLaws
+pub mod PullMessages
+pub mod CatchUpMessages
+pub mod CameItem

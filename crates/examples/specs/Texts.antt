@@ -3,11 +3,11 @@ use Rattle.std.specs.Prelude.{◌≡◌, ℕ, List, string_bytes}
 use Rattle.key_order.specs.Text.{Text, text_order}
 use Rattle.merkle_digest.specs.SipDigests.{text_digest}
 use Rattle.merkle_digest.specs.SipHash.{siphash128}
-use Rattle.merkle_search_tree.specs.Canonical.{IsTreeOf}
+use Rattle.merkle_tree_theory.specs.Canonical.{IsTreeOf}
 use Rattle.merkle_search_tree.specs.Loading.{digests}
-use Rattle.merkle_search_tree.specs.Stream.{page_digest}
-use Rattle.merkle_search_tree.specs.Tree.{Tree}
-use Rattle.merkle_search_tree.specs.declared.builder.PageFormat.{PageFormat}
+use Rattle.merkle_tree_theory.specs.Stream.{page_digest}
+use Rattle.merkle_tree_theory.specs.Tree.{Tree}
+use Rattle.merkle_tree_theory.specs.declared.page_format.PageFormat.{PageFormat}
 
 module _ {V : Type 0} (fed_bytes : V → List ℕ) where
   -- the digest of a value that feeds these bytes

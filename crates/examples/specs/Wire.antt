@@ -1,5 +1,5 @@
 -- Page ranges, ranges of names, and rows, as bytes.
-use Rattle.std.specs.Prelude.{◌≡◌, ℕ, List, ◌++◌, length, string_bytes}
+use Rattle.std.specs.Prelude.{◌≡◌, ℕ, ◌<◌, ◌^◌, List, ◌++◌, length, string_bytes}
 use Rattle.std.specs.List.{flat_map}
 use Rattle.std.specs.Int.{w64, to_le_bytes}
 use Rattle.key_order.specs.Order.{Upto}
@@ -34,3 +34,11 @@ list_bytes bytes xs = number_bytes (length xs) ++ flat_map bytes xs
 -- what a page range keeps to: its first name isn't above its last, and its digest has 16 bytes
 abbrev pub IsPageRange : Entry Text (List ℕ) → Type 0
 IsPageRange e = Upto text_order e.first e.last × (length e.digest ≡ 16)
+
+-- what a row keeps to: its number fits eight bytes
+abbrev pub IsRow : Text × ℕ → Type 0
+IsRow r = r.1 < 2 ^ 64
+
+-- what bytes keep to that a machine can hold
+abbrev pub IsInMemory : List ℕ → Type 0
+IsInMemory bytes = length bytes < 2 ^ 64

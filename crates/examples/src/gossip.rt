@@ -1,43 +1,36 @@
 //! Gossip: peers compare root hashes, and page ranges only where those differ.
 ghost use Rattle.std.specs.Prelude.{◌≡◌, [], IfOk, IsOkAnd};
-ghost use Rattle.key_order.specs.Order.{Same};
 ghost use Rattle.key_order.specs.Map.{SameMap};
-ghost use Rattle.merkle_search_tree.specs.State.{map_of};
+ghost use Rattle.merkle_tree_theory.specs.State.{map_of, SameSettings};
 ghost use Rattle.merkle_replica.specs.Answers.{spans_of};
 ghost use Rattle.merkle_replica.specs.Contents.{side};
 ghost use Rattle.merkle_replica.specs.Faithful.{AreSetAlike};
 ghost use Rattle.merkle_replica.specs.Pulls.{IsAnswerFor};
 ghost use Rattle.examples.specs.Gossip.{HaveOneRootHash};
 
-use merkle_digest::{Hasher, KeyBytes};
+use merkle_digest::{Hasher, Key};
 use merkle_replica::{Join, Lawful, Replica};
 use merkle_search_tree::laws::{a_map_has_one_tree, every_tree_is_sound};
 use std::alloc::{AllocError, Global};
 
 /// The ranges of keys that a replica asks a peer for: none where their root hashes are equal, for which no page range is listed;
-/// else those in which the page ranges of both trees differ. Its condition on clones is that of [`Replica::ranges_to_ask`].
+/// else those in which the page ranges of both trees differ.
 ///
 /// # Errors
 ///
 /// Want of memory, for page ranges alone: the rows stay.
-pub fn ranges_to_ask<
-    K: Ord + KeyBytes + Clone + Drop,
-    V: Join + Drop,
-    H: Hasher<N, K> + Hasher<N, V>,
-    const N: usize,
->(
+pub fn ranges_to_ask<K: Key + Drop, V: Join + Drop, H: Hasher<N, K> + Hasher<N, V>, const N: usize>(
     alloc: Global,
     local: &mut Replica<K, V, H, N>,
     peer: &mut Replica<K, V, H, N>,
 ) -> Result<Vec<(K, K)>, AllocError>
-    // A clone of a key equals its original.
-    requires clones { (a b : K) → K.is_clone a b → Same K.cmp a b }
-
     ensures quiet { HaveOneRootHash K.bytes_of local.old.tree peer.old.tree → IsOkAnd result (λ ranges. ranges.items ≡ []) }
     ensures answer { ¬ (HaveOneRootHash K.bytes_of local.old.tree peer.old.tree) → IfOk result (λ ranges.
         IsAnswerFor ⟦<H as Lawful<N, K, V>>⟧.laws (side local.old) (side peer.old) (spans_of ranges.items)) }
     ensures rows { local.new.rows ≡ local.old.rows }
     ensures peer_rows { peer.new.rows ≡ peer.old.rows }
+    ensures settings { SameSettings local.old.tree local.new.tree }
+    ensures peer_settings { SameSettings peer.old.tree peer.new.tree }
 {
     if local.root_hash() == peer.root_hash() {
         return Ok(Vec::new(alloc));
@@ -46,13 +39,13 @@ pub fn ranges_to_ask<
 }
 
 /// One of two replicas of equal maps, whose hashers give each key one digest, with one level base and page format, asks the other for
-/// nothing, and is never refused. Its condition on clones is that of [`Replica::ranges_to_ask`].
+/// nothing, and is never refused.
 ///
 /// # Errors
 ///
 /// None: it answers the empty list.
 pub fn equal_maps_ask_for_nothing<
-    K: Ord + KeyBytes + Clone + Drop,
+    K: Key + Drop,
     V: Join + Drop,
     H: Hasher<N, K> + Hasher<N, V>,
     const N: usize,
@@ -61,12 +54,11 @@ pub fn equal_maps_ask_for_nothing<
     local: &mut Replica<K, V, H, N>,
     peer: &mut Replica<K, V, H, N>,
 ) -> Result<Vec<(K, K)>, AllocError>
-    // A clone of a key equals its original.
-    requires clones { (a b : K) → K.is_clone a b → Same K.cmp a b }
-
     requires alike { AreSetAlike ⟦<H as Lawful<N, K, V>>⟧.laws (side local.old) (side peer.old) }
     requires equal_maps { SameMap K.cmp (λ d e. d ≡ e) (map_of local.old.tree) (map_of peer.old.tree) }
     ensures nothing { IsOkAnd result (λ ranges. ranges.items ≡ []) }
+    ensures rows { local.new.rows ≡ local.old.rows }
+    ensures peer_rows { peer.new.rows ≡ peer.old.rows }
 {
     a_map_has_one_tree::<K, H, N>();
     every_tree_is_sound(local.tree());

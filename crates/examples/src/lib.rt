@@ -1,7 +1,9 @@
 //! Users' code over replicas and trees, each example with its theorem, proved from the public contracts of the crates that it uses.
 #![tactic(auto)]
 
+pub mod catch_up_wire;
 pub mod gossip;
+mod items;
 mod reading;
 pub mod readme;
 pub mod register;

@@ -1,5 +1,5 @@
 //! What came, read from its bytes.
-ghost use Rattle.std.specs.Prelude.{◌≡◌, ◌≢◌, ◌++◌, ℕ, List, [], OnOk, IfOk, Err, length};
+ghost use Rattle.std.specs.Prelude.{◌≡◌, ◌≢◌, ◌++◌, ◌<◌, ◌^◌, ℕ, List, [], OnOk, IfOk, Err, length};
 ghost use Rattle.std.specs.List.{AllByRecursion};
 ghost use Rattle.key_order.specs.Interval.{Span};
 ghost use Rattle.key_order.specs.Text.{Text};
@@ -7,12 +7,15 @@ ghost use Rattle.merkle_diff.specs.Entry.{Entry};
 ghost use Rattle.merkle_diff.specs.OwnedPageRange.{owned_entry};
 ghost use Rattle.merkle_diff.specs.PageRangeSnapshot.{snapshot_entries};
 ghost use Rattle.merkle_replica.specs.Answers.{spans_of};
-ghost use Rattle.examples.specs.Wire.{number_bytes, text_bytes, page_range_bytes, range_bytes, row_bytes, list_bytes, IsPageRange};
+ghost use Rattle.examples.specs.CameItem.{came_item, came_items};
+ghost use Rattle.examples.specs.CatchUpMessages.{item_bytes, IsItem, Spells};
+ghost use Rattle.examples.specs.Wire.{number_bytes, text_bytes, page_range_bytes, range_bytes, row_bytes, list_bytes, IsPageRange, IsRow};
 ghost use Rattle.examples.specs.declared.wire.WireFault.TheVariants.{Malformed};
 
+use crate::items::CameItem;
 use crate::wire::WireFault;
 use merkle_diff::{OwnedPageRange, PageRangeSnapshot};
-use merkle_digest::PageDigest;
+use merkle_digest::{Digest, PageDigest, ValueDigest};
 use std::alloc::Global;
 
 /// Bytes that came, of which those that are left are still to be read.
@@ -33,6 +36,7 @@ impl Reader<'_> {
     /// The next number.
     fn number(&mut self) -> Result<u64, WireFault>
         ensures read { IfOk result (λ number. self.old.left.now ≡ number_bytes number ++ self.new.left.now) }
+        ensures fits { IfOk result (λ number. number < 2 ^ 64) }
         ensures malformed { result ≡ Err Malformed → (number : ℕ) (rest : List ℕ) → self.old.left.now ≢ number_bytes number ++ rest }
     {
         let Some((number, left)) = self.left.split_first_chunk::<8>() else {
@@ -85,6 +89,41 @@ impl Reader<'_> {
         }
     }
 
+    /// The next item of an outline.
+    fn item(&mut self) -> Result<CameItem, WireFault>
+        ensures read { IfOk result (λ item. self.old.left.now ≡ item_bytes (came_item item) ++ self.new.left.now) }
+        ensures item { IfOk result (λ item. IsItem (came_item item)) }
+    {
+        let Some((kind, left)) = self.left.split_first() else {
+            return Err(WireFault::Malformed);
+        };
+        self.left = left;
+        match *kind {
+            0 => {
+                let name = self.text()?;
+                let digest = self.value_digest()?;
+                Ok(CameItem::Node(name, digest))
+            }
+            1 => {
+                let range = self.page_range()?;
+                Ok(CameItem::Page(range))
+            }
+            _ => Err(WireFault::Malformed),
+        }
+    }
+
+    /// The next digest of a number.
+    fn value_digest(&mut self) -> Result<ValueDigest<16>, WireFault>
+        ensures read { IfOk result (λ digest. self.old.left.now ≡ digest ++ self.new.left.now) }
+        ensures digest { IfOk result (λ digest. length digest ≡ 16) }
+    {
+        let Some((digest, left)) = self.left.split_first_chunk::<16>() else {
+            return Err(WireFault::Malformed);
+        };
+        self.left = left;
+        Ok(ValueDigest::new(Digest::new(*digest)))
+    }
+
     /// The next range of names.
     fn range(&mut self) -> Result<(String, String), WireFault>
         ensures read { IfOk result (λ range. self.old.left.now ≡ range_bytes (record { first = range.0; last = range.1 }) ++ self.new.left.now) }
@@ -98,6 +137,7 @@ impl Reader<'_> {
     /// The next row.
     fn row(&mut self) -> Result<(String, u64), WireFault>
         ensures read { IfOk result (λ row. self.old.left.now ≡ row_bytes row ++ self.new.left.now) }
+        ensures row { IfOk result (λ row. IsRow row) }
         ensures malformed { result ≡ Err Malformed → (row : Text × ℕ) (rest : List ℕ) → self.old.left.now ≢ row_bytes row ++ rest }
     {
         let name = self.text()?;
@@ -121,6 +161,7 @@ impl Reader<'_> {
 /// The page ranges that came.
 pub fn read_page_ranges(alloc: Global, bytes: &[u8]) -> Result<PageRangeSnapshot<String>, WireFault>
     ensures read { IfOk result (λ snapshot. bytes.now ≡ list_bytes page_range_bytes (snapshot_entries snapshot)) }
+    ensures each { IfOk result (λ snapshot. AllByRecursion IsPageRange (snapshot_entries snapshot)) }
     ensures malformed { result ≡ Err Malformed → (ranges : List (Entry Text (List ℕ))) → AllByRecursion IsPageRange ranges → bytes.now ≢ list_bytes page_range_bytes ranges }
 {
     let mut reader = Reader { alloc, left: bytes };
@@ -157,6 +198,7 @@ pub fn read_ranges(alloc: Global, bytes: &[u8]) -> Result<Vec<(String, String)>,
 /// The rows that came.
 pub fn read_rows(alloc: Global, bytes: &[u8]) -> Result<Vec<(String, u64)>, WireFault>
     ensures read { IfOk result (λ rows. bytes.now ≡ list_bytes row_bytes rows.items) }
+    ensures each { IfOk result (λ rows. AllByRecursion IsRow rows.items) }
     ensures malformed { result ≡ Err Malformed → (rows : List (Text × ℕ)) → bytes.now ≢ list_bytes row_bytes rows }
 {
     let mut reader = Reader { alloc, left: bytes };
@@ -170,4 +212,21 @@ pub fn read_rows(alloc: Global, bytes: &[u8]) -> Result<Vec<(String, u64)>, Wire
     }
     reader.end()?;
     Ok(rows)
+}
+
+/// The items of outlines that came.
+pub fn read_items(alloc: Global, bytes: &[u8]) -> Result<Vec<CameItem>, WireFault>
+    ensures { IfOk result (λ items. Spells bytes.now (came_items items.items)) }
+{
+    let mut reader = Reader { alloc, left: bytes };
+    let count = reader.number()?;
+    let mut items = Vec::new(alloc);
+    'entries: for _done in 0..count {
+        let next = reader.item()?;
+        if items.push(next).is_err() {
+            return Err(WireFault::Memory);
+        }
+    }
+    reader.end()?;
+    Ok(items)
 }

@@ -3,9 +3,9 @@
 ghost use Rattle.std.specs.Prelude.{◌≡◌, ℕ, List, [], ◌∷◌, IfOk, max, nat_eq};
 ghost use Rattle.key_order.specs.Join.{IsJoin};
 ghost use Rattle.key_order.specs.Text.{Text, text_order};
-ghost use Rattle.merkle_search_tree.specs.Settings.{default_settings};
-ghost use Rattle.merkle_search_tree.specs.State.{HasSettings, SameSettings};
-ghost use Rattle.merkle_search_tree.specs.declared.builder.PageFormat.TheVariants.{V1};
+ghost use Rattle.merkle_tree_theory.specs.Settings.{default_settings};
+ghost use Rattle.merkle_tree_theory.specs.State.{HasSettings, SameSettings};
+ghost use Rattle.merkle_tree_theory.specs.declared.page_format.PageFormat.TheVariants.{V1};
 ghost use Rattle.merkle_replica.specs.Contents.{Contents, side};
 ghost use Rattle.merkle_replica.specs.Pulls.{HoldTheJoin};
 ghost use Rattle.examples.specs.Sync.{IsFaithfulSync};
@@ -22,7 +22,6 @@ use std::alloc::Global;
 /// # Errors
 ///
 /// Want of memory: each pull that was made until then stays.
-#[tactic(auto, using(key_order::proofs::Clones::string_clone))]
 pub fn two_replicas(
     alloc: Global,
     key: String,

@@ -5,7 +5,7 @@ ghost use Rattle.std.proofs.Common.{rules};
 ghost use Rattle.key_order.specs.Join.{IsJoin};
 ghost use Rattle.key_order.specs.Text.{text_order};
 ghost use Rattle.merkle_digest.specs.Sip24.{Holds};
-ghost use Rattle.merkle_search_tree.specs.State.{SameSettings};
+ghost use Rattle.merkle_tree_theory.specs.State.{SameSettings};
 ghost use Rattle.examples.specs.Register.{IsWritten};
 
 use crate::store::Store;
@@ -60,7 +60,6 @@ pub type Registers = Store<Register>;
 /// # Errors
 ///
 /// Want of memory, which leaves all registers as they were.
-#[tactic(auto, using(key_order::proofs::Clones::string_clone))]
 pub fn write(registers: &mut Registers, name: String, register: Register) -> Result<(), AllocError>
     ensures latest { OnOk result (IsWritten ⟦<Register as Ord>⟧.cmp registers.old.rows name register registers.new.rows) }
     ensures unchanged { OnErr result (registers.new ≡ registers.old) }
@@ -77,7 +76,6 @@ pub type Stamped = Store<Greatest<(u64, u64)>>;
 /// # Errors
 ///
 /// Want of memory, which leaves all registers as they were.
-#[tactic(auto, using(key_order::proofs::Clones::string_clone))]
 pub fn stamp(registers: &mut Stamped, name: String, time: u64, value: u64) -> Result<(), AllocError>
     ensures joined { OnOk result (IsJoin text_order ⟦<Greatest<(u64, u64)> as PartialEq>⟧.eq ⟦<Greatest<(u64, u64)> as Join>⟧.join_of
         registers.old.rows ((name, record { 0 = (time, value) }) ∷ []) registers.new.rows) }

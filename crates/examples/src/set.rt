@@ -1,6 +1,6 @@
 //! A set of names that only grows: a replica with `()` for values.
 ghost use Rattle.std.specs.Prelude.{◌≡◌, [], ◌∷◌, OnOk, OnErr};
-ghost use Rattle.merkle_search_tree.specs.State.{SameSettings};
+ghost use Rattle.merkle_tree_theory.specs.State.{SameSettings};
 ghost use Rattle.examples.specs.Set.{IsUnion};
 ghost use Rattle.examples.specs.Sync.{IsFaithfulSync};
 
@@ -18,7 +18,6 @@ pub type Names = Store<()>;
 /// # Errors
 ///
 /// Want of memory, which leaves the set as it was.
-#[tactic(auto, using(key_order::proofs::Clones::string_clone))]
 pub fn add(names: &mut Names, name: String) -> Result<(), AllocError>
     ensures added { OnOk result (IsUnion names.old.rows ((name, tt) ∷ []) names.new.rows) }
     ensures unchanged { OnErr result (names.new ≡ names.old) }
@@ -32,7 +31,6 @@ pub fn add(names: &mut Names, name: String) -> Result<(), AllocError>
 /// # Errors
 ///
 /// Want of memory: no name is lost.
-#[tactic(auto, using(key_order::proofs::Clones::string_clone))]
 pub fn unite(alloc: Global, a: &mut Names, b: &mut Names) -> Result<(), TurnsError<String>>
     ensures union { OnOk result (IsFaithfulSync ⟦<SipHasher as Lawful<16, String, ()>>⟧.laws
         (IsUnion a.old.rows b.old.rows a.new.rows × IsUnion a.old.rows b.old.rows b.new.rows) a.old b.old a.new b.new) }

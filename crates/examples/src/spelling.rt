@@ -1,21 +1,22 @@
 //! What is sent, as bytes.
 ghost use Rattle.std.specs.Prelude.{◌≡◌, ◌++◌, OnOk, IfOk, map};
+ghost use Rattle.std.specs.List.{AllByRecursion};
 ghost use Rattle.merkle_diff.specs.PageRange.{entry, entries};
 ghost use Rattle.merkle_replica.specs.Answers.{spans_of};
-ghost use Rattle.examples.specs.Wire.{number_bytes, text_bytes, page_range_bytes, range_bytes, row_bytes, list_bytes};
+ghost use Rattle.examples.specs.Wire.{number_bytes, text_bytes, page_range_bytes, range_bytes, row_bytes, list_bytes, IsPageRange, IsRow};
 
 use merkle_diff::PageRange;
 use std::alloc::{AllocError, Global};
 
 /// Writes a number.
-fn put_number(bytes: &mut Vec<u8>, number: u64) -> Result<(), AllocError>
+pub(crate) fn put_number(bytes: &mut Vec<u8>, number: u64) -> Result<(), AllocError>
     ensures { OnOk result (bytes.new.items ≡ bytes.old.items ++ number_bytes number) }
 {
     bytes.extend_from_slice(&number.to_le_bytes())
 }
 
 /// Writes a text.
-fn put_text(bytes: &mut Vec<u8>, text: &String) -> Result<(), AllocError>
+pub(crate) fn put_text(bytes: &mut Vec<u8>, text: &String) -> Result<(), AllocError>
     ensures { OnOk result (bytes.new.items ≡ bytes.old.items ++ text_bytes text.now) }
 {
     put_number(bytes, text.len() as u64)?;
@@ -23,8 +24,12 @@ fn put_text(bytes: &mut Vec<u8>, text: &String) -> Result<(), AllocError>
 }
 
 /// Writes a page range.
-fn put_page_range(bytes: &mut Vec<u8>, range: &PageRange<'_, String>) -> Result<(), AllocError>
-    ensures { OnOk result (bytes.new.items ≡ bytes.old.items ++ page_range_bytes (entry range.now)) }
+pub(crate) fn put_page_range(
+    bytes: &mut Vec<u8>,
+    range: &PageRange<'_, String>,
+) -> Result<(), AllocError>
+    ensures bytes { OnOk result (bytes.new.items ≡ bytes.old.items ++ page_range_bytes (entry range.now)) }
+    ensures range { OnOk result (IsPageRange (entry range.now)) }
 {
     put_text(bytes, range.start())?;
     put_text(bytes, range.end())?;
@@ -36,7 +41,8 @@ pub fn spell_page_ranges(
     alloc: Global,
     ranges: &[PageRange<'_, String>],
 ) -> Result<Vec<u8>, AllocError>
-    ensures { IfOk result (λ bytes. bytes.items ≡ list_bytes page_range_bytes (entries ranges.now)) }
+    ensures bytes { IfOk result (λ bytes. bytes.items ≡ list_bytes page_range_bytes (entries ranges.now)) }
+    ensures each { OnOk result (AllByRecursion IsPageRange (entries ranges.now)) }
 {
     let mut bytes = Vec::new(alloc);
     put_number(&mut bytes, ranges.len() as u64)?;
@@ -68,7 +74,8 @@ pub fn spell_ranges(alloc: Global, ranges: &[(String, String)]) -> Result<Vec<u8
 
 /// Writes a row.
 fn put_row(bytes: &mut Vec<u8>, row: &(String, u64)) -> Result<(), AllocError>
-    ensures { OnOk result (bytes.new.items ≡ bytes.old.items ++ row_bytes row.now) }
+    ensures bytes { OnOk result (bytes.new.items ≡ bytes.old.items ++ row_bytes row.now) }
+    ensures row { OnOk result (IsRow row.now) }
 {
     put_text(bytes, &row.0)?;
     put_number(bytes, row.1)
@@ -76,7 +83,8 @@ fn put_row(bytes: &mut Vec<u8>, row: &(String, u64)) -> Result<(), AllocError>
 
 /// Rows as bytes.
 pub fn spell_rows(alloc: Global, rows: &[&(String, u64)]) -> Result<Vec<u8>, AllocError>
-    ensures { IfOk result (λ bytes. bytes.items ≡ list_bytes row_bytes (map (λ row. row.now) rows.now)) }
+    ensures bytes { IfOk result (λ bytes. bytes.items ≡ list_bytes row_bytes (map (λ row. row.now) rows.now)) }
+    ensures each { OnOk result (AllByRecursion IsRow (map (λ row. row.now) rows.now)) }
 {
     let mut bytes = Vec::new(alloc);
     put_number(&mut bytes, rows.len() as u64)?;

@@ -5,9 +5,9 @@ ghost use Rattle.key_order.specs.Join.{IsJoin};
 ghost use Rattle.key_order.specs.Text.{text_order};
 ghost use Rattle.merkle_digest.specs.SipHash.{zero_key};
 ghost use Rattle.merkle_search_tree.specs.Loading.{LoadFails, BeginsWith};
-ghost use Rattle.merkle_search_tree.specs.Settings.{default_settings};
-ghost use Rattle.merkle_search_tree.specs.State.{HasSettings};
-ghost use Rattle.merkle_search_tree.specs.declared.builder.PageFormat.TheVariants.{V1};
+ghost use Rattle.merkle_tree_theory.specs.Settings.{default_settings};
+ghost use Rattle.merkle_tree_theory.specs.State.{HasSettings};
+ghost use Rattle.merkle_tree_theory.specs.declared.page_format.PageFormat.TheVariants.{V1};
 ghost use Rattle.examples.specs.Texts.{IsRootHashOf};
 
 use merkle_digest::{HashBytes, RootHash, SipHasher};
@@ -25,7 +25,6 @@ pub type Store<V> = Replica<String, V, SipHasher, 16>;
 /// # Errors
 ///
 /// Rows that don't ascend, by the place of the first that doesn't, and want of memory.
-#[tactic(auto, using(key_order::proofs::Clones::string_clone))]
 pub fn open_rows<V: Join + HashBytes + Drop>(
     alloc: Global,
     rows: Vec<(String, V)>,
@@ -59,7 +58,6 @@ pub fn root_hash(store: &mut Store<u64>) -> Result<RootHash, AllocError>
 /// # Errors
 ///
 /// As `open_rows`.
-#[tactic(auto, using(key_order::proofs::Clones::string_clone))]
 pub fn open_and_put(
     alloc: Global,
     rows: Vec<(String, u64)>,

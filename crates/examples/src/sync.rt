@@ -1,37 +1,32 @@
 //! A sync: four pulls by turns, after which two replicas hold the same map.
-ghost use Rattle.std.specs.Prelude.{◌≡◌, OnOk};
-ghost use Rattle.key_order.specs.Order.{Same};
-ghost use Rattle.merkle_search_tree.specs.declared.builder.PageFormat.TheVariants.{V2};
+ghost use Rattle.std.specs.Prelude.{◌≡◌, OnOk, IfErr};
+ghost use Rattle.merkle_tree_theory.specs.State.{SameSettings};
+ghost use Rattle.merkle_replica.specs.Answers.{StopsByTurns};
+ghost use Rattle.merkle_tree_theory.specs.declared.page_format.PageFormat.TheVariants.{V2};
 ghost use Rattle.merkle_replica.specs.Contents.{side};
 ghost use Rattle.merkle_replica.specs.Faithful.{AreSetAlike};
 ghost use Rattle.examples.specs.Sync.{IsFaithfulSync, IsExactSync, AreJoined};
 
-use merkle_digest::{Hasher, KeyBytes, KeyBytesExact};
+use merkle_digest::{Hasher, Key, KeyBytesExact};
 use merkle_replica::laws::no_collision_is_enough;
 use merkle_replica::{Join, Lawful, Replica, TurnsError, pull_by_turns};
 use std::alloc::Global;
 
 /// Brings two replicas to the same map, the join of both: while digests are faithful in what is met before each of the four pulls.
-/// Its condition on clones is that of [`pull_by_turns`].
 ///
 /// # Errors
 ///
 /// Want of memory: each pull that was made until then stays.
-pub fn sync<
-    K: Ord + KeyBytes + Clone + Drop,
-    V: Join + Drop,
-    H: Hasher<N, K> + Hasher<N, V>,
-    const N: usize,
->(
+pub fn sync<K: Key + Drop, V: Join + Drop, H: Hasher<N, K> + Hasher<N, V>, const N: usize>(
     alloc: Global,
     a: &mut Replica<K, V, H, N>,
     b: &mut Replica<K, V, H, N>,
 ) -> Result<(), TurnsError<K>>
-    // A clone of a key equals its original.
-    requires clones { (x y : K) → K.is_clone x y → Same K.cmp x y }
-
     ensures same { OnOk result (IsFaithfulSync ⟦<H as Lawful<N, K, V>>⟧.laws
         (AreJoined K.cmp V.eq V.join_of a.old.rows b.old.rows a.new.rows b.new.rows) a.old b.old a.new b.new) }
+    ensures stopped { IfErr result (λ error. StopsByTurns ⟦<H as Lawful<N, K, V>>⟧.laws error.finished.items error.fault (side a.old) (side b.old) a.new.rows b.new.rows) }
+    ensures a_settings { SameSettings a.old.tree a.new.tree }
+    ensures b_settings { SameSettings b.old.tree b.new.tree }
 {
     pull_by_turns(alloc, a, b, 4)?;
     Ok(())
@@ -39,13 +34,13 @@ pub fn sync<
 
 /// The same for replicas whose hashers give each key one digest, with one level base, in page format 2, for keys that their bytes tell
 /// apart: it is enough that no two unequal page streams have one digest and that equal digests of values mean equal values, in what is
-/// met before each of the four pulls. Its condition on clones is that of [`pull_by_turns`].
+/// met before each of the four pulls.
 ///
 /// # Errors
 ///
 /// Want of memory: each pull that was made until then stays.
 pub fn sync_exact<
-    K: Ord + KeyBytesExact + Clone + Drop,
+    K: Key + KeyBytesExact + Drop,
     V: Join + Drop,
     H: Hasher<N, K> + Hasher<N, V>,
     const N: usize,
@@ -54,9 +49,6 @@ pub fn sync_exact<
     a: &mut Replica<K, V, H, N>,
     b: &mut Replica<K, V, H, N>,
 ) -> Result<(), TurnsError<K>>
-    // A clone of a key equals its original.
-    requires clones { (x y : K) → K.is_clone x y → Same K.cmp x y }
-
     requires alike { AreSetAlike ⟦<H as Lawful<N, K, V>>⟧.laws (side a.old) (side b.old) }
     requires format_2 { a.old.tree.format ≡ V2 }
     ensures same { OnOk result (IsExactSync ⟦<H as Lawful<N, K, V>>⟧.laws N

@@ -1,4 +1,5 @@
-//! A sync between two machines: the three steps of a pull, with bytes between them.
+//! A sync between two machines: the three steps of a pull, with bytes between them. That such steps are a pull is the law
+//! [`messages_are_a_pull`].
 //!
 //! What is sent is a list: how many entries it has, and the entries. A number is eight bytes, the lowest first; a text is the number of
 //! its bytes and its bytes, in UTF-8; a digest is its 16 bytes. Nothing that came is trusted.
@@ -6,21 +7,26 @@ ghost use Rattle.std.specs.Prelude.{◌≡◌, ◌≢◌, ◌⊎◌, ℕ, List, 
 ghost use Rattle.std.specs.List.{AllByRecursion};
 ghost use Rattle.key_order.specs.Interval.{Span};
 ghost use Rattle.key_order.specs.Join.{IsJoin};
-ghost use Rattle.key_order.specs.Map.{IsMap, rows_in};
+ghost use Rattle.key_order.specs.Map.{IsMap};
 ghost use Rattle.key_order.specs.Text.{Text, text_order};
 ghost use Rattle.merkle_diff.specs.Entry.{Entry};
-ghost use Rattle.merkle_search_tree.specs.Ranges.{ranges_of};
-ghost use Rattle.merkle_search_tree.specs.State.{SameSettings};
-ghost use Rattle.merkle_replica.specs.Contents.{side};
-ghost use Rattle.merkle_replica.specs.Steps.{AreRanges, IsAnswerTo};
-ghost use Rattle.examples.specs.Wire.{IsPageRange, page_range_bytes, range_bytes, row_bytes, list_bytes};
+ghost use Rattle.merkle_tree_theory.specs.Ranges.{ranges_of};
+ghost use Rattle.merkle_tree_theory.specs.State.{SameSettings};
+ghost use Rattle.merkle_replica.specs.Contents.{Side, side};
+ghost use Rattle.merkle_replica.specs.Steps.{AreRanges};
+ghost use Rattle.merkle_replica.specs.Pulls.{Answer, IsPull};
+ghost use Rattle.examples.specs.StoreLaws.{store_laws};
+ghost use Rattle.examples.specs.PullMessages.{SendsPageRanges, Asks, SendsRows, JoinsRows};
+ghost use Rattle.examples.specs.Wire.{IsInMemory, IsPageRange, page_range_bytes, range_bytes, row_bytes, list_bytes};
 ghost use Rattle.examples.specs.declared.wire.WireFault.TheVariants.{Malformed};
 
 use crate::reading::{read_page_ranges, read_ranges, read_rows};
 use crate::spelling::{spell_page_ranges, spell_ranges, spell_rows};
 use crate::store::Store;
 use merkle_digest::SipHasher;
-use merkle_replica::{JoinRefused, Lawful};
+use merkle_replica::JoinRefused;
+use merkle_replica::laws::steps_are_a_pull;
+use merkle_search_tree::laws::every_tree_is_sound;
 use std::alloc::{AllocError, Global};
 
 /// Why what came was not taken.
@@ -49,10 +55,12 @@ impl From<AllocError> for WireFault {
 /// Want of memory.
 pub fn send_page_ranges(alloc: Global, store: &mut Store<u64>) -> Result<Vec<u8>, AllocError>
     ensures sent { IfOk result (λ bytes. bytes.items ≡ list_bytes page_range_bytes (ranges_of store.new.tree.format string_bytes store.new.tree.root)) }
+    ensures message { IfOk result (λ bytes. SendsPageRanges (side store.old) bytes.items) }
     ensures rows { store.new.rows ≡ store.old.rows }
     ensures settings { SameSettings store.old.tree store.new.tree }
 {
     store.hash();
+    every_tree_is_sound(store.tree());
     match store.tree().serialise_page_ranges()? {
         Some(ranges) => spell_page_ranges(alloc, &ranges),
         None => unreachable!(),
@@ -64,10 +72,8 @@ pub fn send_page_ranges(alloc: Global, store: &mut Store<u64>) -> Result<Vec<u8>
 /// # Errors
 ///
 /// Bytes that are no page ranges, and want of memory. The rows stay.
-#[tactic(auto, using(key_order::proofs::Clones::string_clone))]
 pub fn ask(alloc: Global, store: &mut Store<u64>, page_ranges: &[u8]) -> Result<Vec<u8>, WireFault>
-    ensures asked { let laws = ⟦<SipHasher as Lawful<16, String, u64>>⟧.laws in IfOk result (λ bytes. (theirs : List (Entry Text (List ℕ))) × (found : List (Span Text))
-        × (page_ranges.now ≡ list_bytes page_range_bytes theirs) × IsAnswerTo laws (side store.old) theirs found × (bytes.items ≡ list_bytes range_bytes found)) }
+    ensures asked { IfOk result (λ bytes. Asks (side store.old) page_ranges.now bytes.items) }
     ensures malformed { result ≡ Err Malformed → (theirs : List (Entry Text (List ℕ))) → AllByRecursion IsPageRange theirs → page_ranges.now ≢ list_bytes page_range_bytes theirs }
     ensures rows { store.new.rows ≡ store.old.rows }
     ensures settings { SameSettings store.old.tree store.new.tree }
@@ -84,8 +90,7 @@ pub fn ask(alloc: Global, store: &mut Store<u64>, page_ranges: &[u8]) -> Result<
 ///
 /// Bytes that are no ranges which ascend, and want of memory.
 pub fn send_rows(alloc: Global, store: &Store<u64>, asked: &[u8]) -> Result<Vec<u8>, WireFault>
-    ensures sent { IfOk result (λ bytes. (ranges : List (Span Text)) × (asked.now ≡ list_bytes range_bytes ranges)
-        × (bytes.items ≡ list_bytes row_bytes (rows_in text_order ranges store.now.rows))) }
+    ensures sent { IfOk result (λ bytes. SendsRows (side store.now) asked.now bytes.items) }
 
     // The bytes spell no ranges, or some that don't ascend.
     ensures malformed { result ≡ Err Malformed → ((ranges : List (Span Text)) → asked.now ≢ list_bytes range_bytes ranges)
@@ -106,14 +111,14 @@ pub fn send_rows(alloc: Global, store: &Store<u64>, asked: &[u8]) -> Result<Vec<
 /// # Errors
 ///
 /// Bytes that are no rows which ascend, and want of memory.
-#[tactic(auto, using(key_order::proofs::Clones::string_clone))]
 pub fn join(alloc: Global, store: &mut Store<u64>, rows: &[u8]) -> Result<(), WireFault>
-    ensures joined { OnOk result ((came : List (Text × ℕ)) × (rows.now ≡ list_bytes row_bytes came) × IsJoin text_order nat_eq max store.old.rows came store.new.rows) }
+    ensures joined { OnOk result (JoinsRows (side store.old) rows.now store.new.rows) }
 
     // The bytes spell no rows, or some that don't ascend.
     ensures malformed { result ≡ Err Malformed → ((came : List (Text × ℕ)) → rows.now ≢ list_bytes row_bytes came)
         ⊎ ((came : List (Text × ℕ)) × (rows.now ≡ list_bytes row_bytes came) × ¬ (IsMap text_order came)) }
 
+    ensures unchanged { result ≡ Err Malformed → store.new ≡ store.old }
     ensures refused { OnErr result ((store.new.rows ≡ store.old.rows) ⊎ ((came : List (Text × ℕ)) × IsJoin text_order nat_eq max store.old.rows came store.new.rows)) }
     ensures settings { SameSettings store.old.tree store.new.tree }
 {
@@ -123,4 +128,37 @@ pub fn join(alloc: Global, store: &mut Store<u64>, rows: &[u8]) -> Result<(), Wi
         Err(JoinRefused::NotAscending(_)) => Err(WireFault::Malformed),
         Err(JoinRefused::Memory(_)) => Err(WireFault::Memory),
     }
+}
+
+/// The four messages are a pull, on whatever machines they are sent and read: where one side's are of the peer as it was, and the other's of
+/// the local side as it was. So coverage and convergence hold of syncs over bytes as of pulls.
+pub fn messages_are_a_pull()
+    ensures { (local peer : Side Text ℕ (List ℕ)) (ranges asked rows : List ℕ) (after : List (Text × ℕ))
+        → IsMap text_order peer.rows → IsInMemory ranges → IsInMemory asked → IsInMemory rows → SendsPageRanges peer ranges → Asks local ranges asked
+        → SendsRows peer asked rows → JoinsRows local rows after → (answer : Answer Text) × IsPull store_laws local peer answer after }
+{
+    steps_are_a_pull::<String, u64, SipHasher, 16>();
+}
+
+/// A sync of two stores that are both at hand, over bytes all the same: a pull.
+///
+/// # Errors
+///
+/// Those of the four steps. What then stands is said of each of them, and not of the whole.
+pub fn pull_over_bytes(
+    alloc: Global,
+    local: &mut Store<u64>,
+    peer: &mut Store<u64>,
+) -> Result<(), WireFault>
+    ensures pulled { OnOk result ((answer : Answer Text) × IsPull store_laws (side local.old) (side peer.old) answer local.new.rows) }
+    ensures peer_rows { peer.new.rows ≡ peer.old.rows }
+    ensures settings { SameSettings local.old.tree local.new.tree }
+    ensures peer_settings { SameSettings peer.old.tree peer.new.tree }
+{
+    messages_are_a_pull();
+    let _ = peer.rows();
+    let page_ranges = send_page_ranges(alloc, peer)?;
+    let asked = ask(alloc, local, &page_ranges)?;
+    let rows = send_rows(alloc, peer, &asked)?;
+    join(alloc, local, &rows)
 }

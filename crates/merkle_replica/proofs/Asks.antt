@@ -11,9 +11,11 @@ use Rattle.merkle_diff.specs.Entry.{Entry}
 use Rattle.merkle_diff.specs.Merge.{SameSpans}
 use Rattle.merkle_diff.specs.TreeShape.{IsTreeShaped}
 use Rattle.merkle_diff.proofs.SameAnswers.{difference-same, spares-same}
-use Rattle.merkle_search_tree.specs.Ranges.{ranges_of}
-use Rattle.merkle_search_tree.specs.Sound.{IsSound}
-use Rattle.merkle_search_tree.specs.State.{map_of}
+use Rattle.merkle_diff.proofs.SameEntries.{same_entries-own}
+use Rattle.merkle_diff.proofs.SameWalks.{by_walk-alike}
+use Rattle.merkle_tree_theory.specs.Ranges.{ranges_of}
+use Rattle.merkle_tree_theory.specs.Sound.{IsSound}
+use Rattle.merkle_tree_theory.specs.State.{map_of}
 use Rattle.merkle_replica.specs.Laws.{Laws}
 use Rattle.merkle_replica.specs.Contents.{Contents, side, tree_map}
 use Rattle.merkle_replica.specs.Steps.{IsAnswerTo}
@@ -49,6 +51,7 @@ module _ {K V H : Type 0} (laws : Laws K V H) (o : IsTotalOrder laws.cmp) where
         of_peer = (peer.tree.root, (sp.canonical, kp), f);
         interval_laws = difference-same laws.cmp o ls ps found own same d.interval_laws;
         laws_on_trees = spares-same laws.cmp o ls ps found own same (d.laws_on_trees (subst (IsTreeShaped laws.cmp) (sym e) tl) (subst (IsTreeShaped laws.cmp) (sym f) tp));
+        exact_walk = by_walk-alike laws.cmp o ls ls ps ps found own (same_entries-own laws.cmp o ls) (same_entries-own laws.cmp o ps) same d.exact_walk;
       }
 
   -- what `diff` answers to a list that came is an answer to it, with bounds of its own
@@ -61,4 +64,5 @@ module _ {K V H : Type 0} (laws : Laws K V H) (o : IsTotalOrder laws.cmp) where
         of_local = (local.tree.root, (sl.canonical, kl), e);
         interval_laws = difference-same laws.cmp o ls ps found own same d.interval_laws;
         laws_on_trees = λ tp. spares-same laws.cmp o ls ps found own same (d.laws_on_trees (subst (IsTreeShaped laws.cmp) (sym e) tl) tp);
+        exact_walk = by_walk-alike laws.cmp o ls ls ps ps found own (same_entries-own laws.cmp o ls) (same_entries-own laws.cmp o ps) same d.exact_walk;
       })

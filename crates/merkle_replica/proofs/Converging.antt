@@ -14,10 +14,10 @@ use Rattle.key_order.proofs.Values.{Eq, back, on, comm}
 use Rattle.merkle_diff.specs.Difference.{IsByTable, lesser}
 use Rattle.merkle_diff.specs.Entry.{Entry, span_of}
 use Rattle.merkle_diff.specs.Merge.{SameSpans}
-use Rattle.merkle_search_tree.specs.Listing.{IsWhole, IsListing}
-use Rattle.merkle_search_tree.specs.Page.{pairs}
-use Rattle.merkle_search_tree.specs.Ranges.{IsPageOf}
-use Rattle.merkle_search_tree.specs.Stream.{page_digest}
+use Rattle.merkle_tree_theory.specs.Listing.{IsWhole, IsListing}
+use Rattle.merkle_tree_theory.specs.Page.{pairs}
+use Rattle.merkle_tree_theory.specs.Ranges.{IsPageOf}
+use Rattle.merkle_tree_theory.specs.Stream.{page_digest}
 use Rattle.merkle_replica.specs.Laws.{Laws}
 use Rattle.merkle_replica.specs.Contents.{Side, with_rows, tree_map}
 use Rattle.merkle_replica.specs.Pulls.{Answer, IsPull, IsByTurns, HoldTheJoin}

@@ -12,8 +12,8 @@ use Rattle.key_order.proofs.Spans.{test_from_in, is_in-same}
 use Rattle.merkle_diff.specs.Difference.{IsDifference, IsAgreed, IsByTable}
 use Rattle.merkle_diff.specs.Entry.{Entry, span_of}
 use Rattle.merkle_diff.specs.Merge.{SameSpans}
-use Rattle.merkle_search_tree.specs.Listing.{IsWhole, IsListing, entry_rows}
-use Rattle.merkle_search_tree.specs.Faithful.{HasFaithfulPages}
+use Rattle.merkle_tree_theory.specs.Listing.{IsWhole, IsListing, entry_rows}
+use Rattle.merkle_tree_theory.specs.Faithful.{HasFaithfulPages}
 use Rattle.merkle_replica.specs.Faithful.{SpanHolds}
 use Rattle.merkle_replica.proofs.Bounds.{first_bound, last_bound, present_head, present_last, present_same}
 

@@ -7,7 +7,7 @@ use Rattle.key_order.specs.Order.{Same}
 use Rattle.key_order.specs.Map.{IsMap, SameMap, set}
 use Rattle.key_order.proofs.Sets.{ascending_set}
 use Rattle.merkle_search_tree.specs.Loading.{digests}
-use Rattle.merkle_search_tree.specs.State.{State, map_of}
+use Rattle.merkle_tree_theory.specs.State.{State, map_of}
 use Rattle.merkle_replica.specs.Contents.{IsKept}
 
 module _ {K V D : Type 0} (cmp : K → K → Ordering) (o : IsTotalOrder cmp) (hash : V → D) where

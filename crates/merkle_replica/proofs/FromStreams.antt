@@ -4,12 +4,12 @@ use Rattle.std.specs.Cmp.{IsTotalOrder, IsEquivalence}
 use Rattle.key_order.specs.Interval.{Span}
 use Rattle.key_order.specs.Map.{IsMap}
 use Rattle.key_order.specs.Join.{IsJoining}
-use Rattle.merkle_search_tree.specs.Faithful.{IsSmall, NoCollision, HasFaithfulPages}
-use Rattle.merkle_search_tree.specs.Page.{pairs}
-use Rattle.merkle_search_tree.specs.Ranges.{IsPageOf}
-use Rattle.merkle_search_tree.specs.Stream.{page_digest}
-use Rattle.merkle_search_tree.specs.declared.builder.PageFormat.{PageFormat}
-use Rattle.merkle_search_tree.specs.declared.builder.PageFormat.TheVariants.{V2}
+use Rattle.merkle_tree_theory.specs.Faithful.{IsSmall, NoCollision, HasFaithfulPages}
+use Rattle.merkle_tree_theory.specs.Page.{pairs}
+use Rattle.merkle_tree_theory.specs.Ranges.{IsPageOf}
+use Rattle.merkle_tree_theory.specs.Stream.{page_digest}
+use Rattle.merkle_tree_theory.specs.declared.page_format.PageFormat.{PageFormat}
+use Rattle.merkle_tree_theory.specs.declared.page_format.PageFormat.TheVariants.{V2}
 use Rattle.merkle_replica.specs.Laws.{Laws}
 use Rattle.merkle_replica.specs.Contents.{Side, with_rows, tree_map}
 use Rattle.merkle_replica.specs.Faithful.{SpanHolds, HaveFaithfulPages, IsFaithful, AllFaithful, MissesNone, AreSetAlike, HasSmallMap, NoStreamsCollide, IsCollisionFree, AllCollisionFree}

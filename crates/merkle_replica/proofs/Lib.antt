@@ -19,3 +19,9 @@ pub mod Merging
 pub mod Gathering
 pub mod Ranging
 pub mod Sorting
+pub mod Descents
+pub mod Rounds
+pub mod SameDescents
+pub mod Copying
+pub mod Gossips
+pub mod Hubs

@@ -9,7 +9,7 @@ use Rattle.key_order.specs.Map.{IsMap, SameMap, has_key, del}
 use Rattle.key_order.proofs.Dels.{ascending_del}
 use Rattle.key_order.proofs.Places.{del_at_place, has_at_place, has_in_gap}
 use Rattle.merkle_search_tree.specs.Loading.{digests}
-use Rattle.merkle_search_tree.specs.State.{State, map_of}
+use Rattle.merkle_tree_theory.specs.State.{State, map_of}
 use Rattle.merkle_replica.specs.Contents.{IsKept}
 use Rattle.merkle_replica.specs.Places.{IsPlaceOf, IsGapFor}
 

@@ -1,7 +1,7 @@
 -- When two replicas are one side, and the laws as a record.
 use Rattle.std.proofs.Common.{◌≡◌, ℕ, Bool, List}
 use Rattle.std.specs.declared.cmp.Ordering.{Ordering}
-use Rattle.merkle_search_tree.specs.State.{SameSettings}
+use Rattle.merkle_tree_theory.specs.State.{SameSettings}
 use Rattle.merkle_replica.specs.Laws.{Laws}
 use Rattle.merkle_replica.specs.Contents.{Contents, side, with_rows}
 

@@ -6,7 +6,7 @@ use Rattle.std.specs.declared.cmp.Ordering.{Ordering}
 use Rattle.key_order.specs.Order.{Same}
 use Rattle.key_order.specs.Map.{SameMap}
 use Rattle.key_order.proofs.SameMaps.{same_map-own, same_across, same_map-back}
-use Rattle.merkle_search_tree.specs.Faithful.{IsSmall}
+use Rattle.merkle_tree_theory.specs.Faithful.{IsSmall}
 
 module _ {K : Type 0} (cmp : K → K → Ordering) (o : IsTotalOrder cmp) (bo : K → List ℕ) (respects : (x y : K) → Same cmp x y → bo x ≡ bo y) (n : ℕ) where
   abbrev Maps : Type 0

@@ -3,7 +3,7 @@ use Rattle.std.proofs.Common.{◌≡◌, ◌≤◌, Bool, true, false, not, List
 use Rattle.std.specs.Cmp.{IsTotalOrder, IsEquivalence}
 use Rattle.key_order.specs.Map.{IsMap}
 use Rattle.key_order.specs.Join.{IsJoining}
-use Rattle.merkle_search_tree.specs.State.{SameSettings}
+use Rattle.merkle_tree_theory.specs.State.{SameSettings}
 use Rattle.merkle_replica.specs.Laws.{Laws}
 use Rattle.merkle_replica.specs.Contents.{Contents, Side, side, with_rows}
 use Rattle.merkle_replica.specs.Pulls.{Answer, IsPull, IsByTurns, HoldTheJoin}

@@ -5,8 +5,8 @@ use Rattle.std.specs.declared.cmp.Ordering.{Ordering}
 use Rattle.std.proofs.Common.{refl}
 use Rattle.key_order.specs.Map.{IsMap, SameMap}
 use Rattle.merkle_search_tree.specs.Loading.{digests}
-use Rattle.merkle_search_tree.specs.State.{State, state_code, map_of, IsNew}
-use Rattle.merkle_search_tree.specs.declared.builder.PageFormat.{PageFormat}
+use Rattle.merkle_tree_theory.specs.State.{State, state_code, map_of, IsNew}
+use Rattle.merkle_tree_theory.specs.declared.page_format.PageFormat.{PageFormat}
 use Rattle.merkle_replica.specs.Laws.{Laws}
 
 -- its rows, and its tree

@@ -5,11 +5,11 @@ use Rattle.std.specs.declared.cmp.Ordering.{Ordering}
 use Rattle.key_order.specs.Order.{Upto}
 use Rattle.key_order.specs.Interval.{Span, IsCovered}
 use Rattle.key_order.specs.Map.{get, last_key}
-use Rattle.merkle_search_tree.specs.Faithful.{IsSmall, NoCollision, HasFaithfulPages}
-use Rattle.merkle_search_tree.specs.Page.{pairs}
-use Rattle.merkle_search_tree.specs.Ranges.{IsPageOf}
-use Rattle.merkle_search_tree.specs.Stream.{page_digest}
-use Rattle.merkle_search_tree.specs.declared.builder.PageFormat.TheVariants.{V2}
+use Rattle.merkle_tree_theory.specs.Faithful.{IsSmall, NoCollision, HasFaithfulPages}
+use Rattle.merkle_tree_theory.specs.Page.{pairs}
+use Rattle.merkle_tree_theory.specs.Ranges.{IsPageOf}
+use Rattle.merkle_tree_theory.specs.Stream.{page_digest}
+use Rattle.merkle_tree_theory.specs.declared.page_format.PageFormat.TheVariants.{V2}
 use Rattle.merkle_replica.specs.Laws.{Laws}
 use Rattle.merkle_replica.specs.Contents.{Side, tree_map}
 

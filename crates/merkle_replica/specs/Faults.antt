@@ -6,6 +6,10 @@ use Rattle.merkle_replica.specs.declared.pull.PullError.TheVariants.{Memory, Par
 use Rattle.merkle_replica.specs.declared.turns.TurnsError.{TurnsError}
 use Rattle.merkle_replica.specs.declared.steps.JoinRefused.{JoinRefused}
 use Rattle.merkle_replica.specs.declared.steps.JoinRefused.TheVariants.{NotAscending, Memory}
+use Rattle.merkle_replica.specs.declared.catch_up.CatchUpError.{CatchUpError}
+use Rattle.merkle_replica.specs.declared.catch_up.CatchUpError.TheVariants.{Memory, Partly}
+use Rattle.merkle_replica.specs.declared.both_ways.CatchUpsError.{CatchUpsError}
+use Rattle.merkle_replica.specs.declared.both_ways.CatchUpsError.TheVariants.{First, Second}
 
 -- memory was refused after this many rows
 abbrev pub cut_text : ℕ → List ℕ
@@ -24,3 +28,13 @@ turns_text error = codes "after " ++ decimal (length error.finished.items) ++ co
 abbrev pub join_text : {K V : Type 0} → JoinRefused K V → List ℕ
 join_text (NotAscending rows) = codes "a key isn't above the one before it, and no row was joined"
 join_text (Memory done) = cut_text done
+
+-- a catch-up that was refused
+abbrev pub catch_up_text : CatchUpError → List ℕ
+catch_up_text Memory = codes "memory was refused before a row was joined"
+catch_up_text (Partly done lacked) = codes "memory was refused after " ++ decimal done ++ codes " of " ++ decimal lacked ++ codes " rows"
+
+-- catch-ups in both directions that were refused
+abbrev pub catch_ups_text : CatchUpsError → List ℕ
+catch_ups_text (First fault) = codes "in the first catch-up " ++ catch_up_text fault
+catch_ups_text (Second first fault) = codes "in the second catch-up " ++ catch_up_text fault

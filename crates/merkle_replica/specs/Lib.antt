@@ -8,6 +8,13 @@ pub mod Places
 pub mod Puts
 pub mod Parted
 pub mod Steps
+pub mod PullSteps
+pub mod Descent
+pub mod CatchUp
+pub mod CatchUpSteps
+pub mod Gossip
+pub mod Hub
+pub mod Underway
 pub mod Faults
 pub mod Seek
 pub use Rattle.key_order.specs.Order

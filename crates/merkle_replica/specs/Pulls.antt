@@ -4,8 +4,8 @@ use Rattle.key_order.specs.Interval.{Span}
 use Rattle.key_order.specs.Map.{rows_in}
 use Rattle.key_order.specs.Join.{IsJoin}
 use Rattle.merkle_diff.specs.Entry.{Entry}
-use Rattle.merkle_diff.specs.Difference.{IsDifference, SparesAgreed}
-use Rattle.merkle_search_tree.specs.Ranges.{IsRangesOf}
+use Rattle.merkle_diff.specs.Difference.{IsDifference, SparesAgreed, IsByWalk}
+use Rattle.merkle_tree_theory.specs.Ranges.{IsRangesOf}
 use Rattle.merkle_replica.specs.Laws.{Laws}
 use Rattle.merkle_replica.specs.Contents.{Side, with_rows, tree_map}
 
@@ -19,7 +19,8 @@ module _ {K V H : Type 0} (laws : Laws K V H) where
   abbrev pub HasRanges : Side K V H → List (Entry K (List ℕ)) → Type 0
   HasRanges s entries = IsRangesOf laws.cmp (laws.key_digest s.hasher) s.base s.format laws.bytes_of (tree_map laws s) entries
 
-  -- `found` are ranges that local may ask of the peer: the interval laws and the laws on trees hold of them and the two lists of page ranges
+  -- `found` are ranges that local may ask of the peer: the interval laws, the laws on trees and the exact walk hold of them and the two
+  -- lists of page ranges
   pub record IsAnswerFor (local peer : Side K V H) (found : List (Span K)) : Type 0 where
     pub local_list : List (Entry K (List ℕ))
     pub peer_list : List (Entry K (List ℕ))
@@ -27,6 +28,7 @@ module _ {K V H : Type 0} (laws : Laws K V H) where
     pub of_peer : HasRanges peer peer_list
     pub interval_laws : IsDifference laws.cmp local_list peer_list found
     pub laws_on_trees : SparesAgreed laws.cmp local_list peer_list found
+    pub exact_walk : IsByWalk laws.cmp local_list peer_list found
 
   -- local has joined the peer's rows in the ranges, and has these rows after
   pub record IsPull (local peer : Side K V H) (answer : Answer K) (after : List (K × V)) : Type 0 where

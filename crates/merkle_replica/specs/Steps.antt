@@ -6,7 +6,7 @@ use Rattle.key_order.specs.Interval.{Span, IsApart, IsOrdered}
 use Rattle.key_order.specs.Map.{IsMap}
 use Rattle.key_order.specs.Join.{IsJoin}
 use Rattle.merkle_diff.specs.Entry.{Entry}
-use Rattle.merkle_diff.specs.Difference.{IsDifference, SparesAgreed}
+use Rattle.merkle_diff.specs.Difference.{IsDifference, SparesAgreed, IsByWalk}
 use Rattle.merkle_diff.specs.TreeShape.{IsTreeShaped}
 use Rattle.merkle_replica.specs.Laws.{Laws}
 use Rattle.merkle_replica.specs.Contents.{Side}
@@ -26,6 +26,7 @@ module _ {K V H : Type 0} (laws : Laws K V H) where
     pub of_local : HasRanges laws local local_list
     pub interval_laws : IsDifference laws.cmp local_list theirs found
     pub laws_on_trees : IsTreeShaped laws.cmp theirs → SparesAgreed laws.cmp local_list theirs found
+    pub exact_walk : IsByWalk laws.cmp local_list theirs found
 
 module _ {K V : Type 0} (cmp : K → K → Ordering) (eq : V → V → Bool) (join : V → V → V) where
   -- rows that don't ascend are handed back, or memory was refused and the first ones are joined

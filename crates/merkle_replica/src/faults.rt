@@ -2,8 +2,10 @@
 
 ghost use Rattle.std.specs.Prelude.{Some};
 ghost use Rattle.merkle_search_tree.specs.Loading.{refusal_text};
-ghost use Rattle.merkle_replica.specs.Faults.{cut_text, pull_text, turns_text, join_text};
+ghost use Rattle.merkle_replica.specs.Faults.{cut_text, pull_text, turns_text, join_text, catch_up_text, catch_ups_text};
 
+use crate::both_ways::CatchUpsError;
+use crate::catch_up::CatchUpError;
 use crate::pull::PullError;
 use crate::puts::PutsCut;
 use crate::replica::RowsRefused;
@@ -81,3 +83,33 @@ impl<K, V> fmt::Display for JoinRefused<K, V> {
 }
 
 impl<K: fmt::Debug + Drop, V: fmt::Debug + Drop> Error for JoinRefused<K, V> {}
+
+/// Says that memory was refused, and how many rows were joined before.
+impl fmt::Display for CatchUpError {
+    ghost output = { λ error. Some (catch_up_text error) };
+
+    fn fmt<W: fmt::Write>(&self, f: &mut fmt::Formatter<W>) -> fmt::Result {
+        match self {
+            CatchUpError::Memory => write!(f, "memory was refused before a row was joined"),
+            CatchUpError::Partly { done, lacked } => {
+                write!(f, "memory was refused after {done} of {lacked} rows")
+            }
+        }
+    }
+}
+
+impl Error for CatchUpError {}
+
+/// Says which catch-up was refused, and what that one says.
+impl fmt::Display for CatchUpsError {
+    ghost output = { λ error. Some (catch_ups_text error) };
+
+    fn fmt<W: fmt::Write>(&self, f: &mut fmt::Formatter<W>) -> fmt::Result {
+        match self {
+            CatchUpsError::First(fault) => write!(f, "in the first catch-up {fault}"),
+            CatchUpsError::Second(_, fault) => write!(f, "in the second catch-up {fault}"),
+        }
+    }
+}
+
+impl Error for CatchUpsError {}

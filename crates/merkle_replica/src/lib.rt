@@ -6,7 +6,12 @@
 //! Such replicas are those of Auvolat and Taïani, "Merkle Search Trees: Efficient State-Based CRDTs in Open Networks".
 #![tactic(auto)]
 
+mod both_ways;
+mod catch_up;
+mod descent;
 mod faults;
+mod few;
+mod gossip;
 mod greatest;
 mod join;
 mod lawful;
@@ -20,7 +25,12 @@ mod seek;
 mod steps;
 mod turns;
 mod value_hasher;
+mod wanted;
 
+pub use both_ways::{CatchUpsError, catch_up_both};
+pub use catch_up::{CatchUpError, CaughtUp};
+pub use descent::ToAsk;
+pub use gossip::{CatchUpAllError, catch_up_all};
 pub use greatest::Greatest;
 pub use join::Join;
 pub use lawful::Lawful;
@@ -31,3 +41,4 @@ pub use rows_within::RowsWithin;
 pub use steps::JoinRefused;
 pub use turns::{TurnsError, pull_by_turns};
 pub use value_hasher::ValueHasher;
+pub use wanted::in_order as keys_in_order;

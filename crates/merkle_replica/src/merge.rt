@@ -4,11 +4,11 @@
 ghost use Rattle.std.specs.Prelude.{◌≡◌, ◌≤◌, ◌<◌, ◌+◌, [], ◌∷◌, ◌++◌, reverse, IfOk, IfErr, OnOk, OnErr};
 ghost use Rattle.std.specs.Vec.{vec_len, vec_capacity};
 ghost use Rattle.std.specs.List.{AllByRecursion};
-ghost use Rattle.key_order.specs.Order.{Same, Below};
+ghost use Rattle.key_order.specs.Order.{Below};
 ghost use Rattle.key_order.specs.Interval.{IsApart, IsOrdered};
 ghost use Rattle.key_order.specs.Map.{IsMap, rows_in};
 ghost use Rattle.key_order.specs.Join.{IsJoin};
-ghost use Rattle.merkle_search_tree.specs.State.{SameSettings};
+ghost use Rattle.merkle_tree_theory.specs.State.{SameSettings};
 ghost use Rattle.merkle_replica.specs.Contents.{IsKept};
 ghost use Rattle.merkle_replica.specs.Answers.{spans_of, IsDone, IsPartlyDone};
 ghost use Rattle.merkle_replica.specs.Puts.{IsRising, HasGathered, IsGatheredTo};
@@ -17,7 +17,7 @@ ghost use Rattle.merkle_replica.specs.Parted.{whole, FirstNotBelow, first_is};
 use crate::join::Join;
 use crate::pull::Stopped;
 use crate::seek::{count_within, first_from, seek};
-use merkle_digest::{Hasher, KeyBytes};
+use merkle_digest::{Hasher, Key};
 use merkle_search_tree::MerkleSearchTree;
 use std::alloc::{AllocError, Global};
 use std::cmp::Ordering;
@@ -100,10 +100,9 @@ fn join_here<K, V, H, const N: usize>(
     value: V,
 ) -> Result<(), AllocError>
 where
-    K: Ord + KeyBytes + Clone + Drop,
+    K: Key + Drop,
     V: Join + Drop,
     H: Hasher<N, K> + Hasher<N, V>,
-    requires clones { (a b : K) → K.is_clone a b → Same K.cmp a b }
     requires kept { IsKept K.cmp ⟦<H as Hasher<N, V>>⟧.digest_of (record { rows = whole front.old.items back.old.items; tree = tree.old }) }
     requires below { AllByRecursion (λ s. Below K.cmp s.0 key) front.old.items }
     requires room { vec_len front.old + vec_len back.old < vec_capacity front.old }
@@ -146,10 +145,9 @@ fn take_row<K, V, H, const N: usize>(
     row: &(K, V),
 ) -> Result<(), AllocError>
 where
-    K: Ord + KeyBytes + Clone + Drop,
+    K: Key + Drop,
     V: Join + Drop,
     H: Hasher<N, K> + Hasher<N, V>,
-    requires clones { (a b : K) → K.is_clone a b → Same K.cmp a b }
     requires kept { IsKept K.cmp ⟦<H as Hasher<N, V>>⟧.digest_of (record { rows = whole front.old.items back.old.items; tree = tree.old }) }
     requires below { AllByRecursion (λ s. Below K.cmp s.0 row.now.0) front.old.items }
     requires room { vec_len front.old + vec_len back.old < vec_capacity front.old }
@@ -175,10 +173,9 @@ pub(crate) fn join_all<K, V, H, const N: usize>(
     ranges: &[(K, K)],
 ) -> Result<usize, Stopped>
 where
-    K: Ord + KeyBytes + Clone + Drop,
+    K: Key + Drop,
     V: Join + Drop,
     H: Hasher<N, K> + Hasher<N, V>,
-    requires clones { (a b : K) → K.is_clone a b → Same K.cmp a b }
     requires apart { IsApart K.cmp (spans_of ranges.now) }
     requires ordered { AllByRecursion (IsOrdered K.cmp) (spans_of ranges.now) }
     requires ascending { IsMap K.cmp theirs.now }
@@ -222,10 +219,9 @@ pub(crate) fn join_owned<K, V, H, const N: usize>(
     theirs: Vec<(K, V)>,
 ) -> Result<(), usize>
 where
-    K: Ord + KeyBytes + Clone + Drop,
+    K: Key + Drop,
     V: Join + Drop,
     H: Hasher<N, K> + Hasher<N, V>,
-    requires clones { (a b : K) → K.is_clone a b → Same K.cmp a b }
     requires rising { IsRising K.cmp theirs.items }
     requires kept { IsKept K.cmp ⟦<H as Hasher<N, V>>⟧.digest_of (record { rows = rows.old.items; tree = tree.old }) }
     ensures kept { IsKept K.cmp ⟦<H as Hasher<N, V>>⟧.digest_of (record { rows = rows.new.items; tree = tree.new }) }

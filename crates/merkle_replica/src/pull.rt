@@ -1,11 +1,10 @@
 //! Pulls: a replica joins what its tree shows it to lack from a peer.
 ghost use Rattle.std.specs.Prelude.{◌≡◌, IfOk, IfErr, IsSome};
-ghost use Rattle.key_order.specs.Order.{Same};
 ghost use Rattle.merkle_diff.specs.DiffRange.{spans};
 ghost use Rattle.merkle_diff.specs.Merge.{SameSpans};
 ghost use Rattle.merkle_diff.specs.PageRangeSnapshot.{snapshot_entries};
-ghost use Rattle.merkle_search_tree.specs.Hashed.{hashed_tree};
-ghost use Rattle.merkle_search_tree.specs.State.{SameSettings};
+ghost use Rattle.merkle_tree_theory.specs.Hashed.{hashed_tree};
+ghost use Rattle.merkle_tree_theory.specs.State.{SameSettings};
 ghost use Rattle.merkle_replica.specs.Contents.{side};
 ghost use Rattle.merkle_replica.specs.Pulls.{IsAnswerFor, IsPull};
 ghost use Rattle.merkle_replica.specs.Faithful.{SpanHolds, HaveFaithfulPages, MissesNone};
@@ -16,7 +15,7 @@ use crate::join::Join;
 use crate::lawful::Lawful;
 use crate::replica::Replica;
 use merkle_diff::{DiffRange, PageRangeSnapshot, diff};
-use merkle_digest::{Hasher, KeyBytes};
+use merkle_digest::{Hasher, Key, SameClone};
 use merkle_search_tree::laws::{
     every_tree_is_sound, page_ranges_are_tree_shaped, page_ranges_of_a_map,
 };
@@ -45,18 +44,15 @@ pub enum PullError<K> {
     },
 }
 
-impl<
-    K: Ord + KeyBytes + Clone + Drop,
-    V: Join + Drop,
-    H: Hasher<N, K> + Hasher<N, V>,
-    const N: usize,
-> Replica<K, V, H, N> {
+impl<K: Key + Drop, V: Join + Drop, H: Hasher<N, K> + Hasher<N, V>, const N: usize> Replica<
+    K,
+    V,
+    H,
+    N,
+> {
     /// The ranges of keys that a pull from the peer asks for: ascending, each with its first and its last key, in which the two trees
     /// differ. It hashes the pages of both trees that lack a digest, walks over the pages of both once, and copies the bounds of the
     /// ranges.
-    ///
-    /// Its condition on clones is proved by a lemma of `key_order::proofs::Clones`: `string_clone` or `str_clone` for texts,
-    /// `vec_clone` or `array_clone` for vectors and arrays of bytes, `exact_clone` for what a clone gives back as it is.
     ///
     /// # Errors
     ///
@@ -65,9 +61,6 @@ impl<
         &mut self,
         peer: &mut Replica<K, V, H, N>,
     ) -> Result<Vec<(K, K)>, AllocError>
-        // A clone of a key equals its original.
-        requires clones { (a b : K) → K.is_clone a b → Same K.cmp a b }
-
         ensures answer { IfOk result (λ ranges. IsAnswerFor ⟦<H as Lawful<N, K, V>>⟧.laws (side self.old) (side peer.old) (spans_of ranges.items)) }
         ensures rows { self.new.rows ≡ self.old.rows }
         ensures peer_rows { peer.new.rows ≡ peer.old.rows }
@@ -94,16 +87,10 @@ impl<
     /// Replicas of equal rows, at least one, whose trees are in different page formats don't look the same, as far as no digests collide: a
     /// pull then asks for ranges, and joins what is there already. Whatever it joins is right all the same, and no row is lost.
     ///
-    /// Its condition on clones is proved by a lemma of `key_order::proofs::Clones`: `string_clone` or `str_clone` for texts,
-    /// `vec_clone` or `array_clone` for vectors and arrays of bytes, `exact_clone` for what a clone gives back as it is.
-    ///
     /// # Errors
     ///
     /// [`PullError`] where memory is refused, by which no row is joined, or the first ones in key order and not all.
     pub fn pull(&mut self, peer: &mut Replica<K, V, H, N>) -> Result<Pulled<K>, PullError<K>>
-        // A clone of a key equals its original.
-        requires clones { (a b : K) → K.is_clone a b → Same K.cmp a b }
-
         // The rows are the join with the peer's rows in the ranges.
         ensures done { IfOk result (λ pulled. IsPull ⟦<H as Lawful<N, K, V>>⟧.laws (side self.old) (side peer.old) (answer_of pulled) self.new.rows) }
 
@@ -118,6 +105,7 @@ impl<
             → SpanHolds K.cmp peer.old.rows self.old.rows → PartMissesNone laws (side self.old) (side peer.old) fault) }
 
         ensures peer_rows { peer.new.rows ≡ peer.old.rows }
+        ensures peer_tree { peer.new.tree ≡ hashed_tree K.bytes_of peer.old.tree }
         ensures settings { SameSettings self.old.tree self.new.tree }
         ensures peer_settings { SameSettings peer.old.tree peer.new.tree }
     {
@@ -153,17 +141,11 @@ pub(crate) struct Stopped {
 }
 
 /// The ranges that `local` may ask of `peer`, where both are hashed, with bounds of their own.
-fn ask<
-    K: Ord + KeyBytes + Clone + Drop,
-    V: Join + Drop,
-    H: Hasher<N, K> + Hasher<N, V>,
-    const N: usize,
->(
+fn ask<K: Key + Drop, V: Join + Drop, H: Hasher<N, K> + Hasher<N, V>, const N: usize>(
     alloc: Global,
     local: &Replica<K, V, H, N>,
     peer: &Replica<K, V, H, N>,
 ) -> Result<Vec<(K, K)>, AllocError>
-    requires clones { (a b : K) → K.is_clone a b → Same K.cmp a b }
     requires local_hashed { IsSome local.now.tree.root_hash }
     requires peer_hashed { IsSome peer.now.tree.root_hash }
     ensures { IfOk result (λ ranges. IsAnswerFor ⟦<H as Lawful<N, K, V>>⟧.laws (side local.now) (side peer.now) (spans_of ranges.items)) }
@@ -185,17 +167,11 @@ fn ask<
 }
 
 /// The ranges that `local`, which is hashed, may ask of a peer that sent these page ranges, with bounds of their own.
-pub(crate) fn ask_of<
-    K: Ord + KeyBytes + Clone + Drop,
-    V: Join + Drop,
-    H: Hasher<N, K> + Hasher<N, V>,
-    const N: usize,
->(
+pub(crate) fn ask_of<K: Key + Drop, V: Join + Drop, H: Hasher<N, K> + Hasher<N, V>, const N: usize>(
     alloc: Global,
     local: &Replica<K, V, H, N>,
     theirs: &PageRangeSnapshot<K>,
 ) -> Result<Vec<(K, K)>, AllocError>
-    requires clones { (a b : K) → K.is_clone a b → Same K.cmp a b }
     requires hashed { IsSome local.now.tree.root_hash }
     ensures { IfOk result (λ ranges. IsAnswerTo ⟦<H as Lawful<N, K, V>>⟧.laws (side local.now) (snapshot_entries theirs.now) (spans_of ranges.items)) }
 {
@@ -210,11 +186,10 @@ pub(crate) fn ask_of<
 }
 
 /// The ranges with bounds of their own.
-fn own_bounds<K: Ord + Clone + Drop>(
+fn own_bounds<K: SameClone + Drop>(
     alloc: Global,
     found: &[DiffRange<'_, K>],
 ) -> Result<Vec<(K, K)>, AllocError>
-    requires clones { (a b : K) → K.is_clone a b → Same K.cmp a b }
     ensures { IfOk result (λ ranges. SameSpans K.cmp (spans found.now) (spans_of ranges.items)) }
 {
     let mut ranges = Vec::new(alloc);

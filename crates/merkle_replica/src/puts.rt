@@ -1,12 +1,11 @@
 //! Many rows put at once.
 ghost use Rattle.std.specs.Prelude.{◌≡◌, OnOk, IfErr};
-ghost use Rattle.key_order.specs.Order.{Same};
-ghost use Rattle.merkle_search_tree.specs.State.{SameSettings};
+ghost use Rattle.merkle_tree_theory.specs.State.{SameSettings};
 ghost use Rattle.merkle_replica.specs.Puts.{IsPuts, IsPutsTo};
 
 use crate::join::Join;
 use crate::replica::Replica;
-use merkle_digest::{Hasher, KeyBytes};
+use merkle_digest::{Hasher, Key};
 use std::cmp::Ordering;
 
 /// Memory was refused before all rows were put.
@@ -16,27 +15,21 @@ pub struct PutsCut {
     pub done: usize,
 }
 
-impl<
-    K: Ord + KeyBytes + Clone + Drop,
-    V: Join + Drop,
-    H: Hasher<N, K> + Hasher<N, V>,
-    const N: usize,
-> Replica<K, V, H, N> {
+impl<K: Key + Drop, V: Join + Drop, H: Hasher<N, K> + Hasher<N, V>, const N: usize> Replica<
+    K,
+    V,
+    H,
+    N,
+> {
     /// Joins rows in any order, as if each were put, one after the other. It sorts them by key, and joins them in one pass: room for all
     /// of them is made first, and own rows from the first of them on are moved out of the way and back. A put of each moves the rows
     /// behind it instead, so this is for many rows.
-    ///
-    /// Its condition on clones is proved by a lemma of `key_order::proofs::Clones`: `string_clone` or `str_clone` for texts,
-    /// `vec_clone` or `array_clone` for vectors and arrays of bytes, `exact_clone` for what a clone gives back as it is.
     ///
     /// # Errors
     ///
     /// [`PutsCut`] where memory is refused: the first rows in key order are joined, those of equal keys in the order in which they came,
     /// and the others are given up. An empty list is never refused.
     pub fn put_all(&mut self, rows: Vec<(K, V)>) -> Result<(), PutsCut>
-        // A clone of a key equals its original.
-        requires clones { (a b : K) → K.is_clone a b → Same K.cmp a b }
-
         ensures joined { OnOk result (IsPuts K.cmp V.eq V.join_of self.old.rows rows.items self.new.rows) }
         ensures cut { IfErr result (λ cut. IsPutsTo K.cmp V.eq V.join_of self.old.rows rows.items cut.done self.new.rows) }
         ensures settings { SameSettings self.old.tree self.new.tree }

@@ -3,9 +3,9 @@ ghost use Rattle.std.specs.Prelude.{◌≡◌, OnOk, OnErr, IfOk, IfErr, [], ◌
 ghost use Rattle.key_order.specs.Order.{Same};
 ghost use Rattle.key_order.specs.Map.{IsMap, SameMap};
 ghost use Rattle.key_order.specs.Join.{IsJoin};
-ghost use Rattle.merkle_search_tree.specs.Dropped.{UpsertDropsFew, RemovalDropsFew};
+ghost use Rattle.merkle_tree_theory.specs.Dropped.{UpsertDropsFew, RemovalDropsFew};
 ghost use Rattle.merkle_search_tree.specs.Loading.{digests};
-ghost use Rattle.merkle_search_tree.specs.State.{map_of, HasSettings, SameSettings};
+ghost use Rattle.merkle_tree_theory.specs.State.{map_of, HasSettings, SameSettings};
 ghost use Rattle.merkle_replica.specs.Contents.{IsEmpty};
 ghost use Rattle.merkle_replica.specs.Places.{IsPlaceOf, IsGapFor};
 
@@ -13,7 +13,7 @@ use crate::join::Join;
 use crate::merge::{join_all, join_owned};
 use crate::pull::Stopped;
 use crate::value_hasher::ValueHasher;
-use merkle_digest::{Hasher, KeyBytes, RootHash};
+use merkle_digest::{Hasher, Key, RootHash};
 use merkle_search_tree::builder::Builder;
 use merkle_search_tree::{LoadRefused, MerkleSearchTree};
 use std::alloc::{AllocError, Global};
@@ -35,18 +35,13 @@ use std::marker::Model;
 /// A contract sees the rows, and the tree as its hasher, its level base, its page format, its root page with all caches, and its cached
 /// root hash. The replica keeps the allocator that it was made with.
 #[derive(Drop)]
-pub struct Replica<
-    K: Ord + KeyBytes + Clone,
-    V: Join,
-    H: Hasher<N, K> + ValueHasher<N, V>,
-    const N: usize,
-> {
+pub struct Replica<K: Key, V: Join, H: Hasher<N, K> + ValueHasher<N, V>, const N: usize> {
     pub(crate) alloc: Global,
     rows: Vec<(K, V)>,
     tree: MerkleSearchTree<K, V, H, N>,
 }
 
-impl<K: Ord + KeyBytes + Clone, V: Join, H: Hasher<N, K> + ValueHasher<N, V>, const N: usize> Model
+impl<K: Key, V: Join, H: Hasher<N, K> + ValueHasher<N, V>, const N: usize> Model
     for Replica<K, V, H, N> {
     ghost use Rattle.merkle_replica.specs.Contents.{Contents, contents_code, IsKept};
 
@@ -59,12 +54,7 @@ impl<K: Ord + KeyBytes + Clone, V: Join, H: Hasher<N, K> + ValueHasher<N, V>, co
     ghost invariant = { λ r. IsKept K.cmp H.value_digest (record { rows = r.rows.items; tree = r.tree }) };
 }
 
-impl<K: Ord + KeyBytes + Clone, V: Join, H: Hasher<N, K> + Hasher<N, V>, const N: usize> Replica<
-    K,
-    V,
-    H,
-    N,
-> {
+impl<K: Key, V: Join, H: Hasher<N, K> + Hasher<N, V>, const N: usize> Replica<K, V, H, N> {
     /// A replica without rows, whose tree has the builder's hasher, level base and page format. It takes no memory.
     pub fn new(alloc: Global, builder: Builder<H>) -> Self
         ensures { IsEmpty builder.hasher builder.base builder.format result }
@@ -102,15 +92,10 @@ impl<K: Ord + KeyBytes + Clone, V: Join, H: Hasher<N, K> + Hasher<N, V>, const N
     }
 }
 
-impl<
-    K: Ord + KeyBytes + Clone,
-    V: Join,
-    H: Hasher<N, K> + ValueHasher<N, V>,
-    const N: usize,
-> Replica<K, V, H, N> {
+impl<K: Key, V: Join, H: Hasher<N, K> + ValueHasher<N, V>, const N: usize> Replica<K, V, H, N> {
     ghost use Rattle.std.specs.Prelude.{◌≡◌, ⊤};
-    ghost use Rattle.merkle_search_tree.specs.Stream.{page_digest};
-    ghost use Rattle.merkle_search_tree.specs.Hashed.{hashed_tree};
+    ghost use Rattle.merkle_tree_theory.specs.Stream.{page_digest};
+    ghost use Rattle.merkle_tree_theory.specs.Hashed.{hashed_tree};
     ghost use Rattle.merkle_replica.specs.contracts.replica.Replica.{the_row};
     ghost use Rattle.std.specs.Borrow.{sem};
     ghost use mathlib.Core.Option.{none};
@@ -129,7 +114,7 @@ impl<
     /// memory. Replicas whose rows have equal keys and equal digests have equal root hashes, under one hasher, level base and page format; the
     /// converse holds only as far as no digests collide.
     pub fn root_hash(&mut self) -> &RootHash
-        ensures* hashed { let row = the_row K.row V.row H.row (number N) K.Ord.own K.PartialEq K.PartialOrd.own K.KeyBytes.own K.Clone V.Join.own V.PartialEq H.Hasher H.ValueHasher in
+        ensures* hashed { let row = the_row K.row V.row H.row (number N) K.Ord.own K.PartialEq K.PartialOrd.own K.Clone K.KeyBytes.own V.Join.own V.PartialEq H.Hasher H.ValueHasher in
             sem 𝓛 (follows_so row row self.entry.ghost_name none (λ _ _. ⊤) (λ t. (t.rows ≡ self.old.rows) × (t.tree ≡ hashed_tree K.bytes_of self.old.tree))) }
         ensures digest { result.now ≡ page_digest self.old.tree.format K.bytes_of self.old.tree.root }
     {
@@ -141,26 +126,20 @@ impl<
     }
 }
 
-impl<
-    K: Ord + KeyBytes + Clone + Drop,
-    V: Join + Drop,
-    H: Hasher<N, K> + Hasher<N, V>,
-    const N: usize,
-> Replica<K, V, H, N> {
+impl<K: Key + Drop, V: Join + Drop, H: Hasher<N, K> + Hasher<N, V>, const N: usize> Replica<
+    K,
+    V,
+    H,
+    N,
+> {
     /// Joins a row: a new key is added, and a key that is there holds the join of both values. It finds the key's place by
     /// halving, and moves the rows behind a new one up by one: at a random place half of them. [`put_all`](Self::put_all) is for many
     /// rows. The tree then takes the value's digest, as [`MerkleSearchTree::upsert`] says.
-    ///
-    /// Its condition on clones is proved by a lemma of `key_order::proofs::Clones`: `string_clone` or `str_clone` for texts,
-    /// `vec_clone` or `array_clone` for vectors and arrays of bytes, `exact_clone` for what a clone gives back as it is.
     ///
     /// # Errors
     ///
     /// `AllocError` where memory is refused; the replica is then unchanged, and key and value are given up.
     pub fn put(&mut self, key: K, value: V) -> Result<(), AllocError>
-        // A clone of a key equals its original.
-        requires clones { (a b : K) → K.is_clone a b → Same K.cmp a b }
-
         ensures joined { OnOk result (IsJoin K.cmp V.eq V.join_of self.old.rows ((key, value) ∷ []) self.new.rows) }
         ensures unchanged { OnErr result (self.new ≡ self.old) }
         ensures settings { SameSettings self.old.tree self.new.tree }
@@ -192,15 +171,15 @@ impl<
     }
 }
 
-impl<
-    K: Ord + KeyBytes + Clone + Drop,
-    V: Join + Drop,
-    H: Hasher<N, K> + ValueHasher<N, V>,
-    const N: usize,
-> Replica<K, V, H, N> {
+impl<K: Key + Drop, V: Join + Drop, H: Hasher<N, K> + ValueHasher<N, V>, const N: usize> Replica<
+    K,
+    V,
+    H,
+    N,
+> {
     ghost use Rattle.std.specs.Prelude.{IsOk, true, false};
     ghost use Rattle.key_order.specs.Map.{has_key, del};
-    ghost use Rattle.merkle_search_tree.specs.Remove.{HasFreeGap};
+    ghost use Rattle.merkle_tree_theory.specs.Remove.{HasFreeGap};
 
     /// Takes the row of a key out of this replica alone, so a pull from a peer that still has the key brings the row back: removals
     /// are not merged. Answers true where a row was taken out, and false where there was none.
@@ -246,21 +225,18 @@ pub struct RowsRefused<K, V> {
     pub why: LoadRefused,
 }
 
-impl<
-    K: Ord + KeyBytes + Clone + Drop,
-    V: Join,
-    H: Hasher<N, K> + Hasher<N, V> + Drop,
-    const N: usize,
-> Replica<K, V, H, N> {
+impl<K: Key + Drop, V: Join, H: Hasher<N, K> + Hasher<N, V> + Drop, const N: usize> Replica<
+    K,
+    V,
+    H,
+    N,
+> {
     ghost use Rattle.merkle_search_tree.specs.Loading.{LoadFails, BeginsWith};
 
     /// A replica of rows that ascend strictly by key, whose tree has the builder's hasher, level base and page format. It takes the rows
     /// over as they are: no row is moved, and each key is cloned once, for the tree.
     ///
     /// The tree is built in one pass, as [`MerkleSearchTree::from_ascending_slice`] says.
-    ///
-    /// Its condition on clones is proved by a lemma of `key_order::proofs::Clones`: `string_clone` or `str_clone` for texts,
-    /// `vec_clone` or `array_clone` for vectors and arrays of bytes, `exact_clone` for what a clone gives back as it is.
     ///
     /// # Errors
     ///
@@ -271,9 +247,6 @@ impl<
         builder: Builder<H>,
         rows: Vec<(K, V)>,
     ) -> Result<Self, RowsRefused<K, V>>
-        // A clone of a key equals its original.
-        requires clones { (a b : K) → K.is_clone a b → Same K.cmp a b }
-
         ensures rows { IfOk result (λ replica. replica.rows ≡ rows.items) }
         ensures settings { IfOk result (λ replica. HasSettings builder replica.tree) }
         ensures not_hashed { IfOk result (λ replica. replica.tree.root_hash ≡ None) }
@@ -289,13 +262,15 @@ impl<
     }
 }
 
-impl<
-    K: Ord + KeyBytes + Clone + Drop,
-    V: Join + Drop,
-    H: Hasher<N, K> + Hasher<N, V>,
-    const N: usize,
-> Replica<K, V, H, N> {
+impl<K: Key + Drop, V: Join + Drop, H: Hasher<N, K> + Hasher<N, V>, const N: usize> Replica<
+    K,
+    V,
+    H,
+    N,
+> {
+    ghost use Rattle.std.specs.Prelude.{MatchOption, Some};
     ghost use Rattle.std.specs.List.{AllByRecursion};
+    ghost use Rattle.key_order.specs.Map.{get};
     ghost use Rattle.key_order.specs.Interval.{IsApart, IsOrdered};
     ghost use Rattle.key_order.specs.Map.{rows_in};
     ghost use Rattle.merkle_replica.specs.Answers.{spans_of, IsDone, IsPartlyDone};
@@ -307,7 +282,6 @@ impl<
         theirs: &[(K, V)],
         ranges: &[(K, K)],
     ) -> Result<usize, Stopped>
-        requires clones { (a b : K) → K.is_clone a b → Same K.cmp a b }
         requires apart { IsApart K.cmp (spans_of ranges.now) }
         requires ordered { AllByRecursion (IsOrdered K.cmp) (spans_of ranges.now) }
         requires ascending { IsMap K.cmp theirs.now }
@@ -318,9 +292,18 @@ impl<
         join_all(self.alloc, &mut self.rows, &mut self.tree, theirs, ranges)
     }
 
+    /// The row at a key, where there is one. It finds it by halving.
+    pub(crate) fn row_at(&self, key: &K) -> Option<&(K, V)>
+        ensures { MatchOption result (get K.cmp self.now.rows key.now ≡ None) (λ row. Same K.cmp row.now.0 key.now × (get K.cmp self.now.rows key.now ≡ Some row.now.1)) }
+    {
+        match place(&self.rows, key) {
+            Ok(at) => Some(&self.rows[at]),
+            Err(_) => None,
+        }
+    }
+
     /// Joins rows whose keys don't fall, in one pass over both. Refused, it answers how many of them are joined.
     pub(crate) fn join_rising(&mut self, theirs: Vec<(K, V)>) -> Result<(), usize>
-        requires clones { (a b : K) → K.is_clone a b → Same K.cmp a b }
         requires rising { IsRising K.cmp theirs.items }
         ensures all { OnOk result (HasGathered K.cmp V.eq V.join_of self.old.rows theirs.items self.new.rows) }
         ensures cut { IfErr result (λ done. IsGatheredTo K.cmp V.eq V.join_of self.old.rows theirs.items done self.new.rows) }

@@ -1,11 +1,10 @@
 //! The three steps of a pull, each on its own side of a wire: the ranges to ask for, the rows in them, and their join.
 ghost use Rattle.std.specs.Prelude.{◌≡◌, ◌↔◌, IsSome, IfSome, IfOk, IfErr, OnOk, IsTrue};
-ghost use Rattle.key_order.specs.Order.{Same};
 ghost use Rattle.key_order.specs.Map.{IsMap, rows_in};
 ghost use Rattle.key_order.specs.Join.{IsJoin};
 ghost use Rattle.merkle_diff.specs.PageRangeSnapshot.{snapshot_entries};
-ghost use Rattle.merkle_search_tree.specs.Hashed.{hashed_tree};
-ghost use Rattle.merkle_search_tree.specs.State.{SameSettings};
+ghost use Rattle.merkle_tree_theory.specs.Hashed.{hashed_tree};
+ghost use Rattle.merkle_tree_theory.specs.State.{SameSettings};
 ghost use Rattle.merkle_replica.specs.Answers.{spans_of};
 ghost use Rattle.merkle_replica.specs.Contents.{side};
 ghost use Rattle.merkle_replica.specs.Steps.{AreRanges, IsAnswerTo, IsJoinRefused};
@@ -17,7 +16,7 @@ use crate::replica::Replica;
 use crate::rows_within::{RowsWithin, are_ranges};
 use crate::seek::is_below;
 use merkle_diff::PageRangeSnapshot;
-use merkle_digest::{Hasher, KeyBytes};
+use merkle_digest::{Hasher, Key};
 use std::alloc::AllocError;
 
 /// Why rows that came were not all joined.
@@ -29,19 +28,16 @@ pub enum JoinRefused<K, V> {
     Memory(usize),
 }
 
-impl<
-    K: Ord + KeyBytes + Clone + Drop,
-    V: Join + Drop,
-    H: Hasher<N, K> + Hasher<N, V>,
-    const N: usize,
-> Replica<K, V, H, N> {
+impl<K: Key + Drop, V: Join + Drop, H: Hasher<N, K> + Hasher<N, V>, const N: usize> Replica<
+    K,
+    V,
+    H,
+    N,
+> {
     /// The first step of a pull: the ranges of keys to ask a peer for that sent these page ranges, ascending, each with its first and
     /// its last key. Any list will do; where it is that of the peer's tree, the ranges are those of a pull.
     ///
     /// It hashes the pages of the tree that lack a digest, walks over its pages and the list once, and copies the bounds of the ranges.
-    ///
-    /// Its condition on clones is proved by a lemma of `key_order::proofs::Clones`: `string_clone` or `str_clone` for texts,
-    /// `vec_clone` or `array_clone` for vectors and arrays of bytes, `exact_clone` for what a clone gives back as it is.
     ///
     /// # Errors
     ///
@@ -50,9 +46,6 @@ impl<
         &mut self,
         theirs: &PageRangeSnapshot<K>,
     ) -> Result<Vec<(K, K)>, AllocError>
-        // A clone of a key equals its original.
-        requires clones { (a b : K) → K.is_clone a b → Same K.cmp a b }
-
         ensures answer { IfOk result (λ ranges. IsAnswerTo ⟦<H as Lawful<N, K, V>>⟧.laws (side self.old) (snapshot_entries theirs.now) (spans_of ranges.items)) }
         ensures rows { self.new.rows ≡ self.old.rows }
 
@@ -83,17 +76,11 @@ impl<
     /// Room for all of them is made before the first is joined. Own rows below the first of them stay where they are; those from it on
     /// are moved out of the way and back.
     ///
-    /// Its condition on clones is proved by a lemma of `key_order::proofs::Clones`: `string_clone` or `str_clone` for texts,
-    /// `vec_clone` or `array_clone` for vectors and arrays of bytes, `exact_clone` for what a clone gives back as it is.
-    ///
     /// # Errors
     ///
     /// [`JoinRefused::NotAscending`] hands back rows that don't ascend, and the replica is as before. [`JoinRefused::Memory`] where memory
     /// is refused: the first rows are joined and not all, and the others are given up.
     pub fn join_rows(&mut self, rows: Vec<(K, V)>) -> Result<(), JoinRefused<K, V>>
-        // A clone of a key equals its original.
-        requires clones { (a b : K) → K.is_clone a b → Same K.cmp a b }
-
         ensures ascending { OnOk result (IsMap K.cmp rows.items) }
         ensures joined { OnOk result (IsJoin K.cmp V.eq V.join_of self.old.rows rows.items self.new.rows) }
         ensures refused { IfErr result (λ why. IsJoinRefused K.cmp V.eq V.join_of self.old.rows rows.items why self.new.rows) }

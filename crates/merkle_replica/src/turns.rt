@@ -1,7 +1,6 @@
 //! Pulls by turns, by which two replicas come to hold the join of their maps.
 ghost use Rattle.std.specs.Prelude.{◌≡◌, ◌<◌, ◌≤◌, List, IfOk, IfErr, map, length};
-ghost use Rattle.key_order.specs.Order.{Same};
-ghost use Rattle.merkle_search_tree.specs.State.{SameSettings};
+ghost use Rattle.merkle_tree_theory.specs.State.{SameSettings};
 ghost use Rattle.merkle_replica.specs.Contents.{Side, side};
 ghost use Rattle.merkle_replica.specs.Pulls.{IsByTurns, HoldTheJoin};
 ghost use Rattle.merkle_replica.specs.Faithful.{AllFaithful};
@@ -12,7 +11,7 @@ use crate::join::Join;
 use crate::lawful::Lawful;
 use crate::pull::{PullError, Pulled};
 use crate::replica::Replica;
-use merkle_digest::{Hasher, KeyBytes};
+use merkle_digest::{Hasher, Key};
 use merkle_search_tree::laws::page_ranges_of_a_map;
 use std::alloc::Global;
 
@@ -26,17 +25,11 @@ pub struct TurnsError<K> {
 }
 
 /// One turn: a pull by `a`, or one by `b`.
-fn turn<
-    K: Ord + KeyBytes + Clone + Drop,
-    V: Join + Drop,
-    H: Hasher<N, K> + Hasher<N, V>,
-    const N: usize,
->(
+fn turn<K: Key + Drop, V: Join + Drop, H: Hasher<N, K> + Hasher<N, V>, const N: usize>(
     a: &mut Replica<K, V, H, N>,
     b: &mut Replica<K, V, H, N>,
     a_pulls: bool,
 ) -> Result<Pulled<K>, PullError<K>>
-    requires clones { (x y : K) → K.is_clone x y → Same K.cmp x y }
     ensures done { IfOk result (λ pulled. IsTurn ⟦<H as Lawful<N, K, V>>⟧.laws a_pulls a.old b.old (answer_of pulled) a.new.rows b.new.rows) }
     ensures refused { IfErr result (λ fault. IsTurnRefused ⟦<H as Lawful<N, K, V>>⟧.laws a_pulls a.old b.old fault a.new.rows b.new.rows) }
     ensures a_settings { SameSettings a.old.tree a.new.tree }
@@ -56,27 +49,16 @@ fn turn<
 /// can be missing in the other. That holds of any two hashers, level bases and page formats; but only replicas that digest alike spare
 /// each other what they share.
 ///
-/// Its condition on clones is proved by a lemma of `key_order::proofs::Clones`: `string_clone` or `str_clone` for texts,
-/// `vec_clone` or `array_clone` for vectors and arrays of bytes, `exact_clone` for what a clone gives back as it is.
-///
 /// # Errors
 ///
 /// [`TurnsError`] where memory is refused: the pulls that were made, and what came in place of the next one. Where the list of answers
 /// is refused, no pull is made, and the fault is [`PullError::Memory`].
-pub fn pull_by_turns<
-    K: Ord + KeyBytes + Clone + Drop,
-    V: Join + Drop,
-    H: Hasher<N, K> + Hasher<N, V>,
-    const N: usize,
->(
+pub fn pull_by_turns<K: Key + Drop, V: Join + Drop, H: Hasher<N, K> + Hasher<N, V>, const N: usize>(
     alloc: Global,
     a: &mut Replica<K, V, H, N>,
     b: &mut Replica<K, V, H, N>,
     n: usize,
 ) -> Result<Vec<Pulled<K>>, TurnsError<K>>
-    // A clone of a key equals its original.
-    requires clones { (x y : K) → K.is_clone x y → Same K.cmp x y }
-
     ensures length { IfOk result (λ pulled. length pulled.items ≡ n) }
 
     // The pulls by turns were made, and, convergence: where digests are faithful in the sides that were met, four turns or more leave

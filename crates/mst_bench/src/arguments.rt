@@ -16,6 +16,8 @@ pub enum Task {
     CutTimes(Vec<usize>),
     /// Print the times of pulls from replicas of so many rows each.
     PullTimes(Vec<usize>),
+    /// Print the times of catch-ups with replicas of so many rows each.
+    CatchUpTimes(Vec<usize>),
 }
 
 /// The number that the word spells in decimal digits, where it is one below 2 ^ 64.
@@ -49,6 +51,7 @@ pub fn task_of(alloc: Global, words: &[String]) -> Result<Task, Fault> {
         "--time" => Ok(Task::Times(counts(alloc, numbers)?)),
         "--time-cut" => Ok(Task::CutTimes(counts(alloc, numbers)?)),
         "--time-pull" => Ok(Task::PullTimes(counts(alloc, numbers)?)),
+        "--time-catch-up" => Ok(Task::CatchUpTimes(counts(alloc, numbers)?)),
         _ => Err(Fault::Usage),
     }
 }

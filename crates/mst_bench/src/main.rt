@@ -4,12 +4,13 @@
 //! Without arguments it prints what the trees of the sample keys answer, which is the same on every machine:
 //! `n ROOT_LOCAL ROOT_PEER RANGES_LOCAL RANGES_PEER DIFF_PEER DIFF_THIRD`, for 100, 1,000 and 10,000 keys. `--time N..` prints a
 //! table of times for each number of keys, `--time-cut N..` one for each number of ranges to cut out, and `--time-pull N..` one for each
-//! number of rows to pull. It ends with status 2 and a usage line on standard error where the arguments are none of these, and with status 1 and one line there where memory is refused,
+//! number of rows to pull, and `--time-catch-up N..` one for each number of rows of which few differ. It ends with status 2 and a usage line on standard error where the arguments are none of these, and with status 1 and one line there where memory is refused,
 //! or the clock or the output fails.
 #![tactic(auto)]
 
 mod answers;
 mod arguments;
+mod catch_ups;
 mod clock;
 mod cut;
 mod fault;
@@ -27,7 +28,8 @@ use std::rt::{Clock, Env};
 use std::{env, io};
 
 /// What the program is called with.
-const USAGE: &str = "usage: mst_bench [--time N.. | --time-cut N.. | --time-pull N..]";
+const USAGE: &str =
+    "usage: mst_bench [--time N.. | --time-cut N.. | --time-pull N.. | --time-catch-up N..]";
 
 /// Does what the arguments ask for, and prints it.
 fn run<R: AllocGlobal + Clock + Env + Print>(rt: &R) -> Result<(), Fault> {
@@ -43,6 +45,7 @@ fn run<R: AllocGlobal + Clock + Env + Print>(rt: &R) -> Result<(), Fault> {
         Task::Times(counts) => times::write_table(rt, alloc, &counts, &mut out)?,
         Task::CutTimes(counts) => cut::write_table(rt, alloc, &counts, &mut out)?,
         Task::PullTimes(counts) => pulls::write_table(rt, alloc, &counts, &mut out)?,
+        Task::CatchUpTimes(counts) => catch_ups::write_table(rt, alloc, &counts, &mut out)?,
     }
     out.flush().map_err(|_| Fault::Output)
 }

@@ -23,7 +23,6 @@ fn sorted_keys(alloc: Global, count: usize) -> Result<Vec<String>, Fault> {
 
 /// The replica of every second of these keys, from the first or the second on, not hashed: at every tenth of its rows the value `tenth`,
 /// else 1. The keys are different and ascend, so that rows are refused only for want of memory.
-#[tactic(auto, using(key_order::proofs::Clones::string_clone))]
 fn replica(alloc: Global, sorted: &[String], parity: usize, tenth: u64) -> Result<Numbers, Fault> {
     let mut rows = Vec::new(alloc);
     for (place, key) in sorted.iter().enumerate() {
@@ -39,7 +38,6 @@ fn replica(alloc: Global, sorted: &[String], parity: usize, tenth: u64) -> Resul
 }
 
 /// Times a pull, the hashing of both trees included.
-#[tactic(auto, using(key_order::proofs::Clones::string_clone))]
 fn time_pull<R: Clock>(
     rt: &R,
     local: &mut Numbers,

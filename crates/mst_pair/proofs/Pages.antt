@@ -8,17 +8,17 @@ use Rattle.key_order.specs.Text.{Text, text_order}
 use Rattle.merkle_digest.specs.SipDigests.{text_digest, number_digest}
 use Rattle.merkle_diff.specs.Entry.{Entry, span_of}
 use Rattle.merkle_diff.specs.SameEntries.{SameEntries}
-use Rattle.merkle_search_tree.specs.Canonical.{SamePages, IsTreeOf}
+use Rattle.merkle_tree_theory.specs.Canonical.{SamePages, IsTreeOf}
 use Rattle.merkle_search_tree.specs.Loading.{digests}
-use Rattle.merkle_search_tree.specs.Sound.{IsSound}
-use Rattle.merkle_search_tree.specs.State.{map_of}
-use Rattle.merkle_search_tree.specs.Tree.{Tree}
-use Rattle.merkle_search_tree.specs.TreeOf.{defined_tree}
+use Rattle.merkle_tree_theory.specs.Sound.{IsSound}
+use Rattle.merkle_tree_theory.specs.State.{map_of}
+use Rattle.merkle_tree_theory.specs.Tree.{Tree}
+use Rattle.merkle_tree_theory.specs.TreeOf.{defined_tree}
 use Rattle.merkle_replica.specs.Contents.{Contents}
 use Rattle.mst_pair.specs.Pages.{tree, page_ranges, HasDefaults}
 use Rattle.mst_pair.specs.Replies.{text_line, range_text, ranges_text, end_line}
 use Rattle.mst_pair.specs.Replicas.{TextRow}
-use Rattle.merkle_search_tree.specs.declared.builder.PageFormat.{PageFormat}
+use Rattle.merkle_tree_theory.specs.declared.page_format.PageFormat.{PageFormat}
 
 -- equal texts have equal bytes
 same_text : (x y : Text) → Same text_order x y → string_bytes x ≡ string_bytes y

@@ -6,7 +6,7 @@ use Rattle.mst_pair.specs.Replicas.{Replicas}
 use Rattle.mst_pair.specs.Engine.{Step}
 use Rattle.mst_pair.specs.Requests.{Request, put, del, keys, root, pages, diff, pull, same, turns, set_format, IsSpelled, name_text, space}
 use Rattle.mst_pair.specs.declared.engine.ReplicaName.{ReplicaName}
-use Rattle.merkle_search_tree.specs.declared.builder.PageFormat.TheVariants.{V1, V2}
+use Rattle.merkle_tree_theory.specs.declared.page_format.PageFormat.TheVariants.{V1, V2}
 use Rattle.mst_pair.proofs.Kept.{take_short}
 use Rattle.mst_pair.specs.declared.engine.ReplicaName.TheVariants.{A, B}
 

@@ -2,7 +2,7 @@
 use Rattle.std.proofs.Common.{◌≡◌, ℕ, List, [], ◌∷◌, inl, inr, subst, map, Result, Ok, Err, IfErr, OnErr}
 use Rattle.key_order.specs.Interval.{Span}
 use Rattle.key_order.specs.Text.{Text}
-use Rattle.merkle_search_tree.specs.declared.builder.PageFormat.{PageFormat}
+use Rattle.merkle_tree_theory.specs.declared.page_format.PageFormat.{PageFormat}
 use Rattle.merkle_replica.specs.Answers.{answer_of, IsRefused, StopsByTurns}
 use Rattle.merkle_replica.specs.Contents.{Contents, Side, side}
 use Rattle.mst_pair.specs.Engine.{AreRangesToAsk, StopsPulling, StopsAfter}

@@ -4,7 +4,7 @@ use Rattle.key_order.specs.Interval.{Span}
 use Rattle.key_order.specs.Text.{Text}
 use Rattle.merkle_digest.specs.Digest.{base64_of}
 use Rattle.merkle_diff.specs.Entry.{span_of}
-use Rattle.merkle_search_tree.specs.declared.builder.PageFormat.{PageFormat}
+use Rattle.merkle_tree_theory.specs.declared.page_format.PageFormat.{PageFormat}
 use Rattle.mst_pair.specs.Pages.{page_ranges, root_digest, text_laws, side_of}
 use Rattle.merkle_replica.specs.Contents.{Side}
 use Rattle.merkle_replica.specs.Pulls.{Answer, IsAnswerFor, IsPull, IsPartOfPull, IsByTurns}
@@ -12,7 +12,7 @@ use Rattle.mst_pair.specs.Replies.{text_line, rows_text, ranges_text, pull_text,
 use Rattle.mst_pair.specs.Requests.{Request, put, del, keys, root, pages, diff, pull, same, turns, set_format, IsSpelled, IsBad}
 use Rattle.mst_pair.specs.Replicas.{TextRow, Replicas, HasNoRow, rows, other_rows, JoinsRow, DeletesRow}
 
--- ranges that local may ask of the peer: any that meet the interval laws of `diff` and its laws on trees, on the page ranges of both
+-- ranges that local may ask of the peer: they meet the laws of `diff` on the page ranges of both
 abbrev pub AreRangesToAsk : PageFormat → List TextRow → List TextRow → List (Span Text) → Type 0
 AreRangesToAsk format local peer = IsAnswerFor text_laws (side_of format local) (side_of format peer)
 

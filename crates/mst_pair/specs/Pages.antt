@@ -5,13 +5,13 @@ use Rattle.merkle_digest.specs.SipDigests.{text_digest, number_digest}
 use Rattle.merkle_digest.specs.SipHash.{zero_key}
 use Rattle.merkle_diff.specs.Entry.{Entry}
 use Rattle.merkle_search_tree.specs.Loading.{digests}
-use Rattle.merkle_search_tree.specs.Ranges.{ranges_of}
-use Rattle.merkle_search_tree.specs.Settings.{default_settings}
-use Rattle.merkle_search_tree.specs.State.{HasSettings}
-use Rattle.merkle_search_tree.specs.Stream.{page_digest}
-use Rattle.merkle_search_tree.specs.Tree.{Tree}
-use Rattle.merkle_search_tree.specs.TreeOf.{defined_tree}
-use Rattle.merkle_search_tree.specs.declared.builder.PageFormat.{PageFormat}
+use Rattle.merkle_tree_theory.specs.Ranges.{ranges_of}
+use Rattle.merkle_tree_theory.specs.Settings.{default_settings}
+use Rattle.merkle_tree_theory.specs.State.{HasSettings}
+use Rattle.merkle_tree_theory.specs.Stream.{page_digest}
+use Rattle.merkle_tree_theory.specs.Tree.{Tree}
+use Rattle.merkle_tree_theory.specs.TreeOf.{defined_tree}
+use Rattle.merkle_tree_theory.specs.declared.page_format.PageFormat.{PageFormat}
 use Rattle.merkle_replica.specs.Laws.{Laws}
 use Rattle.merkle_replica.specs.Contents.{Contents, Side}
 use Rattle.mst_pair.specs.Replicas.{TextRow}

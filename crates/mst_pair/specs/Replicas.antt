@@ -3,8 +3,8 @@ use Rattle.std.specs.Prelude.{◌≡◌, ℕ, Bool, List, [], ◌∷◌, max, na
 use Rattle.key_order.specs.Join.{IsJoin}
 use Rattle.key_order.specs.Map.{has_key, del}
 use Rattle.key_order.specs.Text.{Text, text_order}
-use Rattle.merkle_search_tree.specs.declared.builder.PageFormat.{PageFormat}
-use Rattle.merkle_search_tree.specs.declared.builder.PageFormat.TheVariants.{V1}
+use Rattle.merkle_tree_theory.specs.declared.page_format.PageFormat.{PageFormat}
+use Rattle.merkle_tree_theory.specs.declared.page_format.PageFormat.TheVariants.{V1}
 use Rattle.mst_pair.specs.declared.engine.ReplicaName.{ReplicaName}
 use Rattle.mst_pair.specs.declared.engine.ReplicaName.TheVariants.{A, B}
 

@@ -2,8 +2,8 @@
 use Rattle.std.specs.Prelude.{◌≡◌, ◌≢◌, ◌<◌, ◌≤◌, ◌+◌, ◌^◌, ℕ, List, [], ◌∷◌, length, codes, All, IsUtf8}
 use Rattle.std.specs.List.{join_with_byte}
 use Rattle.std.specs.Str.Parse.{IsNumeral, digits_value}
-use Rattle.merkle_search_tree.specs.declared.builder.PageFormat.{PageFormat}
-use Rattle.merkle_search_tree.specs.declared.builder.PageFormat.TheVariants.{V1, V2}
+use Rattle.merkle_tree_theory.specs.declared.page_format.PageFormat.{PageFormat}
+use Rattle.merkle_tree_theory.specs.declared.page_format.PageFormat.TheVariants.{V1, V2}
 use Rattle.mst_pair.specs.declared.engine.ReplicaName.{ReplicaName}
 use Rattle.mst_pair.specs.declared.engine.ReplicaName.TheVariants.{A, B}
 

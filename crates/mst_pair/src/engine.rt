@@ -78,7 +78,6 @@ impl Engine {
     }
 
     /// Joins a row into a replica. Where memory is refused, nothing changes.
-    #[tactic(auto, using(key_order::proofs::Clones::string_clone))]
     pub fn join_row(&mut self, name: ReplicaName, key: &str, number: u64) -> Result<(), AllocError>
         ensures ok { OnOk result (JoinsRow (rows self.old name) (rows self.new name) key.now number) }
         ensures other { other_rows self.new name ≡ other_rows self.old name }
@@ -119,7 +118,6 @@ impl Engine {
     }
 
     /// The ranges of keys that a replica may ask the other for.
-    #[tactic(auto, using(key_order::proofs::Clones::string_clone))]
     pub fn ranges_to_ask(&mut self, name: ReplicaName) -> Result<Vec<(String, String)>, AllocError>
         ensures ranges { IfOk result (λ found. AreRangesToAsk self.old.format (rows self.old name) (other_rows self.old name) (spans_of found.items)) }
         ensures same { self.new ≡ self.old }
@@ -131,7 +129,6 @@ impl Engine {
     }
 
     /// Has a replica pull from the other.
-    #[tactic(auto, using(key_order::proofs::Clones::string_clone))]
     pub fn pull(&mut self, name: ReplicaName) -> Result<Pulled<String>, PullError<String>>
         ensures ok { IfOk result (λ pulled. Pulls self.old.format (rows self.old name) (other_rows self.old name) (answer_of pulled) (rows self.new name)) }
         ensures err { OnErr result (StopsPulling self.old.format (rows self.old name) (other_rows self.old name) (rows self.new name)) }
@@ -153,7 +150,6 @@ impl Engine {
     }
 
     /// Has the replicas pull from each other by turns, `a` first.
-    #[tactic(auto, using(key_order::proofs::Clones::string_clone))]
     pub fn take_turns(&mut self, count: u8) -> Result<Vec<Pulled<String>>, TurnsError<String>>
         ensures length { IfOk result (λ all. length all.items ≡ count) }
         ensures format { self.new.format ≡ self.old.format }

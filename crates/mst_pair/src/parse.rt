@@ -4,7 +4,7 @@ ghost use Rattle.std.specs.Prelude.{◌≤◌, [], codes};
 ghost use Rattle.mst_pair.specs.Requests.{Request, IsSpelled, IsBad, name_text, format_text, digit, IsKey, space};
 ghost use Rattle.mst_pair.specs.Parsing.{request_of, IsSpelledBy, IsRowText, HasNoSpace};
 ghost use Rattle.mst_pair.specs.declared.engine.ReplicaName.{ReplicaName as NameOf};
-ghost use Rattle.merkle_search_tree.specs.declared.builder.PageFormat.{PageFormat as FormatOf};
+ghost use Rattle.merkle_tree_theory.specs.declared.page_format.PageFormat.{PageFormat as FormatOf};
 
 use crate::engine::ReplicaName;
 use crate::number::number_of;

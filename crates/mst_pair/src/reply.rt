@@ -4,7 +4,7 @@ ghost use Rattle.std.specs.Fmt.{decimal};
 ghost use Rattle.std.specs.List.{flat_map};
 ghost use Rattle.merkle_digest.specs.Digest.{base64_of};
 ghost use Rattle.merkle_diff.specs.Entry.{span_of};
-ghost use Rattle.merkle_search_tree.specs.declared.builder.PageFormat.{PageFormat};
+ghost use Rattle.merkle_tree_theory.specs.declared.page_format.PageFormat.{PageFormat};
 ghost use Rattle.merkle_replica.specs.Answers.{answer_of};
 ghost use Rattle.mst_pair.specs.Devices.{Writes, Passes, MarksFailure};
 ghost use Rattle.mst_pair.specs.Engine.{no_memory};

@@ -1,9 +1,9 @@
 //! A replica of the program: a map from texts to numbers, with the default hasher and level base.
 ghost use Rattle.std.specs.Prelude.{◌≡◌, map, string_bytes};
 ghost use Rattle.merkle_diff.specs.Entry.{span_of};
-ghost use Rattle.merkle_search_tree.specs.Ranges.{ranges_of};
-ghost use Rattle.merkle_search_tree.specs.Stream.{page_digest};
-ghost use Rattle.merkle_search_tree.specs.declared.builder.PageFormat.{PageFormat};
+ghost use Rattle.merkle_tree_theory.specs.Ranges.{ranges_of};
+ghost use Rattle.merkle_tree_theory.specs.Stream.{page_digest};
+ghost use Rattle.merkle_tree_theory.specs.declared.page_format.PageFormat.{PageFormat};
 ghost use Rattle.mst_pair.specs.Pages.{HasDefaults, root_digest, page_ranges};
 ghost use Rattle.mst_pair.specs.Replies.{ranges_text};
 

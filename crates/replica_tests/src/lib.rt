@@ -2,7 +2,11 @@
 #![tactic(auto)]
 
 #[cfg(test)]
+mod catch_ups;
+#[cfg(test)]
 mod faults;
+#[cfg(test)]
+mod hubs;
 #[cfg(test)]
 mod joins;
 #[cfg(test)]

@@ -23,13 +23,11 @@ fn rows(alloc: Global, texts: &[&str]) -> Result<Vec<(String, u64)>, AllocError>
 }
 
 /// The replica of rows.
-#[tactic(auto, using(key_order::proofs::Clones::string_clone))]
 fn loaded(alloc: Global, rows: Vec<(String, u64)>) -> Result<Texts, RowsRefused<String, u64>> {
     Replica::from_rows(alloc, Builder::default(), rows)
 }
 
 /// Puts a row.
-#[tactic(auto, using(key_order::proofs::Clones::string_clone))]
 fn put(replica: &mut Texts, row: (String, u64)) -> Result<(), AllocError> {
     replica.put(row.0, row.1)
 }

@@ -10,14 +10,12 @@ use std::alloc::{AllocError, Global};
 type Texts = Replica<String, u64, SipHasher, 16>;
 
 /// Puts a row.
-#[tactic(auto, using(key_order::proofs::Clones::string_clone))]
 fn put(alloc: Global, replica: &mut Texts, text: &str, value: u64) -> Result<(), AllocError> {
     let key = String::from_str(alloc, text)?;
     replica.put(key, value)
 }
 
 /// Pulls from a peer.
-#[tactic(auto, using(key_order::proofs::Clones::string_clone))]
 fn pull(local: &mut Texts, peer: &mut Texts) -> Result<Pulled<String>, PullError<String>> {
     local.pull(peer)
 }

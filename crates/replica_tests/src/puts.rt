@@ -19,7 +19,6 @@ fn rows(alloc: Global, pairs: &[(&str, u64)]) -> Result<Vec<(String, u64)>, Allo
 }
 
 /// Puts all rows.
-#[tactic(auto, using(key_order::proofs::Clones::string_clone))]
 fn put_all(replica: &mut Texts, rows: Vec<(String, u64)>) -> Result<(), PutsCut> {
     replica.put_all(rows)
 }

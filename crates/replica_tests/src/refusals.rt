@@ -41,13 +41,33 @@ fn texts<'a>(
     Ok(replica)
 }
 
-/// How many rows a pull from a peer of three rows says that it joined; none where it says it wrongly.
-fn count_of(answer: Result<Pulled<CountedText<'_>>, PullError<CountedText<'_>>>) -> Option<usize> {
+/// The replica of the texts a and b, or of the texts a, b and c.
+fn peer_of<'a>(
+    alloc: Global,
+    rows: usize,
+    clones_left: &'a Cell<u8>,
+) -> Result<Texts<'a>, AllocError> {
+    if rows == 2 {
+        texts(alloc, &[("a", 1), ("b", 2)], clones_left)
+    } else {
+        texts(alloc, &[("a", 1), ("b", 2), ("c", 3)], clones_left)
+    }
+}
+
+/// How many rows a pull from a peer of so many rows says that it joined; none where it says it wrongly.
+fn count_of(
+    answer: Result<Pulled<CountedText<'_>>, PullError<CountedText<'_>>>,
+    all: usize,
+) -> Option<usize> {
     match answer {
-        Ok(pulled) => if pulled.joined == 3 { Some(3) } else { None },
+        Ok(pulled) => if pulled.joined == all {
+            Some(all)
+        } else {
+            None
+        },
         Err(PullError::Memory) => Some(0),
         Err(PullError::Partly { pulled, done }) => {
-            if pulled.joined == 3 && pulled.ranges.len() == 1 {
+            if pulled.joined == all && pulled.ranges.len() == 1 {
                 Some(done)
             } else {
                 None
@@ -66,14 +86,14 @@ fn has_first_of(replica: &Texts<'_>, other: &Texts<'_>, count: usize) -> bool {
     is_right
 }
 
-/// How many rows a pull of the texts a, b and c into an empty replica says that it joined, where this many clones are at hand; none
-/// where the rows there are not the first ones of the peer, or the answer doesn't fit them.
-fn rows_pulled(alloc: Global, clones: u8) -> Result<Option<usize>, AllocError> {
+/// How many rows a pull of two or three texts into an empty replica says that it joined, where this many clones are at hand; none where
+/// the rows there are not the first ones of the peer, or the answer doesn't fit them.
+fn rows_pulled(alloc: Global, rows: usize, clones: u8) -> Result<Option<usize>, AllocError> {
     let clones_left = Cell::new(3);
     let mut local = texts(alloc, &[], &clones_left)?;
-    let mut peer = texts(alloc, &[("a", 1), ("b", 2), ("c", 3)], &clones_left)?;
+    let mut peer = peer_of(alloc, rows, &clones_left)?;
     clones_left.set(clones);
-    match count_of(pull_texts(&mut local, &mut peer)) {
+    match count_of(pull_texts(&mut local, &mut peer), rows) {
         Some(count) if has_first_of(&local, &peer, count) => Ok(Some(count)),
         _ => Ok(None),
     }
@@ -82,22 +102,27 @@ fn rows_pulled(alloc: Global, clones: u8) -> Result<Option<usize>, AllocError> {
 // Two clones are the bounds of the range, and each row takes two: for the rows and for the tree.
 #[test]
 fn refused_clones_leave_the_first_rows(rt: HostRuntime) -> Result<(), Fail> {
-    for (clones, count) in [
-        (0, 0),
-        (1, 0),
-        (2, 0),
-        (3, 0),
-        (4, 1),
-        (5, 1),
-        (6, 2),
-        (7, 2),
-        (8, 3),
-        (9, 3),
+    for (rows, clones, count) in [
+        (2, 0, 0),
+        (2, 3, 0),
+        (2, 4, 1),
+        (2, 5, 1),
+        (2, 6, 2),
+        (3, 0, 0),
+        (3, 1, 0),
+        (3, 2, 0),
+        (3, 3, 0),
+        (3, 4, 1),
+        (3, 5, 1),
+        (3, 6, 2),
+        (3, 7, 2),
+        (3, 8, 3),
+        (3, 9, 3),
     ] {
         assert_eq!(rt;
-            rows_pulled(rt.alloc(), clones)?,
+            rows_pulled(rt.alloc(), rows, clones)?,
             Some(count),
-            "{clones} clones"
+            "{rows} rows, {clones} clones"
         );
     }
     Ok(())

@@ -1,10 +1,13 @@
 //! A key whose clones can be refused.
 ghost use Rattle.std.specs.Prelude.{◌≡◌, List, ◌++◌};
-ghost use Rattle.std.specs.Cmp.Lexicographic.{same_text};
-ghost use Rattle.std.proofs.Common.{sym};
+ghost use Rattle.std.specs.Cmp.Lexicographic.{same_text, slice_cmp};
+ghost use Rattle.std.specs.Ordering.{nat_cmp};
+ghost use Rattle.std.proofs.Common.{ap, sym};
+ghost use Rattle.std.proofs.lemmas.Cmp.{nat_list_cmp_total};
+ghost use Rattle.key_order.proofs.Clones.{exact_clone};
 ghost use Rattle.merkle_digest.specs.Sip24.{Holds};
 
-use merkle_digest::{HashBytes, KeyBytes, Sip24};
+use merkle_digest::{HashBytes, KeyBytes, SameClone, Sip24};
 use std::alloc::AllocError;
 use std::cell::Cell;
 
@@ -28,6 +31,11 @@ impl Clone for CountedText<'_> {
             clones_left: self.clones_left,
         })
     }
+}
+
+/// A clone has the same text, by which keys are compared.
+impl SameClone for CountedText<'_> {
+    ghost clone_is_same = { λ a b h. exact_clone (slice_cmp nat_cmp) nat_list_cmp_total a.text.now b.text.now (ap (λ text. text.now) h) };
 }
 
 /// The UTF-8 bytes of the text.

@@ -1,8 +1,8 @@
 use Rattle.std.proofs.Common.{ℕ, List, ◌∙◌, subst}
 use Rattle.key_order.specs.Text.{Text}
 use Rattle.merkle_digest.specs.Level.{level_of}
-use Rattle.merkle_search_tree.specs.Canonical.{IsCanonicalRoot}
-use Rattle.merkle_search_tree.specs.State.{State}
+use Rattle.merkle_tree_theory.specs.Canonical.{IsCanonicalRoot}
+use Rattle.merkle_tree_theory.specs.State.{State}
 use Rattle.merkle_digest.specs.SipDigests.{text_digest}
 use Rattle.examples.proofs.store.root_hash.Goals as goal
 

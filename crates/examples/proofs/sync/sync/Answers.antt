@@ -20,4 +20,7 @@ returns g c =
               same = same_joins g.K.Ord.cmp g.met.K.Ord.total g.V.PartialEq.eq g.met.V.Eq.laws g.V.Join.join_of g.met.V.Join.joining c.args.a.now.rows c.args.b.now.rows c.pull_by_turns.new.a.rows c.pull_by_turns.new.b.rows first second;
             };
       };
+      stopped = tt;
+      a_settings = c.in_ok-pull_by_turns.ensures.a_settings;
+      b_settings = c.in_ok-pull_by_turns.ensures.b_settings;
     }

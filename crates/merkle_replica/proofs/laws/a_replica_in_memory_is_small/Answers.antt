@@ -1,5 +1,5 @@
 use Rattle.merkle_search_tree.specs.Loading.{digests}
-use Rattle.merkle_search_tree.specs.State.{map_of}
+use Rattle.merkle_tree_theory.specs.State.{map_of}
 use Rattle.merkle_replica.proofs.Small.{small_same}
 use Rattle.merkle_replica.proofs.laws.a_replica_in_memory_is_small.Goals as goal
 

@@ -52,14 +52,11 @@ take_row-requires g c =
     (sym c.seek-next.ensures.found ∙ c.if-found.true) c.count_within-joined.result c.count_within-joined.ensures in (
       search rules,
       (
-        c.requires.clones,
+        c.joining.invariant.kept,
         (
-          c.joining.invariant.kept,
-          (
-            subst (λ (r : g.row.K.Denot × g.row.V.Denot). begins_upto g.K.Ord.cmp r.0 ss ≡ true → AllByRecursion (λ (s : g.row.K.Denot × g.row.V.Denot). Below g.K.Ord.cmp s.0 r.0) c.joining.rows.items) (sym c.row-item.is) (c.joining.invariant.low i row (omega arith) (omega (arith, c.joining-test.true)))
-                (first_upto g.K.Ord.cmp g.met.K.Ord.total ss c.seek-next.result.0 row.0 c.requires.apart c.requires.ordered (sym c.seek-next.ensures.found ∙ c.if-found.true)),
-            omega (arith, c.joining.invariant.room, stopped.not_all),
-          ),
+          subst (λ (r : g.row.K.Denot × g.row.V.Denot). begins_upto g.K.Ord.cmp r.0 ss ≡ true → AllByRecursion (λ (s : g.row.K.Denot × g.row.V.Denot). Below g.K.Ord.cmp s.0 r.0) c.joining.rows.items) (sym c.row-item.is) (c.joining.invariant.low i row (omega arith) (omega (arith, c.joining-test.true)))
+              (first_upto g.K.Ord.cmp g.met.K.Ord.total ss c.seek-next.result.0 row.0 c.requires.apart c.requires.ordered (sym c.seek-next.ensures.found ∙ c.if-found.true)),
+          omega (arith, c.joining.invariant.room, stopped.not_all),
         ),
       ),
     )

@@ -61,7 +61,7 @@ returns-clause-kept g c =
     kept_set cmp g.H.Hasher-2.digest_of o (whole F B) _ c.args.tree.now c.upsert-2.new.self c.in_ok-own.own key c.args.value
     (ap (whole F) (c.in-Ok.ensures.items ∙ ap (λ xs. xs ++ (key, c.args.value) ∷ []) c.reserve_exact.ensures.items) ∙ p.1 ∙ set_new cmp o (whole F B) (length F) key c.args.value p.0)
     (went c.upsert-2.result (sym c.is_err-2.ensures.value ∙ c.if-is_err-2.false) c.upsert-2.ensures.set)
-    c.upsert-2.ensures.settings.0 (tied_back o key c.in_ok-own.own (c.requires.clones key c.in_ok-own.own c.in_ok-own.ensures.cases)) kept
+    c.upsert-2.ensures.settings.0 (tied_back o key c.in_ok-own.own (g.met.K.SameClone.clone_is_same key c.in_ok-own.own c.in_ok-own.ensures.cases)) kept
 
 pub returns-clause-joined : goal.returns-clause-joined
 returns-clause-joined g c =

@@ -1,6 +1,6 @@
 use Rattle.std.proofs.Common.{ap, ◌∙◌, map, string_bytes}
 use Rattle.merkle_diff.specs.Entry.{span_of}
-use Rattle.merkle_search_tree.specs.Ranges.{ranges_of}
+use Rattle.merkle_tree_theory.specs.Ranges.{ranges_of}
 use Rattle.mst_pair.specs.Pages.{tree, root_digest, page_ranges}
 use Rattle.mst_pair.specs.Replies.{ranges_text}
 use Rattle.mst_pair.proofs.Pages.{pages_are, ranges_are}

@@ -6,7 +6,7 @@ use Rattle.merkle_replica.proofs.replica.Replica.join_rows.Goals as goal
 pub join_rising-requires : goal.join_rising-requires
 join_rising-requires g c =
     let up : IsMap g.K.Ord.cmp c.args.rows.items = subst (IsMap g.K.Ord.cmp) c.deref.ensures.value (c.ascend.ensures.0 c.if-not-ascend.false) in
-    (search rules, (c.requires.clones, map_rises g.K.Ord.cmp g.met.K.Ord.total c.args.rows.items up))
+    (search rules, (map_rises g.K.Ord.cmp g.met.K.Ord.total c.args.rows.items up))
 
 pub returns-in-Ok-clause-joined : goal.returns-in-Ok-clause-joined
 returns-in-Ok-clause-joined g c =

@@ -3,8 +3,8 @@ use Rattle.std.specs.List.{insert}
 use Rattle.std.specs.Ordering.{is_eq}
 use Rattle.std.specs.Cmp.{tied_itself, tied_back}
 use Rattle.merkle_digest.specs.Level.{level_of}
-use Rattle.merkle_search_tree.specs.Cache.{missing}
-use Rattle.merkle_search_tree.specs.Page.{level}
+use Rattle.merkle_tree_theory.specs.Cache.{missing}
+use Rattle.merkle_tree_theory.specs.Page.{level}
 use Rattle.key_order.specs.Join.{IsJoin}
 use Rattle.key_order.specs.Map.{set}
 use Rattle.merkle_replica.specs.Places.{IsPlaceOf, IsGapFor}
@@ -28,7 +28,7 @@ invariant_of-self-in-Err g c =
     kept_set g.K.Ord.cmp g.H.Hasher-2.digest_of g.met.K.Ord.total rows _ c.self.inside.tree c.upsert-in-Err.new.self c.in_ok-own-in-Err.own c.args.key c.args.value
     (c.in-Ok-insert.ensures.items ∙ (ap (λ xs. insert xs c.in-Err.at (c.args.key, c.args.value)) c.reserve.ensures.items ∙ set_new g.K.Ord.cmp g.met.K.Ord.total rows c.in-Err.at c.args.key c.args.value gap))
     (went c.upsert-in-Err.result (sym c.is_err-in-Err.ensures.value ∙ c.if-is_err-2.false) c.upsert-in-Err.ensures.set)
-    c.upsert-in-Err.ensures.settings.0 (tied_back g.met.K.Ord.total c.args.key c.in_ok-own-in-Err.own (c.requires.clones c.args.key c.in_ok-own-in-Err.own c.in_ok-own-in-Err.ensures.cases)) c.self.invariant
+    c.upsert-in-Err.ensures.settings.0 (tied_back g.met.K.Ord.total c.args.key c.in_ok-own-in-Err.own (g.met.K.SameClone.clone_is_same c.args.key c.in_ok-own-in-Err.own c.in_ok-own-in-Err.ensures.cases)) c.self.invariant
 
 pub returns-else-is_err-clause-joined : goal.returns-else-is_err-clause-joined
 returns-else-is_err-clause-joined g c =
@@ -58,7 +58,7 @@ returns-in-Ok-insert-clause-few_more g c =
     let tree = c.self.inside.tree in
     let root = c.upsert-in-Err.new.self.root in
     let own = c.in_ok-own-in-Err.own in
-    let same = g.met.H.Hasher-1.respects_eq tree.hasher c.args.key own (g.met.K.Ord.matches_eq c.args.key own ∙ ap is_eq (c.requires.clones c.args.key own c.in_ok-own-in-Err.ensures.cases)) in
+    let same = g.met.H.Hasher-1.respects_eq tree.hasher c.args.key own (g.met.K.Ord.matches_eq c.args.key own ∙ ap is_eq (g.met.K.SameClone.clone_is_same c.args.key own c.in_ok-own-in-Err.ensures.cases)) in
     subst (λ r. missing root ≤ missing r.tree.root + (level root + level_of (g.H.Hasher-1.digest_of r.tree.hasher c.args.key) r.tree.base + 1)) c.self.view_is
     (subst (λ (digest : List ℕ). missing root ≤ missing tree.root + (level root + level_of digest tree.base + 1)) (sym same)
     (went c.upsert-in-Err.result (sym c.is_err-in-Err.ensures.value ∙ c.if-is_err-2.false) c.upsert-in-Err.ensures.few_more))

@@ -11,7 +11,7 @@ join_rising-requires g c =
     let cmp = g.K.Ord.cmp in
     let o = g.met.K.Ord.total in
     let sorted = went_well c.sort_by.result (sym c.is_ok-is_sorted.ensures.value ∙ c.if-not-is_sorted.false) c.sort_by.ensures.sorted in
-    (search rules, (c.requires.clones, sorted_rises cmp o c.sort_by.new.self.items (sorted (lower cmp o) (rows_compare cmp o) (always_returns_same _ _ _ (λ a r f called. (ap is_lt (search rules), search rules))))))
+    (search rules, (sorted_rises cmp o c.sort_by.new.self.items (sorted (lower cmp o) (rows_compare cmp o) (always_returns_same _ _ _ (λ a r f called. (ap is_lt (search rules), search rules))))))
 
 pub returns-in-Ok-clause-joined : goal.returns-in-Ok-clause-joined
 returns-in-Ok-clause-joined g c =

@@ -1,0 +1,157 @@
+-- Bytes tell the entries that they spell, up to equal names.
+use Rattle.std.proofs.Common.{◌≡◌, ℕ, ◌<◌, ◌≤◌, ◌^◌, List, [], ◌∷◌, ◌++◌, length, nat_eq, true, string_bytes, refl, sym, ap, ◌∙◌, arith}
+use Rattle.std.specs.Bool.{⊤}
+use Rattle.std.specs.List.{AllByRecursion, flat_map}
+use Rattle.std.proofs.lemmas.Bool.{eq-eqb}
+use Rattle.std.proofs.lemmas.List.{append_assoc, length-append}
+use Rattle.std.proofs.lemmas.List.Concat.{flat_map-cons}
+use Rattle.key_order.specs.Interval.{Span, SameSpan}
+use Rattle.key_order.specs.Map.{SameMap}
+use Rattle.key_order.specs.Order.{Same}
+use Rattle.key_order.specs.Text.{Text, text_order}
+use Rattle.key_order.proofs.Clones.{string_clone}
+use Rattle.merkle_diff.specs.Entry.{Entry}
+use Rattle.merkle_diff.specs.Merge.{SameSpans}
+use Rattle.merkle_diff.specs.SameEntries.{SameEntry, SameEntries}
+use Rattle.merkle_tree_theory.proofs.Streams.{join_tells, number_tells}
+use Rattle.merkle_tree_theory.specs.Outline.{Item, of_node, of_page}
+use Rattle.merkle_search_tree.specs.SameItems.{SameItem, SameItems}
+use Rattle.examples.specs.CatchUpMessages.{item_bytes, IsItem, Spells}
+use Rattle.examples.specs.Wire.{number_bytes, text_bytes, page_range_bytes, range_bytes, row_bytes, list_bytes, IsPageRange, IsRow}
+use Rattle.examples.proofs.Spelled.{text_tells}
+use Rattle.examples.proofs.Entries.{in_turn, some_row, some_range, some_page_range, all_hold}
+
+-- texts of equal bytes are equal keys
+pub same_text : (t u : Text) → string_bytes t ≡ string_bytes u → Same text_order t u
+same_text t u e = string_clone t u (sym e)
+
+module _ {X : Type 0} (P : X → Type 0) (bytes : X → List ℕ) (R : X → X → Type 0) where
+  -- the entries of two lists are related, place by place
+  abbrev pub AllAlike : List X → List X → Type 0
+  AllAlike [] [] = ⊤
+  AllAlike [] (y ∷ ys) = ⊥
+  AllAlike (x ∷ xs) [] = ⊥
+  AllAlike (x ∷ xs) (y ∷ ys) = R x y × AllAlike xs ys
+
+  -- the same bytes tell one entry, and what is behind it
+  abbrev pub Tells : Type 0
+  Tells = (x y : X) (r s all : List ℕ) → P x → P y → length all < 2 ^ 64 → all ≡ bytes x ++ r → all ≡ bytes y ++ s → R x y × (r ≡ s)
+
+  entries_tell : Tells → (xs ys : List X) (all : List ℕ) → AllByRecursion P xs → AllByRecursion P ys → length xs ≡ length ys → length all < 2 ^ 64 → all ≡ flat_map bytes xs → all ≡ flat_map bytes ys → AllAlike xs ys
+  entries_tell tells [] [] all p q n fits e f = tt
+  entries_tell tells [] (y ∷ ys) all p q n fits e f = absurd (omega (arith, n))
+  entries_tell tells (x ∷ xs) [] all p q n fits e f = absurd (omega (arith, n))
+  entries_tell tells (x ∷ xs) (y ∷ ys) all p q n fits e f =
+      let in_x = e ∙ flat_map-cons bytes x xs in
+      let told = tells x y (flat_map bytes xs) (flat_map bytes ys) all p.0 q.0 fits in_x (f ∙ flat_map-cons bytes y ys) in
+      let fits_then : length (flat_map bytes xs) < 2 ^ 64 = omega (arith, fits, ap length in_x, length-append (bytes x) (flat_map bytes xs)) in
+      (told.0, entries_tell tells xs ys (flat_map bytes xs) p.1 q.1 (omega (arith, n)) fits_then refl told.1)
+
+  no_more : (some : (x : X) → 1 ≤ length (bytes x)) → (xs : List X) → length xs ≤ length (flat_map bytes xs)
+  no_more some [] = omega arith
+  no_more some (x ∷ xs) = omega (arith, some x, no_more some xs, length-append (bytes x) (flat_map bytes xs))
+
+  -- two lists that the same bytes spell have related entries
+  pub lists_tell : Tells → ((x : X) → 1 ≤ length (bytes x)) → (xs ys : List X) (all : List ℕ) → AllByRecursion P xs → AllByRecursion P ys → length all < 2 ^ 64 → all ≡ list_bytes bytes xs → all ≡ list_bytes bytes ys → AllAlike xs ys
+  lists_tell tells some xs ys all p q fits e f =
+      let heads = join_tells (number_bytes (length xs)) (number_bytes (length ys)) (flat_map bytes xs) (flat_map bytes ys) (λ i. 8) (sym e ∙ f) in
+      let few : length xs < 2 ^ 64 = omega (arith, no_more some xs, fits, ap length e, length-append (number_bytes (length xs)) (flat_map bytes xs)) in
+      let few_too : length ys < 2 ^ 64 = omega (arith, no_more some ys, fits, ap length f, length-append (number_bytes (length ys)) (flat_map bytes ys)) in
+      let fits_then : length (flat_map bytes xs) < 2 ^ 64 = omega (arith, fits, ap length e, length-append (number_bytes (length xs)) (flat_map bytes xs)) in
+      entries_tell tells xs ys (flat_map bytes xs) p q (number_tells (length xs) (length ys) few few_too heads.0) fits_then refl heads.1
+
+row_tells : (x y : Text × ℕ) (r s all : List ℕ) → IsRow x → IsRow y → length all < 2 ^ 64 → all ≡ row_bytes x ++ r → all ≡ row_bytes y ++ s → (Same text_order x.0 y.0 × (x.1 ≡ y.1)) × (r ≡ s)
+row_tells x y r s all p q fits e f =
+    let names = text_tells x.0 y.0 (number_bytes x.1 ++ r) (number_bytes y.1 ++ s) all fits
+    (e ∙ append_assoc (text_bytes x.0) (number_bytes x.1) r) (f ∙ append_assoc (text_bytes y.0) (number_bytes y.1) s) in
+    let numbers = join_tells (number_bytes x.1) (number_bytes y.1) r s (λ i. 8) names.1 in
+    ((same_text x.0 y.0 names.0, number_tells x.1 y.1 p q numbers.0), numbers.1)
+
+range_tells : (x y : Span Text) (r s all : List ℕ) → ⊤ → ⊤ → length all < 2 ^ 64 → all ≡ range_bytes x ++ r → all ≡ range_bytes y ++ s → SameSpan text_order x y × (r ≡ s)
+range_tells x y r s all p q fits e f =
+    let in_x = e ∙ append_assoc (text_bytes x.first) (text_bytes x.last) r in
+    let firsts = text_tells x.first y.first (text_bytes x.last ++ r) (text_bytes y.last ++ s) all fits in_x (f ∙ append_assoc (text_bytes y.first) (text_bytes y.last) s) in
+    let fits_then : length (text_bytes x.last ++ r) < 2 ^ 64 = omega (arith, fits, ap length in_x, length-append (text_bytes x.first) (text_bytes x.last ++ r)) in
+    let lasts = text_tells x.last y.last r s (text_bytes x.last ++ r) fits_then refl firsts.1 in
+    ((same_text x.first y.first firsts.0, same_text x.last y.last lasts.0), lasts.1)
+
+pub page_range_tells : (x y : Entry Text (List ℕ)) (r s all : List ℕ) → IsPageRange x → IsPageRange y → length all < 2 ^ 64 → all ≡ page_range_bytes x ++ r → all ≡ page_range_bytes y ++ s → SameEntry text_order x y × (r ≡ s)
+page_range_tells x y r s all p q fits e f =
+    let in_x = e ∙ in_turn x r in
+    let behind = text_bytes x.last ++ (x.digest ++ r) in
+    let firsts = text_tells x.first y.first behind (text_bytes y.last ++ (y.digest ++ s)) all fits in_x (f ∙ in_turn y s) in
+    let fits_then : length behind < 2 ^ 64 = omega (arith, fits, ap length in_x, length-append (text_bytes x.first) behind) in
+    let lasts = text_tells x.last y.last (x.digest ++ r) (y.digest ++ s) behind fits_then refl firsts.1 in
+    let digests = join_tells x.digest y.digest r s (p.1 ∙ sym q.1) lasts.1 in
+    (((same_text x.first y.first firsts.0, same_text x.last y.last lasts.0), digests.0), digests.1)
+
+-- lists of page ranges, of ranges and of rows that the same bytes spell are the same, up to equal names
+pub same_page_ranges : (xs ys : List (Entry Text (List ℕ))) (all : List ℕ) → AllByRecursion IsPageRange xs → AllByRecursion IsPageRange ys → length all < 2 ^ 64
+    → all ≡ list_bytes page_range_bytes xs → all ≡ list_bytes page_range_bytes ys → SameEntries text_order xs ys
+same_page_ranges xs ys all p q fits e f = as_entries xs ys (lists_tell IsPageRange page_range_bytes (SameEntry text_order) page_range_tells some_page_range xs ys all p q fits e f)
+  where
+    as_entries : (xs ys : List (Entry Text (List ℕ))) → AllAlike IsPageRange page_range_bytes (SameEntry text_order) xs ys → SameEntries text_order xs ys
+    as_entries [] [] h = tt
+    as_entries [] (y ∷ ys) h = absurd h
+    as_entries (x ∷ xs) [] h = absurd h
+    as_entries (x ∷ xs) (y ∷ ys) h = (h.0, as_entries xs ys h.1)
+
+pub same_ranges : (xs ys : List (Span Text)) (all : List ℕ) → length all < 2 ^ 64 → all ≡ list_bytes range_bytes xs → all ≡ list_bytes range_bytes ys → SameSpans text_order xs ys
+same_ranges xs ys all fits e f = as_spans xs ys (lists_tell (λ _. ⊤) range_bytes (SameSpan text_order) range_tells some_range xs ys all (all_hold xs) (all_hold ys) fits e f)
+  where
+    as_spans : (xs ys : List (Span Text)) → AllAlike (λ _. ⊤) range_bytes (SameSpan text_order) xs ys → SameSpans text_order xs ys
+    as_spans [] [] h = tt
+    as_spans [] (y ∷ ys) h = absurd h
+    as_spans (x ∷ xs) [] h = absurd h
+    as_spans (x ∷ xs) (y ∷ ys) h = (h.0, as_spans xs ys h.1)
+
+pub same_rows : (xs ys : List (Text × ℕ)) (all : List ℕ) → AllByRecursion IsRow xs → AllByRecursion IsRow ys → length all < 2 ^ 64
+    → all ≡ list_bytes row_bytes xs → all ≡ list_bytes row_bytes ys → SameMap text_order (λ x y. nat_eq x y ≡ true) xs ys
+same_rows xs ys all p q fits e f = as_rows xs ys (lists_tell IsRow row_bytes (λ x y. Same text_order x.0 y.0 × (x.1 ≡ y.1)) row_tells some_row xs ys all p q fits e f)
+  where
+    as_rows : (xs ys : List (Text × ℕ)) → AllAlike IsRow row_bytes (λ x y. Same text_order x.0 y.0 × (x.1 ≡ y.1)) xs ys → SameMap text_order (λ x y. nat_eq x y ≡ true) xs ys
+    as_rows [] [] h = tt
+    as_rows [] (y ∷ ys) h = absurd h
+    as_rows (x ∷ xs) [] h = absurd h
+    as_rows (x ∷ xs) (y ∷ ys) h = (h.0.0, eq-eqb x.1 y.1 h.0.1, as_rows xs ys h.1)
+
+-- behind an equal first byte equal bytes
+behind_first : (a b : ℕ) (xs ys : List ℕ) → a ∷ xs ≡ b ∷ ys → xs ≡ ys
+behind_first a b xs ys e = cc
+
+same_first : (a b : ℕ) (xs ys : List ℕ) → a ∷ xs ≡ b ∷ ys → a ≡ b
+same_first a b xs ys e = cc
+
+pub item_tells : (x y : Item Text (List ℕ)) (r s all : List ℕ) → IsItem x → IsItem y → length all < 2 ^ 64 → all ≡ item_bytes x ++ r → all ≡ item_bytes y ++ s → SameItem text_order x y × (r ≡ s)
+item_tells (of_node n d) (of_node m k) r s all p q fits e f =
+    let a = (text_bytes n ++ d) ++ r in
+    let fits_then : length a < 2 ^ 64 = omega (arith, fits, ap length e) in
+    let same = behind_first 0 0 a ((text_bytes m ++ k) ++ s) (sym e ∙ f) in
+    let names = text_tells n m (d ++ r) (k ++ s) a fits_then (append_assoc (text_bytes n) d r) (same ∙ append_assoc (text_bytes m) k s) in
+    let digests = join_tells d k r s (p ∙ sym q) names.1 in
+    ((same_text n m names.0, digests.0), digests.1)
+item_tells (of_node n d) (of_page y) r s all p q fits e f =
+    let never : 0 ≡ 1 = same_first 0 1 ((text_bytes n ++ d) ++ r) (page_range_bytes y ++ s) (sym e ∙ f) in absurd (omega (arith, never))
+item_tells (of_page x) (of_node m k) r s all p q fits e f =
+    let never : 1 ≡ 0 = same_first 1 0 (page_range_bytes x ++ r) ((text_bytes m ++ k) ++ s) (sym e ∙ f) in absurd (omega (arith, never))
+item_tells (of_page x) (of_page y) r s all p q fits e f =
+    let a = page_range_bytes x ++ r in
+    let fits_then : length a < 2 ^ 64 = omega (arith, fits, ap length e) in
+    page_range_tells x y r s a p q fits_then refl (behind_first 1 1 a (page_range_bytes y ++ s) (sym e ∙ f))
+
+pub item_ends : (x y : Item Text (List ℕ)) (r s all : List ℕ) → IsItem x → IsItem y → length all < 2 ^ 64 → all ≡ item_bytes x ++ r → all ≡ item_bytes y ++ s → r ≡ s
+item_ends x y r s all p q fits e f = (item_tells x y r s all p q fits e f).1
+
+pub some_item : (x : Item Text (List ℕ)) → 1 ≤ length (item_bytes x)
+some_item (of_node n d) = omega arith
+some_item (of_page e) = omega arith
+
+-- items that the same bytes spell are the same
+pub same_items : (xs ys : List (Item Text (List ℕ))) (all : List ℕ) → length all < 2 ^ 64 → Spells all xs → Spells all ys → SameItems text_order xs ys
+same_items xs ys all fits a b = as_items xs ys (lists_tell IsItem item_bytes (SameItem text_order) item_tells some_item xs ys all a.each b.each fits a.spelled b.spelled)
+  where
+    as_items : (xs ys : List (Item Text (List ℕ))) → AllAlike IsItem item_bytes (SameItem text_order) xs ys → SameItems text_order xs ys
+    as_items [] [] h = tt
+    as_items [] (y ∷ ys) h = absurd h
+    as_items (x ∷ xs) [] h = absurd h
+    as_items (x ∷ xs) (y ∷ ys) h = (h.0, as_items xs ys h.1)

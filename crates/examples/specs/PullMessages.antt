@@ -1,0 +1,35 @@
+-- The messages of a pull between two stores, as bytes.
+use Rattle.std.specs.Prelude.{◌≡◌, ℕ, List, max, nat_eq}
+use Rattle.std.specs.List.{AllByRecursion}
+use Rattle.key_order.specs.Interval.{Span}
+use Rattle.key_order.specs.Join.{IsJoin}
+use Rattle.key_order.specs.Map.{rows_in}
+use Rattle.key_order.specs.Text.{Text, text_order}
+use Rattle.merkle_diff.specs.Entry.{Entry}
+use Rattle.merkle_replica.specs.Contents.{Side}
+use Rattle.merkle_replica.specs.Pulls.{HasRanges}
+use Rattle.merkle_replica.specs.Steps.{IsAnswerTo}
+use Rattle.examples.specs.StoreLaws.{store_laws}
+use Rattle.examples.specs.Wire.{IsPageRange, IsRow, page_range_bytes, range_bytes, row_bytes, list_bytes}
+
+-- the bytes spell the page ranges of the peer
+abbrev pub SendsPageRanges : Side Text ℕ (List ℕ) → List ℕ → Type 0
+SendsPageRanges peer sent =
+    (theirs : List (Entry Text (List ℕ))) × HasRanges store_laws peer theirs × AllByRecursion IsPageRange theirs × (sent ≡ list_bytes page_range_bytes theirs)
+
+-- the bytes that came spell page ranges, and those that are sent the ranges that local may ask of a peer that sent these
+abbrev pub Asks : Side Text ℕ (List ℕ) → List ℕ → List ℕ → Type 0
+Asks local came sent =
+    (theirs : List (Entry Text (List ℕ))) × (found : List (Span Text)) × AllByRecursion IsPageRange theirs × (came ≡ list_bytes page_range_bytes theirs)
+    × IsAnswerTo store_laws local theirs found × (sent ≡ list_bytes range_bytes found)
+
+-- the bytes that came spell ranges, and those that are sent the rows of the peer in these
+abbrev pub SendsRows : Side Text ℕ (List ℕ) → List ℕ → List ℕ → Type 0
+SendsRows peer came sent =
+    (ranges : List (Span Text)) × (came ≡ list_bytes range_bytes ranges)
+    × AllByRecursion IsRow (rows_in text_order ranges peer.rows) × (sent ≡ list_bytes row_bytes (rows_in text_order ranges peer.rows))
+
+-- the bytes that came spell rows, and local has the join with these after
+abbrev pub JoinsRows : Side Text ℕ (List ℕ) → List ℕ → List (Text × ℕ) → Type 0
+JoinsRows local came after =
+    (rows : List (Text × ℕ)) × AllByRecursion IsRow rows × (came ≡ list_bytes row_bytes rows) × IsJoin text_order nat_eq max local.rows rows after

@@ -1,0 +1,80 @@
+-- Catch-ups among any number of replicas, which are named by numbers, and whose rows came to whom.
+use Rattle.std.specs.Prelude.{◌≡◌, ℕ, zero, suc, ◌+◌, ◌==◌, Bool, true, List, [], ◌∷◌, ◌++◌, map, Option, None, if◌then◌else◌, slice_index_or}
+use Rattle.std.specs.declared.cmp.Ordering.{Ordering}
+use Rattle.key_order.specs.Map.{SameValue, IsMap, get}
+use Rattle.key_order.specs.Join.{joined}
+use Rattle.merkle_replica.specs.CatchUp.{IsCatchUpOf, IsCatchUpRefused}
+use Rattle.merkle_replica.specs.Contents.{Side, with_rows}
+use Rattle.merkle_replica.specs.Laws.{Laws}
+use Rattle.merkle_replica.specs.declared.catch_up.CatchUpError.{CatchUpError}
+use Rattle.merkle_replica.specs.declared.gossip.CatchUpAllError.{CatchUpAllError}
+use Rattle.merkle_replica.specs.declared.gossip.CatchUpAllError.TheVariants.{Gathering, Spreading}
+
+module _ {X : Type 0} where
+  -- those of a list under the numbers of their places, and another under each number beyond it
+  abbrev pub numbered : X → List X → ℕ → X
+  numbered beyond xs n = slice_index_or xs n beyond
+
+  -- another one under a number
+  abbrev pub changed : (ℕ → X) → ℕ → X → ℕ → X
+  changed f i x n = if (n == i) then x else (f n)
+
+-- the steps of a gossip: of each the first number catches up with the second. From those who had come to each, who comes by the steps
+abbrev pub come_to : (ℕ → List ℕ) → List (ℕ × ℕ) → ℕ → List ℕ
+come_to who [] = who
+come_to who (s ∷ steps) = come_to (changed who s.0 (who s.0 ++ who s.1)) steps
+
+-- whose rows come to each by the steps, where each begins with its own
+abbrev pub heard : List (ℕ × ℕ) → ℕ → List ℕ
+heard = come_to (λ n. n ∷ [])
+
+-- the number 0 catches up with each of the n behind it
+abbrev pub gathering : ℕ → List (ℕ × ℕ)
+gathering zero = []
+gathering (suc n) = gathering n ++ (0, suc n) ∷ []
+
+-- each of them catches up with the number 0
+abbrev pub spreading : ℕ → List (ℕ × ℕ)
+spreading zero = []
+spreading (suc n) = spreading n ++ (suc n, 0) ∷ []
+
+-- both
+abbrev pub through_hub : ℕ → List (ℕ × ℕ)
+through_hub n = gathering n ++ spreading n
+
+module _ {K V : Type 0} (cmp : K → K → Ordering) (eq : V → V → Bool) (join : V → V → V) where
+  -- the join of the values that maps have at a key
+  abbrev pub joined_at : List (List (K × V)) → K → Option V
+  joined_at [] k = None
+  joined_at (m ∷ ms) k = joined join (get cmp m k) (joined_at ms k)
+
+  -- `rows` is the join of all these maps
+  pub record IsJoinOf (maps : List (List (K × V))) (rows : List (K × V)) : Type 0 where
+    pub ascending : IsMap cmp rows
+    pub values : (k : K) → SameValue (λ x y. eq x y ≡ true) (get cmp rows k) (joined_at maps k)
+
+module _ {K V H : Type 0} (laws : Laws K V H) where
+  -- the catch-ups of these steps, one after the other; `met` are the two sides before each
+  abbrev pub IsGossip : List (ℕ × ℕ) → (ℕ → Side K V H) → (ℕ → Side K V H) → List (Side K V H × Side K V H) → Type 0
+  IsGossip [] sides sides' met = ((n : ℕ) → sides' n ≡ sides n) × (met ≡ [])
+  IsGossip (s ∷ steps) sides sides' met =
+      (joined : ℕ) × (after : List (K × V)) × (rest : List (Side K V H × Side K V H)) × (met ≡ (sides s.0, sides s.1) ∷ rest)
+      × IsCatchUpOf laws (sides s.0) (sides s.1) joined after × IsGossip steps (changed sides s.0 (with_rows (sides s.0) after)) sides' rest
+
+  -- the first `done` of the steps were made, and then memory was refused
+  abbrev pub StopsGossip : ℕ → CatchUpError → List (ℕ × ℕ) → (ℕ → Side K V H) → (ℕ → Side K V H) → Type 0
+  StopsGossip done fault [] sides sides' = ⊥
+  StopsGossip zero fault (s ∷ steps) sides sides' =
+      (after : List (K × V)) × IsCatchUpRefused laws (sides s.0) (sides s.1) fault after × ((n : ℕ) → sides' n ≡ changed sides s.0 (with_rows (sides s.0) after) n)
+  StopsGossip (suc done) fault (s ∷ steps) sides sides' =
+      (joined : ℕ) × (after : List (K × V)) × IsCatchUpOf laws (sides s.0) (sides s.1) joined after
+      × StopsGossip done fault steps (changed sides s.0 (with_rows (sides s.0) after)) sides'
+
+  -- the same of the steps through a hub
+  abbrev pub StopsAtHub : CatchUpAllError → ℕ → (ℕ → Side K V H) → (ℕ → Side K V H) → Type 0
+  StopsAtHub (Gathering done fault) n = StopsGossip done fault (through_hub n)
+  StopsAtHub (Spreading done fault) n = StopsGossip (n + done) fault (through_hub n)
+
+-- the rows of sides
+abbrev pub rows_of : {K V H : Type 0} → List (Side K V H) → List (List (K × V))
+rows_of = map (λ s. s.rows)

@@ -1,0 +1,54 @@
+//! Catch-ups in both directions, by which two replicas come to hold the join of their maps.
+ghost use Rattle.std.specs.Prelude.{◌≡◌, IfOk, IfErr};
+ghost use Rattle.merkle_tree_theory.specs.State.{SameSettings};
+ghost use Rattle.merkle_replica.specs.CatchUp.{AreCatchUps, AreCatchUpsRefused};
+ghost use Rattle.merkle_replica.specs.Contents.{side, with_rows};
+ghost use Rattle.merkle_replica.specs.Faithful.{IsFaithful};
+ghost use Rattle.merkle_replica.specs.Pulls.{HoldTheJoin};
+
+use crate::catch_up::{CatchUpError, CaughtUp};
+use crate::join::Join;
+use crate::lawful::Lawful;
+use crate::replica::Replica;
+use merkle_digest::{Hasher, Key};
+
+/// Why catch-ups in both directions stopped: memory was refused.
+#[derive(Clone, Copy, Debug, PartialEq, Eq)]
+pub enum CatchUpsError {
+    /// In the first one.
+    First(CatchUpError),
+    /// In the second one, after this first one.
+    Second(CaughtUp, CatchUpError),
+}
+
+/// `a` catches up with `b`, and then `b` with `a`. Both then hold the join of their maps, while digests are faithful in what is met
+/// before each of the two. That holds of any two hashers, level bases and page formats; but only replicas that digest alike spare each
+/// other what they share.
+///
+/// # Errors
+///
+/// [`CatchUpsError`] where memory is refused: then stands what the fault says.
+pub fn catch_up_both<K: Key + Drop, V: Join + Drop, H: Hasher<N, K> + Hasher<N, V>, const N: usize>(
+    a: &mut Replica<K, V, H, N>,
+    b: &mut Replica<K, V, H, N>,
+) -> Result<(CaughtUp, CaughtUp), CatchUpsError>
+    ensures done { IfOk result (λ caught. AreCatchUps ⟦<H as Lawful<N, K, V>>⟧.laws (side a.old) (side b.old) caught.0.joined caught.1.joined a.new.rows b.new.rows) }
+
+    // While digests are faithful before each of them, both then hold the join.
+    ensures join { let laws = ⟦<H as Lawful<N, K, V>>⟧.laws in IfOk result (λ caught. IsFaithful laws (side a.old) (side b.old)
+        → IsFaithful laws (side b.old) (with_rows (side a.old) a.new.rows) → HoldTheJoin laws (side a.old) (side b.old) a.new.rows b.new.rows) }
+
+    ensures refused { IfErr result (λ error. AreCatchUpsRefused ⟦<H as Lawful<N, K, V>>⟧.laws (side a.old) (side b.old) error a.new.rows b.new.rows) }
+
+    ensures a_settings { SameSettings a.old.tree a.new.tree }
+    ensures b_settings { SameSettings b.old.tree b.new.tree }
+{
+    let first = match a.catch_up(b) {
+        Ok(first) => first,
+        Err(fault) => return Err(CatchUpsError::First(fault)),
+    };
+    match b.catch_up(a) {
+        Ok(second) => Ok((first, second)),
+        Err(fault) => Err(CatchUpsError::Second(first, fault)),
+    }
+}

@@ -1,0 +1,173 @@
+//! Catch-ups: a replica joins exactly the rows of a peer that it lacks.
+ghost use Rattle.std.specs.Prelude.{◌≡◌, ◌+◌, ◌≤◌, List, IfOk, IfErr, IsSome, map};
+ghost use Rattle.key_order.specs.Order.{IsAscending};
+ghost use Rattle.key_order.specs.Join.{IsJoin};
+ghost use Rattle.merkle_search_tree.specs.Items.{items};
+ghost use Rattle.merkle_tree_theory.specs.Outline.{of_page, whole_range};
+ghost use Rattle.merkle_tree_theory.specs.Page.{level};
+ghost use Rattle.merkle_tree_theory.specs.State.{SameSettings};
+ghost use Rattle.merkle_replica.specs.CatchUp.{HasFound, IsCatchUpOf, IsCatchUpRefused, AreCopies};
+ghost use Rattle.merkle_replica.specs.Contents.{side};
+ghost use Rattle.merkle_replica.specs.Descent.{keys_of};
+ghost use Rattle.merkle_replica.specs.Faithful.{IsFaithful};
+
+use crate::join::Join;
+use crate::lawful::Lawful;
+use crate::replica::Replica;
+use crate::wanted::in_order;
+use merkle_digest::{Hasher, Key};
+use merkle_search_tree::laws::{
+    equal_keys_are_on_one_level, every_tree_is_sound, outlines_lead_down,
+};
+use merkle_search_tree::{OutlineItem, OutlineItemOf};
+use std::alloc::{AllocError, Global};
+
+/// What a catch-up did.
+#[derive(Clone, Copy, Debug, PartialEq, Eq)]
+pub struct CaughtUp {
+    /// How many rows of the peer were joined.
+    pub joined: usize,
+    /// How many times outlines were asked for.
+    pub rounds: usize,
+}
+
+/// Why a catch-up stopped: memory was refused.
+#[derive(Clone, Copy, Debug, PartialEq, Eq)]
+pub enum CatchUpError {
+    /// No row was joined, and the rows are unchanged. Pages may have got their digests.
+    Memory,
+    /// The first of the rows that this side lacks are joined, in key order, and not all.
+    Partly {
+        /// How many rows are joined: at least one.
+        done: usize,
+        /// How many rows this side lacks.
+        lacked: usize,
+    },
+}
+
+/// The keys that a replica lacks of a peer, and how many times outlines were asked for.
+#[derive(Drop)]
+struct Lacked<'a, K> {
+    keys: Vec<&'a K>,
+    rounds: usize,
+}
+
+impl<K: Key + Drop, V: Join + Drop, H: Hasher<N, K> + Hasher<N, V>, const N: usize> Replica<
+    K,
+    V,
+    H,
+    N,
+> {
+    /// Joins exactly those rows of the peer whose key this side lacks or has with another digest, so that its rows are then the join of
+    /// both sides' rows, while digests are faithful. The peer's rows stay.
+    ///
+    /// It hashes the pages of both trees that lack a digest, and then goes down the peer's tree in rounds, from the root: where this side
+    /// has a page with the same digest, nothing below is looked at; else the page is opened, and its nodes are looked up here, one by one.
+    /// So each page that is opened has a row that differs below it, or is one that this side hasn't, and no more rounds are made than the
+    /// level of the peer's root and one. The keys that are lacked are then sorted, and the rows at them copied, each value by a join with
+    /// itself. Where few of them are new, each is then put; else they are joined in one pass, as [`put_all`](Self::put_all) joins rows.
+    ///
+    /// The same in steps, with a wire between them: [`outlines`](Self::outlines) and [`rows_within`](Self::rows_within) on the peer's
+    /// side, [`sort_out`](Self::sort_out) and [`join_rows`](Self::join_rows) on this one
+    /// ([`steps_are_a_catch_up`](crate::laws::steps_are_a_catch_up)).
+    ///
+    /// Replicas whose trees differ in hasher, level base or page format spare each other nothing, but whatever is joined is right.
+    ///
+    /// # Errors
+    ///
+    /// [`CatchUpError`] where memory is refused, by which no row is joined, or the first ones in key order and not all.
+    pub fn catch_up(&mut self, peer: &mut Replica<K, V, H, N>) -> Result<CaughtUp, CatchUpError>
+        // The rows are the join with the peer's rows at the keys that this side lacked.
+        ensures done { IfOk result (λ caught. IsCatchUpOf ⟦<H as Lawful<N, K, V>>⟧.laws (side self.old) (side peer.old) caught.joined self.new.rows) }
+
+        // While digests are faithful, that is the join of both sides' rows.
+        ensures join { let laws = ⟦<H as Lawful<N, K, V>>⟧.laws in IfOk result (λ caught. IsFaithful laws (side self.old) (side peer.old)
+            → IsJoin K.cmp V.eq V.join_of self.old.rows peer.old.rows self.new.rows) }
+
+        ensures few { IfOk result (λ caught. caught.rounds ≤ level peer.old.tree.root + 1) }
+
+        // Refused, it has joined no row, or the first ones.
+        ensures refused { IfErr result (λ fault. IsCatchUpRefused ⟦<H as Lawful<N, K, V>>⟧.laws (side self.old) (side peer.old) fault self.new.rows) }
+
+        ensures peer_rows { peer.new.rows ≡ peer.old.rows }
+        ensures settings { SameSettings self.old.tree self.new.tree }
+        ensures peer_settings { SameSettings peer.old.tree peer.new.tree }
+    {
+        self.rows_ascend();
+        peer.rows_ascend();
+        self.hash();
+        peer.hash();
+        let (rows, rounds) = match self.lacked_rows(peer) {
+            Ok(found) => found,
+            Err(_) => return Err(CatchUpError::Memory),
+        };
+        let lacked = rows.len();
+        match self.join_sparse(rows) {
+            Ok(()) => Ok(CaughtUp {
+                joined: lacked,
+                rounds,
+            }),
+            Err(0) => Err(CatchUpError::Memory),
+            Err(done) => Err(CatchUpError::Partly { done, lacked }),
+        }
+    }
+
+    /// Copies of the rows of a peer that this side lacks, and how many times outlines were asked for.
+    fn lacked_rows(&self, peer: &Replica<K, V, H, N>) -> Result<(Vec<(K, V)>, usize), AllocError>
+        requires hashed { IsSome peer.now.tree.root_hash }
+        ensures rows { IfOk result (λ found. (keys : List K) × IsAscending K.cmp keys × HasFound ⟦<H as Lawful<N, K, V>>⟧.laws (side self.now) (side peer.now) keys × AreCopies K.cmp V.eq peer.now.rows keys found.0.items) }
+        ensures few { IfOk result (λ found. found.1 ≤ level peer.now.tree.root + 1) }
+    {
+        let lacked = lacked_keys(self.alloc, self, peer)?;
+        let keys = in_order(self.alloc, lacked.keys)?;
+        let rows = peer.copies_at(&keys)?;
+        Ok((rows, lacked.rounds))
+    }
+}
+
+/// The keys that `local` lacks of `peer`, where both are hashed, and how many times outlines were asked for.
+fn lacked_keys<'a, K: Key + Drop, V: Join + Drop, H: Hasher<N, K> + Hasher<N, V>, const N: usize>(
+    alloc: Global,
+    local: &Replica<K, V, H, N>,
+    peer: &'a Replica<K, V, H, N>,
+) -> Result<Lacked<'a, K>, AllocError>
+    requires { IsSome peer.now.tree.root_hash }
+    ensures found { IfOk result (λ lacked. HasFound ⟦<H as Lawful<N, K, V>>⟧.laws (side local.now) (side peer.now) (keys_of lacked.keys.items)) }
+    ensures few { IfOk result (λ lacked. lacked.rounds ≤ level peer.now.tree.root + 1) }
+{
+    local.rows_ascend();
+    every_tree_is_sound(peer.tree());
+    outlines_lead_down::<K, H, N>();
+    equal_keys_are_on_one_level::<K, H, N>();
+    let first = root_items(alloc, peer)?;
+    let first_asked = local.sort_out(&first)?;
+    let mut spans = first_asked.spans;
+    let mut keys = first_asked.keys;
+    let mut rounds = 0;
+    'rounds: while !spans.is_empty() {
+        let outlines = match peer.outlines(&spans)? {
+            Some(outlines) => outlines,
+            None => unreachable!(),
+        };
+        let mut asked = local.sort_out(&outlines)?;
+        keys.append(&mut asked.keys)?;
+        spans = asked.spans;
+        rounds += 1;
+    }
+    Ok(Lacked { keys, rounds })
+}
+
+/// The whole tree of a hashed replica as one item, or none where it has no row.
+fn root_items<'a, K: Key + Drop, V: Join + Drop, H: Hasher<N, K> + Hasher<N, V>, const N: usize>(
+    alloc: Global,
+    replica: &'a Replica<K, V, H, N>,
+) -> Result<Vec<OutlineItem<'a, N, K>>, AllocError>
+    requires { IsSome replica.now.tree.root_hash }
+    ensures { IfOk result (λ list. items list.items ≡ map of_page (whole_range replica.now.tree.format K.bytes_of replica.now.tree.root)) }
+{
+    let mut items = Vec::new(alloc);
+    if let Some(range) = replica.tree().root_range() {
+        items.push(OutlineItemOf::Page(range))?;
+    }
+    Ok(items)
+}

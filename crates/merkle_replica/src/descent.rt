@@ -1,0 +1,124 @@
+//! The steps of a catch-up, each on its own side: outlines of pages of the peer, and what they leave to ask for.
+
+ghost use Rattle.std.specs.Prelude.{◌≡◌, ◌↔◌, IfOk, OnOk, MatchOption, None, Some, IsTrue};
+ghost use Rattle.key_order.specs.Map.{get};
+ghost use Rattle.merkle_diff.specs.PageRange.{entry};
+ghost use Rattle.merkle_search_tree.specs.Items.{item as item_of, items};
+ghost use Rattle.merkle_replica.specs.Contents.{side, tree_map};
+ghost use Rattle.merkle_replica.specs.Descent.{AreOutlines, AreSortedOut, HasSortedOut, HasPage, bounds_of, keys_of};
+
+use crate::join::Join;
+use crate::lawful::Lawful;
+use crate::replica::Replica;
+use merkle_diff::PageRange;
+use merkle_digest::{Hasher, Key, ValueDigest};
+use merkle_search_tree::OutlineItem;
+use merkle_search_tree::laws::every_tree_is_sound;
+use std::alloc::AllocError;
+
+/// What a peer is still to be asked for. The keys are those of the items that came.
+#[derive(Drop)]
+pub struct ToAsk<'a, K> {
+    /// The first and the last key of pages of the peer that this side doesn't have: their outlines are asked for.
+    pub spans: Vec<(&'a K, &'a K)>,
+    /// Keys of the peer that this side lacks, or has with another digest: their rows are asked for.
+    pub keys: Vec<&'a K>,
+}
+
+impl<K: Key + Drop, V: Join + Drop, H: Hasher<N, K> + Hasher<N, V>, const N: usize> Replica<
+    K,
+    V,
+    H,
+    N,
+> {
+    /// The peer's step of a catch-up: the outlines of the pages with these spans, one behind the other, as
+    /// [`MerkleSearchTree::outline`](merkle_search_tree::MerkleSearchTree::outline) gives them; `None` where the tree isn't hashed.
+    ///
+    /// # Errors
+    ///
+    /// `AllocError` where memory is refused for the items.
+    pub fn outlines<'a>(
+        &'a self,
+        spans: &[(&K, &K)],
+    ) -> Result<Option<Vec<OutlineItem<'a, N, K>>>, AllocError>
+        ensures { IfOk result (λ found. MatchOption found (self.now.tree.root_hash ≡ None)
+            (λ list. AreOutlines K.cmp self.now.tree.format K.bytes_of self.now.tree.root (bounds_of spans.now) (items list.items))) }
+    {
+        if self.tree().root_hash_cached().is_none() {
+            return Ok(None);
+        }
+        let mut all = Vec::new(self.alloc);
+        'spans: for span in spans {
+            match self.tree().outline(span.0, span.1)? {
+                Some(mut outline) => all.append(&mut outline)?,
+                None => unreachable!(),
+            }
+        }
+        Ok(Some(all))
+    }
+
+    /// The local step of a catch-up, for any items that a peer sent: the pages that this side doesn't have are to be outlined, and of the
+    /// nodes those are wanted whose key this side lacks or has with another digest. Pages and keys are looked up in the tree of this
+    /// side.
+    ///
+    /// # Errors
+    ///
+    /// `AllocError` where memory is refused for the lists.
+    pub fn sort_out<'a>(&self, came: &[OutlineItem<'a, N, K>]) -> Result<ToAsk<'a, K>, AllocError>
+        ensures { IfOk result (λ asked. AreSortedOut ⟦<H as Lawful<N, K, V>>⟧.laws (side self.now) (items came.now) (bounds_of asked.spans.items) (keys_of asked.keys.items)) }
+    {
+        let mut asked = ToAsk {
+            spans: Vec::new(self.alloc),
+            keys: Vec::new(self.alloc),
+        };
+        'items: for item in came {
+            self.sort_one(item, &mut asked)?;
+        }
+        Ok(asked)
+    }
+
+    /// Adds what an item leaves to ask for.
+    fn sort_one<'a>(
+        &self,
+        item: &OutlineItem<'a, N, K>,
+        asked: &mut ToAsk<'a, K>,
+    ) -> Result<(), AllocError>
+        ensures { OnOk result (HasSortedOut ⟦<H as Lawful<N, K, V>>⟧.laws (side self.now) (item_of item.now) (bounds_of asked.old.spans.items) (keys_of asked.old.keys.items)
+            (bounds_of asked.new.spans.items) (keys_of asked.new.keys.items)) }
+    {
+        match item {
+            OutlineItem::Node(key, digest) => {
+                if self.has_digest(*key, *digest) {
+                    return Ok(());
+                }
+                asked.keys.push(*key)?;
+                Ok(())
+            }
+            OutlineItem::Page(range) => {
+                if self.has_page(range) {
+                    return Ok(());
+                }
+                asked.spans.push((range.start(), range.end()))?;
+                Ok(())
+            }
+        }
+    }
+
+    /// Whether the key is there with this digest of its value.
+    fn has_digest(&self, key: &K, digest: &ValueDigest<N>) -> bool
+        ensures { let laws = ⟦<H as Lawful<N, K, V>>⟧.laws in IsTrue result ↔ (get K.cmp (tree_map laws (side self.now)) key.now ≡ Some digest.now) }
+    {
+        match self.tree().value_hash(key) {
+            Some(own) => *own == *digest,
+            None => false,
+        }
+    }
+
+    /// Whether the tree has a page with this digest, on the way to the first key of the range.
+    fn has_page(&self, range: &PageRange<'_, K>) -> bool
+        ensures { IsTrue result → HasPage ⟦<H as Lawful<N, K, V>>⟧.laws (side self.now) (entry range.now).digest }
+    {
+        every_tree_is_sound(self.tree());
+        self.tree().has_page(range)
+    }
+}

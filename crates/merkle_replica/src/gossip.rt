@@ -1,0 +1,79 @@
+//! Catch-ups among any number of replicas, by which all come to hold the join of their maps.
+ghost use Rattle.std.specs.Prelude.{◌≡◌, ◌∷◌, List, OnOk, IfErr, length, map};
+ghost use Rattle.std.specs.List.{AllByRecursion};
+ghost use Rattle.key_order.specs.Order.{Same};
+ghost use Rattle.merkle_replica.specs.Contents.{Side, side};
+ghost use Rattle.merkle_replica.specs.Faithful.{AllFaithful};
+ghost use Rattle.merkle_replica.specs.Gossip.{IsGossip, IsJoinOf, StopsAtHub, numbered, rows_of, through_hub};
+
+use crate::catch_up::CatchUpError;
+use crate::join::Join;
+use crate::lawful::Lawful;
+use crate::replica::Replica;
+use merkle_digest::{Hasher, Key};
+
+/// Why catch-ups of all stopped: memory was refused.
+#[derive(Clone, Copy, Debug, PartialEq, Eq)]
+pub enum CatchUpAllError {
+    /// In a catch-up by the hub.
+    Gathering {
+        /// How many catch-ups by the hub were made before.
+        done: usize,
+        /// What came in place of the next one.
+        fault: CatchUpError,
+    },
+    /// In a catch-up with the hub.
+    Spreading {
+        /// How many catch-ups with the hub were made before, behind all by the hub.
+        done: usize,
+        /// What came in place of the next one.
+        fault: CatchUpError,
+    },
+}
+
+/// Brings any number of replicas to one map: the hub catches up with each of the others, and then each of the others with the hub. All
+/// then hold the join of all their maps, while digests are faithful in what is met before each catch-up. It costs what two catch-ups for
+/// each of the others do, and takes no memory of its own. That holds of any hashers, level bases and page formats; but only replicas that
+/// digest alike spare each other what they share.
+///
+/// Other orders of catch-ups serve too, as long as the news of each can come to each
+/// ([`gossip_joins_what_came`](crate::laws::gossip_joins_what_came)).
+///
+/// Its condition on clones is proved by a lemma of `key_order::proofs::Clones`: `string_clone` or `str_clone` for texts,
+/// `vec_clone` or `array_clone` for vectors and arrays of bytes, `exact_clone` for what a clone gives back as it is.
+///
+/// # Errors
+///
+/// [`CatchUpAllError`] where memory is refused: the catch-ups that were made until then stay.
+pub fn catch_up_all<K: Key + Drop, V: Join + Drop, H: Hasher<N, K> + Hasher<N, V>, const N: usize>(
+    hub: &mut Replica<K, V, H, N>,
+    others: &mut [Replica<K, V, H, N>],
+) -> Result<(), CatchUpAllError>
+
+    // The hub caught up with each of the others, and then each of them with the hub. While digests are faithful in what is met before each
+    // catch-up, all then hold the join of all maps.
+    ensures join { let laws = ⟦<H as Lawful<N, K, V>>⟧.laws in let before = map side (hub.old ∷ others.old) in let after = map side (hub.new ∷ others.new) in
+        OnOk result ((met : List (Side K V H × Side K V H)) × IsGossip laws (through_hub (length others.old)) (numbered (side hub.old) before) (numbered (side hub.old) after) met
+        × (AllFaithful laws met → AllByRecursion (λ s. IsJoinOf K.cmp V.eq V.join_of (rows_of before) s.rows) after)) }
+
+    // Stopped, the first of these catch-ups were made, and then stands what the fault says.
+    ensures stopped { let laws = ⟦<H as Lawful<N, K, V>>⟧.laws in IfErr result (λ error. StopsAtHub laws error (length others.old)
+        (numbered (side hub.old) (map side (hub.old ∷ others.old))) (numbered (side hub.old) (map side (hub.new ∷ others.new)))) }
+    ensures len { length others.new ≡ length others.old }
+{
+    hub.rows_ascend();
+    'gathering: for i in 0..others.len() {
+        others[i].rows_ascend();
+        match hub.catch_up(&mut others[i]) {
+            Ok(_) => {}
+            Err(fault) => return Err(CatchUpAllError::Gathering { done: i, fault }),
+        }
+    }
+    'spreading: for i in 0..others.len() {
+        match others[i].catch_up(hub) {
+            Ok(_) => {}
+            Err(fault) => return Err(CatchUpAllError::Spreading { done: i, fault }),
+        }
+    }
+    Ok(())
+}

@@ -1,0 +1,210 @@
+//! The times of catch-ups and of pulls between replicas that differ in few rows, and what each takes over a wire.
+
+use crate::clock::{Best, now};
+use crate::fault::Fault;
+use crate::keys::{LOCAL_SEED, keys};
+use merkle_digest::SipHasher;
+use merkle_replica::Replica;
+use merkle_search_tree::OutlineItemOf;
+use merkle_search_tree::builder::Builder;
+use std::alloc::Global;
+use std::io::Write;
+use std::rt::Clock;
+
+/// A replica of the default settings.
+type Numbers = Replica<String, u64, SipHasher, 16>;
+
+/// How many rows differ in the lines of the table.
+const DIFFERING: [usize; 5] = [0, 1, 10, 100, 1000];
+
+/// The bytes of a key of 17 bytes behind its length, and of a digest.
+const KEY: usize = 25;
+
+const DIGEST: usize = 16;
+
+/// What differs at a row.
+#[derive(Clone, Copy, PartialEq, Eq)]
+enum Kind {
+    /// The value.
+    Changed,
+    /// The row is missing.
+    Missing,
+}
+
+/// The replica of these keys with the value 2, hashed, but at each of the places a lower value or no row.
+fn replica(
+    alloc: Global,
+    sorted: &[String],
+    places: &[usize],
+    kind: Kind,
+) -> Result<Numbers, Fault> {
+    let mut rows = Vec::new(alloc);
+    let mut next = 0;
+    for (place, key) in sorted.iter().enumerate() {
+        let mut value = 2;
+        if places.get(next) == Some(&place) {
+            next = next.saturating_add(1);
+            value = if kind == Kind::Changed { 1 } else { 0 };
+        }
+        if value > 0 {
+            rows.push((key.clone()?, value))?;
+        }
+    }
+    match Replica::from_rows(alloc, Builder::default(), rows) {
+        Ok(replica) => {
+            let mut replica = replica;
+            replica.hash();
+            Ok(replica)
+        }
+        Err(_) => Err(Fault::Memory),
+    }
+}
+
+/// So many different places below a bound, in ascending order.
+fn places(alloc: Global, many: usize, bound: usize) -> Result<Vec<usize>, Fault> {
+    let mut places = Vec::new(alloc);
+    let mut state = 7u64;
+    for _ in 0..many {
+        state = state
+            .wrapping_mul(6_364_136_223_846_793_005)
+            .wrapping_add(1_442_695_040_888_963_407);
+        let place = (state >> 33).checked_rem(bound as u64).unwrap_or(0);
+        places.push(place as usize)?;
+    }
+    places.sort_unstable();
+    places.dedup();
+    Ok(places)
+}
+
+/// What a catch-up takes over a wire.
+#[derive(Clone, Copy)]
+struct Cost {
+    rounds: usize,
+    items: usize,
+    bytes: usize,
+    fetched: usize,
+}
+
+/// What the items that the peer sends, and the spans and keys that it is asked for, take over a wire.
+fn cost_of(alloc: Global, local: &Numbers, peer: &Numbers) -> Result<Cost, Fault> {
+    let mut cost = Cost {
+        rounds: 0,
+        items: 0,
+        bytes: 0,
+        fetched: 0,
+    };
+    let mut items = Vec::new(alloc);
+    if let Some(range) = peer.tree().root_range() {
+        items.push(OutlineItemOf::Page(range))?;
+    }
+    for _ in 0..256 {
+        for item in &items {
+            cost.items = cost.items.saturating_add(1);
+            let bytes = match item {
+                OutlineItemOf::Node(_, _) => KEY + DIGEST,
+                OutlineItemOf::Page(_) => 2 * KEY + DIGEST,
+            };
+            cost.bytes = cost.bytes.saturating_add(bytes);
+        }
+        let asked = local.sort_out(&items)?;
+        cost.fetched = cost.fetched.saturating_add(asked.keys.len());
+        let asking = asked
+            .keys
+            .len()
+            .saturating_mul(KEY)
+            .saturating_add(asked.spans.len().saturating_mul(2 * KEY));
+        cost.bytes = cost.bytes.saturating_add(asking);
+        if asked.spans.is_empty() {
+            return Ok(cost);
+        }
+        cost.rounds = cost.rounds.saturating_add(1);
+        items = match peer.outlines(&asked.spans)? {
+            Some(items) => items,
+            None => return Err(Fault::Memory),
+        };
+    }
+    Ok(cost)
+}
+
+/// Writes the line of so many rows, of which so many differ in this way.
+fn write_line<R: Clock, W: Write>(
+    rt: &R,
+    alloc: Global,
+    sorted: &[String],
+    places: &[usize],
+    kind: Kind,
+    out: &mut W,
+) -> Result<(), Fault> {
+    let mut peer = replica(alloc, sorted, &[], kind)?;
+    let mut catch_up = Best::new();
+    let mut pull = Best::new();
+    let local = replica(alloc, sorted, places, kind)?;
+    let cost = cost_of(alloc, &local, &peer)?;
+    let mut pages = 0usize;
+    if let Some(ranges) = peer.tree().page_range_iter()? {
+        for _ in ranges {
+            pages = pages.saturating_add(1);
+        }
+    }
+    let mut pulled = 0;
+    let mut joined = 0;
+    for _ in 0..3 {
+        let mut local = replica(alloc, sorted, places, kind)?;
+        let start = now(rt)?;
+        let caught = local.catch_up(&mut peer);
+        catch_up.note_since(rt, start)?;
+        joined = match caught {
+            Ok(caught) => caught.joined,
+            Err(_) => return Err(Fault::Memory),
+        };
+        let mut local = replica(alloc, sorted, places, kind)?;
+        let start = now(rt)?;
+        let answer = local.pull(&mut peer);
+        pull.note_since(rt, start)?;
+        pulled = match answer {
+            Ok(answer) => answer.joined,
+            Err(_) => return Err(Fault::Memory),
+        };
+    }
+    let rows = sorted.len();
+    let differing = places.len();
+    let way = if kind == Kind::Changed {
+        "changed"
+    } else {
+        "missing"
+    };
+    let catch_up = catch_up.each(1000);
+    let pull = pull.each(1000);
+    let (rounds, items, bytes, fetched) = (cost.rounds, cost.items, cost.bytes, cost.fetched);
+    let list = pages.saturating_mul(2 * KEY + DIGEST);
+    writeln!(
+        out,
+        "{rows} {differing} {way} {catch_up} {pull} {rounds} {items} {bytes} {list} {fetched} {joined} {pulled}"
+    )
+    .map_err(|_| Fault::Output)
+}
+
+/// Writes the table of catch-ups: a line of names, and for each number of rows one for each number of rows that differ, times in
+/// microseconds.
+pub fn write_table<R: Clock, W: Write>(
+    rt: &R,
+    alloc: Global,
+    counts: &[usize],
+    out: &mut W,
+) -> Result<(), Fault> {
+    writeln!(
+        out,
+        "rows differing way catch_up_us pull_us rounds items bytes list_bytes asked joined pulled"
+    )
+    .map_err(|_| Fault::Output)?;
+    for count in counts {
+        let mut sorted = keys(alloc, LOCAL_SEED, *count)?;
+        sorted.sort_unstable();
+        for differing in DIFFERING {
+            let places = places(alloc, differing, *count)?;
+            write_line(rt, alloc, &sorted, &places, Kind::Changed, out)?;
+            write_line(rt, alloc, &sorted, &places, Kind::Missing, out)?;
+        }
+    }
+    Ok(())
+}

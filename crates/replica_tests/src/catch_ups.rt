@@ -1,0 +1,246 @@
+//! Catch-ups between random maps, whose keys are on random levels: the rows afterwards, and how many rows and rounds it took.
+
+use merkle_replica::{CatchUpError, CaughtUp, Replica, catch_up_both};
+use merkle_search_tree::OutlineItemOf;
+use merkle_search_tree::builder::{Builder, PageFormat};
+use std::alloc::{AllocError, Global};
+use std::test::Fail;
+use testing::{LevelHasher, number_key};
+
+/// A map of number keys on given levels.
+type Numbers = Replica<[u8; 2], u64, LevelHasher<[u8; 2]>, 32>;
+
+/// How many keys there are.
+const COUNT: usize = 40;
+
+/// The levels that a key can be on, lower ones more often than higher ones.
+const LEVELS: [u8; 8] = [0, 0, 0, 0, 1, 1, 2, 3];
+
+/// A generator of numbers, which it takes from the highest bits of a product sum.
+#[derive(Clone, Copy)]
+struct Random {
+    state: u64,
+}
+
+impl Random {
+    /// The next number below a bound.
+    fn below(&mut self, bound: u64) -> u64 {
+        self.state = self
+            .state
+            .wrapping_mul(6_364_136_223_846_793_005)
+            .wrapping_add(1_442_695_040_888_963_407);
+        (self.state >> 33).checked_rem(bound).unwrap_or(0)
+    }
+
+    /// A level for each key.
+    fn levels(&mut self) -> [u8; COUNT] {
+        let mut levels = [0; COUNT];
+        for level in &mut levels {
+            *level = LEVELS.get(self.below(8) as usize).copied().unwrap_or(0);
+        }
+        levels
+    }
+
+    /// A value for each key; 0 where the map lacks the key.
+    fn values(&mut self) -> [u64; COUNT] {
+        let mut values = [0; COUNT];
+        for value in &mut values {
+            *value = self.below(4);
+        }
+        values
+    }
+
+    /// The same values, but for one in `rate`.
+    fn changed(&mut self, values: &[u64; COUNT], rate: u64) -> [u64; COUNT] {
+        let mut changed = *values;
+        for value in &mut changed {
+            if self.below(rate) == 0 {
+                *value = self.below(4);
+            }
+        }
+        changed
+    }
+}
+
+/// Puts a row.
+fn put(replica: &mut Numbers, number: u16, value: u64) -> Result<(), AllocError> {
+    replica.put(number_key(number), value)
+}
+
+/// A catch-up.
+fn catch_up(a: &mut Numbers, b: &mut Numbers) -> Result<CaughtUp, CatchUpError> {
+    a.catch_up(b)
+}
+
+/// Catch-ups in both directions, and whether memory was there.
+fn both_ways(a: &mut Numbers, b: &mut Numbers) -> bool {
+    catch_up_both(a, b).is_ok()
+}
+
+/// The hasher that puts each key on its level.
+fn hasher(alloc: Global, levels: &[u8; COUNT]) -> Result<LevelHasher<[u8; 2]>, AllocError> {
+    let mut keys = Vec::with_capacity(alloc, COUNT)?;
+    for (number, level) in levels.iter().enumerate() {
+        keys.push((number_key(number as u16), *level))?;
+    }
+    Ok(LevelHasher::new(keys))
+}
+
+/// The map of these values, with a tree in a page format.
+fn numbers(
+    alloc: Global,
+    format: PageFormat,
+    values: &[u64; COUNT],
+    hasher: LevelHasher<[u8; 2]>,
+) -> Result<Numbers, AllocError> {
+    let builder = Builder::default().with_page_format(format);
+    let mut replica = Numbers::new(alloc, builder.with_hasher(hasher));
+    for (number, value) in values.iter().enumerate() {
+        if *value > 0 {
+            put(&mut replica, number as u16, *value)?;
+        }
+    }
+    Ok(replica)
+}
+
+/// The join of values, and how many of the second are missing in the first or differ there.
+fn joined(a: &[u64; COUNT], b: &[u64; COUNT]) -> ([u64; COUNT], usize) {
+    let mut both = *a;
+    let mut lacked = 0usize;
+    for (own, other) in both.iter_mut().zip(b.iter()) {
+        if *other > 0 && *own != *other {
+            lacked = lacked.saturating_add(1);
+        }
+        *own = (*own).max(*other);
+    }
+    (both, lacked)
+}
+
+/// Whether the replica has these values and no others.
+fn has_values(replica: &Numbers, values: &[u64; COUNT]) -> bool {
+    let mut at = 0;
+    for (number, value) in values.iter().enumerate() {
+        if *value > 0 {
+            match replica.rows().get(at) {
+                Some(row) if row.0 == number_key(number as u16) && row.1 == *value => at += 1,
+                _ => return false,
+            }
+        }
+    }
+    at == replica.rows().len()
+}
+
+#[test]
+fn catch_ups_join_what_is_lacked(rt: HostRuntime) -> Result<(), Fail> {
+    let alloc = rt.alloc();
+    let mut random = Random { state: 7 };
+    for turn in 0..300u64 {
+        let levels = random.levels();
+        let ours = random.values();
+        let theirs = if turn % 3 == 0 {
+            random.values()
+        } else {
+            random.changed(&ours, turn % 16 + 2)
+        };
+        let format = if turn % 2 == 0 {
+            PageFormat::V1
+        } else {
+            PageFormat::V2
+        };
+        let mut a = numbers(alloc, format, &ours, hasher(alloc, &levels)?)?;
+        let mut b = numbers(alloc, format, &theirs, hasher(alloc, &levels)?)?;
+        let (both, lacked) = joined(&ours, &theirs);
+        let caught = catch_up(&mut a, &mut b).ok().ok_or("refused")?;
+        assert_eq!(rt; caught.joined, lacked, "turn {turn}");
+        assert!(rt; caught.rounds <= 5, "turn {turn}");
+        assert!(rt; has_values(&a, &both), "turn {turn}");
+        assert!(rt; has_values(&b, &theirs), "turn {turn}");
+        let back = catch_up(&mut b, &mut a).ok().ok_or("refused")?;
+        let (_, lacked_back) = joined(&theirs, &both);
+        assert_eq!(rt; back.joined, lacked_back, "turn {turn}");
+        assert!(rt; has_values(&b, &both), "turn {turn}");
+        let again = catch_up(&mut a, &mut b).ok().ok_or("refused")?;
+        assert_eq!(rt; again.joined, 0, "turn {turn}");
+        assert_eq!(rt; again.rounds, 0, "turn {turn}");
+    }
+    Ok(())
+}
+
+/// The keys that the steps of a catch-up leave to ask `peer` for, both hashed, in the order in which they are found.
+fn keys_to_ask(alloc: Global, local: &Numbers, peer: &Numbers) -> Result<Vec<[u8; 2]>, Fail> {
+    let mut keys = Vec::new(alloc);
+    let mut items = Vec::new(alloc);
+    if let Some(range) = peer.tree().root_range() {
+        items.push(OutlineItemOf::Page(range))?;
+    }
+    for _ in 0..256 {
+        let asked = local.sort_out(&items)?;
+        for key in &asked.keys {
+            keys.push(**key)?;
+        }
+        if asked.spans.is_empty() {
+            break;
+        }
+        items = peer.outlines(&asked.spans)?.ok_or("not hashed")?;
+    }
+    Ok(keys)
+}
+
+/// Joins the peer's rows at the keys, which come over a wire.
+fn join_rows_at(
+    alloc: Global,
+    local: &mut Numbers,
+    peer: &Numbers,
+    keys: &[[u8; 2]],
+) -> Result<(), Fail> {
+    let mut ranges = Vec::new(alloc);
+    for key in keys {
+        ranges.push((*key, *key))?;
+    }
+    let mut rows = Vec::new(alloc);
+    for row in peer.rows_within(&ranges).ok_or("not ascending")? {
+        rows.push((row.0, row.1))?;
+    }
+    local.join_rows(rows).ok().ok_or("refused")?;
+    Ok(())
+}
+
+#[test]
+fn steps_join_what_is_lacked(rt: HostRuntime) -> Result<(), Fail> {
+    let alloc = rt.alloc();
+    let mut random = Random { state: 11 };
+    for turn in 0..100u64 {
+        let levels = random.levels();
+        let ours = random.values();
+        let theirs = random.changed(&ours, turn % 16 + 1);
+        let mut a = numbers(alloc, PageFormat::V2, &ours, hasher(alloc, &levels)?)?;
+        let mut b = numbers(alloc, PageFormat::V2, &theirs, hasher(alloc, &levels)?)?;
+        a.hash();
+        b.hash();
+        let (both, lacked) = joined(&ours, &theirs);
+        let mut keys = keys_to_ask(alloc, &a, &b)?;
+        keys.sort_unstable();
+        assert_eq!(rt; keys.len(), lacked, "turn {turn}");
+        join_rows_at(alloc, &mut a, &b, &keys)?;
+        assert!(rt; has_values(&a, &both), "turn {turn}");
+    }
+    Ok(())
+}
+
+#[test]
+fn catch_ups_in_both_directions_join_both(rt: HostRuntime) -> Result<(), Fail> {
+    let alloc = rt.alloc();
+    let mut random = Random { state: 13 };
+    for turn in 0..50u64 {
+        let levels = random.levels();
+        let ours = random.values();
+        let theirs = random.values();
+        let mut a = numbers(alloc, PageFormat::V2, &ours, hasher(alloc, &levels)?)?;
+        let mut b = numbers(alloc, PageFormat::V1, &theirs, hasher(alloc, &levels)?)?;
+        let (both, _) = joined(&ours, &theirs);
+        assert!(rt; both_ways(&mut a, &mut b), "turn {turn}");
+        assert!(rt; has_values(&a, &both), "turn {turn}");
+        assert!(rt; has_values(&b, &both), "turn {turn}");
+    }
+    Ok(())
+}

@@ -1,0 +1,118 @@
+//! Catch-ups of several replicas through a hub: what all hold afterwards, worked out value by value.
+
+use merkle_digest::SipHasher;
+use merkle_replica::{Replica, catch_up_all};
+use merkle_search_tree::builder::Builder;
+use std::alloc::{AllocError, Global};
+use std::test::Fail;
+use testing::number_key;
+
+/// A map of number keys.
+type Numbers = Replica<[u8; 2], u64, SipHasher, 16>;
+
+/// How many keys there are.
+const COUNT: usize = 64;
+
+/// A generator of numbers, which it takes from the highest bits of a product sum.
+#[derive(Clone, Copy)]
+struct Random {
+    state: u64,
+}
+
+impl Random {
+    /// The next number below a bound.
+    fn below(&mut self, bound: u64) -> u64 {
+        self.state = self
+            .state
+            .wrapping_mul(6_364_136_223_846_793_005)
+            .wrapping_add(1_442_695_040_888_963_407);
+        (self.state >> 33).checked_rem(bound).unwrap_or(0)
+    }
+
+    /// A value for each key; 0 where the map lacks the key.
+    fn values(&mut self) -> [u64; COUNT] {
+        let mut values = [0; COUNT];
+        for value in &mut values {
+            *value = self.below(4);
+        }
+        values
+    }
+}
+
+/// Puts a row.
+fn put(replica: &mut Numbers, number: u16, value: u64) -> Result<(), AllocError> {
+    replica.put(number_key(number), value)
+}
+
+/// Catch-ups through a hub, and whether memory was there.
+fn all_through(hub: &mut Numbers, others: &mut [Numbers]) -> bool {
+    catch_up_all(hub, others).is_ok()
+}
+
+/// The map of these values.
+fn numbers(alloc: Global, values: &[u64; COUNT]) -> Result<Numbers, AllocError> {
+    let mut replica = Numbers::new(alloc, Builder::default());
+    for (number, value) in (0u16..64).zip(values.iter()) {
+        if *value > 0 {
+            put(&mut replica, number, *value)?;
+        }
+    }
+    Ok(replica)
+}
+
+/// Whether the map has these values and no other rows.
+fn holds(replica: &Numbers, values: &[u64; COUNT]) -> bool {
+    let mut rows = replica.rows().iter();
+    for (number, value) in (0u16..64).zip(values.iter()) {
+        if *value > 0 {
+            match rows.next() {
+                None => return false,
+                Some(row) => {
+                    if row.0 != number_key(number) || row.1 != *value {
+                        return false;
+                    }
+                }
+            }
+        }
+    }
+    rows.next().is_none()
+}
+
+/// Takes in the greater value of each key.
+fn raise(joined: &mut [u64; COUNT], values: &[u64; COUNT]) {
+    for (value, other) in joined.iter_mut().zip(values.iter()) {
+        *value = (*value).max(*other);
+    }
+}
+
+/// Whether a hub and so many others come to hold the join of their random maps.
+fn join_through_hub(alloc: Global, others: u64, random: &mut Random) -> Result<bool, AllocError> {
+    let mut joined = random.values();
+    let mut hub = numbers(alloc, &joined)?;
+    let mut replicas = Vec::new(alloc);
+    for _other in 0..others {
+        let values = random.values();
+        raise(&mut joined, &values);
+        replicas.push(numbers(alloc, &values)?)?;
+    }
+    let are_made = all_through(&mut hub, &mut replicas);
+    let mut all_hold = are_made && holds(&hub, &joined);
+    for replica in &replicas {
+        all_hold = all_hold && holds(replica, &joined);
+    }
+    Ok(all_hold)
+}
+
+#[test]
+fn a_hub_brings_all_to_the_join(rt: HostRuntime) -> Result<(), Fail> {
+    let mut random = Random { state: 2026 };
+    for others in 0..6 {
+        for round in 0..8 {
+            assert!(rt;
+                join_through_hub(rt.alloc(), others, &mut random)?,
+                "{others} others: round {round}"
+            );
+        }
+    }
+    Ok(())
+}
