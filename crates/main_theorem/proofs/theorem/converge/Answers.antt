@@ -1,0 +1,92 @@
+use Rattle.std.proofs.Common.{sym, subst, ◌∙◌}
+use Rattle.key_order.specs.Join.{IsJoin}
+use Rattle.key_order.proofs.Joins.{same_joins}
+use Rattle.merkle_tree_theory.specs.Sound.{IsSound}
+use Rattle.merkle_tree_theory.specs.State.{State, HasSettings}
+use Rattle.merkle_replica.specs.Contents.{side}
+use Rattle.main_theorem.specs.After.{AreEqual, rows_after, root_hash_under}
+use Rattle.main_theorem.specs.Course.{AreExchanged}
+use Rattle.merkle_replica.specs.Laws.{Laws}
+use Rattle.main_theorem.proofs.Courses.{apart_stay}
+use Rattle.main_theorem.proofs.Lives.{join_equal, equal_itself}
+use Rattle.main_theorem.proofs.Roots.{is_defined, root_last, settings_stay}
+use Rattle.main_theorem.proofs.theorem.converge.Goals as goal
+
+pub returns-clause-rows : goal.returns-clause-rows
+returns-clause-rows g c apart =
+    let laws : Laws g.row.K.Denot g.row.V.Denot g.row.H.Denot = record { cmp = g.K.Ord.cmp; bytes_of = g.K.KeyBytes.bytes_of; key_digest = g.H.Hasher-1.digest_of; eq = g.V.PartialEq.eq; join = g.V.Join.join_of; value_digest = g.H.Hasher-2.digest_of } in
+    let a = c.in-Ok-after.first.0 in
+    let b = c.in-Ok-after-2.second.0 in
+    let (met, made, _) = c.in-Ok-come_together.ensures.converges in
+    let (x, y) = apart_stay laws (side a) (side b) c.come_together.new.a.rows c.come_together.new.b.rows met c.args.exchange c.in-Ok-come_together.exchanged apart c.in-Ok-come_together.ensures.done made in (
+      subst (λ rows. AreEqual laws.cmp laws.eq rows (rows_after laws.cmp laws.join c.args.a_updates.items c.in-Ok-after.first.1.items)) (sym (c.hash_last.ensures.rows ∙ x)) c.in-Ok-after.ensures.rows,
+      subst (λ rows. AreEqual laws.cmp laws.eq rows (rows_after laws.cmp laws.join c.args.b_updates.items c.in-Ok-after-2.second.1.items)) (sym (c.hash_last-2.ensures.rows ∙ y)) c.in-Ok-after-2.ensures.rows,
+    )
+
+pub returns-clause-a_defined : goal.returns-clause-a_defined
+returns-clause-a_defined g c m h =
+    let laws : Laws g.row.K.Denot g.row.V.Denot g.row.H.Denot = record { cmp = g.K.Ord.cmp; bytes_of = g.K.KeyBytes.bytes_of; key_digest = g.H.Hasher-1.digest_of; eq = g.V.PartialEq.eq; join = g.V.Join.join_of; value_digest = g.H.Hasher-2.digest_of } in
+    let one = c.a_map_has_one_tree.ensures in
+    let s = c.args.builder in
+    let come = c.come_together.new.a in
+    let last = c.hash_last.new.replica in
+    let set = settings_stay s c.in-Ok-after.first.0.tree come.tree c.in-Ok-after.ensures.settings c.come_together.ensures.a_settings in
+    let sound = subst (λ (t : State _ _). IsSound laws.cmp laws.key_digest laws.bytes_of t) c.tree.ensures.tree c.every_tree_is_sound.ensures.sound in
+    is_defined laws g.met.K.Ord.total g.met.H.Hasher-2.respects_eq one.defined one.only one.digests c.equal_pages_have_equal_maps.ensures.ranges s last.tree last.rows m
+    (settings_stay s come.tree last.tree set c.hash_last.ensures.settings) sound c.tree.ensures.digests
+    (root_last laws g.met.K.Ord.total g.met.H.Hasher-2.respects_eq one.defined one.only one.digests c.equal_pages_have_equal_maps.ensures.ranges s come.tree come.rows last.rows last.tree.root_hash set c.hash_last.ensures.rows c.hash_last.ensures.root_hash) h
+
+pub returns-clause-b_defined : goal.returns-clause-b_defined
+returns-clause-b_defined g c m h =
+    let laws : Laws g.row.K.Denot g.row.V.Denot g.row.H.Denot = record { cmp = g.K.Ord.cmp; bytes_of = g.K.KeyBytes.bytes_of; key_digest = g.H.Hasher-1.digest_of; eq = g.V.PartialEq.eq; join = g.V.Join.join_of; value_digest = g.H.Hasher-2.digest_of } in
+    let one = c.a_map_has_one_tree.ensures in
+    let s = c.args.builder in
+    let come = c.come_together.new.b in
+    let last = c.hash_last-2.new.replica in
+    let began = c.in-Ok-after-2.ensures.settings in
+    let first : HasSettings s c.in-Ok-after-2.second.0.tree = (began.0 ∙ c.requires.hashers _ _ c.in-Ok.ensures.hasher, began.1 ∙ c.in-Ok.ensures.base, began.2 ∙ c.in-Ok.ensures.format) in
+    let set = settings_stay s c.in-Ok-after-2.second.0.tree come.tree first c.come_together.ensures.b_settings in
+    let sound = subst (λ (t : State _ _). IsSound laws.cmp laws.key_digest laws.bytes_of t) c.tree-2.ensures.tree c.every_tree_is_sound-2.ensures.sound in
+    is_defined laws g.met.K.Ord.total g.met.H.Hasher-2.respects_eq one.defined one.only one.digests c.equal_pages_have_equal_maps.ensures.ranges s last.tree last.rows m
+    (settings_stay s come.tree last.tree set c.hash_last-2.ensures.settings) sound c.tree-2.ensures.digests
+    (root_last laws g.met.K.Ord.total g.met.H.Hasher-2.respects_eq one.defined one.only one.digests c.equal_pages_have_equal_maps.ensures.ranges s come.tree come.rows last.rows last.tree.root_hash set c.hash_last-2.ensures.rows c.hash_last-2.ensures.root_hash) h
+
+pub returns-clause-converges : goal.returns-clause-converges
+returns-clause-converges g c =
+    let laws : Laws g.row.K.Denot g.row.V.Denot g.row.H.Denot = record { cmp = g.K.Ord.cmp; bytes_of = g.K.KeyBytes.bytes_of; key_digest = g.H.Hasher-1.digest_of; eq = g.V.PartialEq.eq; join = g.V.Join.join_of; value_digest = g.H.Hasher-2.digest_of } in
+    let o = g.met.K.Ord.total in
+    let e = g.met.V.Eq.laws in
+    let j = g.met.V.Join.joining in
+    let one = c.a_map_has_one_tree.ensures in
+    let s = c.args.builder in
+    let a = c.in-Ok-after.first.0 in
+    let b = c.in-Ok-after-2.second.0 in
+    let m = rows_after laws.cmp laws.join c.args.a_updates.items c.in-Ok-after.first.1.items in
+    let n = rows_after laws.cmp laws.join c.args.b_updates.items c.in-Ok-after-2.second.1.items in
+    let a' = c.hash_last.new.replica in
+    let b' = c.hash_last-2.new.replica in
+    let began = c.in-Ok-after-2.ensures.settings in
+    let first : HasSettings s b.tree = (began.0 ∙ c.requires.hashers _ _ c.in-Ok.ensures.hasher, began.1 ∙ c.in-Ok.ensures.base, began.2 ∙ c.in-Ok.ensures.format) in
+    let of_a = c.in-Ok-after.ensures.settings in
+    let (met, made, all) = c.in-Ok-come_together.ensures.converges in (
+      met,
+      record {
+        a = side a;
+        b = side b;
+        is_a = record { hasher = of_a.0; base = of_a.1; format = of_a.2; rows = c.in-Ok-after.ensures.rows };
+        is_b = record { hasher = first.0; base = first.1; format = first.2; rows = c.in-Ok-after-2.ensures.rows };
+        exchange = subst (λ rows. AreExchanged laws c.in-Ok-come_together.exchanged (side a) (side b) rows b'.rows met) (sym c.hash_last.ensures.rows)
+            (subst (λ rows. AreExchanged laws c.in-Ok-come_together.exchanged (side a) (side b) c.come_together.new.a.rows rows met) (sym c.hash_last-2.ensures.rows) made);
+      },
+      λ faith enough.
+          let (x, y) = all faith enough in
+          let joins_a = join_equal laws.cmp o laws.eq e laws.join j a.rows m b.rows n a'.rows c.in-Ok-after.ensures.rows c.in-Ok-after-2.ensures.rows (subst (IsJoin laws.cmp laws.eq laws.join a.rows b.rows) (sym c.hash_last.ensures.rows) x) in
+          let joins_b = join_equal laws.cmp o laws.eq e laws.join j a.rows m b.rows n b'.rows c.in-Ok-after.ensures.rows c.in-Ok-after-2.ensures.rows (subst (IsJoin laws.cmp laws.eq laws.join a.rows b.rows) (sym c.hash_last-2.ensures.rows) y) in
+          record {
+            a_joins = joins_a;
+            b_joins = joins_b;
+            root_hash = root_hash_under laws s b'.rows;
+            of_a = (returns-clause-a_defined g c b'.rows (same_joins laws.cmp o laws.eq e laws.join j m n a'.rows b'.rows joins_a joins_b)).root_hash;
+            of_b = (returns-clause-b_defined g c b'.rows (equal_itself laws.cmp o laws.eq e laws.join j b'.rows)).root_hash;
+          },
+    )

@@ -1,0 +1,63 @@
+-- What a list of updates of a replica leads to, each of which was accepted or not.
+use Rattle.std.specs.Prelude.{◌≡◌, ℕ, Bool, true, false, List, [], ◌∷◌, Option, Some, None}
+use Rattle.std.specs.declared.cmp.Ordering.{Ordering}
+use Rattle.key_order.specs.Map.{get, set, del, SameMap}
+use Rattle.merkle_diff.specs.Entry.{Entry}
+use Rattle.merkle_diff.specs.SameEntries.{SameEntries}
+use Rattle.merkle_tree_theory.specs.Canonical.{SamePages}
+use Rattle.merkle_tree_theory.specs.State.{State}
+use Rattle.merkle_search_tree.specs.Loading.{digests}
+use Rattle.merkle_tree_theory.specs.Ranges.{ranges_of}
+use Rattle.merkle_tree_theory.specs.Settings.{Settings}
+use Rattle.merkle_tree_theory.specs.Stream.{page_digest}
+use Rattle.merkle_tree_theory.specs.Tree.{Tree}
+use Rattle.merkle_tree_theory.specs.TreeOf.{defined_tree}
+use Rattle.merkle_search_tree.specs.declared.updates.Update.{Update}
+use Rattle.merkle_search_tree.specs.declared.updates.Update.TheVariants.{Upsert, Remove, RootHash}
+use Rattle.merkle_replica.specs.Laws.{Laws}
+
+-- a value joined to the one that is there, where there is one
+abbrev pub join_to : {V : Type 0} → (V → V → V) → Option V → V → V
+join_to join None v = v
+join_to join (Some w) v = join w v
+
+module _ {K V : Type 0} (cmp : K → K → Ordering) (join : V → V → V) where
+  -- the map after one update: an accepted upsert joins its value at its key, an accepted removal takes out the row of its key, and
+  -- nothing else changes the map
+  abbrev pub rows_after_one : List (K × V) → Update K V → Bool → List (K × V)
+  rows_after_one m (Upsert k v) true = set cmp m k (join_to join (get cmp m k) v)
+  rows_after_one m (Upsert k v) false = m
+  rows_after_one m (Remove k) true = del cmp m k
+  rows_after_one m (Remove k) false = m
+  rows_after_one m RootHash accepted = m
+
+  -- the map after the updates
+  abbrev pub rows_after_all : List (K × V) → List (Update K V) → List Bool → List (K × V)
+  rows_after_all m [] accepted = m
+  rows_after_all m (u ∷ us) [] = m
+  rows_after_all m (u ∷ us) (a ∷ accepted) = rows_after_all (rows_after_one m u a) us accepted
+
+  -- the map of the accepted updates, from the empty one on
+  abbrev pub rows_after : List (Update K V) → List Bool → List (K × V)
+  rows_after = rows_after_all []
+
+-- equal keys, and equal values
+abbrev pub AreEqual : {K V : Type 0} → (K → K → Ordering) → (V → V → Bool) → List (K × V) → List (K × V) → Type 0
+AreEqual cmp eq = SameMap cmp (λ x y. eq x y ≡ true)
+
+module _ {K V H : Type 0} (laws : Laws K V H) where
+  -- the tree that a map defines under the settings of a builder, its page ranges, and its root hash
+  abbrev pub tree_under : Settings H → List (K × V) → Tree K (List ℕ)
+  tree_under s m = defined_tree (laws.key_digest s.hasher) s.base (digests (laws.value_digest s.hasher) m)
+
+  abbrev pub page_ranges_under : Settings H → List (K × V) → List (Entry K (List ℕ))
+  page_ranges_under s m = ranges_of s.format laws.bytes_of (tree_under s m)
+
+  abbrev pub root_hash_under : Settings H → List (K × V) → List ℕ
+  root_hash_under s m = page_digest s.format laws.bytes_of (tree_under s m)
+
+  -- a tree has the pages of the one that a map defines, apart from caches, its page ranges, and its root hash
+  pub record IsDefinedBy (s : Settings H) (m : List (K × V)) (tree : State K H) : Type 0 where
+    pub pages : SamePages laws.cmp tree.root (tree_under s m)
+    pub ranges : SameEntries laws.cmp (ranges_of tree.format laws.bytes_of tree.root) (page_ranges_under s m)
+    pub root_hash : tree.root_hash ≡ Some (root_hash_under s m)

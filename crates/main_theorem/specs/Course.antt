@@ -1,0 +1,75 @@
+-- How two replicas came together.
+use Rattle.std.specs.Prelude.{◌≡◌, ℕ, ◌<◌, ◌≤◌, List, [], ◌∷◌, map, length, Some, ⊤}
+use Rattle.key_order.specs.Join.{IsJoin}
+use Rattle.merkle_tree_theory.specs.Settings.{Settings}
+use Rattle.merkle_replica.specs.Answers.{answer_of}
+use Rattle.merkle_replica.specs.CatchUp.{AreCatchUps}
+use Rattle.merkle_replica.specs.Contents.{Contents, Side, with_rows}
+use Rattle.merkle_replica.specs.Laws.{Laws}
+use Rattle.merkle_replica.specs.Pulls.{IsByTurns}
+use Rattle.main_theorem.specs.After.{AreEqual}
+use Rattle.main_theorem.specs.declared.course.Exchange.{Exchange}
+use Rattle.main_theorem.specs.declared.course.Exchange.TheVariants.{Apart, ByTurns, ByCatchUps}
+use Rattle.main_theorem.specs.declared.course.Exchanged.{Exchanged}
+use Rattle.main_theorem.specs.declared.course.Exchanged.TheVariants.{Nothing, Pulled, CaughtUp}
+use Rattle.main_theorem.specs.declared.course.RunRefused.{RunRefused}
+use Rattle.main_theorem.specs.declared.course.RunRefused.TheVariants.{Before, InTurns, InCatchUps}
+
+-- it is enough to bring everything over: four pulls by turns or more, or a catch-up each way
+abbrev pub IsEnough : Exchange → Type 0
+IsEnough Apart = ⊥
+IsEnough (ByTurns n) = 4 ≤ n
+IsEnough ByCatchUps = ⊤
+
+module _ {K : Type 0} where
+  -- what was asked for was done
+  abbrev pub IsDone : Exchange → Exchanged K → Type 0
+  IsDone Apart Nothing = ⊤
+  IsDone Apart (Pulled pulls) = ⊥
+  IsDone Apart (CaughtUp first second) = ⊥
+  IsDone (ByTurns n) Nothing = ⊥
+  IsDone (ByTurns n) (Pulled pulls) = length pulls.items ≡ n
+  IsDone (ByTurns n) (CaughtUp first second) = ⊥
+  IsDone ByCatchUps Nothing = ⊥
+  IsDone ByCatchUps (Pulled pulls) = ⊥
+  IsDone ByCatchUps (CaughtUp first second) = ⊤
+
+  -- where a run stopped: before the exchange, or in it, after fewer pulls than were asked for
+  abbrev pub IsStopped : Exchange → RunRefused K → Type 0
+  IsStopped exchange Before = ⊤
+  IsStopped Apart (InTurns error) = ⊥
+  IsStopped Apart (InCatchUps error) = ⊥
+  IsStopped (ByTurns n) (InTurns error) = length error.finished.items < n
+  IsStopped (ByTurns n) (InCatchUps error) = ⊥
+  IsStopped ByCatchUps (InTurns error) = ⊥
+  IsStopped ByCatchUps (InCatchUps error) = ⊤
+
+module _ {K V H : Type 0} (laws : Laws K V H) where
+  -- a side with the settings of a builder, and with rows equal to a map
+  pub record IsSideOf (s : Settings H) (m : List (K × V)) (side : Side K V H) : Type 0 where
+    pub hasher : side.hasher ≡ s.hasher
+    pub base : side.base ≡ s.base
+    pub format : side.format ≡ s.format
+    pub rows : AreEqual laws.cmp laws.eq side.rows m
+
+  -- from the sides a and b on, the exchange left these rows; `met` are the two sides before each pull or catch-up
+  abbrev pub AreExchanged : Exchanged K → Side K V H → Side K V H → List (K × V) → List (K × V) → List (Side K V H × Side K V H) → Type 0
+  AreExchanged Nothing a b a' b' met = (a' ≡ a.rows) × (b' ≡ b.rows) × (met ≡ [])
+  AreExchanged (Pulled pulls) a b a' b' met = IsByTurns laws (map answer_of pulls.items) a b a' b' met
+  AreExchanged (CaughtUp first second) a b a' b' met = AreCatchUps laws a b first.joined second.joined a' b' × (met ≡ (a, b) ∷ (b, with_rows a a') ∷ [])
+
+  -- two sides with the settings of a builder came together, from these two maps to these rows
+  pub record IsCourse (s : Settings H) (m n : List (K × V)) (exchanged : Exchanged K) (a' b' : List (K × V)) (met : List (Side K V H × Side K V H)) : Type 0 where
+    pub a : Side K V H
+    pub b : Side K V H
+    pub is_a : IsSideOf s m a
+    pub is_b : IsSideOf s n b
+    pub exchange : AreExchanged exchanged a b a' b' met
+
+  -- both replicas hold the join of two maps, and have one root hash
+  pub record AreOne (m n : List (K × V)) (a b : Contents K V H) : Type 0 where
+    pub a_joins : IsJoin laws.cmp laws.eq laws.join m n a.rows
+    pub b_joins : IsJoin laws.cmp laws.eq laws.join m n b.rows
+    pub root_hash : List ℕ
+    pub of_a : a.tree.root_hash ≡ Some root_hash
+    pub of_b : b.tree.root_hash ≡ Some root_hash

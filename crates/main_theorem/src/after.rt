@@ -1,0 +1,79 @@
+//! A replica's whole life: updates carried out one after the other, from no row on.
+ghost use Rattle.std.specs.Prelude.{◌≡◌, List, IfOk, Some, length};
+ghost use Rattle.key_order.specs.Order.{Same};
+ghost use Rattle.merkle_search_tree.specs.Loading.{digests};
+ghost use Rattle.merkle_tree_theory.specs.State.{HasSettings, SameSettings};
+ghost use Rattle.merkle_tree_theory.specs.Stream.{page_digest};
+ghost use Rattle.merkle_tree_theory.specs.TreeOf.{defined_tree};
+ghost use Rattle.main_theorem.specs.After.{AreEqual, rows_after, rows_after_one};
+
+use merkle_digest::{Hasher, Key};
+use merkle_replica::{Join, Replica};
+use merkle_search_tree::builder::Builder;
+use merkle_search_tree::laws::{a_map_has_one_tree, every_tree_is_sound};
+use merkle_search_tree::updates::Update;
+use std::alloc::{AllocError, Global};
+
+/// Carries out an update, and answers whether it was accepted.
+fn carry_out<K, V, H, const N: usize>(
+    replica: &mut Replica<K, V, H, N>,
+    update: Update<K, V>,
+) -> bool
+where
+    K: Key + Drop,
+    V: Join + Drop,
+    H: Hasher<N, K> + Hasher<N, V>,
+    ensures rows { (m : List (K × V)) → AreEqual K.cmp V.eq replica.old.rows m → AreEqual K.cmp V.eq replica.new.rows (rows_after_one K.cmp V.join_of m update result) }
+    ensures settings { SameSettings replica.old.tree replica.new.tree }
+{
+    let _ = replica.rows();
+    match update {
+        Update::Upsert(key, value) => replica.put(key, value).is_ok(),
+        Update::Remove(key) => replica.del(&key).is_ok(),
+        Update::RootHash => {
+            replica.hash();
+            true
+        }
+    }
+}
+
+/// The replica that the updates lead to, hashed at the end, and for each update whether it was accepted.
+pub(crate) fn after<K, V, H, const N: usize>(
+    alloc: Global,
+    builder: Builder<H>,
+    updates: Vec<Update<K, V>>,
+) -> Result<(Replica<K, V, H, N>, Vec<bool>), AllocError>
+where
+    K: Key + Drop,
+    V: Join + Drop,
+    H: Hasher<N, K> + Hasher<N, V> + Drop,
+    ensures answers { IfOk result (λ r. length r.1.items ≡ length updates.items) }
+    ensures rows { IfOk result (λ r. AreEqual K.cmp V.eq r.0.rows (rows_after K.cmp V.join_of updates.items r.1.items)) }
+    ensures settings { IfOk result (λ r. HasSettings builder r.0.tree) }
+    ensures root_hash { IfOk result (λ r. r.0.tree.root_hash ≡ Some (page_digest builder.format K.bytes_of
+        (defined_tree (⟦<H as Hasher<N, K>>⟧.digest_of builder.hasher) builder.base (digests (⟦<H as Hasher<N, V>>⟧.digest_of builder.hasher) r.0.rows)))) }
+{
+    let mut accepted = Vec::with_capacity(alloc, updates.len())?;
+    let mut replica = Replica::new(alloc, builder);
+    'updates: for update in updates {
+        accepted.push(carry_out(&mut replica, update))?;
+    }
+    hash_last(&mut replica);
+    Ok((replica, accepted))
+}
+
+/// Fills in the digests that pages of the replica lack: its root hash is then the one that its rows define.
+pub(crate) fn hash_last<K, V, H, const N: usize>(replica: &mut Replica<K, V, H, N>)
+where
+    K: Key,
+    V: Join,
+    H: Hasher<N, K> + Hasher<N, V>,
+    ensures rows { replica.new.rows ≡ replica.old.rows }
+    ensures settings { SameSettings replica.old.tree replica.new.tree }
+    ensures root_hash { replica.new.tree.root_hash ≡ Some (page_digest replica.old.tree.format K.bytes_of
+        (defined_tree (⟦<H as Hasher<N, K>>⟧.digest_of replica.old.tree.hasher) replica.old.tree.base (digests (⟦<H as Hasher<N, V>>⟧.digest_of replica.old.tree.hasher) replica.old.rows))) }
+{
+    a_map_has_one_tree::<K, H, N>();
+    every_tree_is_sound(replica.tree());
+    replica.hash();
+}

@@ -1,0 +1,81 @@
+//! How two replicas come together.
+ghost use Rattle.std.specs.Prelude.{◌≡◌, List, IfOk, IfErr};
+ghost use Rattle.key_order.specs.Order.{Same};
+ghost use Rattle.merkle_tree_theory.specs.State.{SameSettings};
+ghost use Rattle.merkle_replica.specs.Contents.{Side, side};
+ghost use Rattle.merkle_replica.specs.Faithful.{AllFaithful};
+ghost use Rattle.merkle_replica.specs.Pulls.{HoldTheJoin};
+ghost use Rattle.main_theorem.specs.Course.{AreExchanged, IsDone, IsEnough, IsStopped};
+
+use merkle_digest::{Hasher, Key};
+use merkle_replica::{
+    CatchUpsError, CaughtUp, Join, Lawful, Pulled, Replica, TurnsError, catch_up_both,
+    pull_by_turns,
+};
+use std::alloc::Global;
+
+/// How two replicas are to come together.
+#[derive(Clone, Copy, Debug, PartialEq, Eq)]
+pub enum Exchange {
+    /// Not at all.
+    Apart,
+    /// By so many pulls by turns.
+    ByTurns(usize),
+    /// By one catch-up each way.
+    ByCatchUps,
+}
+
+/// What an exchange did.
+#[derive(Debug, Drop)]
+pub enum Exchanged<K> {
+    /// Nothing.
+    Nothing,
+    /// The pulls by turns.
+    Pulled(Vec<Pulled<K>>),
+    /// The catch-up of the first replica, and then that of the second.
+    CaughtUp(CaughtUp, CaughtUp),
+}
+
+/// Why there is no run to the end: memory was refused. Both replicas are given up.
+#[derive(Debug, Drop)]
+pub enum RunRefused<K> {
+    /// Before the exchange: for the clone of the hasher, or for the answers.
+    Before,
+    /// In the pulls by turns.
+    InTurns(TurnsError<K>),
+    /// In a catch-up.
+    InCatchUps(CatchUpsError),
+}
+
+/// Brings two replicas together.
+pub(crate) fn come_together<
+    K: Key + Drop,
+    V: Join + Drop,
+    H: Hasher<N, K> + Hasher<N, V>,
+    const N: usize,
+>(
+    alloc: Global,
+    a: &mut Replica<K, V, H, N>,
+    b: &mut Replica<K, V, H, N>,
+    exchange: Exchange,
+) -> Result<Exchanged<K>, RunRefused<K>>
+    ensures done { IfOk result (λ exchanged. IsDone exchange exchanged) }
+    ensures converges { let laws = ⟦<H as Lawful<N, K, V>>⟧.laws in IfOk result (λ exchanged. (met : List (Side K V H × Side K V H))
+        × AreExchanged laws exchanged (side a.old) (side b.old) a.new.rows b.new.rows met
+        × (AllFaithful laws met → IsEnough exchange → HoldTheJoin laws (side a.old) (side b.old) a.new.rows b.new.rows)) }
+    ensures stopped { IfErr result (λ refused. IsStopped exchange refused) }
+    ensures a_settings { SameSettings a.old.tree a.new.tree }
+    ensures b_settings { SameSettings b.old.tree b.new.tree }
+{
+    match exchange {
+        Exchange::Apart => Ok(Exchanged::Nothing),
+        Exchange::ByTurns(n) => match pull_by_turns(alloc, a, b, n) {
+            Ok(pulled) => Ok(Exchanged::Pulled(pulled)),
+            Err(error) => Err(RunRefused::InTurns(error)),
+        },
+        Exchange::ByCatchUps => match catch_up_both(a, b) {
+            Ok((first, second)) => Ok(Exchanged::CaughtUp(first, second)),
+            Err(error) => Err(RunRefused::InCatchUps(error)),
+        },
+    }
+}

@@ -1,0 +1,231 @@
+//! Two replicas carry out random updates of keys on random levels, and come together. The maps are worked out beside them, value by
+//! value, and the root hashes by the plain program of the definition.
+
+use main_theorem::{Exchange, Exchanged, Outcome, Run, RunRefused, converge};
+use merkle_digest::{Hasher, ValueDigest};
+use merkle_search_tree::builder::{Builder, PageFormat};
+use merkle_search_tree::updates::Update;
+use sample_trees::defined::defined_root_hash;
+use std::alloc::{AllocError, Global};
+use std::test::Fail;
+use testing::{LevelHasher, number_key};
+
+/// An update of a map of number keys.
+type Change = Update<[u8; 2], u64>;
+
+/// What became of a replica.
+type Replicated = Outcome<[u8; 2], u64, LevelHasher<[u8; 2]>, 32>;
+
+/// How many keys there are.
+const COUNT: usize = 12;
+
+/// The numbers of the keys.
+const NUMBERS: [u16; COUNT] = [0, 1, 2, 3, 4, 5, 6, 7, 8, 9, 10, 11];
+
+/// The levels that a key can be on, level 0 twice as often as the others.
+const LEVELS: [u8; 4] = [0, 0, 1, 2];
+
+/// How many updates each replica carries out.
+const UPDATES: usize = 24;
+
+/// A generator of numbers, which it takes from the highest bits of a product sum.
+#[derive(Clone, Copy)]
+struct Random {
+    state: u64,
+}
+
+impl Random {
+    /// The next number below a bound.
+    fn below(&mut self, bound: u64) -> u64 {
+        self.state = self
+            .state
+            .wrapping_mul(6_364_136_223_846_793_005)
+            .wrapping_add(1_442_695_040_888_963_407);
+        (self.state >> 33).checked_rem(bound).unwrap_or(0)
+    }
+
+    /// The number of a key.
+    fn number(&mut self) -> u16 {
+        NUMBERS.get(self.below(12) as usize).copied().unwrap_or(0)
+    }
+
+    /// The hasher that puts each key on a random level.
+    fn hasher(&mut self, alloc: Global) -> Result<LevelHasher<[u8; 2]>, AllocError> {
+        let mut levels = Vec::with_capacity(alloc, COUNT)?;
+        for number in &NUMBERS {
+            let level = LEVELS.get(self.below(4) as usize).copied().unwrap_or(0);
+            levels.push((number_key(*number), level))?;
+        }
+        Ok(LevelHasher::new(levels))
+    }
+
+    /// A list of updates, and the value that it leaves at each key; 0 where it leaves none.
+    fn updates(&mut self, alloc: Global) -> Result<(Vec<Change>, [u64; COUNT]), AllocError> {
+        let mut updates = Vec::with_capacity(alloc, UPDATES)?;
+        let mut values = [0; COUNT];
+        for _update in 0..UPDATES {
+            let number = self.number();
+            match self.below(6) {
+                0 => updates.push(Update::RootHash)?,
+                1 => {
+                    set(&mut values, number, 0);
+                    updates.push(Update::Remove(number_key(number)))?;
+                }
+                _ => {
+                    let value = self.below(4).saturating_add(1);
+                    let greater = value.max(value_at(&values, number));
+                    set(&mut values, number, greater);
+                    updates.push(Update::Upsert(number_key(number), value))?;
+                }
+            }
+        }
+        Ok((updates, values))
+    }
+}
+
+/// The value at a key.
+fn value_at(values: &[u64; COUNT], number: u16) -> u64 {
+    values.get(number as usize).copied().unwrap_or(0)
+}
+
+/// Puts a value at a key.
+fn set(values: &mut [u64; COUNT], number: u16, value: u64) {
+    for (at, place) in values.iter_mut().enumerate() {
+        if at == number as usize {
+            *place = value;
+        }
+    }
+}
+
+/// The greater value of each key.
+fn greatest(a: &[u64; COUNT], b: &[u64; COUNT]) -> [u64; COUNT] {
+    let mut joined = *a;
+    for (value, other) in joined.iter_mut().zip(b.iter()) {
+        *value = (*value).max(*other);
+    }
+    joined
+}
+
+/// Carries out the updates and the exchange.
+fn run_both(
+    alloc: Global,
+    builder: Builder<LevelHasher<[u8; 2]>>,
+    a: Vec<Change>,
+    b: Vec<Change>,
+    exchange: Exchange,
+) -> Result<Run<[u8; 2], u64, LevelHasher<[u8; 2]>, 32>, RunRefused<[u8; 2]>> {
+    converge(alloc, builder, a, b, exchange)
+}
+
+/// Whether all updates were accepted, and the rows are these, with the defined root hash.
+fn is_defined(
+    alloc: Global,
+    hasher: &LevelHasher<[u8; 2]>,
+    format: PageFormat,
+    outcome: Replicated,
+    values: &[u64; COUNT],
+) -> Result<bool, AllocError> {
+    let pairs = pairs(alloc, hasher, values)?;
+    let digest = defined_root_hash(hasher, format, &pairs);
+    let replica = outcome.replica;
+    let are_accepted = outcome.accepted.len() == UPDATES
+        && outcome.accepted.iter().all(|accepted| *accepted);
+    Ok(
+        are_accepted
+            && holds(replica.rows(), values)
+            && replica.tree().root_hash_cached() == Some(&digest),
+    )
+}
+
+/// The keys that have values, each with the digest of its value.
+fn pairs(
+    alloc: Global,
+    hasher: &LevelHasher<[u8; 2]>,
+    values: &[u64; COUNT],
+) -> Result<Vec<([u8; 2], ValueDigest<32>)>, AllocError> {
+    let mut pairs = Vec::new(alloc);
+    for (number, value) in NUMBERS.iter().zip(values.iter()) {
+        if *value > 0 {
+            pairs.push((number_key(*number), ValueDigest::new(hasher.hash(value))))?;
+        }
+    }
+    Ok(pairs)
+}
+
+/// Whether the rows have these values and no others.
+fn holds(rows: &[([u8; 2], u64)], values: &[u64; COUNT]) -> bool {
+    let mut rows = rows.iter();
+    for (number, value) in NUMBERS.iter().zip(values.iter()) {
+        if *value > 0 {
+            match rows.next() {
+                None => return false,
+                Some(row) => {
+                    if row.0 != number_key(*number) || row.1 != *value {
+                        return false;
+                    }
+                }
+            }
+        }
+    }
+    rows.next().is_none()
+}
+
+/// One run, and whether both replicas are as they were worked out.
+fn runs_as_defined(
+    alloc: Global,
+    format: PageFormat,
+    random: &mut Random,
+    exchange: Exchange,
+) -> Result<bool, AllocError> {
+    let hasher = random.hasher(alloc)?;
+    let (a_updates, a_values) = random.updates(alloc)?;
+    let (b_updates, b_values) = random.updates(alloc)?;
+    let joined = greatest(&a_values, &b_values);
+    let builder = Builder::default()
+        .with_page_format(format)
+        .with_hasher(hasher.clone()?);
+    let run = match run_both(alloc, builder, a_updates, b_updates, exchange) {
+        Ok(run) => run,
+        Err(_) => return Ok(false),
+    };
+    let is_made = match &run.exchanged {
+        Exchanged::Nothing => exchange == Exchange::Apart,
+        Exchanged::Pulled(pulls) => exchange == Exchange::ByTurns(pulls.len()),
+        Exchanged::CaughtUp(_, _) => exchange == Exchange::ByCatchUps,
+    };
+    let a_wanted = if exchange == Exchange::Apart {
+        a_values
+    } else {
+        joined
+    };
+    let b_wanted = if exchange == Exchange::Apart {
+        b_values
+    } else {
+        joined
+    };
+    let a_is = is_defined(alloc, &hasher, format, run.a, &a_wanted)?;
+    let b_is = is_defined(alloc, &hasher, format, run.b, &b_wanted)?;
+    Ok(is_made && a_is && b_is)
+}
+
+#[test]
+fn random_runs_converge(rt: HostRuntime) -> Result<(), Fail> {
+    let exchanges = [
+        Exchange::Apart,
+        Exchange::ByTurns(4),
+        Exchange::ByTurns(5),
+        Exchange::ByCatchUps,
+    ];
+    for format in [PageFormat::V1, PageFormat::V2] {
+        for exchange in &exchanges {
+            let mut random = Random { state: 2026 };
+            for round in 0..5 {
+                assert!(rt;
+                    runs_as_defined(rt.alloc(), format, &mut random, *exchange)?,
+                    "{format:?}, {exchange:?}: round {round}"
+                );
+            }
+        }
+    }
+    Ok(())
+}
