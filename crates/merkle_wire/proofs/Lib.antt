@@ -1,0 +1,5 @@
+pub mod Later
+pub mod Listed
+pub mod Flagged
+pub mod Bounds
+pub mod RowsAt

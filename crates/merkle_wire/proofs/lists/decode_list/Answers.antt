@@ -1,0 +1,44 @@
+use Rattle.std.proofs.Common.{rules, ◌≡◌, [], ◌∷◌, ◌++◌, true, ◌∙◌}
+use Rattle.std.specs.List.{flat_map}
+use Rattle.std.proofs.lemmas.Result.{err_from_is_err_and}
+use Rattle.merkle_wire.specs.Encodings.{number_bytes}
+use Rattle.merkle_wire.proofs.Later.{refused_later, total_was}
+use Rattle.merkle_wire.proofs.Listed.{none_read, one_read, next_left, all_read}
+use Rattle.merkle_wire.proofs.lists.decode_list.Goals as goal
+
+pub entries-init : goal.entries-init
+entries-init g c = (
+  none_read g.T.Decode.is_value g.T.Encode.encoding g.met.T.Decode.some c.args.reader.now.left.now c.number.new.self.left.now c.in_ok-count.count c.new-list.result.items
+      (search rules) (search rules) c.new-list.ensures.items c.in_ok-count.ensures.read,
+  c.number.ensures.total,
+)
+
+pub entries-preserved : goal.entries-preserved
+entries-preserved g c =
+    let pushed : c.push.new.self.items ≡ c.entries.list.items ++ c.in_ok-next.next ∷ [] = search rules in (
+      one_read g.T.Decode.is_value g.T.Encode.encoding (λ x y. g.T.PartialEq.eq x y ≡ true) g.met.T.Decode.told c.args.reader.now.left.now c.entries.reader.left.now c.decode.new.reader.left.now
+          c.in_ok-count.count c.entries._done c.entries.list.items c.push.new.self.items c.in_ok-next.next c.entries.invariant.0 c.entries-test.true c.in_ok-next.ensures.value (search rules) pushed c.in_ok-next.ensures.read,
+      c.decode.ensures.total ∙ c.entries.invariant.1,
+    )
+
+pub returns-in_err-next-clause-total : goal.returns-in_err-next-clause-total
+returns-in_err-next-clause-total g c = c.decode.ensures.total ∙ c.entries.invariant.1
+
+pub returns-in_err-next-clause-refused : goal.returns-in_err-next-clause-refused
+returns-in_err-next-clause-refused g c =
+    let p = err_from_is_err_and c.from_residual-in_err-next.result c.from_residual-in_err-next.ensures.1 in
+    let kept = c.entries.invariant.0 in
+    rw (p.1, p.2) (refused_later c.args.reader.now.total c.args.reader.now.left.now (number_bytes c.in_ok-count.count ++ flat_map g.T.Encode.encoding c.entries.list.items) c.entries.reader.left.now c.in_err-next.field-0.0
+    kept.read (total_was c.entries.reader.total c.args.reader.now.total c.entries.reader.left.now c.in_err-next.field-0.0 c.entries.invariant.1 c.in_err-next.ensures.refused))
+
+pub returns-in_err-next-clause-malformed : goal.returns-in_err-next-clause-malformed
+returns-in_err-next-clause-malformed g c =
+    let p = err_from_is_err_and c.from_residual-in_err-next.result c.from_residual-in_err-next.ensures.1 in
+    rw (p.1, p.2) (λ malformed all more each spelled.
+    let next = next_left g.T.Decode.is_value g.T.Encode.encoding c.args.reader.now.left.now c.entries.reader.left.now c.in_ok-count.count c.entries._done c.entries.list.items
+    c.entries.invariant.0 c.entries-test.true all more each spelled in
+    c.in_err-next.ensures.malformed malformed next.0 next.1 next.2 next.3)
+
+pub returns-clause-read : goal.returns-clause-read
+returns-clause-read g c =
+    all_read g.T.Decode.is_value g.T.Encode.encoding c.args.reader.now.left.now c.entries.reader.left.now c.in_ok-count.count c.entries._done c.entries.list.items c.entries.invariant.0 (search rules)

@@ -1,0 +1,113 @@
+//! What stands at the front of each message: the version, and the kind of the message.
+ghost use Rattle.std.specs.Prelude.{◌≡◌, ◌≢◌, ◌++◌, ◌∷◌, [], ℕ, List, IfOk, IfErr, MatchOption, Some};
+ghost use Rattle.merkle_wire.specs.Messages.{kind_byte, front};
+ghost use Rattle.merkle_wire.specs.Refusals.{IsMalformed, IsRefusal};
+ghost use Rattle.merkle_wire.specs.declared.message.Kind.{Kind as KindOf};
+
+use crate::error::{Expected, ReadError};
+use crate::reader::Reader;
+use std::alloc::{AllocError, Global};
+
+/// The version of the messages.
+const VERSION: u8 = 1;
+
+/// What a message is.
+#[derive(Clone, Copy, Debug, PartialEq, Eq, Drop)]
+pub enum Kind {
+    /// The asking side wants the number of rows and the range of the root page.
+    AskRoot,
+    /// It wants the outlines of the pages with these spans.
+    AskOutlines,
+    /// It wants the rows at these keys.
+    AskRowsAt,
+    /// It wants the rows in these ranges of keys.
+    AskRowsWithin,
+    /// It wants the page ranges of the tree.
+    AskPageRanges,
+    /// The number of rows and the range of the root page, or of none.
+    Root,
+    /// Items of outlines.
+    Outlines,
+    /// Rows.
+    Rows,
+    /// Page ranges.
+    PageRanges,
+    /// The answering side refuses.
+    Refusal,
+}
+
+/// The byte of a kind.
+fn byte_of(kind: Kind) -> u8
+    ensures { result ≡ kind_byte kind }
+{
+    match kind {
+        Kind::AskRoot => 1,
+        Kind::AskOutlines => 2,
+        Kind::AskRowsAt => 3,
+        Kind::AskRowsWithin => 4,
+        Kind::AskPageRanges => 5,
+        Kind::Root => 129,
+        Kind::Outlines => 130,
+        Kind::Rows => 131,
+        Kind::PageRanges => 132,
+        Kind::Refusal => 255,
+    }
+}
+
+/// The kind of a byte.
+fn kind_of(byte: u8) -> Option<Kind>
+    ensures { MatchOption result ((kind : KindOf) → byte ≢ kind_byte kind) (λ kind. byte ≡ kind_byte kind) }
+{
+    match byte {
+        1 => Some(Kind::AskRoot),
+        2 => Some(Kind::AskOutlines),
+        3 => Some(Kind::AskRowsAt),
+        4 => Some(Kind::AskRowsWithin),
+        5 => Some(Kind::AskPageRanges),
+        129 => Some(Kind::Root),
+        130 => Some(Kind::Outlines),
+        131 => Some(Kind::Rows),
+        132 => Some(Kind::PageRanges),
+        255 => Some(Kind::Refusal),
+        _ => None,
+    }
+}
+
+/// The front of a message.
+pub(crate) fn begin(alloc: Global, kind: Kind) -> Result<Vec<u8>, AllocError>
+    ensures { IfOk result (λ bytes. bytes.items ≡ front kind) }
+{
+    Vec::from_slice(alloc, &[VERSION, byte_of(kind)])
+}
+
+/// Reads the front of a message.
+pub(crate) fn decode_kind(reader: &mut Reader<'_>) -> Result<Kind, ReadError>
+    ensures read { IfOk result (λ kind. reader.old.left.now ≡ front kind ++ reader.new.left.now) }
+    ensures total { reader.new.total ≡ reader.old.total }
+    ensures refused { IfErr result (IsRefusal reader.old.total reader.old.left.now) }
+    ensures malformed { IfErr result (λ error. IsMalformed error → (kind : KindOf) (rest : List ℕ) → reader.old.left.now ≢ front kind ++ rest) }
+{
+    let Some((version, behind)) = reader.left().split_first() else {
+        return Err(reader.unexpected(Expected::Bytes(2)));
+    };
+    if *version != VERSION {
+        return Err(reader.unexpected(Expected::Version));
+    }
+    let Some((byte, _)) = behind.split_first() else {
+        return Err(reader.unexpected(Expected::Bytes(2)));
+    };
+    let Some(kind) = kind_of(*byte) else {
+        return Err(reader.unexpected(Expected::Kind));
+    };
+    let _front = reader.array::<2>()?;
+    Ok(kind)
+}
+
+/// A message that refuses what was asked.
+///
+/// # Errors
+///
+/// Want of memory.
+pub fn refusal(alloc: Global) -> Result<Vec<u8>, AllocError> {
+    begin(alloc, Kind::Refusal)
+}

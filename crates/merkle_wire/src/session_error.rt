@@ -1,0 +1,76 @@
+//! Why a catch-up over a wire ended early.
+ghost use Rattle.std.specs.Prelude.{◌≡◌};
+
+use crate::error::ReadError;
+use std::alloc::{AllocError, AllocFailed};
+use std::fmt;
+
+/// Why a catch-up over a wire ended early. Nothing is joined then.
+#[derive(Clone, Copy, Debug, PartialEq, Eq, Drop)]
+pub enum SessionError {
+    /// Memory was refused.
+    Memory,
+    /// The bytes are no reply.
+    Malformed(ReadError),
+    /// The reply is not of the kind that was asked for.
+    OtherKind,
+    /// The peer refused what was asked.
+    Refused,
+    /// More than one page was said to be the root.
+    ManyRoots,
+    /// Items of outlines don't ascend, or leave the spans that were asked for.
+    NotOffered,
+    /// The peer has more rounds of outlines than a tree has levels.
+    TooManyRounds,
+    /// Rows don't ascend, or have keys that were not asked for.
+    NotAsked,
+}
+
+impl From<AllocError> for SessionError {
+    ghost use Rattle.merkle_wire.specs.declared.session_error.SessionError.TheVariants.{Memory};
+
+    ghost from_gives = { λ _ fault. fault ≡ Memory };
+
+    fn from(_error: AllocError) -> Self {
+        SessionError::Memory
+    }
+}
+
+impl<T: Drop> From<AllocFailed<T>> for SessionError {
+    ghost use Rattle.merkle_wire.specs.declared.session_error.SessionError.TheVariants.{Memory};
+
+    ghost from_gives = { λ _ fault. fault ≡ Memory };
+
+    fn from(_error: AllocFailed<T>) -> Self {
+        SessionError::Memory
+    }
+}
+
+impl From<ReadError> for SessionError {
+    ghost use Rattle.merkle_wire.specs.declared.session_error.SessionError.TheVariants.{Malformed};
+
+    ghost from_gives = { λ error fault. fault ≡ Malformed error };
+
+    fn from(error: ReadError) -> Self {
+        SessionError::Malformed(error)
+    }
+}
+
+impl fmt::Display for SessionError {
+    fn fmt<W: fmt::Write>(&self, f: &mut fmt::Formatter<W>) -> fmt::Result {
+        match self {
+            SessionError::Memory => f.write_str("out of memory"),
+            SessionError::Malformed(error) => write!(f, "the reply is malformed: {error}"),
+            SessionError::OtherKind => f.write_str("the reply is not what was asked for"),
+            SessionError::Refused => f.write_str("the peer refused what was asked"),
+            SessionError::ManyRoots => f.write_str("the peer has more than one root page"),
+            SessionError::NotOffered => {
+                f.write_str("the peer sent items that don't ascend or were not asked for")
+            }
+            SessionError::TooManyRounds => f.write_str("the peer's tree has no end"),
+            SessionError::NotAsked => {
+                f.write_str("the peer sent rows that don't ascend or were not asked for")
+            }
+        }
+    }
+}

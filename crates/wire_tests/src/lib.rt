@@ -1,0 +1,7 @@
+//! Tests of catch-ups over a wire.
+#![tactic(auto)]
+
+#[cfg(test)]
+mod formats;
+#[cfg(test)]
+mod sessions;
