@@ -22,7 +22,8 @@ CALLS = {
     "mst_diff": [BYTES, SIZE, BYTES, SIZE, BYTES, SIZE, WRITTEN],
     "mst_ranges_next": [BYTES, SIZE, WRITTEN, ctypes.POINTER(Range)],
 }
-library = ctypes.CDLL(os.path.join(os.path.dirname(os.path.abspath(__file__)), "libmst.so"))
+# not CDLL, by which two threads could be within calls on one tree
+library = ctypes.PyDLL(os.path.join(os.path.dirname(os.path.abspath(__file__)), "libmst.so"))
 for name, takes in CALLS.items():
     getattr(library, name).argtypes = takes
 library.mst_tree_free.restype = None

@@ -14,10 +14,12 @@ uint32_t mst_proved_tree_clone(struct mst_tree *, struct mst_tree *);
 void mst_proved_tree_free(struct mst_tree *);
 uint32_t mst_proved_tree_len(struct mst_tree *, size_t *);
 uint32_t mst_proved_tree_upsert(struct mst_tree *, const uint8_t *, size_t, const uint8_t *, size_t);
+uint32_t mst_proved_tree_upsert_digest(struct mst_tree *, const uint8_t *, size_t, const struct bytes16 *);
 uint32_t mst_proved_tree_remove(struct mst_tree *, const uint8_t *, size_t);
 uint32_t mst_proved_tree_load(struct mst_tree *, const uint8_t *, size_t);
 uint32_t mst_proved_tree_root_hash(struct mst_tree *, struct bytes16 *);
 uint32_t mst_proved_tree_page_ranges(struct mst_tree *, uint8_t *, size_t, size_t *);
+uint32_t mst_proved_tree_digests(struct mst_tree *, uint8_t *, size_t, size_t *);
 uint32_t mst_proved_diff(const uint8_t *, size_t, const uint8_t *, size_t, uint8_t *, size_t, size_t *);
 uint32_t mst_proved_ranges_next(const uint8_t *, size_t, size_t *, struct spot *);
 
@@ -68,6 +70,13 @@ int mst_tree_upsert(struct mst_tree *tree, const uint8_t *key, size_t key_len, c
     return (int)mst_proved_tree_upsert(tree, key, key_len, value, value_len);
 }
 
+int mst_tree_upsert_digest(struct mst_tree *tree, const uint8_t *key, size_t key_len, const uint8_t digest[16]) {
+    POINTER(tree);
+    POINTER(digest);
+    BYTES(key, key_len);
+    return (int)mst_proved_tree_upsert_digest(tree, key, key_len, (const struct bytes16 *)digest);
+}
+
 int mst_tree_remove(struct mst_tree *tree, const uint8_t *key, size_t key_len) {
     POINTER(tree);
     BYTES(key, key_len);
@@ -91,6 +100,13 @@ int mst_tree_page_ranges(struct mst_tree *tree, uint8_t *out, size_t out_len, si
     POINTER(needed);
     BYTES(out, out_len);
     return (int)mst_proved_tree_page_ranges(tree, out, out_len, needed);
+}
+
+int mst_tree_digests(struct mst_tree *tree, uint8_t *out, size_t out_len, size_t *needed) {
+    POINTER(tree);
+    POINTER(needed);
+    BYTES(out, out_len);
+    return (int)mst_proved_tree_digests(tree, out, out_len, needed);
 }
 
 int mst_diff(const uint8_t *local, size_t local_len, const uint8_t *peer, size_t peer_len, uint8_t *out, size_t out_len,

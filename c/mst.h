@@ -6,11 +6,11 @@
  * something to point to is MST_BAD_ARGUMENT, and so is a length above PTRDIFF_MAX; where a length is 0, its pointer may be null.
  *
  * What the caller owes, since no call can test it: a length is at most that of the memory behind its pointer; a handle is changed
- * by these calls alone, is copied by mst_tree_clone and not by `=`, and is used by the thread alone that made its tree, by
- * mst_tree_len and mst_tree_clone too (lists may go to any thread, and different threads may have handles of their own); what a call
- * writes to overlaps nothing else that the call is given; malloc, realloc and free are those of one allocator, whose blocks are
- * aligned to each power of two up to 16 that divides their size; and no call is made from a signal handler, or from the forked child
- * of a process with threads.
+ * by these calls alone, is copied by mst_tree_clone and not by `=`, and is given to one call at a time, by mst_tree_len and
+ * mst_tree_clone too (it may go from thread to thread, where a lock, or the start or the end of a thread, orders the calls; lists may be
+ * read by several at once); what a call writes to overlaps nothing else that the call is given; malloc, realloc and free are those of
+ * one allocator, whose blocks are aligned to each power of two up to 16 that divides their size; and no call is made from a signal
+ * handler, or from the forked child of a process with threads.
  *
  * The tree is that of Auvolat and Taïani, "Merkle Search Trees: Efficient State-Based CRDTs in Open Networks". */
 #ifndef MST_H
@@ -64,6 +64,10 @@ void mst_tree_free(struct mst_tree *tree);
  * keys, on average, and to the lengths of key and value. */
 int mst_tree_upsert(struct mst_tree *tree, const uint8_t *key, size_t key_len, const uint8_t *value, size_t value_len);
 
+/* The same, with the digest of the value as the caller has it, by whatever hash function: 16 bytes, which peers that compare trees make
+ * in one way. MST_NO_MEMORY; MST_BAD_ARGUMENT. Time as for mst_tree_upsert, and none for the value. */
+int mst_tree_upsert_digest(struct mst_tree *tree, const uint8_t *key, size_t key_len, const uint8_t digest[16]);
+
 /* Takes a key out. MST_ABSENT where the tree has no such key, and then it is as before, digests included; MST_NO_MEMORY, since the
  * key is copied first; MST_BAD_ARGUMENT. Time as for mst_tree_upsert. */
 int mst_tree_remove(struct mst_tree *tree, const uint8_t *key, size_t key_len);
@@ -90,6 +94,11 @@ int mst_tree_root_hash(struct mst_tree *tree, uint8_t out[16]);
  * MST_TOO_SHORT or MST_NO_MEMORY too. MST_TOO_SHORT; MST_NO_MEMORY; MST_BAD_ARGUMENT. Time and memory in proportion to the list,
  * which is made also where its length alone is asked for. */
 int mst_tree_page_ranges(struct mst_tree *tree, uint8_t *out, size_t out_len, size_t *needed);
+
+/* Writes the keys of a tree in their order, each with the digest of its value, as a list of digests (below), and how many bytes that
+ * is (an `out_len` of 0 as above). It hashes nothing, and the tree is as before. MST_TOO_SHORT; MST_NO_MEMORY; MST_BAD_ARGUMENT. Time
+ * and memory in proportion to the list. */
+int mst_tree_digests(struct mst_tree *tree, uint8_t *out, size_t out_len, size_t *needed);
 
 /* Compares two lists of page ranges, one's own and a peer's, and writes the ranges of keys to ask the peer for, as a list of key
  * ranges, and how many bytes that is (an `out_len` of 0 as above). The ranges ascend, and no two meet. They may hold many more keys
@@ -123,6 +132,7 @@ int mst_ranges_next(const uint8_t *list, size_t list_len, size_t *at, struct mst
  *
  *   page ranges   the four bytes "MSTp", how many ranges there are, and each range: first key, last key, 16 bytes of digest
  *   key ranges    the four bytes "MSTk", how many ranges there are, and each range: first key, last key
+ *   digests       the four bytes "MSTd", how many keys there are, and each key with the 16 bytes of the digest of its value
  *   rows          the four bytes "MSTr", how many rows there are, and each row: key, value
  *
  * Keys and values are strings. In a list of page ranges no first key is above its last key; a list of key ranges that a peer sent may

@@ -213,6 +213,37 @@ static void difference(void) {
     }
 }
 
+/* ---- digests: the keys in their order, each with the digest of its value, make the same tree once more */
+static void digests(void) {
+    enum { KEYS = 500, ENTRY = 8 + 5 + 16 };
+    static uint8_t list[12 + KEYS * ENTRY];
+    struct mst_tree tree = MST_NO_TREE, again = MST_NO_TREE, empty = MST_NO_TREE;
+    size_t needed;
+    uint8_t front[12] = "MSTd", key[16];
+    char root[33];
+    unsigned i;
+    squares(&tree, KEYS, 1);
+    WANT(mst_tree_digests(&tree, NULL, 0, &needed) == MST_TOO_SHORT && needed == sizeof list);
+    WANT(mst_tree_digests(&tree, list, sizeof list - 1, &needed) == MST_TOO_SHORT && !list[0]);
+    WANT(mst_tree_digests(&tree, list, sizeof list, &needed) == MST_DONE && needed == sizeof list);
+    add_number(front + 4, KEYS);
+    WANT(!memcmp(list, front, sizeof front));
+    WANT(mst_tree_new(&again) == MST_DONE);
+    for (i = KEYS; i-- > 0;) {
+        const uint8_t *entry = list + 12 + i * ENTRY;
+        WANT(entry[0] == key_of(key, i) && !memcmp(entry + 8, key, 5));
+        WANT(mst_tree_upsert_digest(&again, key, 5, entry + 8 + 5) == MST_DONE);
+    }
+    root_text(&tree, root);
+    WANT(has_root(&again, root));
+    WANT(mst_tree_new(&empty) == MST_DONE && mst_tree_digests(&empty, list, sizeof list, &needed) == MST_DONE);
+    add_number(front + 4, 0);
+    WANT(needed == sizeof front && !memcmp(list, front, sizeof front));
+    mst_tree_free(&tree);
+    mst_tree_free(&again);
+    mst_tree_free(&empty);
+}
+
 /* ---- bad arguments: settings that there are not, handles with a tree or without, null pointers, and lengths that no memory has */
 #define BAD(call) WANT((call) == MST_BAD_ARGUMENT)
 
@@ -241,7 +272,9 @@ static void bad_arguments(void) {
     BAD(mst_tree_clone(&none, &tree));
     BAD(mst_tree_clone(&none, &empty));
     BAD(mst_tree_upsert(&none, key, len, key, len));
+    BAD(mst_tree_upsert_digest(&none, key, len, zero_key));
     BAD(mst_tree_remove(&none, key, len));
+    BAD(mst_tree_digests(&none, out, sizeof out, &needed));
     BAD(mst_tree_load(&none, key, 0));
     BAD(mst_tree_len(&none, &count));
     BAD(mst_tree_root_hash(&none, out));
@@ -255,6 +288,12 @@ static void bad_arguments(void) {
     BAD(mst_tree_upsert(NULL, key, len, key, len));
     BAD(mst_tree_upsert(&tree, NULL, 1, key, len));
     BAD(mst_tree_upsert(&tree, key, len, NULL, 1));
+    BAD(mst_tree_upsert_digest(NULL, key, len, zero_key));
+    BAD(mst_tree_upsert_digest(&tree, NULL, 1, zero_key));
+    BAD(mst_tree_upsert_digest(&tree, key, len, NULL));
+    BAD(mst_tree_digests(NULL, out, sizeof out, &needed));
+    BAD(mst_tree_digests(&tree, NULL, list_len, &needed));
+    BAD(mst_tree_digests(&tree, out, sizeof out, NULL));
     BAD(mst_tree_remove(NULL, key, len));
     BAD(mst_tree_remove(&tree, NULL, 1));
     BAD(mst_tree_load(NULL, list, list_len));
@@ -278,6 +317,8 @@ static void bad_arguments(void) {
     for (i = 0; i < sizeof NO_LENGTHS / sizeof *NO_LENGTHS; i++) {
         BAD(mst_tree_upsert(&tree, key, NO_LENGTHS[i], key, len));
         BAD(mst_tree_upsert(&tree, key, len, key, NO_LENGTHS[i]));
+        BAD(mst_tree_upsert_digest(&tree, key, NO_LENGTHS[i], zero_key));
+        BAD(mst_tree_digests(&tree, out, NO_LENGTHS[i], &needed));
         BAD(mst_tree_remove(&tree, key, NO_LENGTHS[i]));
         BAD(mst_tree_load(&tree, list, NO_LENGTHS[i]));
         BAD(mst_tree_page_ranges(&tree, out, NO_LENGTHS[i], &needed));
@@ -368,6 +409,10 @@ static void a_life(char text[33], int *refused) {
     }
     AGAIN(mst_tree_page_ranges(&tree, own, sizeof own, &own_len));
     AGAIN(mst_tree_page_ranges(&copy, other, sizeof other, &other_len));
+    AGAIN(mst_tree_digests(&copy, asked, sizeof asked, &needed));
+    WANT(needed == 12 + 40 * (8 + 5 + 16));
+    key_of(key, 20);
+    AGAIN(mst_tree_upsert_digest(&copy, key, 5, asked + 12 + 8 + 5));
     AGAIN(mst_diff(other, other_len, own, own_len, asked, sizeof asked, &needed));
     AGAIN(mst_tree_len(&copy, &count));
     WANT(count == 40);
@@ -651,6 +696,7 @@ static void hostile(void) {
 int main(void) {
     roots_and_loads();
     difference();
+    digests();
     bad_arguments();
     statuses();
     refusals();

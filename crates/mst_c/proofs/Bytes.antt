@@ -1,14 +1,10 @@
 -- The map of a tree by the bytes of its keys, beside its map by the keys themselves.
-use Rattle.std.proofs.Common.{◌≡◌, ℕ, Bool, true, false, cond, not, ◌||◌, List, [], ◌∷◌, map, refl, sym, ap, subst, ◌∙◌, Some, None, Equal, rules}
+use Rattle.std.proofs.Common.{◌≡◌, ℕ, Bool, true, false, cond, not, ◌||◌, List, [], ◌∷◌, map, refl, sym, ap, subst, ◌∙◌, Some, None, Equal}
 use Rattle.std.proofs.lemmas.Bool.{false_from_ne_true, true_from_ne_false}
 use Rattle.std.specs.Global.{Vec}
-use Rattle.std.specs.List.{AllZip, each_same}
 use Rattle.std.specs.Ordering.{is_eq, match_ordering}
-use Rattle.std.specs.Cmp.{IsTotalOrder}
-use Rattle.std.specs.Cmp.Rules.{comparing}
 use Rattle.std.specs.declared.cmp.Ordering.{Ordering}
 use Rattle.std.specs.declared.cmp.Ordering.TheVariants.{Less, Greater}
-use Rattle.std.proofs.lemmas.Cmp.{tied_itself}
 use Rattle.key_order.specs.Map.{set, del, has_key, entry, IsPresent}
 use Rattle.key_order.proofs.Dels.{entry-there, entry-absent}
 use Rattle.mst_c.specs.Trees.{bytes_cmp, by_bytes, key_cmp}
@@ -48,10 +44,3 @@ absent m k none = sym (false_from_ne_true (has_key key_cmp m k) (λ there. entry
 pub present : (m : List ByteRow) (k : Vec ℕ) (found : ByteRow) → entry key_cmp m k ≡ Some found → true ≡ has_key bytes_cmp (map by_bytes m) k.items
 present m k found some =
     sym (true_from_ne_false (has_key key_cmp m k) (λ no. subst IsPresent (sym some ∙ entry-absent key_cmp k m no) tt)) ∙ rows_have m k
-
-bytes_order : IsTotalOrder bytes_cmp
-bytes_order = search (comparing, rules)
-
--- bytes that were cloned one by one
-pub tied_clones : (a b : List ℕ) → AllZip (λ x y. y ≡ x) a b → bytes_cmp a b ≡ Equal
-tied_clones a b clones = ap (bytes_cmp a) (each_same a b clones) ∙ tied_itself bytes_order a

@@ -5,3 +5,4 @@ pub mod Ranges
 pub mod Rows
 pub mod Spots
 pub mod Strings
+mod Goes

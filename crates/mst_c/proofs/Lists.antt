@@ -4,7 +4,7 @@ use Rattle.std.specs.Bool.{⊤}
 use Rattle.std.specs.List.{AllByRecursion, flat_map}
 use Rattle.std.proofs.lemmas.List.{append_assoc, append-nil, length-append, map-append, take_more}
 use Rattle.std.proofs.lemmas.Grind.{flat_map-append}
-use Rattle.merkle_search_tree.proofs.Streams.{join_tells}
+use Rattle.merkle_tree_theory.proofs.Streams.{join_tells}
 use Rattle.mst_c.specs.Wire.{number_bytes, list_bytes}
 use Rattle.mst_c.proofs.Strings.{one_number}
 

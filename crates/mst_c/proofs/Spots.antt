@@ -2,7 +2,7 @@
 use Rattle.std.proofs.Common.{◌≡◌, refl, Bool, true, false, ℕ, ◌-◌, ◌<◌, ◌≤◌, ◌^◌, List, [], ◌∷◌, ◌++◌, length, get_or, subst, drop, sym, ap, ◌∙◌, arith}
 use Rattle.std.specs.List.{AllByRecursion, flat_map}
 use Rattle.std.proofs.lemmas.List.{append_assoc, length-append, drop_at}
-use Rattle.merkle_search_tree.proofs.Streams.{join_tells}
+use Rattle.merkle_tree_theory.proofs.Streams.{join_tells}
 use Rattle.mst_c.specs.Spots.{AreEntries, IsList, EntryParts, digest_len, mark_of, parts_bytes}
 use Rattle.mst_c.specs.Wire.{list_bytes, number_bytes, row_bytes}
 use Rattle.mst_c.proofs.Lists.{list_length, same_body}

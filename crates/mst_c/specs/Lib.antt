@@ -4,3 +4,4 @@ pub mod Owned
 pub mod Spots
 pub mod Trees
 pub mod Wire
+pub mod Goes

@@ -9,7 +9,7 @@ use Rattle.merkle_digest.specs.SipHash.{siphash128}
 use Rattle.merkle_diff.specs.Difference.{IsAnswer}
 use Rattle.merkle_diff.specs.Entry.{Entry}
 use Rattle.merkle_search_tree.specs.Loading.{digests}
-use Rattle.merkle_search_tree.specs.State.{SameSettings}
+use Rattle.merkle_tree_theory.specs.State.{SameSettings}
 use Rattle.mst_c.specs.Trees.{ByteState, bytes_cmp, key_cmp, rows_of}
 use Rattle.mst_c.specs.Wire.{page_ranges_bytes, key_ranges_bytes, rows_bytes}
 

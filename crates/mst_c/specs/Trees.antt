@@ -7,9 +7,9 @@ use Rattle.std.specs.declared.cmp.Ordering.{Ordering}
 use Rattle.key_order.specs.Order.{Same}
 use Rattle.key_order.specs.Map.{set, del, has_key}
 use Rattle.merkle_digest.specs.SipHash.{siphash128}
-use Rattle.merkle_search_tree.specs.Copy.{IsCopy}
-use Rattle.merkle_search_tree.specs.Dropped.{UpsertDropsFew}
-use Rattle.merkle_search_tree.specs.State.{State, SameSettings, map_of}
+use Rattle.merkle_tree_theory.specs.Copy.{IsCopy}
+use Rattle.merkle_tree_theory.specs.Dropped.{UpsertDropsFew}
+use Rattle.merkle_tree_theory.specs.State.{State, SameSettings, map_of}
 
 -- a tree whose keys are byte strings and whose hasher is a key of SipHash
 abbrev pub ByteState : Type 0
@@ -40,10 +40,14 @@ pub record SameRows (old new : ByteState) : Type 0 where
   pub rows : rows_of new ≡ rows_of old
   pub settings : SameSettings old new
 
--- the map has the key with the digest of the value
-pub record IsSet (key value : List ℕ) (old new : ByteState) : Type 0 where
-  pub rows : rows_of new ≡ set bytes_cmp (rows_of old) key (siphash128 old.hasher value)
+-- the map has the key with this digest
+pub record IsSetTo (key digest : List ℕ) (old new : ByteState) : Type 0 where
+  pub rows : rows_of new ≡ set bytes_cmp (rows_of old) key digest
   pub settings : SameSettings old new
+
+-- the map has the key with the digest of the value
+abbrev pub IsSet : List ℕ → List ℕ → ByteState → ByteState → Type 0
+IsSet key value old = IsSetTo key (siphash128 old.hasher value) old
 
 -- the map no longer has the key, and whether it had it was answered
 pub record IsDel (key : List ℕ) (found : Bool) (old new : ByteState) : Type 0 where

@@ -5,6 +5,7 @@ use Rattle.std.specs.List.{flat_map}
 use Rattle.std.specs.Int.{w64, to_le_bytes}
 use Rattle.key_order.specs.Interval.{Span}
 use Rattle.merkle_diff.specs.Entry.{Entry}
+use Rattle.merkle_search_tree.specs.Loading.{row_count}
 
 -- a number as eight bytes, the lowest first
 abbrev pub number_bytes : ℕ → List ℕ
@@ -53,3 +54,15 @@ key_ranges_bytes = list_bytes key_mark span_bytes
 -- a list of rows
 abbrev pub rows_bytes : List (List ℕ × List ℕ) → List ℕ
 rows_bytes = list_bytes row_mark row_bytes
+
+-- the mark of a list of digests, "MSTd"
+abbrev pub digest_mark : List ℕ
+digest_mark = 77 ∷ 83 ∷ 84 ∷ 100 ∷ []
+
+-- an entry of a list of digests: a key, and the 16 bytes of the digest of its value
+abbrev pub digest_bytes : List ℕ × List ℕ → List ℕ
+digest_bytes r = text_bytes r.0 ++ r.1
+
+-- a list of digests
+abbrev pub digests_bytes : List (List ℕ × List ℕ) → List ℕ
+digests_bytes rows = digest_mark ++ (number_bytes (row_count rows) ++ flat_map digest_bytes rows)

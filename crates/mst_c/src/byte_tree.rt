@@ -1,19 +1,20 @@
 //! What a handle holds: a tree of byte strings.
 ghost use Rattle.std.specs.Prelude.{◌≡◌, ◌≢◌, ℕ, List, None, Err, OnOk, OnErr, IfOk, false, length};
 ghost use Rattle.std.specs.Int.NonZero.{non_zero_u8_get};
-ghost use Rattle.merkle_search_tree.specs.Dropped.{RemovalDropsFew};
-ghost use Rattle.merkle_search_tree.specs.Hashed.{IsHashed};
-ghost use Rattle.merkle_search_tree.specs.State.{IsNew, map_of};
-ghost use Rattle.merkle_search_tree.specs.Stream.{page_digest};
-ghost use Rattle.merkle_search_tree.specs.Ranges.{ranges_of};
+ghost use Rattle.merkle_tree_theory.specs.Dropped.{RemovalDropsFew};
+ghost use Rattle.merkle_tree_theory.specs.Hashed.{IsHashed};
+ghost use Rattle.merkle_tree_theory.specs.State.{IsNew, map_of};
+ghost use Rattle.merkle_tree_theory.specs.Stream.{page_digest};
+ghost use Rattle.merkle_tree_theory.specs.Ranges.{ranges_of};
 ghost use Rattle.merkle_search_tree.specs.Loading.{row_count};
 ghost use Rattle.mst_c.specs.Lists.{ArePageRanges, AreRows, IsLoaded};
-ghost use Rattle.mst_c.specs.Trees.{bytes_of, SameRows, IsSet, SetDropsFew, IsDel, IsCopied};
+ghost use Rattle.mst_c.specs.Trees.{bytes_of, SameRows, IsSet, IsSetTo, SetDropsFew, IsDel, IsCopied, rows_of};
+ghost use Rattle.mst_c.specs.Wire.{digests_bytes};
 ghost use Rattle.mst_c.specs.declared.reading.ReadError.TheVariants.{Malformed};
 
 use crate::byte_hasher::ByteHasher;
 use crate::reading::{ReadError, decode_rows};
-use crate::wire::encode;
+use crate::wire::{DIGESTS, encode, put, put_digest, put_number};
 use merkle_search_tree::builder::{Builder, PageFormat};
 use merkle_search_tree::{LoadRefused, MerkleSearchTree};
 use std::alloc::{AllocError, Global};
@@ -59,9 +60,23 @@ impl ByteTree {
         ensures few_more { OnOk result (SetDropsFew key.now self.old.tree self.new.tree) }
         ensures unchanged { OnErr result (self.new ≡ self.old) }
     {
-        let own_key = Vec::from_slice(alloc, key)?;
         let digest = self.hasher.hash_bytes(value);
-        match self.tree.upsert(own_key, &digest) {
+        self.upsert_digest(alloc, key, &digest)
+    }
+
+    /// Sets a key to this digest of a value. Refused, the tree is as before.
+    pub fn upsert_digest(
+        &mut self,
+        alloc: Global,
+        key: &[u8],
+        digest: &[u8; 16],
+    ) -> Result<(), AllocError>
+        ensures done { OnOk result (IsSetTo key.now digest.now self.old.tree self.new.tree) }
+        ensures few_more { OnOk result (SetDropsFew key.now self.old.tree self.new.tree) }
+        ensures unchanged { OnErr result (self.new ≡ self.old) }
+    {
+        let own_key = Vec::from_slice(alloc, key)?;
+        match self.tree.upsert(own_key, digest) {
             Ok(()) => Ok(()),
             Err(_) => Err(AllocError),
         }
@@ -111,6 +126,20 @@ impl ByteTree {
             count = count.saturating_add(1);
         }
         Ok(count)
+    }
+
+    /// The keys in their order, each with the digest of its value, as bytes.
+    pub fn digests(&self, alloc: Global) -> Result<Vec<u8>, AllocError>
+        ensures { IfOk result (λ out. out.items ≡ digests_bytes (rows_of self.now.tree)) }
+    {
+        let count = self.count()?;
+        let mut out = Vec::new(alloc);
+        put(&DIGESTS, &mut out)?;
+        put_number(count, &mut out)?;
+        'nodes: for node in self.tree.node_iter()? {
+            put_digest(node, &mut out)?;
+        }
+        Ok(out)
     }
 
     /// The ranges of all pages, as bytes.

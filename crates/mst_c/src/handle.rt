@@ -22,6 +22,9 @@ impl Model for MstTree {
     ghost also_owns = { λ h. handle_owns h.alloc h.ptr h.tree };
 }
 
+/// What a handle owns may be used and given back on any thread.
+unsafe impl Send for MstTree {}
+
 impl MstTree {
     /// The handle without a tree.
     pub fn empty(alloc: Global) -> MstTree

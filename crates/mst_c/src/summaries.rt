@@ -1,13 +1,14 @@
 //! Calls that answer what a tree holds as digests, and compare two such answers.
 ghost use Rattle.std.specs.Prelude.{◌≡◌, ◌≢◌, ◌<◌, ◌≤◌, ◌↔◌, ◌⊎◌, ◌++◌, ℕ, List, None, Err, IfSome, IfOk, IfErr, drop, length};
-ghost use Rattle.merkle_search_tree.specs.Hashed.{IsHashed};
-ghost use Rattle.merkle_search_tree.specs.Stream.{page_digest};
-ghost use Rattle.merkle_search_tree.specs.Ranges.{ranges_of};
+ghost use Rattle.merkle_tree_theory.specs.Hashed.{IsHashed};
+ghost use Rattle.merkle_tree_theory.specs.Stream.{page_digest};
+ghost use Rattle.merkle_tree_theory.specs.Ranges.{ranges_of};
 ghost use Rattle.std.specs.Global.{Vec};
 ghost use Rattle.merkle_diff.specs.Entry.{Entry};
 ghost use Rattle.mst_c.specs.Handles.{HasTree, Changes, IsOutput, IsShort};
 ghost use Rattle.mst_c.specs.Lists.{ArePageRanges, IsDiffOf};
-ghost use Rattle.mst_c.specs.Trees.{bytes_of, SameRows};
+ghost use Rattle.mst_c.specs.Trees.{bytes_of, rows_of, SameRows};
+ghost use Rattle.mst_c.specs.Wire.{digests_bytes};
 
 use crate::bytes16::MstBytes16;
 use crate::handle::MstTree;
@@ -112,6 +113,46 @@ fn page_ranges(handle: MstTree, alloc: Global) -> (MstTree, Result<Vec<u8>, u32>
         return (MstTree::empty(alloc), Err(ARGUMENT));
     };
     match held.page_ranges(alloc) {
+        Ok(bytes) => (MstTree::of_box(held), Ok(bytes)),
+        Err(_) => (MstTree::of_box(held), Err(MEMORY)),
+    }
+}
+
+/// Writes the keys of a tree in their order, each with the digest of its value, to `out`, and how many bytes that is to `needed`.
+///
+/// `DONE`; `SHORT` where `out` is too short, and `needed` is written and `out` as before; `MEMORY`; `ARGUMENT` where the handle has no
+/// tree. But for `DONE`, `out` is as before, and but for `DONE` and `SHORT`, `needed`.
+#[unsafe(no_mangle)]
+pub extern "C" fn mst_proved_tree_digests(
+    alloc: Global,
+    handle: &mut MstTree,
+    out: &mut [u8],
+    needed: &mut usize,
+) -> u32
+    ensures done { result ≡ 0 → HasTree handle.old.tree (λ s. IsOutput out.old out.new needed.new (λ bytes. bytes ≡ digests_bytes (rows_of s))) }
+    ensures short { result ≡ 3 → HasTree handle.old.tree (λ s. IsShort out.old needed.new (λ bytes. bytes ≡ digests_bytes (rows_of s))) }
+    ensures tree { handle.new.tree ≡ handle.old.tree }
+    ensures unchanged { result ≢ 0 → out.new ≡ out.old }
+    ensures refused { result ≢ 0 → result ≢ 3 → needed.new ≡ needed.old }
+    ensures argument { (result ≡ 4) ↔ (handle.old.tree ≡ None) }
+    ensures status { (result ≡ 0) ⊎ (result ≡ 1) ⊎ (result ≡ 3) ⊎ (result ≡ 4) }
+{
+    match mem::replace_with(handle, alloc, digests) {
+        Ok(bytes) => put_bytes(bytes.as_slice(), out, needed),
+        Err(why) => why,
+    }
+}
+
+fn digests(handle: MstTree, alloc: Global) -> (MstTree, Result<Vec<u8>, u32>)
+    ensures digests { IfOk result.1 (λ out. HasTree handle.tree (λ s. out.items ≡ digests_bytes (rows_of s))) }
+    ensures tree { result.0.tree ≡ handle.tree }
+    ensures argument { (result.1 ≡ Err 4) ↔ (handle.tree ≡ None) }
+    ensures refused { IfErr result.1 (λ status. (status ≡ 1) ⊎ (status ≡ 4)) }
+{
+    let Some(held) = handle.into_box() else {
+        return (MstTree::empty(alloc), Err(ARGUMENT));
+    };
+    match held.digests(alloc) {
         Ok(bytes) => (MstTree::of_box(held), Ok(bytes)),
         Err(_) => (MstTree::of_box(held), Err(MEMORY)),
     }

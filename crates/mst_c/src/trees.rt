@@ -1,8 +1,8 @@
 //! Calls that make trees, copy them, let them go and count their keys.
 ghost use Rattle.std.specs.Prelude.{◌≡◌, ◌≢◌, ◌↔◌, ◌⊎◌, true, None, Err, IfOk, IfErr};
 ghost use Rattle.std.specs.Int.NonZero.{non_zero_u8_get};
-ghost use Rattle.merkle_search_tree.specs.State.{IsNew};
-ghost use Rattle.merkle_search_tree.specs.declared.builder.PageFormat.TheVariants.{V1, V2};
+ghost use Rattle.merkle_tree_theory.specs.State.{IsNew};
+ghost use Rattle.merkle_tree_theory.specs.declared.page_format.PageFormat.TheVariants.{V1, V2};
 ghost use Rattle.merkle_search_tree.specs.Loading.{row_count};
 ghost use Rattle.mst_c.specs.Handles.{HasTree, Changes};
 ghost use Rattle.mst_c.specs.Trees.{IsCopied, rows_of};

@@ -1,10 +1,11 @@
 //! Calls that change the map of a tree.
 ghost use Rattle.std.specs.Prelude.{◌≡◌, ◌≢◌, ◌↔◌, ◌⊎◌, ℕ, List, None, true, false};
-ghost use Rattle.merkle_search_tree.specs.Dropped.{RemovalDropsFew};
+ghost use Rattle.merkle_tree_theory.specs.Dropped.{RemovalDropsFew};
 ghost use Rattle.mst_c.specs.Handles.{Changes};
 ghost use Rattle.mst_c.specs.Lists.{AreRows, IsLoaded};
-ghost use Rattle.mst_c.specs.Trees.{IsSet, SetDropsFew, IsDel};
+ghost use Rattle.mst_c.specs.Trees.{IsSet, IsSetTo, SetDropsFew, IsDel};
 
+use crate::bytes16::MstBytes16;
 use crate::handle::MstTree;
 use crate::reading::ReadError;
 use crate::status::{ABSENT, ARGUMENT, DONE, MALFORMED, MEMORY};
@@ -41,6 +42,41 @@ fn upsert(handle: MstTree, row: (Global, &[u8], &[u8])) -> (MstTree, u32)
         return (MstTree::empty(row.0), ARGUMENT);
     };
     match held.upsert(row.0, row.1, row.2) {
+        Ok(()) => (MstTree::of_box(held), DONE),
+        Err(_) => (MstTree::of_box(held), MEMORY),
+    }
+}
+
+/// Sets a key to this digest of a value.
+///
+/// `DONE`; `MEMORY`; `ARGUMENT` where the handle has no tree. Refused, the tree is as before.
+#[unsafe(no_mangle)]
+pub extern "C" fn mst_proved_tree_upsert_digest(
+    alloc: Global,
+    handle: &mut MstTree,
+    key: &[u8],
+    digest: &MstBytes16,
+) -> u32
+    ensures done { result ≡ 0 → Changes handle.old.tree handle.new.tree (IsSetTo key.now digest.now.bytes) }
+    ensures few_more { result ≡ 0 → Changes handle.old.tree handle.new.tree (SetDropsFew key.now) }
+    ensures unchanged { result ≢ 0 → handle.new.tree ≡ handle.old.tree }
+    ensures argument { (result ≡ 4) ↔ (handle.old.tree ≡ None) }
+    ensures status { (result ≡ 0) ⊎ (result ≡ 1) ⊎ (result ≡ 4) }
+{
+    mem::replace_with(handle, (alloc, key, &digest.bytes), upsert_digest)
+}
+
+fn upsert_digest(handle: MstTree, row: (Global, &[u8], &[u8; 16])) -> (MstTree, u32)
+    ensures done { result.1 ≡ 0 → Changes handle.tree result.0.tree (IsSetTo row.entry.1.now row.entry.2.now) }
+    ensures few_more { result.1 ≡ 0 → Changes handle.tree result.0.tree (SetDropsFew row.entry.1.now) }
+    ensures unchanged { result.1 ≢ 0 → result.0.tree ≡ handle.tree }
+    ensures argument { (result.1 ≡ 4) ↔ (handle.tree ≡ None) }
+    ensures status { (result.1 ≡ 0) ⊎ (result.1 ≡ 1) ⊎ (result.1 ≡ 4) }
+{
+    let Some(mut held) = handle.into_box() else {
+        return (MstTree::empty(row.0), ARGUMENT);
+    };
+    match held.upsert_digest(row.0, row.1, row.2) {
         Ok(()) => (MstTree::of_box(held), DONE),
         Err(_) => (MstTree::of_box(held), MEMORY),
     }

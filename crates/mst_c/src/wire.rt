@@ -7,10 +7,13 @@
 ghost use Rattle.std.specs.Prelude.{◌≡◌, ◌++◌, OnOk, IfOk};
 ghost use Rattle.merkle_diff.specs.DiffRange.{span, spans};
 ghost use Rattle.merkle_diff.specs.PageRange.{entry, entries};
+ghost use Rattle.merkle_tree_theory.specs.Page.{pair_of};
 ghost use Rattle.mst_c.specs.Lists.{ArePageRanges, IsPageRange};
-ghost use Rattle.mst_c.specs.Wire.{number_bytes, text_bytes, entry_bytes, span_bytes, key_ranges_bytes};
+ghost use Rattle.mst_c.specs.Trees.{by_bytes};
+ghost use Rattle.mst_c.specs.Wire.{number_bytes, text_bytes, digest_bytes, entry_bytes, span_bytes, key_ranges_bytes};
 
 use merkle_diff::{DiffRange, PageRange};
+use merkle_search_tree::Node;
 use std::alloc::{AllocError, Global};
 
 /// The mark of a list of page ranges.
@@ -20,15 +23,18 @@ pub const KEY_RANGES: [u8; 4] = *b"MSTk";
 /// The mark of a list of rows.
 pub const ROWS: [u8; 4] = *b"MSTr";
 
+/// The mark of a list of digests.
+pub const DIGESTS: [u8; 4] = *b"MSTd";
+
 /// Writes bytes.
-fn put(bytes: &[u8], out: &mut Vec<u8>) -> Result<(), AllocError>
+pub fn put(bytes: &[u8], out: &mut Vec<u8>) -> Result<(), AllocError>
     ensures { OnOk result (out.new.items ≡ out.old.items ++ bytes.now) }
 {
     out.extend_from_slice(bytes)
 }
 
 /// Writes a number.
-fn put_number(number: usize, out: &mut Vec<u8>) -> Result<(), AllocError>
+pub fn put_number(number: usize, out: &mut Vec<u8>) -> Result<(), AllocError>
     ensures { OnOk result (out.new.items ≡ out.old.items ++ number_bytes number) }
 {
     put(&(number as u64).to_le_bytes(), out)
@@ -58,6 +64,14 @@ fn put_found(range: &DiffRange<'_, Vec<u8>>, out: &mut Vec<u8>) -> Result<(), Al
 {
     put_text(range.start().as_slice(), out)?;
     put_text(range.end().as_slice(), out)
+}
+
+/// Writes the key of a node and the digest of its value.
+pub fn put_digest(node: &Node<16, Vec<u8>>, out: &mut Vec<u8>) -> Result<(), AllocError>
+    ensures { OnOk result (out.new.items ≡ out.old.items ++ digest_bytes (by_bytes (pair_of node.now))) }
+{
+    put_text(node.key().as_slice(), out)?;
+    put(node.value_hash().as_bytes(), out)
 }
 
 /// The page ranges as bytes.

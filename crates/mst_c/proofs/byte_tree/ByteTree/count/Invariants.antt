@@ -1,6 +1,6 @@
 use Rattle.std.proofs.Common.{◌≡◌, ◌+◌, ◌-◌, ◌≤◌, ◌^◌, length, min}
 use Rattle.merkle_search_tree.specs.Loading.{row_count}
-use Rattle.merkle_search_tree.specs.State.{map_of}
+use Rattle.merkle_tree_theory.specs.State.{map_of}
 use Rattle.mst_c.proofs.byte_tree.ByteTree.count.Given as goal
 
 -- the keys that were counted and those that are left are all keys

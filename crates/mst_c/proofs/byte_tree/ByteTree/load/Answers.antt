@@ -4,7 +4,7 @@ use Rattle.std.proofs.lemmas.List.{map-id}
 use Rattle.key_order.specs.Map.{IsMap}
 use Rattle.merkle_digest.specs.SipHash.{siphash128}
 use Rattle.merkle_search_tree.specs.Loading.{digests}
-use Rattle.merkle_search_tree.specs.State.{SameSettings}
+use Rattle.merkle_tree_theory.specs.State.{SameSettings}
 use Rattle.mst_c.specs.Trees.{bytes_cmp, by_bytes, key_cmp}
 use Rattle.mst_c.proofs.Loads.{no_ascent, pairs_ascend, rows_ascend}
 use Rattle.mst_c.proofs.Ranges.{one_list_of_rows}

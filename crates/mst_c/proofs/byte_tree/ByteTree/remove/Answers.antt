@@ -1,6 +1,6 @@
 use Rattle.std.proofs.Common.{sym, ap, ◌∙◌, map}
 use Rattle.key_order.specs.Map.{del, has_key}
-use Rattle.merkle_search_tree.specs.State.{map_of}
+use Rattle.merkle_tree_theory.specs.State.{map_of}
 use Rattle.mst_c.specs.Trees.{bytes_cmp, by_bytes, rows_of}
 use Rattle.mst_c.proofs.Bytes.{rows_del, absent, present}
 use Rattle.mst_c.proofs.byte_tree.ByteTree.remove.Goals as goal
