@@ -1,0 +1,22 @@
+-- What follows from a call that succeeds.
+use Rattle.std.proofs.Common.{◌≡◌, OnOk, OnErr, IfOk, Result, Ok, Err}
+
+pub on_ok : {A E : Type 0} (r : Result A E) (P Q : Type 0) → (P → Q) → OnOk r P → OnOk r Q
+on_ok (Ok x) P Q f h = f h
+on_ok (Err e) P Q f h = tt
+
+pub if_ok : {A E : Type 0} (r : Result A E) (P Q : A → Type 0) → ((x : A) → P x → Q x) → IfOk r P → IfOk r Q
+if_ok (Ok x) P Q f h = f x h
+if_ok (Err e) P Q f h = tt
+
+pub to_on_ok : {A E : Type 0} (r : Result A E) (P : A → Type 0) (Q : Type 0) → ((x : A) → P x → Q) → IfOk r P → OnOk r Q
+to_on_ok (Ok x) P Q f h = f x h
+to_on_ok (Err e) P Q f h = tt
+
+pub of_ok : {A E : Type 0} (r : Result A E) (P : Type 0) (x : A) → r ≡ Ok x → OnOk r P → P
+of_ok (Ok y) P x is h = h
+of_ok (Err e) P x is h = absurd (let k = is in cc)
+
+pub on_err : {A E : Type 0} (r : Result A E) (P : Type 0) → P → OnErr r P
+on_err (Ok x) P h = tt
+on_err (Err e) P h = h

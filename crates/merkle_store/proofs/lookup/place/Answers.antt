@@ -1,0 +1,13 @@
+use Rattle.std.proofs.Common.{rules}
+use Rattle.std.proofs.lemmas.Fn.{always_returns_same}
+use Rattle.std.specs.String.{string_cmp_total}
+use Rattle.key_order.specs.Text.{text_order}
+use Rattle.merkle_replica.proofs.Searches.{searched}
+use Rattle.merkle_store.proofs.lookup.place.Goals as goal
+
+-- the closure compares a row's key with the key
+pub returns : goal.returns
+returns c =
+    let facts = c.binary_search_by.ensures in
+    searched text_order string_cmp_total c.args.rows.now c.args.key.now c.binary_search_by.result c.requires facts.bound
+    (facts.position (λ row. text_order row.0 c.args.key.now) (always_returns_same _ _ _ (λ a r f called. (search rules, search rules))))

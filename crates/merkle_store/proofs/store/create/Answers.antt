@@ -1,0 +1,12 @@
+use Rattle.std.specs.String.{string_cmp_total}
+use Rattle.sqlite.specs.Held.{state}
+use Rattle.merkle_store.specs.contracts.register.RegisterEq.TheImpl.Laws.{laws-law}
+use Rattle.merkle_store.specs.contracts.register.RegisterJoin.TheImpl.Laws.{joining-law}
+use Rattle.merkle_store.proofs.Outcomes.{on_ok}
+use Rattle.merkle_store.proofs.Keeping.{kept_new}
+use Rattle.merkle_store.proofs.store.create.Goals as goal
+
+pub returns-clause-kept : goal.returns-clause-kept
+returns-clause-kept g c clean =
+    let new = state g.S.Store c.create.new.conn in
+    on_ok c.create.result _ _ (kept_new _ laws-law _ joining-law string_cmp_total c.args.writer.now new.now) (c.create.ensures.created clean)

@@ -1,0 +1,19 @@
+use Rattle.std.specs.String.{string_cmp_total}
+use Rattle.sqlite.specs.Held.{state}
+use Rattle.merkle_store.specs.contracts.register.RegisterEq.TheImpl.Laws.{laws-law}
+use Rattle.merkle_store.specs.contracts.register.RegisterJoin.TheImpl.Laws.{joining-law}
+use Rattle.merkle_store.proofs.Outcomes.{on_ok}
+use Rattle.merkle_store.proofs.Keeping.{kept_all, gathered_puts}
+use Rattle.merkle_store.proofs.upkeep.add_entries.Goals as goal
+
+pub returns-clause-kept : goal.returns-clause-kept
+returns-clause-kept g c = λ clean writer kept.
+    let old = state g.S.Store c.args.conn.now in
+    let new = state g.S.Store c.add_all.new.conn in
+    let added = c.in_ok-add_all.ensures.added kept.schema clean in
+    on_ok c.join_all_in_memory.result _ _ (λ puts. kept_all _ laws-law _ joining-law string_cmp_total writer old.now new.now c.args.entries.items c.args.replica.now.rows c.join_all_in_memory.new.replica.rows kept (rw c.deref.ensures.value at added)
+    (gathered_puts _ laws-law _ joining-law string_cmp_total c.args.entries.items c.args.replica.now.rows c.join_all_in_memory.new.replica.rows puts)) c.join_all_in_memory.ensures.joined
+
+pub returns-clause-joined : goal.returns-clause-joined
+returns-clause-joined g c =
+    on_ok c.join_all_in_memory.result _ _ (gathered_puts _ laws-law _ joining-law string_cmp_total c.args.entries.items c.args.replica.now.rows c.join_all_in_memory.new.replica.rows) c.join_all_in_memory.ensures.joined

@@ -1,0 +1,15 @@
+use Rattle.std.specs.String.{string_cmp_total}
+use Rattle.sqlite.specs.Held.{state}
+use Rattle.merkle_store.specs.contracts.register.RegisterEq.TheImpl.Laws.{laws-law}
+use Rattle.merkle_store.specs.contracts.register.RegisterJoin.TheImpl.Laws.{joining-law}
+use Rattle.merkle_store.proofs.Keeping.{kept_read}
+use Rattle.merkle_store.proofs.upkeep.read_replica.Goals as goal
+
+pub returns-clause-kept : goal.returns-clause-kept
+returns-clause-kept g c clean writer has about =
+    let old = state g.S.Store c.args.conn.now in
+    let new = state g.S.Store c.read_rows.new.conn in
+    let same = (c.in_ok-rows.ensures.unchanged has clean).0.now_is in
+    let rows = c.in_ok-rows.ensures.rows has clean in
+    let read = rw c.deref.ensures.value at c.in_ok-entries.ensures in
+    kept_read _ laws-law _ joining-law string_cmp_total writer old.now new.now c.in_ok-rows.rows.items c.in_ok-entries.entries.items c.in_ok-replica.replica.rows same has about rows read c.in_ok-replica.ensures

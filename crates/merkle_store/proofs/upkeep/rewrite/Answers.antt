@@ -1,0 +1,13 @@
+use Rattle.std.specs.String.{string_cmp_total}
+use Rattle.sqlite.specs.Held.{state}
+use Rattle.merkle_store.specs.contracts.register.RegisterEq.TheImpl.Laws.{laws-law}
+use Rattle.merkle_store.specs.contracts.register.RegisterJoin.TheImpl.Laws.{joining-law}
+use Rattle.merkle_store.proofs.Outcomes.{on_ok}
+use Rattle.merkle_store.proofs.Keeping.{kept_instead}
+use Rattle.merkle_store.proofs.upkeep.rewrite.Goals as goal
+
+pub returns-clause-kept : goal.returns-clause-kept
+returns-clause-kept g c = λ clean writer kept.
+    let old = state g.S.Store c.args.conn.now in
+    let new = state g.S.Store c.replace_all.new.conn in
+    on_ok c.replace_all.result _ _ (λ has. kept_instead _ laws-law _ joining-law string_cmp_total writer old.now new.now c.args.replica.now.rows kept (rw c.rows.ensures.rows at has)) (c.replace_all.ensures.replaced kept.schema clean)

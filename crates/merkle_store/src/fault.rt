@@ -1,0 +1,57 @@
+//! Why a call on a store failed.
+use sqlite::Error;
+use std::alloc::AllocError;
+use std::fmt;
+
+/// Why a call on a store failed. But for [`Behind`](StoreFault::Behind), the store is then as it was.
+#[derive(Debug, Drop)]
+pub enum StoreFault {
+    /// The database refused or failed.
+    Database(Error),
+    /// Memory was refused.
+    Memory,
+    /// The file is a database, but its tables are not those of a store.
+    Foreign,
+    /// The file is a store in another format, which has this number.
+    Format(i64),
+    /// A transaction is open on the connection already.
+    Underway,
+    /// No later time is left for the key.
+    Time,
+    /// A peer sent an entry whose time is too far ahead of the clock: nothing was joined.
+    Future,
+    /// The file has the change, and memory was refused for the rows in memory: the store is to be opened again.
+    Behind,
+}
+
+impl From<Error> for StoreFault {
+    fn from(error: Error) -> Self {
+        StoreFault::Database(error)
+    }
+}
+
+impl From<AllocError> for StoreFault {
+    fn from(_error: AllocError) -> Self {
+        StoreFault::Memory
+    }
+}
+
+impl fmt::Display for StoreFault {
+    fn fmt<W: fmt::Write>(&self, f: &mut fmt::Formatter<W>) -> fmt::Result {
+        match self {
+            StoreFault::Database(error) => write!(f, "{error}"),
+            StoreFault::Memory => f.write_str("out of memory"),
+            StoreFault::Foreign => f.write_str("the file is a database, but no store"),
+            StoreFault::Format(format) => write!(
+                f,
+                "the file is a store in format {format}, which this program can't read"
+            ),
+            StoreFault::Underway => f.write_str("a transaction is open already"),
+            StoreFault::Time => f.write_str("the key has the last time that there is"),
+            StoreFault::Future => f.write_str(
+                "the peer sent an entry from the future: nothing was joined",
+            ),
+            StoreFault::Behind => f.write_str("the change is in the file, but memory is out"),
+        }
+    }
+}

@@ -1,0 +1,36 @@
+//! Which entries are later than what their keys have.
+ghost use Rattle.std.specs.Prelude.{◌≡◌};
+ghost use Rattle.std.specs.List.{filter};
+ghost use Rattle.key_order.specs.Text.{text_order};
+ghost use Rattle.key_order.specs.Map.{IsMap, get};
+ghost use Rattle.merkle_store.specs.Registers.{is_later};
+
+use crate::lookup::register_at;
+use crate::register::Register;
+use crate::table::Entries;
+use crate::upkeep::EntryReplica;
+
+/// Whether an entry is later than what its key has.
+fn is_news(replica: &EntryReplica, entry: &(String, Register)) -> bool
+    ensures { result ≡ is_later (get text_order replica.now.rows entry.now.0) entry.now.1 }
+{
+    match register_at(replica.rows(), &entry.0) {
+        Some(own) => *own < entry.1,
+        None => true,
+    }
+}
+
+/// The entries that are later than what their keys have.
+pub fn news_of(replica: &EntryReplica, entries: Entries) -> Entries
+    ensures ascending { IsMap text_order replica.now.rows }
+    ensures news { result.items ≡ filter (λ entry. is_later (get text_order replica.now.rows entry.0) entry.1) entries.items }
+{
+    let _rows = replica.rows();
+    let mut news = entries;
+    news.retain(
+        |entry: &(String, Register)| -> bool
+            ensures { result ≡ is_later (get text_order replica.entry.now.rows entry.now.0) entry.now.1 }
+        { is_news(replica, entry) },
+    );
+    news
+}

@@ -1,0 +1,182 @@
+//! A pull over a pair of pipes or a socket, from both sides.
+use crate::fault::StoreFault;
+use crate::framing::{Watch, receive, send};
+use crate::store::Store;
+use crate::upkeep::EntryReplica;
+use crate::wire::WireFault;
+use merkle_wire::{CatchingUp, Next, answer, refusal};
+use sqlite::Alter;
+use std::alloc::Global;
+use std::fmt;
+use std::io::{Read, Write};
+
+/// How many messages a pull sends at most: that for the root, one for each round of outlines, and that for the rows.
+const MOST_MESSAGES: usize = 260;
+
+/// Why a pull ended early. The store is then as it was, but for [`StoreFault::Behind`].
+#[derive(Debug, Drop)]
+pub enum PullFault {
+    Wire(WireFault),
+    Store(StoreFault),
+}
+
+impl From<WireFault> for PullFault {
+    fn from(fault: WireFault) -> Self {
+        PullFault::Wire(fault)
+    }
+}
+
+impl From<StoreFault> for PullFault {
+    fn from(fault: StoreFault) -> Self {
+        PullFault::Store(fault)
+    }
+}
+
+impl fmt::Display for PullFault {
+    fn fmt<W: fmt::Write>(&self, f: &mut fmt::Formatter<W>) -> fmt::Result {
+        match self {
+            PullFault::Wire(fault) => write!(f, "{fault}"),
+            PullFault::Store(fault) => write!(f, "{fault}"),
+        }
+    }
+}
+
+/// What went over the wire.
+#[derive(Clone, Copy, Debug, PartialEq, Eq, Drop)]
+pub struct Traffic {
+    /// How many messages were sent, each of which has its reply.
+    pub messages: usize,
+    /// How many bytes were sent.
+    pub sent: usize,
+    /// How many bytes came.
+    pub came: usize,
+}
+
+impl Traffic {
+    /// Nothing.
+    fn none() -> Self {
+        Traffic {
+            messages: 0,
+            sent: 0,
+            came: 0,
+        }
+    }
+
+    /// With a message of so many bytes and a reply of so many more, each with its length.
+    fn with(&self, sent: usize, came: usize) -> Self {
+        Traffic {
+            messages: self.messages.saturating_add(1),
+            sent: self.sent.saturating_add(sent).saturating_add(8),
+            came: self.came.saturating_add(came).saturating_add(8),
+        }
+    }
+}
+
+/// What a pull brought.
+#[derive(Clone, Copy, Debug, PartialEq, Eq, Drop)]
+pub struct Brought {
+    /// How many entries of the peer came.
+    pub entries: usize,
+    /// How many of them were later than the store's own.
+    pub news: usize,
+    /// What went over the wire.
+    pub traffic: Traffic,
+}
+
+/// Sends a message, and takes the reply.
+fn ask<R: Read, W: Write, P: Watch>(
+    alloc: Global,
+    from: &mut R,
+    to: &mut W,
+    most: u64,
+    watch: &mut P,
+    message: &[u8],
+) -> Result<Vec<u8>, WireFault> {
+    send(alloc, to, message)?;
+    match receive(alloc, from, most, watch)? {
+        Some(reply) => Ok(reply),
+        None => Err(WireFault::Cut),
+    }
+}
+
+/// The entries of a peer that a replica lacks, and what went over the wire.
+fn entries_of_peer<R: Read, W: Write, P: Watch>(
+    alloc: Global,
+    replica: &mut EntryReplica,
+    from: &mut R,
+    to: &mut W,
+    most: u64,
+    watch: &mut P,
+) -> Result<(crate::table::Entries, Traffic), WireFault> {
+    let (session, message) = CatchingUp::begin(alloc)?;
+    let mut session = session;
+    let mut message = message;
+    let mut traffic = Traffic::none();
+    for _ in 0..MOST_MESSAGES {
+        let reply = ask(alloc, from, to, most, watch, &message)?;
+        traffic = traffic.with(message.len(), reply.len());
+        match session.take(replica, &reply)? {
+            Next::Ask(next, question) => {
+                session = next;
+                message = question;
+            }
+            Next::Came(entries) => return Ok((entries, traffic)),
+        }
+    }
+    Err(WireFault::Cut)
+}
+
+/// Brings the entries of a peer that the store lacks.
+///
+/// # Errors
+///
+/// [`PullFault`]
+pub fn pull<S: Alter + Drop, R: Read, W: Write, P: Watch>(
+    store: &mut Store<S>,
+    from: &mut R,
+    to: &mut W,
+    most: u64,
+    watch: &mut P,
+) -> Result<Brought, PullFault> {
+    let alloc = store.alloc();
+    let (entries, traffic) = entries_of_peer(alloc, store.replica(), from, to, most, watch)?;
+    let count = entries.len();
+    let news = store.join(entries)?;
+    Ok(Brought {
+        entries: count,
+        news,
+        traffic,
+    })
+}
+
+/// Answers a peer until the end of its messages.
+///
+/// # Errors
+///
+/// [`WireFault`]: the peer is told that it is refused, where the output still takes that.
+pub fn serve<S: Alter + Drop, R: Read, W: Write, P: Watch>(
+    store: &mut Store<S>,
+    from: &mut R,
+    to: &mut W,
+    most: u64,
+    watch: &mut P,
+) -> Result<Traffic, WireFault> {
+    let alloc = store.alloc();
+    let mut traffic = Traffic::none();
+    for _ in 0..u64::MAX {
+        let Some(message) = receive(alloc, from, most, watch)? else {
+            return Ok(traffic);
+        };
+        match answer(alloc, store.replica(), &message) {
+            Ok(reply) => {
+                send(alloc, to, &reply)?;
+                traffic = traffic.with(reply.len(), message.len());
+            }
+            Err(error) => {
+                let _ = send(alloc, to, &refusal(alloc)?);
+                return Err(WireFault::Question(error));
+            }
+        }
+    }
+    Ok(traffic)
+}

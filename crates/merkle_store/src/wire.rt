@@ -1,0 +1,61 @@
+//! Why a peer was not served or not heard.
+use merkle_wire::{AnswerError, SessionError};
+use std::alloc::{AllocError, AllocFailed};
+use std::fmt;
+
+/// Why a peer was not served or not heard.
+#[derive(Debug, Drop)]
+pub enum WireFault {
+    /// Memory was refused.
+    Memory,
+    /// A message is longer than it may be.
+    TooLong(u64),
+    /// The peer stopped in the middle of a message, or before its reply.
+    Cut,
+    /// The input or the output failed.
+    Device,
+    /// The peer's message has no reply.
+    Question(AnswerError),
+    /// The peer's reply is none.
+    Reply(SessionError),
+}
+
+impl From<AllocError> for WireFault {
+    fn from(_error: AllocError) -> Self {
+        WireFault::Memory
+    }
+}
+
+impl<T: Drop> From<AllocFailed<T>> for WireFault {
+    fn from(_error: AllocFailed<T>) -> Self {
+        WireFault::Memory
+    }
+}
+
+impl From<AnswerError> for WireFault {
+    fn from(error: AnswerError) -> Self {
+        WireFault::Question(error)
+    }
+}
+
+impl From<SessionError> for WireFault {
+    fn from(error: SessionError) -> Self {
+        WireFault::Reply(error)
+    }
+}
+
+impl fmt::Display for WireFault {
+    fn fmt<W: fmt::Write>(&self, f: &mut fmt::Formatter<W>) -> fmt::Result {
+        match self {
+            WireFault::Memory => f.write_str("out of memory"),
+            WireFault::TooLong(len) => write!(
+                f,
+                "a message of {len} bytes is longer than it may be"
+            ),
+            WireFault::Cut => f.write_str("the peer stopped in the middle"),
+            WireFault::Device => f.write_str("the connection to the peer failed"),
+            WireFault::Question(error) => write!(f, "{error}"),
+            WireFault::Reply(error) => write!(f, "{error}"),
+        }
+    }
+}
