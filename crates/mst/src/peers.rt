@@ -1,0 +1,74 @@
+//! The subcommands that speak with a peer.
+use crate::fault::Fault;
+use crate::files::FileOfStore;
+use merkle_store::framing::{MOST_BYTES, Watch};
+use merkle_store::pulling::{self, Brought};
+
+/// How many bytes come between two lines on standard error.
+const LINE_BYTES: usize = 16_777_216;
+
+/// Says on standard error how many bytes have come.
+#[derive(Drop)]
+struct Lines<'a> {
+    rt: &'a HostRuntime,
+    came: usize,
+    next: usize,
+}
+
+impl Watch for Lines<'_> {
+    fn came(&mut self, bytes: usize) {
+        self.came = self.came.saturating_add(bytes);
+        if self.came >= self.next {
+            self.next = self.came.saturating_add(LINE_BYTES);
+            let _ = eprintln!(self.rt; "mst: {} bytes have come", self.came);
+        }
+    }
+}
+
+/// Who says how many bytes have come.
+fn lines_of(rt: &HostRuntime) -> Lines<'_> {
+    Lines {
+        rt,
+        came: 0,
+        next: LINE_BYTES,
+    }
+}
+
+/// Says on standard error what a pull brought.
+fn tell(rt: &HostRuntime, brought: &Brought) -> Result<(), Fault> {
+    eprintln!(rt;
+        "mst: {} entries were news, of {} that came, in {} rounds, {} bytes sent, {} came",
+        brought.news,
+        brought.entries,
+        brought.traffic.messages,
+        brought.traffic.sent,
+        brought.traffic.came
+    )?;
+    Ok(())
+}
+
+/// Answers a peer.
+pub fn serve(rt: &HostRuntime, store: &mut FileOfStore) -> Result<(), Fault> {
+    let mut lines = lines_of(rt);
+    let _traffic = pulling::serve(
+        store,
+        &mut rt.stdin(),
+        &mut rt.stdout(),
+        MOST_BYTES,
+        &mut lines,
+    )?;
+    Ok(())
+}
+
+/// Brings what a peer has, and says on standard error what that was.
+pub fn pull(rt: &HostRuntime, store: &mut FileOfStore) -> Result<(), Fault> {
+    let mut lines = lines_of(rt);
+    let brought = pulling::pull(
+        store,
+        &mut rt.stdin(),
+        &mut rt.stdout(),
+        MOST_BYTES,
+        &mut lines,
+    )?;
+    tell(rt, &brought)
+}

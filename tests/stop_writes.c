@@ -1,0 +1,84 @@
+/* Stops the program at the call on a file whose number is in STOP_AT, the first being 1, where STOP_HOW says how: 'before' and 'after' end
+   the process beside the call, 'half' in the middle of a write, and 'refuse' fails the call, and with STOP_LATER all later ones too. It
+   writes at the end to STOP_COUNT how many such calls came. It is preloaded by tests/store_faults. */
+#define _GNU_SOURCE
+#include <dlfcn.h>
+#include <errno.h>
+#include <fcntl.h>
+#include <signal.h>
+#include <stdio.h>
+#include <stdlib.h>
+#include <string.h>
+#include <sys/stat.h>
+#include <sys/types.h>
+#include <unistd.h>
+
+static long calls, at, later;
+static const char *how = "";
+
+__attribute__((constructor)) static void begin(void) {
+    const char *number = getenv("STOP_AT"), *way = getenv("STOP_HOW");
+    at = number ? atol(number) : 0;
+    how = way ? way : "";
+    later = getenv("STOP_LATER") != NULL;
+}
+
+static int is_file(int file) {
+    struct stat about;
+    return fstat(file, &about) == 0 && S_ISREG(about.st_mode);
+}
+
+static void end_here(void) { raise(SIGKILL); }
+
+/* 0: as ever, 1: refused, 2: this is the call */
+static int turn(void) {
+    calls++;
+    if (at && calls > at && later && !strcmp(how, "refuse")) return 1;
+    if (!at || calls != at) return 0;
+    if (!strcmp(how, "refuse")) return 1;
+    if (!strcmp(how, "before")) end_here();
+    return 2;
+}
+
+#define NEXT(name) __typeof__(&name) next = (__typeof__(&name))dlsym(RTLD_NEXT, #name)
+#define REFUSED (errno = EIO, -1)
+#define AS_EVER(call) { __typeof__(call) done = call; if (t == 2) end_here(); return done; }
+
+ssize_t pwrite64(int file, const void *from, size_t size, off64_t place) {
+    NEXT(pwrite64);
+    int t = turn();
+    if (t == 1) return REFUSED;
+    if (t == 2 && !strcmp(how, "half")) size /= 2;
+    AS_EVER(next(file, from, size, place))
+}
+ssize_t pwrite(int file, const void *from, size_t size, off_t place) {
+    NEXT(pwrite);
+    int t = turn();
+    if (t == 1) return REFUSED;
+    if (t == 2 && !strcmp(how, "half")) size /= 2;
+    AS_EVER(next(file, from, size, place))
+}
+ssize_t write(int file, const void *from, size_t size) {
+    NEXT(write);
+    int t = is_file(file) ? turn() : 0;
+    if (t == 1) return REFUSED;
+    if (t == 2 && !strcmp(how, "half")) size /= 2;
+    AS_EVER(next(file, from, size))
+}
+int fsync(int file) { NEXT(fsync); int t = turn(); if (t == 1) return REFUSED; AS_EVER(next(file)) }
+int fdatasync(int file) { NEXT(fdatasync); int t = turn(); if (t == 1) return REFUSED; AS_EVER(next(file)) }
+int ftruncate(int file, off_t size) { NEXT(ftruncate); int t = turn(); if (t == 1) return REFUSED; AS_EVER(next(file, size)) }
+int ftruncate64(int file, off64_t size) { NEXT(ftruncate64); int t = turn(); if (t == 1) return REFUSED; AS_EVER(next(file, size)) }
+int unlink(const char *path) { NEXT(unlink); int t = turn(); if (t == 1) return REFUSED; AS_EVER(next(path)) }
+int unlinkat(int folder, const char *path, int flags) { NEXT(unlinkat); int t = turn(); if (t == 1) return REFUSED; AS_EVER(next(folder, path, flags)) }
+
+__attribute__((destructor)) static void end(void) {
+    const char *path = getenv("STOP_COUNT");
+    long made = calls;
+    at = 0;
+    FILE *file = path ? fopen(path, "w") : NULL;
+    if (file) {
+        fprintf(file, "%ld\n", made);
+        fclose(file);
+    }
+}
