@@ -1,5 +1,5 @@
 -- What follows from a call that succeeds, and syncs under another premise or with another outcome.
-use Rattle.std.proofs.Common.{List, IfOk, OnOk, Result, Ok, Err}
+use Rattle.std.proofs.Common.{List, IfOk, OnOk, OnErr, Result, Ok, Err, ◌⊎◌, inl, inr}
 use Rattle.std.specs.List.{AllByRecursion}
 use Rattle.merkle_replica.specs.Laws.{Laws}
 use Rattle.merkle_replica.specs.Contents.{Contents, Side, side}
@@ -9,6 +9,18 @@ use Rattle.examples.specs.Sync.{IsSync}
 pub on_ok : {A E : Type 0} (r : Result A E) (P Q : Type 0) → (P → Q) → OnOk r P → OnOk r Q
 on_ok (Ok x) P Q f h = f h
 on_ok (Err e) P Q f h = tt
+
+pub on_err : {A E : Type 0} (r : Result A E) (P Q : Type 0) → (P → Q) → OnErr r P → OnErr r Q
+on_err (Ok x) P Q f h = tt
+on_err (Err e) P Q f h = f h
+
+pub where_err : {A E : Type 0} (r : Result A E) (P : Type 0) → P → OnErr r P
+where_err (Ok x) P h = tt
+where_err (Err e) P h = h
+
+pub either : {P Q R : Type 0} → (P → R) → (Q → R) → P ⊎ Q → R
+either f g (inl h) = f h
+either f g (inr h) = g h
 
 pub if_ok_both : {A E : Type 0} (r : Result A E) (P : A → Type 0) (Q : Type 0) (R : A → Type 0) → ((x : A) → P x → Q → R x) → IfOk r P → OnOk r Q → IfOk r R
 if_ok_both (Ok x) P Q R f h k = f x h k

@@ -1,5 +1,5 @@
 -- The messages of a catch-up: one round, the last, and all.
-use Rattle.std.proofs.Common.{◌≡◌, ℕ, ◌<◌, ◌^◌, List, [], ◌∷◌, ◌++◌, length, map, Some, None, string_bytes, refl, sym, ◌∙◌, ap, subst, append_assoc}
+use Rattle.std.proofs.Common.{◌≡◌, ℕ, ◌<◌, ◌^◌, List, [], ◌∷◌, ◌++◌, length, map, Some, None, string_bytes, refl, sym, ◌∙◌, ap, subst, append_assoc, inr}
 use Rattle.std.specs.String.{string_cmp_total}
 use Rattle.key_order.specs.Text.{Text, text_order}
 use Rattle.key_order.specs.Map.{rows_in}
@@ -11,11 +11,11 @@ use Rattle.merkle_replica.specs.CatchUpSteps.{AreCatchUpSteps}
 use Rattle.merkle_replica.specs.Contents.{Side}
 use Rattle.merkle_replica.specs.Descent.{AreSortedOut}
 use Rattle.merkle_replica.proofs.SameDescents.{once-alike}
-use Rattle.examples.specs.CatchUpMessages.{Spells, SortsOut, SendsOutlines, GoesDown, Descends, AsksForRows}
-use Rattle.examples.specs.PullMessages.{SendsRows, JoinsRows}
+use Rattle.examples.specs.CatchUpMessages.{Spells, SortsOut, SendsOutlines, GoesDown, Descends, AsksForRows, JoinsSome}
+use Rattle.examples.specs.PullMessages.{SendsRows, JoinsRows, JoinsFirstRows}
 use Rattle.examples.specs.StoreLaws.{store_laws}
 use Rattle.examples.specs.Wire.{IsInMemory}
-use Rattle.examples.proofs.Told.{same_ranges, same_items, same_rows}
+use Rattle.examples.proofs.Told.{same_ranges, same_items, same_rows, rows_asked_for, first_joined}
 
 module _ (local peer : Side Text ℕ (List ℕ)) (root : Tree Text (List ℕ)) where
   -- nothing is left to ask for
@@ -85,3 +85,11 @@ module _ (local peer : Side Text ℕ (List ℕ)) (root : Tree Text (List ℕ)) w
       joins = joins;
     },
   )
+
+-- of the rows at the names that were asked for, over bytes, the first were joined
+pub some_joined : (local peer : Side Text ℕ (List ℕ)) (names : List Text) (asked sent : List ℕ) (after : List (Text × ℕ)) → length asked < 2 ^ 64 → length sent < 2 ^ 64
+    → AsksForRows names asked → SendsRows peer asked sent → JoinsFirstRows local sent after → JoinsSome local.rows peer.rows after
+some_joined local peer names asked sent after asked_fits fits a (spans, read, each, spelled) (got, done, each_got, came, some, not_all, joins) =
+    let found = points a.once in
+    let same = rows_asked_for peer.rows found spans got asked sent asked_fits fits a.spelled read each each_got spelled came in
+    inr (a.once, done, first_joined local.rows (rows_in text_order found peer.rows) got after done same joins)

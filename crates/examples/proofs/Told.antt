@@ -1,18 +1,25 @@
 -- Bytes tell the entries that they spell, up to equal names.
-use Rattle.std.proofs.Common.{◌≡◌, ℕ, ◌<◌, ◌≤◌, ◌^◌, List, [], ◌∷◌, ◌++◌, length, nat_eq, true, string_bytes, refl, sym, ap, ◌∙◌, arith}
+use Rattle.std.proofs.Common.{◌≡◌, ℕ, ◌<◌, ◌≤◌, ◌^◌, List, [], ◌∷◌, ◌++◌, length, take, max, nat_eq, true, string_bytes, refl, sym, ap, subst, ◌∙◌, arith}
 use Rattle.std.specs.Bool.{⊤}
+use Rattle.std.specs.Cmp.{nat_eq_equiv}
 use Rattle.std.specs.List.{AllByRecursion, flat_map}
+use Rattle.std.specs.String.{string_cmp_total}
 use Rattle.std.proofs.lemmas.Bool.{eq-eqb}
 use Rattle.std.proofs.lemmas.List.{append_assoc, length-append}
 use Rattle.std.proofs.lemmas.List.Concat.{flat_map-cons}
 use Rattle.key_order.specs.Interval.{Span, SameSpan}
-use Rattle.key_order.specs.Map.{SameMap}
+use Rattle.key_order.specs.Join.{IsJoin}
+use Rattle.key_order.specs.Map.{SameMap, rows_in}
 use Rattle.key_order.specs.Order.{Same}
 use Rattle.key_order.specs.Text.{Text, text_order}
 use Rattle.key_order.proofs.Clones.{string_clone}
+use Rattle.key_order.proofs.Numbers.{max_joining}
+use Rattle.key_order.proofs.SameRows.{joins-came}
 use Rattle.merkle_diff.specs.Entry.{Entry}
 use Rattle.merkle_diff.specs.Merge.{SameSpans}
 use Rattle.merkle_diff.specs.SameEntries.{SameEntry, SameEntries}
+use Rattle.merkle_diff.proofs.SameSpans.{rows_in-alike}
+use Rattle.merkle_replica.proofs.Copying.{take_same}
 use Rattle.merkle_tree_theory.proofs.Streams.{join_tells, number_tells}
 use Rattle.merkle_tree_theory.specs.Outline.{Item, of_node, of_page}
 use Rattle.merkle_search_tree.specs.SameItems.{SameItem, SameItems}
@@ -155,3 +162,21 @@ same_items xs ys all fits a b = as_items xs ys (lists_tell IsItem item_bytes (Sa
     as_items [] (y ∷ ys) h = absurd h
     as_items (x ∷ xs) [] h = absurd h
     as_items (x ∷ xs) (y ∷ ys) h = (h.0, as_items xs ys h.1)
+
+-- behind a 0 stands a node
+pub node_behind : (item : Item Text (List ℕ)) (left rest : List ℕ) → IsItem item → 0 ∷ left ≡ item_bytes item ++ rest → (name : Text) × (digest : List ℕ) × (length digest ≡ 16) × (left ≡ text_bytes name ++ (digest ++ rest))
+node_behind (of_node name digest) left rest fits e = (name, digest, fits, behind_first 0 0 left ((text_bytes name ++ digest) ++ rest) e ∙ append_assoc (text_bytes name) digest rest)
+node_behind (of_page range) left rest fits e = let never : 0 ≡ 1 = same_first 0 1 left (page_range_bytes range ++ rest) e in absurd (omega (arith, never))
+
+-- the rows that came are those that were asked for, and so are the first of them, which are joined alike
+pub rows_asked_for : (peer : List (Text × ℕ)) (found spans : List (Span Text)) (got : List (Text × ℕ)) (asked sent : List ℕ) → length asked < 2 ^ 64 → length sent < 2 ^ 64
+    → asked ≡ list_bytes range_bytes found → asked ≡ list_bytes range_bytes spans → AllByRecursion IsRow (rows_in text_order spans peer) → AllByRecursion IsRow got
+    → sent ≡ list_bytes row_bytes (rows_in text_order spans peer) → sent ≡ list_bytes row_bytes got → SameMap text_order (λ x y. nat_eq x y ≡ true) (rows_in text_order found peer) got
+rows_asked_for peer found spans got asked sent asked_fits fits asks read each each_got spelled came =
+    subst (λ rows. SameMap text_order (λ x y. nat_eq x y ≡ true) rows got) (sym (rows_in-alike text_order string_cmp_total found spans (same_ranges found spans asked asked_fits asks read) peer))
+    (same_rows (rows_in text_order spans peer) got sent each each_got fits spelled came)
+
+pub first_joined : (local asked_for got after : List (Text × ℕ)) (done : ℕ) → SameMap text_order (λ x y. nat_eq x y ≡ true) asked_for got
+    → IsJoin text_order nat_eq max local (take done got) after → IsJoin text_order nat_eq max local (take done asked_for) after
+first_joined local asked_for got after done same =
+    joins-came text_order string_cmp_total nat_eq nat_eq_equiv max max_joining local (take done asked_for) (take done got) after (take_same text_order string_cmp_total (λ x y. nat_eq x y ≡ true) done asked_for got same)

@@ -1,7 +1,9 @@
 -- The messages of a catch-up between two stores, as bytes.
-use Rattle.std.specs.Prelude.{◌≡◌, ℕ, List, [], ◌∷◌, ◌++◌, length, MatchOption, Option, Some, None, string_bytes}
+use Rattle.std.specs.Prelude.{◌≡◌, ℕ, List, [], ◌∷◌, ◌++◌, length, take, max, nat_eq, ◌⊎◌, MatchOption, Option, Some, None, string_bytes}
 use Rattle.std.specs.List.{AllByRecursion}
 use Rattle.key_order.specs.Interval.{Span}
+use Rattle.key_order.specs.Join.{IsJoin}
+use Rattle.key_order.specs.Map.{rows_in}
 use Rattle.key_order.specs.SameKeys.{SameKeys}
 use Rattle.key_order.specs.Text.{Text, text_order}
 use Rattle.merkle_tree_theory.specs.Outline.{Item, of_node, of_page}
@@ -68,3 +70,8 @@ pub record AsksForRows (names : List Text) (sent : List ℕ) : Type 0 where
   pub once : List Text
   pub each : IsOnceEach text_order names once
   pub spelled : sent ≡ list_bytes range_bytes (points once)
+
+-- of two stores with these rows the first has them still, or the join with the first of the other's rows at some names
+abbrev pub JoinsSome : List (Text × ℕ) → List (Text × ℕ) → List (Text × ℕ) → Type 0
+JoinsSome local peer after =
+    (after ≡ local) ⊎ ((names : List Text) × (done : ℕ) × IsJoin text_order nat_eq max local (take done (rows_in text_order (points names) peer)) after)

@@ -1,5 +1,5 @@
 -- The messages of a pull between two stores, as bytes.
-use Rattle.std.specs.Prelude.{◌≡◌, ℕ, List, max, nat_eq}
+use Rattle.std.specs.Prelude.{◌≡◌, ℕ, ◌<◌, ◌≤◌, List, length, take, max, nat_eq}
 use Rattle.std.specs.List.{AllByRecursion}
 use Rattle.key_order.specs.Interval.{Span}
 use Rattle.key_order.specs.Join.{IsJoin}
@@ -33,3 +33,9 @@ SendsRows peer came sent =
 abbrev pub JoinsRows : Side Text ℕ (List ℕ) → List ℕ → List (Text × ℕ) → Type 0
 JoinsRows local came after =
     (rows : List (Text × ℕ)) × AllByRecursion IsRow rows × (came ≡ list_bytes row_bytes rows) × IsJoin text_order nat_eq max local.rows rows after
+
+-- the bytes that came spell rows, and local has the join with the first of these after, some but not all
+abbrev pub JoinsFirstRows : Side Text ℕ (List ℕ) → List ℕ → List (Text × ℕ) → Type 0
+JoinsFirstRows local came after =
+    (rows : List (Text × ℕ)) × (done : ℕ) × AllByRecursion IsRow rows × (came ≡ list_bytes row_bytes rows)
+    × (1 ≤ done) × (done < length rows) × IsJoin text_order nat_eq max local.rows (take done rows) after

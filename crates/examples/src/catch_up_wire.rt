@@ -3,15 +3,16 @@
 //!
 //! What is sent is spelled as in [`wire`](crate::wire), and an item of an outline as a byte and what it is: 0 with a name and the digest of
 //! its number, or 1 with a page range. Nothing that came is trusted.
-ghost use Rattle.std.specs.Prelude.{◌≡◌, ◌++◌, ℕ, List, [], IfOk, OnOk, IsSome, max, nat_eq, string_bytes, map};
+ghost use Rattle.std.specs.Prelude.{◌≡◌, ◌≢◌, ◌++◌, ℕ, List, [], IfOk, OnOk, OnErr, Err, IsSome, max, nat_eq, string_bytes, map};
 ghost use Rattle.std.specs.Option.{option_map};
+ghost use Rattle.key_order.specs.Interval.{Span};
 ghost use Rattle.key_order.specs.Join.{IsJoin};
 ghost use Rattle.key_order.specs.Map.{IsMap};
 ghost use Rattle.key_order.specs.SameKeys.{SameKeys};
 ghost use Rattle.key_order.specs.Text.{Text, text_order};
 ghost use Rattle.merkle_digest.specs.SipDigests.{text_digest};
 ghost use Rattle.merkle_tree_theory.specs.Canonical.{IsTreeOf};
-ghost use Rattle.merkle_tree_theory.specs.Outline.{of_page, whole_range};
+ghost use Rattle.merkle_tree_theory.specs.Outline.{Item, of_page, whole_range};
 ghost use Rattle.merkle_tree_theory.specs.State.{SameSettings};
 ghost use Rattle.merkle_tree_theory.specs.Tree.{Tree};
 ghost use Rattle.merkle_replica.specs.CatchUp.{IsCatchUp};
@@ -20,9 +21,10 @@ ghost use Rattle.merkle_replica.specs.Descent.{keys_of};
 ghost use Rattle.merkle_replica.specs.Faithful.{IsFaithful};
 ghost use Rattle.merkle_replica.specs.Pulls.{HoldTheJoin};
 ghost use Rattle.examples.specs.StoreLaws.{store_laws};
-ghost use Rattle.examples.specs.CatchUpMessages.{Spells, SortsOut, SendsOutlines, GoesDown, Descends, AsksForRows};
+ghost use Rattle.examples.specs.CatchUpMessages.{Spells, SortsOut, SendsOutlines, GoesDown, Descends, AsksForRows, JoinsSome};
 ghost use Rattle.examples.specs.PullMessages.{SendsRows, JoinsRows};
-ghost use Rattle.examples.specs.Wire.{IsInMemory};
+ghost use Rattle.examples.specs.Wire.{IsInMemory, range_bytes, list_bytes};
+ghost use Rattle.examples.specs.declared.wire.WireFault.TheVariants.{Malformed};
 
 use crate::items::{borrowed_items, spell_bounds, spell_items, spell_points};
 use crate::reading::{read_items, read_ranges};
@@ -61,14 +63,17 @@ pub fn send_root(alloc: Global, store: &mut Store<u64>) -> Result<Vec<u8>, Alloc
 ///
 /// # Errors
 ///
-/// Bytes that are no items, and want of memory.
+/// Bytes that are no items, which leave the list of names as it was, and want of memory: the names that were there stay in front.
 pub fn sort_out(
     alloc: Global,
     store: &Store<u64>,
     came: &[u8],
     names: &mut Vec<String>,
 ) -> Result<Option<Vec<u8>>, WireFault>
-    ensures { IfOk result (λ sent. SortsOut (side store.now) came.now (option_map (λ bytes. bytes.items) sent) names.old.items names.new.items) }
+    ensures sorted { IfOk result (λ sent. SortsOut (side store.now) came.now (option_map (λ bytes. bytes.items) sent) names.old.items names.new.items) }
+    ensures malformed { result ≡ Err Malformed → (items : List (Item Text (List ℕ))) → ¬ (Spells came.now items) }
+    ensures unchanged { result ≡ Err Malformed → names.new ≡ names.old }
+    ensures kept { (added : List Text) × (names.new.items ≡ names.old.items ++ added) }
 {
     let came = read_items(alloc, came)?;
     let items = borrowed_items(alloc, &came)?;
@@ -83,7 +88,8 @@ pub fn sort_out(
 
 /// Adds clones of names to a list.
 fn add_names(some: &[&String], names: &mut Vec<String>) -> Result<(), AllocError>
-    ensures { OnOk result ((added : List Text) × SameKeys text_order (keys_of some.now) added × (names.new.items ≡ names.old.items ++ added)) }
+    ensures added { OnOk result ((added : List Text) × SameKeys text_order (keys_of some.now) added × (names.new.items ≡ names.old.items ++ added)) }
+    ensures kept { (added : List Text) × (names.new.items ≡ names.old.items ++ added) }
 {
     'names: for name in some {
         let copy = (*name).clone()?;
@@ -100,7 +106,8 @@ fn add_names(some: &[&String], names: &mut Vec<String>) -> Result<(), AllocError
 /// Bytes that are no spans, and want of memory.
 pub fn send_outlines(alloc: Global, store: &Store<u64>, asked: &[u8]) -> Result<Vec<u8>, WireFault>
     requires { IsSome store.now.tree.root_hash }
-    ensures { IfOk result (λ bytes. SendsOutlines (side store.now) store.now.tree.root asked.now bytes.items) }
+    ensures sent { IfOk result (λ bytes. SendsOutlines (side store.now) store.now.tree.root asked.now bytes.items) }
+    ensures malformed { result ≡ Err Malformed → (spans : List (Span Text)) → asked.now ≢ list_bytes range_bytes spans }
 {
     let ranges = read_ranges(alloc, asked)?;
     let mut spans = Vec::new(alloc);
@@ -179,7 +186,7 @@ fn lacked_names(
 ///
 /// # Errors
 ///
-/// Those of the steps. What then stands is said of each of them, and not of the whole.
+/// Those of the steps: no row was joined, or the first in key order of the peer's at some names.
 pub fn catch_up_over_bytes(
     alloc: Global,
     local: &mut Store<u64>,
@@ -188,6 +195,7 @@ pub fn catch_up_over_bytes(
     ensures caught_up { OnOk result ((names : List Text) × IsCatchUp store_laws (side local.old) (side peer.old) names local.new.rows) }
     ensures join { OnOk result (IsFaithful store_laws (side local.old) (side peer.old)
         → IsJoin text_order nat_eq max local.old.rows peer.old.rows local.new.rows) }
+    ensures refused { OnErr result (JoinsSome local.old.rows peer.old.rows local.new.rows) }
     ensures peer_rows { peer.new.rows ≡ peer.old.rows }
     ensures settings { SameSettings local.old.tree local.new.tree }
     ensures peer_settings { SameSettings peer.old.tree peer.new.tree }
@@ -207,7 +215,8 @@ pub fn catch_up_over_bytes(
 ///
 /// # Errors
 ///
-/// Those of the steps. What then stands is said of each of them, and not of the whole.
+/// Those of the steps, in the first catch-up or in the second: `a` has joined no row, or the first in key order of `b`'s at some names, and
+/// so has `b` of the rows that `a` then has.
 pub fn catch_up_both_over_bytes(
     alloc: Global,
     a: &mut Store<u64>,
@@ -215,6 +224,7 @@ pub fn catch_up_both_over_bytes(
 ) -> Result<(), WireFault>
     ensures join { OnOk result (IsFaithful store_laws (side a.old) (side b.old)
         → IsFaithful store_laws (side b.old) (with_rows (side a.old) a.new.rows) → HoldTheJoin store_laws (side a.old) (side b.old) a.new.rows b.new.rows) }
+    ensures refused { OnErr result (JoinsSome a.old.rows b.old.rows a.new.rows × JoinsSome b.old.rows a.new.rows b.new.rows) }
     ensures a_settings { SameSettings a.old.tree a.new.tree }
     ensures b_settings { SameSettings b.old.tree b.new.tree }
 {

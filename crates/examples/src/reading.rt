@@ -7,6 +7,7 @@ ghost use Rattle.merkle_diff.specs.Entry.{Entry};
 ghost use Rattle.merkle_diff.specs.OwnedPageRange.{owned_entry};
 ghost use Rattle.merkle_diff.specs.PageRangeSnapshot.{snapshot_entries};
 ghost use Rattle.merkle_replica.specs.Answers.{spans_of};
+ghost use Rattle.merkle_tree_theory.specs.Outline.{Item};
 ghost use Rattle.examples.specs.CameItem.{came_item, came_items};
 ghost use Rattle.examples.specs.CatchUpMessages.{item_bytes, IsItem, Spells};
 ghost use Rattle.examples.specs.Wire.{number_bytes, text_bytes, page_range_bytes, range_bytes, row_bytes, list_bytes, IsPageRange, IsRow};
@@ -93,6 +94,7 @@ impl Reader<'_> {
     fn item(&mut self) -> Result<CameItem, WireFault>
         ensures read { IfOk result (λ item. self.old.left.now ≡ item_bytes (came_item item) ++ self.new.left.now) }
         ensures item { IfOk result (λ item. IsItem (came_item item)) }
+        ensures malformed { result ≡ Err Malformed → (item : Item Text (List ℕ)) (rest : List ℕ) → IsItem item → self.old.left.now ≢ item_bytes item ++ rest }
     {
         let Some((kind, left)) = self.left.split_first() else {
             return Err(WireFault::Malformed);
@@ -116,6 +118,7 @@ impl Reader<'_> {
     fn value_digest(&mut self) -> Result<ValueDigest<16>, WireFault>
         ensures read { IfOk result (λ digest. self.old.left.now ≡ digest ++ self.new.left.now) }
         ensures digest { IfOk result (λ digest. length digest ≡ 16) }
+        ensures malformed { result ≡ Err Malformed → (digest rest : List ℕ) → length digest ≡ 16 → self.old.left.now ≢ digest ++ rest }
     {
         let Some((digest, left)) = self.left.split_first_chunk::<16>() else {
             return Err(WireFault::Malformed);
@@ -216,7 +219,8 @@ pub fn read_rows(alloc: Global, bytes: &[u8]) -> Result<Vec<(String, u64)>, Wire
 
 /// The items of outlines that came.
 pub fn read_items(alloc: Global, bytes: &[u8]) -> Result<Vec<CameItem>, WireFault>
-    ensures { IfOk result (λ items. Spells bytes.now (came_items items.items)) }
+    ensures read { IfOk result (λ items. Spells bytes.now (came_items items.items)) }
+    ensures malformed { result ≡ Err Malformed → (items : List (Item Text (List ℕ))) → ¬ (Spells bytes.now items) }
 {
     let mut reader = Reader { alloc, left: bytes };
     let count = reader.number()?;

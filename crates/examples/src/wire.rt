@@ -14,9 +14,9 @@ ghost use Rattle.merkle_tree_theory.specs.Ranges.{ranges_of};
 ghost use Rattle.merkle_tree_theory.specs.State.{SameSettings};
 ghost use Rattle.merkle_replica.specs.Contents.{Side, side};
 ghost use Rattle.merkle_replica.specs.Steps.{AreRanges};
-ghost use Rattle.merkle_replica.specs.Pulls.{Answer, IsPull};
+ghost use Rattle.merkle_replica.specs.Pulls.{Answer, IsPull, IsPartOfPull};
 ghost use Rattle.examples.specs.StoreLaws.{store_laws};
-ghost use Rattle.examples.specs.PullMessages.{SendsPageRanges, Asks, SendsRows, JoinsRows};
+ghost use Rattle.examples.specs.PullMessages.{SendsPageRanges, Asks, SendsRows, JoinsRows, JoinsFirstRows};
 ghost use Rattle.examples.specs.Wire.{IsInMemory, IsPageRange, page_range_bytes, range_bytes, row_bytes, list_bytes};
 ghost use Rattle.examples.specs.declared.wire.WireFault.TheVariants.{Malformed};
 
@@ -105,12 +105,13 @@ pub fn send_rows(alloc: Global, store: &Store<u64>, asked: &[u8]) -> Result<Vec<
     Ok(bytes)
 }
 
-/// Joins the rows that came. Whatever the bytes are, the store then holds what it held or the join of that with some rows, so that no
-/// name is lost and no number gets smaller.
+/// Joins the rows that came. Whatever the bytes are, the store then holds what it held or the join of that with rows that came, so that
+/// no name is lost and no number gets smaller.
 ///
 /// # Errors
 ///
-/// Bytes that are no rows which ascend, and want of memory.
+/// Bytes that are no rows which ascend, which leave the store as it was, and want of memory, by which no row was joined or the first of
+/// those that came.
 pub fn join(alloc: Global, store: &mut Store<u64>, rows: &[u8]) -> Result<(), WireFault>
     ensures joined { OnOk result (JoinsRows (side store.old) rows.now store.new.rows) }
 
@@ -119,7 +120,7 @@ pub fn join(alloc: Global, store: &mut Store<u64>, rows: &[u8]) -> Result<(), Wi
         ⊎ ((came : List (Text × ℕ)) × (rows.now ≡ list_bytes row_bytes came) × ¬ (IsMap text_order came)) }
 
     ensures unchanged { result ≡ Err Malformed → store.new ≡ store.old }
-    ensures refused { OnErr result ((store.new.rows ≡ store.old.rows) ⊎ ((came : List (Text × ℕ)) × IsJoin text_order nat_eq max store.old.rows came store.new.rows)) }
+    ensures refused { OnErr result ((store.new.rows ≡ store.old.rows) ⊎ JoinsFirstRows (side store.old) rows.now store.new.rows) }
     ensures settings { SameSettings store.old.tree store.new.tree }
 {
     let came = read_rows(alloc, rows)?;
@@ -133,9 +134,14 @@ pub fn join(alloc: Global, store: &mut Store<u64>, rows: &[u8]) -> Result<(), Wi
 /// The four messages are a pull, on whatever machines they are sent and read: where one side's are of the peer as it was, and the other's of
 /// the local side as it was. So coverage and convergence hold of syncs over bytes as of pulls.
 pub fn messages_are_a_pull()
-    ensures { (local peer : Side Text ℕ (List ℕ)) (ranges asked rows : List ℕ) (after : List (Text × ℕ))
+    ensures pull { (local peer : Side Text ℕ (List ℕ)) (ranges asked rows : List ℕ) (after : List (Text × ℕ))
         → IsMap text_order peer.rows → IsInMemory ranges → IsInMemory asked → IsInMemory rows → SendsPageRanges peer ranges → Asks local ranges asked
         → SendsRows peer asked rows → JoinsRows local rows after → (answer : Answer Text) × IsPull store_laws local peer answer after }
+
+    // Where the first rows were joined, they are a part of one.
+    ensures part { (local peer : Side Text ℕ (List ℕ)) (ranges asked rows : List ℕ) (after : List (Text × ℕ))
+        → IsMap text_order peer.rows → IsInMemory ranges → IsInMemory asked → IsInMemory rows → SendsPageRanges peer ranges → Asks local ranges asked
+        → SendsRows peer asked rows → JoinsFirstRows local rows after → (answer : Answer Text) × (done : ℕ) × IsPartOfPull store_laws local peer answer done after }
 {
     steps_are_a_pull::<String, u64, SipHasher, 16>();
 }
@@ -144,13 +150,15 @@ pub fn messages_are_a_pull()
 ///
 /// # Errors
 ///
-/// Those of the four steps. What then stands is said of each of them, and not of the whole.
+/// Those of the four steps: no row was joined, or the first in key order of those that a pull joins, and not all.
 pub fn pull_over_bytes(
     alloc: Global,
     local: &mut Store<u64>,
     peer: &mut Store<u64>,
 ) -> Result<(), WireFault>
     ensures pulled { OnOk result ((answer : Answer Text) × IsPull store_laws (side local.old) (side peer.old) answer local.new.rows) }
+    ensures refused { OnErr result ((local.new.rows ≡ local.old.rows)
+        ⊎ ((answer : Answer Text) × (done : ℕ) × IsPartOfPull store_laws (side local.old) (side peer.old) answer done local.new.rows)) }
     ensures peer_rows { peer.new.rows ≡ peer.old.rows }
     ensures settings { SameSettings local.old.tree local.new.tree }
     ensures peer_settings { SameSettings peer.old.tree peer.new.tree }

@@ -1,4 +1,4 @@
-use Rattle.std.proofs.Common.{rules, List, ℕ, sym, subst}
+use Rattle.std.proofs.Common.{rules, List, ℕ, sym, subst, inl}
 use Rattle.key_order.specs.Map.{IsMap}
 use Rattle.key_order.specs.Text.{Text, text_order}
 use Rattle.merkle_digest.specs.Level.{level_of}
@@ -8,12 +8,12 @@ use Rattle.merkle_tree_theory.specs.State.{State}
 use Rattle.merkle_replica.specs.CatchUp.{IsCatchUp}
 use Rattle.merkle_replica.specs.Contents.{side}
 use Rattle.merkle_replica.proofs.Sides.{same_side}
-use Rattle.examples.specs.CatchUpMessages.{AsksForRows}
-use Rattle.examples.specs.PullMessages.{SendsRows, JoinsRows}
+use Rattle.examples.specs.CatchUpMessages.{AsksForRows, JoinsSome}
+use Rattle.examples.specs.PullMessages.{SendsRows, JoinsRows, JoinsFirstRows}
 use Rattle.examples.specs.StoreLaws.{store_laws}
 use Rattle.examples.specs.Wire.{IsInMemory}
-use Rattle.examples.proofs.Outcomes.{on_ok}
-use Rattle.examples.proofs.Rounds.{caught_up}
+use Rattle.examples.proofs.Outcomes.{on_ok, on_err, either}
+use Rattle.examples.proofs.Rounds.{caught_up, some_joined}
 use Rattle.examples.proofs.catch_up_wire.catch_up_over_bytes.Goals as goal
 
 -- the messages are those of the steps of a catch-up
@@ -47,3 +47,21 @@ pub returns-clause-join : goal.returns-clause-join
 returns-clause-join c =
     on_ok c.join.result _ _
     (λ (keys, caught) faith. c.steps_are_a_catch_up.ensures.joins (side c.args.local.now) (side c.args.peer.now) keys c.join.new.store.rows faith caught) (returns-clause-caught_up c)
+
+-- what was joined are the first rows at the names that were asked for
+pub returns-clause-refused : goal.returns-clause-refused
+returns-clause-refused c =
+    let local = c.args.local.now in
+    let peer = c.send_root.new.store in
+    let after = c.join.new.store.rows in
+    let asked = c.in_ok-asked.asked.items in
+    let rows = c.in_ok-rows.rows.items in
+    let asked_fits : IsInMemory asked = search rules in
+    let rows_fit : IsInMemory rows = search rules in
+    let asks = subst (λ names. AsksForRows names asked) c.deref.ensures.value c.in_ok-asked.ensures in
+    let sends = subst (λ bytes. SendsRows (side peer) bytes rows) c.deref-2.ensures.value c.in_ok-rows.ensures.sent in
+    on_err c.join.result _ _
+    (either inl
+    (λ j.
+    let firsts = subst (λ bytes. JoinsFirstRows (side local) bytes after) c.deref-3.ensures.value j in
+    subst (λ theirs. JoinsSome local.rows theirs after) c.in_ok-first.ensures.rows (some_joined (side local) (side peer) c.in_ok-names.names.items asked rows after asked_fits rows_fit asks sends firsts))) c.join.ensures.refused

@@ -1,0 +1,17 @@
+use Rattle.std.proofs.Common.{rules, ◌≡◌, ◌<◌, ◌^◌, ◌∷◌, ◌++◌, length, sym, ◌∙◌, Err, arith, ap}
+use Rattle.examples.specs.declared.wire.WireFault.TheVariants.{Malformed}
+use Rattle.examples.proofs.Spelled.{text_tells}
+use Rattle.examples.proofs.Told.{node_behind}
+use Rattle.examples.proofs.reading.Reader.item.Goals as goal
+
+pub returns-in_err-digest-in-0-clause-malformed : goal.returns-in_err-digest-in-0-clause-malformed
+returns-in_err-digest-in-0-clause-malformed c is item rest ok e =
+    let all = c.args.self.now.left.now in
+    let left = c.in-Some.left.now in
+    let begins : all ≡ 0 ∷ left = search rules in
+    let all_fit : length all < 2 ^ 64 = search rules in
+    let fits : length left < 2 ^ 64 = omega (arith, all_fit, ap length begins) in
+    let was : c.value_digest.result ≡ Err Malformed = search rules in
+    let (name, digest, sixteen, behind) = node_behind item left rest ok (sym begins ∙ e) in
+    let first = text_tells c.in_ok-name-in-0.name name c.text.new.self.left.now (digest ++ rest) left fits c.in_ok-name-in-0.ensures.read behind in
+    c.value_digest.ensures.malformed was digest rest sixteen first.1
