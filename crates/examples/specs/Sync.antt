@@ -1,5 +1,5 @@
 -- Syncs of two replicas: four pulls by turns.
-use Rattle.std.specs.Prelude.{◌≡◌, ℕ, Bool, true, List, length}
+use Rattle.std.specs.Prelude.{◌≡◌, ℕ, ◌<◌, Bool, true, List, length}
 use Rattle.std.specs.List.{AllByRecursion}
 use Rattle.std.specs.declared.cmp.Ordering.{Ordering}
 use Rattle.key_order.specs.Map.{SameMap}
@@ -8,6 +8,9 @@ use Rattle.merkle_replica.specs.Laws.{Laws}
 use Rattle.merkle_replica.specs.Contents.{Contents, Side, side}
 use Rattle.merkle_replica.specs.Faithful.{IsFaithful, IsCollisionFree}
 use Rattle.merkle_replica.specs.Pulls.{Answer, IsByTurns}
+use Rattle.merkle_replica.specs.Answers.{StopsByTurns}
+use Rattle.merkle_replica.specs.declared.pull.Pulled.{Pulled}
+use Rattle.merkle_replica.specs.declared.pull.PullError.{PullError}
 
 module _ {K V H : Type 0} (laws : Laws K V H) where
   -- four pulls by turns lead from the rows of a and b to those of a' and b'; and where the premise holds of the two sides before each
@@ -18,6 +21,11 @@ module _ {K V H : Type 0} (laws : Laws K V H) where
     pub four : length answers ≡ 4
     pub pulls : IsByTurns laws answers (side a) (side b) a'.rows b'.rows met
     pub outcome : AllByRecursion (λ sides. Premise sides.0 sides.1) met → Outcome
+
+  -- memory was refused in one of the four pulls by turns of a and b: those before it were made, which left b with these rows
+  abbrev pub StopsSync : Contents K V H → Contents K V H → List (K × V) → Type 0
+  StopsSync a b b' =
+      (finished : List (Pulled K)) × (fault : PullError K) × (a' : List (K × V)) × (length finished < 4) × StopsByTurns laws finished fault (side a) (side b) a' b'
 
   -- a sync with this outcome where digests are faithful in what is met before each pull
   abbrev pub IsFaithfulSync : Type 0 → Contents K V H → Contents K V H → Contents K V H → Contents K V H → Type 0

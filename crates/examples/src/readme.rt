@@ -1,6 +1,6 @@
 //! What the README of the repository shows.
 
-ghost use Rattle.std.specs.Prelude.{◌≡◌, ℕ, List, [], ◌∷◌, IfOk, max, nat_eq};
+ghost use Rattle.std.specs.Prelude.{◌≡◌, ◌⊎◌, ℕ, List, [], ◌∷◌, IfOk, OnErr, max, nat_eq};
 ghost use Rattle.key_order.specs.Join.{IsJoin};
 ghost use Rattle.key_order.specs.Text.{Text, text_order};
 ghost use Rattle.merkle_tree_theory.specs.Settings.{default_settings};
@@ -8,7 +8,7 @@ ghost use Rattle.merkle_tree_theory.specs.State.{HasSettings, SameSettings};
 ghost use Rattle.merkle_tree_theory.specs.declared.page_format.PageFormat.TheVariants.{V1};
 ghost use Rattle.merkle_replica.specs.Contents.{Contents, side};
 ghost use Rattle.merkle_replica.specs.Pulls.{HoldTheJoin};
-ghost use Rattle.examples.specs.Sync.{IsFaithfulSync};
+ghost use Rattle.examples.specs.Sync.{IsFaithfulSync, StopsSync};
 
 use anyhow::Result;
 use merkle_digest::SipHasher;
@@ -21,7 +21,7 @@ use std::alloc::Global;
 ///
 /// # Errors
 ///
-/// Want of memory: each pull that was made until then stays.
+/// Want of memory: the other replica keeps what the pulls until then brought it, and the new one is given up.
 pub fn two_replicas(
     alloc: Global,
     key: String,
@@ -30,6 +30,8 @@ pub fn two_replicas(
     ensures join { let laws = ⟦<SipHasher as Lawful<16, String, u64>>⟧.laws in IfOk result (λ a. (one : Contents Text ℕ (List ℕ))
         × IsJoin text_order nat_eq max [] ((key, 42) ∷ []) one.rows
         × IsFaithfulSync laws (HoldTheJoin laws (side one) (side b.old) a.rows b.new.rows) one b.old a b.new) }
+    ensures stopped { OnErr result ((b.new.rows ≡ b.old.rows) ⊎ ((one : Contents Text ℕ (List ℕ))
+        × IsJoin text_order nat_eq max [] ((key, 42) ∷ []) one.rows × StopsSync ⟦<SipHasher as Lawful<16, String, u64>>⟧.laws one b.old b.new.rows)) }
     ensures defaults { IfOk result (λ a. HasSettings (default_settings V1) a.tree) }
     ensures settings { SameSettings b.old.tree b.new.tree }
 {

@@ -53,6 +53,9 @@ pub fn sync_exact<
     requires format_2 { a.old.tree.format ≡ V2 }
     ensures same { OnOk result (IsExactSync ⟦<H as Lawful<N, K, V>>⟧.laws N
         (AreJoined K.cmp V.eq V.join_of a.old.rows b.old.rows a.new.rows b.new.rows) a.old b.old a.new b.new) }
+    ensures stopped { IfErr result (λ error. StopsByTurns ⟦<H as Lawful<N, K, V>>⟧.laws error.finished.items error.fault (side a.old) (side b.old) a.new.rows b.new.rows) }
+    ensures a_settings { SameSettings a.old.tree a.new.tree }
+    ensures b_settings { SameSettings b.old.tree b.new.tree }
 {
     no_collision_is_enough::<K, V, H, N>();
     sync(alloc, a, b)
