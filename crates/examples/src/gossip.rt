@@ -59,6 +59,8 @@ pub fn equal_maps_ask_for_nothing<
     ensures nothing { IsOkAnd result (λ ranges. ranges.items ≡ []) }
     ensures rows { local.new.rows ≡ local.old.rows }
     ensures peer_rows { peer.new.rows ≡ peer.old.rows }
+    ensures settings { SameSettings local.old.tree local.new.tree }
+    ensures peer_settings { SameSettings peer.old.tree peer.new.tree }
 {
     a_map_has_one_tree::<K, H, N>();
     every_tree_is_sound(local.tree());

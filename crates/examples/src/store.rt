@@ -6,7 +6,7 @@ ghost use Rattle.key_order.specs.Text.{text_order};
 ghost use Rattle.merkle_digest.specs.SipHash.{zero_key};
 ghost use Rattle.merkle_search_tree.specs.Loading.{LoadFails, BeginsWith};
 ghost use Rattle.merkle_tree_theory.specs.Settings.{default_settings};
-ghost use Rattle.merkle_tree_theory.specs.State.{HasSettings};
+ghost use Rattle.merkle_tree_theory.specs.State.{HasSettings, SameSettings};
 ghost use Rattle.merkle_tree_theory.specs.declared.page_format.PageFormat.TheVariants.{V1};
 ghost use Rattle.examples.specs.Texts.{IsRootHashOf};
 
@@ -47,6 +47,7 @@ pub fn open_rows<V: Join + HashBytes + Drop>(
 pub fn root_hash(store: &mut Store<u64>) -> Result<RootHash, AllocError>
     ensures digest { IfOk result (λ digest. IsRootHashOf (to_le_bytes w64) store.old.tree.hasher store.old.tree.base store.old.tree.format store.old.rows digest) }
     ensures rows { store.new.rows ≡ store.old.rows }
+    ensures settings { SameSettings store.old.tree store.new.tree }
 {
     every_tree_is_sound(store.tree());
     let digest = store.root_hash().clone()?;
@@ -65,6 +66,7 @@ pub fn open_and_put(
     number: u64,
 ) -> Result<(Store<u64>, RootHash), LoadRefused>
     ensures rows { IfOk result (λ opened. IsJoin text_order nat_eq max rows.items ((name, number) ∷ []) opened.0.rows) }
+    ensures defaults { IfOk result (λ opened. HasSettings (default_settings V1) opened.0.tree) }
     ensures root_hash { IfOk result (λ opened. IsRootHashOf (to_le_bytes w64) zero_key 16 V1 opened.0.rows opened.1) }
     ensures refused { IfErr result (λ why. LoadFails text_order (BeginsWith rows.items) why) }
 {

@@ -17,6 +17,8 @@ returns g c =
     record {
       rows = c.ranges_to_ask.ensures.rows;
       peer_rows = c.ranges_to_ask.ensures.peer_rows;
+      settings = c.ranges_to_ask.ensures.settings;
+      peer_settings = c.ranges_to_ask.ensures.peer_settings;
       nothing = c.ranges_to_ask.ensures.quiet
           (here ∙ equal ∙ (λ i. page_digest (alike.format i) g.K.KeyBytes.bytes_of (defined_tree (λ k. alike.keys k i) (alike.base i) (map_of b))) ∙ sym there);
     }
