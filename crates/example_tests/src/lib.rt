@@ -10,6 +10,8 @@ mod readme;
 #[cfg(test)]
 mod register;
 #[cfg(test)]
+mod removable;
+#[cfg(test)]
 mod rows;
 #[cfg(test)]
 mod set;

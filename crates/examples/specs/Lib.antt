@@ -3,6 +3,8 @@ pub mod Texts
 pub mod Set
 pub mod Register
 pub mod RegisterLaws
+pub mod Removable
+pub mod RemovableLaws
 pub mod Gossip
 pub mod Wire
 pub mod StoreLaws

@@ -7,6 +7,7 @@ mod items;
 mod reading;
 pub mod readme;
 pub mod register;
+pub mod removable;
 pub mod set;
 mod spelling;
 pub mod store;
