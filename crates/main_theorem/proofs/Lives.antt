@@ -1,10 +1,10 @@
 -- Rows that are equal to a map, update by update.
-use Rattle.std.proofs.Common.{◌≡◌, Bool, true, false, not, cond, List, [], ◌∷◌, ◌++◌, length, append-nil, Option, Some, None, refl, sym, ◌∙◌, subst, arith}
+use Rattle.std.proofs.Common.{◌≡◌, Bool, true, false, not, ◌||◌, cond, List, [], ◌∷◌, ◌++◌, length, append-nil, Option, Some, None, refl, sym, ◌∙◌, subst, arith}
 use Rattle.std.specs.Prelude.{Result, Ok, Err, OnOk, OnErr, is_ok}
 use Rattle.std.specs.Cmp.{IsTotalOrder, IsEquivalence, tied_itself, alike_right}
 use Rattle.std.specs.Ordering.{is_eq}
 use Rattle.std.specs.declared.cmp.Ordering.{Ordering}
-use Rattle.key_order.specs.Map.{IsMap, get, set, del}
+use Rattle.key_order.specs.Map.{IsMap, get, set, has_key, del}
 use Rattle.key_order.specs.Join.{IsJoin, IsJoining, joined}
 use Rattle.key_order.proofs.Joins.{put_joins, same_joins}
 use Rattle.key_order.proofs.Maps.{get_by_same}
@@ -12,7 +12,7 @@ use Rattle.key_order.proofs.SameMaps.{same_is_map}
 use Rattle.key_order.proofs.Values.{Eq, on, cong}
 use Rattle.merkle_search_tree.specs.declared.updates.Update.{Update}
 use Rattle.merkle_search_tree.specs.declared.updates.Update.TheVariants.{Upsert, Remove}
-use Rattle.main_theorem.specs.After.{AreEqual, join_to, rows_after_one, rows_after_all}
+use Rattle.main_theorem.specs.After.{AreEqual, FreeAreAccepted, IsAcceptedIfFree, join_to, rows_after_one, rows_after_all}
 
 module _ {K V : Type 0} (cmp : K → K → Ordering) (join : V → V → V) where
   -- one update more at the end
@@ -23,12 +23,26 @@ module _ {K V : Type 0} (cmp : K → K → Ordering) (join : V → V → V) wher
   one_more m (v ∷ us) u [] a e = absurd (omega (arith, e))
   one_more m (v ∷ us) u (b ∷ bs) a e = one_more (rows_after_one cmp join m v b) us u bs a (omega (arith, e))
 
+  pub free_more : (m : List (K × V)) (us : List (Update K V)) (u : Update K V) (bs : List Bool) (a : Bool)
+      → length bs ≡ length us → FreeAreAccepted cmp join m us bs → IsAcceptedIfFree cmp (rows_after_all cmp join m us bs) u a → FreeAreAccepted cmp join m (us ++ u ∷ []) (bs ++ a ∷ [])
+  free_more m [] u [] a e h f = (f, tt)
+  free_more m [] u (b ∷ bs) a e h f = absurd (omega (arith, e))
+  free_more m (v ∷ us) u [] a e h f = absurd (omega (arith, e))
+  free_more m (v ∷ us) u (b ∷ bs) a e h f = (h.0, free_more (rows_after_one cmp join m v b) us u bs a (omega (arith, e)) h.1 f)
+
 -- at the end all updates were carried out
 pub all_done : {X : Type 0} (done left all : List X) → done ++ left ≡ all → length left ≡ 0 → done ≡ all
 all_done done [] all e h = sym (append-nil done) ∙ e
 all_done done (x ∷ left) all e h = absurd (omega (arith, h))
 
 module _ {K V : Type 0} (cmp : K → K → Ordering) (o : IsTotalOrder cmp) (eq : V → V → Bool) where
+  -- equal rows have the same keys
+  pub has_alike : (a m : List (K × V)) (k : K) → AreEqual cmp eq a m → has_key cmp a k ≡ has_key cmp m k
+  has_alike [] [] k h = refl
+  has_alike [] (s ∷ ss) k h = absurd h
+  has_alike (r ∷ rs) [] k h = absurd h
+  has_alike (r ∷ rs) (s ∷ ss) k h = λ i. is_eq (alike_right o r.0 s.0 k h.0 i) || has_alike rs ss k h.2 i
+
   -- a removal
   pub removed : (a m : List (K × V)) (k : K) → AreEqual cmp eq a m → AreEqual cmp eq (del cmp a k) (del cmp m k)
   removed [] [] k h = tt

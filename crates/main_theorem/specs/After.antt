@@ -1,7 +1,7 @@
 -- What a list of updates of a replica leads to, each of which was accepted or not.
-use Rattle.std.specs.Prelude.{◌≡◌, ℕ, Bool, true, false, List, [], ◌∷◌, Option, Some, None}
+use Rattle.std.specs.Prelude.{◌≡◌, ⊤, ℕ, Bool, true, false, List, [], ◌∷◌, Option, Some, None}
 use Rattle.std.specs.declared.cmp.Ordering.{Ordering}
-use Rattle.key_order.specs.Map.{get, set, del, SameMap}
+use Rattle.key_order.specs.Map.{get, set, has_key, del, SameMap}
 use Rattle.merkle_diff.specs.Entry.{Entry}
 use Rattle.merkle_diff.specs.SameEntries.{SameEntries}
 use Rattle.merkle_tree_theory.specs.Canonical.{SamePages}
@@ -40,6 +40,19 @@ module _ {K V : Type 0} (cmp : K → K → Ordering) (join : V → V → V) wher
   -- the map of the accepted updates, from the empty one on
   abbrev pub rows_after : List (Update K V) → List Bool → List (K × V)
   rows_after = rows_after_all []
+
+module _ {K V : Type 0} (cmp : K → K → Ordering) where
+  -- an update that takes no memory was accepted: a removal of a key that the map hasn't, and hashing
+  abbrev pub IsAcceptedIfFree : List (K × V) → Update K V → Bool → Type 0
+  IsAcceptedIfFree m (Upsert k v) accepted = ⊤
+  IsAcceptedIfFree m (Remove k) accepted = has_key cmp m k ≡ false → accepted ≡ true
+  IsAcceptedIfFree m RootHash accepted = accepted ≡ true
+
+  -- so was each of the updates, from the map m on
+  abbrev pub FreeAreAccepted : (V → V → V) → List (K × V) → List (Update K V) → List Bool → Type 0
+  FreeAreAccepted join m [] accepted = ⊤
+  FreeAreAccepted join m (u ∷ us) [] = ⊤
+  FreeAreAccepted join m (u ∷ us) (a ∷ accepted) = IsAcceptedIfFree m u a × FreeAreAccepted join (rows_after_one cmp join m u a) us accepted
 
 -- equal keys, and equal values
 abbrev pub AreEqual : {K V : Type 0} → (K → K → Ordering) → (V → V → Bool) → List (K × V) → List (K × V) → Type 0

@@ -1,11 +1,11 @@
 //! A replica's whole life: updates carried out one after the other, from no row on.
-ghost use Rattle.std.specs.Prelude.{◌≡◌, List, IfOk, Some, length};
+ghost use Rattle.std.specs.Prelude.{◌≡◌, List, [], IfOk, Some, length};
 ghost use Rattle.key_order.specs.Order.{Same};
 ghost use Rattle.merkle_search_tree.specs.Loading.{digests};
 ghost use Rattle.merkle_tree_theory.specs.State.{HasSettings, SameSettings};
 ghost use Rattle.merkle_tree_theory.specs.Stream.{page_digest};
 ghost use Rattle.merkle_tree_theory.specs.TreeOf.{defined_tree};
-ghost use Rattle.main_theorem.specs.After.{AreEqual, rows_after, rows_after_one};
+ghost use Rattle.main_theorem.specs.After.{AreEqual, FreeAreAccepted, IsAcceptedIfFree, rows_after, rows_after_one};
 
 use merkle_digest::{Hasher, Key};
 use merkle_replica::{Join, Replica};
@@ -24,6 +24,7 @@ where
     V: Join + Drop,
     H: Hasher<N, K> + Hasher<N, V>,
     ensures rows { (m : List (K × V)) → AreEqual K.cmp V.eq replica.old.rows m → AreEqual K.cmp V.eq replica.new.rows (rows_after_one K.cmp V.join_of m update result) }
+    ensures free { (m : List (K × V)) → AreEqual K.cmp V.eq replica.old.rows m → IsAcceptedIfFree K.cmp m update result }
     ensures settings { SameSettings replica.old.tree replica.new.tree }
 {
     let _ = replica.rows();
@@ -48,6 +49,7 @@ where
     V: Join + Drop,
     H: Hasher<N, K> + Hasher<N, V> + Drop,
     ensures answers { IfOk result (λ r. length r.1.items ≡ length updates.items) }
+    ensures free { IfOk result (λ r. FreeAreAccepted K.cmp V.join_of [] updates.items r.1.items) }
     ensures rows { IfOk result (λ r. AreEqual K.cmp V.eq r.0.rows (rows_after K.cmp V.join_of updates.items r.1.items)) }
     ensures settings { IfOk result (λ r. HasSettings builder r.0.tree) }
     ensures root_hash { IfOk result (λ r. r.0.tree.root_hash ≡ Some (page_digest builder.format K.bytes_of

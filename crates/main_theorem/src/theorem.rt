@@ -1,9 +1,9 @@
 //! The main theorem.
-ghost use Rattle.std.specs.Prelude.{◌≡◌, List, IfOk, IfErr, length};
+ghost use Rattle.std.specs.Prelude.{◌≡◌, List, [], IfOk, IfErr, length};
 ghost use Rattle.key_order.specs.Order.{Same};
 ghost use Rattle.merkle_replica.specs.Contents.{Side};
 ghost use Rattle.merkle_replica.specs.Faithful.{AllFaithful};
-ghost use Rattle.main_theorem.specs.After.{AreEqual, rows_after, IsDefinedBy};
+ghost use Rattle.main_theorem.specs.After.{AreEqual, FreeAreAccepted, rows_after, IsDefinedBy};
 ghost use Rattle.main_theorem.specs.Course.{IsCourse, IsDone, IsEnough, IsStopped, AreOne};
 ghost use Rattle.main_theorem.specs.declared.course.Exchange.TheVariants.{Apart};
 
@@ -43,8 +43,11 @@ pub struct Run<K: Key, V: Join, H: Hasher<N, K> + ValueHasher<N, V>, const N: us
 /// Whatever the updates, each replica's rows are then the map of its accepted updates, where an upsert joins its value to the one that is
 /// there. Its pages are the one tree that its map defines, apart from caches, and hashed, as the call leaves it, it has the page ranges
 /// and the root hash of that tree. While digests don't collide in what the two meet, four pulls by turns or more, or a catch-up
-/// each way, leave both with the join of their two maps, and one root hash. An update that is refused for want of memory isn't accepted,
-/// and changes nothing.
+/// each way, leave both with the join of their two maps, and one root hash.
+///
+/// An update is refused for want of memory, or by the join of a value with the one that is there, and changes nothing then. Hashing, and a
+/// removal of a key that isn't there, take no memory and are always accepted. Of each other update nothing says that it is accepted,
+/// since nothing says when memory is refused.
 ///
 /// # Errors
 ///
@@ -65,6 +68,9 @@ where
 
     // Each update is answered.
     ensures answers { IfOk result (λ r. (length r.a.accepted.items ≡ length a_updates.items) × (length r.b.accepted.items ≡ length b_updates.items)) }
+
+    // Those that take no memory are accepted.
+    ensures free { IfOk result (λ r. FreeAreAccepted K.cmp V.join_of [] a_updates.items r.a.accepted.items × FreeAreAccepted K.cmp V.join_of [] b_updates.items r.b.accepted.items) }
 
     // The rows that the updates leave are the map of the accepted ones.
     ensures rows { exchange ≡ Apart → IfOk result (λ r. AreEqual K.cmp V.eq r.a.replica.rows (rows_after K.cmp V.join_of a_updates.items r.a.accepted.items)

@@ -4,8 +4,8 @@ use Rattle.std.specs.Vec.Iter.{into_iter_items}
 use Rattle.merkle_search_tree.specs.Loading.{digests}
 use Rattle.merkle_tree_theory.specs.Stream.{page_digest}
 use Rattle.merkle_tree_theory.specs.TreeOf.{defined_tree}
-use Rattle.main_theorem.specs.After.{AreEqual, rows_after}
-use Rattle.main_theorem.proofs.Lives.{one_more, all_done}
+use Rattle.main_theorem.specs.After.{AreEqual, FreeAreAccepted, rows_after}
+use Rattle.main_theorem.proofs.Lives.{one_more, free_more, all_done}
 use Rattle.main_theorem.proofs.Roots.{root_as}
 use Rattle.main_theorem.proofs.after.after.Goals as goal
 
@@ -24,6 +24,8 @@ updates-preserved g c =
           let short = ap length steps in
           omega arith;
       answers = ap length c.in_ok-push.ensures.items ∙ length-append c.updates.accepted.items (c.carry_out.result ∷ []) ∙ ap (λ (n : ℕ). n + 1) kept.answers ∙ sym (length-append c.updates.yielded (u ∷ []));
+      free = subst (FreeAreAccepted cmp join [] (c.updates.yielded ++ u ∷ [])) (sym c.in_ok-push.ensures.items)
+          (free_more cmp join [] c.updates.yielded u c.updates.accepted.items c.carry_out.result kept.answers kept.free (c.carry_out.ensures.free _ kept.rows));
       rows = subst (λ (bs : List _). AreEqual cmp g.V.PartialEq.eq c.carry_out.new.replica.rows (rows_after cmp join (c.updates.yielded ++ u ∷ []) bs)) (sym c.in_ok-push.ensures.items)
           (subst (AreEqual cmp g.V.PartialEq.eq c.carry_out.new.replica.rows) (sym (one_more cmp join [] c.updates.yielded u c.updates.accepted.items c.carry_out.result kept.answers))
           (c.carry_out.ensures.rows _ kept.rows));
@@ -36,6 +38,10 @@ pub returns-clause-answers : goal.returns-clause-answers
 returns-clause-answers g c =
     let done = all_done _ _ _ c.updates.invariant.left (sym c.updates.invariant.count ∙ c.in-None.ensures.steps.0) in
     c.updates.invariant.answers ∙ ap length done
+
+pub returns-clause-free : goal.returns-clause-free
+returns-clause-free g c =
+    subst (λ (us : List _). FreeAreAccepted g.K.Ord.cmp g.V.Join.join_of [] us c.updates.accepted.items) (all_done _ _ _ c.updates.invariant.left (sym c.updates.invariant.count ∙ c.in-None.ensures.steps.0)) c.updates.invariant.free
 
 pub returns-clause-rows : goal.returns-clause-rows
 returns-clause-rows g c =

@@ -1,7 +1,7 @@
-use Rattle.std.proofs.Common.{◌≡◌, ap}
+use Rattle.std.proofs.Common.{◌≡◌, ap, refl, ◌∙◌}
 use Rattle.std.specs.Prelude.{Result, Ok, Err, OnErr}
 use Rattle.merkle_replica.specs.Contents.{Contents}
-use Rattle.main_theorem.proofs.Lives.{upsert_result, remove_result}
+use Rattle.main_theorem.proofs.Lives.{has_alike, upsert_result, remove_result}
 use Rattle.main_theorem.proofs.after.carry_out.Goals as goal
 
 -- what is unchanged has its rows
@@ -18,3 +18,14 @@ pub returns-in-Remove-clause-rows : goal.returns-in-Remove-clause-rows
 returns-in-Remove-clause-rows g c = rw (c.in-Remove.is, c.is_ok-in-Remove.ensures.value)
     (remove_result g.K.Ord.cmp g.met.K.Ord.total g.V.PartialEq.eq g.met.V.Eq.laws g.V.Join.join_of g.met.V.Join.joining c.del.result c.args.replica.now.rows c.del.new.self.rows c.in-Remove.key
     c.del.ensures.rows (rows_stay c.del.result c.args.replica.now c.del.new.self c.del.ensures.unchanged))
+
+-- hashing, and a removal of what isn't there, take no memory
+pub returns-in-RootHash-clause-free : goal.returns-in-RootHash-clause-free
+returns-in-RootHash-clause-free g c m f = rw c.in-RootHash.is refl
+
+pub returns-in-Upsert-clause-free : goal.returns-in-Upsert-clause-free
+returns-in-Upsert-clause-free g c m f = rw c.in-Upsert.is tt
+
+pub returns-in-Remove-clause-free : goal.returns-in-Remove-clause-free
+returns-in-Remove-clause-free g c m f =
+    rw c.in-Remove.is (λ e. c.is_ok-in-Remove.ensures.value ∙ c.del.ensures.succeeds_absent (has_alike g.K.Ord.cmp g.met.K.Ord.total g.V.PartialEq.eq c.args.replica.now.rows m c.in-Remove.key f ∙ e))
