@@ -1,3 +1,4 @@
 pub mod Lives
 pub mod Roots
 pub mod Courses
+pub mod Gaps

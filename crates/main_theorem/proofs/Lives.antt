@@ -10,6 +10,8 @@ use Rattle.key_order.proofs.Joins.{put_joins, same_joins}
 use Rattle.key_order.proofs.Maps.{get_by_same}
 use Rattle.key_order.proofs.SameMaps.{same_is_map}
 use Rattle.key_order.proofs.Values.{Eq, on, cong}
+use Rattle.merkle_tree_theory.specs.Settings.{Settings}
+use Rattle.merkle_replica.specs.Laws.{Laws}
 use Rattle.merkle_search_tree.specs.declared.updates.Update.{Update}
 use Rattle.merkle_search_tree.specs.declared.updates.Update.TheVariants.{Upsert, Remove}
 use Rattle.main_theorem.specs.After.{AreEqual, FreeAreAccepted, IsAcceptedIfFree, join_to, rows_after_one, rows_after_all}
@@ -23,12 +25,13 @@ module _ {K V : Type 0} (cmp : K → K → Ordering) (join : V → V → V) wher
   one_more m (v ∷ us) u [] a e = absurd (omega (arith, e))
   one_more m (v ∷ us) u (b ∷ bs) a e = one_more (rows_after_one cmp join m v b) us u bs a (omega (arith, e))
 
+module _ {K V H : Type 0} (laws : Laws K V H) (s : Settings H) where
   pub free_more : (m : List (K × V)) (us : List (Update K V)) (u : Update K V) (bs : List Bool) (a : Bool)
-      → length bs ≡ length us → FreeAreAccepted cmp join m us bs → IsAcceptedIfFree cmp (rows_after_all cmp join m us bs) u a → FreeAreAccepted cmp join m (us ++ u ∷ []) (bs ++ a ∷ [])
+      → length bs ≡ length us → FreeAreAccepted laws s m us bs → IsAcceptedIfFree laws s (rows_after_all laws.cmp laws.join m us bs) u a → FreeAreAccepted laws s m (us ++ u ∷ []) (bs ++ a ∷ [])
   free_more m [] u [] a e h f = (f, tt)
   free_more m [] u (b ∷ bs) a e h f = absurd (omega (arith, e))
   free_more m (v ∷ us) u [] a e h f = absurd (omega (arith, e))
-  free_more m (v ∷ us) u (b ∷ bs) a e h f = (h.0, free_more (rows_after_one cmp join m v b) us u bs a (omega (arith, e)) h.1 f)
+  free_more m (v ∷ us) u (b ∷ bs) a e h f = (h.0, free_more (rows_after_one laws.cmp laws.join m v b) us u bs a (omega (arith, e)) h.1 f)
 
 -- at the end all updates were carried out
 pub all_done : {X : Type 0} (done left all : List X) → done ++ left ≡ all → length left ≡ 0 → done ≡ all

@@ -1,5 +1,5 @@
 -- What a list of updates of a replica leads to, each of which was accepted or not.
-use Rattle.std.specs.Prelude.{◌≡◌, ⊤, ℕ, Bool, true, false, List, [], ◌∷◌, Option, Some, None}
+use Rattle.std.specs.Prelude.{◌≡◌, ⊤, ◌⊎◌, ℕ, Bool, true, false, List, [], ◌∷◌, Option, Some, None}
 use Rattle.std.specs.declared.cmp.Ordering.{Ordering}
 use Rattle.key_order.specs.Map.{get, set, has_key, del, SameMap}
 use Rattle.merkle_diff.specs.Entry.{Entry}
@@ -8,6 +8,7 @@ use Rattle.merkle_tree_theory.specs.Canonical.{SamePages}
 use Rattle.merkle_tree_theory.specs.State.{State}
 use Rattle.merkle_search_tree.specs.Loading.{digests}
 use Rattle.merkle_tree_theory.specs.Ranges.{ranges_of}
+use Rattle.merkle_tree_theory.specs.Remove.{HasFreeGap}
 use Rattle.merkle_tree_theory.specs.Settings.{Settings}
 use Rattle.merkle_tree_theory.specs.Stream.{page_digest}
 use Rattle.merkle_tree_theory.specs.Tree.{Tree}
@@ -41,19 +42,6 @@ module _ {K V : Type 0} (cmp : K → K → Ordering) (join : V → V → V) wher
   abbrev pub rows_after : List (Update K V) → List Bool → List (K × V)
   rows_after = rows_after_all []
 
-module _ {K V : Type 0} (cmp : K → K → Ordering) where
-  -- an update that takes no memory was accepted: a removal of a key that the map hasn't, and hashing
-  abbrev pub IsAcceptedIfFree : List (K × V) → Update K V → Bool → Type 0
-  IsAcceptedIfFree m (Upsert k v) accepted = ⊤
-  IsAcceptedIfFree m (Remove k) accepted = has_key cmp m k ≡ false → accepted ≡ true
-  IsAcceptedIfFree m RootHash accepted = accepted ≡ true
-
-  -- so was each of the updates, from the map m on
-  abbrev pub FreeAreAccepted : (V → V → V) → List (K × V) → List (Update K V) → List Bool → Type 0
-  FreeAreAccepted join m [] accepted = ⊤
-  FreeAreAccepted join m (u ∷ us) [] = ⊤
-  FreeAreAccepted join m (u ∷ us) (a ∷ accepted) = IsAcceptedIfFree m u a × FreeAreAccepted join (rows_after_one cmp join m u a) us accepted
-
 -- equal keys, and equal values
 abbrev pub AreEqual : {K V : Type 0} → (K → K → Ordering) → (V → V → Bool) → List (K × V) → List (K × V) → Type 0
 AreEqual cmp eq = SameMap cmp (λ x y. eq x y ≡ true)
@@ -68,6 +56,19 @@ module _ {K V H : Type 0} (laws : Laws K V H) where
 
   abbrev pub root_hash_under : Settings H → List (K × V) → List ℕ
   root_hash_under s m = page_digest s.format laws.bytes_of (tree_under s m)
+
+  -- an update that takes no memory was accepted: hashing, and a removal of a key that the map hasn't, or beside which a gap is empty in the
+  -- tree that the map defines
+  abbrev pub IsAcceptedIfFree : Settings H → List (K × V) → Update K V → Bool → Type 0
+  IsAcceptedIfFree s m (Upsert k v) accepted = ⊤
+  IsAcceptedIfFree s m (Remove k) accepted = (has_key laws.cmp m k ≡ false) ⊎ HasFreeGap laws.cmp k (tree_under s m) → accepted ≡ true
+  IsAcceptedIfFree s m RootHash accepted = accepted ≡ true
+
+  -- so was each of the updates, from the map m on
+  abbrev pub FreeAreAccepted : Settings H → List (K × V) → List (Update K V) → List Bool → Type 0
+  FreeAreAccepted s m [] accepted = ⊤
+  FreeAreAccepted s m (u ∷ us) [] = ⊤
+  FreeAreAccepted s m (u ∷ us) (a ∷ accepted) = IsAcceptedIfFree s m u a × FreeAreAccepted s (rows_after_one laws.cmp laws.join m u a) us accepted
 
   -- a tree has the pages of the one that a map defines, apart from caches, its page ranges, and its root hash
   pub record IsDefinedBy (s : Settings H) (m : List (K × V)) (tree : State K H) : Type 0 where

@@ -2,13 +2,14 @@
 ghost use Rattle.std.specs.Prelude.{◌≡◌, List, [], IfOk, Some, length};
 ghost use Rattle.key_order.specs.Order.{Same};
 ghost use Rattle.merkle_search_tree.specs.Loading.{digests};
+ghost use Rattle.merkle_tree_theory.specs.Settings.{Settings};
 ghost use Rattle.merkle_tree_theory.specs.State.{HasSettings, SameSettings};
 ghost use Rattle.merkle_tree_theory.specs.Stream.{page_digest};
 ghost use Rattle.merkle_tree_theory.specs.TreeOf.{defined_tree};
 ghost use Rattle.main_theorem.specs.After.{AreEqual, FreeAreAccepted, IsAcceptedIfFree, rows_after, rows_after_one};
 
 use merkle_digest::{Hasher, Key};
-use merkle_replica::{Join, Replica};
+use merkle_replica::{Join, Lawful, Replica};
 use merkle_search_tree::builder::Builder;
 use merkle_search_tree::laws::{a_map_has_one_tree, every_tree_is_sound};
 use merkle_search_tree::updates::Update;
@@ -24,9 +25,12 @@ where
     V: Join + Drop,
     H: Hasher<N, K> + Hasher<N, V>,
     ensures rows { (m : List (K × V)) → AreEqual K.cmp V.eq replica.old.rows m → AreEqual K.cmp V.eq replica.new.rows (rows_after_one K.cmp V.join_of m update result) }
-    ensures free { (m : List (K × V)) → AreEqual K.cmp V.eq replica.old.rows m → IsAcceptedIfFree K.cmp m update result }
+    ensures free { (s : Settings H) (m : List (K × V)) → HasSettings s replica.old.tree → AreEqual K.cmp V.eq replica.old.rows m
+        → IsAcceptedIfFree ⟦<H as Lawful<N, K, V>>⟧.laws s m update result }
     ensures settings { SameSettings replica.old.tree replica.new.tree }
 {
+    a_map_has_one_tree::<K, H, N>();
+    every_tree_is_sound(replica.tree());
     let _ = replica.rows();
     match update {
         Update::Upsert(key, value) => replica.put(key, value).is_ok(),
@@ -49,7 +53,7 @@ where
     V: Join + Drop,
     H: Hasher<N, K> + Hasher<N, V> + Drop,
     ensures answers { IfOk result (λ r. length r.1.items ≡ length updates.items) }
-    ensures free { IfOk result (λ r. FreeAreAccepted K.cmp V.join_of [] updates.items r.1.items) }
+    ensures free { IfOk result (λ r. FreeAreAccepted ⟦<H as Lawful<N, K, V>>⟧.laws builder [] updates.items r.1.items) }
     ensures rows { IfOk result (λ r. AreEqual K.cmp V.eq r.0.rows (rows_after K.cmp V.join_of updates.items r.1.items)) }
     ensures settings { IfOk result (λ r. HasSettings builder r.0.tree) }
     ensures root_hash { IfOk result (λ r. r.0.tree.root_hash ≡ Some (page_digest builder.format K.bytes_of

@@ -45,9 +45,9 @@ pub struct Run<K: Key, V: Join, H: Hasher<N, K> + ValueHasher<N, V>, const N: us
 /// and the root hash of that tree. While digests don't collide in what the two meet, four pulls by turns or more, or a catch-up
 /// each way, leave both with the join of their two maps, and one root hash.
 ///
-/// An update is refused for want of memory, or by the join of a value with the one that is there, and changes nothing then. Hashing, and a
-/// removal of a key that isn't there, take no memory and are always accepted. Of each other update nothing says that it is accepted,
-/// since nothing says when memory is refused.
+/// An update is refused for want of memory, or by the join of a value with the one that is there, and changes nothing then. Hashing takes no
+/// memory and is always accepted, and so is a removal of a key that isn't there, or beside which a gap is empty in the tree that the map
+/// defines. Of each other update nothing says that it is accepted, since nothing says when memory is refused.
 ///
 /// # Errors
 ///
@@ -70,7 +70,8 @@ where
     ensures answers { IfOk result (λ r. (length r.a.accepted.items ≡ length a_updates.items) × (length r.b.accepted.items ≡ length b_updates.items)) }
 
     // Those that take no memory are accepted.
-    ensures free { IfOk result (λ r. FreeAreAccepted K.cmp V.join_of [] a_updates.items r.a.accepted.items × FreeAreAccepted K.cmp V.join_of [] b_updates.items r.b.accepted.items) }
+    ensures free { let laws = ⟦<H as Lawful<N, K, V>>⟧.laws in IfOk result (λ r.
+        FreeAreAccepted laws builder [] a_updates.items r.a.accepted.items × FreeAreAccepted laws builder [] b_updates.items r.b.accepted.items) }
 
     // The rows that the updates leave are the map of the accepted ones.
     ensures rows { exchange ≡ Apart → IfOk result (λ r. AreEqual K.cmp V.eq r.a.replica.rows (rows_after K.cmp V.join_of a_updates.items r.a.accepted.items)

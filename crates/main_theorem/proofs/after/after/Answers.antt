@@ -4,6 +4,7 @@ use Rattle.std.specs.Vec.Iter.{into_iter_items}
 use Rattle.merkle_search_tree.specs.Loading.{digests}
 use Rattle.merkle_tree_theory.specs.Stream.{page_digest}
 use Rattle.merkle_tree_theory.specs.TreeOf.{defined_tree}
+use Rattle.merkle_replica.proofs.Sides.{laws_of}
 use Rattle.main_theorem.specs.After.{AreEqual, FreeAreAccepted, rows_after}
 use Rattle.main_theorem.proofs.Lives.{one_more, free_more, all_done}
 use Rattle.main_theorem.proofs.Roots.{root_as}
@@ -13,6 +14,7 @@ pub updates-preserved : goal.updates-preserved
 updates-preserved g c =
     let cmp = g.K.Ord.cmp in
     let join = g.V.Join.join_of in
+    let laws = laws_of cmp g.K.KeyBytes.bytes_of g.H.Hasher-1.digest_of g.V.PartialEq.eq join g.H.Hasher-2.digest_of in
     let u = c.in-Some.update in
     let kept = c.updates.invariant in
     let steps : into_iter_items c.updates.update-iterator ≡ u ∷ into_iter_items c.next.new.self = c.in-Some.ensures.steps.0 in
@@ -24,8 +26,8 @@ updates-preserved g c =
           let short = ap length steps in
           omega arith;
       answers = ap length c.in_ok-push.ensures.items ∙ length-append c.updates.accepted.items (c.carry_out.result ∷ []) ∙ ap (λ (n : ℕ). n + 1) kept.answers ∙ sym (length-append c.updates.yielded (u ∷ []));
-      free = subst (FreeAreAccepted cmp join [] (c.updates.yielded ++ u ∷ [])) (sym c.in_ok-push.ensures.items)
-          (free_more cmp join [] c.updates.yielded u c.updates.accepted.items c.carry_out.result kept.answers kept.free (c.carry_out.ensures.free _ kept.rows));
+      free = subst (FreeAreAccepted laws c.args.builder [] (c.updates.yielded ++ u ∷ [])) (sym c.in_ok-push.ensures.items)
+          (free_more laws c.args.builder [] c.updates.yielded u c.updates.accepted.items c.carry_out.result kept.answers kept.free (c.carry_out.ensures.free c.args.builder _ (kept.hasher, kept.base, kept.format) kept.rows));
       rows = subst (λ (bs : List _). AreEqual cmp g.V.PartialEq.eq c.carry_out.new.replica.rows (rows_after cmp join (c.updates.yielded ++ u ∷ []) bs)) (sym c.in_ok-push.ensures.items)
           (subst (AreEqual cmp g.V.PartialEq.eq c.carry_out.new.replica.rows) (sym (one_more cmp join [] c.updates.yielded u c.updates.accepted.items c.carry_out.result kept.answers))
           (c.carry_out.ensures.rows _ kept.rows));
@@ -41,7 +43,8 @@ returns-clause-answers g c =
 
 pub returns-clause-free : goal.returns-clause-free
 returns-clause-free g c =
-    subst (λ (us : List _). FreeAreAccepted g.K.Ord.cmp g.V.Join.join_of [] us c.updates.accepted.items) (all_done _ _ _ c.updates.invariant.left (sym c.updates.invariant.count ∙ c.in-None.ensures.steps.0)) c.updates.invariant.free
+    let laws = laws_of g.K.Ord.cmp g.K.KeyBytes.bytes_of g.H.Hasher-1.digest_of g.V.PartialEq.eq g.V.Join.join_of g.H.Hasher-2.digest_of in
+    subst (λ (us : List _). FreeAreAccepted laws c.args.builder [] us c.updates.accepted.items) (all_done _ _ _ c.updates.invariant.left (sym c.updates.invariant.count ∙ c.in-None.ensures.steps.0)) c.updates.invariant.free
 
 pub returns-clause-rows : goal.returns-clause-rows
 returns-clause-rows g c =

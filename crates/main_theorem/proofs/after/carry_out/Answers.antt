@@ -1,7 +1,13 @@
-use Rattle.std.proofs.Common.{◌≡◌, ap, refl, ◌∙◌}
+use Rattle.std.proofs.Common.{◌≡◌, ◌⊎◌, inl, inr, ap, subst, refl, ◌∙◌}
 use Rattle.std.specs.Prelude.{Result, Ok, Err, OnErr}
+use Rattle.merkle_tree_theory.specs.Sound.{IsSound}
+use Rattle.merkle_tree_theory.specs.State.{State}
 use Rattle.merkle_replica.specs.Contents.{Contents}
+use Rattle.merkle_replica.proofs.Sides.{laws_of}
+use Rattle.main_theorem.specs.After.{tree_under}
+use Rattle.main_theorem.proofs.Gaps.{free_alike}
 use Rattle.main_theorem.proofs.Lives.{has_alike, upsert_result, remove_result}
+use Rattle.main_theorem.proofs.Roots.{pages_are}
 use Rattle.main_theorem.proofs.after.carry_out.Goals as goal
 
 -- what is unchanged has its rows
@@ -19,13 +25,27 @@ returns-in-Remove-clause-rows g c = rw (c.in-Remove.is, c.is_ok-in-Remove.ensure
     (remove_result g.K.Ord.cmp g.met.K.Ord.total g.V.PartialEq.eq g.met.V.Eq.laws g.V.Join.join_of g.met.V.Join.joining c.del.result c.args.replica.now.rows c.del.new.self.rows c.in-Remove.key
     c.del.ensures.rows (rows_stay c.del.result c.args.replica.now c.del.new.self c.del.ensures.unchanged))
 
--- hashing, and a removal of what isn't there, take no memory
+either : {P Q R : Type 0} → (P → R) → (Q → R) → P ⊎ Q → R
+either f g (inl h) = f h
+either f g (inr h) = g h
+
+-- hashing takes no memory, and neither does a removal of what isn't there or has an empty gap beside it
 pub returns-in-RootHash-clause-free : goal.returns-in-RootHash-clause-free
-returns-in-RootHash-clause-free g c m f = rw c.in-RootHash.is refl
+returns-in-RootHash-clause-free g c s m set f = rw c.in-RootHash.is refl
 
 pub returns-in-Upsert-clause-free : goal.returns-in-Upsert-clause-free
-returns-in-Upsert-clause-free g c m f = rw c.in-Upsert.is tt
+returns-in-Upsert-clause-free g c s m set f = rw c.in-Upsert.is tt
 
 pub returns-in-Remove-clause-free : goal.returns-in-Remove-clause-free
-returns-in-Remove-clause-free g c m f =
-    rw c.in-Remove.is (λ e. c.is_ok-in-Remove.ensures.value ∙ c.del.ensures.succeeds_absent (has_alike g.K.Ord.cmp g.met.K.Ord.total g.V.PartialEq.eq c.args.replica.now.rows m c.in-Remove.key f ∙ e))
+returns-in-Remove-clause-free g c s m set f =
+    let laws = laws_of g.K.Ord.cmp g.K.KeyBytes.bytes_of g.H.Hasher-1.digest_of g.V.PartialEq.eq g.V.Join.join_of g.H.Hasher-2.digest_of in
+    let o = g.met.K.Ord.total in
+    let k = c.in-Remove.key in
+    let old = c.args.replica.now in
+    let one = c.a_map_has_one_tree.ensures in
+    let sound = subst (λ (t : State _ _). IsSound laws.cmp laws.key_digest laws.bytes_of t) c.tree.ensures.tree c.every_tree_is_sound.ensures.sound in
+    let pages = pages_are laws o g.met.H.Hasher-2.respects_eq one.only s old.tree old.rows m set sound c.tree.ensures.digests f in
+    rw c.in-Remove.is
+    (λ free. c.is_ok-in-Remove.ensures.value ∙ either
+    (λ absent. c.del.ensures.succeeds_absent (has_alike laws.cmp o laws.eq old.rows m k f ∙ absent))
+    (λ gap. c.del.ensures.succeeds (free_alike laws.cmp o k old.tree.root (tree_under laws s m) pages gap)) free)

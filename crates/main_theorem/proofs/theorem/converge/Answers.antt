@@ -1,10 +1,10 @@
-use Rattle.std.proofs.Common.{sym, subst, ◌∙◌}
+use Rattle.std.proofs.Common.{◌≡◌, [], sym, subst, ◌∙◌}
 use Rattle.key_order.specs.Join.{IsJoin}
 use Rattle.key_order.proofs.Joins.{same_joins}
 use Rattle.merkle_tree_theory.specs.Sound.{IsSound}
 use Rattle.merkle_tree_theory.specs.State.{State, HasSettings}
 use Rattle.merkle_replica.specs.Contents.{side}
-use Rattle.main_theorem.specs.After.{AreEqual, rows_after, root_hash_under}
+use Rattle.main_theorem.specs.After.{AreEqual, FreeAreAccepted, rows_after, root_hash_under}
 use Rattle.main_theorem.specs.Course.{AreExchanged}
 use Rattle.merkle_replica.specs.Laws.{Laws}
 use Rattle.main_theorem.proofs.Courses.{apart_stay}
@@ -90,3 +90,10 @@ returns-clause-converges g c =
             of_b = (returns-clause-b_defined g c b'.rows (equal_itself laws.cmp o laws.eq e laws.join j b'.rows)).root_hash;
           },
     )
+
+-- the second has the same settings
+pub returns-clause-free : goal.returns-clause-free
+returns-clause-free g c =
+    let laws : Laws g.row.K.Denot g.row.V.Denot g.row.H.Denot = record { cmp = g.K.Ord.cmp; bytes_of = g.K.KeyBytes.bytes_of; key_digest = g.H.Hasher-1.digest_of; eq = g.V.PartialEq.eq; join = g.V.Join.join_of; value_digest = g.H.Hasher-2.digest_of } in
+    let same : c.in-Ok.other ≡ c.args.builder = λ i. record { hasher = c.requires.hashers _ _ c.in-Ok.ensures.hasher i; base = c.in-Ok.ensures.base i; format = c.in-Ok.ensures.format i } in
+    (c.in-Ok-after.ensures.free, subst (λ s. FreeAreAccepted laws s [] c.args.b_updates.items c.in-Ok-after-2.second.1.items) same c.in-Ok-after-2.ensures.free)
