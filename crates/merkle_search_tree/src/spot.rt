@@ -3,7 +3,7 @@
 ghost use Rattle.std.specs.Ordering.{is_eq};
 ghost use Rattle.std.specs.Prelude.{slice_index_or, ◌≡◌, ℕ, ◌^◌, ◌<◌, ◌≤◌, length};
 ghost use Rattle.merkle_tree_theory.specs.Tree.{Node};
-ghost use Rattle.merkle_tree_theory.specs.Search.{NodesAscend};
+ghost use Rattle.merkle_tree_theory.specs.Search.{NodesAscend, ComparesByHalves};
 ghost use Rattle.merkle_tree_theory.specs.Upsert.{place};
 
 use crate::page::NodeOf;
@@ -27,6 +27,7 @@ pub(crate) fn search<K: Ord, D>(nodes: &[NodeOf<K, D>], key: &K) -> Spot
     ensures found { result.at ≡ place K.cmp key.now nodes.now }
     ensures within { result.at ≤ length nodes.now }
     ensures there { (node : Node K D) → result.at < length nodes.now → result.is_there ≡ is_eq (K.cmp key.now (slice_index_or nodes.now result.at node).key) }
+    ensures counted { ComparesByHalves K.cmp key.now result.compared nodes.now }
     ensures few { (digits : ℕ) → length nodes.now < 2 ^ digits → result.compared ≤ digits }
 {
     let mut low = 0;

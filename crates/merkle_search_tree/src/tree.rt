@@ -9,6 +9,7 @@ ghost use Rattle.merkle_digest.specs.Level.{level_of};
 ghost use Rattle.merkle_digest.specs.SipHash.{zero_key};
 ghost use Rattle.merkle_tree_theory.specs.Tree.{page, high, nothing};
 ghost use Rattle.merkle_tree_theory.specs.Page.{level, pair_of, nodes_of, nodes_in_order};
+ghost use Rattle.merkle_tree_theory.specs.Search.{ComparesByHalves};
 ghost use Rattle.merkle_tree_theory.specs.Upsert.{place};
 ghost use Rattle.merkle_tree_theory.specs.Cache.{missing, KeyUncached};
 ghost use Rattle.merkle_tree_theory.specs.Copy.{IsCopy};
@@ -160,9 +161,10 @@ impl<K: Ord + KeyBytes, V, H: Hasher<N, K>, const N: usize> MerkleSearchTree<K, 
     }
 
     /// For the root page, the place of the first node whose key is at least `key`, or the number of nodes; and how many nodes' keys
-    /// were compared, at most the number of binary digits of the number of nodes. It takes no memory.
+    /// were compared, by halving, at most the number of binary digits of the number of nodes. It takes no memory.
     pub fn find_counted(&self, key: &K) -> (usize, usize)
         ensures place { result.0 ≡ place K.cmp key.now (nodes_of self.now.root) }
+        ensures counted { ComparesByHalves K.cmp key.now result.1 (nodes_of self.now.root) }
         ensures few { (digits : ℕ) → length (nodes_of self.now.root) < 2 ^ digits → result.1 ≤ digits }
     {
         let spot = search(self.root.nodes(), key);

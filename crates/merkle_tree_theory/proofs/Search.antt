@@ -1,9 +1,11 @@
 -- The place of a key among ascending nodes, and how a search by halving comes to it.
-use Rattle.std.proofs.Common.{◌≡◌, ◌≢◌, ℕ, zero, suc, ◌+◌, ◌-◌, ◌/◌, ◌^◌, ◌<◌, ◌≤◌, List, [], ◌∷◌, length, get_or, Bool, true, false, if◌then◌else◌, Option, ap, sym, subst, ◌∙◌, arith}
+use Rattle.std.proofs.Common.{◌≡◌, ◌≢◌, ℕ, zero, suc, ◌+◌, ◌-◌, ◌/◌, ◌^◌, ◌<◌, ◌≤◌, List, [], ◌∷◌, ◌++◌, length, get_or, take, drop, ◌⊎◌, inl, inr, Bool, true, false, if◌then◌else◌, Option, ap, sym, subst, ◌∙◌, arith}
+use Rattle.std.proofs.Math.Seq.{drop-nil, drop-cons, take-add, take-length}
+use Rattle.std.proofs.lemmas.List.{get_or-drop, length-drop, length-take-le}
 use Rattle.std.proofs.Math.Nat.{pow-succ'}
 use Rattle.std.specs.List.{AllByRecursion}
 use Rattle.std.specs.declared.cmp.Ordering.{Ordering}
-use Rattle.std.specs.declared.cmp.Ordering.TheVariants.{Equal}
+use Rattle.std.specs.declared.cmp.Ordering.TheVariants.{Less, Equal, Greater}
 use Rattle.std.specs.Ordering.{is_gt, is_eq}
 use Rattle.std.specs.Cmp.{IsTotalOrder}
 use Rattle.key_order.specs.Order.{Below}
@@ -13,7 +15,7 @@ use Rattle.key_order.proofs.ListParts.{each-behind, map-first, map-rest}
 use Rattle.key_order.proofs.Bools.{is_equal}
 use Rattle.merkle_tree_theory.specs.Tree.{Tree, page, Row, high, node, Node, Held, row}
 use Rattle.merkle_tree_theory.specs.Page.{pairs, row_pairs, held_pairs, row_nodes, nodes_of}
-use Rattle.merkle_tree_theory.specs.Search.{NodesAscend}
+use Rattle.merkle_tree_theory.specs.Search.{NodesAscend, ComparesByHalves}
 use Rattle.merkle_tree_theory.specs.Upsert.{place}
 
 all_at : {X : Type 0} (P : X → Type 0) (xs : List X) (i : ℕ) (x : X) → AllByRecursion P xs → i < length xs → P (get_or xs i x)
@@ -145,3 +147,68 @@ module _ {K D : Type 0} (cmp : K → K → Ordering) where
   -- the nodes of a page whose keys ascend
   pub page-ascends : (t : Tree K D) → IsMap cmp (pairs t) → NodesAscend cmp (nodes_of t)
   page-ascends (page l c r) a = nodes-ascend r a
+
+-- a search by halving, from one place to another
+module _ {X : Type 0} where
+  -- the elements from one place to another
+  abbrev pub between : ℕ → ℕ → List X → List X
+  between low top xs = take (top - low) (drop low xs)
+
+  parted : (a b : ℕ) (xs : List X) (x : X) → a < length xs → take (a + suc b) xs ≡ take a xs ++ get_or xs a x ∷ take b (drop (suc a) xs)
+  parted a b xs x within = take-add a (suc b) xs ∙ ap (λ ys. take a xs ++ take (suc b) ys) (drop-cons xs a x within)
+
+  drop_on : (n m : ℕ) (xs : List X) → drop m (drop n xs) ≡ drop (n + m) xs
+  drop_on zero m xs = let e : m ≡ 0 + m = omega arith in ap (λ k. drop k xs) e
+  drop_on (suc n) m [] = drop-nil m ∙ sym (drop-nil (suc n + m))
+  drop_on (suc n) m (x ∷ xs) = let e : suc (n + m) ≡ suc n + m = omega arith in drop_on n m xs ∙ ap (λ k. drop k (x ∷ xs)) e
+
+  -- what is between two places, around a place between them
+  between-parted : (low half top : ℕ) (xs : List X) (x : X) → low + half < top → top ≤ length xs
+      → between low top xs ≡ between low (low + half) xs ++ get_or xs (low + half) x ∷ between (low + half + 1) top xs
+  between-parted low half top xs x lower within =
+      let rest = top - (low + half + 1) in
+      let all : top - low ≡ half + suc rest = omega (arith, lower) in
+      let first : low + half - low ≡ half = omega arith in
+      let inside : half < length (drop low xs) = omega (arith, length-drop low xs, lower, within) in
+      let last : low + suc half ≡ low + half + 1 = omega arith in
+      ap (λ n. take n (drop low xs)) all ∙ parted half rest (drop low xs) x inside
+      ∙ ap (λ ys. ys ++ get_or (drop low xs) half x ∷ take rest (drop (suc half) (drop low xs))) (ap (λ n. take n (drop low xs)) (sym first))
+      ∙ ap (λ y. between low (low + half) xs ++ y ∷ take rest (drop (suc half) (drop low xs))) (get_or-drop low xs half x)
+      ∙ ap (λ ys. between low (low + half) xs ++ get_or xs (low + half) x ∷ take rest ys) (drop_on low (suc half) xs ∙ ap (λ n. drop n xs) last)
+
+  between-length : (low top : ℕ) (xs : List X) → top ≤ length xs → length (between low top xs) ≡ top - low
+  between-length low top xs within = length-take-le (top - low) (drop low xs) (omega (arith, length-drop low xs, within))
+
+  pub between-all : (xs : List X) → between 0 (length xs) xs ≡ xs
+  between-all xs = let all : length xs - 0 ≡ length xs = omega arith in ap (λ n. take n xs) all ∙ take-length xs
+
+  pub between-none : (low top : ℕ) (xs : List X) → low ≡ top → between low top xs ≡ []
+  between-none low top xs e = let none : top - low ≡ 0 = omega (arith, e) in ap (λ n. take n (drop low xs)) none
+
+module _ {K D : Type 0} (cmp : K → K → Ordering) (k : K) (es : List (Node K D)) where
+  -- one comparison more, with the node in the middle
+  one_more : (low top n : ℕ) (e : Node K D) → low < top → top ≤ length es → e ≡ get_or es (low + (top - low) / 2) e
+      → ((cmp k e.key ≡ Less) × ComparesByHalves cmp k n (between low (low + (top - low) / 2) es)) ⊎ (((cmp k e.key ≡ Equal) × (n ≡ 0)) ⊎ ((cmp k e.key ≡ Greater) × ComparesByHalves cmp k n (between (low + (top - low) / 2 + 1) top es)))
+      → ComparesByHalves cmp k (suc n) (between low top es)
+  one_more low top n e lower within is goes =
+      let half = (top - low) / 2 in
+      let middle = low + half in
+      let inside : middle < top = omega (arith, lower) in (
+        between low middle es,
+        e,
+        between (middle + 1) top es,
+        between-parted low half top es e inside within ∙ ap (λ f. between low middle es ++ f ∷ between (middle + 1) top es) (sym is),
+        between-length low middle es (omega (arith, inside, within)) ∙ (omega arith) ∙ ap (λ m. m / 2) (sym (between-length low top es within)),
+        goes,
+      )
+
+  pub one_less : (low top n : ℕ) (e : Node K D) → low < top → top ≤ length es → e ≡ get_or es (low + (top - low) / 2) e → cmp k e.key ≡ Less
+      → ComparesByHalves cmp k n (between low (low + (top - low) / 2) es) → ComparesByHalves cmp k (suc n) (between low top es)
+  one_less low top n e lower within is less rest = one_more low top n e lower within is (inl (less, rest))
+
+  pub one_equal : (low top : ℕ) (e : Node K D) → low < top → top ≤ length es → e ≡ get_or es (low + (top - low) / 2) e → cmp k e.key ≡ Equal → ComparesByHalves cmp k 1 (between low top es)
+  one_equal low top e lower within is equal = one_more low top 0 e lower within is (inr (inl (equal, λ i. 0)))
+
+  pub one_greater : (low top n : ℕ) (e : Node K D) → low < top → top ≤ length es → e ≡ get_or es (low + (top - low) / 2) e → cmp k e.key ≡ Greater
+      → ComparesByHalves cmp k n (between (low + (top - low) / 2 + 1) top es) → ComparesByHalves cmp k (suc n) (between low top es)
+  one_greater low top n e lower within is greater rest = one_more low top n e lower within is (inr (inr (greater, rest)))
