@@ -15,6 +15,8 @@ mod page_ranges;
 #[cfg(test)]
 mod places;
 #[cfg(test)]
+mod ranges_of_pages;
+#[cfg(test)]
 mod refusals;
 #[cfg(test)]
 mod removals;
