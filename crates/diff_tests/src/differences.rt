@@ -1,7 +1,7 @@
 //! `diff`, by answers that were worked out by hand and by those of the Rust crate.
 use crate::rust_answers::RUST_ANSWERS;
 use crate::texts::{Bounds, Entry, bounds_of, difference, entries, page_ranges, ranges};
-use merkle_diff::{PageRange, diff, diff_lists, diff_slices};
+use merkle_diff::{DiffRange, PageRange, diff, diff_lists, diff_slices};
 use merkle_digest::PageDigest;
 use std::alloc::{AllocError, Global};
 use std::process::Abort;
@@ -143,28 +143,73 @@ const REFUSED: [(&[Entry], &[Entry], &[Bounds]); 4] = [
     ),
 ];
 
-/// Asserts that the ranges to ask for are these, or want of memory.
-fn expect(rt: &impl Abort, alloc: Global, local: &[Entry], peer: &[Entry], answer: &[Bounds]) {
-    if let Ok(found) = difference(alloc, local, peer) {
-        assert_eq!(rt; found.as_slice(), answer);
+/// How many calls of `diff` answered, and how many wanted memory.
+#[derive(Clone, Copy)]
+struct Seen {
+    answers: u8,
+    wants: u8,
+}
+
+impl Seen {
+    /// Asserts that the ranges to ask for are these, or want of memory, and counts which of both.
+    fn expect(
+        &mut self,
+        rt: &impl Abort,
+        found: Result<Vec<DiffRange<'_, u64>>, AllocError>,
+        answer: &[Bounds],
+    ) {
+        match found {
+            Err(_) => self.wants = self.wants.saturating_add(1),
+            Ok(found) => {
+                self.answers = self.answers.saturating_add(1);
+                assert_eq!(rt; found.len(), answer.len());
+                for (range, wanted) in found.iter().zip(answer) {
+                    assert_eq!(rt; (*range.start(), *range.end()), *wanted);
+                }
+            }
+        }
     }
 }
 
-// Under `rt try --test --fail-alloc N` the Nth request for memory is refused: the answer is right, or it is want of memory.
+// Under `tests/refusals` each request for memory is refused in turn: the answer is right, or it is want of memory. Over all runs it
+// has to see each of both.
 #[test]
 fn answers_or_wants_memory(rt: HostRuntime) {
+    let alloc = rt.alloc();
+    let mut seen = Seen {
+        answers: 0,
+        wants: 0,
+    };
     for (local, peer, answer) in REFUSED {
-        expect(&rt, rt.alloc(), local, peer, answer);
+        if let (Ok(local), Ok(peer)) = (page_ranges(alloc, local), page_ranges(alloc, peer)) {
+            seen.expect(&rt, diff(alloc, local, peer), answer);
+        }
     }
+    let _ = println!(rt;
+        "answers: {}, wants of memory: {}",
+        seen.answers, seen.wants
+    );
 }
 
 // So it is on many ranges.
 #[test]
 fn answers_on_nested_ranges_or_wants_memory(rt: HostRuntime) {
-    if let (Ok(local), Ok(peer)) = (nested(rt.alloc(), 2), nested(rt.alloc(), 1)) {
-        expect(&rt, rt.alloc(), &local, &peer, &[(0, 200_000)]);
-        expect(&rt, rt.alloc(), &peer, &peer, &[]);
+    let alloc = rt.alloc();
+    let mut seen = Seen {
+        answers: 0,
+        wants: 0,
+    };
+    if let (Ok(local), Ok(peer)) = (nested(alloc, 2), nested(alloc, 1)) {
+        for (local, answer) in [(&local, [(0, 200_000)].as_slice()), (&peer, &[])] {
+            if let (Ok(local), Ok(peer)) = (page_ranges(alloc, local), page_ranges(alloc, &peer)) {
+                seen.expect(&rt, diff(alloc, local, peer), answer);
+            }
+        }
     }
+    let _ = println!(rt;
+        "answers: {}, wants of memory: {}",
+        seen.answers, seen.wants
+    );
 }
 
 fn page<'a>(start: &'a u64, end: &'a u64) -> Option<PageRange<'a, u64>> {
