@@ -1,6 +1,7 @@
-/* The calls of mst.h: root hashes of the Rust crate and of a second program, each status, each request for memory refused in turn, and
- * lists that are cut, altered or made at random. */
+/* The calls of mst.h: root hashes of the Rust crate and of a second program, each status, each request for memory refused in turn, the
+ * room of a tree, and lists that are cut, altered or made at random. */
 #define _DEFAULT_SOURCE
+#include <malloc.h>
 #include <stdio.h>
 #include <stdlib.h>
 #include <string.h>
@@ -12,19 +13,37 @@
 #define WANT(test) \
     do { if (!(test)) { fprintf(stderr, "tests.c:%d: %s\n", __LINE__, #test); exit(1); } } while (0)
 
-/* ---- requests for memory, of which one can be refused (the linker puts these in place of the C library's) */
-static long made, refused_at;
+/* ---- requests for memory, of which one can be refused (the linker puts these in place of the C library's), the bytes that are held
+ * of them, and the most that were */
+static long made, refused_at, held, most;
 void *__real_malloc(size_t size);
 void *__real_realloc(void *old, size_t size);
+void __real_free(void *bytes);
 void *__wrap_malloc(size_t size);
 void *__wrap_realloc(void *old, size_t size);
+void __wrap_free(void *bytes);
+
+static void *hold(void *bytes) {
+    held += (long)malloc_usable_size(bytes);
+    if (held > most) most = held;
+    return bytes;
+}
 
 void *__wrap_malloc(size_t size) {
-    return ++made == refused_at ? NULL : __real_malloc(size);
+    return ++made == refused_at ? NULL : hold(__real_malloc(size));
 }
 
 void *__wrap_realloc(void *old, size_t size) {
-    return ++made == refused_at ? NULL : __real_realloc(old, size);
+    long before = (long)malloc_usable_size(old);
+    void *bytes = ++made == refused_at ? NULL : __real_realloc(old, size);
+    if (!bytes) return NULL;
+    held -= before;
+    return hold(bytes);
+}
+
+void __wrap_free(void *bytes) {
+    held -= (long)malloc_usable_size(bytes);
+    __real_free(bytes);
 }
 
 /* ---- the trees of the tests: the key of i is its text after a k, its value the eight bytes of its square, the lowest first */
@@ -445,6 +464,55 @@ static void refusals(void) {
     printf("%ld requests for memory, each refused in turn; the load does without %ld of them\n", all, spared);
 }
 
+/* ---- the room of a tree whose keys come level by level: those on level 0, in their order, and then the others in theirs. The keys
+ * are those from 10000 on, which are in the order of their numbers. */
+#define FIRST 10000
+#define KEYS 20000
+static uint8_t is_higher[KEYS];
+
+/* Whether a key stands with the first one on one page, so on its level. */
+static int stands_with_first(unsigned i) {
+    struct mst_tree tree = MST_NO_TREE;
+    uint8_t list[256];
+    size_t len, place = 0;
+    struct mst_range range;
+    WANT(mst_tree_new(&tree) == MST_DONE);
+    WANT(put(&tree, FIRST, 0) == MST_DONE && put(&tree, FIRST + i, i) == MST_DONE);
+    WANT(mst_tree_page_ranges(&tree, list, sizeof list, &len) == MST_DONE);
+    WANT(mst_ranges_next(list, len, &place, &range) == MST_DONE);
+    mst_tree_free(&tree);
+    return place == len;
+}
+
+/* The most bytes that the tree of so many keys held while they came. */
+static long room_of(unsigned size) {
+    struct mst_tree tree = MST_NO_TREE;
+    unsigned i, turn;
+    held = most = 0;
+    WANT(mst_tree_new(&tree) == MST_DONE);
+    for (turn = 0; turn < 2; turn++)
+        for (i = 0; i < size; i++)
+            if (is_higher[i] == turn) WANT(put(&tree, FIRST + i, i) == MST_DONE);
+    mst_tree_free(&tree);
+    WANT(!held);
+    return most;
+}
+
+/* Each key above level 0 parts the page of all later keys: no part may keep the room of the whole. */
+static void rooms(void) {
+    unsigned i, higher = 0;
+    long half, whole;
+    /* The C library's heap would give a large request whole pages of memory, and keep one of them where most of it is given back; the
+     * heap of a sanitizer, which takes no options, doesn't. */
+    (void)mallopt(M_MMAP_THRESHOLD, 1 << 24);
+    for (i = 0; i < KEYS; i++) higher += is_higher[i] = !stands_with_first(i);
+    WANT(higher > KEYS / 20 && higher < KEYS / 13);
+    half = room_of(KEYS / 2);
+    whole = room_of(KEYS);
+    printf("%d keys that come level by level: %ld bytes held at most, and %ld for half of them\n", KEYS, whole, half);
+    WANT(10 * whole <= 22 * half);
+}
+
 /* ---- lists that are no lists, and what is answered where they are lists */
 static uint64_t drawn = 88172645463325252u;
 
@@ -700,6 +768,7 @@ int main(void) {
     bad_arguments();
     statuses();
     refusals();
+    rooms();
     hostile();
     return 0;
 }
