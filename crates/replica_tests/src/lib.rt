@@ -10,6 +10,8 @@ mod hubs;
 #[cfg(test)]
 mod joins;
 #[cfg(test)]
+mod kinds;
+#[cfg(test)]
 mod loads;
 #[cfg(test)]
 mod memory;
@@ -23,6 +25,8 @@ mod random_pairs;
 mod refusals;
 #[cfg(test)]
 mod refused_joins;
+#[cfg(test)]
+mod removals;
 #[cfg(test)]
 mod steps;
 #[cfg(test)]
