@@ -15,13 +15,14 @@ const COUNT: usize = 64;
 
 /// A generator of numbers, which it takes from the highest bits of a product sum.
 #[derive(Clone, Copy)]
-struct Random {
-    state: u64,
+pub struct Random {
+    /// The state of the generator, which may be any number at first.
+    pub state: u64,
 }
 
 impl Random {
-    /// The next number below a bound.
-    fn below(&mut self, bound: u64) -> u64 {
+    /// The next number below a bound; 0 where the bound is 0.
+    pub fn below(&mut self, bound: u64) -> u64 {
         self.state = self
             .state
             .wrapping_mul(6_364_136_223_846_793_005)

@@ -20,6 +20,8 @@ mod mixed_formats;
 #[cfg(test)]
 mod puts;
 #[cfg(test)]
+mod random_catch_ups;
+#[cfg(test)]
 mod random_pairs;
 #[cfg(test)]
 mod refusals;
