@@ -26,6 +26,8 @@ mod random_pairs;
 #[cfg(test)]
 mod refusals;
 #[cfg(test)]
+mod refused_catch_ups;
+#[cfg(test)]
 mod refused_joins;
 #[cfg(test)]
 mod removals;
