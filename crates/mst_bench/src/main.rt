@@ -4,8 +4,9 @@
 //! Without arguments it prints what the trees of the sample keys answer, which is the same on every machine:
 //! `n ROOT_LOCAL ROOT_PEER RANGES_LOCAL RANGES_PEER DIFF_PEER DIFF_THIRD`, for 100, 1,000 and 10,000 keys. `--time N..` prints a
 //! table of times for each number of keys, `--time-cut N..` one for each number of ranges to cut out, and `--time-pull N..` one for each
-//! number of rows to pull, and `--time-catch-up N..` one for each number of rows of which few differ. It ends with status 2 and a usage line on standard error where the arguments are none of these, and with status 1 and one line there where memory is refused,
-//! or the clock or the output fails.
+//! number of rows to pull, and `--time-catch-up N..` one for each number of rows of which few differ. It ends with status 2 and a
+//! usage line on standard error where the arguments are none of these, and with status 1 and one line there where memory is
+//! refused, or the clock or the output fails.
 #![tactic(auto)]
 
 mod answers;
