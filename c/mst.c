@@ -35,6 +35,10 @@ static uint8_t nothing[1];
 #define POINTER(pointer) \
     do { if (!(pointer)) return MST_BAD_ARGUMENT; } while (0)
 
+const char *mst_version(void) {
+    return MST_VERSION;
+}
+
 int mst_tree_new_with(struct mst_tree *out, const uint8_t key[16], uint8_t level_base, uint8_t page_format) {
     POINTER(out);
     POINTER(key);

@@ -23,6 +23,12 @@
 extern "C" {
 #endif
 
+/* The version of this header. */
+#define MST_VERSION "0.1.0"
+
+/* The version of the library that the program runs with, a text as MST_VERSION, which stays. */
+const char *mst_version(void);
+
 enum {
     MST_DONE = 0,         /* the call did what it is for */
     MST_NO_MEMORY = 1,    /* memory was refused; the same call may be made again */
@@ -39,8 +45,9 @@ struct mst_tree { void *at; };
 
 /* Gives a handle that has no tree the empty tree; mst_tree_free lets it go. Keys and values are hashed by SipHash-2-4-128 under the
  * key of 16 zero bytes, the level base is 16 and the page format 1, so that its root hashes are those of the Rust crate
- * merkle-search-tree for keys and values whose `Hash` feeds their bytes alone. MST_BAD_ARGUMENT where the handle has a tree;
- * MST_NO_MEMORY. One request for memory. */
+ * merkle-search-tree for keys and values whose `Hash` feeds their bytes alone. Where others may choose keys, take mst_tree_new_with and
+ * a key that they don't know: under a known key they can choose keys that all lie on one page, and then each call takes time in
+ * proportion to the number of keys. MST_BAD_ARGUMENT where the handle has a tree; MST_NO_MEMORY. One request for memory. */
 int mst_tree_new(struct mst_tree *out);
 
 /* The same with a key of SipHash for keys and values (pages are hashed under the zero key always), a level base and a page format.

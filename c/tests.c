@@ -762,6 +762,7 @@ static void hostile(void) {
 }
 
 int main(void) {
+    WANT(!strcmp(mst_version(), MST_VERSION));
     roots_and_loads();
     difference();
     digests();
