@@ -1,0 +1,70 @@
+//! The settings of a tree.
+use crate::{digest::siphash::SipHasher, granted, MerkleSearchTree, OutOfMemory};
+use std::num::NonZeroU8;
+
+/// What the digest of a page is made of.
+#[derive(Debug, Clone, Copy, PartialEq, Eq, Default)]
+pub enum PageFormat {
+    /// That of the crate merkle-search-tree, in which two maps may have one root hash though no two digests collide.
+    #[default]
+    V1,
+    /// One that can be read in one way only. Take it where no peer needs root hashes of the crate.
+    V2,
+}
+
+/// The settings of a tree. Trees that are compared have all three in common.
+///
+/// ```
+/// use merkle_search_tree::{builder::{Builder, PageFormat}, digest::siphash::SipHasher, MerkleSearchTree};
+///
+/// let secret = *b"of all replicas!";
+/// let mut tree: MerkleSearchTree<String, u64> =
+///     Builder::default().with_hasher(SipHasher::new(&secret)).with_page_format(PageFormat::V2).build();
+/// tree.upsert("kiwi".into(), &1);
+/// ```
+#[derive(Debug, Clone)]
+pub struct Builder {
+    hasher: SipHasher,
+    level_base: NonZeroU8,
+    page_format: PageFormat,
+}
+
+impl Default for Builder {
+    /// [`SipHasher`] under the zero key, level base 16 and page format 1: the settings of the crate.
+    fn default() -> Self {
+        const SIXTEEN: NonZeroU8 = NonZeroU8::MIN.saturating_add(15);
+        Self { hasher: SipHasher::default(), level_base: SIXTEEN, page_format: PageFormat::V1 }
+    }
+}
+
+impl Builder {
+    /// Hashes keys and values by this hasher. Pages are hashed under the zero key always.
+    pub fn with_hasher(self, hasher: SipHasher) -> Self {
+        Self { hasher, ..self }
+    }
+
+    /// Sets the level base: from 2 to 128, about one key in so many stands above level 0, so that a lesser base makes more and smaller
+    /// pages.
+    pub fn with_level_base(self, level_base: NonZeroU8) -> Self {
+        Self { level_base, ..self }
+    }
+
+    /// Sets what the digest of a page is made of.
+    pub fn with_page_format(self, page_format: PageFormat) -> Self {
+        Self { page_format, ..self }
+    }
+
+    /// The empty tree with these settings.
+    pub fn build<K, V>(self) -> MerkleSearchTree<K, V> {
+        granted(self.try_build())
+    }
+
+    /// The same; refused where memory is.
+    pub fn try_build<K, V>(self) -> Result<MerkleSearchTree<K, V>, OutOfMemory> {
+        let format = match self.page_format {
+            PageFormat::V1 => 1,
+            PageFormat::V2 => 2,
+        };
+        MerkleSearchTree::with_settings(self.hasher.key(), self.level_base.get(), format)
+    }
+}

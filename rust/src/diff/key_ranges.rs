@@ -1,0 +1,196 @@
+use crate::{
+    bytes::{seen_again, Key},
+    list, sys, Malformed,
+};
+use std::{fmt, iter::FusedIterator, marker::PhantomData, ops::Bound};
+
+/// A range of keys in which two trees may differ: both bounds are in it. It borrows them.
+pub struct DiffRange<'p, K: Key> {
+    start: &'p K::Seen,
+    end: &'p K::Seen,
+}
+
+impl<'p, K: Key> DiffRange<'p, K> {
+    pub(super) fn new(start: &'p K::Seen, end: &'p K::Seen) -> Self {
+        Self { start, end }
+    }
+
+    /// Its first key.
+    pub fn start(&self) -> &'p K::Seen {
+        self.start
+    }
+
+    /// Its last key.
+    pub fn end(&self) -> &'p K::Seen {
+        self.end
+    }
+
+    /// Whether a key is in it.
+    pub fn contains(&self, key: impl AsRef<[u8]>) -> bool {
+        (self.start.as_ref()..=self.end.as_ref()).contains(&key.as_ref())
+    }
+
+    /// The range as `BTreeMap::range` takes it.
+    pub fn bounds(&self) -> (Bound<&'p K::Seen>, Bound<&'p K::Seen>) {
+        (Bound::Included(self.start), Bound::Included(self.end))
+    }
+}
+
+impl<K: Key> Clone for DiffRange<'_, K> {
+    fn clone(&self) -> Self {
+        *self
+    }
+}
+
+impl<K: Key> Copy for DiffRange<'_, K> {}
+
+impl<K: Key> PartialEq for DiffRange<'_, K> {
+    fn eq(&self, other: &Self) -> bool {
+        self.start.as_ref() == other.start.as_ref() && self.end.as_ref() == other.end.as_ref()
+    }
+}
+
+impl<K: Key> Eq for DiffRange<'_, K> {}
+
+impl<K: Key> fmt::Debug for DiffRange<'_, K> {
+    fn fmt(&self, f: &mut fmt::Formatter<'_>) -> fmt::Result {
+        f.debug_struct("DiffRange").field("start", &self.start.as_ref()).field("end", &self.end.as_ref()).finish()
+    }
+}
+
+/// Ranges of keys to ask a peer for, as the list that the peer can be sent: they ascend, and no two meet.
+///
+/// ```
+/// use merkle_search_tree::{diff::{diff_snapshots, KeyRanges}, MerkleSearchTree};
+/// use std::collections::BTreeMap;
+///
+/// let mut local = MerkleSearchTree::<String, u64>::default();
+/// let (mut peer, mut rows) = (MerkleSearchTree::<String, u64>::default(), BTreeMap::new());
+/// for (key, value) in [("apple", 1), ("melon", 2)] {
+///     peer.upsert(key.into(), &value);
+///     rows.insert(key.to_owned(), value);
+/// }
+/// let sent = diff_snapshots(&local.page_ranges(), &peer.page_ranges()).into_bytes();
+///
+/// // the peer
+/// let asked = KeyRanges::<String>::from_bytes(sent).unwrap();
+/// let found: Vec<_> = asked.iter().flat_map(|range| rows.range::<str, _>(range.bounds())).collect();
+/// assert_eq!(found.len(), 2);
+/// ```
+pub struct KeyRanges<K> {
+    list: Vec<u8>,
+    key: PhantomData<fn() -> K>,
+}
+
+impl<K> KeyRanges<K> {
+    /// The ranges of a list of key ranges that ascend and have keys of the type, as the library writes it.
+    pub(super) fn of_list(list: Vec<u8>) -> Self {
+        Self { list, key: PhantomData }
+    }
+
+    /// The list, to send to a peer. `mst.h` has it byte by byte.
+    pub fn as_bytes(&self) -> &[u8] {
+        &self.list
+    }
+
+    /// The same, by value.
+    pub fn into_bytes(self) -> Vec<u8> {
+        self.list
+    }
+
+    /// How many ranges there are.
+    pub fn len(&self) -> usize {
+        list::count(&self.list)
+    }
+
+    /// Whether there is none.
+    pub fn is_empty(&self) -> bool {
+        self.len() == 0
+    }
+}
+
+impl<K: Key> KeyRanges<K> {
+    /// The list that a peer sent. Any bytes may be given: they are refused where they are no list of key ranges, or where a key in them is
+    /// none of the type, a first key is above a last one, or the ranges don't ascend or two of them meet.
+    pub fn from_bytes(list: impl Into<Vec<u8>>) -> Result<Self, Malformed> {
+        let list = list.into();
+        if !list.starts_with(b"MSTk") {
+            return Err(Malformed);
+        }
+        let (mut at, mut before) = (0, None);
+        while let Some((start, end, _)) = sys::next_range(&list, &mut at).map_err(|_| Malformed)? {
+            if before.is_some_and(|end| end >= start) || start > end {
+                return Err(Malformed);
+            }
+            if K::seen(start).is_none() || K::seen(end).is_none() {
+                return Err(Malformed);
+            }
+            before = Some(end);
+        }
+        Ok(Self::of_list(list))
+    }
+
+    /// Goes over the ranges.
+    pub fn iter(&self) -> KeyRangeIter<'_, K> {
+        KeyRangeIter { list: &self.list, at: 0, left: self.len(), key: PhantomData }
+    }
+}
+
+impl<K> Clone for KeyRanges<K> {
+    fn clone(&self) -> Self {
+        Self::of_list(self.list.clone())
+    }
+}
+
+impl<K> PartialEq for KeyRanges<K> {
+    fn eq(&self, other: &Self) -> bool {
+        self.list == other.list
+    }
+}
+
+impl<K> Eq for KeyRanges<K> {}
+
+impl<K: Key> fmt::Debug for KeyRanges<K> {
+    fn fmt(&self, f: &mut fmt::Formatter<'_>) -> fmt::Result {
+        f.debug_list().entries(self).finish()
+    }
+}
+
+impl<'a, K: Key> IntoIterator for &'a KeyRanges<K> {
+    type Item = DiffRange<'a, K>;
+    type IntoIter = KeyRangeIter<'a, K>;
+    fn into_iter(self) -> KeyRangeIter<'a, K> {
+        self.iter()
+    }
+}
+
+/// Goes over the ranges of a list of key ranges.
+pub struct KeyRangeIter<'a, K> {
+    list: &'a [u8],
+    at: usize,
+    left: usize,
+    key: PhantomData<fn() -> K>,
+}
+
+impl<'a, K: Key> Iterator for KeyRangeIter<'a, K> {
+    type Item = DiffRange<'a, K>;
+
+    fn next(&mut self) -> Option<DiffRange<'a, K>> {
+        let (start, end, _) = sys::next_range(self.list, &mut self.at).expect("key ranges have a list")?;
+        self.left -= 1;
+        Some(DiffRange::new(seen_again::<K>(start), seen_again::<K>(end)))
+    }
+
+    fn size_hint(&self) -> (usize, Option<usize>) {
+        (self.left, Some(self.left))
+    }
+}
+
+impl<K: Key> ExactSizeIterator for KeyRangeIter<'_, K> {}
+impl<K: Key> FusedIterator for KeyRangeIter<'_, K> {}
+
+impl<K: Key> fmt::Debug for KeyRangeIter<'_, K> {
+    fn fmt(&self, f: &mut fmt::Formatter<'_>) -> fmt::Result {
+        f.debug_struct("KeyRangeIter").field("left", &self.left).finish_non_exhaustive()
+    }
+}

@@ -1,0 +1,253 @@
+//! Syncs of two stores over a connection that carries bytes in order, such as a socket.
+//!
+//! Both sides call [`sync`]; one of them begins. They pull from each other, one pull each, and ask at last whether their root hashes are
+//! equal.
+//! The messages are those of the package for Python too; docs/SYNC.md of the repository has them byte by byte.
+//!
+//! ```
+//! use merkle_search_tree::{diff::DiffRange, sync::{sync, Give, Replica}, MerkleSearchTree};
+//! use std::{collections::BTreeMap, io, os::unix::net::UnixStream, thread};
+//!
+//! /// Rows of which the greater value stays, and the tree over them.
+//! #[derive(Default)]
+//! struct Store {
+//!     rows: BTreeMap<String, Vec<u8>>,
+//!     tree: MerkleSearchTree<String, Vec<u8>>,
+//! }
+//!
+//! impl Store {
+//!     fn put(&mut self, key: &str, value: &[u8]) {
+//!         let held = self.rows.entry(key.to_owned()).or_default();
+//!         *held = value.max(&held[..]).to_vec();
+//!         self.tree.upsert(key.to_owned(), held);
+//!     }
+//! }
+//!
+//! impl Replica for Store {
+//!     type Key = String;
+//!     type Value = Vec<u8>;
+//!
+//!     fn tree(&mut self) -> &mut MerkleSearchTree<String, Vec<u8>> {
+//!         &mut self.tree
+//!     }
+//!
+//!     fn rows_in(&mut self, range: DiffRange<'_, String>, give: &mut Give<'_>) -> io::Result<()> {
+//!         self.rows.range::<str, _>(range.bounds()).try_for_each(|(key, value)| give(key.as_bytes(), value))
+//!     }
+//!
+//!     fn join(&mut self, key: &str, value: &[u8]) -> io::Result<()> {
+//!         self.put(key, value);
+//!         Ok(())
+//!     }
+//! }
+//!
+//! # fn main() -> io::Result<()> {
+//! let [mut left, mut right] = [(); 2].map(|()| Store::default());
+//! left.put("kiwi", b"1");
+//! right.put("melon", b"2");
+//! let (mut ours, mut theirs) = UnixStream::pair()?;
+//! let peer = thread::spawn(move || sync(&mut right, &mut theirs, false).map(|_| right));
+//! assert!(sync(&mut left, &mut ours, true)?.agreed);
+//! let right = peer.join().unwrap()?;
+//! assert_eq!(left.rows, right.rows);
+//! # Ok(())
+//! # }
+//! ```
+use crate::{
+    bytes::Key,
+    diff::{unshared, DiffRange, KeyRangeIter, KeyRanges, PageRangeSnapshot},
+    list, MerkleSearchTree,
+};
+use std::io::{self, Read, Write};
+
+/// How many bytes a message of the peer may have, where no other limit is given. Page ranges take some 4 bytes a key.
+pub const LIMIT: u64 = 1 << 28;
+
+/// About how many bytes a message of rows has; one of a single row may have more.
+const PIECE: usize = 1 << 16;
+
+/// What takes a row: the bytes of its key and those of its value.
+pub type Give<'a> = dyn FnMut(&[u8], &[u8]) -> io::Result<()> + 'a;
+
+/// What a sync needs of a store: the tree over its rows, the rows of a range, and a way to take a row.
+pub trait Replica {
+    /// The keys of the rows.
+    type Key: Key;
+    /// The values of the tree.
+    type Value;
+
+    /// The tree over the rows as they are.
+    fn tree(&mut self) -> &mut MerkleSearchTree<Self::Key, Self::Value>;
+
+    /// Gives the rows of a range in the order of their keys: each is the bytes of its key, and those of its value as the peer's `join`
+    /// takes them. What `give` refuses is answered.
+    fn rows_in(&mut self, range: DiffRange<'_, Self::Key>, give: &mut Give<'_>) -> io::Result<()>;
+
+    /// Takes a row that came. Of a value that came and one that is there, a rule makes one, whatever their order, such as that the greater
+    /// stays; the tree is set to it too.
+    fn join(&mut self, key: &<Self::Key as Key>::Seen, value: &[u8]) -> io::Result<()>;
+}
+
+/// What a sync came to.
+#[derive(Debug, Clone, Copy, PartialEq, Eq)]
+pub struct Synced {
+    /// Whether the root hashes are equal at its end.
+    pub agreed: bool,
+    /// How many rows the peer sent.
+    pub came: usize,
+    /// How many rows were sent to the peer.
+    pub went: usize,
+}
+
+/// Brings a store and a peer's into step over a connection. One side is the first.
+///
+/// An error of the connection or of the store is answered as it is; `UnexpectedEof` where the peer ends before, and `InvalidData` where it
+/// sends what is no message or not asked for. What came before stays in the store, and the next sync goes on from there.
+pub fn sync<R: Replica>(store: &mut R, connection: &mut (impl Read + Write), first: bool) -> io::Result<Synced> {
+    sync_within(LIMIT, store, connection, first)
+}
+
+/// The same, where a message of the peer has at most so many bytes.
+pub fn sync_within<R: Replica>(
+    limit: u64,
+    store: &mut R,
+    connection: &mut (impl Read + Write),
+    first: bool,
+) -> io::Result<Synced> {
+    let mut talk = Talk { connection, limit, came: 0, went: 0 };
+    let mut agreed = false;
+    for (pulls, last) in [(first, false), (!first, false), (first, true)] {
+        agreed = if pulls { talk.pull(store, last)? } else { talk.serve(store, last)? };
+        if agreed {
+            break;
+        }
+    }
+    Ok(Synced { agreed, came: talk.came, went: talk.went })
+}
+
+/// A sync that is under way.
+struct Talk<'a, C> {
+    connection: &'a mut C,
+    limit: u64,
+    came: usize,
+    went: usize,
+}
+
+impl<C: Read + Write> Talk<'_, C> {
+    /// Pulls once, or, at last, only asks; and answers whether the root hashes are equal.
+    fn pull<R: Replica>(&mut self, store: &mut R, last: bool) -> io::Result<bool> {
+        self.send(&[b"MSTh", &store.tree().root_hash().as_bytes()[..]].concat())?;
+        let answer = self.take()?;
+        match &answer[..] {
+            b"MST=" => return Ok(true),
+            b"MST!" if last => return Ok(false),
+            _ if last => return Err(unexpected("the peer doesn't say whether the root hashes are equal")),
+            _ => {}
+        }
+        let theirs = PageRangeSnapshot::<R::Key>::from_bytes(answer).map_err(unexpected)?;
+        let asked = unshared(&store.tree().page_ranges(), &theirs);
+        self.send(asked.as_bytes())?;
+        let mut ranges = asked.iter();
+        let mut expected = Expected { range: ranges.next(), ranges, before: None };
+        while self.take_rows(store, &mut expected)? {}
+        Ok(false)
+    }
+
+    /// Takes a message of rows, and answers whether it had any.
+    fn take_rows<R: Replica>(&mut self, store: &mut R, expected: &mut Expected<'_, R::Key>) -> io::Result<bool> {
+        let message = self.take()?;
+        let mut rest =
+            message.strip_prefix(b"MSTr").and_then(|rest| rest.get(8..)).ok_or_else(|| unexpected(NO_ROWS))?;
+        let mut rows = 0;
+        while !rest.is_empty() {
+            let row = list::string(&mut rest).and_then(|key| Some((key, list::string(&mut rest)?)));
+            let (key, value) = row.ok_or_else(|| unexpected(NO_ROWS))?;
+            store.join(expected.see(key)?, value)?;
+            rows += 1;
+        }
+        if rows != list::count(&message) {
+            return Err(unexpected(NO_ROWS));
+        }
+        self.came += rows;
+        Ok(rows > 0)
+    }
+
+    /// Answers one pull, or, at last, only whether the root hashes are equal; and answers that.
+    fn serve<R: Replica>(&mut self, store: &mut R, last: bool) -> io::Result<bool> {
+        let message = self.take()?;
+        let root = message.strip_prefix(b"MSTh").filter(|root| root.len() == 16);
+        let root = root.ok_or_else(|| unexpected("the peer doesn't begin with its root hash"))?;
+        let agreed = root == store.tree().root_hash().as_bytes();
+        if agreed || last {
+            self.send(if agreed { b"MST=" } else { b"MST!" })?;
+            return Ok(agreed);
+        }
+        self.send(store.tree().page_ranges().as_bytes())?;
+        let asked = KeyRanges::<R::Key>::from_bytes(self.take()?).map_err(unexpected)?;
+        let mut rows = list::Writer::new(b"MSTr");
+        for range in &asked {
+            store.rows_in(range, &mut |key, value| {
+                if !rows.is_empty() && rows.len() + key.len() + value.len() > PIECE {
+                    self.send(&std::mem::replace(&mut rows, list::Writer::new(b"MSTr")).into_bytes())?;
+                }
+                rows.push(key, value, &[]);
+                self.went += 1;
+                Ok(())
+            })?;
+        }
+        if !rows.is_empty() {
+            self.send(&rows.into_bytes())?;
+        }
+        self.send(&list::Writer::new(b"MSTr").into_bytes())?;
+        Ok(false)
+    }
+
+    /// Sends a message: how many bytes it has, in eight bytes, and these.
+    fn send(&mut self, message: &[u8]) -> io::Result<()> {
+        self.connection.write_all(&[&(message.len() as u64).to_le_bytes(), message].concat())?;
+        self.connection.flush()
+    }
+
+    /// The next message of the peer. Memory is taken as its bytes come.
+    fn take(&mut self) -> io::Result<Vec<u8>> {
+        let mut len = [0; 8];
+        self.connection.read_exact(&mut len)?;
+        let len = u64::from_le_bytes(len);
+        if len > self.limit {
+            return Err(unexpected("a message of the peer is above the limit"));
+        }
+        let mut message = Vec::new();
+        Read::by_ref(self.connection).take(len).read_to_end(&mut message)?;
+        if (message.len() as u64) < len {
+            return Err(io::ErrorKind::UnexpectedEof.into());
+        }
+        Ok(message)
+    }
+}
+
+/// What rows may come: those in the ranges that were asked for, their keys in order.
+struct Expected<'a, K: Key> {
+    ranges: KeyRangeIter<'a, K>,
+    range: Option<DiffRange<'a, K>>,
+    before: Option<Vec<u8>>,
+}
+
+impl<K: Key> Expected<'_, K> {
+    fn see<'b>(&mut self, key: &'b [u8]) -> io::Result<&'b K::Seen> {
+        while self.range.is_some_and(|range| range.end().as_ref() < key) {
+            self.range = self.ranges.next();
+        }
+        let in_range = self.range.is_some_and(|range| range.contains(key));
+        if !in_range || self.before.as_deref().is_some_and(|before| key <= before) {
+            return Err(unexpected("the peer sent a row that wasn't asked for, or rows that don't ascend"));
+        }
+        self.before = Some(key.to_vec());
+        K::seen(key).ok_or_else(|| unexpected("the peer sent a key that is none"))
+    }
+}
+
+const NO_ROWS: &str = "the peer sent no list of rows";
+
+fn unexpected(reason: impl Into<Box<dyn std::error::Error + Send + Sync>>) -> io::Error {
+    io::Error::new(io::ErrorKind::InvalidData, reason)
+}

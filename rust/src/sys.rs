@@ -1,0 +1,231 @@
+//! The calls of `mst.h`, and a safe way to each. No other module has unsafe code.
+#![allow(unsafe_code)]
+
+use crate::OutOfMemory;
+use std::{
+    cell::UnsafeCell,
+    ffi::CStr,
+    os::raw::{c_char, c_int},
+    ptr, slice,
+};
+
+const DONE: c_int = 0;
+const NO_MEMORY: c_int = 1;
+const MALFORMED: c_int = 2;
+const TOO_SHORT: c_int = 3;
+const ABSENT: c_int = 5;
+
+/// `struct mst_tree`.
+#[repr(C)]
+struct Handle {
+    at: *mut u8,
+}
+
+/// `struct mst_range`.
+#[repr(C)]
+struct Range {
+    first: *const u8,
+    first_len: usize,
+    last: *const u8,
+    last_len: usize,
+    digest: *const u8,
+}
+
+#[rustfmt::skip]
+extern "C" {
+    fn mst_version() -> *const c_char;
+    fn mst_tree_new_with(out: *mut Handle, key: *const u8, level_base: u8, page_format: u8) -> c_int;
+    fn mst_tree_clone(tree: *mut Handle, out: *mut Handle) -> c_int;
+    fn mst_tree_free(tree: *mut Handle);
+    fn mst_tree_upsert(tree: *mut Handle, key: *const u8, key_len: usize, value: *const u8, value_len: usize) -> c_int;
+    fn mst_tree_upsert_digest(tree: *mut Handle, key: *const u8, key_len: usize, digest: *const u8) -> c_int;
+    fn mst_tree_remove(tree: *mut Handle, key: *const u8, key_len: usize) -> c_int;
+    fn mst_tree_load(tree: *mut Handle, rows: *const u8, rows_len: usize) -> c_int;
+    fn mst_tree_len(tree: *mut Handle, out: *mut usize) -> c_int;
+    fn mst_tree_root_hash(tree: *mut Handle, out: *mut u8) -> c_int;
+    fn mst_tree_page_ranges(tree: *mut Handle, out: *mut u8, out_len: usize, needed: *mut usize) -> c_int;
+    fn mst_tree_digests(tree: *mut Handle, out: *mut u8, out_len: usize, needed: *mut usize) -> c_int;
+    fn mst_diff(local: *const u8, local_len: usize, peer: *const u8, peer_len: usize, out: *mut u8, out_len: usize,
+                needed: *mut usize) -> c_int;
+    fn mst_ranges_next(list: *const u8, list_len: usize, at: *mut usize, out: *mut Range) -> c_int;
+}
+
+/// What a call refuses.
+#[derive(Debug, Clone, Copy, PartialEq, Eq)]
+pub(crate) enum Refused {
+    /// It asked for memory and got none.
+    Memory,
+    /// Bytes aren't a list of the kind that it takes, or rows don't ascend.
+    Malformed,
+    /// There is no such key.
+    Absent,
+}
+
+impl From<OutOfMemory> for Refused {
+    fn from(_: OutOfMemory) -> Self {
+        Self::Memory
+    }
+}
+
+/// What a status says, but for `MST_TOO_SHORT`. `MST_BAD_ARGUMENT` can't come: each argument is made here.
+fn done(status: c_int) -> Result<(), Refused> {
+    match status {
+        DONE => Ok(()),
+        NO_MEMORY => Err(Refused::Memory),
+        MALFORMED => Err(Refused::Malformed),
+        ABSENT => Err(Refused::Absent),
+        _ => unreachable!("a call of mst.h answered status {status}"),
+    }
+}
+
+/// The same of a call that refuses nothing but memory.
+fn done_or_no_memory(status: c_int) -> Result<(), OutOfMemory> {
+    done(status).map_err(|refused| match refused {
+        Refused::Memory => OutOfMemory,
+        _ => unreachable!("a call of mst.h answered status {status}"),
+    })
+}
+
+/// The version of the library.
+pub(crate) fn version() -> &'static str {
+    // SAFETY: the call answers a text of ASCII that ends with a zero byte and stays for as long as the program runs.
+    unsafe { CStr::from_ptr(mst_version()) }.to_str().unwrap_or_default()
+}
+
+/// A handle that has a tree.
+///
+/// It is in a cell, since calls that leave the map as it was take a pointer to a mutable handle too.
+pub(crate) struct Tree(UnsafeCell<Handle>);
+
+// SAFETY: by mst.h a handle goes from thread to thread where something orders the calls, and to move or lend a value to another thread
+// does. `Tree` isn't `Sync`, since it has a cell: so a call that borrows it is never under way beside another.
+unsafe impl Send for Tree {}
+
+impl Tree {
+    /// The empty tree with these settings; the page format is 1 or 2.
+    pub(crate) fn new(key: &[u8; 16], level_base: u8, page_format: u8) -> Result<Self, OutOfMemory> {
+        let mut handle = Handle { at: ptr::null_mut() };
+        // SAFETY: the handle has no tree, and the key is of 16 bytes.
+        done_or_no_memory(unsafe { mst_tree_new_with(&mut handle, key.as_ptr(), level_base, page_format) })?;
+        Ok(Self(UnsafeCell::new(handle)))
+    }
+
+    /// A copy of the tree.
+    pub(crate) fn copy(&self) -> Result<Self, OutOfMemory> {
+        let mut copy = Handle { at: ptr::null_mut() };
+        // SAFETY: both are handles, of which the second has no tree, and no other call has the first.
+        done_or_no_memory(unsafe { mst_tree_clone(self.0.get(), &mut copy) })?;
+        Ok(Self(UnsafeCell::new(copy)))
+    }
+
+    /// Sets a key to the digest of a value.
+    pub(crate) fn upsert(&mut self, key: &[u8], value: &[u8]) -> Result<(), OutOfMemory> {
+        // SAFETY: key and value are slices.
+        done_or_no_memory(unsafe {
+            mst_tree_upsert(self.0.get_mut(), key.as_ptr(), key.len(), value.as_ptr(), value.len())
+        })
+    }
+
+    /// The same, with the digest at hand.
+    pub(crate) fn upsert_digest(&mut self, key: &[u8], digest: &[u8; 16]) -> Result<(), OutOfMemory> {
+        // SAFETY: the key is a slice, and the digest is of 16 bytes.
+        done_or_no_memory(unsafe { mst_tree_upsert_digest(self.0.get_mut(), key.as_ptr(), key.len(), digest.as_ptr()) })
+    }
+
+    /// Takes a key out.
+    pub(crate) fn remove(&mut self, key: &[u8]) -> Result<(), Refused> {
+        // SAFETY: the key is a slice.
+        done(unsafe { mst_tree_remove(self.0.get_mut(), key.as_ptr(), key.len()) })
+    }
+
+    /// Makes the rows of a list the map.
+    pub(crate) fn load(&mut self, rows: &[u8]) -> Result<(), Refused> {
+        // SAFETY: the list is a slice.
+        done(unsafe { mst_tree_load(self.0.get_mut(), rows.as_ptr(), rows.len()) })
+    }
+
+    /// How many keys there are.
+    pub(crate) fn len(&self) -> Result<usize, OutOfMemory> {
+        let mut len = 0;
+        // SAFETY: `len` is written to, and no other call has the handle.
+        done_or_no_memory(unsafe { mst_tree_len(self.0.get(), &mut len) })?;
+        Ok(len)
+    }
+
+    /// The root hash.
+    pub(crate) fn root_hash(&mut self) -> [u8; 16] {
+        let mut root = [0; 16];
+        // SAFETY: `root` is of 16 bytes.
+        let status = unsafe { mst_tree_root_hash(self.0.get_mut(), root.as_mut_ptr()) };
+        assert_eq!(status, DONE, "mst_tree_root_hash refuses nothing of a tree");
+        root
+    }
+
+    /// The list of page ranges, of about `guess` bytes.
+    pub(crate) fn page_ranges(&self, guess: usize) -> Result<Vec<u8>, OutOfMemory> {
+        // SAFETY: no other call has the handle, and `out` is memory of `len` bytes that nothing else has.
+        let list = written(guess, |out, len, needed| unsafe { mst_tree_page_ranges(self.0.get(), out, len, needed) });
+        list.map_err(|_| OutOfMemory)
+    }
+
+    /// The list of keys with the digests of their values.
+    pub(crate) fn digests(&self) -> Result<Vec<u8>, OutOfMemory> {
+        // SAFETY: no other call has the handle, and `out` is memory of `len` bytes that nothing else has.
+        let list = written(0, |out, len, needed| unsafe { mst_tree_digests(self.0.get(), out, len, needed) });
+        list.map_err(|_| OutOfMemory)
+    }
+}
+
+impl Drop for Tree {
+    fn drop(&mut self) {
+        // SAFETY: the handle is one that a call made, and isn't used again.
+        unsafe { mst_tree_free(self.0.get_mut()) }
+    }
+}
+
+/// The list of the key ranges in which two lists of page ranges differ.
+pub(crate) fn difference(local: &[u8], peer: &[u8]) -> Result<Vec<u8>, Refused> {
+    const GUESS: usize = 1024;
+    // SAFETY: both lists are slices, and `out` is memory of `len` bytes that nothing else has.
+    written(GUESS, |out, len, needed| unsafe {
+        mst_diff(local.as_ptr(), local.len(), peer.as_ptr(), peer.len(), out, len, needed)
+    })
+}
+
+/// A range of a list: the first key, the last, and in a list of page ranges the page's digest.
+pub(crate) type Entry<'a> = (&'a [u8], &'a [u8], Option<&'a [u8; 16]>);
+
+/// The range of a list of page ranges or key ranges that is at `at`, which goes to the next; `None` behind the last.
+pub(crate) fn next_range<'a>(list: &'a [u8], at: &mut usize) -> Result<Option<Entry<'a>>, Refused> {
+    let mut found = Range { first: ptr::null(), first_len: 0, last: ptr::null(), last_len: 0, digest: ptr::null() };
+    // SAFETY: the list is a slice, which lives for as long as what is answered. A place beyond its end would be MST_BAD_ARGUMENT.
+    match done(unsafe { mst_ranges_next(list.as_ptr(), list.len(), at, &mut found) }) {
+        Ok(()) => {}
+        Err(Refused::Absent) => return Ok(None),
+        Err(refused) => return Err(refused),
+    }
+    // SAFETY: what a call that is done writes points to bytes of the list, so many as it says, and to 16 of a digest.
+    Ok(Some(unsafe {
+        (
+            slice::from_raw_parts(found.first, found.first_len),
+            slice::from_raw_parts(found.last, found.last_len),
+            found.digest.cast::<[u8; 16]>().as_ref(),
+        )
+    }))
+}
+
+/// The bytes that a call writes to `out`, which is of `len` bytes. It is made once more where they are more than the guess.
+fn written(guess: usize, mut call: impl FnMut(*mut u8, usize, *mut usize) -> c_int) -> Result<Vec<u8>, Refused> {
+    let mut bytes: Vec<u8> = Vec::new();
+    let mut needed = guess;
+    loop {
+        bytes.try_reserve_exact(needed).map_err(|_| Refused::Memory)?;
+        let status = call(bytes.as_mut_ptr(), bytes.capacity(), &mut needed);
+        if status != TOO_SHORT {
+            done(status)?;
+            // SAFETY: a call that is done wrote the first `needed` bytes, no more than there are.
+            unsafe { bytes.set_len(needed) };
+            return Ok(bytes);
+        }
+    }
+}
