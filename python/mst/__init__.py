@@ -1,0 +1,19 @@
+"""Merkle search trees: two stores learn by one root hash whether they agree, and by `diff` which ranges of keys to fetch.
+
+    >>> from mst import Tree, diff
+    >>> ours, theirs = Tree({b"kiwi": b"1"}), Tree({b"apple": b"1", b"melon": b"2"})
+    >>> ours.root_hash() == theirs.root_hash()
+    False
+    >>> list(diff(ours.page_ranges(), theirs.page_ranges()))
+    [KeyRange(first=b'apple', last=b'melon')]
+"""
+from .library import MalformedError, version
+from .ranges import KeyRange, KeyRanges, PageRange, PageRanges, diff, unshared
+from .store import Store
+from .sync import LIMIT, Replica, Synced, steps, sync, sync_streams
+from .tree import Tree
+
+__version__ = version()
+__all__ = ["LIMIT", "KeyRange", "KeyRanges", "MalformedError", "PageRange", "PageRanges", "Replica", "Store", "Synced", "Tree",
+           "diff", "steps", "sync", "sync_streams",
+           "unshared", "version"]

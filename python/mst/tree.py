@@ -1,0 +1,164 @@
+"""The tree."""
+import ctypes
+import struct
+from typing import Dict, Iterable, List, Mapping, Tuple, Union
+
+from .library import ABSENT, check, library, written
+from .ranges import PageRanges
+
+Rows = Union[Mapping[bytes, bytes], Iterable[Tuple[bytes, bytes]]]
+
+_pack = struct.Struct("<Q").pack
+_number = struct.Struct("<Q").unpack_from
+_upsert, _remove = library.mst_tree_upsert, library.mst_tree_remove
+
+
+class Tree:
+    """A Merkle search tree: a map from byte strings to the digests of byte strings, whose root hash depends on the map and on the settings
+    alone. The values aren't kept.
+
+    >>> tree = Tree({b"kiwi": b"1"})
+    >>> tree[b"melon"] = b"2"
+    >>> tree.root_hash() == Tree({b"melon": b"2", b"kiwi": b"1"}).root_hash()
+    True
+    >>> del tree[b"kiwi"]
+    >>> len(tree)
+    1
+
+    Any thread may use a tree: one call at a time is under way. A tree holds memory outside of Python, which `close`, a `with` statement or
+    the collector gives back. ValueError where it is closed, in every call but `close`; MemoryError where memory is refused, and then the
+    tree is as before; TypeError where a key or a value is none of bytes.
+    """
+
+    __slots__ = ("_handle", "_address", "_guess", "__weakref__")
+
+    def __init__(self, rows: Rows = (), *, key: bytes = bytes(16), level_base: int = 16, page_format: int = 1) -> None:
+        """The tree of these rows, of which the last stays where a key comes twice.
+
+        Trees that are compared have key, level base and page format in common. Where others may choose keys of rows, take a secret `key` of
+        SipHash, which all replicas share: under one that they know, they can choose keys that all lie on one page, and then each call takes
+        time in proportion to the number of keys. The level base is from 1 to 255: from 2 to 128, about one key in so many stands above
+        level 0. Page format 1 is that of the Rust crate; take 2 where no peer needs its root hashes.
+        """
+        if len(key) != 16:
+            raise ValueError("the key of SipHash is of 16 bytes")
+        if not 1 <= level_base <= 255:
+            raise ValueError("the level base is from 1 to 255")
+        if page_format not in (1, 2):
+            raise ValueError("the page format is 1 or 2")
+        self._handle = ctypes.c_void_p()
+        self._address = ctypes.addressof(self._handle)
+        self._guess = 1024
+        check(library.mst_tree_new_with(self._address, key, level_base, page_format))
+        found = dict(rows)
+        if found:
+            self.load(sorted(found.items()))
+
+    def __setitem__(self, key: bytes, value: bytes) -> None:
+        """Sets a key to the digest of a value."""
+        try:
+            status = _upsert(self._address, key, len(key), value, len(value))
+        except ctypes.ArgumentError:
+            raise TypeError("keys and values are bytes") from None
+        if status:
+            check(status)
+
+    def __delitem__(self, key: bytes) -> None:
+        """Takes a key out; KeyError where it isn't there."""
+        if not self.discard(key):
+            raise KeyError(key)
+
+    def discard(self, key: bytes) -> bool:
+        """Takes a key out, and says whether it was there. A removal isn't merged: a peer that has the row brings it back, unless a mark
+        stands for its value."""
+        try:
+            status = _remove(self._address, key, len(key))
+        except ctypes.ArgumentError:
+            raise TypeError("keys are bytes") from None
+        if status == ABSENT:
+            return False
+        check(status)
+        return True
+
+    def update(self, rows: Rows) -> None:
+        """Sets each key of the rows to the digest of its value."""
+        for key, value in (rows.items() if isinstance(rows, Mapping) else rows):
+            self[key] = value
+
+    def set_digest(self, key: bytes, digest: bytes) -> None:
+        """Sets a key to the digest of a value, by whatever hash function: 16 bytes, which peers that compare trees make in one way."""
+        if len(digest) != 16:
+            raise ValueError("a digest is of 16 bytes")
+        try:
+            check(library.mst_tree_upsert_digest(self._address, key, len(key), digest))
+        except ctypes.ArgumentError:
+            raise TypeError("keys and digests are bytes") from None
+
+    def load(self, rows: "Iterable[Tuple[bytes, bytes]]") -> None:
+        """Makes these rows, which ascend strictly by key, the map of the tree; MalformedError where they don't, and then the tree is as
+        before. It is the quickest way to fill a tree. The rows are put into one list first."""
+        parts: "List[bytes]" = []
+        count = 0
+        for key, value in rows:
+            parts += (_pack(len(key)), key, _pack(len(value)), value)
+            count += 1
+        data = b"".join([b"MSTr", _pack(count), *parts])
+        check(library.mst_tree_load(self._address, data, len(data)))
+
+    def root_hash(self) -> bytes:
+        """The root hash, 16 bytes. It hashes the pages that changed since the last call."""
+        root = ctypes.create_string_buffer(16)
+        check(library.mst_tree_root_hash(self._address, root))
+        return root.raw
+
+    def page_ranges(self) -> PageRanges:
+        """The ranges of all pages, to give to `diff` or to send to a peer. It hashes what `root_hash` would."""
+        data = written(self._guess, lambda out, size, needed: library.mst_tree_page_ranges(self._address, out, size, needed))
+        self._guess = len(data) + len(data) // 8
+        return PageRanges._of_tree(data)
+
+    def digests(self) -> "Dict[bytes, bytes]":
+        """The keys in their order, each with the digest of its value."""
+        data = written(0, lambda out, size, needed: library.mst_tree_digests(self._address, out, size, needed))
+        found, at = {}, 12
+        while at < len(data):
+            end = at + 8 + _number(data, at)[0]
+            found[data[at + 8:end]] = data[end:end + 16]
+            at = end + 16
+        return found
+
+    def copy(self) -> "Tree":
+        """A copy of the tree, its settings, and the digests that its pages have."""
+        copy = Tree.__new__(Tree)
+        copy._handle = ctypes.c_void_p()
+        copy._address = ctypes.addressof(copy._handle)
+        copy._guess = self._guess
+        check(library.mst_tree_clone(self._address, copy._address))
+        return copy
+
+    def __len__(self) -> int:
+        """How many keys there are. It counts them."""
+        count = ctypes.c_size_t()
+        check(library.mst_tree_len(self._address, ctypes.byref(count)))
+        return count.value
+
+    def __bool__(self) -> bool:
+        """A tree is true, as it is without a key: to count them for a test would be slow."""
+        return True
+
+    def close(self) -> None:
+        """Gives the memory back. To close a tree twice does no harm."""
+        library.mst_tree_free(self._address)
+
+    def __enter__(self) -> "Tree":
+        return self
+
+    def __exit__(self, *_error: object) -> None:
+        self.close()
+
+    def __del__(self) -> None:
+        if hasattr(self, "_address"):
+            library.mst_tree_free(self._address)
+
+    def __repr__(self) -> str:
+        return f"<Tree at {self._handle.value:#x}>" if self._handle.value else "<Tree, closed>"

@@ -1,0 +1,61 @@
+"""The examples of the documentation and of the folder examples, the version, and interpreters without a lock."""
+import doctest
+import glob
+import importlib
+import os
+import subprocess
+import sys
+import unittest
+
+import mst
+
+HERE = os.path.dirname(os.path.abspath(__file__))
+TOP = os.path.join(HERE, "..", "..")
+# as `python -c`: an interpreter that says it has no lock, whose threads fill one tree
+WITHOUT_A_LOCK = """
+import sys, threading
+sys._is_gil_enabled = lambda: False
+from mst import Tree
+from mst.library import library
+assert hasattr(library.mst_tree_upsert, "__wrapped__")
+tree = Tree()
+threads = [threading.Thread(target=tree.update, args=([(b"%d" % i, b"") for i in range(5000)],)) for _ in range(4)]
+[thread.start() for thread in threads]
+[thread.join() for thread in threads]
+print(len(tree))
+"""
+
+
+def python(*words):
+    path = os.pathsep.join(sys.path)
+    done = subprocess.run([sys.executable, "-B", *words], env={**os.environ, "PYTHONPATH": path}, capture_output=True, text=True, timeout=60)
+    if done.returncode:
+        raise AssertionError(done.stderr)
+    return done.stdout
+
+
+class Package(unittest.TestCase):
+    def test_version(self):
+        with open(os.path.join(TOP, "VERSION"), encoding="ascii") as file:
+            self.assertEqual(mst.__version__, file.read().strip())
+
+    def test_examples(self):
+        self.assertEqual(python(os.path.join(HERE, "..", "examples", "two_stores.py")), "{'apple': '1', 'kiwi': '1', 'melon': '3'}\n")
+        self.assertEqual(python(os.path.join(HERE, "..", "examples", "sqlite_store.py")), "{'apple': 'red', 'melon': 'ripe'}\n")
+        written = python(os.path.join(HERE, "..", "examples", "asyncio_peers.py")).splitlines()
+        self.assertEqual([line.split(",")[0] for line in written], ["agreed: True", "agreed: True", "1010 1010 True"])
+        self.assertEqual(len(glob.glob(os.path.join(HERE, "..", "examples", "*.py"))), 3)
+
+    def test_an_interpreter_without_a_lock(self):
+        self.assertEqual(python("-c", WITHOUT_A_LOCK), "5000\n")
+
+
+def load_tests(_loader, tests, _pattern):
+    for name in ["mst", "mst.tree", "mst.ranges", "mst.store", "mst.sync"]:
+        tests.addTests(doctest.DocTestSuite(importlib.import_module(name)))
+    tests.addTests(doctest.DocFileSuite(os.path.join(HERE, "..", "README.md"), module_relative=False))
+    return tests
+
+
+if __name__ == "__main__":
+    unittest.main()
