@@ -32,7 +32,7 @@ unsafe extern "C" {
     fn mst_ranges_next(list: *const u8, list_len: usize, at: *mut usize, out: *mut Range) -> c_int;
 }
 
-/// A tree, which is freed with the value. It isn't `Send`, since a handle is used by one thread at a time.
+/// A tree, which is freed with the value. It stays on its thread, though a handle may go to another: the package in rust/ lets it.
 struct Tree(Handle);
 
 impl Tree {

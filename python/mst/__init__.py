@@ -7,13 +7,12 @@
     >>> list(diff(ours.page_ranges(), theirs.page_ranges()))
     [KeyRange(first=b'apple', last=b'melon')]
 """
-from .library import MalformedError, version
-from .ranges import KeyRange, KeyRanges, PageRange, PageRanges, diff, unshared
-from .store import Store
-from .sync import LIMIT, Replica, Synced, steps, sync, sync_streams
-from .tree import Tree
+from ._library import MalformedError, version
+from ._ranges import KeyRange, KeyRanges, PageRange, PageRanges, diff, unshared
+from ._store import Store
+from ._sync import LIMIT, Replica, Synced, sync, sync_steps, sync_streams
+from ._tree import Tree
 
 __version__ = version()
-__all__ = ["LIMIT", "KeyRange", "KeyRanges", "MalformedError", "PageRange", "PageRanges", "Replica", "Store", "Synced", "Tree",
-           "diff", "steps", "sync", "sync_streams",
-           "unshared", "version"]
+__all__ = ["LIMIT", "KeyRange", "KeyRanges", "MalformedError", "PageRange", "PageRanges", "Replica", "Store", "Synced", "Tree", "diff", "sync",
+           "sync_steps", "sync_streams", "unshared", "version"]

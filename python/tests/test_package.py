@@ -16,7 +16,7 @@ WITHOUT_A_LOCK = """
 import sys, threading
 sys._is_gil_enabled = lambda: False
 from mst import Tree
-from mst.library import library
+from mst._library import library
 assert hasattr(library.mst_tree_upsert, "__wrapped__")
 tree = Tree()
 threads = [threading.Thread(target=tree.update, args=([(b"%d" % i, b"") for i in range(5000)],)) for _ in range(4)]
@@ -51,7 +51,7 @@ class Package(unittest.TestCase):
 
 
 def load_tests(_loader, tests, _pattern):
-    for name in ["mst", "mst.tree", "mst.ranges", "mst.store", "mst.sync"]:
+    for name in ["mst", "mst._tree", "mst._ranges", "mst._store", "mst._sync"]:
         tests.addTests(doctest.DocTestSuite(importlib.import_module(name)))
     tests.addTests(doctest.DocFileSuite(os.path.join(HERE, "..", "README.md"), module_relative=False))
     return tests

@@ -1,12 +1,13 @@
 """Syncs of two stores over sockets, over asyncio, and with peers that don't keep to the messages."""
 import asyncio
+import copy
 import random
 import socket
 import struct
 import threading
 import unittest
 
-from mst import MalformedError, Store, Synced, steps, sync, sync_streams
+from mst import MalformedError, Store, Synced, sync, sync_steps, sync_streams
 
 number = struct.Struct("<Q").pack
 
@@ -14,7 +15,7 @@ number = struct.Struct("<Q").pack
 def run(left, right):
     """A sync of two stores, in which what one side yields goes to the other; each piece is cut at random."""
     draw = random.Random(1)
-    sides = [steps(left, first=True), steps(right, first=False)]
+    sides = [sync_steps(left, first=True), sync_steps(right, first=False)]
     waiting, wires, ends = [None, None], [bytearray(), bytearray()], [None, None]
     while None in ends:
         for side in (0, 1):
@@ -155,6 +156,37 @@ class Peers(unittest.TestCase):
         self.assertRaises(EOFError, sync, Store(), read, lambda _piece: None, first=True)
         self.assertLessEqual(max(taken), 1 << 16)
 
+    def test_messages_that_are_altered(self):
+        said = bytearray()
+        peer, store = [Store((b"%d" % i, b"1") for i in range(step, 300, step)) for step in (2, 3)]
+        ours, theirs = socket.socketpair()
+        with ours, theirs:
+            thread = threading.Thread(target=sync, args=(peer, theirs.recv, theirs.sendall), kwargs={"first": False})
+            thread.start()
+
+            def read(size):
+                piece = ours.recv(size)
+                said.extend(piece)
+                return piece
+
+            sync(store.copy(), read, ours.sendall, first=True)
+            thread.join()
+        draw, ends = random.Random(11), set()
+        for _ in range(3000):
+            altered = bytearray(said)
+            for _ in range(draw.randint(1, 3)):
+                altered[draw.randrange(min(len(altered), draw.choice([20, 1 << 20])))] = draw.randrange(256)
+
+            def read_altered(size):
+                piece, altered[:size] = bytes(altered[:size]), b""
+                return piece
+
+            try:
+                ends.add(sync(store.copy(), read_altered, lambda _piece: None, first=True).agreed)
+            except (MalformedError, EOFError) as error:
+                ends.add(type(error))
+        self.assertEqual(ends, {True, MalformedError, EOFError})
+
     def test_rows_that_came_before_a_failure_stay(self):
         store, pages = Store(), bytes(Store({b"b": b"", b"d": b""}).tree.page_ranges())
         self.assertRaises(MalformedError, self.after, store, pages, self.rows(b"b", b"c"), self.rows(b"z"))
@@ -172,6 +204,15 @@ class Stores(unittest.TestCase):
         self.assertEqual(store.tree.root_hash(), Store({b"a": b"1", b"c": b"3"}).tree.root_hash())
         self.assertRaises(KeyError, store.__delitem__, b"b")
         self.assertRaises(KeyError, store.__getitem__, b"b")
+
+    def test_a_copy_is_its_own_store(self):
+        for made in [Store.copy, copy.copy, copy.deepcopy]:
+            store = Store({b"a": b"1"}, rule=min)
+            other = made(store)
+            other[b"b"] = b"2"
+            other.join(b"b", b"1")
+            self.assertEqual((dict(store), dict(other)), ({b"a": b"1"}, {b"a": b"1", b"b": b"1"}))
+            self.assertEqual((len(store.tree), other.tree.root_hash()), (1, Store(dict(other)).tree.root_hash()))
 
     def test_between(self):
         store = Store((b"%02d" % i, b"") for i in range(20))

@@ -1,6 +1,8 @@
 """Trees, against root hashes from outside: the tables of rust/tests."""
 import base64
+import copy
 import os
+import pickle
 import random
 import threading
 import unittest
@@ -82,11 +84,15 @@ class Changes(unittest.TestCase):
         self.assertEqual(len(tree), 199)
 
     def test_a_copy_is_its_own_tree(self):
-        tree = squares(10)
-        copy = tree.copy()
-        copy[b"more"] = b""
-        self.assertEqual((len(tree), len(copy)), (10, 11))
-        self.assertEqual(tree.root_hash(), squares(10).root_hash())
+        for made in [Tree.copy, copy.copy, copy.deepcopy]:
+            tree = squares(10)
+            other = made(tree)
+            other[b"more"] = b""
+            self.assertEqual((len(tree), len(other)), (10, 11))
+            self.assertEqual(tree.root_hash(), squares(10).root_hash())
+            del tree
+            self.assertEqual(len(other), 11)
+        self.assertRaises(TypeError, pickle.dumps, Tree())
 
     def test_digests(self):
         tree, again = squares(300), Tree()

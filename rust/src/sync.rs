@@ -60,7 +60,7 @@ use crate::{
 };
 use std::io::{self, Read, Write};
 
-/// How many bytes a message of the peer may have, where no other limit is given. Page ranges take some 4 bytes a key.
+/// How many bytes a message of the peer may have, where no other limit is given. Of page ranges there is one for some sixteen keys.
 pub const LIMIT: u64 = 1 << 28;
 
 /// About how many bytes a message of rows has; one of a single row may have more.

@@ -2,7 +2,7 @@
 import struct
 from typing import Iterator, List, NamedTuple, Optional, Tuple
 
-from .library import MalformedError, difference, is_list
+from ._library import MalformedError, difference, is_list
 
 _FRONT = 12
 _number, _number_of = struct.Struct("<Q").unpack_from, struct.Struct("<Q").pack

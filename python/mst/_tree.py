@@ -1,10 +1,10 @@
 """The tree."""
 import ctypes
 import struct
-from typing import Dict, Iterable, List, Mapping, Tuple, Union
+from typing import Dict, Iterable, List, Mapping, NoReturn, Tuple, Union
 
-from .library import ABSENT, check, library, written
-from .ranges import PageRanges
+from ._library import ABSENT, check, library, written
+from ._ranges import PageRanges
 
 Rows = Union[Mapping[bytes, bytes], Iterable[Tuple[bytes, bytes]]]
 
@@ -135,6 +135,15 @@ class Tree:
         copy._guess = self._guess
         check(library.mst_tree_clone(self._address, copy._address))
         return copy
+
+    def __copy__(self) -> "Tree":
+        return self.copy()
+
+    def __deepcopy__(self, _memo: object) -> "Tree":
+        return self.copy()
+
+    def __reduce__(self) -> "NoReturn":
+        raise TypeError("a tree isn't pickled; it is made anew of its rows")
 
     def __len__(self) -> int:
         """How many keys there are. It counts them."""

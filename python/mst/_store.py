@@ -3,7 +3,7 @@ import bisect
 import threading
 from typing import Callable, Dict, Iterator, List, MutableMapping, Optional, Tuple
 
-from .tree import Rows, Tree
+from ._tree import Rows, Tree
 
 
 class Store(MutableMapping[bytes, bytes]):
@@ -25,6 +25,20 @@ class Store(MutableMapping[bytes, bytes]):
         self._rule = rule
         self._lock = threading.RLock()
         self.tree = Tree(self._rows, key=key, level_base=level_base, page_format=page_format)
+
+    def copy(self) -> "Store":
+        """A store of the same rows, rule and settings."""
+        copy = Store.__new__(Store)
+        with self._lock:
+            copy._rows, copy._order, copy.tree = dict(self._rows), self._order, self.tree.copy()
+        copy._rule, copy._lock = self._rule, threading.RLock()
+        return copy
+
+    def __copy__(self) -> "Store":
+        return self.copy()
+
+    def __deepcopy__(self, _memo: object) -> "Store":
+        return self.copy()
 
     def __getitem__(self, key: bytes) -> bytes:
         return self._rows[key]

@@ -7,12 +7,12 @@ import asyncio
 import struct
 from typing import Callable, Generator, Iterable, Iterator, List, NamedTuple, Optional, Protocol, Tuple, Union
 
-from .library import MalformedError
-from .ranges import KeyRange, KeyRanges, PageRanges, unshared
-from .tree import Tree
+from ._library import MalformedError
+from ._ranges import KeyRange, KeyRanges, PageRanges, unshared
+from ._tree import Tree
 
 LIMIT = 1 << 28
-"""How many bytes a message of the peer may have, where no other limit is given. Page ranges take some 4 bytes a key."""
+"""How many bytes a message of the peer may have, where no other limit is given. Of page ranges there is one for some sixteen keys."""
 
 _PIECE = 1 << 16
 _pack = struct.Struct("<Q").pack
@@ -44,7 +44,7 @@ class Synced(NamedTuple):
 Steps = Generator[Union[int, bytes], bytes, Synced]
 
 
-def steps(store: Replica, *, first: bool, limit: int = LIMIT) -> Steps:
+def sync_steps(store: Replica, *, first: bool, limit: int = LIMIT) -> Steps:
     """A sync step by step, for a transport of one's own: it yields bytes that are to be sent, or how many bytes it takes at most, which are
     sent in. EOFError where none are; MalformedError where the peer sends what is no message or not asked for."""
     wire = _Wire(limit)
@@ -63,7 +63,7 @@ def sync(store: Replica, read: "Callable[[int], bytes]", write: "Callable[[bytes
     EOFError where the peer ends before; MalformedError where it sends what is no message or not asked for; what `read`, `write` and the
     store raise. What came before stays in the store, and the next sync goes on from there.
     """
-    going = steps(store, first=first, limit=limit)
+    going = sync_steps(store, first=first, limit=limit)
     try:
         step = next(going)
         while True:
@@ -80,7 +80,7 @@ def sync(store: Replica, read: "Callable[[int], bytes]", write: "Callable[[bytes
 async def sync_streams(store: Replica, reader: asyncio.StreamReader, writer: asyncio.StreamWriter, *, first: bool,
                        limit: int = LIMIT) -> Synced:
     """The same over the streams of asyncio."""
-    going = steps(store, first=first, limit=limit)
+    going = sync_steps(store, first=first, limit=limit)
     try:
         step = next(going)
         while True:
