@@ -200,3 +200,48 @@ fn what_is_no_message_or_not_asked_for() {
         assert_eq!(after(messages, false).0, ErrorKind::InvalidData, "{at}");
     }
 }
+
+/// A connection that keeps what came over it.
+struct Heard<'a>(&'a mut UnixStream, Vec<u8>);
+
+impl Read for Heard<'_> {
+    fn read(&mut self, out: &mut [u8]) -> io::Result<usize> {
+        let len = self.0.read(out)?;
+        self.1.extend_from_slice(&out[..len]);
+        Ok(len)
+    }
+}
+
+impl Write for Heard<'_> {
+    fn write(&mut self, bytes: &[u8]) -> io::Result<usize> {
+        self.0.write(bytes)
+    }
+
+    fn flush(&mut self) -> io::Result<()> {
+        self.0.flush()
+    }
+}
+
+#[test]
+fn messages_that_are_altered() {
+    let [mut peer, store] = [2, 3].map(|step| Store::of((0..300).step_by(step).map(|i| (format!("{i}"), vec![1]))));
+    let (mut ours, mut theirs) = UnixStream::pair().unwrap();
+    let said = thread::scope(|scope| {
+        scope.spawn(|| sync(&mut peer, &mut theirs, false).unwrap());
+        let mut heard = Heard(&mut ours, Vec::new());
+        sync(&mut store.clone(), &mut heard, true).unwrap();
+        heard.1
+    });
+    let (mut draw, mut ends) = (draws(11), BTreeMap::new());
+    for round in 0..5000 {
+        let mut altered = said.clone();
+        for _ in 0..1 + round % 3 {
+            let below = if draw(2) == 0 { 20 } else { altered.len() as u64 };
+            altered[draw(below) as usize] = draw(256) as u8;
+        }
+        let end = sync(&mut store.clone(), &mut Peer(Cursor::new(altered)), true);
+        *ends.entry(end.map(|synced| synced.agreed).map_err(|error| format!("{:?}", error.kind()))).or_insert(0) += 1;
+    }
+    let kinds: Vec<_> = ends.into_keys().collect();
+    assert_eq!(kinds, [Ok(true), Err("InvalidData".to_owned()), Err("UnexpectedEof".to_owned())]);
+}
