@@ -24,6 +24,19 @@ fn the_example_of_the_readme() {
 }
 
 #[test]
+fn the_example_of_the_tree() {
+    let mut t = MerkleSearchTree::default();
+    t.upsert("bananas", &"great");
+    t.upsert("plátano", &"muy bien");
+    let hash_1 = t.root_hash().to_owned();
+    println!("{:?}", hash_1.as_ref());
+    t.upsert("bananas", &"amazing");
+    let hash_2 = t.root_hash().to_owned();
+    println!("{:?}", hash_2);
+    assert_ne!(hash_1.as_ref(), hash_2.as_ref());
+}
+
+#[test]
 fn page_ranges_as_the_callers_own_messages() {
     struct NetworkPage {
         start_bounds: String,
