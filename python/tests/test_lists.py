@@ -4,7 +4,7 @@ import random
 import struct
 import unittest
 
-from mst import KeyRanges, MalformedError, PageRanges, Tree, diff
+from mst import KeyRanges, MalformedError, PageRanges, Tree, diff, unshared
 
 from .test_trees import TABLES, squares
 
@@ -24,6 +24,10 @@ def page_ranges(text):
     return PageRanges(b"MSTp" + number(len(text.split())) + b"".join(entries))
 
 
+def numbers(asked):
+    return [f"{int.from_bytes(first, 'big')}-{int.from_bytes(last, 'big')}" for first, last in asked]
+
+
 def key_ranges(*ranges):
     return b"MSTk" + number(len(ranges)) + b"".join(string(bytes([key])) for span in ranges for key in span)
 
@@ -35,9 +39,24 @@ class Differences(unittest.TestCase):
         self.assertEqual(len(lines), 117)
         for local, peer, answer in lines:
             asked = diff(page_ranges(local), page_ranges(peer))
-            found = [f"{int.from_bytes(first, 'big')}-{int.from_bytes(last, 'big')}" for first, last in asked]
-            self.assertEqual(found, answer.split())
+            self.assertEqual(numbers(asked), answer.split())
             self.assertEqual(KeyRanges(bytes(asked)), asked)
+
+
+    def test_what_lies_outside_of_pages_that_both_have(self):
+        for local, peer, answer in [
+            ("", "", ""),
+            ("1-42:1", "", ""),
+            ("", "1-42:1", "1-42"),
+            ("", "7-7:1", "7-7"),
+            ("2-15:1 2-6:2 2-2:3 5-5:4 15-15:5", "2-15:1 2-6:2 2-2:3 5-5:4 15-15:5", ""),
+            ("2-15:1 2-6:2 2-2:3 5-5:4 15-15:5", "2-15:9 2-6:2 2-2:3 5-5:4 15-15:5", "6-15"),
+            ("1-90:1 10-20:2 30-40:3 80-90:4", "1-90:9 10-20:2 30-40:9 80-90:4", "1-10 20-80"),
+            ("1-9:1 3-3:2", "1-9:9 3-3:2", "1-9"),
+            ("5-9:1 1-3:2", "4-6:9 5-9:1 1-3:2", "4-5"),
+            ("1-3:2 2-9:3", "1-9:9 1-3:2 2-9:3", "3-9"),
+        ]:
+            self.assertEqual(numbers(unshared(page_ranges(local), page_ranges(peer))), answer.split())
 
 
 class Lists(unittest.TestCase):

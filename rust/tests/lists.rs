@@ -1,6 +1,6 @@
 //! Lists that a peer may send, and differences of lists.
 use merkle_search_tree::{
-    diff::{diff, diff_snapshots, DiffRange, KeyRanges, OwnedPageRange, PageRange, PageRangeSnapshot},
+    diff::{diff, diff_snapshots, unshared, DiffRange, KeyRanges, OwnedPageRange, PageRange, PageRangeSnapshot},
     digest::PageDigest,
     Malformed, MerkleSearchTree,
 };
@@ -135,26 +135,74 @@ fn draws(mut state: u64) -> impl FnMut() -> u64 {
     }
 }
 
-#[test]
-fn altered_lists_are_malformed_or_lists() {
-    let bytes = four_keys().page_ranges().into_bytes();
-    let own = PageRangeSnapshot::<Vec<u8>>::from_bytes(bytes.clone()).unwrap();
-    let (mut draw, mut lists) = (draws(88172645463325252), 0);
-    for round in 0..100_000 {
-        let mut altered = bytes.clone();
+/// The bytes with one to three of them altered, in each of so many rounds.
+fn altered(bytes: &[u8], rounds: u64) -> impl Iterator<Item = Vec<u8>> + '_ {
+    let mut draw = draws(88172645463325252);
+    (0..rounds).map(move |round| {
+        let mut altered = bytes.to_vec();
         for _ in 0..1 + round % 3 {
             let drawn = draw();
             let at = drawn as usize % altered.len();
             altered[at] = (drawn >> 32) as u8;
         }
-        let Ok(list) = PageRangeSnapshot::<Vec<u8>>::from_bytes(altered) else { continue };
+        altered
+    })
+}
+
+#[test]
+fn altered_lists_are_malformed_or_lists() {
+    let own = four_keys().page_ranges();
+    let mut lists = 0;
+    for bytes in altered(own.as_bytes(), 100_000) {
+        let Ok(list) = PageRangeSnapshot::<Vec<u8>>::from_bytes(bytes) else { continue };
         assert!(list.iter().all(|range| range.start() <= range.end()));
         assert_eq!(list.iter().count(), list.len());
-        let asked = diff_snapshots(&own, &list);
-        assert_eq!(KeyRanges::<Vec<u8>>::from_bytes(asked.as_bytes()), Ok(asked));
+        for asked in [diff_snapshots(&own, &list), unshared(&own, &list)] {
+            assert_eq!(KeyRanges::<Vec<u8>>::from_bytes(asked.as_bytes()), Ok(asked));
+        }
         lists += 1;
     }
     assert!(lists > 10_000);
+}
+
+#[test]
+fn altered_key_ranges_are_malformed_or_ascend() {
+    let mut lists = 0;
+    for bytes in altered(&key_ranges(&[(1, 1), (40, 90), (91, 127)]), 100_000) {
+        let Ok(list) = KeyRanges::<String>::from_bytes(bytes) else { continue };
+        let bounds: Vec<_> = list.iter().flat_map(|range| [range.start(), range.end()]).collect();
+        assert!(bounds.chunks(2).all(|range| range[0] <= range[1]));
+        assert!(bounds[1..].chunks_exact(2).all(|gap| gap[0] < gap[1]));
+        assert_eq!(bounds.len(), 2 * list.len());
+        lists += 1;
+    }
+    assert!(lists > 500);
+}
+
+/// What `unshared` asks for of lists as those of diffs.txt.
+#[test]
+fn what_lies_outside_of_pages_that_both_have() {
+    for (local, peer, answer) in [
+        ("", "", ""),
+        ("1-42:1", "", ""),
+        ("", "1-42:1", "1-42"),
+        ("", "7-7:1", "7-7"),
+        ("2-15:1 2-6:2 2-2:3 5-5:4 15-15:5", "2-15:1 2-6:2 2-2:3 5-5:4 15-15:5", ""),
+        // the root page differs, and one page below it is in both: what is behind that page
+        ("2-15:1 2-6:2 2-2:3 5-5:4 15-15:5", "2-15:9 2-6:2 2-2:3 5-5:4 15-15:5", "6-15"),
+        // pages in the middle and at the end, and one with the same keys and another digest
+        ("1-90:1 10-20:2 30-40:3 80-90:4", "1-90:9 10-20:2 30-40:9 80-90:4", "1-10 20-80"),
+        // a page of one key is asked for with what is around it
+        ("1-9:1 3-3:2", "1-9:9 3-3:2", "1-9"),
+        // lists that no tree has
+        ("5-9:1 1-3:2", "4-6:9 5-9:1 1-3:2", "4-5"),
+        ("1-3:2 2-9:3", "1-9:9 1-3:2 2-9:3", "3-9"),
+    ] {
+        let [local, peer] = [local, peer].map(|list| PageRangeSnapshot::from(page_ranges(list)));
+        let asked = unshared(&local, &peer);
+        assert_eq!(text(&asked), answer);
+        assert_eq!(KeyRanges::from_bytes(asked.as_bytes()), Ok(asked));
+    }
 }
 
 #[test]
