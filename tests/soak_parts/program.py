@@ -91,16 +91,19 @@ def session(seed):
     return begun + [lines.line() for _ in range(count)]
 
 
-def run(program, lines, pieces=None):
-    """The program on these lines, given in pieces if so many are asked for: its status, what it wrote and what it said."""
-    given = b"".join(line + b"\n" for line in lines)
-    if given and len(given) % 3 == 0 and lines[-1]:
-        given = given[:-1]  # the last line may lack its newline
+def lines_of(given):
+    """The lines of an input: the last may lack its newline."""
+    lines = given.split(b"\n")
+    return lines if lines[-1] else lines[:-1]
+
+
+def run(path, given, piece):
+    """The program on this input, given in pieces of so many bytes: its status, what it wrote and what it said."""
     with tempfile.TemporaryFile() as written, tempfile.TemporaryFile() as said:
-        with subprocess.Popen([program], stdin=subprocess.PIPE, stdout=written, stderr=said) as running:
+        with subprocess.Popen([path], stdin=subprocess.PIPE, stdout=written, stderr=said) as running:
             try:
-                for at in range(0, len(given), pieces or max(1, len(given))):
-                    running.stdin.write(given[at:at + (pieces or len(given))])
+                for at in range(0, len(given), piece):
+                    running.stdin.write(given[at:at + piece])
                     running.stdin.flush()
                 running.stdin.close()
                 running.wait(PATIENCE)
@@ -111,23 +114,27 @@ def run(program, lines, pieces=None):
         return running.returncode, written.read(), said.read()
 
 
-def fault(program, lines, pieces=None):
-    """What is wrong with the run of the program on these lines; None where it is as the model says."""
-    wanted, broken = pairs.output(lines)
+def fault(path, given, piece):
+    """What is wrong with the run of the program on this input; None where it is as the model says."""
+    wanted, broken = pairs.output(lines_of(given))
     if broken:
         return f"the definitions give an answer that breaks a law: {broken}"
-    seen = run(program, lines, pieces)
+    seen = run(path, given, piece)
     return None if seen == (0, wanted, b"") else told(seen, wanted)
 
 
 def told(seen, wanted):
     """In which line of the output a run isn't as wanted."""
     status, written, said = seen
-    pairs_of_lines = zip(written.split(b"\n") + [b"(nothing)"], wanted.split(b"\n") + [b"(nothing)"])
-    for place, (line, other) in enumerate(pairs_of_lines):
+    end = [b"(nothing)"]
+    for place, (line, other) in enumerate(zip(written.split(b"\n") + end, wanted.split(b"\n") + end)):
         if line != other:
             return f"line {place + 1} of the output is {line!r}, where the model says {other!r}; status {status}, standard error {said!r}"
     return f"status {status}, standard error {said!r}"
+
+
+def shown(path, given, piece):
+    return f"this input, given in pieces of {piece} bytes:\n{given!r}\n{fault(path, given, piece)}"
 
 
 class Driver:
@@ -137,14 +144,10 @@ class Driver:
         self.path = path
 
     def soak(self, seed):
-        """Runs the session of a seed: how many steps it has, and, if it fails, what is to be shown."""
-        lines = session(seed)
-        pieces = [None, 1, 7, 4096][seed % 4] if sum(map(len, lines)) < 20000 else None
-        if fault(self.path, lines, pieces) is None:
+        """Runs the session of a seed: how many lines it has, and, if it fails, what is to be shown."""
+        lines, end = session(seed), b"\n" if seed % 3 else b""
+        piece = [1 << 20, 1, 7, 4096][seed % 4] if len(lines) < 300 else 1 << 20
+        if fault(self.path, b"\n".join(lines) + end, piece) is None:
             return len(lines), None
-        if fault(self.path, lines) is not None:
-            pieces = None
-        lines = smaller(lines, lambda some: fault(self.path, some, pieces) is not None)
-        given = b"".join(line + b"\n" for line in lines)
-        how = f", given in pieces of {pieces} bytes" if pieces else ""
-        return len(lines), f"these {len(lines)} lines{how}:\n{given!r}\n{fault(self.path, lines, pieces)}"
+        lines = smaller(lines, lambda some: fault(self.path, b"\n".join(some) + end, piece) is not None)
+        return len(lines), shown(self.path, b"\n".join(lines) + end, piece)
