@@ -9,7 +9,7 @@ import random
 import signal
 
 from soak_parts import lists
-from soak_parts.handles import ABSENT, BAD_ARGUMENT, DONE, TOO_SHORT, Handles
+from soak_parts.handles import ABSENT, DONE, TOO_SHORT, Handles
 from soak_parts.shrink import smaller
 from soak_parts.trees import Settings
 
