@@ -242,12 +242,16 @@ static int steps_from(const uint8_t *list, size_t len, size_t *place, struct ent
 static int step(const uint8_t *list, size_t len, size_t *place) {
     static const struct mst_range none;
     struct mst_range range = none;
-    struct entry entry = {{NULL, 0}, {NULL, 0}, NULL};
+    struct entry entry;
     size_t wanted_place = *place;
     int wanted = steps_from(list, len, &wanted_place, &entry);
     WANT(mst_ranges_next(list, len, place, &range) == wanted && *place == wanted_place);
-    WANT(same_text(range.first, range.first_len, entry.first) && same_text(range.last, range.last_len, entry.last));
-    WANT(range.digest == entry.digest);
+    if (wanted == MST_DONE) {
+        WANT(same_text(range.first, range.first_len, entry.first) && same_text(range.last, range.last_len, entry.last));
+        WANT(range.digest == entry.digest);
+    } else {
+        WANT(!range.first && !range.last && !range.digest);
+    }
     return wanted;
 }
 

@@ -227,16 +227,16 @@ class Steps:
         return chosen.choice(["pull", "pull", "turns"]), slot, other
 
     def lists(self, chosen, slot):
-        kind = chosen.randrange(4)
-        if kind == 0:
+        kind = chosen.randrange(8)
+        if kind < 4:
             return "diff", self.entries(chosen), self.entries(chosen)
-        if kind == 1:
+        if kind == 4:
             return "diff", self.altered(chosen, self.entries(chosen)), self.entries(chosen)
-        if kind == 2:
+        if kind == 5:
             return "diff", self.entries(chosen), self.altered(chosen, self.entries(chosen))
         given = self.entries(chosen) if chosen.randrange(2) else self.spans(chosen)
         given = given if chosen.randrange(2) else self.altered(chosen, given)
-        return "goes", given, chosen.choice([0, 0, 12, chosen.randrange(len(given) + 3)])
+        return "goes", given, chosen.choice([0, 0, 12, len(given) + 1, chosen.randrange(len(given) + 3)])
 
     def entries(self, chosen):
         """A list of page ranges: those of a tree, with some of them changed, or any over a few keys."""
@@ -329,6 +329,25 @@ def fault(path, steps):
     return pickle.loads(found) if os.WIFEXITED(status) and found else f"the process ended by signal {os.WTERMSIG(status)}"
 
 
+def smaller_bytes(given, fails):
+    """A list with fewer entries that still fails, or, of bytes that are no list, fewer bytes."""
+    for kind in (lists.PAGE_RANGES, lists.KEY_RANGES, lists.ROWS):
+        entries = lists.read(kind, given)
+        if entries is not None:
+            return lists.written(kind, smaller(entries, lambda some: fails(lists.written(kind, some))))
+    return b"".join(smaller([given[at:at + 1] for at in range(len(given))], lambda some: fails(b"".join(some))))
+
+
+def smaller_parts(steps, fails):
+    """The same steps, with less in the bytes that may have any length."""
+    for place, step in enumerate(steps):
+        for at, part in enumerate(step):
+            if isinstance(part, bytes) and step[0] not in ("new", "upsert_digest"):
+                put = lambda less: steps[:place] + [steps[place][:at] + (less,) + steps[place][at + 1:]] + steps[place + 1:]
+                steps = put(smaller_bytes(part, lambda less: fails(put(less))))
+    return steps
+
+
 class Driver:
     """The sessions of the library at this path."""
 
@@ -340,6 +359,7 @@ class Driver:
         steps = session(seed)
         if fault(self.path, steps) is None:
             return len(steps), None
-        steps = smaller(steps, lambda some: fault(self.path, some) is not None)
+        fails = lambda some: fault(self.path, some) is not None
+        steps = smaller_parts(smaller(steps, fails), fails)
         shown = "\n".join(repr(step) for step in steps)
         return len(steps), f"these {len(steps)} steps:\n{shown}\n{fault(self.path, steps)}"
