@@ -173,9 +173,9 @@ def written(call):
 BYTE_KEYS = [b"", b"\0", b"\0\0", b"\xff", b"\xff\xff", b"a", b"a\0", b"ab", b"b" * 300]
 
 
-def keys_of(chosen):
-    """Some keys: few or many, of one length or each the front of the next, some on high levels."""
-    kind, count = chosen.randrange(5), chosen.choice([2, 5, 20, 100, 300])
+def keys_of(chosen, count):
+    """Up to so many keys: of one length or each the front of the next, some on high levels."""
+    kind = chosen.randrange(5)
     if kind == 0:
         return BYTE_KEYS
     if kind == 1:
@@ -189,10 +189,10 @@ def keys_of(chosen):
 
 
 class Steps:
-    """What makes the steps of a session."""
+    """What makes the steps of a session with so many keys."""
 
-    def __init__(self, chosen):
-        self.chosen, self.keys, self.values = chosen, keys_of(chosen), [b"", b"v", b"w", b"a longer value"]
+    def __init__(self, chosen, count):
+        self.chosen, self.keys, self.values = chosen, keys_of(chosen, count), [b"", b"v", b"w", b"a longer value"]
         self.settings = [(chosen.choice([bytes(16), bytes(range(16))]), chosen.choice([16, 16, 1, 2, 4, 128, 255]), chosen.randrange(1, 3))]
         self.settings += self.settings * 3 + [(bytes(16), 16, 2)]
         # How often steps of each kind come: rows, looks, pulls, lists, handles.
@@ -218,6 +218,11 @@ class Steps:
         keys = sorted(set(keys)) if chosen.randrange(4) else sorted(keys) if chosen.randrange(2) else keys
         given = lists.written(lists.ROWS, [(key, chosen.choice(self.values)) for key in keys])
         return given if chosen.randrange(4) else self.altered(chosen, given)
+
+    def most(self):
+        """A list of rows of nearly all keys."""
+        keys = sorted({key for key in self.keys if self.chosen.randrange(20)})
+        return lists.written(lists.ROWS, [(key, self.chosen.choice(self.values)) for key in keys])
 
     def look(self, chosen, slot):
         return chosen.choice(["count", "root_hash", "page_ranges", "digests", "root_hash"]), slot
@@ -288,8 +293,12 @@ class Steps:
 def session(seed):
     """The steps of the session of a seed."""
     chosen = random.Random(f"library {seed}")
-    steps, count = Steps(chosen), chosen.choice([5, 20, 60, 200, 600])
-    return [("new", slot, *chosen.choice(steps.settings)) for slot in range(SLOTS)] + [steps.step() for _ in range(count)]
+    is_large = not chosen.randrange(25)
+    steps = Steps(chosen, 2000 if is_large else chosen.choice([2, 5, 20, 100, 300]))
+    begun = [("new", slot, *chosen.choice(steps.settings)) for slot in range(SLOTS)]
+    if is_large:
+        begun += [("load", slot, steps.most()) for slot in range(SLOTS)]
+    return begun + [steps.step() for _ in range(30 if is_large else chosen.choice([5, 20, 60, 200, 600]))]
 
 
 def compare(library, steps):

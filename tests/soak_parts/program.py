@@ -18,9 +18,9 @@ ODD_KEYS = ["é", "plátanos", "\u0080", "\u07ff", "\u0800", "\uffff", "\U000100
 TOO_LONG = b"k" * 256
 
 
-def keys_of(chosen):
-    """The keys of a session: few or many, close together or not, some of them on high levels, some of them odd."""
-    kind, count = chosen.randrange(5), chosen.choice([1, 3, 8, 30, 120, 400])
+def keys_of(chosen, count):
+    """So many keys for a session: close together or not, some of them on high levels, some of them odd."""
+    kind = chosen.randrange(5)
     if kind == 0:
         keys = [b"%d" % i for i in range(count)]
     elif kind == 1:
@@ -36,10 +36,10 @@ def keys_of(chosen):
 
 
 class Lines:
-    """What makes the lines of a session."""
+    """What makes the lines of a session with so many keys."""
 
-    def __init__(self, chosen):
-        self.chosen, self.keys = chosen, keys_of(chosen)
+    def __init__(self, chosen, count):
+        self.chosen, self.keys = chosen, keys_of(chosen, count)
         self.most = chosen.choice([1, 3, 1000, BIG])
         # How often lines of each kind come: rows, removals, looks, pulls, odd ones.
         self.weights = [chosen.choice([10, 30]), chosen.choice([0, 3, 10]), chosen.choice([1, 4]), chosen.choice([1, 4]), chosen.choice([0, 1, 8])]
@@ -49,7 +49,7 @@ class Lines:
         kind = chosen.choices(range(5), self.weights)[0]
         name, key = chosen.choice([b"a", b"b"]), chosen.choice(self.keys)
         if kind == 0:
-            return b"put %s %s %d" % (name, key, chosen.randint(0, self.most))
+            return self.put(name, key)
         if kind == 1:
             return b"del %s %s" % (name, key)
         if kind == 2:
@@ -57,6 +57,15 @@ class Lines:
         if kind == 3:
             return chosen.choice([b"diff " + name, b"pull " + name, b"turns %d" % chosen.randrange(10)])
         return self.odd(name, key)
+
+    def put(self, name, key):
+        return b"put %s %s %d" % (name, key, self.chosen.randint(0, self.most))
+
+    def all(self):
+        """Lines that put nearly all keys into both replicas."""
+        rows = [(name, key) for name in (b"a", b"b") for key in self.keys if self.chosen.randrange(20)]
+        self.chosen.shuffle(rows)
+        return [self.put(*row) for row in rows]
 
     def odd(self, name, key):
         """A line that spells no request, or one that is spelled in a rare way."""
@@ -86,9 +95,12 @@ def altered(chosen, line):
 def session(seed):
     """The lines of the session of a seed."""
     chosen = random.Random(f"program {seed}")
-    lines, count = Lines(chosen), chosen.choice([5, 20, 60, 150, 400, 800])
+    is_large = not chosen.randrange(25)
+    lines = Lines(chosen, 2000 if is_large else chosen.choice([1, 3, 8, 30, 120, 400]))
     begun = [b"format %d" % chosen.randrange(1, 3)] if chosen.randrange(3) else []
-    return begun + [lines.line() for _ in range(count)]
+    if is_large:
+        return begun + lines.all() + [lines.line() for _ in range(30)]
+    return begun + [lines.line() for _ in range(chosen.choice([5, 20, 60, 150, 400, 800]))]
 
 
 def lines_of(given):

@@ -1,13 +1,13 @@
 """Makes a failing list small: the steps that can go go."""
+import time
 
 
-def smaller(steps, fails, tries=4000):
-    """A list of some of the steps, in their order, that still fails; no part of it that was tried could go. `fails` tells of a list."""
-    size = max(1, len(steps) // 2)
-    while tries and steps:
+def smaller(steps, fails, seconds=120):
+    """A list of some of the steps, in their order, that still fails; no step of it can go alone, if there was time enough."""
+    size, end = max(1, len(steps) // 2), time.monotonic() + seconds
+    while steps and time.monotonic() < end:
         at, before = 0, len(steps)
-        while at < len(steps) and tries:
-            tries -= 1
+        while at < len(steps) and time.monotonic() < end:
             shorter = steps[:at] + steps[at + size:]
             if fails(shorter):
                 steps = shorter
