@@ -102,7 +102,7 @@ def written(guess: int, call: "Callable[[Any, int, Any], int]") -> bytes:
         status = call(out, size, ctypes.byref(needed))
         if status != TOO_SHORT:
             check(status)
-            return out.raw[:needed.value]
+            return ctypes.string_at(out, needed.value)
         size = needed.value
 
 
