@@ -1,8 +1,8 @@
 /* Hostile bytes to the calls of mst.h, for clang's libFuzzer: tests/fuzz compiles and runs it.
  *
- * The first byte of an input says what the rest is: two lists to compare, a list to go over, rows to load, or calls on a tree. Lists are
- * read here once more, by the last comment of mst.h, and a status and an answer have to be as this reader and the header say. Bytes
- * that are given and that are written end right before memory that can't be touched. */
+ * The first byte of an input says what the rest is: two lists to compare, a list to go over, rows to load, calls on a tree, or what two
+ * lists to compare are made of. Lists are read here once more, by the last comment of mst.h, and a status and an answer have to be as this
+ * reader and the header say. Bytes that are given and that are written end right before memory that can't be touched. */
 #define _DEFAULT_SOURCE
 #include <stdio.h>
 #include <stdlib.h>
@@ -18,7 +18,7 @@ enum { ROOM = 1 << 20, PAGE = 1 << 12, MOST = 512, KEYS = 64 };
 
 /* What the fuzzer sees beside the places of this code and of mst.c that an input reaches: for each kind of input and status, how many
  * entries came out. */
-__attribute__((section("__libfuzzer_extra_counters"))) static uint8_t seen[4 * 8 * 16];
+__attribute__((section("__libfuzzer_extra_counters"))) static uint8_t seen[5 * 8 * 16];
 
 static void see(unsigned kind, int status, size_t entries) {
     seen[(kind * 8 + (unsigned)status) * 16 + (entries < 15 ? entries : 15)] = 1;
@@ -196,29 +196,64 @@ static void has_laws(const struct listed *local, const struct listed *peer, cons
     has_case(local, peer, found);
 }
 
-/* ---- two lists to compare: two bytes say how long the first is */
-static void compare_lists(const uint8_t *data, size_t len) {
+static void compare_both(unsigned kind, const uint8_t *one, size_t one_len, const uint8_t *other, size_t other_len) {
     static struct listed local, peer, found;
-    size_t local_len, needed = 77, again;
-    uint8_t *one, *other, *out;
-    int status, right;
-    if (len < 2) return;
-    local_len = (data[0] | (size_t)data[1] << 8) % (len - 1);
-    one = copied(0, data + 2, local_len);
-    other = copied(1, data + 2 + local_len, len - 2 - local_len);
-    right = are_page_ranges(one, local_len, &local) && are_page_ranges(other, len - 2 - local_len, &peer);
-    status = mst_diff(one, local_len, other, len - 2 - local_len, NULL, 0, &needed);
+    size_t needed = 77, again;
+    int right = are_page_ranges(one, one_len, &local) && are_page_ranges(other, other_len, &peer);
+    int status = mst_diff(one, one_len, other, other_len, NULL, 0, &needed);
+    uint8_t *out;
     WANT(status == (right ? MST_TOO_SHORT : MST_MALFORMED));
-    see(0, status, local.count + peer.count);
+    see(kind, status, local.count + peer.count);
     if (!right) {
         WANT(needed == 77);
         return;
     }
     out = ending(2, needed);
-    WANT(mst_diff(one, local_len, other, len - 2 - local_len, out, needed, &again) == MST_DONE && again == needed);
+    WANT(mst_diff(one, one_len, other, other_len, out, needed, &again) == MST_DONE && again == needed);
     WANT(is_list(out, needed, "MSTk", 0, &found));
-    see(0, MST_DONE, found.count);
+    see(kind, MST_DONE, found.count);
     has_laws(&local, &peer, &found);
+}
+
+/* ---- two lists to compare: two bytes say how long the first is */
+static void compare_lists(const uint8_t *data, size_t len) {
+    size_t first;
+    uint8_t *one, *other;
+    if (len < 2) return;
+    first = (data[0] | (size_t)data[1] << 8) % (len - 1);
+    one = copied(0, data + 2, first);
+    other = copied(1, data + 2 + first, len - 2 - first);
+    compare_both(0, one, first, other, len - 2 - first);
+}
+
+/* ---- what two lists are made of: how many entries the first has, and for each two keys of one byte, the lesser first, and a digest */
+static uint8_t *made(unsigned place, const uint8_t *data, size_t count, size_t *len) {
+    enum { ENTRY = 9 + 9 + 16 };
+    uint8_t *list = ending(place, *len = 12 + count * ENTRY), *entry = list + 12;
+    size_t at;
+    memset(list, 0, *len);
+    memcpy(list, "MSTp", 4);
+    list[4] = (uint8_t)count;
+    list[5] = (uint8_t)(count >> 8);
+    for (at = 0; at < count; at++, entry += ENTRY) {
+        uint8_t a = data[3 * at] % 32, b = data[3 * at + 1] % 32;
+        entry[0] = entry[9] = 1;
+        entry[8] = a < b ? a : b;
+        entry[17] = a < b ? b : a;
+        entry[18] = data[3 * at + 2] % 4;
+    }
+    return list;
+}
+
+static void compare_made(const uint8_t *data, size_t len) {
+    size_t entries, first, one_len, other_len;
+    uint8_t *one, *other;
+    if (!len) return;
+    entries = (len - 1) / 3 < MOST ? (len - 1) / 3 : MOST - 1;
+    first = data[0] % (entries + 1);
+    one = made(0, data + 1, first, &one_len);
+    other = made(1, data + 1 + 3 * first, entries - first, &other_len);
+    compare_both(4, one, one_len, other, other_len);
 }
 
 /* ---- a list to go over: two bytes say at which place to begin once more */
@@ -398,11 +433,12 @@ static void calls(const uint8_t *data, size_t len) {
 
 int LLVMFuzzerTestOneInput(const uint8_t *data, size_t len) {
     if (!len) return 0;
-    switch (data[0] % 4) {
+    switch (data[0] % 5) {
     case 0: compare_lists(data + 1, len - 1); break;
     case 1: go_over(data + 1, len - 1); break;
     case 2: load(data + 1, len - 1); break;
-    default: calls(data + 1, len - 1);
+    case 3: calls(data + 1, len - 1); break;
+    default: compare_made(data + 1, len - 1);
     }
     return 0;
 }
