@@ -1,0 +1,49 @@
+//! Two replicas that meet: each catches up with the other.
+ghost use Rattle.std.specs.Prelude.{◌≡◌, [], ◌∷◌, OnOk, OnErr, IfErr, max, nat_eq};
+ghost use Rattle.key_order.specs.Join.{IsJoin};
+ghost use Rattle.key_order.specs.Text.{text_order};
+ghost use Rattle.merkle_replica.specs.CatchUp.{AreCatchUpsRefused};
+ghost use Rattle.merkle_replica.specs.Contents.{side, with_rows};
+ghost use Rattle.merkle_replica.specs.Faithful.{IsFaithful};
+ghost use Rattle.merkle_replica.specs.Pulls.{HoldTheJoin};
+
+use merkle_digest::SipHasher;
+use merkle_replica::{CatchUpsError, Lawful, Replica, catch_up_both};
+use merkle_search_tree::builder::Builder;
+use std::alloc::{AllocError, Global};
+
+/// Numbers by name, of which the greater stays.
+pub type Numbers = Replica<String, u64, SipHasher, 16>;
+
+/// Numbers, none yet, under the default settings.
+pub fn no_numbers(alloc: Global) -> Numbers
+    ensures { result.rows ≡ [] }
+{
+    Replica::new(alloc, Builder::default())
+}
+
+/// Puts a number under a name: of it and the one that is there the greater stays.
+///
+/// # Errors
+///
+/// Want of memory: the numbers are as they were.
+pub fn raise(numbers: &mut Numbers, name: String, number: u64) -> Result<(), AllocError>
+    ensures joined { OnOk result (IsJoin text_order nat_eq max numbers.old.rows ((name, number) ∷ []) numbers.new.rows) }
+    ensures unchanged { OnErr result (numbers.new ≡ numbers.old) }
+{
+    numbers.put(name, number)
+}
+
+/// Leaves both with the join of both, while digests are faithful in what is met before each of the two catch-ups.
+///
+/// # Errors
+///
+/// Want of memory: what was joined until then stays.
+pub fn meet(a: &mut Numbers, b: &mut Numbers) -> Result<(), CatchUpsError>
+    ensures join { let laws = ⟦<SipHasher as Lawful<16, String, u64>>⟧.laws in OnOk result (IsFaithful laws (side a.old) (side b.old)
+        → IsFaithful laws (side b.old) (with_rows (side a.old) a.new.rows) → HoldTheJoin laws (side a.old) (side b.old) a.new.rows b.new.rows) }
+    ensures refused { IfErr result (λ error. AreCatchUpsRefused ⟦<SipHasher as Lawful<16, String, u64>>⟧.laws (side a.old) (side b.old) error a.new.rows b.new.rows) }
+{
+    catch_up_both(a, b)?;
+    Ok(())
+}
