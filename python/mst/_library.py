@@ -4,7 +4,7 @@ import functools
 import os
 import sys
 import threading
-from typing import Any, Callable
+from typing import Any, Callable, ContextManager
 
 DONE, NO_MEMORY, MALFORMED, TOO_SHORT, BAD_ARGUMENT, ABSENT = range(6)
 
@@ -46,8 +46,9 @@ def _find() -> str:
     raise ImportError("libmst.so isn't there: run c/build, or set MST_LIBRARY to the file")
 
 
-def _one_at_a_time(call: "Callable[..., Any]", lock: threading.Lock) -> "Callable[..., Any]":
-    """The call, while no other is under way."""
+def _one_at_a_time(call: "Callable[..., Any]", lock: "ContextManager[object]") -> "Callable[..., Any]":
+    """The call, while no other thread is within one. The collector may free a tree while a thread prepares a call, so the lock is one that the
+    thread may take again."""
     @functools.wraps(call)
     def locked(*arguments: Any) -> Any:
         with lock:
@@ -66,7 +67,7 @@ class _Library:
     def __init__(self) -> None:
         loaded = ctypes.PyDLL(_find())
         locked = getattr(sys, "_is_gil_enabled", lambda: True)()
-        lock = threading.Lock()
+        lock = threading.RLock()
         for name, takes in _CALLS.items():
             call = getattr(loaded, name)
             call.argtypes = takes
