@@ -1,58 +1,9 @@
 //! Syncs of two stores over a connection that carries bytes in order, such as a socket.
 //!
 //! Both sides call [`sync`]; one of them begins. They pull from each other, one pull each, and ask at last whether their root hashes are
-//! equal.
-//! The messages are those of the package for Python too; docs/SYNC.md of the repository has them byte by byte.
+//! equal. The messages are those of the package for Python too; docs/SYNC.md of the repository has them byte by byte.
 //!
-//! ```
-//! use merkle_search_tree::{diff::DiffRange, sync::{sync, Give, Replica}, MerkleSearchTree};
-//! use std::{collections::BTreeMap, io, os::unix::net::UnixStream, thread};
-//!
-//! /// Rows of which the greater value stays, and the tree over them.
-//! #[derive(Default)]
-//! struct Store {
-//!     rows: BTreeMap<String, Vec<u8>>,
-//!     tree: MerkleSearchTree<String, Vec<u8>>,
-//! }
-//!
-//! impl Store {
-//!     fn put(&mut self, key: &str, value: &[u8]) {
-//!         let held = self.rows.entry(key.to_owned()).or_default();
-//!         *held = value.max(&held[..]).to_vec();
-//!         self.tree.upsert(key.to_owned(), held);
-//!     }
-//! }
-//!
-//! impl Replica for Store {
-//!     type Key = String;
-//!     type Value = Vec<u8>;
-//!
-//!     fn tree(&mut self) -> &mut MerkleSearchTree<String, Vec<u8>> {
-//!         &mut self.tree
-//!     }
-//!
-//!     fn rows_in(&mut self, range: DiffRange<'_, String>, give: &mut Give<'_>) -> io::Result<()> {
-//!         self.rows.range::<str, _>(range.bounds()).try_for_each(|(key, value)| give(key.as_bytes(), value))
-//!     }
-//!
-//!     fn join(&mut self, key: &str, value: &[u8]) -> io::Result<()> {
-//!         self.put(key, value);
-//!         Ok(())
-//!     }
-//! }
-//!
-//! # fn main() -> io::Result<()> {
-//! let [mut left, mut right] = [(); 2].map(|()| Store::default());
-//! left.put("kiwi", b"1");
-//! right.put("melon", b"2");
-//! let (mut ours, mut theirs) = UnixStream::pair()?;
-//! let peer = thread::spawn(move || sync(&mut right, &mut theirs, false).map(|_| right));
-//! assert!(sync(&mut left, &mut ours, true)?.agreed);
-//! let right = peer.join().unwrap()?;
-//! assert_eq!(left.rows, right.rows);
-//! # Ok(())
-//! # }
-//! ```
+//! The first page of this documentation has a whole store, and `examples/over_pipes.rs` another.
 use crate::{
     bytes::Key,
     diff::{unshared, DiffRange, KeyRangeIter, KeyRanges, PageRangeSnapshot},
