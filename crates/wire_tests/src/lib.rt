@@ -4,4 +4,10 @@
 #[cfg(test)]
 mod formats;
 #[cfg(test)]
+mod hex;
+#[cfg(test)]
+mod keys;
+#[cfg(test)]
+mod refusals;
+#[cfg(test)]
 mod sessions;
