@@ -71,18 +71,6 @@ impl<'a> Reader<'a> {
         Ok(*bytes)
     }
 
-    /// The next `M` bytes, which are left.
-    pub fn peek<const M: usize>(&self) -> Result<[u8; M], ReadError>
-        ensures read { IfOk result (λ bytes. (rest : List ℕ) × (self.now.left.now ≡ bytes ++ rest)) }
-        ensures refused { IfErr result (IsRefusal self.now.total self.now.left.now) }
-        ensures malformed { IfErr result (λ error. IsMalformed error → length self.now.left.now < M) }
-    {
-        let Some((bytes, _)) = self.left.split_first_chunk::<M>() else {
-            return Err(self.unexpected(Expected::Bytes(M as u64)));
-        };
-        Ok(*bytes)
-    }
-
     /// The next bytes, so many of them.
     pub fn slice(&mut self, count: usize) -> Result<&'a [u8], ReadError>
         ensures read { IfOk result (λ bytes. self.old.left.now ≡ bytes.now ++ self.new.left.now) }
