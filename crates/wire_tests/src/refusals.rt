@@ -4,7 +4,9 @@ use crate::sessions::{Numbers, numbers};
 use merkle_digest::SipHasher;
 use merkle_replica::Replica;
 use merkle_search_tree::builder::{Builder, PageFormat};
-use merkle_wire::{AnswerError, CatchingUp, Expected, Next, ReadError, SessionError, answer};
+use merkle_wire::{
+    AnswerError, CatchingUp, Expected, Next, ReadError, SessionError, answer, encode_count,
+};
 use std::alloc::Global;
 use std::test::Fail;
 
@@ -125,7 +127,8 @@ fn outlines_that_are_refused(rt: HostRuntime) -> Result<(), Fail> {
 
 /// The bytes of an outline over all keys: the items, each a key or none for a page, with digests of 5s.
 fn outline(alloc: Global, items: &[Option<u8>]) -> Result<Vec<u8>, Fail> {
-    let mut bytes = Vec::from_slice(alloc, &[1, 130, 1, items.len() as u8])?;
+    let mut bytes = Vec::from_slice(alloc, &[1, 130, 1])?;
+    encode_count(items.len() as u64, &mut bytes)?;
     for item in items {
         match item {
             Some(key) => bytes.extend_from_slice(&[0, *key])?,
@@ -190,7 +193,8 @@ fn third(alloc: Global, keys: &[u8]) -> Result<Option<SessionError>, Fail> {
     if message.as_slice() != [1u8, 3, 2, 8, 9].as_slice() {
         return Err(Fail::new("other keys were asked for"));
     }
-    let mut reply = Vec::from_slice(alloc, &[1, 131, keys.len() as u8])?;
+    let mut reply = Vec::from_slice(alloc, &[1, 131])?;
+    encode_count(keys.len() as u64, &mut reply)?;
     for key in keys {
         reply.extend_from_slice(&[*key, 1, 0, 0, 0, 0, 0, 0, 0])?;
     }
