@@ -126,6 +126,48 @@ fn cost_of(alloc: Global, local: &Numbers, peer: &Numbers) -> Result<Cost, Fault
     Ok(cost)
 }
 
+/// Times a catch-up of the replica with these differences, and answers how many rows it joined.
+fn time_catch_up<R: Clock>(
+    rt: &R,
+    local: Numbers,
+    peer: &mut Numbers,
+    best: &mut Best,
+) -> Result<usize, Fault> {
+    let mut local = local;
+    let start = now(rt)?;
+    let caught = local.catch_up(peer);
+    best.note_since(rt, start)?;
+    match caught {
+        Ok(caught) => Ok(caught.joined),
+        Err(_) => Err(Fault::Memory),
+    }
+}
+
+/// Times a pull of the replica with these differences, and answers how many rows it joined.
+fn time_pull<R: Clock>(
+    rt: &R,
+    local: Numbers,
+    peer: &mut Numbers,
+    best: &mut Best,
+) -> Result<usize, Fault> {
+    let mut local = local;
+    let start = now(rt)?;
+    let pulled = local.pull(peer);
+    best.note_since(rt, start)?;
+    match pulled {
+        Ok(pulled) => Ok(pulled.joined),
+        Err(_) => Err(Fault::Memory),
+    }
+}
+
+/// The name of what differs at a row.
+fn name_of(kind: Kind) -> &'static str {
+    match kind {
+        Kind::Changed => "changed",
+        Kind::Missing => "missing",
+    }
+}
+
 /// Writes the line of so many rows, of which so many differ in this way.
 fn write_line<R: Clock, W: Write>(
     rt: &R,
@@ -136,47 +178,20 @@ fn write_line<R: Clock, W: Write>(
     out: &mut W,
 ) -> Result<(), Fault> {
     let mut peer = replica(alloc, sorted, &[], kind)?;
-    let mut catch_up = Best::new();
-    let mut pull = Best::new();
-    let local = replica(alloc, sorted, places, kind)?;
-    let cost = cost_of(alloc, &local, &peer)?;
-    let mut pages = 0usize;
-    if let Some(ranges) = peer.tree().page_range_iter()? {
-        for _ in ranges {
-            pages = pages.saturating_add(1);
-        }
-    }
-    let mut pulled = 0;
-    let mut joined = 0;
+    let mut local = replica(alloc, sorted, places, kind)?;
+    let cost = cost_of(alloc, &mut local, &mut peer)?;
+    let (mut catch_up, mut pull) = (Best::new(), Best::new());
+    let (mut joined, mut pulled) = (0, 0);
     for _ in 0..3 {
-        let mut local = replica(alloc, sorted, places, kind)?;
-        let start = now(rt)?;
-        let caught = local.catch_up(&mut peer);
-        catch_up.note_since(rt, start)?;
-        joined = match caught {
-            Ok(caught) => caught.joined,
-            Err(_) => return Err(Fault::Memory),
-        };
-        let mut local = replica(alloc, sorted, places, kind)?;
-        let start = now(rt)?;
-        let answer = local.pull(&mut peer);
-        pull.note_since(rt, start)?;
-        pulled = match answer {
-            Ok(answer) => answer.joined,
-            Err(_) => return Err(Fault::Memory),
-        };
+        let local = replica(alloc, sorted, places, kind)?;
+        joined = time_catch_up(rt, local, &mut peer, &mut catch_up)?;
+        let local = replica(alloc, sorted, places, kind)?;
+        pulled = time_pull(rt, local, &mut peer, &mut pull)?;
     }
-    let rows = sorted.len();
-    let differing = places.len();
-    let way = if kind == Kind::Changed {
-        "changed"
-    } else {
-        "missing"
-    };
-    let catch_up = catch_up.each(1000);
-    let pull = pull.each(1000);
-    let (rounds, items, bytes, fetched) = (cost.rounds, cost.items, cost.bytes, cost.fetched);
-    let list = pages.saturating_mul(2 * KEY + DIGEST);
+    let (rows, differing, way) = (sorted.len(), places.len(), name_of(kind));
+    let (catch_up, pull) = (catch_up.each(1000), pull.each(1000));
+    let (rounds, bytes, fetched) = (cost.rounds, cost.bytes, cost.fetched);
+    let pull_bytes = bytes_of_pull(&peer, pulled)?;
     writeln!(
         out,
         "{rows} {differing} {way} {catch_up} {pull} {rounds} {items} {bytes} {list} {fetched} {joined} {pulled}"
