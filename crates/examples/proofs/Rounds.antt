@@ -1,10 +1,10 @@
 -- The messages of a catch-up: one round, the last, and all.
-use Rattle.std.proofs.Common.{◌≡◌, ℕ, ◌<◌, ◌^◌, List, [], ◌∷◌, ◌++◌, length, map, Some, None, string_bytes, refl, sym, ◌∙◌, ap, subst, append_assoc, inr}
+use Rattle.std.proofs.Common.{◌≡◌, ℕ, ◌<◌, ◌^◌, List, [], ◌∷◌, ◌++◌, length, flat_map, Some, None, string_bytes, refl, sym, ◌∙◌, ap, subst, append_assoc, inr}
 use Rattle.std.specs.String.{string_cmp_total}
 use Rattle.key_order.specs.Text.{Text, text_order}
 use Rattle.key_order.specs.Map.{rows_in}
 use Rattle.key_order.proofs.SameKeys.{same_keys-append, same_keys-back, same_keys-own}
-use Rattle.merkle_tree_theory.specs.Outline.{of_page, whole_range}
+use Rattle.merkle_tree_theory.specs.Outline.{whole_item, outline_over}
 use Rattle.merkle_tree_theory.specs.Tree.{Tree}
 use Rattle.merkle_replica.specs.CatchUp.{points}
 use Rattle.merkle_replica.specs.CatchUpSteps.{AreCatchUpSteps}
@@ -15,7 +15,7 @@ use Rattle.examples.specs.CatchUpMessages.{Spells, SortsOut, SendsOutlines, Goes
 use Rattle.examples.specs.PullMessages.{SendsRows, JoinsRows, JoinsFirstRows}
 use Rattle.examples.specs.StoreLaws.{store_laws}
 use Rattle.examples.specs.Wire.{IsInMemory}
-use Rattle.examples.proofs.Told.{same_ranges, same_items, same_rows, rows_asked_for, first_joined}
+use Rattle.examples.proofs.Told.{same_ranges, same_gaps, same_items, same_rows, rows_asked_for, first_joined}
 
 module _ (local peer : Side Text ℕ (List ℕ)) (root : Tree Text (List ℕ)) where
   -- nothing is left to ask for
@@ -23,10 +23,10 @@ module _ (local peer : Side Text ℕ (List ℕ)) (root : Tree Text (List ℕ)) w
   last_round came before after s = (
     s.added,
     s.kept,
-    record { items = s.items; rounds = []; left = s.names; read = s.read; descent = subst (λ spans. AreSortedOut store_laws local s.items spans s.names) s.asked s.sorted; same_names = s.same_names },
+    record { items = s.items; rounds = []; left = s.names; read = s.read; descent = subst (λ gaps. AreSortedOut store_laws local s.items gaps s.names) s.asked s.sorted; same_names = s.same_names },
   )
 
-  -- outlines over the spans that were left, and what is made of these
+  -- outlines over the gaps that were left, and what is made of these
   pub one_round : (came asked next : List ℕ) (before after rest : List Text) → length asked < 2 ^ 64 → length next < 2 ^ 64 → SortsOut local came (Some asked) before after → SendsOutlines peer root asked next
       → Descends local peer root next rest → (added : List Text) × (after ≡ before ++ added) × Descends local peer root came (added ++ rest)
   one_round came asked next before after rest asked_fits next_fits s o d = (
@@ -37,7 +37,7 @@ module _ (local peer : Side Text ℕ (List ℕ)) (root : Tree Text (List ℕ)) w
       rounds = d.items ∷ d.rounds;
       left = s.names ++ d.left;
       read = s.read;
-      descent = (s.spans, o.spans, o.items, s.names, d.left, s.sorted, s.asked.0, same_ranges s.spans o.spans asked asked_fits s.asked.1 o.read, o.outlines, same_items o.items d.items next next_fits o.written d.read, d.descent, refl);
+      descent = (s.gaps, o.gaps, s.names, d.left, s.sorted, s.asked.0, same_gaps s.gaps o.gaps asked asked_fits s.asked.1 o.read, same_items (flat_map (outline_over peer.format string_bytes text_order root) o.gaps) d.items next next_fits o.written d.read, d.descent, refl);
       same_names = same_keys-append text_order s.names s.added d.left rest s.same_names d.same_names;
     },
   )
@@ -67,7 +67,7 @@ module _ (local peer : Side Text ℕ (List ℕ)) (root : Tree Text (List ℕ)) w
 
   -- all messages of a catch-up are its steps
   pub caught_up : (first asked rows : List ℕ) (names : List Text) (after : List (Text × ℕ)) → IsInMemory first → IsInMemory asked → IsInMemory rows
-      → Spells first (map of_page (whole_range peer.format string_bytes root)) → Descends local peer root first names → AsksForRows names asked → SendsRows peer asked rows → JoinsRows local rows after
+      → Spells first (whole_item peer.format string_bytes root) → Descends local peer root first names → AsksForRows names asked → SendsRows peer asked rows → JoinsRows local rows after
       → (keys : List Text) × AreCatchUpSteps store_laws local peer root keys after
   caught_up first asked rows names after first_fits asked_fits rows_fit sent d a (spans, read_spans, each, sent_rows) (got, each_got, read_rows, joins) = (
     a.once,
@@ -77,7 +77,7 @@ module _ (local peer : Side Text ℕ (List ℕ)) (root : Tree Text (List ℕ)) w
       left = d.left;
       asked = spans;
       rows = got;
-      begins = same_items (map of_page (whole_range peer.format string_bytes root)) d.items first first_fits sent d.read;
+      begins = same_items (whole_item peer.format string_bytes root) d.items first first_fits sent d.read;
       descends = d.descent;
       once = once-alike text_order string_cmp_total names d.left a.once a.once (same_keys-back text_order string_cmp_total d.left names d.same_names) (same_keys-own text_order string_cmp_total a.once) a.each;
       asked_came = same_ranges (points a.once) spans asked asked_fits a.spelled read_spans;

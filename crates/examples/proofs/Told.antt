@@ -1,5 +1,5 @@
 -- Bytes tell the entries that they spell, up to equal names.
-use Rattle.std.proofs.Common.{◌≡◌, ℕ, ◌<◌, ◌≤◌, ◌^◌, List, [], ◌∷◌, ◌++◌, length, take, max, nat_eq, true, string_bytes, refl, sym, ap, subst, ◌∙◌, arith}
+use Rattle.std.proofs.Common.{◌≡◌, ℕ, ◌<◌, ◌≤◌, ◌^◌, List, [], ◌∷◌, ◌++◌, Option, Some, None, length, take, max, nat_eq, true, string_bytes, refl, sym, ap, subst, ◌∙◌, arith}
 use Rattle.std.specs.Bool.{⊤}
 use Rattle.std.specs.Cmp.{nat_eq_equiv}
 use Rattle.std.specs.List.{AllByRecursion, flat_map}
@@ -21,9 +21,10 @@ use Rattle.merkle_diff.specs.SameEntries.{SameEntry, SameEntries}
 use Rattle.merkle_diff.proofs.SameSpans.{rows_in-alike}
 use Rattle.merkle_replica.proofs.Copying.{take_same}
 use Rattle.merkle_tree_theory.proofs.Streams.{join_tells, number_tells}
+use Rattle.merkle_tree_theory.specs.Gap.{Gap, SameBound, SameGap, SameGaps}
 use Rattle.merkle_tree_theory.specs.Outline.{Item, of_node, of_page}
 use Rattle.merkle_search_tree.specs.SameItems.{SameItem, SameItems}
-use Rattle.examples.specs.CatchUpMessages.{item_bytes, IsItem, Spells}
+use Rattle.examples.specs.CatchUpMessages.{bound_bytes, gap_bytes, item_bytes, IsItem, Spells}
 use Rattle.examples.specs.Wire.{number_bytes, text_bytes, page_range_bytes, range_bytes, row_bytes, list_bytes, IsPageRange, IsRow}
 use Rattle.examples.proofs.Spelled.{text_tells}
 use Rattle.examples.proofs.Entries.{in_turn, some_row, some_range, some_page_range, all_hold}
@@ -129,6 +130,50 @@ behind_first a b xs ys e = cc
 same_first : (a b : ℕ) (xs ys : List ℕ) → a ∷ xs ≡ b ∷ ys → a ≡ b
 same_first a b xs ys e = cc
 
+bound_tells : (x y : Option Text) (r s all : List ℕ) → length all < 2 ^ 64 → all ≡ bound_bytes x ++ r → all ≡ bound_bytes y ++ s → SameBound text_order x y × (r ≡ s)
+bound_tells None None r s all fits e f = (tt, behind_first 0 0 r s (sym e ∙ f))
+bound_tells None (Some m) r s all fits e f =
+    let never : 0 ≡ 1 = same_first 0 1 r (text_bytes m ++ s) (sym e ∙ f) in absurd (omega (arith, never))
+bound_tells (Some n) None r s all fits e f =
+    let never : 1 ≡ 0 = same_first 1 0 (text_bytes n ++ r) s (sym e ∙ f) in absurd (omega (arith, never))
+bound_tells (Some n) (Some m) r s all fits e f =
+    let a = text_bytes n ++ r in
+    let fits_then : length a < 2 ^ 64 = omega (arith, fits, ap length e) in
+    let names = text_tells n m r s a fits_then refl (behind_first 1 1 a (text_bytes m ++ s) (sym e ∙ f)) in
+    (same_text n m names.0, names.1)
+
+pub bound_ends : (x y : Option Text) (r s all : List ℕ) → length all < 2 ^ 64 → all ≡ bound_bytes x ++ r → all ≡ bound_bytes y ++ s → r ≡ s
+bound_ends x y r s all fits e f = (bound_tells x y r s all fits e f).1
+
+gap_tells : (x y : Gap Text) (r s all : List ℕ) → ⊤ → ⊤ → length all < 2 ^ 64 → all ≡ gap_bytes x ++ r → all ≡ gap_bytes y ++ s → SameGap text_order x y × (r ≡ s)
+gap_tells x y r s all p q fits e f =
+    let behind = bound_bytes x.before ++ r in
+    let in_x = e ∙ append_assoc (bound_bytes x.after) (bound_bytes x.before) r in
+    let afters = bound_tells x.after y.after behind (bound_bytes y.before ++ s) all fits in_x (f ∙ append_assoc (bound_bytes y.after) (bound_bytes y.before) s) in
+    let fits_then : length behind < 2 ^ 64 = omega (arith, fits, ap length in_x, length-append (bound_bytes x.after) behind) in
+    let befores = bound_tells x.before y.before r s behind fits_then refl afters.1 in
+    ((afters.0, befores.0), befores.1)
+
+pub gap_ends : (x y : Gap Text) (r s all : List ℕ) → ⊤ → ⊤ → length all < 2 ^ 64 → all ≡ gap_bytes x ++ r → all ≡ gap_bytes y ++ s → r ≡ s
+gap_ends x y r s all p q fits e f = (gap_tells x y r s all p q fits e f).1
+
+some_bound : (x : Option Text) → 1 ≤ length (bound_bytes x)
+some_bound None = omega arith
+some_bound (Some n) = omega arith
+
+pub some_gap : (x : Gap Text) → 1 ≤ length (gap_bytes x)
+some_gap x = omega (arith, some_bound x.after, length-append (bound_bytes x.after) (bound_bytes x.before))
+
+-- gaps that the same bytes spell have equal bounds
+pub same_gaps : (xs ys : List (Gap Text)) (all : List ℕ) → length all < 2 ^ 64 → all ≡ list_bytes gap_bytes xs → all ≡ list_bytes gap_bytes ys → SameGaps text_order xs ys
+same_gaps xs ys all fits e f = as_gaps xs ys (lists_tell (λ _. ⊤) gap_bytes (SameGap text_order) gap_tells some_gap xs ys all (all_hold xs) (all_hold ys) fits e f)
+  where
+    as_gaps : (xs ys : List (Gap Text)) → AllAlike (λ _. ⊤) gap_bytes (SameGap text_order) xs ys → SameGaps text_order xs ys
+    as_gaps [] [] h = tt
+    as_gaps [] (y ∷ ys) h = absurd h
+    as_gaps (x ∷ xs) [] h = absurd h
+    as_gaps (x ∷ xs) (y ∷ ys) h = (h.0, as_gaps xs ys h.1)
+
 pub item_tells : (x y : Item Text (List ℕ)) (r s all : List ℕ) → IsItem x → IsItem y → length all < 2 ^ 64 → all ≡ item_bytes x ++ r → all ≡ item_bytes y ++ s → SameItem text_order x y × (r ≡ s)
 item_tells (of_node n d) (of_node m k) r s all p q fits e f =
     let a = (text_bytes n ++ d) ++ r in
@@ -137,21 +182,24 @@ item_tells (of_node n d) (of_node m k) r s all p q fits e f =
     let names = text_tells n m (d ++ r) (k ++ s) a fits_then (append_assoc (text_bytes n) d r) (same ∙ append_assoc (text_bytes m) k s) in
     let digests = join_tells d k r s (p ∙ sym q) names.1 in
     ((same_text n m names.0, digests.0), digests.1)
-item_tells (of_node n d) (of_page y) r s all p q fits e f =
-    let never : 0 ≡ 1 = same_first 0 1 ((text_bytes n ++ d) ++ r) (page_range_bytes y ++ s) (sym e ∙ f) in absurd (omega (arith, never))
-item_tells (of_page x) (of_node m k) r s all p q fits e f =
-    let never : 1 ≡ 0 = same_first 1 0 (page_range_bytes x ++ r) ((text_bytes m ++ k) ++ s) (sym e ∙ f) in absurd (omega (arith, never))
-item_tells (of_page x) (of_page y) r s all p q fits e f =
-    let a = page_range_bytes x ++ r in
+item_tells (of_node n d) (of_page h k) r s all p q fits e f =
+    let never : 0 ≡ 1 = same_first 0 1 ((text_bytes n ++ d) ++ r) ((gap_bytes h ++ k) ++ s) (sym e ∙ f) in absurd (omega (arith, never))
+item_tells (of_page g d) (of_node m k) r s all p q fits e f =
+    let never : 1 ≡ 0 = same_first 1 0 ((gap_bytes g ++ d) ++ r) ((text_bytes m ++ k) ++ s) (sym e ∙ f) in absurd (omega (arith, never))
+item_tells (of_page g d) (of_page h k) r s all p q fits e f =
+    let a = (gap_bytes g ++ d) ++ r in
     let fits_then : length a < 2 ^ 64 = omega (arith, fits, ap length e) in
-    page_range_tells x y r s a p q fits_then refl (behind_first 1 1 a (page_range_bytes y ++ s) (sym e ∙ f))
+    let same = behind_first 1 1 a ((gap_bytes h ++ k) ++ s) (sym e ∙ f) in
+    let gaps = gap_tells g h (d ++ r) (k ++ s) a tt tt fits_then (append_assoc (gap_bytes g) d r) (same ∙ append_assoc (gap_bytes h) k s) in
+    let digests = join_tells d k r s (p ∙ sym q) gaps.1 in
+    ((gaps.0, digests.0), digests.1)
 
 pub item_ends : (x y : Item Text (List ℕ)) (r s all : List ℕ) → IsItem x → IsItem y → length all < 2 ^ 64 → all ≡ item_bytes x ++ r → all ≡ item_bytes y ++ s → r ≡ s
 item_ends x y r s all p q fits e f = (item_tells x y r s all p q fits e f).1
 
 pub some_item : (x : Item Text (List ℕ)) → 1 ≤ length (item_bytes x)
 some_item (of_node n d) = omega arith
-some_item (of_page e) = omega arith
+some_item (of_page g d) = omega arith
 
 -- items that the same bytes spell are the same
 pub same_items : (xs ys : List (Item Text (List ℕ))) (all : List ℕ) → length all < 2 ^ 64 → Spells all xs → Spells all ys → SameItems text_order xs ys
@@ -166,7 +214,12 @@ same_items xs ys all fits a b = as_items xs ys (lists_tell IsItem item_bytes (Sa
 -- behind a 0 stands a node
 pub node_behind : (item : Item Text (List ℕ)) (left rest : List ℕ) → IsItem item → 0 ∷ left ≡ item_bytes item ++ rest → (name : Text) × (digest : List ℕ) × (length digest ≡ 16) × (left ≡ text_bytes name ++ (digest ++ rest))
 node_behind (of_node name digest) left rest fits e = (name, digest, fits, behind_first 0 0 left ((text_bytes name ++ digest) ++ rest) e ∙ append_assoc (text_bytes name) digest rest)
-node_behind (of_page range) left rest fits e = let never : 0 ≡ 1 = same_first 0 1 left (page_range_bytes range ++ rest) e in absurd (omega (arith, never))
+node_behind (of_page gap digest) left rest fits e = let never : 0 ≡ 1 = same_first 0 1 left ((gap_bytes gap ++ digest) ++ rest) e in absurd (omega (arith, never))
+
+-- behind a 1 stands a page
+pub page_behind : (item : Item Text (List ℕ)) (left rest : List ℕ) → IsItem item → 1 ∷ left ≡ item_bytes item ++ rest → (gap : Gap Text) × (digest : List ℕ) × (length digest ≡ 16) × (left ≡ gap_bytes gap ++ (digest ++ rest))
+page_behind (of_page gap digest) left rest fits e = (gap, digest, fits, behind_first 1 1 left ((gap_bytes gap ++ digest) ++ rest) e ∙ append_assoc (gap_bytes gap) digest rest)
+page_behind (of_node name digest) left rest fits e = let never : 1 ≡ 0 = same_first 1 0 left ((text_bytes name ++ digest) ++ rest) e in absurd (omega (arith, never))
 
 -- the rows that came are those that were asked for, and so are the first of them, which are joined alike
 pub rows_asked_for : (peer : List (Text × ℕ)) (found spans : List (Span Text)) (got : List (Text × ℕ)) (asked sent : List ℕ) → length asked < 2 ^ 64 → length sent < 2 ^ 64

@@ -1,39 +1,44 @@
 //! A sync between two machines by catch-up: rounds of outlines, with bytes between them. That such messages are a catch-up is the law
 //! [`messages_are_a_catch_up`].
 //!
-//! What is sent is spelled as in [`wire`](crate::wire), and an item of an outline as a byte and what it is: 0 with a name and the digest of
-//! its number, or 1 with a page range. Nothing that came is trusted.
-ghost use Rattle.std.specs.Prelude.{◌≡◌, ◌≢◌, ◌++◌, ℕ, List, [], IfOk, OnOk, OnErr, Err, IsSome, max, nat_eq, string_bytes, map};
+//! What is sent is spelled as in [`wire`](crate::wire). A gap is its two bounds, each as a byte 0 where there is none, or a byte 1 and a
+//! name; an item of an outline is a byte 0, a name and the digest of its number, or a byte 1, the gap that a page fills and the page's
+//! digest. Nothing that came is trusted: items that weren't asked for are refused.
+ghost use Rattle.std.specs.Prelude.{◌≡◌, ◌≢◌, ◌++◌, ◌⊎◌, ◌↔◌, ℕ, List, [], ◌∷◌, IfOk, OnOk, OnErr, Err, IsSome, IsTrue, max, nat_eq, string_bytes, flat_map};
 ghost use Rattle.std.specs.Option.{option_map};
-ghost use Rattle.key_order.specs.Interval.{Span};
 ghost use Rattle.key_order.specs.Join.{IsJoin};
 ghost use Rattle.key_order.specs.Map.{IsMap};
 ghost use Rattle.key_order.specs.SameKeys.{SameKeys};
 ghost use Rattle.key_order.specs.Text.{Text, text_order};
 ghost use Rattle.merkle_digest.specs.SipDigests.{text_digest};
 ghost use Rattle.merkle_tree_theory.specs.Canonical.{IsTreeOf};
-ghost use Rattle.merkle_tree_theory.specs.Outline.{Item, of_page, whole_range};
+ghost use Rattle.merkle_tree_theory.specs.Gap.{Gap, everywhere};
+ghost use Rattle.merkle_tree_theory.specs.Outline.{Item, outline_over, whole_item};
 ghost use Rattle.merkle_tree_theory.specs.State.{SameSettings};
 ghost use Rattle.merkle_tree_theory.specs.Tree.{Tree};
+ghost use Rattle.merkle_search_tree.specs.Items.{items as items_of};
 ghost use Rattle.merkle_replica.specs.CatchUp.{IsCatchUp};
 ghost use Rattle.merkle_replica.specs.Contents.{Side, side, tree_map, with_rows};
 ghost use Rattle.merkle_replica.specs.Descent.{keys_of};
 ghost use Rattle.merkle_replica.specs.Faithful.{IsFaithful};
+ghost use Rattle.merkle_replica.specs.LieWithin.{LieWithin};
 ghost use Rattle.merkle_replica.specs.Pulls.{HoldTheJoin};
 ghost use Rattle.examples.specs.StoreLaws.{store_laws};
-ghost use Rattle.examples.specs.CatchUpMessages.{Spells, SortsOut, SendsOutlines, GoesDown, Descends, AsksForRows, JoinsSome};
+ghost use Rattle.examples.specs.CameItem.{came_gaps};
+ghost use Rattle.examples.specs.CatchUpMessages.{gap_bytes, Spells, WereAskedFor, SortsOut, SendsOutlines, GoesDown, Descends, AsksForRows, JoinsSome};
 ghost use Rattle.examples.specs.PullMessages.{SendsRows, JoinsRows};
-ghost use Rattle.examples.specs.Wire.{IsInMemory, range_bytes, list_bytes};
-ghost use Rattle.examples.specs.declared.wire.WireFault.TheVariants.{Malformed};
+ghost use Rattle.examples.specs.Wire.{IsInMemory, list_bytes};
+ghost use Rattle.examples.specs.declared.wire.WireFault.TheVariants.{Malformed, NotAsked};
 
-use crate::items::{borrowed_items, spell_bounds, spell_items, spell_points};
-use crate::reading::{read_items, read_ranges};
+use crate::items::{CameGap, borrowed_gaps, borrowed_items, spell_items, spell_points};
+use crate::reading::{read_gaps, read_items};
+use crate::spelling::spell_gaps;
 use crate::store::Store;
 use crate::wire::{WireFault, join, send_rows};
 use merkle_digest::SipHasher;
-use merkle_replica::keys_in_order;
 use merkle_replica::laws::steps_are_a_catch_up;
-use merkle_search_tree::OutlineItemOf;
+use merkle_replica::{keys_in_order, lie_within};
+use merkle_search_tree::OutlineItem;
 use merkle_search_tree::laws::every_tree_is_sound;
 use std::alloc::{AllocError, Global};
 
@@ -43,7 +48,7 @@ use std::alloc::{AllocError, Global};
 ///
 /// Want of memory.
 pub fn send_root(alloc: Global, store: &mut Store<u64>) -> Result<Vec<u8>, AllocError>
-    ensures sent { IfOk result (λ bytes. Spells bytes.items (map of_page (whole_range store.new.tree.format string_bytes store.new.tree.root))) }
+    ensures sent { IfOk result (λ bytes. Spells bytes.items (whole_item store.new.tree.format string_bytes store.new.tree.root)) }
     ensures tree { IsTreeOf text_order (text_digest store.old.tree.hasher) store.old.tree.base store.new.tree.root (tree_map store_laws (side store.old)) }
     ensures hashed { IsSome store.new.tree.root_hash }
     ensures rows { store.new.rows ≡ store.old.rows }
@@ -52,37 +57,73 @@ pub fn send_root(alloc: Global, store: &mut Store<u64>) -> Result<Vec<u8>, Alloc
     store.hash();
     every_tree_is_sound(store.tree());
     let mut items = Vec::new(alloc);
-    if let Some(range) = store.tree().root_range() {
-        items.push(OutlineItemOf::Page(range))?;
+    if let Some(item) = store.tree().whole() {
+        items.push(item)?;
     }
     spell_items(alloc, &items)
 }
 
-/// What the local side makes of the items that came: the spans of pages that it doesn't have, which it asks for next, or nothing where there
-/// are none; and the names whose rows it lacks, or has with another number, which are added to a list.
+/// What the local side goes by at first, without sending it: the gap that has all names, within which the whole tree of any peer lies.
 ///
 /// # Errors
 ///
-/// Bytes that are no items, which leave the list of names as it was, and want of memory: the names that were there stay in front.
+/// Want of memory.
+pub fn ask_for_all(alloc: Global) -> Result<Vec<u8>, AllocError>
+    ensures { IfOk result (λ bytes. bytes.items ≡ list_bytes gap_bytes (everywhere ∷ [])) }
+{
+    spell_gaps(alloc, &[merkle_search_tree::Gap::everywhere()])
+}
+
+/// Whether the items lie within the gaps that these bytes ask for.
+fn were_asked_for(
+    alloc: Global,
+    asked: &[u8],
+    items: &[OutlineItem<'_, 16, String>],
+) -> Result<bool, AllocError>
+    ensures { IfOk result (λ within. IsTrue within ↔ ((gaps : List (Gap Text)) × (asked.now ≡ list_bytes gap_bytes gaps) × LieWithin text_order gaps (items_of items.now))) }
+{
+    let asked = match read_gaps(alloc, asked) {
+        Ok(asked) => asked,
+        Err(WireFault::Malformed) => return Ok(false),
+        Err(_) => return Err(AllocError),
+    };
+    let gaps = borrowed_gaps(alloc, &asked)?;
+    Ok(lie_within(&gaps, items))
+}
+
+/// What the local side makes of the items that came, where they lie within the gaps that it asked for last: the gaps of pages that it doesn't
+/// have, which it asks for next, or nothing where there are none; and the names whose rows it lacks, or has with another number, which are
+/// added to a list.
+///
+/// # Errors
+///
+/// Bytes that are no items, and items that weren't asked for, by [`lie_within`]: both leave the list of names as it was. Want of memory: the
+/// names that were there stay in front.
 pub fn sort_out(
     alloc: Global,
     store: &Store<u64>,
+    asked: &[u8],
     came: &[u8],
     names: &mut Vec<String>,
 ) -> Result<Option<Vec<u8>>, WireFault>
     ensures sorted { IfOk result (λ sent. SortsOut (side store.now) came.now (option_map (λ bytes. bytes.items) sent) names.old.items names.new.items) }
+    ensures asked_for { OnOk result (WereAskedFor asked.now came.now) }
+    ensures not_asked { result ≡ Err NotAsked → ¬ (WereAskedFor asked.now came.now) }
     ensures malformed { result ≡ Err Malformed → (items : List (Item Text (List ℕ))) → ¬ (Spells came.now items) }
-    ensures unchanged { result ≡ Err Malformed → names.new ≡ names.old }
+    ensures unchanged { (result ≡ Err Malformed) ⊎ (result ≡ Err NotAsked) → names.new ≡ names.old }
     ensures kept { (added : List Text) × (names.new.items ≡ names.old.items ++ added) }
 {
     let came = read_items(alloc, came)?;
     let items = borrowed_items(alloc, &came)?;
-    let asked = store.sort_out(&items)?;
-    add_names(&asked.keys, names)?;
-    if asked.spans.is_empty() {
+    if !were_asked_for(alloc, asked, &items)? {
+        return Err(WireFault::NotAsked);
+    }
+    let left = store.sort_out(&items)?;
+    add_names(&left.keys, names)?;
+    if left.gaps.is_empty() {
         return Ok(None);
     }
-    let bytes = spell_bounds(alloc, &asked.spans)?;
+    let bytes = spell_gaps(alloc, &left.gaps)?;
     Ok(Some(bytes))
 }
 
@@ -98,30 +139,36 @@ fn add_names(some: &[&String], names: &mut Vec<String>) -> Result<(), AllocError
     Ok(())
 }
 
-/// What the peer sends in each round: the outlines of its pages over the spans that came. Its tree is hashed, as
+/// What the peer sends in each round: the outlines of its pages over the gaps that came. Its tree is hashed, as
 /// [`send_root`] leaves it.
 ///
 /// # Errors
 ///
-/// Bytes that are no spans, and want of memory.
+/// Bytes that are no gaps, and want of memory.
 pub fn send_outlines(alloc: Global, store: &Store<u64>, asked: &[u8]) -> Result<Vec<u8>, WireFault>
     requires { IsSome store.now.tree.root_hash }
     ensures sent { IfOk result (λ bytes. SendsOutlines (side store.now) store.now.tree.root asked.now bytes.items) }
-    ensures malformed { result ≡ Err Malformed → (spans : List (Span Text)) → asked.now ≢ list_bytes range_bytes spans }
+    ensures malformed { result ≡ Err Malformed → (gaps : List (Gap Text)) → asked.now ≢ list_bytes gap_bytes gaps }
 {
-    let ranges = read_ranges(alloc, asked)?;
-    let mut spans = Vec::new(alloc);
-    'borrowing: for range in &ranges {
-        if spans.push((&range.0, &range.1)).is_err() {
-            return Err(WireFault::Memory);
-        }
-    }
-    let outlines = match store.outlines(&spans)? {
-        Some(outlines) => outlines,
-        None => unreachable!(),
-    };
-    let bytes = spell_items(alloc, &outlines)?;
+    let gaps = read_gaps(alloc, asked)?;
+    let bytes = spell_outlines(alloc, store, &gaps)?;
     Ok(bytes)
+}
+
+/// The outlines of the pages over gaps that came, as bytes.
+fn spell_outlines<'a>(
+    alloc: Global,
+    store: &'a Store<u64>,
+    came: &'a [CameGap],
+) -> Result<Vec<u8>, AllocError>
+    requires { IsSome store.now.tree.root_hash }
+    ensures { let tree = store.now.tree in IfOk result (λ bytes. Spells bytes.items (flat_map (outline_over tree.format string_bytes text_order tree.root) (came_gaps came.now))) }
+{
+    let gaps = borrowed_gaps(alloc, came)?;
+    match store.outlines(&gaps)? {
+        Some(outlines) => spell_items(alloc, &outlines),
+        None => unreachable!(),
+    }
 }
 
 /// What the local side asks for at last: the rows at the names, in order and each of equal ones once. The peer answers by
@@ -146,7 +193,7 @@ pub fn ask_rows(alloc: Global, names: &[String]) -> Result<Vec<u8>, AllocError>
 pub fn messages_are_a_catch_up()
     ensures catch_up { (local peer : Side Text ℕ (List ℕ)) (root : Tree Text (List ℕ)) (first asked rows : List ℕ) (rounds : List (List ℕ × List ℕ)) (names : List Text) (after : List (Text × ℕ))
         → IsMap text_order local.rows → IsMap text_order peer.rows → IsTreeOf text_order (text_digest peer.hasher) peer.base root (tree_map store_laws peer)
-        → IsInMemory first → IsInMemory asked → IsInMemory rows → Spells first (map of_page (whole_range peer.format string_bytes root))
+        → IsInMemory first → IsInMemory asked → IsInMemory rows → Spells first (whole_item peer.format string_bytes root)
         → GoesDown local peer root first rounds [] names → AsksForRows names asked → SendsRows peer asked rows → JoinsRows local rows after
         → (keys : List Text) × IsCatchUp store_laws local peer keys after }
     ensures joins { (local peer : Side Text ℕ (List ℕ)) (keys : List Text) (after : List (Text × ℕ)) → IsFaithful store_laws local peer
@@ -159,8 +206,8 @@ pub fn messages_are_a_catch_up()
 ///
 /// # Errors
 ///
-/// Bytes that are malformed, which they are as well where more rounds are made than a tree can have pages below one another, and want of
-/// memory.
+/// Bytes that are malformed, which they are as well where more rounds are made than a tree can have pages below one another, items that
+/// weren't asked for, and want of memory.
 fn lacked_names(
     alloc: Global,
     local: &Store<u64>,
@@ -170,14 +217,16 @@ fn lacked_names(
     requires { IsSome peer.now.tree.root_hash }
     ensures { IfOk result (λ names. Descends (side local.now) (side peer.now) peer.now.tree.root first.items names.items) }
 {
+    let mut asked = ask_for_all(alloc)?;
     let mut message = first;
     let mut names = Vec::new(alloc);
     'rounds: for _round in 0..257 {
-        let asked = match sort_out(alloc, local, &message, &mut names)? {
-            Some(asked) => asked,
+        let next = match sort_out(alloc, local, &asked, &message, &mut names)? {
+            Some(next) => next,
             None => return Ok(names),
         };
-        message = send_outlines(alloc, peer, &asked)?;
+        message = send_outlines(alloc, peer, &next)?;
+        asked = next;
     }
     Err(WireFault::Malformed)
 }

@@ -1,26 +1,34 @@
-//! Items of outlines: as they are sent, as they came, and borrowed from those that came.
+//! Items of outlines, and gaps: as they are sent, as they came, and borrowed from those that came.
 ghost use Rattle.std.specs.Prelude.{◌≡◌, ◌++◌, IfOk, OnOk, map};
 ghost use Rattle.std.specs.List.{AllByRecursion};
-ghost use Rattle.merkle_replica.specs.Descent.{bounds_of, keys_of};
+ghost use Rattle.merkle_replica.specs.Descent.{gaps_of, keys_of};
 ghost use Rattle.merkle_replica.specs.CatchUp.{points};
-ghost use Rattle.merkle_search_tree.specs.Items.{item as item_of, items as items_of};
-ghost use Rattle.examples.specs.CameItem.{came_item, came_items};
+ghost use Rattle.merkle_search_tree.specs.Items.{gap_of, item as item_of, items as items_of};
+ghost use Rattle.examples.specs.CameItem.{came_gap, came_gaps, came_item, came_items};
 ghost use Rattle.examples.specs.CatchUpMessages.{item_bytes, IsItem, Spells};
 ghost use Rattle.examples.specs.Wire.{range_bytes, list_bytes};
 
-use crate::spelling::{put_number, put_page_range, put_text};
-use merkle_diff::OwnedPageRange;
-use merkle_digest::ValueDigest;
-use merkle_search_tree::{OutlineItem, OutlineItemOf};
+use crate::spelling::{put_gap, put_number, put_text};
+use merkle_digest::{PageDigest, ValueDigest};
+use merkle_search_tree::{Gap, OutlineItem, OutlineItemOf};
 use std::alloc::{AllocError, Global};
+
+/// A gap that came.
+#[derive(Drop)]
+pub struct CameGap {
+    /// The names of the gap are above this one.
+    pub after: Option<String>,
+    /// The names of the gap are below this one.
+    pub before: Option<String>,
+}
 
 /// An item that came.
 #[derive(Drop)]
 pub enum CameItem {
     /// A name, and the digest of its number.
     Node(String, ValueDigest<16>),
-    /// A page.
-    Page(OwnedPageRange<String>),
+    /// The gap that a page fills, and the digest of the page.
+    Page(CameGap, PageDigest),
 }
 
 /// Writes an item.
@@ -34,9 +42,10 @@ fn put_item(bytes: &mut Vec<u8>, item: &OutlineItem<'_, 16, String>) -> Result<(
             put_text(bytes, *name)?;
             bytes.extend_from_slice(digest.as_bytes())
         }
-        OutlineItemOf::Page(range) => {
+        OutlineItemOf::Page(gap, digest) => {
             bytes.push(1)?;
-            put_page_range(bytes, range)
+            put_gap(bytes, gap)?;
+            bytes.extend_from_slice(digest.as_bytes())
         }
     }
 }
@@ -52,26 +61,6 @@ pub fn spell_items(
     put_number(&mut bytes, items.len() as u64)?;
     'entries: for item in items {
         put_item(&mut bytes, item)?;
-    }
-    Ok(bytes)
-}
-
-/// Writes a range of borrowed names.
-fn put_bounds(bytes: &mut Vec<u8>, range: &(&String, &String)) -> Result<(), AllocError>
-    ensures { OnOk result (bytes.new.items ≡ bytes.old.items ++ range_bytes (record { first = range.now.0.now; last = range.now.1.now })) }
-{
-    put_text(bytes, range.0)?;
-    put_text(bytes, range.1)
-}
-
-/// Ranges of borrowed names as bytes.
-pub fn spell_bounds(alloc: Global, ranges: &[(&String, &String)]) -> Result<Vec<u8>, AllocError>
-    ensures { IfOk result (λ bytes. bytes.items ≡ list_bytes range_bytes (bounds_of ranges.now)) }
-{
-    let mut bytes = Vec::new(alloc);
-    put_number(&mut bytes, ranges.len() as u64)?;
-    'entries: for range in ranges {
-        put_bounds(&mut bytes, range)?;
     }
     Ok(bytes)
 }
@@ -96,13 +85,37 @@ pub fn spell_points(alloc: Global, names: &[&String]) -> Result<Vec<u8>, AllocEr
     Ok(bytes)
 }
 
+/// A gap, borrowed from one that came.
+fn borrowed_gap(came: &CameGap) -> Gap<'_, String>
+    ensures { gap_of result ≡ came_gap came.now }
+{
+    Gap {
+        after: came.after.as_ref(),
+        before: came.before.as_ref(),
+    }
+}
+
+/// The gaps, borrowed from those that came.
+pub fn borrowed_gaps<'a>(
+    alloc: Global,
+    came: &'a [CameGap],
+) -> Result<Vec<Gap<'a, String>>, AllocError>
+    ensures { IfOk result (λ list. gaps_of list.items ≡ came_gaps came.now) }
+{
+    let mut list = Vec::new(alloc);
+    'borrowing: for gap in came {
+        list.push(borrowed_gap(gap))?;
+    }
+    Ok(list)
+}
+
 /// An item, borrowed from one that came.
 fn borrowed_item(item: &CameItem) -> OutlineItem<'_, 16, String>
     ensures { item_of result ≡ came_item item.now }
 {
     match item {
         CameItem::Node(name, digest) => OutlineItemOf::Node(name, digest),
-        CameItem::Page(range) => OutlineItemOf::Page(range.as_page_range()),
+        CameItem::Page(gap, digest) => OutlineItemOf::Page(borrowed_gap(gap), digest),
     }
 }
 

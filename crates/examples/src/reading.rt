@@ -1,5 +1,5 @@
 //! What came, read from its bytes.
-ghost use Rattle.std.specs.Prelude.{◌≡◌, ◌≢◌, ◌++◌, ◌<◌, ◌^◌, ℕ, List, [], OnOk, IfOk, Err, length};
+ghost use Rattle.std.specs.Prelude.{◌≡◌, ◌≢◌, ◌++◌, ◌<◌, ◌^◌, ℕ, List, [], Option, OnOk, IfOk, Err, length};
 ghost use Rattle.std.specs.List.{AllByRecursion};
 ghost use Rattle.key_order.specs.Interval.{Span};
 ghost use Rattle.key_order.specs.Text.{Text};
@@ -7,13 +7,14 @@ ghost use Rattle.merkle_diff.specs.Entry.{Entry};
 ghost use Rattle.merkle_diff.specs.OwnedPageRange.{owned_entry};
 ghost use Rattle.merkle_diff.specs.PageRangeSnapshot.{snapshot_entries};
 ghost use Rattle.merkle_replica.specs.Answers.{spans_of};
+ghost use Rattle.merkle_tree_theory.specs.Gap.{Gap};
 ghost use Rattle.merkle_tree_theory.specs.Outline.{Item};
-ghost use Rattle.examples.specs.CameItem.{came_item, came_items};
-ghost use Rattle.examples.specs.CatchUpMessages.{item_bytes, IsItem, Spells};
+ghost use Rattle.examples.specs.CameItem.{came_gap, came_gaps, came_item, came_items};
+ghost use Rattle.examples.specs.CatchUpMessages.{bound_bytes, gap_bytes, item_bytes, IsItem, Spells};
 ghost use Rattle.examples.specs.Wire.{number_bytes, text_bytes, page_range_bytes, range_bytes, row_bytes, list_bytes, IsPageRange, IsRow};
-ghost use Rattle.examples.specs.declared.wire.WireFault.TheVariants.{Malformed};
+ghost use Rattle.examples.specs.declared.wire.WireFault.TheVariants.{Malformed, NotAsked};
 
-use crate::items::CameItem;
+use crate::items::{CameGap, CameItem};
 use crate::wire::WireFault;
 use merkle_diff::{OwnedPageRange, PageRangeSnapshot};
 use merkle_digest::{Digest, PageDigest, ValueDigest};
@@ -39,6 +40,7 @@ impl Reader<'_> {
         ensures read { IfOk result (λ number. self.old.left.now ≡ number_bytes number ++ self.new.left.now) }
         ensures fits { IfOk result (λ number. number < 2 ^ 64) }
         ensures malformed { result ≡ Err Malformed → (number : ℕ) (rest : List ℕ) → self.old.left.now ≢ number_bytes number ++ rest }
+        ensures not_asked { result ≢ Err NotAsked }
     {
         let Some((number, left)) = self.left.split_first_chunk::<8>() else {
             return Err(WireFault::Malformed);
@@ -51,6 +53,7 @@ impl Reader<'_> {
     fn text(&mut self) -> Result<String, WireFault>
         ensures read { IfOk result (λ text. self.old.left.now ≡ text_bytes text ++ self.new.left.now) }
         ensures malformed { result ≡ Err Malformed → (text : Text) (rest : List ℕ) → self.old.left.now ≢ text_bytes text ++ rest }
+        ensures not_asked { result ≢ Err NotAsked }
     {
         let len = self.number()?;
         let Some((text, left)) = self.left.split_at_checked(len as usize) else {
@@ -66,7 +69,9 @@ impl Reader<'_> {
     /// The next digest.
     fn digest(&mut self) -> Result<PageDigest, WireFault>
         ensures read { IfOk result (λ digest. self.old.left.now ≡ digest ++ self.new.left.now) }
+        ensures digest { IfOk result (λ digest. length digest ≡ 16) }
         ensures malformed { result ≡ Err Malformed → (digest rest : List ℕ) → length digest ≡ 16 → self.old.left.now ≢ digest ++ rest }
+        ensures not_asked { result ≢ Err NotAsked }
     {
         let Some((digest, left)) = self.left.split_first_chunk::<16>() else {
             return Err(WireFault::Malformed);
@@ -90,11 +95,43 @@ impl Reader<'_> {
         }
     }
 
+    /// The next bound of a gap.
+    fn bound(&mut self) -> Result<Option<String>, WireFault>
+        ensures read { IfOk result (λ bound. self.old.left.now ≡ bound_bytes bound ++ self.new.left.now) }
+        ensures malformed { result ≡ Err Malformed → (bound : Option Text) (rest : List ℕ) → self.old.left.now ≢ bound_bytes bound ++ rest }
+        ensures not_asked { result ≢ Err NotAsked }
+    {
+        let Some((there, left)) = self.left.split_first() else {
+            return Err(WireFault::Malformed);
+        };
+        self.left = left;
+        match *there {
+            0 => Ok(None),
+            1 => {
+                let name = self.text()?;
+                Ok(Some(name))
+            }
+            _ => Err(WireFault::Malformed),
+        }
+    }
+
+    /// The next gap.
+    fn gap(&mut self) -> Result<CameGap, WireFault>
+        ensures read { IfOk result (λ gap. self.old.left.now ≡ gap_bytes (came_gap gap) ++ self.new.left.now) }
+        ensures malformed { result ≡ Err Malformed → (gap : Gap Text) (rest : List ℕ) → self.old.left.now ≢ gap_bytes gap ++ rest }
+        ensures not_asked { result ≢ Err NotAsked }
+    {
+        let after = self.bound()?;
+        let before = self.bound()?;
+        Ok(CameGap { after, before })
+    }
+
     /// The next item of an outline.
     fn item(&mut self) -> Result<CameItem, WireFault>
         ensures read { IfOk result (λ item. self.old.left.now ≡ item_bytes (came_item item) ++ self.new.left.now) }
         ensures item { IfOk result (λ item. IsItem (came_item item)) }
         ensures malformed { result ≡ Err Malformed → (item : Item Text (List ℕ)) (rest : List ℕ) → IsItem item → self.old.left.now ≢ item_bytes item ++ rest }
+        ensures not_asked { result ≢ Err NotAsked }
     {
         let Some((kind, left)) = self.left.split_first() else {
             return Err(WireFault::Malformed);
@@ -107,8 +144,9 @@ impl Reader<'_> {
                 Ok(CameItem::Node(name, digest))
             }
             1 => {
-                let range = self.page_range()?;
-                Ok(CameItem::Page(range))
+                let gap = self.gap()?;
+                let digest = self.digest()?;
+                Ok(CameItem::Page(gap, digest))
             }
             _ => Err(WireFault::Malformed),
         }
@@ -119,6 +157,7 @@ impl Reader<'_> {
         ensures read { IfOk result (λ digest. self.old.left.now ≡ digest ++ self.new.left.now) }
         ensures digest { IfOk result (λ digest. length digest ≡ 16) }
         ensures malformed { result ≡ Err Malformed → (digest rest : List ℕ) → length digest ≡ 16 → self.old.left.now ≢ digest ++ rest }
+        ensures not_asked { result ≢ Err NotAsked }
     {
         let Some((digest, left)) = self.left.split_first_chunk::<16>() else {
             return Err(WireFault::Malformed);
@@ -152,6 +191,7 @@ impl Reader<'_> {
     fn end(&self) -> Result<(), WireFault>
         ensures ended { OnOk result (self.now.left.now ≡ []) }
         ensures malformed { result ≡ Err Malformed → self.now.left.now ≢ [] }
+        ensures not_asked { result ≢ Err NotAsked }
     {
         if self.left.is_empty() {
             Ok(())
@@ -217,10 +257,29 @@ pub fn read_rows(alloc: Global, bytes: &[u8]) -> Result<Vec<(String, u64)>, Wire
     Ok(rows)
 }
 
+/// The gaps that came.
+pub fn read_gaps(alloc: Global, bytes: &[u8]) -> Result<Vec<CameGap>, WireFault>
+    ensures read { IfOk result (λ gaps. bytes.now ≡ list_bytes gap_bytes (came_gaps gaps.items)) }
+    ensures malformed { result ≡ Err Malformed → (gaps : List (Gap Text)) → bytes.now ≢ list_bytes gap_bytes gaps }
+{
+    let mut reader = Reader { alloc, left: bytes };
+    let count = reader.number()?;
+    let mut gaps = Vec::new(alloc);
+    'entries: for _done in 0..count {
+        let next = reader.gap()?;
+        if gaps.push(next).is_err() {
+            return Err(WireFault::Memory);
+        }
+    }
+    reader.end()?;
+    Ok(gaps)
+}
+
 /// The items of outlines that came.
 pub fn read_items(alloc: Global, bytes: &[u8]) -> Result<Vec<CameItem>, WireFault>
     ensures read { IfOk result (λ items. Spells bytes.now (came_items items.items)) }
     ensures malformed { result ≡ Err Malformed → (items : List (Item Text (List ℕ))) → ¬ (Spells bytes.now items) }
+    ensures not_asked { result ≢ Err NotAsked }
 {
     let mut reader = Reader { alloc, left: bytes };
     let count = reader.number()?;

@@ -3,9 +3,13 @@ ghost use Rattle.std.specs.Prelude.{◌≡◌, ◌++◌, OnOk, IfOk, map};
 ghost use Rattle.std.specs.List.{AllByRecursion};
 ghost use Rattle.merkle_diff.specs.PageRange.{entry, entries};
 ghost use Rattle.merkle_replica.specs.Answers.{spans_of};
+ghost use Rattle.merkle_replica.specs.Descent.{gaps_of};
+ghost use Rattle.merkle_search_tree.specs.Items.{bound_of, gap_of};
+ghost use Rattle.examples.specs.CatchUpMessages.{bound_bytes, gap_bytes};
 ghost use Rattle.examples.specs.Wire.{number_bytes, text_bytes, page_range_bytes, range_bytes, row_bytes, list_bytes, IsPageRange, IsRow};
 
 use merkle_diff::PageRange;
+use merkle_search_tree::Gap;
 use std::alloc::{AllocError, Global};
 
 /// Writes a number.
@@ -68,6 +72,42 @@ pub fn spell_ranges(alloc: Global, ranges: &[(String, String)]) -> Result<Vec<u8
     put_number(&mut bytes, ranges.len() as u64)?;
     'entries: for range in ranges {
         put_range(&mut bytes, range)?;
+    }
+    Ok(bytes)
+}
+
+/// Writes a bound of a gap.
+fn put_bound(bytes: &mut Vec<u8>, bound: Option<&String>) -> Result<(), AllocError>
+    ensures { OnOk result (bytes.new.items ≡ bytes.old.items ++ bound_bytes (bound_of bound.entry)) }
+{
+    match bound {
+        None => {
+            bytes.push(0)?;
+            Ok(())
+        }
+        Some(name) => {
+            bytes.push(1)?;
+            put_text(bytes, name)
+        }
+    }
+}
+
+/// Writes a gap.
+pub(crate) fn put_gap(bytes: &mut Vec<u8>, gap: &Gap<'_, String>) -> Result<(), AllocError>
+    ensures { OnOk result (bytes.new.items ≡ bytes.old.items ++ gap_bytes (gap_of gap.now)) }
+{
+    put_bound(bytes, gap.after)?;
+    put_bound(bytes, gap.before)
+}
+
+/// Gaps as bytes.
+pub fn spell_gaps(alloc: Global, gaps: &[Gap<'_, String>]) -> Result<Vec<u8>, AllocError>
+    ensures { IfOk result (λ bytes. bytes.items ≡ list_bytes gap_bytes (gaps_of gaps.now)) }
+{
+    let mut bytes = Vec::new(alloc);
+    put_number(&mut bytes, gaps.len() as u64)?;
+    'entries: for gap in gaps {
+        put_gap(&mut bytes, gap)?;
     }
     Ok(bytes)
 }

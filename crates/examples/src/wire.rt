@@ -36,6 +36,8 @@ pub enum WireFault {
     Memory,
     /// The bytes are no such list, or one of ranges or rows that don't ascend.
     Malformed,
+    /// The items of an outline don't lie within the gaps that were asked for.
+    NotAsked,
 }
 
 impl From<AllocError> for WireFault {

@@ -1,17 +1,17 @@
--- The steps of a catch-up, one item or one span after the other.
+-- The steps of a catch-up, one item or one gap after the other.
 use Rattle.std.proofs.Common.{◌≡◌, ℕ, ◌+◌, ◌<◌, List, [], ◌∷◌, ◌++◌, length, take, get_or, map, Option, Some, None, refl, sym, ◌∙◌, ap, subst, append_assoc, append-nil}
+use Rattle.std.proofs.lemmas.Grind.{flat_map-append}
 use Rattle.std.proofs.lemmas.List.{take_more, map-append}
+use Rattle.std.specs.List.{flat_map}
 use Rattle.std.specs.Cmp.{IsTotalOrder}
 use Rattle.std.specs.declared.cmp.Ordering.{Ordering}
-use Rattle.key_order.specs.Interval.{Span}
 use Rattle.key_order.specs.Map.{SameValue, SameMap, get}
 use Rattle.key_order.proofs.Maps.{get_by_same}
-use Rattle.merkle_tree_theory.specs.Tree.{Tree}
-use Rattle.merkle_tree_theory.specs.Outline.{Item, IsOutline}
-use Rattle.merkle_tree_theory.specs.declared.page_format.PageFormat.{PageFormat}
+use Rattle.merkle_tree_theory.specs.Gap.{Gap}
+use Rattle.merkle_tree_theory.specs.Outline.{Item}
 use Rattle.merkle_replica.specs.Laws.{Laws}
 use Rattle.merkle_replica.specs.Contents.{Side}
-use Rattle.merkle_replica.specs.Descent.{AreOutlines, IsSortedOut, AreSortedOut, HasSortedOut}
+use Rattle.merkle_replica.specs.Descent.{IsSortedOut, AreSortedOut, HasSortedOut}
 
 pub some_is : {X : Type 0} (x y : X) → Some x ≡ Some y → x ≡ y
 some_is x y e = cc
@@ -30,26 +30,19 @@ same_get cmp o a b s k = is_same (get cmp a k) (get cmp b k) (get_by_same cmp o 
     is_same (Some x) None s = absurd s
     is_same (Some x) (Some y) s = ap Some s
 
-module _ {K : Type 0} (cmp : K → K → Ordering) (format : PageFormat) (bytes_of : K → List ℕ) (root : Tree K (List ℕ)) where
-  outlines_more : (ss : List (Span K)) (s : Span K) (es one : List (Item K (List ℕ))) → AreOutlines cmp format bytes_of root ss es → IsOutline format bytes_of cmp root s one → AreOutlines cmp format bytes_of root (ss ++ s ∷ []) (es ++ one)
-  outlines_more [] s es one e h = (one, [], h, refl, ap (λ w. w ++ one) e ∙ sym (append-nil one))
-  outlines_more (t ∷ ss) s es one (first, rest, f, r, e) h =
-      (first, rest ++ one, f, outlines_more ss s rest one r h, ap (λ w. w ++ one) e ∙ append_assoc first rest one)
-
-  pub outlines_step : {A : Type 0} (f : A → Span K) (xs : List A) (i : ℕ) (a : A) (es one es' : List (Item K (List ℕ))) → i < length xs → a ≡ get_or xs i a → es' ≡ es ++ one
-      → AreOutlines cmp format bytes_of root (map f (take i xs)) es → IsOutline format bytes_of cmp root (f a) one → AreOutlines cmp format bytes_of root (map f (take (i + 1) xs)) es'
-  outlines_step f xs i a es one es' h e r u v =
-      subst (λ ss. AreOutlines cmp format bytes_of root ss es') (sym (map_more f xs i a h e))
-      (subst (AreOutlines cmp format bytes_of root (map f (take i xs) ++ f a ∷ [])) (sym r) (outlines_more (map f (take i xs)) (f a) es one u v))
+-- what one element more adds
+pub flat_step : {A B C : Type 0} (f : A → B) (g : B → List C) (xs : List A) (i : ℕ) (x : A) → i < length xs → x ≡ get_or xs i x → flat_map g (map f (take (i + 1) xs)) ≡ flat_map g (map f (take i xs)) ++ g (f x)
+flat_step f g xs i x h e =
+    ap (flat_map g) (map_more f xs i x h e) ∙ flat_map-append g (map f (take i xs)) (f x ∷ []) ∙ ap (λ ys. flat_map g (map f (take i xs)) ++ ys) (append-nil (g (f x)))
 
 module _ {K V H : Type 0} (laws : Laws K V H) (local : Side K V H) where
-  sorted_more : (es : List (Item K (List ℕ))) (e : Item K (List ℕ)) (o o1 : List (Span K)) (w w1 : List K) → AreSortedOut laws local es o w → IsSortedOut laws local e o1 w1 → AreSortedOut laws local (es ++ e ∷ []) (o ++ o1) (w ++ w1)
+  sorted_more : (es : List (Item K (List ℕ))) (e : Item K (List ℕ)) (o o1 : List (Gap K)) (w w1 : List K) → AreSortedOut laws local es o w → IsSortedOut laws local e o1 w1 → AreSortedOut laws local (es ++ e ∷ []) (o ++ o1) (w ++ w1)
   sorted_more [] e o o1 w w1 (p, q) h =
       (o1, [], w1, [], h, (refl, refl), ap (λ z. z ++ o1) p ∙ sym (append-nil o1), ap (λ z. z ++ w1) q ∙ sym (append-nil w1))
   sorted_more (x ∷ es) e o o1 w w1 (a, b, c, d, f, r, p, q) h =
       (a, b ++ o1, c, d ++ w1, f, sorted_more es e b o1 d w1 r h, ap (λ z. z ++ o1) p ∙ append_assoc a b o1, ap (λ z. z ++ w1) q ∙ append_assoc c d w1)
 
-  pub sorted_step : {A : Type 0} (f : A → Item K (List ℕ)) (xs : List A) (i : ℕ) (a : A) (o o' : List (Span K)) (w w' : List K) → i < length xs → a ≡ get_or xs i a
+  pub sorted_step : {A : Type 0} (f : A → Item K (List ℕ)) (xs : List A) (i : ℕ) (a : A) (o o' : List (Gap K)) (w w' : List K) → i < length xs → a ≡ get_or xs i a
       → AreSortedOut laws local (map f (take i xs)) o w → HasSortedOut laws local (f a) o w o' w' → AreSortedOut laws local (map f (take (i + 1) xs)) o' w'
   sorted_step f xs i a o o' w w' h e s (o1, w1, t, p, q) =
       subst (λ es. AreSortedOut laws local es o' w') (sym (map_more f xs i a h e))

@@ -21,6 +21,10 @@ pub mod Ranging
 pub mod Sorting
 pub mod Descents
 pub mod Rounds
+pub mod SameGaps
+pub mod WithinGaps
+pub mod OutlinesWithin
+pub mod SameWithin
 pub mod SameDescents
 pub mod Copying
 pub mod Gossips

@@ -1,10 +1,10 @@
 -- The steps of a catch-up, with messages between them that were read as what was sent, up to equal keys and equal values.
-use Rattle.std.specs.Prelude.{◌≡◌, ℕ, true, List, map}
+use Rattle.std.specs.Prelude.{◌≡◌, ℕ, true, List}
 use Rattle.key_order.specs.Interval.{Span}
 use Rattle.key_order.specs.Map.{SameMap, rows_in}
 use Rattle.key_order.specs.Join.{IsJoin}
 use Rattle.merkle_diff.specs.Merge.{SameSpans}
-use Rattle.merkle_tree_theory.specs.Outline.{Item, of_page, whole_range}
+use Rattle.merkle_tree_theory.specs.Outline.{Item, whole_item}
 use Rattle.merkle_search_tree.specs.SameItems.{SameItems}
 use Rattle.merkle_tree_theory.specs.Tree.{Tree}
 use Rattle.merkle_replica.specs.Laws.{Laws}
@@ -15,7 +15,7 @@ use Rattle.merkle_replica.specs.Descent.{IsDescent}
 module _ {K V H : Type 0} (laws : Laws K V H) where
   -- the items that came first are the whole tree of the peer, up to equal keys
   abbrev pub IsWholeTree : Side K V H → Tree K (List ℕ) → List (Item K (List ℕ)) → Type 0
-  IsWholeTree peer root = SameItems laws.cmp (map of_page (whole_range peer.format laws.bytes_of root))
+  IsWholeTree peer root = SameItems laws.cmp (whole_item peer.format laws.bytes_of root)
 
   -- local went down the tree of the peer, asked for the rows at `keys`, and joined those that came back, which left the rows `after`
   pub record AreCatchUpSteps (local peer : Side K V H) (root : Tree K (List ℕ)) (keys : List K) (after : List (K × V)) : Type 0 where

@@ -15,6 +15,7 @@ pub mod CatchUpSteps
 pub mod Gossip
 pub mod Hub
 pub mod Underway
+pub mod LieWithin
 pub mod Faults
 pub mod Seek
 pub use Rattle.key_order.specs.Order

@@ -1,9 +1,9 @@
 //! Catch-ups: a replica joins exactly the rows of a peer that it lacks.
-ghost use Rattle.std.specs.Prelude.{◌≡◌, ◌+◌, ◌≤◌, List, IfOk, IfErr, IsSome, map};
+ghost use Rattle.std.specs.Prelude.{◌≡◌, ◌+◌, ◌≤◌, List, IfOk, IfErr, IsSome};
 ghost use Rattle.key_order.specs.Order.{IsAscending};
 ghost use Rattle.key_order.specs.Join.{IsJoin};
 ghost use Rattle.merkle_search_tree.specs.Items.{items};
-ghost use Rattle.merkle_tree_theory.specs.Outline.{of_page, whole_range};
+ghost use Rattle.merkle_tree_theory.specs.Outline.{whole_item};
 ghost use Rattle.merkle_tree_theory.specs.Page.{level};
 ghost use Rattle.merkle_tree_theory.specs.State.{SameSettings};
 ghost use Rattle.merkle_replica.specs.CatchUp.{HasFound, IsCatchUpOf, IsCatchUpRefused, AreCopies};
@@ -16,10 +16,10 @@ use crate::lawful::Lawful;
 use crate::replica::Replica;
 use crate::wanted::in_order;
 use merkle_digest::{Hasher, Key};
+use merkle_search_tree::OutlineItem;
 use merkle_search_tree::laws::{
     equal_keys_are_on_one_level, every_tree_is_sound, outlines_lead_down,
 };
-use merkle_search_tree::{OutlineItem, OutlineItemOf};
 use std::alloc::{AllocError, Global};
 
 /// What a catch-up did.
@@ -141,17 +141,17 @@ fn lacked_keys<'a, K: Key + Drop, V: Join + Drop, H: Hasher<N, K> + Hasher<N, V>
     equal_keys_are_on_one_level::<K, H, N>();
     let first = root_items(alloc, peer)?;
     let first_asked = local.sort_out(&first)?;
-    let mut spans = first_asked.spans;
+    let mut gaps = first_asked.gaps;
     let mut keys = first_asked.keys;
     let mut rounds = 0;
-    'rounds: while !spans.is_empty() {
-        let outlines = match peer.outlines(&spans)? {
+    'rounds: while !gaps.is_empty() {
+        let outlines = match peer.outlines(&gaps)? {
             Some(outlines) => outlines,
             None => unreachable!(),
         };
         let mut asked = local.sort_out(&outlines)?;
         keys.append(&mut asked.keys)?;
-        spans = asked.spans;
+        gaps = asked.gaps;
         rounds += 1;
     }
     Ok(Lacked { keys, rounds })
@@ -163,11 +163,11 @@ fn root_items<'a, K: Key + Drop, V: Join + Drop, H: Hasher<N, K> + Hasher<N, V>,
     replica: &'a Replica<K, V, H, N>,
 ) -> Result<Vec<OutlineItem<'a, N, K>>, AllocError>
     requires { IsSome replica.now.tree.root_hash }
-    ensures { IfOk result (λ list. items list.items ≡ map of_page (whole_range replica.now.tree.format K.bytes_of replica.now.tree.root)) }
+    ensures { IfOk result (λ list. items list.items ≡ whole_item replica.now.tree.format K.bytes_of replica.now.tree.root) }
 {
     let mut items = Vec::new(alloc);
-    if let Some(range) = replica.tree().root_range() {
-        items.push(OutlineItemOf::Page(range))?;
+    if let Some(item) = replica.tree().whole() {
+        items.push(item)?;
     }
     Ok(items)
 }

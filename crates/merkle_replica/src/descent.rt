@@ -1,26 +1,25 @@
 //! The steps of a catch-up, each on its own side: outlines of pages of the peer, and what they leave to ask for.
 
-ghost use Rattle.std.specs.Prelude.{◌≡◌, ◌↔◌, IfOk, OnOk, MatchOption, None, Some, IsTrue};
+ghost use Rattle.std.specs.Prelude.{◌≡◌, ◌↔◌, IfOk, OnOk, MatchOption, None, Some, IsTrue, flat_map};
 ghost use Rattle.key_order.specs.Map.{get};
-ghost use Rattle.merkle_diff.specs.PageRange.{entry};
+ghost use Rattle.merkle_tree_theory.specs.Outline.{outline_over};
 ghost use Rattle.merkle_search_tree.specs.Items.{item as item_of, items};
 ghost use Rattle.merkle_replica.specs.Contents.{side, tree_map};
-ghost use Rattle.merkle_replica.specs.Descent.{AreOutlines, AreSortedOut, HasSortedOut, HasPage, bounds_of, keys_of};
+ghost use Rattle.merkle_replica.specs.Descent.{AreSortedOut, HasSortedOut, HasPage, gaps_of, keys_of};
 
 use crate::join::Join;
 use crate::lawful::Lawful;
 use crate::replica::Replica;
-use merkle_diff::PageRange;
-use merkle_digest::{Hasher, Key, ValueDigest};
-use merkle_search_tree::OutlineItem;
+use merkle_digest::{Hasher, Key, PageDigest, ValueDigest};
 use merkle_search_tree::laws::every_tree_is_sound;
+use merkle_search_tree::{Gap, OutlineItem};
 use std::alloc::AllocError;
 
 /// What a peer is still to be asked for. The keys are those of the items that came.
 #[derive(Drop)]
 pub struct ToAsk<'a, K> {
-    /// The first and the last key of pages of the peer that this side doesn't have: their outlines are asked for.
-    pub spans: Vec<(&'a K, &'a K)>,
+    /// The gaps that pages of the peer fill which this side doesn't have: their outlines are asked for.
+    pub gaps: Vec<Gap<'a, K>>,
     /// Keys of the peer that this side lacks, or has with another digest: their rows are asked for.
     pub keys: Vec<&'a K>,
 }
@@ -31,25 +30,28 @@ impl<K: Key + Drop, V: Join + Drop, H: Hasher<N, K> + Hasher<N, V>, const N: usi
     H,
     N,
 > {
-    /// The peer's step of a catch-up: the outlines of the pages with these spans, one behind the other, as
-    /// [`MerkleSearchTree::outline`](merkle_search_tree::MerkleSearchTree::outline) gives them; `None` where the tree isn't hashed.
+    /// The peer's step of a catch-up: the outlines over these gaps, one behind the other, as
+    /// [`MerkleSearchTree::outline`](merkle_search_tree::MerkleSearchTree::outline) gives them; `None` where the tree isn't hashed. Any gaps
+    /// will do: those that no page fills, that overlap, or that have no key.
+    ///
+    /// It goes down one path of the tree for each gap, and takes memory for the items alone.
     ///
     /// # Errors
     ///
     /// `AllocError` where memory is refused for the items.
     pub fn outlines<'a>(
         &'a self,
-        spans: &[(&K, &K)],
+        gaps: &[Gap<'a, K>],
     ) -> Result<Option<Vec<OutlineItem<'a, N, K>>>, AllocError>
         ensures { IfOk result (λ found. MatchOption found (self.now.tree.root_hash ≡ None)
-            (λ list. AreOutlines K.cmp self.now.tree.format K.bytes_of self.now.tree.root (bounds_of spans.now) (items list.items))) }
+            (λ list. items list.items ≡ flat_map (outline_over self.now.tree.format K.bytes_of K.cmp self.now.tree.root) (gaps_of gaps.now))) }
     {
         if self.tree().root_hash_cached().is_none() {
             return Ok(None);
         }
         let mut all = Vec::new(self.alloc);
-        'spans: for span in spans {
-            match self.tree().outline(span.0, span.1)? {
+        'gaps: for gap in gaps {
+            match self.tree().outline(gap.copied())? {
                 Some(mut outline) => all.append(&mut outline)?,
                 None => unreachable!(),
             }
@@ -58,17 +60,20 @@ impl<K: Key + Drop, V: Join + Drop, H: Hasher<N, K> + Hasher<N, V>, const N: usi
     }
 
     /// The local step of a catch-up, for any items that a peer sent: the pages that this side doesn't have are to be outlined, and of the
-    /// nodes those are wanted whose key this side lacks or has with another digest. Pages and keys are looked up in the tree of this
-    /// side.
+    /// nodes those are wanted whose key this side lacks or has with another digest. Each page and each key is looked up in the tree of
+    /// this side, down one path.
+    ///
+    /// Who takes items over a wire calls [`lie_within`](crate::lie_within) first: of items that a peer made up, what is to be asked next
+    /// can be any gaps and keys.
     ///
     /// # Errors
     ///
     /// `AllocError` where memory is refused for the lists.
     pub fn sort_out<'a>(&self, came: &[OutlineItem<'a, N, K>]) -> Result<ToAsk<'a, K>, AllocError>
-        ensures { IfOk result (λ asked. AreSortedOut ⟦<H as Lawful<N, K, V>>⟧.laws (side self.now) (items came.now) (bounds_of asked.spans.items) (keys_of asked.keys.items)) }
+        ensures { IfOk result (λ asked. AreSortedOut ⟦<H as Lawful<N, K, V>>⟧.laws (side self.now) (items came.now) (gaps_of asked.gaps.items) (keys_of asked.keys.items)) }
     {
         let mut asked = ToAsk {
-            spans: Vec::new(self.alloc),
+            gaps: Vec::new(self.alloc),
             keys: Vec::new(self.alloc),
         };
         'items: for item in came {
@@ -83,8 +88,8 @@ impl<K: Key + Drop, V: Join + Drop, H: Hasher<N, K> + Hasher<N, V>, const N: usi
         item: &OutlineItem<'a, N, K>,
         asked: &mut ToAsk<'a, K>,
     ) -> Result<(), AllocError>
-        ensures { OnOk result (HasSortedOut ⟦<H as Lawful<N, K, V>>⟧.laws (side self.now) (item_of item.now) (bounds_of asked.old.spans.items) (keys_of asked.old.keys.items)
-            (bounds_of asked.new.spans.items) (keys_of asked.new.keys.items)) }
+        ensures { OnOk result (HasSortedOut ⟦<H as Lawful<N, K, V>>⟧.laws (side self.now) (item_of item.now) (gaps_of asked.old.gaps.items) (keys_of asked.old.keys.items)
+            (gaps_of asked.new.gaps.items) (keys_of asked.new.keys.items)) }
     {
         match item {
             OutlineItem::Node(key, digest) => {
@@ -94,11 +99,11 @@ impl<K: Key + Drop, V: Join + Drop, H: Hasher<N, K> + Hasher<N, V>, const N: usi
                 asked.keys.push(*key)?;
                 Ok(())
             }
-            OutlineItem::Page(range) => {
-                if self.has_page(range) {
+            OutlineItem::Page(gap, digest) => {
+                if self.has_page(gap, *digest) {
                     return Ok(());
                 }
-                asked.spans.push((range.start(), range.end()))?;
+                asked.gaps.push(gap.copied())?;
                 Ok(())
             }
         }
@@ -114,11 +119,11 @@ impl<K: Key + Drop, V: Join + Drop, H: Hasher<N, K> + Hasher<N, V>, const N: usi
         }
     }
 
-    /// Whether the tree has a page with this digest, on the way to the first key of the range.
-    fn has_page(&self, range: &PageRange<'_, K>) -> bool
-        ensures { IsTrue result → HasPage ⟦<H as Lawful<N, K, V>>⟧.laws (side self.now) (entry range.now).digest }
+    /// Whether the tree has a page with this digest: the one over the gap.
+    fn has_page(&self, gap: &Gap<'_, K>, digest: &PageDigest) -> bool
+        ensures { IsTrue result → HasPage ⟦<H as Lawful<N, K, V>>⟧.laws (side self.now) digest.now }
     {
         every_tree_is_sound(self.tree());
-        self.tree().has_page(range)
+        self.tree().has_page(gap, digest)
     }
 }

@@ -39,9 +39,6 @@ pub enum CatchUpAllError {
 /// Other orders of catch-ups serve too, as long as the news of each can come to each
 /// ([`gossip_joins_what_came`](crate::laws::gossip_joins_what_came)).
 ///
-/// Its condition on clones is proved by a lemma of `key_order::proofs::Clones`: `string_clone` or `str_clone` for texts,
-/// `vec_clone` or `array_clone` for vectors and arrays of bytes, `exact_clone` for what a clone gives back as it is.
-///
 /// # Errors
 ///
 /// [`CatchUpAllError`] where memory is refused: the catch-ups that were made until then stay.

@@ -1,7 +1,8 @@
 //! Laws over the definitions alone: what is premise enough in page format 2, that a map in memory is small, that three steps are a
-//! pull, that the steps of a catch-up are one, and what gossip joins. Each function has no effect and takes no memory.
+//! pull, that the steps of a catch-up are one, that outlines lie within gaps, and what gossip joins. Each function has no effect and takes
+//! no memory.
 
-ghost use Rattle.std.specs.Prelude.{◌≡◌, ℕ, ◌+◌, ◌≤◌, List, length, map, true};
+ghost use Rattle.std.specs.Prelude.{◌≡◌, ℕ, ◌+◌, ◌≤◌, List, [], ◌∷◌, length, map, flat_map, true};
 ghost use Rattle.std.specs.List.{AllByRecursion};
 ghost use Rattle.key_order.specs.Order.{AnyByRecursion};
 ghost use Rattle.key_order.specs.Interval.{Span};
@@ -11,16 +12,20 @@ ghost use Rattle.merkle_diff.specs.Entry.{Entry};
 ghost use Rattle.merkle_diff.specs.Merge.{SameSpans};
 ghost use Rattle.merkle_diff.specs.SameEntries.{SameEntries};
 ghost use Rattle.merkle_tree_theory.specs.Canonical.{IsTreeOf};
-ghost use Rattle.merkle_tree_theory.specs.Outline.{Item};
-ghost use Rattle.merkle_tree_theory.specs.Page.{level};
+ghost use Rattle.merkle_tree_theory.specs.Gap.{Gap, everywhere};
+ghost use Rattle.merkle_tree_theory.specs.Lookup.{Fills};
+ghost use Rattle.merkle_tree_theory.specs.Outline.{Item, outline_over, whole_item};
+ghost use Rattle.merkle_tree_theory.specs.Page.{level, pairs};
 ghost use Rattle.merkle_tree_theory.specs.Tree.{Tree};
+ghost use Rattle.merkle_tree_theory.specs.declared.page_format.PageFormat.{PageFormat};
 ghost use Rattle.merkle_tree_theory.specs.declared.page_format.PageFormat.TheVariants.{V2};
 ghost use Rattle.merkle_replica.specs.CatchUp.{IsCatchUp};
 ghost use Rattle.merkle_replica.specs.CatchUpSteps.{IsWholeTree, AreCatchUpSteps};
-ghost use Rattle.merkle_replica.specs.Descent.{IsDescent};
+ghost use Rattle.merkle_replica.specs.Descent.{AreSortedOut, IsDescent};
 ghost use Rattle.merkle_replica.specs.Gossip.{IsGossip, IsJoinOf, heard};
 ghost use Rattle.merkle_replica.specs.Contents.{Side, side, tree_map};
 ghost use Rattle.merkle_replica.specs.Faithful.{SpanHolds, IsFaithful, AllFaithful, MissesNone, AreSetAlike, HasSmallMap, NoStreamsCollide, IsCollisionFree, AllCollisionFree};
+ghost use Rattle.merkle_replica.specs.LieWithin.{GapsAscend, LieWithin};
 ghost use Rattle.merkle_replica.specs.Pulls.{Answer, IsAnswerFor, IsPull, IsByTurns, HoldTheJoin, HasRanges};
 ghost use Rattle.merkle_replica.specs.PullSteps.{ArePullSteps};
 ghost use Rattle.merkle_replica.specs.Steps.{IsAnswerTo};
@@ -119,7 +124,7 @@ pub fn a_pull_has_one_answer<
 }
 
 /// The steps of a catch-up are one, whatever lies between them: where the whole tree of the peer was sorted out first, and then, round
-/// by round, the outlines that the peer has over the spans that were left, and the peer's rows at the keys that they left, each once, were
+/// by round, the outlines that the peer has over the gaps that were left, and the peer's rows at the keys that they left, each once, were
 /// joined; each message read on the other side as what was sent, up to equal keys and equal values. The rounds are few, and while digests
 /// are faithful the rows are then the join of both sides' rows. It holds of any two hashers, level bases and page formats.
 pub fn steps_are_a_catch_up<
@@ -136,6 +141,25 @@ pub fn steps_are_a_catch_up<
         → IsWholeTree laws peer root first → IsDescent laws local peer root first rounds left → length rounds ≤ level root + 1 }
     ensures joins { let laws = ⟦<H as Lawful<N, K, V>>⟧.laws in (local peer : Side K V H) (keys : List K) (after : List (K × V))
         → IsFaithful laws local peer → IsCatchUp laws local peer keys after → IsJoin K.cmp V.eq V.join_of local.rows peer.rows after }
+{
+    outlines_lead_down::<K, H, N>();
+}
+
+/// Outlines lie within the gaps that they are over, so that [`lie_within`](crate::lie_within) refuses no peer that keeps to the steps of a
+/// catch-up: the whole tree lies within the gap that has all keys, outlines over ascending gaps that pages of the tree fill lie within
+/// these, and items that lie within any gaps leave ascending gaps when they are sorted out. That pages fill the gaps of outlines says
+/// [`outlines_lead_down`](merkle_search_tree::laws::outlines_lead_down).
+pub fn outlines_lie_within<
+    K: Ord + KeyBytes,
+    V: Join,
+    H: Hasher<N, K> + Hasher<N, V>,
+    const N: usize,
+>()
+    ensures whole { (format : PageFormat) (t : Tree K (List ℕ)) → LieWithin K.cmp (everywhere ∷ []) (whole_item format K.bytes_of t) }
+    ensures outlines { (format : PageFormat) (t : Tree K (List ℕ)) (gaps : List (Gap K)) → IsMap K.cmp (pairs t) → GapsAscend K.cmp gaps
+        → AllByRecursion (λ gap. (page : Tree K (List ℕ)) × Fills K.cmp gap page t) gaps → LieWithin K.cmp gaps (flat_map (outline_over format K.bytes_of K.cmp t) gaps) }
+    ensures left { let laws = ⟦<H as Lawful<N, K, V>>⟧.laws in (local : Side K V H) (asked gaps : List (Gap K)) (came : List (Item K (List ℕ))) (keys : List K)
+        → LieWithin K.cmp asked came → AreSortedOut laws local came gaps keys → GapsAscend K.cmp gaps }
 {
     outlines_lead_down::<K, H, N>();
 }

@@ -26,6 +26,7 @@ mod steps;
 mod turns;
 mod value_hasher;
 mod wanted;
+mod within_gaps;
 
 pub use both_ways::{CatchUpsError, catch_up_both};
 pub use catch_up::{CatchUpError, CaughtUp};
@@ -42,3 +43,4 @@ pub use steps::JoinRefused;
 pub use turns::{TurnsError, pull_by_turns};
 pub use value_hasher::ValueHasher;
 pub use wanted::in_order as keys_in_order;
+pub use within_gaps::lie_within;

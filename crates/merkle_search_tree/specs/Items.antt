@@ -1,13 +1,23 @@
--- Items of an outline as contracts see them.
-use Rattle.std.specs.Prelude.{List, map}
-use Rattle.merkle_diff.specs.PageRange.{entry}
+-- Gaps and items of an outline as contracts see them.
+use Rattle.std.specs.Prelude.{List, Option, map}
+use Rattle.std.specs.Option.{option_map}
+use denote.Ref.{Bor}
+use Rattle.merkle_tree_theory.specs.Gap.{Gap}
 use Rattle.merkle_tree_theory.specs.Outline.{Item, of_node, of_page}
+use Rattle.merkle_search_tree.specs.declared.gap.Gap.{Gap as BorrowedGap}
 use Rattle.merkle_search_tree.specs.declared.outline.OutlineItemOf.{OutlineItemOf}
 use Rattle.merkle_search_tree.specs.declared.outline.OutlineItemOf.TheVariants.{Node, Page}
 
-abbrev pub item : {K D : Type 0} {o e p : _} → OutlineItemOf K D o e p → Item K D
-item (Node k d) = of_node k.now d.now
-item (Page r) = of_page (entry r)
+-- a bound of a gap
+abbrev pub bound_of : {K : Type 0} → Option (Bor K) → Option K
+bound_of = option_map (λ k. k.now)
 
-abbrev pub items : {K D : Type 0} {o e p : _} → List (OutlineItemOf K D o e p) → List (Item K D)
+abbrev pub gap_of : {K : Type 0} → BorrowedGap K → Gap K
+gap_of g = record { after = bound_of g.after; before = bound_of g.before }
+
+abbrev pub item : {K D : Type 0} → OutlineItemOf K D → Item K D
+item (Node k d) = of_node k.now d.now
+item (Page g d) = of_page (gap_of g) d.now
+
+abbrev pub items : {K D : Type 0} → List (OutlineItemOf K D) → List (Item K D)
 items = map item

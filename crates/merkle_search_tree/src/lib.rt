@@ -11,6 +11,7 @@ mod chain;
 mod copy;
 mod edge;
 mod equality;
+mod gap;
 mod hash;
 pub mod laws;
 mod load;
@@ -34,6 +35,7 @@ pub mod updates;
 mod upsert;
 pub mod visitor;
 
+pub use gap::Gap;
 pub use load::LoadRefused;
 pub use merkle_diff as diff;
 pub use merkle_digest as digest;

@@ -1,13 +1,15 @@
-//! What peers tell each other of a page: its nodes, and the ranges of the pages right below it.
+//! What peers tell each other of a page: its nodes, and the pages right below it.
 
-ghost use Rattle.std.specs.Prelude.{◌≡◌, ◌++◌, OnOk, map};
+ghost use Rattle.std.specs.Prelude.{◌≡◌, ◌≢◌, ◌++◌, IfSome, None, Some, OnOk};
+ghost use Rattle.merkle_tree_theory.specs.Canonical.{HasNode};
 ghost use Rattle.merkle_tree_theory.specs.Tree.{held_of};
-ghost use Rattle.merkle_tree_theory.specs.Outline.{cached_items, held_cached_items};
-ghost use Rattle.merkle_search_tree.specs.Items.{items};
+ghost use Rattle.merkle_tree_theory.specs.Outline.{cached_items, held_items};
+ghost use Rattle.merkle_tree_theory.specs.Page.{cache};
+ghost use Rattle.merkle_search_tree.specs.Items.{gap_of, items};
 
+use crate::gap::Gap;
 use crate::page::PageOf;
-use merkle_diff::PageRange;
-use merkle_digest::ValueDigest;
+use merkle_digest::{PageDigest, ValueDigest};
 use std::alloc::AllocError;
 
 /// An item of an outline, in a tree whose value digests have `N` bytes.
@@ -17,42 +19,69 @@ pub type OutlineItem<'a, const N: usize, K> = OutlineItemOf<'a, K, ValueDigest<N
 ///
 /// `D` is the type of the value digests: callers name the alias [`OutlineItem`].
 #[derive(Drop)]
-pub enum OutlineItemOf<'a, K: Ord, D> {
+pub enum OutlineItemOf<'a, K, D> {
     /// The key of a node and the digest of its value.
     Node(&'a K, &'a D),
-    /// The range of a page.
-    Page(PageRange<'a, K>),
+    /// The gap that a page fills, and the digest of the page.
+    Page(Gap<'a, K>, &'a PageDigest),
 }
 
-impl<K: Ord, D> PageOf<K, D> {
-    /// Adds the nodes of the page and the ranges of the pages right below it to a list, in the order of their keys.
+impl<K, D> PageOf<K, D> {
+    /// The digest of the page, where it is cached and the page has a node.
+    pub(crate) fn digest_with_node(&self) -> Option<&PageDigest>
+        ensures none { result ≡ None → cache self.now ≢ None → ¬ (HasNode self.now) }
+        ensures some { IfSome result (λ digest. HasNode self.now × (cache self.now ≡ Some digest.now)) }
+    {
+        if self.nodes.is_empty() {
+            return None;
+        }
+        match &self.tree_hash {
+            None => None,
+            Some(digest) => Some(digest),
+        }
+    }
+
+    /// Adds the nodes of the page, which fills the gap, and the pages right below it to a list, in the order of their keys.
     pub(crate) fn list_items<'a>(
         &'a self,
+        gap: Gap<'a, K>,
         list: &mut Vec<OutlineItemOf<'a, K, D>>,
     ) -> Result<(), AllocError>
-        ensures { OnOk result (items list.new.items ≡ items list.old.items ++ cached_items K.cmp self.now) }
+        ensures { OnOk result (items list.new.items ≡ items list.old.items ++ cached_items (gap_of gap.entry) self.now) }
     {
+        let mut after = gap.after;
         'nodes: for node in &self.nodes {
-            list_page(&node.lt_pointer, list)?;
-            list.push(OutlineItemOf::Node(&node.key, &node.value_hash))?;
+            let key = &node.key;
+            let before = Gap {
+                after,
+                before: Some(key),
+            };
+            list_page(&node.lt_pointer, before, list)?;
+            list.push(OutlineItemOf::Node(key, &node.value_hash))?;
+            after = Some(key);
         }
-        list_page(&self.high_page, list)
+        let behind = Gap {
+            after,
+            before: gap.before,
+        };
+        list_page(&self.high_page, behind, list)
     }
 }
 
-/// Adds the range of the page that a pointer holds to a list, where it has one.
-fn list_page<'a, K: Ord, D>(
+/// Adds the page that a pointer holds to a list, where it holds one whose digest is cached.
+fn list_page<'a, K, D>(
     held: &'a Option<Box<PageOf<K, D>>>,
+    gap: Gap<'a, K>,
     list: &mut Vec<OutlineItemOf<'a, K, D>>,
 ) -> Result<(), AllocError>
-    ensures { OnOk result (items list.new.items ≡ items list.old.items ++ held_cached_items K.cmp (held_of held.now)) }
+    ensures { OnOk result (items list.new.items ≡ items list.old.items ++ held_items cache (gap_of gap.entry) (held_of held.now)) }
 {
     let page = match held {
         None => return Ok(()),
         Some(page) => page,
     };
-    if let Some(range) = page.page_range() {
-        list.push(OutlineItemOf::Page(range))?;
+    if let Some(digest) = &page.tree_hash {
+        list.push(OutlineItemOf::Page(gap, digest))?;
     }
     Ok(())
 }

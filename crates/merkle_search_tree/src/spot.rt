@@ -2,9 +2,11 @@
 
 ghost use Rattle.std.specs.Ordering.{is_eq};
 ghost use Rattle.std.specs.Prelude.{slice_index_or, ◌≡◌, ℕ, ◌^◌, ◌<◌, ◌≤◌, length};
+ghost use Rattle.merkle_tree_theory.specs.Lookup.{place_after};
 ghost use Rattle.merkle_tree_theory.specs.Tree.{Node};
 ghost use Rattle.merkle_tree_theory.specs.Search.{NodesAscend, ComparesByHalves};
 ghost use Rattle.merkle_tree_theory.specs.Upsert.{place};
+ghost use Rattle.merkle_search_tree.specs.Items.{bound_of};
 
 use crate::page::NodeOf;
 use std::cmp::Ordering;
@@ -54,4 +56,21 @@ pub(crate) fn search<K: Ord, D>(nodes: &[NodeOf<K, D>], key: &K) -> Spot
         is_there: false,
         compared,
     }
+}
+
+/// The place of the first node whose key is above the bound, or of the first node where there is no bound.
+pub(crate) fn first_behind<K: Ord, D>(nodes: &[NodeOf<K, D>], bound: Option<&K>) -> usize
+    requires ascending { NodesAscend K.cmp nodes.now }
+    ensures found { result ≡ place_after K.cmp (bound_of bound.entry) nodes.now }
+    ensures within { result ≤ length nodes.now }
+{
+    let key = match bound {
+        None => return 0,
+        Some(key) => key,
+    };
+    let spot = search(nodes, key);
+    if spot.at == nodes.len() {
+        return spot.at;
+    }
+    if spot.is_there { spot.at + 1 } else { spot.at }
 }

@@ -25,7 +25,7 @@ use crate::page::Page;
 use crate::spot::search;
 use crate::upsert::UpsertRefused;
 use crate::visitor::{Visitor, traverse_page};
-use merkle_digest::{Hasher, Key, KeyBytes, RootHash, SipHasher, ValueDigest, level};
+use merkle_digest::{Digest, Hasher, Key, KeyBytes, RootHash, SipHasher, ValueDigest, level};
 use std::alloc::{AllocError, Global};
 use std::marker::{Model, PhantomData};
 use std::num::NonZeroU8;
@@ -149,6 +149,20 @@ impl<K: Ord + KeyBytes, V, H: Hasher<N, K>, const N: usize> MerkleSearchTree<K, 
         ensures { result ≡ self.now.format }
     {
         self.page_format
+    }
+
+    /// The level base, which is that of the builder that made the tree.
+    pub fn level_base(&self) -> NonZeroU8
+        ensures { non_zero_u8_get result ≡ self.now.base }
+    {
+        self.level_base
+    }
+
+    /// The digest of a key by the tree's hasher, which tells the level of the key. The key need not be there.
+    pub fn key_digest(&self, key: &K) -> Digest<N>
+        ensures { result ≡ H.digest_of self.now.hasher key.now }
+    {
+        self.hasher.hash(key)
     }
 
     /// The digest of the root page, where it is cached: `None` for a new tree, and after every accepted upsert and every removal of a

@@ -1,23 +1,21 @@
 //! What a tree answers to a peer that goes down page by page: the outline of a page, and what the tree has of one.
 
-ghost use Rattle.std.specs.Prelude.{◌≡◌, ◌≢◌, ℕ, List, None, IfOk, IfSome, IsOk, IsTrue, MatchOption};
+ghost use Rattle.std.specs.Prelude.{◌≡◌, ◌≢◌, ◌↔◌, ℕ, List, None, Some, IfOk, IsOk, IsTrue, MatchOption};
 ghost use Rattle.std.specs.Option.{option_map};
 ghost use Rattle.key_order.specs.Map.{get};
-ghost use Rattle.merkle_diff.specs.PageRange.{entry};
 ghost use Rattle.merkle_tree_theory.specs.CachedRanges.{as_list};
-ghost use Rattle.merkle_search_tree.specs.Items.{items};
-ghost use Rattle.merkle_tree_theory.specs.Lookup.{IsFirstOf};
-ghost use Rattle.merkle_tree_theory.specs.Outline.{IsOutline, whole_range};
-ghost use Rattle.merkle_tree_theory.specs.Page.{pairs};
+ghost use Rattle.merkle_tree_theory.specs.Lookup.{Fills};
+ghost use Rattle.merkle_tree_theory.specs.Outline.{outline_over, whole_item};
 ghost use Rattle.merkle_tree_theory.specs.Ranges.{IsPageIn};
 ghost use Rattle.merkle_tree_theory.specs.State.{map_of};
 ghost use Rattle.merkle_tree_theory.specs.Stream.{page_digest};
 ghost use Rattle.merkle_tree_theory.specs.Tree.{Tree};
+ghost use Rattle.merkle_search_tree.specs.Items.{gap_of, item as item_of, items};
 
-use crate::outline::OutlineItem;
+use crate::gap::Gap;
+use crate::outline::{OutlineItem, OutlineItemOf};
 use crate::tree::MerkleSearchTree;
-use merkle_diff::PageRange;
-use merkle_digest::{Hasher, KeyBytes, ValueDigest};
+use merkle_digest::{Hasher, KeyBytes, PageDigest, ValueDigest};
 use std::alloc::AllocError;
 
 impl<K: Ord + KeyBytes, V, H: Hasher<N, K>, const N: usize> MerkleSearchTree<K, V, H, N> {
@@ -30,55 +28,67 @@ impl<K: Ord + KeyBytes, V, H: Hasher<N, K>, const N: usize> MerkleSearchTree<K, 
         Some(node.value_hash())
     }
 
-    /// The range of the root page, which stands for the whole tree, where the tree is hashed and has a key. It takes no memory.
-    pub fn root_range(&self) -> Option<PageRange<'_, K>>
-        ensures { self.now.root_hash ≢ None → as_list (option_map entry result) ≡ whole_range self.now.format K.bytes_of self.now.root }
+    /// The whole tree as one item of an outline, where the tree is hashed and has a key: its root page, in the gap that has all keys. It
+    /// takes no memory.
+    pub fn whole(&self) -> Option<OutlineItem<'_, N, K>>
+        ensures { self.now.root_hash ≢ None → as_list (option_map item_of result) ≡ whole_item self.now.format K.bytes_of self.now.root }
     {
-        if self.root_hash.is_none() {
-            return None;
+        let digest = self.root.digest_with_node()?;
+        Some(OutlineItemOf::Page(Gap::everywhere(), digest))
+    }
+
+    /// Whether the page over the gap, as [`outline`](Self::outline) opens it, has the digest. Where a page of the hashed tree fills the gap,
+    /// that is the page that is looked at. It compares keys as [`value_hash`](Self::value_hash) does, and one digest. It takes no
+    /// memory.
+    pub fn has_page(&self, gap: &Gap<'_, K>, digest: &PageDigest) -> bool
+        ensures only { IsTrue result → (page : Tree K (List ℕ)) × IsPageIn page self.now.root × (page_digest self.now.format K.bytes_of page ≡ digest.now) }
+        ensures all { self.now.root_hash ≢ None → (page : Tree K (List ℕ)) → Fills K.cmp (gap_of gap.now) page self.now.root
+            → page_digest self.now.format K.bytes_of page ≡ digest.now → IsTrue result }
+    {
+        match self.root.page_over(gap) {
+            None => false,
+            Some(page) => has_digest(&page.tree_hash, digest),
         }
-        self.root.page_range()
     }
 
-    /// Whether the tree has a page with the range's digest, on the way to the range's first key. It compares keys as
-    /// [`value_hash`](Self::value_hash) does, and a digest a page. It takes no memory.
-    pub fn has_page(&self, range: &PageRange<'_, K>) -> bool
-        ensures only { IsTrue result → (page : Tree K (List ℕ)) × IsPageIn page self.now.root × (page_digest self.now.format K.bytes_of page ≡ (entry range.now).digest) }
-        ensures all { self.now.root_hash ≢ None → (page : Tree K (List ℕ)) → IsPageIn page self.now.root → IsFirstOf K.cmp (entry range.now).first (pairs page)
-            → page_digest self.now.format K.bytes_of page ≡ (entry range.now).digest → IsTrue result }
-    {
-        self.root.knows(range.start(), range.hash())
-    }
-
-    /// The outline of the page that has a node from `first` to `last`, where the tree is hashed: the nodes of that page, and the ranges
-    /// of the pages right below it, in the order of their keys. Where no key is from `first` to `last`, it is empty. Over the range of a
-    /// page of the tree, it has ranges of pages on lower levels than that page's, and each key of the range is in one of its items
-    /// ([`outlines_lead_down`](crate::laws::outlines_lead_down)).
+    /// The outline of the page over the gap, where the tree is hashed: the page that has a node in the gap, and all keys that the tree has
+    /// there. The items are the nodes of that page, and the pages right below it, each by the gap that it fills and its digest, in the
+    /// order of their keys. Where the tree has no key in the gap, the outline is empty. Over a gap that a page fills, the page that is
+    /// opened is that page ([`outlines_lead_down`](crate::laws::outlines_lead_down)).
     ///
-    /// It goes down the path to `first`, and compares keys as [`value_hash`](Self::value_hash) does.
+    /// It goes down the path to the gap, and compares keys as [`value_hash`](Self::value_hash) does, and takes memory for as many items as
+    /// the page has nodes and pages right below it.
     ///
     /// # Errors
     ///
     /// `AllocError` where memory is refused for the items.
-    pub fn outline(
-        &self,
-        first: &K,
-        last: &K,
-    ) -> Result<Option<Vec<OutlineItem<'_, N, K>>>, AllocError>
-        ensures hashed { IfOk result (λ found. IfSome found (λ list. self.now.root_hash ≢ None)) }
+    pub fn outline<'a>(
+        &'a self,
+        gap: Gap<'a, K>,
+    ) -> Result<Option<Vec<OutlineItem<'a, N, K>>>, AllocError>
         ensures items { IfOk result (λ found. MatchOption found (self.now.root_hash ≡ None)
-            (λ list. IsOutline self.now.format K.bytes_of K.cmp self.now.root (record { first = first.now; last = last.now }) (items list.items))) }
+            (λ list. (self.now.root_hash ≢ None) × (items list.items ≡ outline_over self.now.format K.bytes_of K.cmp self.now.root (gap_of gap.entry)))) }
         ensures not_hashed { self.now.root_hash ≡ None → IsOk result }
     {
         if self.root_hash.is_none() {
             return Ok(None);
         }
         let mut list = Vec::new(self.alloc);
-        let page = match self.root.page_over(first, last) {
+        let page = match self.root.page_over(&gap) {
             Some(page) => page,
             None => return Ok(Some(list)),
         };
-        page.list_items(&mut list)?;
+        page.list_items(gap, &mut list)?;
         Ok(Some(list))
+    }
+}
+
+/// Whether the digest is cached.
+fn has_digest(cached: &Option<PageDigest>, digest: &PageDigest) -> bool
+    ensures { IsTrue result ↔ (cached.now ≡ Some digest.now) }
+{
+    match cached {
+        None => false,
+        Some(own) => *own == *digest,
     }
 }

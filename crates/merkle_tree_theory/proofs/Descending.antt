@@ -1,31 +1,29 @@
--- What the outline over the range of a page says of the map: its items are of the tree, on lower levels, and no key of the range is
--- without one.
-use Rattle.std.proofs.Common.{◌≡◌, ℕ, ◌+◌, ◌<◌, ◌≤◌, Bool, true, false, cond, List, [], ◌∷◌, ◌++◌, map, Some, None, refl, ap, sym, subst, ◌∙◌, append_assoc, append-nil, arith, ◌⊎◌, inl, inr}
+-- What the outline of a page that fills a gap says of the map: its items are of the tree, on lower levels, and no key of the gap is without
+-- one.
+use Rattle.std.proofs.Common.{◌≡◌, ℕ, ◌+◌, Bool, true, false, cond, List, [], ◌∷◌, ◌++◌, Some, None, refl, ap, sym, subst, ◌∙◌, append_assoc, append-nil, arith, ◌⊎◌, inl, inr}
+use Rattle.std.proofs.lemmas.List.Elements.{filter-append}
 use Rattle.std.specs.List.{AllByRecursion}
 use Rattle.std.specs.Cmp.{IsTotalOrder, tied_itself, tied_back}
 use Rattle.std.specs.Ordering.{is_eq}
 use Rattle.std.specs.declared.cmp.Ordering.{Ordering}
 use Rattle.key_order.specs.Order.{AnyByRecursion, Below, Same}
-use Rattle.key_order.specs.Interval.{Span, IsIn, is_in}
-use Rattle.key_order.specs.Map.{IsMap, get, last_key}
+use Rattle.key_order.specs.Map.{IsMap, get, rows_at}
 use Rattle.key_order.proofs.Bools.{which, is_equal}
-use Rattle.key_order.proofs.Maps.{absent, get_at, at_head, past_head}
-use Rattle.key_order.proofs.Orders.{up_up, up_low, same_up, same_down}
-use Rattle.key_order.proofs.ListParts.{each-append, map-first, map-rest}
-use Rattle.key_order.proofs.Spans.{test_from_in, is_in-same}
-use Rattle.merkle_diff.specs.Entry.{Entry, span_of}
-use Rattle.merkle_tree_theory.specs.Tree.{Tree, page, Row, high, node, Held, nothing, below, Node}
-use Rattle.merkle_tree_theory.specs.Page.{level, pairs, row_pairs, held_pairs, nodes_of, row_nodes}
+use Rattle.key_order.proofs.Maps.{absent, at_head, past_head}
+use Rattle.key_order.proofs.Orders.{up_low, same_down, low_is_up, not_both, not_low_self}
+use Rattle.key_order.proofs.ListParts.{each-append, each-at, map-first, map-rest, map-before}
 use Rattle.merkle_tree_theory.specs.Canonical.{HasNode, IsCanonical, IsRow, IsGap, IsCanonicalRoot}
-use Rattle.merkle_tree_theory.specs.Lookup.{pairs_within, IsFirstOf}
-use Rattle.merkle_tree_theory.specs.Outline.{Item, of_node, of_page, held_items, row_items, outline_of, whole_range, IsOutline, IsItemOf, HasItemAt}
-use Rattle.merkle_tree_theory.specs.Ranges.{IsPageIn, IsPageInRow, IsPageInHeld, entry_of}
+use Rattle.merkle_tree_theory.specs.Gap.{Gap, IsInGap, is_after, is_before, pairs_within, part_before, part_behind}
+use Rattle.merkle_tree_theory.specs.Lookup.{Fills}
+use Rattle.merkle_tree_theory.specs.Outline.{Item, of_node, held_items, row_items, outline_of, whole_item, IsItemOf, HasItemAt}
+use Rattle.merkle_tree_theory.specs.Page.{level, pairs, row_pairs, held_pairs}
+use Rattle.merkle_tree_theory.specs.Ranges.{IsPageIn, IsPageInRow, IsPageInHeld}
 use Rattle.merkle_tree_theory.specs.Stream.{page_digest}
-use Rattle.merkle_tree_theory.proofs.Inside.{canonical_down, some_node, node_there}
-use Rattle.merkle_tree_theory.proofs.Listing.{after_front}
-use Rattle.merkle_tree_theory.proofs.PagesIn.{itself, page_in, inside}
-use Rattle.merkle_tree_theory.proofs.RangeKeys.{InSpan, each_in_span}
+use Rattle.merkle_tree_theory.specs.Tree.{Tree, page, Row, high, node, Held, nothing, below}
 use Rattle.merkle_tree_theory.specs.declared.page_format.PageFormat.{PageFormat}
+use Rattle.merkle_tree_theory.proofs.InGaps.{each_within, all_within, within_before, within_after, get_within, in_gap-same}
+use Rattle.merkle_tree_theory.proofs.Inside.{canonical_down}
+use Rattle.merkle_tree_theory.proofs.PagesIn.{itself, page_in, inside}
 
 module _ {K D : Type 0} where
   -- where the pairs of a page stand among those of the tree
@@ -107,25 +105,6 @@ module _ {K D : Type 0} (cmp : K → K → Ordering) (o : IsTotalOrder cmp) wher
       let (pre, post, c) = context s t i in
       ap (λ w. get cmp w k) c ∙ get_behind pre (pairs s ++ post) k d (subst (IsMap cmp) c m) (get_before (pairs s) post k d e)
 
-  get_within : (s : Span K) (m : List (K × D)) (k : K) (d : D) → IsIn cmp k s → get cmp m k ≡ Some d → get cmp (pairs_within cmp s m) k ≡ Some d
-  get_within s m k d i e = get_at cmp o (λ j. is_in cmp j s) (is_in-same cmp o s) m k ∙ rw (test_from_in cmp o k s i) e
-
-  get_without : (s : Span K) (m : List (K × D)) (k : K) (d : D) → IsIn cmp k s → get cmp (pairs_within cmp s m) k ≡ Some d → get cmp m k ≡ Some d
-  get_without s m k d i e = (rw (test_from_in cmp o k s i) at (sym (get_at cmp o (λ j. is_in cmp j s) (is_in-same cmp o s) m k) ∙ e))
-
-  -- the pairs of the map in the range of a page are those of the page
-  within_range : (s t : Tree K D) (p : K × D) (ps : List (K × D)) → IsPageIn s t → IsMap cmp (pairs t) → pairs s ≡ p ∷ ps → pairs_within cmp (record { first = p.0; last = last_key p.0 ps }) (pairs t) ≡ pairs s
-  within_range s t p ps i m e =
-      let (pre, post, c) = context s t i in
-      let at : pairs t ≡ pre ++ ((p ∷ ps) ++ post) = c ∙ ap (λ w. pre ++ (w ++ post)) e in
-      ap (pairs_within cmp (record { first = p.0; last = last_key p.0 ps })) at ∙ after_front cmp o pre p ps post (subst (IsMap cmp) at m) ∙ sym e
-
-  in_span : (ps : List (K × D)) (p : K × D) (qs : List (K × D)) (k : K) (d : D) → ps ≡ p ∷ qs → IsMap cmp ps → get cmp ps k ≡ Some d → IsIn cmp k (record { first = p.0; last = last_key p.0 qs })
-  in_span [] p qs k d e m f = absurd (cc)
-  in_span (x ∷ xs) p qs k d e m f =
-      subst (λ ys. InSpan cmp k ys) e
-      (found_with (λ j. InSpan cmp j (x ∷ xs)) (λ j l s b. (up_up cmp o x.0 j l b.0 (same_up cmp o j l s), up_up cmp o l j (last_key x.0 xs) (same_down cmp o j l s) b.1)) (x ∷ xs) k d (each_in_span cmp o (x ∷ xs) m) f)
-
 module _ {K D : Type 0} (lev : K → ℕ) where
   page_canonical : (s t : Tree K D) → IsCanonicalRoot lev t → IsPageIn s t → HasNode s → IsCanonical lev s
   page_canonical s (page l c (high nothing)) g (inl e) n = absurd (subst (λ (u : Tree K D). HasNode u) e n)
@@ -133,56 +112,86 @@ module _ {K D : Type 0} (lev : K → ℕ) where
   page_canonical s (page l c (high (below t))) g i n = absurd g
   page_canonical s (page l c (node h k d r)) g i n = (inside (canonical_down lev) s (page l c (node h k d r)) (tt, g) i).1
 
-  weaker : (a b : ℕ) (ps : List (K × D)) → a ≤ b → AllByRecursion (λ p. lev p.0 ≤ a) ps → AllByRecursion (λ p. lev p.0 ≤ b) ps
-  weaker a b [] le a' = tt
-  weaker a b (p ∷ ps) le a' = let first = a'.0 in (omega arith, weaker a b ps le a'.1)
+-- a test that all pairs pass, or none
+all_pass : {K X : Type 0} (test : K → Bool) (ps : List (K × X)) → AllByRecursion (λ p. test p.0 ≡ true) ps → rows_at test ps ≡ ps
+all_pass test [] a = refl
+all_pass test (p ∷ ps) a = rw a.0 (ap (λ qs. p ∷ qs) (all_pass test ps a.1))
 
-  mutual
-    -- no key of a page is on a higher level
-    levels_upto : (t : Tree K D) → IsCanonical lev t → AllByRecursion (λ p. lev p.0 ≤ level t) (pairs t)
-    levels_upto (page l c r) g = row_upto l r g
+none_pass : {K X : Type 0} (test : K → Bool) (ps : List (K × X)) → AllByRecursion (λ p. test p.0 ≡ false) ps → rows_at test ps ≡ []
+none_pass test [] a = refl
+none_pass test (p ∷ ps) a = rw a.0 (none_pass test ps a.1)
 
-    row_upto : (l : ℕ) (r : Row K D) → IsRow lev l r → AllByRecursion (λ p. lev p.0 ≤ l) (row_pairs r)
-    row_upto l (high h) g = held_upto l h g
-    row_upto l (node h k d r) g =
-        let same = g.1 in
-        let here : lev k ≤ l = omega arith in
-        each-append (λ p. lev p.0 ≤ l) (held_pairs h) ((k, d) ∷ row_pairs r) (held_upto l h g.0) (here, row_upto l r g.2)
+low_self : {K : Type 0} (cmp : K → K → Ordering) (o : IsTotalOrder cmp) (k : K) → Below cmp k k → ⊥
+low_self cmp o k l = not_low_self cmp o k l
 
-    held_upto : (l : ℕ) (h : Held K D) → IsGap lev l h → AllByRecursion (λ p. lev p.0 ≤ l) (held_pairs h)
-    held_upto l nothing g = tt
-    held_upto l (below t) g = let low = g.0 in weaker (level t) l (pairs t) (omega arith) (levels_upto t g.2)
+-- what the map has in a gap, the page that fills it has
+pub get_filling : {K D : Type 0} (cmp : K → K → Ordering) (o : IsTotalOrder cmp) (root t : Tree K D) (g : Gap K) (k : K) (d : D) → Fills cmp g t root → IsInGap cmp k g → get cmp (pairs root) k ≡ Some d → get cmp (pairs t) k ≡ Some d
+get_filling cmp o root t g k d f i e = ap (λ w. get cmp w k) (sym f.all) ∙ get_within cmp o g (pairs root) k d i e
 
-module _ {K : Type 0} (cmp : K → K → Ordering) (o : IsTotalOrder cmp) (lev : K → ℕ) (resp : (a b : K) → Same cmp a b → lev a ≡ lev b) (format : PageFormat) (bytes_of : K → List ℕ) (root : Tree K (List ℕ)) (m : IsMap cmp (pairs root)) where
+module _ {K : Type 0} (cmp : K → K → Ordering) (o : IsTotalOrder cmp) (format : PageFormat) (bytes_of : K → List ℕ) (root : Tree K (List ℕ)) (m : IsMap cmp (pairs root)) where
   abbrev Valid : ℕ → List (Item K (List ℕ)) → Type 0
   Valid n = AllByRecursion (IsItemOf format bytes_of cmp root n)
 
-  page_valid : (t : Tree K (List ℕ)) (l : ℕ) (ps : List (K × List ℕ)) → pairs t ≡ ps → IsPageIn t root → level t < l → Valid l (map of_page (entry_of ps (page_digest format bytes_of t)))
-  page_valid t l [] e i low = tt
-  page_valid t l (p ∷ ps) e i low = ((t, i, low, ap (λ qs. entry_of qs (page_digest format bytes_of t)) e), tt)
+  abbrev items_in : Gap K → Row K (List ℕ) → List (Item K (List ℕ))
+  items_in = row_items (λ t. Some (page_digest format bytes_of t))
 
-  held_valid : (l : ℕ) (h : Held K (List ℕ)) → IsGap lev l h → ((s : Tree K (List ℕ)) → IsPageInHeld s h → IsPageIn s root) → Valid l (held_items format bytes_of h)
-  held_valid l nothing g i = tt
-  held_valid l (below t) g i = page_valid t l (pairs t) refl (i t (itself t)) g.0
+  -- the pairs of a row, or of what stands before its first node, are all that the tree has in a gap
+  abbrev AreAll : Gap K → List (K × List ℕ) → Type 0
+  AreAll g ps = pairs_within cmp g (pairs root) ≡ ps
 
-  -- the nodes of a row have what the map has, and its pages are of the tree
-  row_valid : (l : ℕ) (r : Row K (List ℕ)) → IsRow lev l r → IsMap cmp (row_pairs r) → ((s : Tree K (List ℕ)) → IsPageInRow s r → IsPageIn s root) → ((k : K) (d : List ℕ) → get cmp (row_pairs r) k ≡ Some d → get cmp (pairs root) k ≡ Some d)
-      → Valid l (row_items format bytes_of r)
-  row_valid l (high h) g a i f = held_valid l h g i
-  row_valid l (node h k d r) g a i f =
-      let rest = map-rest cmp (held_pairs h) ((k, d) ∷ row_pairs r) a in
-      each-append (IsItemOf format bytes_of cmp root l) (held_items format bytes_of h) (of_node k d ∷ row_items format bytes_of r)
-      (held_valid l h g.0 (λ s j. i s (inl j))) (
-        f k d (get_behind cmp o (held_pairs h) ((k, d) ∷ row_pairs r) k d a (at_head cmp o (k, d) (row_pairs r) k (tied_itself o k))),
-        row_valid l r g.2 rest.1 (λ s j. i s (inr j))
-            (λ j e q. f j e (get_behind cmp o (held_pairs h) ((k, d) ∷ row_pairs r) j e a (get_behind cmp o ((k, d) ∷ []) (row_pairs r) j e rest q))),
-      )
+  module _ (g : Gap K) (h : Held K (List ℕ)) (k : K) (d : List ℕ) (r : Row K (List ℕ)) (all : AreAll g (row_pairs (node h k d r))) (up : IsMap cmp (row_pairs (node h k d r))) where
+    rest_up : IsMap cmp ((k, d) ∷ row_pairs r)
+    rest_up = map-rest cmp (held_pairs h) ((k, d) ∷ row_pairs r) up
 
-  outline_valid : (u : Tree K (List ℕ)) → IsPageIn u root → IsCanonical lev u → Valid (level u) (outline_of format bytes_of u)
-  outline_valid (page l c r) i g =
-      row_valid l r g (inside_map cmp o (page l c r) root i m) (λ s j. page_in s (page l c r) root (inr j) i) (λ k d e. get_inside cmp o (page l c r) root k d i m e)
+    key_in : IsInGap cmp k g
+    key_in = each-at (λ (p : K × List ℕ). IsInGap cmp p.0 g) (held_pairs h) (k, d) (row_pairs r) (subst (AllByRecursion (λ (p : K × List ℕ). IsInGap cmp p.0 g)) all (each_within cmp g (pairs root)))
 
-  -- each key of a page is in an item of its outline
+    held_all : AreAll (part_before g k) (held_pairs h)
+    held_all =
+        within_before cmp o g k key_in (pairs root) ∙ ap (rows_at (is_before cmp (Some k))) all ∙ filter-append (λ (p : K × List ℕ). is_before cmp (Some k) p.0) (held_pairs h) ((k, d) ∷ row_pairs r)
+        ∙ ap (λ w. w ++ rows_at (is_before cmp (Some k)) ((k, d) ∷ row_pairs r)) (all_pass (is_before cmp (Some k)) (held_pairs h) (map-before cmp (held_pairs h) (k, d) (row_pairs r) up))
+        ∙ ap (λ w. held_pairs h ++ w) (none_pass (is_before cmp (Some k)) ((k, d) ∷ row_pairs r) (not_less (low_self cmp o k), all_not (row_pairs r) rest_up.0)) ∙ append-nil (held_pairs h)
+      where
+        not_less : {b : Bool} → (b ≡ true → ⊥) → b ≡ false
+        not_less {b = true} f = absurd (f refl)
+        not_less {b = false} f = refl
+
+        all_not : (ps : List (K × List ℕ)) → AllByRecursion (λ p. Below cmp k p.0) ps → AllByRecursion (λ p. is_before cmp (Some k) p.0 ≡ false) ps
+        all_not [] a = tt
+        all_not (p ∷ ps) a = (not_less (λ low. not_both cmp o k p.0 (low_is_up cmp o k p.0 a.0) low), all_not ps a.1)
+
+    rest_all : AreAll (part_behind g k) (row_pairs r)
+    rest_all =
+        within_after cmp o g k key_in (pairs root) ∙ ap (rows_at (is_after cmp (Some k))) all ∙ filter-append (λ (p : K × List ℕ). is_after cmp (Some k) p.0) (held_pairs h) ((k, d) ∷ row_pairs r)
+        ∙ ap (λ w. w ++ rows_at (is_after cmp (Some k)) ((k, d) ∷ row_pairs r)) (none_pass (is_after cmp (Some k)) (held_pairs h) (all_not (held_pairs h) (map-before cmp (held_pairs h) (k, d) (row_pairs r) up)))
+        ∙ rw (not_less (low_self cmp o k)) (all_pass (is_after cmp (Some k)) (row_pairs r) rest_up.0)
+      where
+        not_less : {b : Bool} → (b ≡ true → ⊥) → b ≡ false
+        not_less {b = true} f = absurd (f refl)
+        not_less {b = false} f = refl
+
+        all_not : (ps : List (K × List ℕ)) → AllByRecursion (λ p. Below cmp p.0 k) ps → AllByRecursion (λ p. is_after cmp (Some k) p.0 ≡ false) ps
+        all_not [] a = tt
+        all_not (p ∷ ps) a = (not_less (λ low. not_both cmp o p.0 k (low_is_up cmp o p.0 k a.0) low), all_not ps a.1)
+
+  module _ (lev : K → ℕ) where
+    held_valid : (g : Gap K) (l : ℕ) (h : Held K (List ℕ)) → IsGap lev l h → AreAll g (held_pairs h) → ((s : Tree K (List ℕ)) → IsPageInHeld s h → IsPageIn s root) → Valid l (held_items (λ t. Some (page_digest format bytes_of t)) g h)
+    held_valid g l nothing c all i = tt
+    held_valid g l (below t) c all i = ((t, record { inside = i t (itself t); some = c.1; all = all }, c.0, refl), tt)
+
+    -- the nodes of a row have what the map has, and its pages fill their gaps
+    row_valid : (g : Gap K) (l : ℕ) (r : Row K (List ℕ)) → IsRow lev l r → AreAll g (row_pairs r) → IsMap cmp (row_pairs r) → ((s : Tree K (List ℕ)) → IsPageInRow s r → IsPageIn s root)
+        → ((k : K) (d : List ℕ) → get cmp (row_pairs r) k ≡ Some d → get cmp (pairs root) k ≡ Some d) → Valid l (items_in g r)
+    row_valid g l (high h) c all a i f = held_valid g l h c all i
+    row_valid g l (node h k d r) c all a i f =
+        let rest = map-rest cmp (held_pairs h) ((k, d) ∷ row_pairs r) a in
+        each-append (IsItemOf format bytes_of cmp root l) (held_items (λ t. Some (page_digest format bytes_of t)) (part_before g k) h) (of_node k d ∷ items_in (part_behind g k) r)
+        (held_valid (part_before g k) l h c.0 (held_all g h k d r all a) (λ s j. i s (inl j))) (
+          f k d (get_behind cmp o (held_pairs h) ((k, d) ∷ row_pairs r) k d a (at_head cmp o (k, d) (row_pairs r) k (tied_itself o k))),
+          row_valid (part_behind g k) l r c.2 (rest_all g h k d r all a) rest.1 (λ s j. i s (inr j))
+              (λ j e q. f j e (get_behind cmp o (held_pairs h) ((k, d) ∷ row_pairs r) j e a (get_behind cmp o ((k, d) ∷ []) (row_pairs r) j e rest q))),
+        )
+
   any_append : (P : Item K (List ℕ) → Type 0) (xs ys : List (Item K (List ℕ))) → AnyByRecursion P xs ⊎ AnyByRecursion P ys → AnyByRecursion P (xs ++ ys)
   any_append P [] ys (inl a) = absurd a
   any_append P [] ys (inr a) = a
@@ -190,86 +199,46 @@ module _ {K : Type 0} (cmp : K → K → Ordering) (o : IsTotalOrder cmp) (lev :
   any_append P (x ∷ xs) ys (inl (inr a)) = inr (any_append P xs ys (inl a))
   any_append P (x ∷ xs) ys (inr a) = inr (any_append P xs ys (inr a))
 
-  page_at : (ps : List (K × List ℕ)) (digest : List ℕ) (k : K) (d : List ℕ) → IsMap cmp ps → get cmp ps k ≡ Some d → AnyByRecursion (HasItemAt cmp k) (map of_page (entry_of ps digest))
-  page_at [] digest k d a e = absurd (cc)
-  page_at (p ∷ ps) digest k d a e = inl (in_span cmp o (p ∷ ps) p ps k d refl a e)
+  -- each key of a row is in an item of it
+  held_at : (g : Gap K) (h : Held K (List ℕ)) (k : K) (d : List ℕ) → AreAll g (held_pairs h) → get cmp (held_pairs h) k ≡ Some d → AnyByRecursion (HasItemAt cmp k) (held_items (λ t. Some (page_digest format bytes_of t)) g h)
+  held_at g nothing k d all e = absurd (cc)
+  held_at g (below t) k d all e =
+      inl (found_with cmp o (λ j. IsInGap cmp j g) (λ i j s q. in_gap-same cmp o g i j s q) (pairs t) k d (subst (AllByRecursion (λ p. IsInGap cmp p.0 g)) all (each_within cmp g (pairs root))) e)
 
-  held_at : (h : Held K (List ℕ)) (k : K) (d : List ℕ) → IsMap cmp (held_pairs h) → get cmp (held_pairs h) k ≡ Some d → AnyByRecursion (HasItemAt cmp k) (held_items format bytes_of h)
-  held_at nothing k d a e = absurd (cc)
-  held_at (below t) k d a e = page_at (pairs t) (page_digest format bytes_of t) k d a e
-
-  row_at : (r : Row K (List ℕ)) (k : K) (d : List ℕ) → IsMap cmp (row_pairs r) → get cmp (row_pairs r) k ≡ Some d → AnyByRecursion (HasItemAt cmp k) (row_items format bytes_of r)
-  row_at (high h) k d a e = held_at h k d a e
-  row_at (node h x c r) k d a e =
-      go (found_in cmp o (held_pairs h) (x, c) (row_pairs r) k d e) (λ q. held_at h k d (map-first cmp (held_pairs h) ((x, c) ∷ row_pairs r) a) q) (λ q. row_at r k d (map-rest cmp (held_pairs h) ((x, c) ∷ row_pairs r) a).1 q)
+  row_at : (g : Gap K) (r : Row K (List ℕ)) (k : K) (d : List ℕ) → AreAll g (row_pairs r) → IsMap cmp (row_pairs r) → get cmp (row_pairs r) k ≡ Some d → AnyByRecursion (HasItemAt cmp k) (items_in g r)
+  row_at g (high h) k d all a e = held_at g h k d all e
+  row_at g (node h x c r) k d all a e =
+      let first = part_before g x in
+      let rest = part_behind g x in
+      let front = held_items (λ t. Some (page_digest format bytes_of t)) first h in
+      let behind = of_node x c ∷ items_in rest r in
+      go (found_in cmp o (held_pairs h) (x, c) (row_pairs r) k d e) (λ q. any_append (HasItemAt cmp k) front behind (inl (held_at first h k d (held_all g h x c r all a) q)))
+      (λ q. any_append (HasItemAt cmp k) front behind (inr (inr (row_at rest r k d (rest_all g h x c r all a) (map-rest cmp (held_pairs h) ((x, c) ∷ row_pairs r) a).1 q))))
+      (λ q. any_append (HasItemAt cmp k) front behind (inr (inl (tied_back o x k (is_equal (cmp x k) q)))))
     where
-      go : (get cmp (held_pairs h) k ≡ Some d) ⊎ ((is_eq (cmp x k) ≡ true) ⊎ (get cmp (row_pairs r) k ≡ Some d)) → (get cmp (held_pairs h) k ≡ Some d → AnyByRecursion (HasItemAt cmp k) (held_items format bytes_of h))
-          → (get cmp (row_pairs r) k ≡ Some d → AnyByRecursion (HasItemAt cmp k) (row_items format bytes_of r)) → AnyByRecursion (HasItemAt cmp k) (held_items format bytes_of h ++ of_node x c ∷ row_items format bytes_of r)
-      go (inl q) f g = any_append (HasItemAt cmp k) (held_items format bytes_of h) (of_node x c ∷ row_items format bytes_of r) (inl (f q))
-      go (inr (inl q)) f g = any_append (HasItemAt cmp k) (held_items format bytes_of h) (of_node x c ∷ row_items format bytes_of r) (inr (inl (tied_back o x k (is_equal (cmp x k) q))))
-      go (inr (inr q)) f g = any_append (HasItemAt cmp k) (held_items format bytes_of h) (of_node x c ∷ row_items format bytes_of r) (inr (inr (g q)))
+      go : {Q : Type 0} → (get cmp (held_pairs h) k ≡ Some d) ⊎ ((is_eq (cmp x k) ≡ true) ⊎ (get cmp (row_pairs r) k ≡ Some d)) → (get cmp (held_pairs h) k ≡ Some d → Q) → (get cmp (row_pairs r) k ≡ Some d → Q) → (is_eq (cmp x k) ≡ true → Q) → Q
+      go (inl q) f g n = f q
+      go (inr (inl q)) f g n = n q
+      go (inr (inr q)) f g n = g q
 
-  outline_at : (u : Tree K (List ℕ)) (k : K) (d : List ℕ) → IsMap cmp (pairs u) → get cmp (pairs u) k ≡ Some d → AnyByRecursion (HasItemAt cmp k) (outline_of format bytes_of u)
-  outline_at (page l c r) k d a e = row_at r k d a e
+  -- the items of the outline of a page that fills a gap are of the tree, on lower levels, and each key of the gap is in one of them
+  pub outline_down : (lev : K → ℕ) → IsCanonicalRoot lev root → (t : Tree K (List ℕ)) (g : Gap K) → Fills cmp g t root
+      → Valid (level t) (outline_of format bytes_of g t) × ((k : K) (d : List ℕ) → get cmp (pairs root) k ≡ Some d → IsInGap cmp k g → AnyByRecursion (HasItemAt cmp k) (outline_of format bytes_of g t))
+  outline_down lev canonical (page l c r) g f =
+      let t = page l c r in
+      let up = inside_map cmp o t root f.inside m in (
+        row_valid lev g l r (page_canonical lev t root canonical f.inside f.some) f.all up (λ s j. page_in s t root (inr j) f.inside) (λ k d e. get_inside cmp o t root k d f.inside m e),
+        λ k d e i. row_at g r k d f.all up (get_filling cmp o root t g k d f i e),
+      )
 
-  -- a page that has a node among the keys of another is on no higher level
-  node_level : (l : ℕ) (r : Row K (List ℕ)) (s : Span K) → IsRow lev l r → IsMap cmp (row_pairs r) → ((k : K) (d : List ℕ) → get cmp (row_pairs r) k ≡ Some d → get cmp (pairs root) k ≡ Some d)
-      → AnyByRecursion (λ (n : Node K (List ℕ)). IsIn cmp n.key s) (row_nodes r) → (x : K) × (d : List ℕ) × (lev x ≡ l) × IsIn cmp x s × (get cmp (pairs root) x ≡ Some d)
-  node_level l (high h) s g a f n = absurd n
-  node_level l (node h k d r) s g a f (inl n) =
-      (k, d, g.1, n, f k d (get_behind cmp o (held_pairs h) ((k, d) ∷ row_pairs r) k d a (at_head cmp o (k, d) (row_pairs r) k (tied_itself o k))))
-  node_level l (node h k d r) s g a f (inr n) =
-      let rest = map-rest cmp (held_pairs h) ((k, d) ∷ row_pairs r) a in
-      node_level l r s g.2 rest.1 (λ j e q. f j e (get_behind cmp o (held_pairs h) ((k, d) ∷ row_pairs r) j e a (get_behind cmp o ((k, d) ∷ []) (row_pairs r) j e rest q))) n
-
-  over_level : (u v : Tree K (List ℕ)) (p : K × List ℕ) (ps : List (K × List ℕ)) → IsPageIn u root → IsPageIn v root → IsCanonical lev u → IsCanonical lev v → pairs v ≡ p ∷ ps
-      → AnyByRecursion (λ (n : Node K (List ℕ)). IsIn cmp n.key (record { first = p.0; last = last_key p.0 ps })) (nodes_of u) → level u ≤ level v
-  over_level (page l c r) v p ps i j g h e n =
-      let (x, d, at, inside, q) = node_level l r (record { first = p.0; last = last_key p.0 ps }) g (inside_map cmp o (page l c r) root i m) (λ k d e. get_inside cmp o (page l c r) root k d i m e) n in
-      let here : get cmp (pairs v) x ≡ Some d = ap (λ w. get cmp w x) (sym (within_range cmp o v root p ps j m e)) ∙ get_within cmp o (record { first = p.0; last = last_key p.0 ps }) (pairs root) x d inside q in
-      let low : lev x ≤ level v = found_with cmp o (λ k. lev k ≤ level v) (λ a b s le. let same = resp a b s in omega arith) (pairs v) x d (levels_upto lev v h) here in
-      omega arith
-
-  -- the range of a page, read off its pairs
-  range_parts : (ps : List (K × List ℕ)) (digest : List ℕ) (e : Entry K (List ℕ)) → entry_of ps digest ≡ e ∷ [] → (p : K × List ℕ) × (qs : List (K × List ℕ)) × (ps ≡ p ∷ qs) × (record { first = p.0; last = last_key p.0 qs } ≡ span_of e) × (digest ≡ e.digest)
-  range_parts [] digest e q = absurd (cc)
-  range_parts (p ∷ ps) digest e q =
-      let same : record { first = p.0; last = last_key p.0 ps; digest = digest } ≡ e = first_is _ e [] [] q in
-      (p, ps, refl, ap span_of same, ap (λ (x : Entry K (List ℕ)). x.digest) same)
+  -- the whole tree as an item is of the tree, and each key is in it
+  pub whole_down : (lev : K → ℕ) → IsCanonicalRoot lev root
+      → Valid (level root + 1) (whole_item format bytes_of root) × ((k : K) (d : List ℕ) → get cmp (pairs root) k ≡ Some d → AnyByRecursion (HasItemAt cmp k) (whole_item format bytes_of root))
+  whole_down lev canonical = by root canonical
     where
-      first_is : (x y : Entry K (List ℕ)) (xs ys : List (Entry K (List ℕ))) → x ∷ xs ≡ y ∷ ys → x ≡ y
-      first_is x y xs ys e = cc
-
-  -- what the map has within the range of a page, the page has
-  pub get_in_range : (v : Tree K (List ℕ)) (e : Entry K (List ℕ)) (k : K) (d : List ℕ) → IsPageIn v root → whole_range format bytes_of v ≡ e ∷ [] → IsIn cmp k (span_of e) → get cmp (pairs root) k ≡ Some d → get cmp (pairs v) k ≡ Some d
-  get_in_range v e k d j q inside f =
-      let (p, ps, at, span, same) = range_parts (pairs v) (page_digest format bytes_of v) e q in
-      ap (λ w. get cmp w k) (sym (within_range cmp o v root p ps j m at)) ∙ get_within cmp o (record { first = p.0; last = last_key p.0 ps }) (pairs root) k d (subst (IsIn cmp k) (sym span) inside) f
-
-  module _ (g : IsCanonicalRoot lev root) where
-    -- the items of an outline over the range of a page are of the tree, on lower levels, and each key of the range is in one of them
-    pub outline_down : (v : Tree K (List ℕ)) (e : Entry K (List ℕ)) (es : List (Item K (List ℕ))) → IsPageIn v root → whole_range format bytes_of v ≡ e ∷ [] → IsOutline format bytes_of cmp root (span_of e) es
-        → Valid (level v) es × ((k : K) (d : List ℕ) → get cmp (pairs root) k ≡ Some d → IsIn cmp k (span_of e) → AnyByRecursion (HasItemAt cmp k) es)
-    outline_down v e es j q (inl (none, empty)) = (
-      subst (Valid (level v)) (sym empty) tt,
-      λ k d f inside. let never : None ≡ Some d = sym (ap (λ w. get cmp w k) none) ∙ get_within cmp o (span_of e) (pairs root) k d inside f in absurd (cc),
-    )
-    outline_down v e es j q (inr (u, over, is)) =
-        let (p, ps, at, span, same) = range_parts (pairs v) (page_digest format bytes_of v) e q in
-        let cu = page_canonical lev u root g over.inside (node_there cmp (span_of e) u over.node) in
-        let cv = page_canonical lev v root g j (some_node cmp lev v root p.0 g j (subst (IsFirstOf cmp p.0) (sym at) (tied_itself o p.0))) in
-        let low : level u ≤ level v = over_level u v p ps over.inside j cu cv at (subst (λ s. AnyByRecursion (λ (n : Node K (List ℕ)). IsIn cmp n.key s) (nodes_of u)) (sym span) over.node) in (
-          subst (Valid (level v)) (sym is) (lower (level u) (level v) low (outline_of format bytes_of u) (outline_valid u over.inside cu)),
-          λ k d f inside. subst (AnyByRecursion (HasItemAt cmp k)) (sym is)
-              (outline_at u k d (inside_map cmp o u root over.inside m)
-              (get_without cmp o (span_of e) (pairs u) k d inside (ap (λ w. get cmp w k) (sym over.within) ∙ get_within cmp o (span_of e) (pairs root) k d inside f))),
-        )
-      where
-        lower : (a b : ℕ) → a ≤ b → (xs : List (Item K (List ℕ))) → Valid a xs → Valid b xs
-        lower a b le [] h = tt
-        lower a b le (of_node k d ∷ xs) h = (h.0, lower a b le xs h.1)
-        lower a b le (of_page e ∷ xs) ((t, i, less, q), h) = ((t, i, omega arith, q), lower a b le xs h)
-
-  -- the range of the root is of the tree, and each key of the map is in it
-  pub root_down : Valid (level root + 1) (map of_page (whole_range format bytes_of root)) × ((k : K) (d : List ℕ) → get cmp (pairs root) k ≡ Some d → AnyByRecursion (HasItemAt cmp k) (map of_page (whole_range format bytes_of root)))
-  root_down = (page_valid root (level root + 1) (pairs root) refl (itself root) (omega arith), λ k d e. page_at (pairs root) (page_digest format bytes_of root) k d m e)
+      by : (t : Tree K (List ℕ)) → IsCanonicalRoot lev t → AllByRecursion (IsItemOf format bytes_of cmp t (level t + 1)) (whole_item format bytes_of t) × ((k : K) (d : List ℕ) → get cmp (pairs t) k ≡ Some d → AnyByRecursion (HasItemAt cmp k) (whole_item format bytes_of t))
+      by (page l c (high nothing)) g = (tt, λ k d e. absurd (cc))
+      by (page l c (high (below t))) g = absurd g
+      by (page l c (node h k d r)) g =
+          let t = page l c (node h k d r) in
+          (((t, record { inside = itself t; some = tt; all = all_within cmp (pairs t) }, omega arith, refl), tt), λ j e q. inl (tt, tt))

@@ -1,28 +1,29 @@
 -- What holds of each page of a tree.
-use Rattle.std.proofs.Common.{◌≡◌, ◌≢◌, ℕ, List, [], ◌∷◌, ◌++◌, Option, Some, None, refl, ap, sym, subst, ◌∙◌, inl, inr}
-use Rattle.std.specs.Prelude.{true, false, is_some, map, cond, Bool}
+use Rattle.std.proofs.Common.{◌≡◌, ◌≢◌, ℕ, List, [], ◌∷◌, ◌++◌, length, Option, Some, None, refl, ap, sym, subst, ◌∙◌, inl, inr}
+use Rattle.std.specs.Prelude.{true, false, is_some, cond, Bool}
 use Rattle.std.specs.Option.{option_map}
 use Rattle.std.specs.Ordering.{is_eq}
 use Rattle.std.specs.Cmp.{IsTotalOrder}
 use Rattle.std.specs.declared.cmp.Ordering.{Ordering}
-use Rattle.key_order.specs.Order.{AnyByRecursion}
-use Rattle.key_order.specs.Interval.{Span, IsIn}
 use Rattle.key_order.specs.Map.{IsMap, get, entry}
 use Rattle.key_order.proofs.Keys.{eq_reverse}
 use Rattle.key_order.proofs.ListParts.{map-first, map-rest}
-use Rattle.merkle_tree_theory.specs.Tree.{Tree, page, Row, high, node, Held, nothing, below, Node}
-use Rattle.merkle_tree_theory.specs.Page.{pairs, row_pairs, held_pairs, cache, nodes_of}
-use Rattle.merkle_tree_theory.specs.Lookup.{IsFirstOf}
+use Rattle.merkle_tree_theory.specs.Tree.{Tree, page, Row, high, node, Held, nothing, below, Node, row}
+use Rattle.merkle_tree_theory.specs.Page.{pairs, row_pairs, held_pairs, cache}
+use Rattle.merkle_tree_theory.specs.Gap.{Gap, everywhere, part_before, part_behind}
 use Rattle.merkle_tree_theory.specs.Canonical.{HasNode, IsCanonical, IsRow, IsGap, IsCanonicalRoot}
 use Rattle.merkle_tree_theory.specs.Cache.{HasCache, EachHasCache, CachesHold, RowCachesHold, HeldCachesHold}
 use Rattle.merkle_tree_theory.specs.Sound.{RootHashHolds}
 use Rattle.merkle_tree_theory.specs.Stream.{page_digest}
-use Rattle.merkle_tree_theory.specs.Ranges.{IsPageIn, entry_of}
-use Rattle.merkle_tree_theory.specs.CachedRanges.{as_list, range_of}
-use Rattle.merkle_tree_theory.specs.Outline.{of_node, of_page, outline_of, row_items, held_items, cached_items, row_cached_items, held_cached_items, whole_range}
-use Rattle.merkle_tree_theory.proofs.Listed.{range-entry}
+use Rattle.merkle_tree_theory.specs.Ranges.{IsPageIn}
+use Rattle.merkle_tree_theory.specs.Outline.{of_node, page_items, outline_of, row_items, held_items, cached_items, whole_item}
 use Rattle.merkle_tree_theory.specs.declared.page_format.PageFormat.{PageFormat}
-use Rattle.merkle_tree_theory.proofs.PagesIn.{GoesDown, MatchRow, inside}
+use Rattle.merkle_tree_theory.proofs.PagesIn.{GoesDown, MatchRow, inside, itself}
+
+-- a page with a list of nodes that isn't empty has a node
+pub some_row : {K D : Type 0} {l : ℕ} {c : Option (List ℕ)} {t : Tree K D} (es : List (Node K D)) (h : Held K D) → page l c (row es h) ≡ t → (length es ≡ 0 → ⊥) → HasNode t
+some_row [] h is some = absurd (some refl)
+some_row (e ∷ es) h is some = subst (λ (u : Tree _ _). HasNode u) is tt
 
 module _ {K : Type 0} (format : PageFormat) (bytes_of : K → List ℕ) where
   holds_down : GoesDown (CachesHold format bytes_of) (RowCachesHold format bytes_of)
@@ -50,19 +51,6 @@ module _ {K D : Type 0} (lev : K → ℕ) where
     where
       row_of : (t : Tree K D) → HasNode t × IsCanonical lev t → MatchRow (λ (r : Row K D). (l : ℕ) × IsRow lev l r) t
       row_of (page l c r) g = (l, g.1)
-
-module _ {K D : Type 0} (cmp : K → K → Ordering) (lev : K → ℕ) where
-  -- a page of a tree that has a key has a node
-  pub some_node : (s t : Tree K D) (k : K) → IsCanonicalRoot lev t → IsPageIn s t → IsFirstOf cmp k (pairs s) → HasNode s
-  some_node s (page l c (high nothing)) k g (inl e) f = absurd (subst (λ (u : Tree K D). IsFirstOf cmp k (pairs u)) e f)
-  some_node s (page l c (high nothing)) k g (inr i) f = absurd i
-  some_node s (page l c (high (below t))) k g i f = absurd g
-  some_node s (page l c (node h x d r)) k g i f = (inside (canonical_down lev) s (page l c (node h x d r)) (tt, g) i).0
-
--- a page has a node where some node of it is in a span
-pub node_there : {K D : Type 0} (cmp : K → K → Ordering) (s : Span K) (t : Tree K D) → AnyByRecursion (λ (n : Node K D). IsIn cmp n.key s) (nodes_of t) → HasNode t
-node_there cmp s (page l c (high h)) a = a
-node_there cmp s (page l c (node h k d r)) a = tt
 
 module _ {K : Type 0} (cmp : K → K → Ordering) (o : IsTotalOrder cmp) (lev : K → ℕ) (format : PageFormat) (bytes_of : K → List ℕ) where
   -- what holds of each page of a hashed tree that has a node
@@ -104,44 +92,34 @@ module _ {K : Type 0} (cmp : K → K → Ordering) (o : IsTotalOrder cmp) (lev :
   has_digest (page l None r) g = absurd g.cached
   has_digest (page l (Some d) r) g = ap Some g.holds.0
 
-  -- the range of such a page by its cached digest
-  pub range_is : (s : Tree K (List ℕ)) → IsHashedPage s → as_list (range_of cmp s) ≡ entry_of (pairs s) (page_digest format bytes_of s)
-  range_is (page l None r) g = absurd g.cached
-  range_is (page l (Some d) (high h)) g = absurd g.has_node
-  range_is (page l (Some d) (node h k e r)) g = range-entry cmp o (row_pairs (node h k e r)) d g.ascending ∙ ap (entry_of (row_pairs (node h k e r))) g.holds.0
+  held_outline : (g : Gap K) (h : Held K (List ℕ)) → HasCache h → HeldCachesHold format bytes_of h → held_items cache g h ≡ held_items (λ t. Some (page_digest format bytes_of t)) g h
+  held_outline g nothing c q = refl
+  held_outline g (below (page l None r)) c q = absurd c
+  held_outline g (below (page l (Some d) r)) c q = ap (page_items g) (ap Some q.0)
 
-  held_outline : (l : ℕ) (h : Held K (List ℕ)) → HasCache h → HeldCachesHold format bytes_of h → IsGap lev l h → IsMap cmp (held_pairs h) → held_cached_items cmp h ≡ held_items format bytes_of h
-  held_outline l nothing c q g m = refl
-  held_outline l (below t) c q g m = ap (map of_page) (range_is t (record { cached = c; holds = q; has_node = g.1; canonical = g.2; ascending = m }))
-
-  row_outline : (l : ℕ) (r : Row K (List ℕ)) → EachHasCache r → RowCachesHold format bytes_of r → IsRow lev l r → IsMap cmp (row_pairs r) → row_cached_items cmp r ≡ row_items format bytes_of r
-  row_outline l (high h) c q g m = held_outline l h c q g m
-  row_outline l (node h k d r) c q g m =
-      ap (λ w. w ++ (of_node k d ∷ row_cached_items cmp r)) (held_outline l h c.0 q.0 g.0 (map-first cmp (held_pairs h) ((k, d) ∷ row_pairs r) m))
-      ∙ ap (λ w. held_items format bytes_of h ++ (of_node k d ∷ w)) (row_outline l r c.1 q.1 g.2 (map-rest cmp (held_pairs h) ((k, d) ∷ row_pairs r) m).1)
+  row_outline : (g : Gap K) (r : Row K (List ℕ)) → EachHasCache r → RowCachesHold format bytes_of r → row_items cache g r ≡ row_items (λ t. Some (page_digest format bytes_of t)) g r
+  row_outline g (high h) c q = held_outline g h c q
+  row_outline g (node h k d r) c q =
+      let first = part_before g k in
+      let rest = part_behind g k in
+      ap (λ w. w ++ of_node k d ∷ row_items cache rest r) (held_outline first h c.0 q.0)
+      ∙ ap (λ w. held_items (λ t. Some (page_digest format bytes_of t)) first h ++ of_node k d ∷ w) (row_outline rest r c.1 q.1)
 
   -- the outline of such a page by cached digests
-  pub outline_is : (s : Tree K (List ℕ)) → IsHashedPage s → cached_items cmp s ≡ outline_of format bytes_of s
-  outline_is (page l None r) g = absurd g.cached
-  outline_is (page l (Some d) r) g = row_outline l r g.holds.1 g.holds.2 g.canonical g.ascending
+  pub outline_is : (g : Gap K) (s : Tree K (List ℕ)) → IsHashedPage s → cached_items g s ≡ outline_of format bytes_of g s
+  outline_is g (page l None r) p = absurd p.cached
+  outline_is g (page l (Some d) r) p = row_outline g r p.holds.1 p.holds.2
 
-  -- the range of the root
-  pub root_is : (h : Option (List ℕ)) (t : Tree K (List ℕ)) → is_some h ≡ true → RootHashHolds h (cache t) → CachesHold format bytes_of t → IsCanonicalRoot lev t → IsMap cmp (pairs t) → as_list (range_of cmp t) ≡ whole_range format bytes_of t
-  root_is None t e r q g m = absurd (cc)
-  root_is (Some d) (page l None (high nothing)) e r q g m = absurd (cc)
-  root_is (Some d) (page l (Some c) (high nothing)) e r q g m = refl
-  root_is (Some d) (page l c (high (below t))) e r q g m = absurd g
-  root_is (Some d) (page l None (node h k x w)) e r q g m = absurd (cc)
-  root_is (Some d) (page l (Some c) (node h k x w)) e r q g m = range_is (page l (Some c) (node h k x w)) (record { cached = tt; holds = q; has_node = tt; canonical = g; ascending = m })
+  -- a page that has a node has its digest in a hashed tree
+  pub filling_digest : (h : Option (List ℕ)) (t : Tree K (List ℕ)) → h ≢ None → RootHashHolds h (cache t) → CachesHold format bytes_of t → IsCanonicalRoot lev t → IsMap cmp (pairs t)
+      → (s : Tree K (List ℕ)) → IsPageIn s t → HasNode s → cache s ≡ Some (page_digest format bytes_of s)
+  filling_digest None t some r q g m s i n = absurd (some refl)
+  filling_digest (Some d) t some r q g m s i n = has_digest s (hashed_page (Some d) t refl r q g m s i n)
 
-  -- a page with a key has its digest
-  pub known_page : (h : Option (List ℕ)) (t : Tree K (List ℕ)) → h ≢ None → RootHashHolds h (cache t) → CachesHold format bytes_of t → IsCanonicalRoot lev t → IsMap cmp (pairs t)
-      → (k : K) (s : Tree K (List ℕ)) → IsPageIn s t → IsFirstOf cmp k (pairs s) → cache s ≡ Some (page_digest format bytes_of s)
-  known_page None t ne r q g m k s i f = absurd (ne refl)
-  known_page (Some d) t ne r q g m k s i f = has_digest s (hashed_page (Some d) t refl r q g m s i (key_node t g m s i f))
-    where
-      key_node : (t : Tree K (List ℕ)) → IsCanonicalRoot lev t → IsMap cmp (pairs t) → (s : Tree K (List ℕ)) → IsPageIn s t → IsFirstOf cmp k (pairs s) → HasNode s
-      key_node t g m s i f = some_node cmp lev s t k g i f
+  -- the whole tree as an item by the cached digest of its root page
+  pub whole_is : (t : Tree K (List ℕ)) (d : List ℕ) → HasNode t → CachesHold format bytes_of t → cache t ≡ Some d → page_items everywhere (Some d) ≡ whole_item format bytes_of t
+  whole_is (page l c (high h)) d n q e = absurd n
+  whole_is (page l c (node h k x r)) d n q e = ap (page_items everywhere) (ap Some (sym (true_digest format bytes_of (page l c (node h k x r)) (page l c (node h k x r)) d q (itself (page l c (node h k x r))) e)))
 
 module _ {K X : Type 0} (cmp : K → K → Ordering) (o : IsTotalOrder cmp) where
   -- the value at a key is that of its pair

@@ -24,7 +24,8 @@ pub mod Joins
 pub mod Seams
 pub mod Removes
 pub mod Removals
-pub mod Lookups
+pub mod InGaps
+pub mod Over
 pub mod Outlines
 pub mod Inside
 pub mod Descending

@@ -27,6 +27,7 @@ pub mod Chain
 pub mod Remove
 pub mod Edge
 pub mod Listing
+pub mod Gap
 pub mod Lookup
 pub mod Outline
 pub mod Visited

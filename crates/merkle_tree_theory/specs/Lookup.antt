@@ -1,31 +1,33 @@
--- What is found on the way to a key, and over a span of keys.
-use Rattle.std.specs.Prelude.{◌≡◌, List, [], ◌∷◌}
+-- The page over a gap, and the page that fills one.
+use Rattle.std.specs.Prelude.{◌≡◌, ℕ, zero, suc, List, [], ◌∷◌, Option, Some, None, if◌then◌else◌}
 use Rattle.std.specs.declared.cmp.Ordering.{Ordering}
-use Rattle.key_order.specs.Order.{AnyByRecursion, Same}
-use Rattle.key_order.specs.Interval.{Span, IsIn, is_in}
-use Rattle.key_order.specs.Map.{rows_at}
-use Rattle.merkle_tree_theory.specs.Tree.{Tree, Held, Node}
-use Rattle.merkle_tree_theory.specs.Page.{pairs, held_pairs, nodes_of}
-use Rattle.merkle_tree_theory.specs.Ranges.{IsPageIn, IsPageInHeld}
+use Rattle.merkle_tree_theory.specs.Canonical.{HasNode}
+use Rattle.merkle_tree_theory.specs.Gap.{Gap, is_after, is_before, pairs_within}
+use Rattle.merkle_tree_theory.specs.Tree.{Tree, page, Row, high, node, Held, nothing, below, Node}
+use Rattle.merkle_tree_theory.specs.Page.{pairs}
+use Rattle.merkle_tree_theory.specs.Ranges.{IsPageIn}
 
 module _ {K D : Type 0} (cmp : K → K → Ordering) where
-  -- the pairs within a span
-  abbrev pub pairs_within : Span K → List (K × D) → List (K × D)
-  pairs_within s = rows_at (λ k. is_in cmp k s)
+  -- the place of the first node above the bound, or the number of nodes
+  abbrev pub place_after : Option K → List (Node K D) → ℕ
+  place_after after [] = 0
+  place_after after (e ∷ es) = if (is_after cmp after e.key) then 0 else (suc (place_after after es))
 
-  -- the key is equal to the first of the pairs, of which there is one
-  abbrev pub IsFirstOf : K → List (K × D) → Type 0
-  IsFirstOf k [] = ⊥
-  IsFirstOf k (p ∷ ps) = Same cmp k p.0
+  abbrev mutual
+    -- the page with a node in the gap: this page, or one of those below it, of which the one is looked at that may have keys in the gap
+    pub page_over : Gap K → Tree K D → Option (Tree K D)
+    page_over g (page l c r) = row_over g (page l c r) r
 
-  -- `page`, which is `whole` or below it, has a node in the span, and all pairs of `whole` within the span
-  pub record IsOver (s : Span K) (page whole : Tree K D) : Type 0 where
+    pub row_over : Gap K → Tree K D → Row K D → Option (Tree K D)
+    row_over g t (high h) = held_over g h
+    row_over g t (node h k d r) = if (is_after cmp g.after k) then (if (is_before cmp g.before k) then (Some t) else (held_over g h)) else (row_over g t r)
+
+    pub held_over : Gap K → Held K D → Option (Tree K D)
+    held_over g nothing = None
+    held_over g (below t) = page_over g t
+
+  -- `page` is of the tree `whole`, has a node, and its keys are all that the tree has in the gap
+  pub record Fills (g : Gap K) (page whole : Tree K D) : Type 0 where
     pub inside : IsPageIn page whole
-    pub node : AnyByRecursion (λ (n : Node K D). IsIn cmp n.key s) (nodes_of page)
-    pub within : pairs_within s (pairs whole) ≡ pairs_within s (pairs page)
-
-  -- the same of what stands in a gap
-  pub record IsOverHeld (s : Span K) (page : Tree K D) (whole : Held K D) : Type 0 where
-    pub inside : IsPageInHeld page whole
-    pub node : AnyByRecursion (λ (n : Node K D). IsIn cmp n.key s) (nodes_of page)
-    pub within : pairs_within s (held_pairs whole) ≡ pairs_within s (pairs page)
+    pub some : HasNode page
+    pub all : pairs_within cmp g (pairs whole) ≡ pairs page

@@ -1,65 +1,67 @@
 -- The outline of a page.
-use Rattle.std.specs.Prelude.{◌≡◌, ℕ, ◌<◌, List, [], ◌∷◌, ◌++◌, map, Some, ◌⊎◌}
+use Rattle.std.specs.Prelude.{◌≡◌, ℕ, ◌<◌, List, [], ◌∷◌, ◌++◌, Option, Some, None}
 use Rattle.std.specs.declared.cmp.Ordering.{Ordering}
 use Rattle.key_order.specs.Order.{Same}
-use Rattle.key_order.specs.Interval.{Span, IsIn}
 use Rattle.key_order.specs.Map.{get}
-use Rattle.merkle_diff.specs.Entry.{Entry, span_of}
+use Rattle.merkle_tree_theory.specs.Gap.{Gap, IsInGap, everywhere, part_before, part_behind}
 use Rattle.merkle_tree_theory.specs.Tree.{Tree, page, Row, high, node, Held, nothing, below}
-use Rattle.merkle_tree_theory.specs.Page.{level, pairs}
-use Rattle.merkle_tree_theory.specs.Ranges.{IsPageIn, entry_of}
-use Rattle.merkle_tree_theory.specs.CachedRanges.{as_list, range_of}
-use Rattle.merkle_tree_theory.specs.Lookup.{pairs_within, IsOver}
+use Rattle.merkle_tree_theory.specs.Page.{level, cache, pairs}
+use Rattle.merkle_tree_theory.specs.Lookup.{page_over, Fills}
 use Rattle.merkle_tree_theory.specs.Stream.{page_digest}
 use Rattle.merkle_tree_theory.specs.declared.page_format.PageFormat.{PageFormat}
 
--- an item of an outline: a node, with its key and value digest, or a page that is not opened, as its range
+-- an item of an outline: a node, with its key and value digest, or a page that is not opened, as the gap that it fills and its digest
 pub data Item (K D : Type 0) : Type 0 where
   of_node : K → D → Item K D
-  of_page : Entry K (List ℕ) → Item K D
+  of_page : Gap K → List ℕ → Item K D
+
+-- a page that fills the gap as an item, where its digest is known
+abbrev pub page_items : {K D : Type 0} → Gap K → Option (List ℕ) → List (Item K D)
+page_items g None = []
+page_items g (Some d) = of_page g d ∷ []
+
+module _ {K D : Type 0} (digest_of : Tree K D → Option (List ℕ)) where
+  -- what stands between two keys
+  abbrev pub held_items : Gap K → Held K D → List (Item K D)
+  held_items g nothing = []
+  held_items g (below t) = page_items g (digest_of t)
+
+  -- the nodes of a page that fills the gap, and between them the pages right below it
+  abbrev pub row_items : Gap K → Row K D → List (Item K D)
+  row_items g (high h) = held_items g h
+  row_items g (node h k d r) = held_items (part_before g k) h ++ of_node k d ∷ row_items (part_behind g k) r
+
+  abbrev pub items_of : Gap K → Tree K D → List (Item K D)
+  items_of g (page l c r) = row_items g r
+
+-- the outline of a page that fills the gap, by cached digests
+abbrev pub cached_items : {K D : Type 0} → Gap K → Tree K D → List (Item K D)
+cached_items = items_of cache
 
 module _ {K : Type 0} (format : PageFormat) (bytes_of : K → List ℕ) where
-  -- what stands in a gap, as one range
-  abbrev pub held_items : Held K (List ℕ) → List (Item K (List ℕ))
-  held_items nothing = []
-  held_items (below t) = map of_page (entry_of (pairs t) (page_digest format bytes_of t))
+  -- the outline of a page that fills the gap
+  abbrev pub outline_of : Gap K → Tree K (List ℕ) → List (Item K (List ℕ))
+  outline_of = items_of (λ t. Some (page_digest format bytes_of t))
 
-  abbrev pub row_items : Row K (List ℕ) → List (Item K (List ℕ))
-  row_items (high h) = held_items h
-  row_items (node h k d r) = held_items h ++ of_node k d ∷ row_items r
+  abbrev pub outline_where : Gap K → Option (Tree K (List ℕ)) → List (Item K (List ℕ))
+  outline_where g None = []
+  outline_where g (Some t) = outline_of g t
 
-  -- the nodes of a page, and between them the ranges of the pages right below it
-  abbrev pub outline_of : Tree K (List ℕ) → List (Item K (List ℕ))
-  outline_of (page l c r) = row_items r
+  -- the outline of the page over the gap; nothing where there is none
+  abbrev pub outline_over : (K → K → Ordering) → Tree K (List ℕ) → Gap K → List (Item K (List ℕ))
+  outline_over cmp whole g = outline_where g (page_over cmp g whole)
 
-  -- the range of the whole tree, where it has a pair
-  abbrev pub whole_range : Tree K (List ℕ) → List (Entry K (List ℕ))
-  whole_range t = entry_of (pairs t) (page_digest format bytes_of t)
+  -- the whole tree as one item, where it has a node
+  abbrev pub whole_item : Tree K (List ℕ) → List (Item K (List ℕ))
+  whole_item (page l c (high h)) = []
+  whole_item (page l c (node h k d r)) = of_page everywhere (page_digest format bytes_of (page l c (node h k d r))) ∷ []
 
-  -- the items are the outline of the page of a tree that has a node in the span; there is none where no pair is within the span
-  abbrev pub IsOutline : (K → K → Ordering) → Tree K (List ℕ) → Span K → List (Item K (List ℕ)) → Type 0
-  IsOutline cmp whole s es =
-      ((pairs_within cmp s (pairs whole) ≡ []) × (es ≡ [])) ⊎ ((t : Tree K (List ℕ)) × IsOver cmp s t whole × (es ≡ outline_of t))
-
-  -- an item of a tree: a key has its value digest in the map, and a range is that of a page of the tree on a level below n
+  -- an item of a tree: a key has its value digest in the map, and a gap is filled by a page of the tree on a level below n
   abbrev pub IsItemOf : (K → K → Ordering) → Tree K (List ℕ) → ℕ → Item K (List ℕ) → Type 0
   IsItemOf cmp whole n (of_node k d) = get cmp (pairs whole) k ≡ Some d
-  IsItemOf cmp whole n (of_page e) = (t : Tree K (List ℕ)) × IsPageIn t whole × (level t < n) × (whole_range t ≡ e ∷ [])
+  IsItemOf cmp whole n (of_page g digest) = (t : Tree K (List ℕ)) × Fills cmp g t whole × (level t < n) × (page_digest format bytes_of t ≡ digest)
 
--- the item has the key: it is its node, or the range of a page that spans it
+-- the item has the key: it is its node, or a page in whose gap it is
 abbrev pub HasItemAt : {K : Type 0} → (K → K → Ordering) → K → Item K (List ℕ) → Type 0
 HasItemAt cmp k (of_node j d) = Same cmp k j
-HasItemAt cmp k (of_page e) = IsIn cmp k (span_of e)
-
--- the same by cached digests
-module _ {K D : Type 0} (cmp : K → K → Ordering) where
-  abbrev pub held_cached_items : Held K D → List (Item K D)
-  held_cached_items nothing = []
-  held_cached_items (below t) = map of_page (as_list (range_of cmp t))
-
-  abbrev pub row_cached_items : Row K D → List (Item K D)
-  row_cached_items (high h) = held_cached_items h
-  row_cached_items (node h k d r) = held_cached_items h ++ of_node k d ∷ row_cached_items r
-
-  abbrev pub cached_items : Tree K D → List (Item K D)
-  cached_items (page l c r) = row_cached_items r
+HasItemAt cmp k (of_page g digest) = IsInGap cmp k g

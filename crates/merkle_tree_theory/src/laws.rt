@@ -1,13 +1,12 @@
 //! Laws over the definitions alone: what each ensures holds of every map, and of every tree that a contract can speak of. Each
 //! function has no effect and takes no memory.
 
-ghost use Rattle.std.specs.Prelude.{◌≡◌, ◌+◌, ◌≤◌, ℕ, Bool, List, [], ◌∷◌, Some, map};
+ghost use Rattle.std.specs.Prelude.{◌≡◌, ◌+◌, ◌≤◌, ℕ, Bool, List, Some};
 ghost use Rattle.std.specs.List.{AllByRecursion};
 ghost use Rattle.key_order.specs.Order.{AnyByRecursion, Same};
-ghost use Rattle.key_order.specs.Interval.{IsIn};
 ghost use Rattle.key_order.specs.Map.{IsMap, SameMap, get};
 ghost use Rattle.merkle_digest.specs.Level.{level_of};
-ghost use Rattle.merkle_diff.specs.Entry.{Entry, span_of};
+ghost use Rattle.merkle_diff.specs.Entry.{Entry};
 ghost use Rattle.merkle_diff.specs.SameEntries.{SameEntries};
 ghost use Rattle.merkle_diff.specs.TreeShape.{IsTreeShaped};
 ghost use Rattle.merkle_tree_theory.specs.Cache.{missing, filled};
@@ -15,7 +14,9 @@ ghost use Rattle.merkle_tree_theory.specs.Depth.{depth};
 ghost use Rattle.merkle_tree_theory.specs.Events.{events_of};
 ghost use Rattle.merkle_tree_theory.specs.Listing.{ListsPages};
 ghost use Rattle.merkle_tree_theory.specs.Page.{level, nodes_in_order, pairs};
-ghost use Rattle.merkle_tree_theory.specs.Outline.{Item, of_page, IsOutline, IsItemOf, HasItemAt, whole_range};
+ghost use Rattle.merkle_tree_theory.specs.Gap.{Gap, IsInGap};
+ghost use Rattle.merkle_tree_theory.specs.Lookup.{page_over, Fills};
+ghost use Rattle.merkle_tree_theory.specs.Outline.{IsItemOf, HasItemAt, outline_of, whole_item};
 ghost use Rattle.merkle_tree_theory.specs.Ranges.{IsPageIn, IsPageOf, IsRangesOf, NothingToAsk, ranges_of};
 ghost use Rattle.merkle_tree_theory.specs.Canonical.{SamePages, IsTreeOf, IsCanonicalRoot};
 ghost use Rattle.merkle_tree_theory.specs.Faithful.{IsSmall, NoCollision, HasFaithfulPages};
@@ -104,19 +105,20 @@ pub fn exact_keys_make_pages_faithful<K: Ord + KeyBytesExact, H: Hasher<N, K>, c
         → page_digest V2 K.bytes_of t ≡ page_digest V2 K.bytes_of u → SameMap K.cmp (λ d e. d ≡ e) a b }
 {}
 
-/// Outlines lead down. Of any tree of a map, under any hasher, level base and page format: the items of the outline over the range of a
-/// page are of the tree, with page ranges of lower levels than the page's, and each key of the range is in one of them. So it is of the
-/// range of the root, in which each key is. A page has what the map has within its range, and the map has what a page has.
+/// Outlines lead down. Of any tree of a map, under any hasher, level base and page format: over a gap that a page of the tree fills, that is,
+/// in which the tree has the keys of that page and no other, the page that is opened is that very page. The items of its outline are of the
+/// tree, with pages of lower levels than its own, each of which fills its gap, and each key of the gap is in one of them. So it is of the
+/// whole tree as one item, in which each key is. A page has what the map has in the gap that it fills, and the map has what a page has.
 pub fn outlines_lead_down<K: Ord + KeyBytes, H: Hasher<N, K>, const N: usize>()
-    ensures outline { (hasher : H) (base : ℕ) (format : PageFormat) (t page : Tree K (List ℕ)) (e : Entry K (List ℕ)) (items : List (Item K (List ℕ)))
-        → IsMap K.cmp (pairs t) → IsCanonicalRoot (λ k. level_of (H.digest_of hasher k) base) t → IsPageIn page t → whole_range format K.bytes_of page ≡ e ∷ []
-        → IsOutline format K.bytes_of K.cmp t (span_of e) items
-        → AllByRecursion (IsItemOf format K.bytes_of K.cmp t (level page)) items
-        × ((k : K) (d : List ℕ) → get K.cmp (pairs t) k ≡ Some d → IsIn K.cmp k (span_of e) → AnyByRecursion (HasItemAt K.cmp k) items) }
-    ensures root { (format : PageFormat) (t : Tree K (List ℕ)) → IsMap K.cmp (pairs t)
-        → AllByRecursion (IsItemOf format K.bytes_of K.cmp t (level t + 1)) (map of_page (whole_range format K.bytes_of t))
-        × ((k : K) (d : List ℕ) → get K.cmp (pairs t) k ≡ Some d → AnyByRecursion (HasItemAt K.cmp k) (map of_page (whole_range format K.bytes_of t))) }
-    ensures range { (format : PageFormat) (t page : Tree K (List ℕ)) (e : Entry K (List ℕ)) (k : K) (d : List ℕ) → IsMap K.cmp (pairs t) → IsPageIn page t
-        → whole_range format K.bytes_of page ≡ e ∷ [] → IsIn K.cmp k (span_of e) → get K.cmp (pairs t) k ≡ Some d → get K.cmp (pairs page) k ≡ Some d }
+    ensures opens { (t page : Tree K (List ℕ)) (gap : Gap K) → IsMap K.cmp (pairs t) → Fills K.cmp gap page t → page_over K.cmp gap t ≡ Some page }
+    ensures outline { (hasher : H) (base : ℕ) (format : PageFormat) (t page : Tree K (List ℕ)) (gap : Gap K)
+        → IsMap K.cmp (pairs t) → IsCanonicalRoot (λ k. level_of (H.digest_of hasher k) base) t → Fills K.cmp gap page t
+        → AllByRecursion (IsItemOf format K.bytes_of K.cmp t (level page)) (outline_of format K.bytes_of gap page)
+        × ((k : K) (d : List ℕ) → get K.cmp (pairs t) k ≡ Some d → IsInGap K.cmp k gap → AnyByRecursion (HasItemAt K.cmp k) (outline_of format K.bytes_of gap page)) }
+    ensures whole { (hasher : H) (base : ℕ) (format : PageFormat) (t : Tree K (List ℕ)) → IsMap K.cmp (pairs t) → IsCanonicalRoot (λ k. level_of (H.digest_of hasher k) base) t
+        → AllByRecursion (IsItemOf format K.bytes_of K.cmp t (level t + 1)) (whole_item format K.bytes_of t)
+        × ((k : K) (d : List ℕ) → get K.cmp (pairs t) k ≡ Some d → AnyByRecursion (HasItemAt K.cmp k) (whole_item format K.bytes_of t)) }
+    ensures gap { (t page : Tree K (List ℕ)) (gap : Gap K) (k : K) (d : List ℕ) → IsMap K.cmp (pairs t) → Fills K.cmp gap page t
+        → IsInGap K.cmp k gap → get K.cmp (pairs t) k ≡ Some d → get K.cmp (pairs page) k ≡ Some d }
     ensures page { (t page : Tree K (List ℕ)) (k : K) (d : List ℕ) → IsMap K.cmp (pairs t) → IsPageIn page t → get K.cmp (pairs page) k ≡ Some d → get K.cmp (pairs t) k ≡ Some d }
 {}

@@ -1,7 +1,7 @@
 //! Catch-ups between random maps, whose keys are on random levels: the rows afterwards, and how many rows and rounds it took.
 
-use merkle_replica::{CatchUpError, CaughtUp, Replica, catch_up_both};
-use merkle_search_tree::OutlineItemOf;
+use merkle_replica::{CatchUpError, CaughtUp, Replica, catch_up_both, lie_within};
+use merkle_search_tree::Gap;
 use merkle_search_tree::builder::{Builder, PageFormat};
 use std::alloc::{AllocError, Global};
 use std::test::Fail;
@@ -166,22 +166,29 @@ fn catch_ups_join_what_is_lacked(rt: HostRuntime) -> Result<(), Fail> {
     Ok(())
 }
 
-/// The keys that the steps of a catch-up leave to ask `peer` for, both hashed, in the order in which they are found.
+/// The keys that the steps of a catch-up leave to ask `peer` for, both hashed, in the order in which they are found. What the peer sends lies
+/// within the gaps that it was asked for.
 fn keys_to_ask(alloc: Global, local: &Numbers, peer: &Numbers) -> Result<Vec<[u8; 2]>, Fail> {
     let mut keys = Vec::new(alloc);
+    let mut gaps = Vec::new(alloc);
+    gaps.push(Gap::everywhere())?;
     let mut items = Vec::new(alloc);
-    if let Some(range) = peer.tree().root_range() {
-        items.push(OutlineItemOf::Page(range))?;
+    if let Some(item) = peer.tree().whole() {
+        items.push(item)?;
     }
     for _ in 0..256 {
+        if !lie_within(&gaps, &items) {
+            return Err(Fail::from("items outside the gaps"));
+        }
         let asked = local.sort_out(&items)?;
         for key in &asked.keys {
             keys.push(**key)?;
         }
-        if asked.spans.is_empty() {
+        if asked.gaps.is_empty() {
             break;
         }
-        items = peer.outlines(&asked.spans)?.ok_or("not hashed")?;
+        items = peer.outlines(&asked.gaps)?.ok_or("not hashed")?;
+        gaps = asked.gaps;
     }
     Ok(keys)
 }

@@ -14,6 +14,8 @@ mod kinds;
 #[cfg(test)]
 mod loads;
 #[cfg(test)]
+mod made_up;
+#[cfg(test)]
 mod memory;
 #[cfg(test)]
 mod mixed_formats;

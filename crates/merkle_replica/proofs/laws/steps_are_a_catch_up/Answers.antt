@@ -1,10 +1,10 @@
-use Rattle.std.proofs.Common.{◌≡◌, ◌≤◌, ◌+◌, true, ℕ, None, map, sym, subst}
+use Rattle.std.proofs.Common.{◌≡◌, ◌≤◌, ◌+◌, true, ℕ, None, sym, subst}
 use Rattle.key_order.specs.Map.{SameMap, rows_in}
 use Rattle.key_order.proofs.SameKeys.{same_keys-own, same_keys-back}
 use Rattle.key_order.proofs.SameMaps.{ascends}
 use Rattle.key_order.proofs.SameRows.{joins-came}
 use Rattle.merkle_diff.proofs.SameSpans.{rows_in-alike}
-use Rattle.merkle_tree_theory.specs.Outline.{of_page, whole_range}
+use Rattle.merkle_tree_theory.specs.Outline.{whole_item}
 use Rattle.merkle_tree_theory.specs.Page.{level, pairs}
 use Rattle.merkle_tree_theory.specs.Tree.{page, high, nothing}
 use Rattle.merkle_replica.specs.CatchUp.{points}
@@ -24,8 +24,8 @@ returns-clause-catch_up g c local peer root keys after up up_peer tree s =
     let l = contents_of local (page 0 None (high nothing)) in
     let p = contents_of peer root in
     let ascending = ascends laws.cmp o (λ d e. d ≡ e) (pairs root) (tree_map laws peer) tree.1 (ascending_digests laws.cmp o (laws.value_digest peer.hasher) peer.rows up_peer) in
-    let premises = premises_from laws o l p ascending tree.0 tree.1 up law.outline law.root law.range law.page in
-    let (rounds, left, d, n, same) = exact_descent laws o local peer root (map of_page (whole_range peer.format laws.bytes_of root)) s.first s.rounds s.left s.begins s.descends in
+    let premises = premises_from laws o l p ascending tree.0 tree.1 up law.opens law.outline law.whole law.gap law.page in
+    let (rounds, left, d, n, same) = exact_descent laws o local peer root (whole_item peer.format laws.bytes_of root) s.first s.rounds s.left s.begins s.descends in
     record {
       ascending = s.once.ascending;
       found = found_once laws o local peer left keys (once-alike laws.cmp o s.left left keys keys (same_keys-back laws.cmp o left s.left same) (same_keys-own laws.cmp o keys) s.once) (descended laws o l p premises rounds left d).0;
@@ -41,8 +41,8 @@ returns-clause-few g c local peer root first rounds left up up_peer tree begins 
     let l = contents_of local (page 0 None (high nothing)) in
     let p = contents_of peer root in
     let ascending = ascends laws.cmp o (λ d e. d ≡ e) (pairs root) (tree_map laws peer) tree.1 (ascending_digests laws.cmp o (laws.value_digest peer.hasher) peer.rows up_peer) in
-    let premises = premises_from laws o l p ascending tree.0 tree.1 up law.outline law.root law.range law.page in
-    let (rounds', left', d, n, same) = exact_descent laws o local peer root (map of_page (whole_range peer.format laws.bytes_of root)) first rounds left begins descends in
+    let premises = premises_from laws o l p ascending tree.0 tree.1 up law.opens law.outline law.whole law.gap law.page in
+    let (rounds', left', d, n, same) = exact_descent laws o local peer root (whole_item peer.format laws.bytes_of root) first rounds left begins descends in
     subst (λ (m : ℕ). m ≤ level root + 1) n (descended laws o l p premises rounds' left' d).1
 
 pub returns-clause-joins : goal.returns-clause-joins

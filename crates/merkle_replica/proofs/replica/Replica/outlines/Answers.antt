@@ -1,21 +1,25 @@
-use Rattle.std.proofs.Common.{ap, subst, ◌∙◌}
+use Rattle.std.proofs.Common.{take, ap, sym, ◌∙◌, ◌++◌}
 use Rattle.std.proofs.lemmas.List.{map-append, take_all}
-use Rattle.merkle_search_tree.specs.Items.{item, items}
-use Rattle.merkle_replica.specs.Descent.{AreOutlines, bounds_of}
-use Rattle.merkle_replica.proofs.Descents.{outlines_step}
+use Rattle.std.specs.List.{flat_map}
+use Rattle.merkle_tree_theory.specs.Outline.{outline_over}
+use Rattle.merkle_search_tree.specs.Items.{gap_of, item, items}
+use Rattle.merkle_replica.specs.Descent.{gaps_of}
+use Rattle.merkle_replica.proofs.Descents.{flat_step}
 use Rattle.merkle_replica.proofs.replica.Replica.outlines.Goals as goal
 
-pub spans-init : goal.spans-init
-spans-init g c = ap items c.new-all.ensures.items
+pub gaps-init : goal.gaps-init
+gaps-init g c = ap items c.new-all.ensures.items
 
-pub spans-preserved : goal.spans-preserved
-spans-preserved g c =
-    outlines_step g.K.Ord.cmp c.args.self.now.tree.format g.K.KeyBytes.bytes_of c.args.self.now.tree.root (λ r. record { first = r.0.now; last = r.1.now }) c.args.spans.now c.spans.span-index c.span-item.result
-    (items c.spans.all.items) (items c.in-Some.outline.items) (items c.append.new.self.items) c.spans-test.true c.span-item.is
-    (ap items c.in_ok-append-in-Some.ensures.items ∙ map-append item c.spans.all.items c.in-Some.outline.items)
-    c.spans.invariant (rw c.tree-in-spans.ensures.tree at (rw c.in-Some.is at c.in_ok-outline.ensures.items))
+pub gaps-preserved : goal.gaps-preserved
+gaps-preserved g c =
+    let tree = c.args.self.now.tree in
+    let outline = outline_over tree.format g.K.KeyBytes.bytes_of g.K.Ord.cmp tree.root in
+    let one = (rw c.tree-in-gaps.ensures.tree at (rw c.in-Some.is at c.in_ok-outline.ensures.items)).1 ∙ ap outline c.copied.ensures in
+    ap items c.in_ok-append-in-Some.ensures.items ∙ map-append item c.gaps.all.items c.in-Some.outline.items
+    ∙ ap (λ es. es ++ items c.in-Some.outline.items) c.gaps.invariant ∙ ap (λ es. flat_map outline (gaps_of (take c.gaps.gap-index c.args.gaps.now)) ++ es) one
+    ∙ sym (flat_step gap_of outline c.args.gaps.now c.gaps.gap-index c.gap-item.result c.gaps-test.true c.gap-item.is)
 
 pub returns : goal.returns
 returns g c =
-    subst (λ ss. AreOutlines g.K.Ord.cmp c.args.self.now.tree.format g.K.KeyBytes.bytes_of c.args.self.now.tree.root (bounds_of ss) (items c.spans.all.items))
-    (take_all c.spans.span-index c.args.spans.now c.spans-test.false) c.spans.invariant
+    let tree = c.args.self.now.tree in
+    c.gaps.invariant ∙ ap (λ gs. flat_map (outline_over tree.format g.K.KeyBytes.bytes_of g.K.Ord.cmp tree.root) (gaps_of gs)) (take_all c.gaps.gap-index c.args.gaps.now c.gaps-test.false)

@@ -1,52 +1,49 @@
 use Rattle.std.proofs.Common.{◌≡◌, ◌++◌, ◌∷◌, [], true, false, inl, inr, refl, sym, ap, subst, ◌∙◌, append-nil}
 use Rattle.std.proofs.lemmas.List.{map-append}
-use Rattle.merkle_diff.specs.Entry.{span_of}
-use Rattle.merkle_diff.specs.PageRange.{entry}
-use Rattle.merkle_search_tree.specs.Items.{item as item_of}
+use Rattle.merkle_search_tree.specs.Items.{gap_of, item as item_of}
 use Rattle.merkle_replica.specs.Contents.{side}
-use Rattle.merkle_replica.specs.Descent.{HasSortedOut, bounds_of, keys_of}
+use Rattle.merkle_replica.specs.Descent.{HasSortedOut, gaps_of, keys_of}
 use Rattle.merkle_replica.proofs.Sides.{laws_of}
 use Rattle.merkle_replica.proofs.replica.Replica.sort_one.Goals as goal
 
 pub returns-then-has_digest : goal.returns-then-has_digest
 returns-then-has_digest g c =
     let laws = laws_of g.K.Ord.cmp g.K.KeyBytes.bytes_of g.H.Hasher-1.digest_of g.V.PartialEq.eq g.V.Join.join_of g.H.Hasher-2.digest_of in
-    let spans = bounds_of c.args.asked.now.spans.items in
+    let gaps = gaps_of c.args.asked.now.gaps.items in
     let keys = keys_of c.args.asked.now.keys.items in
-    subst (λ e. HasSortedOut laws (side c.args.self.now) e spans keys spans keys) (sym (ap item_of c.in-Node.is))
-    ([], [], (refl, inl (c.has_digest.ensures.0 c.if-has_digest.true, refl)), sym (append-nil spans), sym (append-nil keys))
+    subst (λ e. HasSortedOut laws (side c.args.self.now) e gaps keys gaps keys) (sym (ap item_of c.in-Node.is))
+    ([], [], (refl, inl (c.has_digest.ensures.0 c.if-has_digest.true, refl)), sym (append-nil gaps), sym (append-nil keys))
 
 pub returns-then-has_page : goal.returns-then-has_page
 returns-then-has_page g c =
     let laws = laws_of g.K.Ord.cmp g.K.KeyBytes.bytes_of g.H.Hasher-1.digest_of g.V.PartialEq.eq g.V.Join.join_of g.H.Hasher-2.digest_of in
-    let spans = bounds_of c.args.asked.now.spans.items in
+    let gaps = gaps_of c.args.asked.now.gaps.items in
     let keys = keys_of c.args.asked.now.keys.items in
-    subst (λ e. HasSortedOut laws (side c.args.self.now) e spans keys spans keys) (sym (ap item_of c.in-Page.is))
-    ([], [], (refl, inl (c.has_page.ensures c.if-has_page.true, refl)), sym (append-nil spans), sym (append-nil keys))
+    subst (λ e. HasSortedOut laws (side c.args.self.now) e gaps keys gaps keys) (sym (ap item_of c.in-Page.is))
+    ([], [], (refl, inl (c.has_page.ensures c.if-has_page.true, refl)), sym (append-nil gaps), sym (append-nil keys))
 
 pub returns-in_ok-push-in-Node : goal.returns-in_ok-push-in-Node
 returns-in_ok-push-in-Node g c =
     let laws = laws_of g.K.Ord.cmp g.K.KeyBytes.bytes_of g.H.Hasher-1.digest_of g.V.PartialEq.eq g.V.Join.join_of g.H.Hasher-2.digest_of in
-    let spans = bounds_of c.args.asked.now.spans.items in
+    let gaps = gaps_of c.args.asked.now.gaps.items in
     let keys = keys_of c.args.asked.now.keys.items in
-    subst (λ e. HasSortedOut laws (side c.args.self.now) e spans keys spans (keys_of c.push.new.self.items)) (sym (ap item_of c.in-Node.is)) (
+    subst (λ e. HasSortedOut laws (side c.args.self.now) e gaps keys gaps (keys_of c.push.new.self.items)) (sym (ap item_of c.in-Node.is)) (
       [],
       c.in-Node.key.now ∷ [],
       (refl, inr (λ e. let never : true ≡ false = sym (c.has_digest.ensures.1 e) ∙ c.if-has_digest.false in cc, refl)),
-      sym (append-nil spans),
+      sym (append-nil gaps),
       ap keys_of c.in_ok-push-in-Node.ensures.items ∙ map-append (λ k. k.now) c.args.asked.now.keys.items (c.in-Node.key ∷ []),
     )
 
 pub returns-in_ok-push-in-Page : goal.returns-in_ok-push-in-Page
 returns-in_ok-push-in-Page g c =
     let laws = laws_of g.K.Ord.cmp g.K.KeyBytes.bytes_of g.H.Hasher-1.digest_of g.V.PartialEq.eq g.V.Join.join_of g.H.Hasher-2.digest_of in
-    let spans = bounds_of c.args.asked.now.spans.items in
+    let gaps = gaps_of c.args.asked.now.gaps.items in
     let keys = keys_of c.args.asked.now.keys.items in
-    let same : record { first = c.start.result.now; last = c.end.result.now } ≡ span_of (entry c.in-Page.range) = (λ i. record { first = c.start.ensures i; last = c.end.ensures i }) in
-    subst (λ e. HasSortedOut laws (side c.args.self.now) e spans keys (bounds_of c.push-in-Page.new.self.items) keys) (sym (ap item_of c.in-Page.is)) (
-      span_of (entry c.in-Page.range) ∷ [],
+    subst (λ e. HasSortedOut laws (side c.args.self.now) e gaps keys (gaps_of c.push-in-Page.new.self.items) keys) (sym (ap item_of c.in-Page.is)) (
+      gap_of c.in-Page.gap ∷ [],
       [],
       (refl, inr refl),
-      ap bounds_of c.in_ok-push-in-Page.ensures.items ∙ map-append (λ r. record { first = r.0.now; last = r.1.now }) c.args.asked.now.spans.items ((c.start.result, c.end.result) ∷ []) ∙ ap (λ s. spans ++ s ∷ []) same,
+      ap gaps_of c.in_ok-push-in-Page.ensures.items ∙ map-append gap_of c.args.asked.now.gaps.items (c.copied.result ∷ []) ∙ ap (λ g. gaps ++ g ∷ []) c.copied.ensures,
       sym (append-nil keys),
     )

@@ -1,9 +1,12 @@
 use Rattle.std.proofs.Common.{◌≡◌, ◌++◌, take}
-use Rattle.std.specs.List.{flat_map}
-use Rattle.merkle_search_tree.specs.Items.{items}
-use Rattle.merkle_tree_theory.proofs.Outlines.{node_items}
+use Rattle.merkle_tree_theory.specs.Page.{cache}
+use Rattle.merkle_tree_theory.proofs.Outlines.{front_items, bound_behind}
+use Rattle.merkle_search_tree.specs.Items.{bound_of, gap_of, items}
 use Rattle.merkle_search_tree.proofs.page.PageOf.list_items.Given as goal
 
--- the items of the nodes so far are listed
+-- the nodes so far are listed, and what comes is behind the last of them
 abbrev pub invariant-nodes : goal.invariant-nodes
-invariant-nodes g l = items l.list.items ≡ items l.initial.list.items ++ flat_map (node_items g.K.Ord.cmp) (take l.node-index l.node-items)
+invariant-nodes g l = record {
+  listed : items l.list.items ≡ items l.initial.list.items ++ front_items cache (gap_of l.gap) (take l.node-index l.node-items);
+  behind : bound_of l.after ≡ bound_behind (bound_of l.gap.after) (take l.node-index l.node-items);
+}

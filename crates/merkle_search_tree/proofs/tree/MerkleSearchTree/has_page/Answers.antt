@@ -1,32 +1,53 @@
 use Rattle.std.proofs.Common.{◌≡◌, ◌≢◌, List, ℕ, Some, None, ap, sym, subst, ◌∙◌}
-use Rattle.std.specs.Prelude.{IsTrue}
+use Rattle.std.specs.Prelude.{IsTrue, false}
 use Rattle.std.specs.Int.NonZero.{non_zero_u8_get}
 use Rattle.merkle_digest.specs.Level.{level_of}
-use Rattle.merkle_tree_theory.specs.Tree.{Tree}
-use Rattle.merkle_tree_theory.specs.Page.{pairs}
-use Rattle.merkle_tree_theory.specs.Lookup.{IsFirstOf}
+use Rattle.merkle_tree_theory.specs.Lookup.{Fills}
+use Rattle.merkle_tree_theory.specs.Page.{cache}
 use Rattle.merkle_tree_theory.specs.Ranges.{IsPageIn}
 use Rattle.merkle_tree_theory.specs.State.{State}
 use Rattle.merkle_tree_theory.specs.Stream.{page_digest}
-use Rattle.merkle_tree_theory.proofs.Inside.{true_digest, known_page}
+use Rattle.merkle_tree_theory.specs.Tree.{Tree}
+use Rattle.merkle_tree_theory.proofs.Inside.{true_digest, filling_digest}
+use Rattle.merkle_tree_theory.proofs.Over.{over_inside, filled_opens}
+use Rattle.merkle_search_tree.specs.Items.{gap_of}
 use Rattle.merkle_search_tree.proofs.tree.MerkleSearchTree.has_page.Goals as goal
 
-pub returns-clause-only : goal.returns-clause-only
-returns-clause-only g c = λ yes.
+none_some : {X : Type 0} (x : X) → None ≡ Some x → ⊥
+none_some x e = cc
+
+some_is : {X : Type 0} (x y : X) → Some x ≡ Some y → x ≡ y
+some_is x y e = cc
+
+pub returns-in-None-clause-all : goal.returns-in-None-clause-all
+returns-in-None-clause-all g c =
+    let s = c.self.inside in
+    let cmp = g.K.Ord.cmp in
+    let b = g.K.KeyBytes.bytes_of in
+    let gap = gap_of c.args.gap.now in
+    subst (λ (v : State g.row.K.Denot g.row.H.Denot). v.root_hash ≢ None → (page : Tree g.row.K.Denot (List ℕ)) → Fills cmp gap page v.root → page_digest v.format b page ≡ c.args.digest.now → IsTrue false) c.self.view_is
+    (λ some p f e. absurd (none_some p (c.in-None.ensures ∙ filled_opens cmp g.met.K.Ord.total gap p s.root c.self.invariant.ascending f)))
+
+pub returns-in-Some-clause-only : goal.returns-in-Some-clause-only
+returns-in-Some-clause-only g c = λ has.
     let s = c.self.inside in
     let b = g.K.KeyBytes.bytes_of in
-    let (p, i, e) = c.knows.ensures.only yes in
-    let q = subst (λ (v : State g.row.K.Denot g.row.H.Denot). IsPageIn p v.root × (page_digest v.format b p ≡ c.args.range.now.hash)) c.self.view_is
-    (i, true_digest s.page_format b p s.root _ c.self.invariant.caches i e ∙ c.hash.ensures) in
+    let p = c.in-Some.page.now in
+    let (i, n) = over_inside g.K.Ord.cmp (gap_of c.args.gap.now) s.root p (sym c.in-Some.ensures) in
+    let q = subst (λ (v : State g.row.K.Denot g.row.H.Denot). IsPageIn p v.root × (page_digest v.format b p ≡ c.args.digest.now)) c.self.view_is
+    (i, true_digest s.page_format b p s.root c.args.digest.now c.self.invariant.caches i (ap cache (sym c.page.view_is) ∙ c.has_digest.ensures.0 has)) in
     (p, q.0, q.1)
 
-pub returns-clause-all : goal.returns-clause-all
-returns-clause-all g c =
+pub returns-in-Some-clause-all : goal.returns-in-Some-clause-all
+returns-in-Some-clause-all g c =
     let s = c.self.inside in
-    let b = g.K.KeyBytes.bytes_of in
     let h = c.self.invariant in
-    subst (λ (v : State g.row.K.Denot g.row.H.Denot). v.root_hash ≢ None → (page : Tree g.row.K.Denot (List ℕ)) → IsPageIn page v.root → IsFirstOf g.K.Ord.cmp c.args.range.now.start.now (pairs page)
-    → page_digest v.format b page ≡ c.args.range.now.hash → IsTrue c.knows.result) c.self.view_is
-    (λ ne p i f e. c.knows.ensures.all p i (subst (λ k. IsFirstOf g.K.Ord.cmp k (pairs p)) (sym c.start.ensures) f)
-    (known_page g.K.Ord.cmp g.met.K.Ord.total (λ k. level_of (g.H.Hasher.digest_of s.hasher k) (non_zero_u8_get s.level_base)) s.page_format b s.root_hash s.root ne h.root_hash_holds h.caches h.canonical h.ascending c.args.range.now.start.now p i f
-    ∙ ap Some (e ∙ sym c.hash.ensures)))
+    let cmp = g.K.Ord.cmp in
+    let b = g.K.KeyBytes.bytes_of in
+    let gap = gap_of c.args.gap.now in
+    let lev = λ (k : g.row.K.Denot). level_of (g.H.Hasher.digest_of s.hasher k) (non_zero_u8_get s.level_base) in
+    subst (λ (v : State g.row.K.Denot g.row.H.Denot). v.root_hash ≢ None → (page : Tree g.row.K.Denot (List ℕ)) → Fills cmp gap page v.root → page_digest v.format b page ≡ c.args.digest.now → IsTrue c.has_digest.result) c.self.view_is
+    (λ some p f e.
+    let that = some_is c.in-Some.page.now p (c.in-Some.ensures ∙ filled_opens cmp g.met.K.Ord.total gap p s.root h.ascending f) in
+    let digest = filling_digest cmp g.met.K.Ord.total lev s.page_format b s.root_hash s.root some h.root_hash_holds h.caches h.canonical h.ascending p f.inside f.some in
+    c.has_digest.ensures.1 (ap cache c.page.view_is ∙ ap cache that ∙ digest ∙ ap Some e))
