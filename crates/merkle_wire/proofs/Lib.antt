@@ -1,5 +1,9 @@
+pub mod Bits
 pub mod Later
 pub mod Listed
 pub mod Flagged
 pub mod Bounds
 pub mod RowsAt
+pub mod Walked
+pub mod Within
+pub mod Nexts

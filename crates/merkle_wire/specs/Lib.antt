@@ -1,8 +1,12 @@
+pub mod Counts
 pub mod Encodings
 pub mod Options
+pub mod Gaps
 pub mod Parts
 pub mod Refusals
 pub mod Telling
 pub mod Messages
+pub mod Settings
 pub mod Questions
 pub mod Replies
+pub mod Sessions

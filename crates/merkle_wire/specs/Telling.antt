@@ -1,30 +1,26 @@
 -- Bytes tell the value that they begin with, and where it ends.
-use Rattle.std.proofs.Common.{◌≡◌, ℕ, ◌+◌, ◌<◌, ◌≤◌, ◌^◌, List, [], ◌∷◌, ◌++◌, length, true, Bool, ◌&&◌, nat_eq, sym, ap, ap₂, ◌∙◌, refl, arith}
+use Rattle.std.proofs.Common.{◌≡◌, ℕ, ◌<◌, ◌≤◌, ◌^◌, List, [], ◌∷◌, ◌++◌, length, true, Bool, ◌&&◌, nat_eq, sym, ap, ap₂, ◌∙◌, refl, arith}
 use Rattle.std.specs.Int.{Width, w16, w32, w64, to_le_bytes, from_le_bytes}
 use Rattle.std.specs.Cmp.Lexicographic.{pointwise, bytes_decides}
 use Rattle.std.proofs.lemmas.Bool.{eq-eqb}
 use Rattle.std.proofs.lemmas.List.{append_assoc, length-append}
-use Rattle.merkle_tree_theory.proofs.Streams.{join_tells, number_tells}
-use Rattle.merkle_wire.specs.Encodings.{number_bytes, string_encoding}
-
-string_length : (a r : List ℕ) → length (string_encoding a ++ r) ≡ 8 + length a + length r
-string_length a r = omega (arith, length-append (string_encoding a) r, length-append (number_bytes (length a)) a)
+use Rattle.merkle_tree_theory.proofs.Streams.{join_tells}
+use Rattle.merkle_wire.specs.Counts.{count_bytes, count_some, count_told}
+use Rattle.merkle_wire.specs.Encodings.{string_encoding}
 
 -- a byte string at the front tells its bytes, and what is behind it
 pub string_told : (a b r s all : List ℕ) → length all < 2 ^ 64 → all ≡ string_encoding a ++ r → all ≡ string_encoding b ++ s → (a ≡ b) × (r ≡ s)
 string_told a b r s all fits e f =
-    let flat = sym (append_assoc (number_bytes (length a)) a r) ∙ sym e ∙ f ∙ append_assoc (number_bytes (length b)) b s in
-    let heads = join_tells (number_bytes (length a)) (number_bytes (length b)) (a ++ r) (b ++ s) (λ i. 8) flat in
-    let low : length a < 2 ^ 64 = omega (arith, fits, ap length e, string_length a r) in
-    let low_b : length b < 2 ^ 64 = omega (arith, fits, ap length f, string_length b s) in
-    join_tells a b r s (number_tells (length a) (length b) low low_b heads.0) heads.1
+    let flat = sym (append_assoc (count_bytes (length a)) a r) ∙ sym e ∙ f ∙ append_assoc (count_bytes (length b)) b s in
+    let heads = count_told (length a) (length b) (a ++ r) (b ++ s) flat in
+    join_tells a b r s heads.0 heads.1
 
 -- what is behind others isn't longer than all
 pub behind_fits : (a b rest all : List ℕ) → length all < 2 ^ 64 → all ≡ a ++ (b ++ rest) → length (b ++ rest) < 2 ^ 64
 behind_fits a b rest all fits e = omega (arith, fits, ap length e, length-append a (b ++ rest))
 
 pub some_string : (a : List ℕ) → 1 ≤ length (string_encoding a)
-some_string a = omega (arith, length-append (number_bytes (length a)) a)
+some_string a = omega (arith, count_some (length a), length-append (count_bytes (length a)) a)
 
 -- equal bytes are equal by the test of bytes
 pub text_told : (a b r s all : List ℕ) → length all < 2 ^ 64 → all ≡ string_encoding a ++ r → all ≡ string_encoding b ++ s → (pointwise nat_eq a b ≡ true) × (r ≡ s)

@@ -1,32 +1,33 @@
 //! The answering side: a reply to a message, with nothing kept between messages.
 ghost use Rattle.std.specs.Prelude.{◌≡◌, ◌++◌, ℕ, List, IsSome, IfOk, IfErr, OnOk, MatchOption, None, Some, length, map};
-ghost use Rattle.key_order.specs.Map.{IsMap, get, rows_in};
+ghost use Rattle.key_order.specs.Map.{IsMap, get};
 ghost use Rattle.key_order.specs.Order.{Same};
-ghost use Rattle.merkle_replica.specs.Places.{IsPlaceOf, IsGapFor};
+ghost use Rattle.merkle_tree_theory.specs.Outline.{outline_over, whole_item};
 ghost use Rattle.merkle_tree_theory.specs.State.{SameSettings};
-ghost use Rattle.merkle_wire.specs.Questions.{question_bytes};
-ghost use Rattle.merkle_diff.specs.PageRange.{entries};
-ghost use Rattle.merkle_tree_theory.specs.Outline.{Item, whole_range};
-ghost use Rattle.merkle_tree_theory.specs.Ranges.{ranges_of};
-ghost use Rattle.merkle_replica.specs.Answers.{spans_of};
-ghost use Rattle.merkle_replica.specs.Descent.{AreOutlines, bounds_of};
-ghost use Rattle.merkle_replica.specs.Steps.{AreRanges};
-ghost use Rattle.merkle_wire.specs.Encodings.{number_bytes, list_bytes};
+ghost use Rattle.merkle_search_tree.specs.Items.{items};
+ghost use Rattle.merkle_replica.specs.Places.{IsPlaceOf, IsGapFor};
+ghost use Rattle.merkle_wire.specs.Counts.{count_bytes};
+ghost use Rattle.merkle_wire.specs.Encodings.{list_bytes};
 ghost use Rattle.merkle_wire.specs.Messages.{front};
-ghost use Rattle.merkle_wire.specs.Parts.{entry_bytes, item_bytes, row_bytes};
-ghost use Rattle.merkle_wire.specs.declared.message.Kind.TheVariants.{Root as root_kind, Outlines as outlines_kind, Rows as rows_kind, PageRanges as page_ranges_kind};
-ghost use Rattle.merkle_wire.specs.Replies.{IsReply, AreRowsAt, HasRowAt};
+ghost use Rattle.merkle_wire.specs.Parts.{outline_bytes, row_bytes};
+ghost use Rattle.merkle_wire.specs.Questions.{question_bytes};
+ghost use Rattle.merkle_wire.specs.Replies.{IsReply, AreRowsAt, HasRowAt, outline_at, rows_in_gaps};
+ghost use Rattle.merkle_wire.specs.declared.message.Kind.TheVariants.{Root as root_kind, Outlines as outlines_kind, Rows as rows_kind};
 ghost use Rattle.merkle_wire.specs.declared.question.Question.{Question as QuestionOf};
 
+use crate::counts::encode_count;
 use crate::decode::Decode;
 use crate::encode::Encode;
 use crate::error::ReadError;
+use crate::gaps::OwnedGap;
 use crate::lists::encode_list;
 use crate::message::{Kind, begin};
 use crate::question::{Question, decode_question, with_list};
-use merkle_diff::PageRange;
+use crate::rows_in::{add_rows_in, gaps_ascend};
+use crate::settings::agree;
 use merkle_digest::{Hasher, Key};
 use merkle_replica::{Join, Replica};
+use merkle_search_tree::OutlineItem;
 use std::alloc::{AllocError, AllocFailed, Global};
 use std::cmp::Ordering;
 use std::fmt;
@@ -38,8 +39,10 @@ pub enum AnswerError {
     Memory,
     /// The bytes are no message.
     Malformed(ReadError),
-    /// Ranges that end before they start or don't ascend.
-    NoRanges,
+    /// The asking side has another level base, page format or hasher, or another number of bytes in a digest: nothing would agree.
+    OtherSettings,
+    /// Rows are asked for in gaps that don't ascend: one starts below the end of the one before it.
+    NotAscending,
 }
 
 impl From<AllocError> for AnswerError {
@@ -77,7 +80,10 @@ impl fmt::Display for AnswerError {
         match self {
             AnswerError::Memory => f.write_str("out of memory"),
             AnswerError::Malformed(error) => write!(f, "the message is malformed: {error}"),
-            AnswerError::NoRanges => f.write_str("the ranges that are asked for don't ascend"),
+            AnswerError::OtherSettings => f.write_str("the asking side has other settings"),
+            AnswerError::NotAscending => f.write_str(
+                "the gaps that rows are asked for in don't ascend",
+            ),
         }
     }
 }
@@ -95,7 +101,7 @@ pub fn answer<
 >(alloc: Global, replica: &mut Replica<K, V, H, N>, message: &[u8]) -> Result<Vec<u8>, AnswerError>
     // The message asks, and the reply is that of the rows and the tree.
     ensures answered { IfOk result (λ reply. (question : QuestionOf K) × (message.now ≡ question_bytes K.encoding question)
-        × IsReply K.cmp K.bytes_of K.encoding V.encoding replica.old.rows replica.new.tree question reply.items) }
+        × IsReply K.cmp K.bytes_of K.encoding V.encoding (⟦<H as Hasher<N, K>>⟧.digest_of replica.new.tree.hasher) N replica.old.rows replica.new.tree question reply.items) }
     ensures rows { replica.new.rows ≡ replica.old.rows }
     ensures settings { SameSettings replica.old.tree replica.new.tree }
 {
@@ -116,83 +122,89 @@ fn reply_to<
     question: &Question<K>,
 ) -> Result<Vec<u8>, AnswerError>
     requires hashed { IsSome replica.now.tree.root_hash }
-    ensures { IfOk result (λ bytes. IsReply K.cmp K.bytes_of K.encoding V.encoding replica.now.rows replica.now.tree question.now bytes.items) }
+    ensures { IfOk result (λ bytes. IsReply K.cmp K.bytes_of K.encoding V.encoding (⟦<H as Hasher<N, K>>⟧.digest_of replica.now.tree.hasher) N replica.now.rows replica.now.tree question.now bytes.items) }
 {
     match question {
-        Question::Root => root_reply(alloc, replica),
-        Question::Outlines(spans) => outlines_reply(alloc, replica, spans),
+        Question::Root(settings) => {
+            if !agree(replica, settings) {
+                return Err(AnswerError::OtherSettings);
+            }
+            root_reply(alloc, replica)
+        }
+        Question::Outlines(gaps) => outlines_reply(alloc, replica, gaps),
         Question::RowsAt(keys) => rows_at_reply(alloc, replica, keys),
-        Question::RowsWithin(ranges) => rows_within_reply(alloc, replica, ranges),
-        Question::PageRanges => page_ranges_reply(alloc, replica),
+        Question::RowsIn(gaps) => rows_in_reply(alloc, replica, gaps),
     }
 }
 
-/// The number of rows, and the range of the root page, or of none.
+/// The number of rows, and the whole tree as one item, or none.
 fn root_reply<K: Key + Encode, V: Join + Encode, H: Hasher<N, K> + Hasher<N, V>, const N: usize>(
     alloc: Global,
     replica: &Replica<K, V, H, N>,
 ) -> Result<Vec<u8>, AnswerError>
     requires hashed { IsSome replica.now.tree.root_hash }
-    ensures { IfOk result (λ bytes. bytes.items ≡ (front root_kind ++ number_bytes (length replica.now.rows)) ++ list_bytes (entry_bytes K.encoding) (whole_range replica.now.tree.format K.bytes_of replica.now.tree.root)) }
+    ensures { IfOk result (λ bytes. bytes.items ≡ (front root_kind ++ count_bytes (length replica.now.rows)) ++ outline_bytes K.encoding (whole_item replica.now.tree.format K.bytes_of replica.now.tree.root)) }
 {
     let root = root_list(alloc, replica)?;
     let mut bytes = begin(alloc, Kind::Root)?;
-    (replica.rows().len() as u64).encode(&mut bytes)?;
+    encode_count(replica.rows().len() as u64, &mut bytes)?;
     encode_list(&root, &mut bytes)?;
     Ok(bytes)
 }
 
-/// The range of the root page, or none where there is no row.
+/// The whole tree as one item, or none where there is no row.
 fn root_list<'a, K: Key, V: Join, H: Hasher<N, K> + Hasher<N, V>, const N: usize>(
     alloc: Global,
     replica: &'a Replica<K, V, H, N>,
-) -> Result<Vec<PageRange<'a, K>>, AllocError>
+) -> Result<Vec<OutlineItem<'a, N, K>>, AllocError>
     requires hashed { IsSome replica.now.tree.root_hash }
-    ensures { IfOk result (λ list. entries list.items ≡ whole_range replica.now.tree.format K.bytes_of replica.now.tree.root) }
+    ensures { IfOk result (λ list. items list.items ≡ whole_item replica.now.tree.format K.bytes_of replica.now.tree.root) }
 {
     let mut root = Vec::new(alloc);
-    if let Some(range) = replica.tree().root_range() {
-        root.push(range)?;
+    if let Some(item) = replica.tree().whole() {
+        root.push(item)?;
     }
     Ok(root)
 }
 
-/// The bounds of a span, borrowed.
-fn bounds<K>(span: &(K, K)) -> (&K, &K)
-    ensures first { result.0.now ≡ span.now.0 }
-    ensures last { result.1.now ≡ span.now.1 }
-{
-    (&span.0, &span.1)
-}
-
-/// The spans, with their bounds borrowed.
-fn borrowed<K>(alloc: Global, spans: &[(K, K)]) -> Result<Vec<(&K, &K)>, AllocError>
-    ensures { IfOk result (λ list. bounds_of list.items ≡ spans_of spans.now) }
-{
-    let mut list = Vec::with_capacity(alloc, spans.len())?;
-    'spans: for span in spans {
-        list.push(bounds(span))?;
-    }
-    Ok(list)
-}
-
-/// The outlines over the spans, one behind the other.
+/// An outline for each gap, one behind the other.
 fn outlines_reply<
     K: Key + Encode + Drop,
     V: Join + Encode + Drop,
     H: Hasher<N, K> + Hasher<N, V>,
     const N: usize,
->(alloc: Global, replica: &Replica<K, V, H, N>, spans: &[(K, K)]) -> Result<Vec<u8>, AnswerError>
+>(
+    alloc: Global,
+    replica: &Replica<K, V, H, N>,
+    gaps: &[OwnedGap<K>],
+) -> Result<Vec<u8>, AnswerError>
     requires hashed { IsSome replica.now.tree.root_hash }
-    ensures { IfOk result (λ bytes. (items : List (Item K (List ℕ))) × AreOutlines K.cmp replica.now.tree.format K.bytes_of replica.now.tree.root (spans_of spans.now) items
-        × (bytes.items ≡ front outlines_kind ++ list_bytes (item_bytes K.encoding) items)) }
+    ensures { IfOk result (λ bytes. bytes.items ≡ front outlines_kind ++ list_bytes (outline_at K.cmp K.bytes_of K.encoding replica.now.tree) gaps.now) }
 {
-    let bounds = borrowed(alloc, spans)?;
-    let items = match replica.outlines(&bounds)? {
+    let mut bytes = begin(alloc, Kind::Outlines)?;
+    encode_count(gaps.len() as u64, &mut bytes)?;
+    'gaps: for gap in gaps {
+        add_outline(replica, gap, &mut bytes)?;
+    }
+    Ok(bytes)
+}
+
+/// Writes the outline over a gap.
+fn add_outline<
+    K: Key + Encode + Drop,
+    V: Join + Drop,
+    H: Hasher<N, K> + Hasher<N, V>,
+    const N: usize,
+>(replica: &Replica<K, V, H, N>, gap: &OwnedGap<K>, bytes: &mut Vec<u8>) -> Result<(), AllocError>
+    requires hashed { IsSome replica.now.tree.root_hash }
+    ensures { OnOk result (bytes.new.items ≡ bytes.old.items ++ outline_at K.cmp K.bytes_of K.encoding replica.now.tree gap.now) }
+{
+    let items = match replica.tree().outline(gap.as_gap())? {
         Some(items) => items,
         None => unreachable!(),
     };
-    Ok(with_list(alloc, Kind::Outlines, &items)?)
+    encode_list(&items, bytes)?;
+    Ok(())
 }
 
 /// The rows at the keys, of those that are there.
@@ -265,35 +277,38 @@ fn rows_at_reply<K: Key + Encode, V: Join + Encode, H: Hasher<N, K> + Hasher<N, 
     Ok(with_list(alloc, Kind::Rows, &rows)?)
 }
 
-/// The rows in the ranges.
-fn rows_within_reply<
+/// The rows in the gaps, one gap behind the other.
+fn rows_in_reply<
     K: Key + Encode + Drop,
     V: Join + Encode + Drop,
     H: Hasher<N, K> + Hasher<N, V>,
     const N: usize,
->(alloc: Global, replica: &Replica<K, V, H, N>, ranges: &[(K, K)]) -> Result<Vec<u8>, AnswerError>
-    ensures { IfOk result (λ bytes. AreRanges K.cmp (spans_of ranges.now) × (bytes.items ≡ front rows_kind ++ list_bytes (row_bytes K.encoding V.encoding) (rows_in K.cmp (spans_of ranges.now) replica.now.rows))) }
+>(
+    alloc: Global,
+    replica: &Replica<K, V, H, N>,
+    gaps: &[OwnedGap<K>],
+) -> Result<Vec<u8>, AnswerError>
+    ensures { IfOk result (λ bytes. bytes.items ≡ front rows_kind ++ list_bytes (row_bytes K.encoding V.encoding) (rows_in_gaps K.cmp replica.now.rows gaps.now)) }
 {
-    let Some(found) = replica.rows_within(ranges) else {
-        return Err(AnswerError::NoRanges);
-    };
-    let rows: Vec<&(K, V)> = found.collect(alloc)?;
+    if !gaps_ascend(gaps) {
+        return Err(AnswerError::NotAscending);
+    }
+    let rows = rows_in(alloc, replica.rows(), gaps)?;
     Ok(with_list(alloc, Kind::Rows, &rows)?)
 }
 
-/// The page ranges of the tree.
-fn page_ranges_reply<
-    K: Key + Encode,
-    V: Join + Encode,
-    H: Hasher<N, K> + Hasher<N, V>,
-    const N: usize,
->(alloc: Global, replica: &Replica<K, V, H, N>) -> Result<Vec<u8>, AnswerError>
-    requires hashed { IsSome replica.now.tree.root_hash }
-    ensures { IfOk result (λ bytes. bytes.items ≡ front page_ranges_kind ++ list_bytes (entry_bytes K.encoding) (ranges_of replica.now.tree.format K.bytes_of replica.now.tree.root)) }
+/// The rows in the gaps, one gap behind the other.
+fn rows_in<'a, K: Ord, V>(
+    alloc: Global,
+    rows: &'a [(K, V)],
+    gaps: &[OwnedGap<K>],
+) -> Result<Vec<&'a (K, V)>, AllocError>
+    requires { IsMap K.cmp rows.now }
+    ensures { IfOk result (λ found. map (λ row. row.now) found.items ≡ rows_in_gaps K.cmp rows.now gaps.now) }
 {
-    let ranges = match replica.tree().serialise_page_ranges()? {
-        Some(ranges) => ranges,
-        None => unreachable!(),
-    };
-    Ok(with_list(alloc, Kind::PageRanges, &ranges)?)
+    let mut found = Vec::new(alloc);
+    'gaps: for gap in gaps {
+        add_rows_in(&mut found, rows, gap)?;
+    }
+    Ok(found)
 }

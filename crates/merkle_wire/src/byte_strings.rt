@@ -3,6 +3,7 @@ ghost use Rattle.std.specs.Prelude.{◌≡◌, ◌≤◌, ◌++◌, OnOk, length
 ghost use Rattle.merkle_wire.specs.Encodings.{string_encoding};
 ghost use Rattle.merkle_wire.specs.Telling.{some_string, text_told, some_array, array_told};
 
+use crate::counts::encode_count;
 use crate::decode::Decode;
 use crate::encode::Encode;
 use crate::error::{Expected, ReadError};
@@ -13,7 +14,7 @@ use std::alloc::AllocError;
 fn encode_bytes(string: &[u8], bytes: &mut Vec<u8>) -> Result<(), AllocError>
     ensures { OnOk result (bytes.new.items ≡ bytes.old.items ++ string_encoding string.now) }
 {
-    bytes.extend_from_slice(&(string.len() as u64).to_le_bytes())?;
+    encode_count(string.len() as u64, bytes)?;
     bytes.extend_from_slice(string)
 }
 

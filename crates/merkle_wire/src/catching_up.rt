@@ -1,20 +1,31 @@
 //! The asking side: what to ask next, and the rows that came in the end.
-ghost use Rattle.std.specs.Prelude.{◌≡◌, ◌≤◌, ◌<◌};
+ghost use Rattle.std.specs.Prelude.{◌≡◌, ℕ, IfOk};
+ghost use Rattle.std.specs.List.{AllByRecursion};
+ghost use Rattle.key_order.specs.Map.{IsMap};
 ghost use Rattle.merkle_tree_theory.specs.State.{SameSettings};
+ghost use Rattle.merkle_wire.specs.Questions.{question_bytes};
+ghost use Rattle.merkle_wire.specs.Sessions.{IsAsked, IsAtOneOf, IsCame, IsInOneOf, IsNext};
+ghost use Rattle.merkle_wire.specs.Settings.{AreSettingsOf};
+ghost use Rattle.merkle_wire.specs.declared.question.Question.{Question as QuestionOf};
+ghost use Rattle.merkle_wire.specs.declared.question.Question.TheVariants.{Root};
+ghost use Rattle.merkle_wire.specs.declared.settings.Settings.{Settings as SettingsOf};
 
 use crate::decode::Decode;
 use crate::encode::Encode;
+use crate::gaps::OwnedGap;
+use crate::outlines::{Asking, take_outline};
 use crate::question::{Question, encode_question};
 use crate::replies::{begin_outlines, decode_root, decode_rows};
 use crate::session_error::SessionError;
-use crate::spans::{are_at, are_within, keys_ascend, place_of, spans_ascend};
-use merkle_diff::OwnedPageRange;
+use crate::settings::settings_of;
+use crate::walks::{are_at, are_in, rows_ascend};
 use merkle_digest::{Hasher, Key};
 use merkle_replica::{Join, Replica};
+use merkle_search_tree::Gap;
 use std::alloc::{AllocError, Global};
 
 /// How many rounds of outlines are asked for at most: a tree has at most 256 levels.
-const MOST_ROUNDS: u32 = 257;
+const MOST_ROUNDS: u32 = 256;
 
 /// The part of the peer's rows below which a replica asks for all of them.
 const FEWEST: u64 = 4;
@@ -38,16 +49,25 @@ pub enum Next<K, V> {
 }
 
 impl<K: Key + Decode> CatchingUp<K> {
-    /// A catch-up that begins, and the first message.
+    /// A catch-up of a replica that begins, and the first message, which tells the replica's settings.
     ///
     /// # Errors
     ///
     /// Want of memory.
-    pub fn begin(alloc: Global) -> Result<(Self, Vec<u8>), AllocError> {
-        let message = encode_question::<K>(alloc, &Question::Root)?;
+    pub fn begin<V: Join, H: Hasher<N, K> + Hasher<N, V>, const N: usize>(
+        alloc: Global,
+        replica: &Replica<K, V, H, N>,
+    ) -> Result<(Self, Vec<u8>), AllocError>
+        ensures settings { IfOk result (λ begun. (settings : SettingsOf K) × (begun.0.asked ≡ Root settings)
+            × AreSettingsOf (⟦<H as Hasher<N, K>>⟧.digest_of replica.now.tree.hasher) N replica.now.tree settings) }
+        ensures asks { IfOk result (λ begun. begun.1.items ≡ question_bytes K.encoding begun.0.asked) }
+        ensures rounds { IfOk result (λ begun. begun.0.rounds ≡ 0) }
+    {
+        let question = Question::Root(settings_of(alloc, replica)?);
+        let message = encode_question(alloc, &question)?;
         let session = CatchingUp {
             alloc,
-            asked: Question::Root,
+            asked: question,
             keys: Vec::new(alloc),
             rounds: 0,
         };
@@ -55,7 +75,9 @@ impl<K: Key + Decode> CatchingUp<K> {
     }
 
     /// How many rounds of outlines were asked for.
-    pub fn rounds(&self) -> u32 {
+    pub fn rounds(&self) -> u32
+        ensures { result ≡ self.now.rounds }
+    {
         self.rounds
     }
 
@@ -69,6 +91,7 @@ impl<K: Key + Decode> CatchingUp<K> {
         replica: &mut Replica<K, V, H, N>,
         reply: &[u8],
     ) -> Result<Next<K, V>, SessionError>
+        ensures next { IfOk result (IsNext K.cmp K.encoding self.rounds self.asked) }
         ensures rows { replica.new.rows ≡ replica.old.rows }
         ensures settings { SameSettings replica.old.tree replica.new.tree }
     {
@@ -80,49 +103,35 @@ impl<K: Key + Decode> CatchingUp<K> {
             rounds,
         } = self;
         match asked {
-            Question::Root => take_root(alloc, replica, reply),
-            Question::Outlines(spans) => take_outlines(alloc, replica, &spans, keys, rounds, reply),
-            Question::RowsAt(asked) => {
-                let rows = decode_rows::<K, V>(alloc, reply)?;
-                if are_at(&asked, &rows) {
-                    Ok(Next::Came(rows))
-                } else {
-                    Err(SessionError::NotAsked)
-                }
-            }
-            Question::RowsWithin(ranges) => {
-                let rows = decode_rows::<K, V>(alloc, reply)?;
-                if are_within(&ranges, &rows) {
-                    Ok(Next::Came(rows))
-                } else {
-                    Err(SessionError::NotAsked)
-                }
-            }
-            Question::PageRanges => Err(SessionError::OtherKind),
+            Question::Root(_) => take_root(alloc, replica, reply),
+            Question::Outlines(gaps) => take_outlines(alloc, replica, &gaps, keys, rounds, reply),
+            Question::RowsAt(keys) => take_rows_at(alloc, &keys, reply),
+            Question::RowsIn(gaps) => take_rows_in(alloc, &gaps, reply),
         }
     }
 }
 
-/// Takes the range of the peer's root page.
+/// Takes the number of the peer's rows and the digest of its root page.
 fn take_root<K: Key + Decode, V: Join + Drop, H: Hasher<N, K> + Hasher<N, V>, const N: usize>(
     alloc: Global,
     replica: &Replica<K, V, H, N>,
     reply: &[u8],
-) -> Result<Next<K, V>, SessionError> {
-    let (count, root) = decode_root::<K>(alloc, reply)?;
-    let Some(root) = root else {
+) -> Result<Next<K, V>, SessionError>
+    ensures { (rounds : ℕ) (asked : QuestionOf K) → IfOk result (IsNext K.cmp K.encoding rounds asked) }
+{
+    let (rows, digest) = decode_root(alloc, reply)?;
+    let Some(digest) = digest else {
         return Ok(Next::Came(Vec::new(alloc)));
     };
-    if replica.tree().has_page(&root.as_page_range()) {
+    if replica.tree().has_page(&Gap::everywhere(), &digest) {
         return Ok(Next::Came(Vec::new(alloc)));
     }
-    let span = (root.start().clone()?, root.end().clone()?);
-    let mut spans = Vec::new(alloc);
-    spans.push(span)?;
-    if has_few(replica.rows().len() as u64, count) {
-        ask(alloc, Question::RowsWithin(spans), Vec::new(alloc), 0)
+    let mut gaps = Vec::new(alloc);
+    gaps.push(OwnedGap::everywhere())?;
+    if has_few(replica.rows().len() as u64, rows) {
+        ask(alloc, Question::RowsIn(gaps), Vec::new(alloc), 0)
     } else {
-        ask(alloc, Question::Outlines(spans), Vec::new(alloc), 0)
+        ask(alloc, Question::Outlines(gaps), Vec::new(alloc), 1)
     }
 }
 
@@ -137,7 +146,12 @@ fn ask<K: Encode + Drop, V>(
     question: Question<K>,
     keys: Vec<K>,
     rounds: u32,
-) -> Result<Next<K, V>, SessionError> {
+) -> Result<Next<K, V>, SessionError>
+    ensures { IfOk result (IsAsked K.encoding question rounds) }
+{
+    if rounds > MOST_ROUNDS {
+        return Err(SessionError::TooManyRounds);
+    }
     let message = encode_question(alloc, &question)?;
     let session = CatchingUp {
         alloc,
@@ -148,76 +162,86 @@ fn ask<K: Encode + Drop, V>(
     Ok(Next::Ask(session, message))
 }
 
-/// Takes the outlines over the spans, item by item.
+/// Takes the outlines over the gaps.
 fn take_outlines<K: Key + Decode, V: Join + Drop, H: Hasher<N, K> + Hasher<N, V>, const N: usize>(
     alloc: Global,
     replica: &Replica<K, V, H, N>,
-    spans: &[(K, K)],
+    gaps: &[OwnedGap<K>],
     keys: Vec<K>,
     rounds: u32,
     reply: &[u8],
-) -> Result<Next<K, V>, SessionError> {
-    let mut reader = begin_outlines(alloc, reply)?;
-    let count = reader.number()?;
-    let mut keys = keys;
-    let mut left = Vec::new(alloc);
-    let mut at = 0;
-    'items: for _done in 0..count {
-        if reader.flag()? {
-            let range = OwnedPageRange::<K>::decode(&mut reader)?;
-            at = place_of(spans, at, range.start(), range.end())?;
-            if !replica.tree().has_page(&range.as_page_range()) {
-                left.push((range.start().clone()?, range.end().clone()?))?;
-            }
-        } else {
-            let key = K::decode(&mut reader)?;
-            let digest = reader.slice(N)?;
-            at = place_of(spans, at, &key, &key)?;
-            if !has_digest(replica, &key, digest) {
-                keys.push(key)?;
-            }
-        }
+) -> Result<Next<K, V>, SessionError>
+    ensures { (asked : QuestionOf K) → IfOk result (IsNext K.cmp K.encoding rounds asked) }
+{
+    let mut reader = begin_outlines(alloc, reply, gaps.len())?;
+    let mut asking = Asking {
+        gaps: Vec::new(alloc),
+        keys,
+    };
+    'gaps: for gap in gaps {
+        take_outline(&mut reader, replica, gap, &mut asking)?;
     }
     reader.end()?;
-    go_on(alloc, left, keys, rounds)
-}
-
-/// Whether the key is there with this digest of its value.
-fn has_digest<K: Key, V: Join, H: Hasher<N, K> + Hasher<N, V>, const N: usize>(
-    replica: &Replica<K, V, H, N>,
-    key: &K,
-    digest: &[u8],
-) -> bool {
-    match replica.tree().value_hash(key) {
-        Some(own) => own.as_bytes().as_slice() == digest,
-        None => false,
-    }
+    go_on(alloc, asking, rounds)
 }
 
 /// Asks for the outlines that are left, or else for the rows at the keys.
 fn go_on<K: Ord + Encode + Drop, V>(
     alloc: Global,
-    left: Vec<(K, K)>,
-    keys: Vec<K>,
+    asking: Asking<K>,
     rounds: u32,
-) -> Result<Next<K, V>, SessionError> {
-    let mut keys = keys;
-    let rounds = rounds.saturating_add(1);
-    if !left.is_empty() {
-        if !spans_ascend(&left) {
-            return Err(SessionError::NotOffered);
-        }
-        if rounds >= MOST_ROUNDS {
-            return Err(SessionError::TooManyRounds);
-        }
-        ask(alloc, Question::Outlines(left), keys, rounds)
-    } else if keys.is_empty() {
-        Ok(Next::Came(Vec::new(alloc)))
-    } else {
-        keys.sort()?;
-        if !keys_ascend(&keys) {
-            return Err(SessionError::NotOffered);
-        }
-        ask(alloc, Question::RowsAt(keys), Vec::new(alloc), rounds)
+) -> Result<Next<K, V>, SessionError>
+    ensures { (asked : QuestionOf K) → IfOk result (IsNext K.cmp K.encoding rounds asked) }
+{
+    let Asking { gaps, keys } = asking;
+    if !gaps.is_empty() {
+        return ask(
+            alloc,
+            Question::Outlines(gaps),
+            keys,
+            rounds.saturating_add(1),
+        );
     }
+    if keys.is_empty() {
+        return Ok(Next::Came(Vec::new(alloc)));
+    }
+    let mut keys = keys;
+    keys.sort()?;
+    ask(alloc, Question::RowsAt(keys), Vec::new(alloc), rounds)
+}
+
+/// Takes the rows at keys.
+fn take_rows_at<K: Decode + Ord, V: Decode>(
+    alloc: Global,
+    keys: &[K],
+    reply: &[u8],
+) -> Result<Next<K, V>, SessionError>
+    ensures { IfOk result (IsCame (λ rows. IsMap K.cmp rows × AllByRecursion (IsAtOneOf K.cmp keys.now) rows)) }
+{
+    let rows = decode_rows::<K, V>(alloc, reply)?;
+    if !rows_ascend(&rows) {
+        return Err(SessionError::NotAsked);
+    }
+    if !are_at(keys, &rows) {
+        return Err(SessionError::NotAsked);
+    }
+    Ok(Next::Came(rows))
+}
+
+/// Takes the rows in gaps.
+fn take_rows_in<K: Decode + Ord, V: Decode>(
+    alloc: Global,
+    gaps: &[OwnedGap<K>],
+    reply: &[u8],
+) -> Result<Next<K, V>, SessionError>
+    ensures { IfOk result (IsCame (λ rows. IsMap K.cmp rows × AllByRecursion (IsInOneOf K.cmp gaps.now) rows)) }
+{
+    let rows = decode_rows::<K, V>(alloc, reply)?;
+    if !rows_ascend(&rows) {
+        return Err(SessionError::NotAsked);
+    }
+    if !are_in(gaps, &rows) {
+        return Err(SessionError::NotAsked);
+    }
+    Ok(Next::Came(rows))
 }

@@ -9,6 +9,8 @@ use std::fmt;
 pub enum Expected {
     /// This many bytes more.
     Bytes(u64),
+    /// A count in its shortest form.
+    Count,
     /// A text in UTF-8.
     Text,
     /// A key that is not below the one before it.
@@ -19,6 +21,8 @@ pub enum Expected {
     Kind,
     /// A message that asks.
     Question,
+    /// The byte of a page format.
+    PageFormat,
     /// The byte of the version.
     Version,
     /// A type whose values have bytes.
@@ -55,11 +59,13 @@ impl fmt::Display for Expected {
     fn fmt<W: fmt::Write>(&self, f: &mut fmt::Formatter<W>) -> fmt::Result {
         match self {
             Expected::Bytes(count) => write!(f, "{count} bytes more"),
+            Expected::Count => f.write_str("a count in its shortest form"),
             Expected::Text => f.write_str("a text in UTF-8"),
             Expected::LastKey => f.write_str("a key that is not below the one before it"),
             Expected::Flag => f.write_str("a byte 0 or 1"),
             Expected::Kind => f.write_str("the byte of a kind"),
             Expected::Question => f.write_str("a message that asks"),
+            Expected::PageFormat => f.write_str("the byte of a page format"),
             Expected::Version => f.write_str("the byte of the version"),
             Expected::Nonempty => f.write_str("a type whose values have bytes"),
             Expected::End => f.write_str("the end"),

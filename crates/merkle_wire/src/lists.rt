@@ -4,6 +4,7 @@ ghost use Rattle.std.specs.List.{AllByRecursion};
 ghost use Rattle.merkle_wire.specs.Encodings.{list_bytes};
 ghost use Rattle.merkle_wire.specs.Refusals.{IsMalformed, IsRefusal};
 
+use crate::counts::encode_count;
 use crate::decode::Decode;
 use crate::encode::Encode;
 use crate::error::ReadError;
@@ -14,7 +15,7 @@ use std::alloc::AllocError;
 pub fn encode_list<T: Encode>(list: &[T], bytes: &mut Vec<u8>) -> Result<(), AllocError>
     ensures { OnOk result (bytes.new.items ≡ bytes.old.items ++ list_bytes T.encoding list.now) }
 {
-    (list.len() as u64).encode(bytes)?;
+    encode_count(list.len() as u64, bytes)?;
     'entries: for entry in list {
         entry.encode(bytes)?;
     }
@@ -34,7 +35,7 @@ pub fn decode_list<T: Decode>(reader: &mut Reader<'_>) -> Result<Vec<T>, ReadErr
     ensures malformed { IfErr result (λ error. IsMalformed error → (list : List T) (rest : List ℕ) → AllByRecursion T.is_value list → reader.old.left.now ≢ list_bytes T.encoding list ++ rest) }
 {
     let alloc = reader.alloc();
-    let count = reader.number()?;
+    let count = reader.count()?;
     let mut list = Vec::new(alloc);
     'entries: for _done in 0..count {
         let next = T::decode(reader)?;

@@ -14,24 +14,20 @@ const VERSION: u8 = 1;
 /// What a message is.
 #[derive(Clone, Copy, Debug, PartialEq, Eq, Drop)]
 pub enum Kind {
-    /// The asking side wants the number of rows and the range of the root page.
+    /// The asking side wants the number of rows and the digest of the root page.
     AskRoot,
-    /// It wants the outlines of the pages with these spans.
+    /// It wants the outlines over these gaps.
     AskOutlines,
     /// It wants the rows at these keys.
     AskRowsAt,
-    /// It wants the rows in these ranges of keys.
-    AskRowsWithin,
-    /// It wants the page ranges of the tree.
-    AskPageRanges,
-    /// The number of rows and the range of the root page, or of none.
+    /// It wants the rows in these gaps.
+    AskRowsIn,
+    /// The number of rows, and the digest of the root page, or none.
     Root,
-    /// Items of outlines.
+    /// An outline for each gap.
     Outlines,
     /// Rows.
     Rows,
-    /// Page ranges.
-    PageRanges,
     /// The answering side refuses.
     Refusal,
 }
@@ -44,12 +40,10 @@ fn byte_of(kind: Kind) -> u8
         Kind::AskRoot => 1,
         Kind::AskOutlines => 2,
         Kind::AskRowsAt => 3,
-        Kind::AskRowsWithin => 4,
-        Kind::AskPageRanges => 5,
+        Kind::AskRowsIn => 4,
         Kind::Root => 129,
         Kind::Outlines => 130,
         Kind::Rows => 131,
-        Kind::PageRanges => 132,
         Kind::Refusal => 255,
     }
 }
@@ -62,12 +56,10 @@ fn kind_of(byte: u8) -> Option<Kind>
         1 => Some(Kind::AskRoot),
         2 => Some(Kind::AskOutlines),
         3 => Some(Kind::AskRowsAt),
-        4 => Some(Kind::AskRowsWithin),
-        5 => Some(Kind::AskPageRanges),
+        4 => Some(Kind::AskRowsIn),
         129 => Some(Kind::Root),
         130 => Some(Kind::Outlines),
         131 => Some(Kind::Rows),
-        132 => Some(Kind::PageRanges),
         255 => Some(Kind::Refusal),
         _ => None,
     }

@@ -1,5 +1,5 @@
 //! Numbers as their bytes, the lowest first.
-ghost use Rattle.std.specs.Prelude.{◌<◌, ◌^◌, ◌∷◌, [], ⊤, refl};
+ghost use Rattle.std.specs.Prelude.{◌≡◌, ◌<◌, ◌^◌, ◌∷◌, [], ⊤, refl};
 ghost use Rattle.std.specs.Int.{w16, w32, w64, to_le_bytes};
 ghost use Rattle.std.proofs.lemmas.Nat.{from_le_bytes-to_le_bytes_2, from_le_bytes-to_le_bytes_4, from_le_bytes-to_le_bytes_8};
 ghost use Rattle.merkle_wire.specs.Telling.{number_told, byte_told, unit_told, some_byte, some_number_2, some_number_4, some_number_8};
@@ -121,6 +121,14 @@ impl Decode for u64 {
     ghost told = { λ a b r s all. number_told w64 8 (2 ^ 64) (λ n. refl) from_le_bytes-to_le_bytes_8 a b r s all };
 
     fn decode(reader: &mut Reader<'_>) -> Result<Self, ReadError> {
-        reader.number()
+        let bytes = reader.array::<8>()?;
+        Ok(number_of(&bytes))
     }
+}
+
+/// The number that eight bytes spell.
+fn number_of(bytes: &[u8; 8]) -> u64
+    ensures { to_le_bytes w64 result ≡ bytes.now }
+{
+    u64::from_le_bytes(*bytes)
 }

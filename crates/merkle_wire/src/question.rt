@@ -5,28 +5,30 @@ ghost use Rattle.merkle_wire.specs.Encodings.{list_bytes};
 ghost use Rattle.merkle_wire.specs.Messages.{front};
 ghost use Rattle.merkle_wire.specs.Questions.{question_bytes};
 ghost use Rattle.merkle_wire.specs.Refusals.{IsMalformed, IsRefusal};
+ghost use Rattle.merkle_wire.specs.Settings.{settings_bytes};
+ghost use Rattle.merkle_wire.specs.declared.message.Kind.TheVariants.{AskRoot};
 
 use crate::decode::Decode;
 use crate::encode::Encode;
 use crate::error::{Expected, ReadError};
+use crate::gaps::OwnedGap;
 use crate::lists::{decode_list, encode_list};
 use crate::message::{Kind, begin, decode_kind};
 use crate::reader::Reader;
+use crate::settings::{Settings, decode_settings, encode_settings};
 use std::alloc::{AllocError, Global};
 
 /// What the asking side asks for.
 #[derive(Drop)]
 pub enum Question<K> {
-    /// How many rows there are, and the range of the root page.
-    Root,
-    /// The outlines of the pages with these spans.
-    Outlines(Vec<(K, K)>),
+    /// How many rows there are, and the digest of the root page, where the peer has these settings.
+    Root(Settings<K>),
+    /// The outlines over these gaps.
+    Outlines(Vec<OwnedGap<K>>),
     /// The rows at these keys.
     RowsAt(Vec<K>),
-    /// The rows in these ranges of keys.
-    RowsWithin(Vec<(K, K)>),
-    /// The page ranges of the tree.
-    PageRanges,
+    /// The rows in these gaps.
+    RowsIn(Vec<OwnedGap<K>>),
 }
 
 /// The message that asks.
@@ -41,12 +43,20 @@ pub fn encode_question<K: Encode>(
     ensures { IfOk result (λ message. message.items ≡ question_bytes K.encoding question.now) }
 {
     match question {
-        Question::Root => begin(alloc, Kind::AskRoot),
-        Question::Outlines(spans) => with_list(alloc, Kind::AskOutlines, spans),
+        Question::Root(settings) => root_question(alloc, settings),
+        Question::Outlines(gaps) => with_list(alloc, Kind::AskOutlines, gaps),
         Question::RowsAt(keys) => with_list(alloc, Kind::AskRowsAt, keys),
-        Question::RowsWithin(ranges) => with_list(alloc, Kind::AskRowsWithin, ranges),
-        Question::PageRanges => begin(alloc, Kind::AskPageRanges),
+        Question::RowsIn(gaps) => with_list(alloc, Kind::AskRowsIn, gaps),
     }
+}
+
+/// The message that asks what there is in all.
+fn root_question<K: Encode>(alloc: Global, settings: &Settings<K>) -> Result<Vec<u8>, AllocError>
+    ensures { IfOk result (λ message. message.items ≡ front AskRoot ++ settings_bytes K.encoding settings.now) }
+{
+    let mut message = begin(alloc, Kind::AskRoot)?;
+    encode_settings(settings, &mut message)?;
+    Ok(message)
 }
 
 /// A message of a kind and a list.
@@ -73,16 +83,13 @@ pub fn decode_question<K: Decode>(alloc: Global, message: &[u8]) -> Result<Quest
     let mut reader = Reader::new(alloc, message);
     match decode_kind(&mut reader)? {
         Kind::AskRoot => {
+            let settings = decode_settings(&mut reader)?;
             reader.end()?;
-            Ok(Question::Root)
+            Ok(Question::Root(settings))
         }
         Kind::AskOutlines => Ok(Question::Outlines(last_list(reader)?)),
         Kind::AskRowsAt => Ok(Question::RowsAt(last_list(reader)?)),
-        Kind::AskRowsWithin => Ok(Question::RowsWithin(last_list(reader)?)),
-        Kind::AskPageRanges => {
-            reader.end()?;
-            Ok(Question::PageRanges)
-        }
+        Kind::AskRowsIn => Ok(Question::RowsIn(last_list(reader)?)),
         _ => Err(reader.unexpected(Expected::Question)),
     }
 }

@@ -1,9 +1,11 @@
 //! Bytes that came, read one part after the other.
 ghost use Rattle.std.specs.Prelude.{◌≡◌, ◌≢◌, ◌++◌, ◌∷◌, ◌<◌, ◌-◌, ◌^◌, ℕ, Bool, cond, List, [], OnOk, IfOk, IfErr, length};
-ghost use Rattle.merkle_wire.specs.Encodings.{number_bytes, string_encoding};
+ghost use Rattle.merkle_wire.specs.Counts.{count_bytes};
+ghost use Rattle.merkle_wire.specs.Encodings.{string_encoding};
 ghost use Rattle.merkle_wire.specs.Refusals.{IsMalformed, IsRefusal};
 ghost use Rattle.merkle_wire.specs.declared.error.ReadError.TheVariants.{Unexpected};
 
+use crate::counts::decode_count;
 use crate::error::{Expected, ReadError};
 use std::alloc::Global;
 
@@ -13,13 +15,6 @@ pub struct Reader<'a> {
     alloc: Global,
     total: usize,
     left: &'a [u8],
-}
-
-/// The number that eight bytes spell.
-fn number_of(bytes: &[u8; 8]) -> u64
-    ensures { number_bytes result ≡ bytes.now }
-{
-    u64::from_le_bytes(*bytes)
 }
 
 impl<'a> Reader<'a> {
@@ -105,15 +100,18 @@ impl<'a> Reader<'a> {
         Ok(flag)
     }
 
-    /// The next number.
-    pub fn number(&mut self) -> Result<u64, ReadError>
-        ensures read { IfOk result (λ number. self.old.left.now ≡ number_bytes number ++ self.new.left.now) }
+    /// The next count.
+    pub fn count(&mut self) -> Result<u64, ReadError>
+        ensures read { IfOk result (λ count. self.old.left.now ≡ count_bytes count ++ self.new.left.now) }
         ensures total { self.new.total ≡ self.old.total }
         ensures refused { IfErr result (IsRefusal self.old.total self.old.left.now) }
-        ensures malformed { IfErr result (λ error. IsMalformed error → (number : ℕ) (rest : List ℕ) → self.old.left.now ≢ number_bytes number ++ rest) }
+        ensures malformed { IfErr result (λ error. IsMalformed error → (count : ℕ) (rest : List ℕ) → count < 2 ^ 64 → self.old.left.now ≢ count_bytes count ++ rest) }
     {
-        let bytes = self.array::<8>()?;
-        Ok(number_of(&bytes))
+        let Some((count, left)) = decode_count(self.left) else {
+            return Err(self.unexpected(Expected::Count));
+        };
+        self.left = left;
+        Ok(count)
     }
 
     /// The bytes of the next byte string, behind their number.
@@ -123,7 +121,7 @@ impl<'a> Reader<'a> {
         ensures refused { IfErr result (IsRefusal self.old.total self.old.left.now) }
         ensures malformed { IfErr result (λ error. IsMalformed error → (bytes rest : List ℕ) → self.old.left.now ≢ string_encoding bytes ++ rest) }
     {
-        let len = self.number()?;
+        let len = self.count()?;
         let Some((bytes, left)) = self.left.split_at_checked(len as usize) else {
             return Err(self.unexpected(Expected::Bytes(len)));
         };

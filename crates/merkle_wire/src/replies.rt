@@ -4,7 +4,7 @@ use crate::lists::decode_list;
 use crate::message::{Kind, decode_kind};
 use crate::reader::Reader;
 use crate::session_error::SessionError;
-use merkle_diff::OwnedPageRange;
+use merkle_digest::PageDigest;
 use std::alloc::Global;
 
 /// Reads the front of a reply of this kind.
@@ -19,31 +19,43 @@ fn expect(reader: &mut Reader<'_>, kind: Kind) -> Result<(), SessionError> {
     }
 }
 
-/// How many rows the peer has, and the range of its root page, or of none.
-pub(crate) fn decode_root<K: Ord + Decode>(
+/// How many rows the peer has, and the digest of its root page, or none.
+pub(crate) fn decode_root(
     alloc: Global,
     reply: &[u8],
-) -> Result<(u64, Option<OwnedPageRange<K>>), SessionError> {
+) -> Result<(u64, Option<PageDigest>), SessionError> {
     let mut reader = Reader::new(alloc, reply);
     expect(&mut reader, Kind::Root)?;
-    let rows = reader.number()?;
-    let mut roots = decode_list::<OwnedPageRange<K>>(&mut reader)?;
+    let rows = reader.count()?;
+    let digest = match reader.count()? {
+        0 => None,
+        1 => Some(whole(&mut reader)?),
+        _ => return Err(SessionError::ManyRoots),
+    };
     reader.end()?;
-    let root = roots.pop();
-    if roots.is_empty() {
-        Ok((rows, root))
+    Ok((rows, digest))
+}
+
+/// The digest of the whole tree, as its one item.
+fn whole(reader: &mut Reader<'_>) -> Result<PageDigest, SessionError> {
+    if reader.flag()? {
+        Ok(PageDigest::new(reader.array::<16>()?))
     } else {
         Err(SessionError::ManyRoots)
     }
 }
 
-/// A reader of the outlines that came, behind the front of the reply.
+/// A reader of the outlines that came, behind the front of the reply and their number, where that is the number of those that were asked for.
 pub(crate) fn begin_outlines<'a>(
     alloc: Global,
     reply: &'a [u8],
+    asked: usize,
 ) -> Result<Reader<'a>, SessionError> {
     let mut reader = Reader::new(alloc, reply);
     expect(&mut reader, Kind::Outlines)?;
+    if reader.count()? != asked as u64 {
+        return Err(SessionError::OtherOutlines);
+    }
     Ok(reader)
 }
 

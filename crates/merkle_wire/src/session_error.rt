@@ -16,10 +16,16 @@ pub enum SessionError {
     OtherKind,
     /// The peer refused what was asked.
     Refused,
-    /// More than one page was said to be the root.
+    /// The whole tree came as more than one item, or as a node.
     ManyRoots,
-    /// Items of outlines don't ascend, or leave the spans that were asked for.
-    NotOffered,
+    /// The number of outlines is not that of the gaps that were asked for.
+    OtherOutlines,
+    /// Keys of an outline don't ascend, or leave the gap that was asked for.
+    NotInGap,
+    /// Two pages of an outline have no key between them.
+    TwoPages,
+    /// An outline has a page and no node, which no page of a tree has.
+    NoNode,
     /// The peer has more rounds of outlines than a tree has levels.
     TooManyRounds,
     /// Rows don't ascend, or have keys that were not asked for.
@@ -63,10 +69,21 @@ impl fmt::Display for SessionError {
             SessionError::Malformed(error) => write!(f, "the reply is malformed: {error}"),
             SessionError::OtherKind => f.write_str("the reply is not what was asked for"),
             SessionError::Refused => f.write_str("the peer refused what was asked"),
-            SessionError::ManyRoots => f.write_str("the peer has more than one root page"),
-            SessionError::NotOffered => {
-                f.write_str("the peer sent items that don't ascend or were not asked for")
+            SessionError::ManyRoots => f.write_str(
+                "the peer's whole tree came as more than one page",
+            ),
+            SessionError::OtherOutlines => {
+                f.write_str("the peer sent another number of outlines than were asked for")
             }
+            SessionError::NotInGap => {
+                f.write_str(
+                    "the peer sent keys that don't ascend or leave the gap that was asked for",
+                )
+            }
+            SessionError::TwoPages => f.write_str(
+                "the peer sent two pages with no key between them",
+            ),
+            SessionError::NoNode => f.write_str("the peer sent a page without a node"),
             SessionError::TooManyRounds => f.write_str("the peer's tree has no end"),
             SessionError::NotAsked => {
                 f.write_str("the peer sent rows that don't ascend or were not asked for")

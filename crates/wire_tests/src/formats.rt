@@ -89,7 +89,7 @@ fn a_row_is_its_key_and_its_value(rt: HostRuntime) -> Result<(), Fail> {
 #[test]
 fn a_cut_row_is_refused_where_it_ends(rt: HostRuntime) -> Result<(), Fail> {
     let alloc = rt.alloc();
-    let bytes = [2u8, 0, 0, 0, 0, 0, 0, 0, 97, 98, 2, 1];
+    let bytes = [2u8, 97, 98, 2, 1];
     let mut reader = Reader::new(alloc, &bytes);
     match <(String, u64)>::decode(&mut reader) {
         Ok(_) => assert!(rt; false),
@@ -97,11 +97,34 @@ fn a_cut_row_is_refused_where_it_ends(rt: HostRuntime) -> Result<(), Fail> {
             assert_eq!(rt;
                 error,
                 ReadError::Unexpected {
-                    offset: 10,
+                    offset: 3,
                     expected: Expected::Bytes(8)
                 }
             );
         }
     }
+    Ok(())
+}
+
+#[test]
+fn gaps_are_two_bounds(rt: HostRuntime) -> Result<(), Fail> {
+    let alloc = rt.alloc();
+    let mut gaps = Vec::new(alloc);
+    gaps.push(OwnedGap {
+        after: None,
+        before: Some([7u8, 9]),
+    })?;
+    gaps.push(OwnedGap {
+        after: Some([8, 0]),
+        before: None,
+    })?;
+    let mut bytes = Vec::new(alloc);
+    encode_list(&gaps, &mut bytes)?;
+    let wanted = [2, 0, 1, 7, 9, 1, 8, 0, 0];
+    assert_eq!(rt; bytes.as_slice(), wanted.as_slice());
+    let mut reader = Reader::new(alloc, &bytes);
+    let back = decode_list::<OwnedGap<[u8; 2]>>(&mut reader)?;
+    assert!(rt; back == gaps);
+    assert!(rt; reader.end().is_ok());
     Ok(())
 }

@@ -11,3 +11,5 @@ mod keys;
 mod refusals;
 #[cfg(test)]
 mod sessions;
+#[cfg(test)]
+mod vectors;

@@ -1,4 +1,4 @@
 use Rattle.merkle_wire.proofs.answering.reply_to.Goals as goal
 
-pub returns-in-RowsWithin : goal.returns-in-RowsWithin
-returns-in-RowsWithin g c = rw (c.in-RowsWithin.is, ← c.deref-in-RowsWithin.ensures.value) c.rows_within_reply.ensures
+pub returns-in-RowsIn : goal.returns-in-RowsIn
+returns-in-RowsIn g c = rw (c.in-RowsIn.is, ← c.deref-in-RowsIn.ensures.value) c.rows_in_reply.ensures

@@ -1,16 +1,15 @@
-use Rattle.std.proofs.Common.{rules, ◌≡◌, [], ◌∷◌, ◌++◌, true, ◌∙◌}
+use Rattle.std.proofs.Common.{rules, ◌≡◌, [], ◌∷◌, ◌++◌, ◌<◌, ◌^◌, length, true, ◌∙◌}
 use Rattle.std.specs.List.{flat_map}
 use Rattle.std.proofs.lemmas.Result.{err_from_is_err_and}
-use Rattle.merkle_wire.specs.Encodings.{number_bytes}
+use Rattle.merkle_wire.specs.Counts.{count_bytes}
 use Rattle.merkle_wire.proofs.Later.{refused_later, total_was}
-use Rattle.merkle_wire.proofs.Listed.{none_read, one_read, next_left, all_read}
+use Rattle.merkle_wire.proofs.Listed.{none_read, no_list, one_read, next_left, all_read}
 use Rattle.merkle_wire.proofs.lists.decode_list.Goals as goal
 
 pub entries-init : goal.entries-init
 entries-init g c = (
-  none_read g.T.Decode.is_value g.T.Encode.encoding g.met.T.Decode.some c.args.reader.now.left.now c.number.new.self.left.now c.in_ok-count.count c.new-list.result.items
-      (search rules) (search rules) c.new-list.ensures.items c.in_ok-count.ensures.read,
-  c.number.ensures.total,
+  none_read g.T.Decode.is_value g.T.Encode.encoding c.args.reader.now.left.now c.count.new.self.left.now c.in_ok-count.count c.new-list.result.items c.new-list.ensures.items c.in_ok-count.ensures.read,
+  c.count.ensures.total,
 )
 
 pub entries-preserved : goal.entries-preserved
@@ -28,7 +27,7 @@ pub returns-in_err-next-clause-refused : goal.returns-in_err-next-clause-refused
 returns-in_err-next-clause-refused g c =
     let p = err_from_is_err_and c.from_residual-in_err-next.result c.from_residual-in_err-next.ensures.1 in
     let kept = c.entries.invariant.0 in
-    rw (p.1, p.2) (refused_later c.args.reader.now.total c.args.reader.now.left.now (number_bytes c.in_ok-count.count ++ flat_map g.T.Encode.encoding c.entries.list.items) c.entries.reader.left.now c.in_err-next.field-0.0
+    rw (p.1, p.2) (refused_later c.args.reader.now.total c.args.reader.now.left.now (count_bytes c.in_ok-count.count ++ flat_map g.T.Encode.encoding c.entries.list.items) c.entries.reader.left.now c.in_err-next.field-0.0
     kept.read (total_was c.entries.reader.total c.args.reader.now.total c.entries.reader.left.now c.in_err-next.field-0.0 c.entries.invariant.1 c.in_err-next.ensures.refused))
 
 pub returns-in_err-next-clause-malformed : goal.returns-in_err-next-clause-malformed
@@ -42,3 +41,10 @@ returns-in_err-next-clause-malformed g c =
 pub returns-clause-read : goal.returns-clause-read
 returns-clause-read g c =
     all_read g.T.Decode.is_value g.T.Encode.encoding c.args.reader.now.left.now c.entries.reader.left.now c.in_ok-count.count c.entries._done c.entries.list.items c.entries.invariant.0 (search rules)
+
+pub returns-in_err-count-clause-malformed : goal.returns-in_err-count-clause-malformed
+returns-in_err-count-clause-malformed g c =
+    let p = err_from_is_err_and c.from_residual.result c.from_residual.ensures.1 in
+    let left = c.args.reader.now.left.now in
+    let fits : length left < 2 ^ 64 = search rules in
+    rw (p.1, p.2) (λ malformed list rest each. no_list g.T.Decode.is_value g.T.Encode.encoding g.met.T.Decode.some left fits (c.in_err-count.ensures.malformed malformed) list rest each)

@@ -23,6 +23,6 @@ returns-in_err-end-clause-malformed g c =
     rw (p.1, p.2) (λ malformed list each e.
     let left = c.args.reader.left.now in
     let fits : length left < 2 ^ 64 = search rules in
-    let both = list_told g.T.Decode.is_value g.T.Encode.encoding (λ x y. g.T.PartialEq.eq x y ≡ true) g.met.T.Decode.told g.met.T.Decode.some c.in_ok-list.list.items list c.decode_list.new.reader.left.now [] left
+    let both = list_told g.T.Decode.is_value g.T.Encode.encoding (λ x y. g.T.PartialEq.eq x y ≡ true) g.met.T.Decode.told c.in_ok-list.list.items list c.decode_list.new.reader.left.now [] left
     c.in_ok-list.ensures.values each fits c.in_ok-list.ensures.read (e ∙ sym (append-nil (list_bytes g.T.Encode.encoding list))) in
     c.in_err-end.ensures.malformed malformed both.1)

@@ -1,0 +1,30 @@
+-- What the digests of two sides rest on.
+use Rattle.std.specs.Prelude.{◌≡◌, ℕ, List, ◌∷◌, ◌++◌, Option, Some, None, ⊤}
+use Rattle.std.specs.Global.{Vec}
+use Rattle.merkle_tree_theory.specs.State.{State}
+use Rattle.merkle_tree_theory.specs.declared.page_format.PageFormat.{PageFormat}
+use Rattle.merkle_tree_theory.specs.declared.page_format.PageFormat.TheVariants.{V1, V2}
+use Rattle.merkle_wire.specs.Counts.{count_bytes}
+use Rattle.merkle_wire.specs.Encodings.{string_encoding}
+use Rattle.merkle_wire.specs.Options.{option_bytes}
+use Rattle.merkle_wire.specs.declared.settings.Settings.{Settings}
+
+-- the byte of a page format
+abbrev pub format_byte : PageFormat → ℕ
+format_byte V1 = 1
+format_byte V2 = 2
+
+module _ {K : Type 0} (encoding : K → List ℕ) where
+  -- the level base, the page format, how many bytes a digest has, and a key with its digest, or none
+  abbrev pub settings_bytes : Settings K → List ℕ
+  settings_bytes s = s.level_base ∷ format_byte s.page_format ∷ (count_bytes s.digest_bytes ++ option_bytes (λ p. encoding p.0 ++ string_encoding p.1.items) s.sample)
+
+module _ {K : Type 0} (digest_of : K → List ℕ) where
+  -- the digest is that of the key
+  abbrev pub IsDigested : Option (K × Vec ℕ) → Type 0
+  IsDigested None = ⊤
+  IsDigested (Some pair) = pair.1.items ≡ digest_of pair.0
+
+  -- these are the settings of a tree whose digests have n bytes, as far as they tell
+  abbrev pub AreSettingsOf : {H : Type 0} → ℕ → State K H → Settings K → Type 0
+  AreSettingsOf n tree s = (s.level_base ≡ tree.base) × (s.page_format ≡ tree.format) × (s.digest_bytes ≡ n) × IsDigested s.sample

@@ -1,0 +1,151 @@
+//! What the digests of two sides rest on, which the first message tells: sides whose settings differ have no digest in common.
+ghost use Rattle.std.specs.Prelude.{◌≡◌, ◌≢◌, ◌++◌, ℕ, OnOk, IfOk, MatchOption, IsTrue};
+ghost use Rattle.merkle_tree_theory.specs.declared.page_format.PageFormat.{PageFormat as PageFormatOf};
+ghost use Rattle.merkle_wire.specs.Settings.{format_byte, settings_bytes, AreSettingsOf, IsDigested};
+
+use crate::counts::encode_count;
+use crate::decode::Decode;
+use crate::encode::Encode;
+use crate::error::{Expected, ReadError};
+use crate::reader::Reader;
+use merkle_digest::{Hasher, Key};
+use merkle_replica::{Join, Replica};
+use merkle_search_tree::builder::PageFormat;
+use std::alloc::{AllocError, Global};
+
+/// What the digests of a side rest on.
+#[derive(Drop)]
+pub struct Settings<K> {
+    /// The level base.
+    pub level_base: u8,
+    /// The page format.
+    pub page_format: PageFormat,
+    /// How many bytes the digests of keys and values have.
+    pub digest_bytes: u64,
+    /// A key of this side with its digest by this side's hasher, where it has a row.
+    pub sample: Option<(K, Vec<u8>)>,
+}
+
+/// The byte of a page format.
+fn byte_of(format: PageFormat) -> u8
+    ensures { result ≡ format_byte format }
+{
+    match format {
+        PageFormat::V1 => 1,
+        PageFormat::V2 => 2,
+    }
+}
+
+/// The page format of a byte.
+fn format_of(byte: u8) -> Option<PageFormat>
+    ensures { MatchOption result ((format : PageFormatOf) → byte ≢ format_byte format) (λ format. byte ≡ format_byte format) }
+{
+    match byte {
+        1 => Some(PageFormat::V1),
+        2 => Some(PageFormat::V2),
+        _ => None,
+    }
+}
+
+/// Writes settings: a byte for the level base, a byte for the page format, the number of bytes of a digest as a count, and the sample as an
+/// option of a pair.
+pub(crate) fn encode_settings<K: Encode>(
+    settings: &Settings<K>,
+    bytes: &mut Vec<u8>,
+) -> Result<(), AllocError>
+    ensures { OnOk result (bytes.new.items ≡ bytes.old.items ++ settings_bytes K.encoding settings.now) }
+{
+    bytes.extend_from_slice(&[settings.level_base, byte_of(settings.page_format)])?;
+    encode_count(settings.digest_bytes, bytes)?;
+    settings.sample.encode(bytes)?;
+    Ok(())
+}
+
+/// Reads settings.
+pub(crate) fn decode_settings<K: Decode>(reader: &mut Reader<'_>) -> Result<Settings<K>, ReadError>
+    ensures read { IfOk result (λ settings. reader.old.left.now ≡ settings_bytes K.encoding settings ++ reader.new.left.now) }
+{
+    let [level_base] = reader.array::<1>()?;
+    let [byte] = reader.array::<1>()?;
+    let Some(page_format) = format_of(byte) else {
+        return Err(reader.unexpected(Expected::PageFormat));
+    };
+    let digest_bytes = reader.count()?;
+    let sample = Option::<(K, Vec<u8>)>::decode(reader)?;
+    Ok(Settings {
+        level_base,
+        page_format,
+        digest_bytes,
+        sample,
+    })
+}
+
+/// The settings of a replica.
+pub(crate) fn settings_of<K: Key + Drop, V: Join, H: Hasher<N, K> + Hasher<N, V>, const N: usize>(
+    alloc: Global,
+    replica: &Replica<K, V, H, N>,
+) -> Result<Settings<K>, AllocError>
+    ensures { IfOk result (AreSettingsOf (⟦<H as Hasher<N, K>>⟧.digest_of replica.now.tree.hasher) N replica.now.tree) }
+{
+    let tree = replica.tree();
+    Ok(Settings {
+        level_base: tree.level_base().get(),
+        page_format: tree.page_format(),
+        digest_bytes: N as u64,
+        sample: sample_of(alloc, replica)?,
+    })
+}
+
+/// The first key of a replica with its digest, where it has a row.
+fn sample_of<K: Key + Drop, V: Join, H: Hasher<N, K> + Hasher<N, V>, const N: usize>(
+    alloc: Global,
+    replica: &Replica<K, V, H, N>,
+) -> Result<Option<(K, Vec<u8>)>, AllocError>
+    ensures { IfOk result (IsDigested (⟦<H as Hasher<N, K>>⟧.digest_of replica.now.tree.hasher)) }
+{
+    match replica.rows().first() {
+        None => Ok(None),
+        Some(row) => {
+            let key = row.0.clone()?;
+            let digest = replica.tree().key_digest(&key);
+            let bytes = Vec::from_slice(alloc, digest.as_bytes().as_slice())?;
+            Ok(Some((key, bytes)))
+        }
+    }
+}
+
+/// Whether these are the settings of the replica.
+pub(crate) fn agree<K: Key, V: Join, H: Hasher<N, K> + Hasher<N, V>, const N: usize>(
+    replica: &Replica<K, V, H, N>,
+    settings: &Settings<K>,
+) -> bool
+    ensures { IsTrue result → AreSettingsOf (⟦<H as Hasher<N, K>>⟧.digest_of replica.now.tree.hasher) N replica.now.tree settings.now }
+{
+    let tree = replica.tree();
+    if settings.level_base != tree.level_base().get() {
+        return false;
+    }
+    if settings.page_format != tree.page_format() {
+        return false;
+    }
+    if settings.digest_bytes != N as u64 {
+        return false;
+    }
+    has_digest(replica, &settings.sample)
+}
+
+/// Whether the digest of a sample is that of its key by the replica's hasher.
+fn has_digest<K: Key, V: Join, H: Hasher<N, K> + Hasher<N, V>, const N: usize>(
+    replica: &Replica<K, V, H, N>,
+    sample: &Option<(K, Vec<u8>)>,
+) -> bool
+    ensures { IsTrue result → IsDigested (⟦<H as Hasher<N, K>>⟧.digest_of replica.now.tree.hasher) sample.now }
+{
+    match sample {
+        None => true,
+        Some(pair) => {
+            let digest = replica.tree().key_digest(&pair.0);
+            digest.as_bytes().as_slice() == pair.1.as_slice()
+        }
+    }
+}
