@@ -20,10 +20,10 @@ use Rattle.sqlite.specs.declared.types.Value.{Value}
 use Rattle.sqlite.specs.declared.types.Value.TheVariants.{Int, Text}
 use Rattle.sqlite.specs.Values.{or_null}
 use Rattle.sqlite.specs.Effect.{Database}
-use Rattle.merkle_store.specs.Entries.{entry_row, shown}
-use Rattle.merkle_store.specs.Registers.{register_order}
+use Rattle.store_table.specs.Entries.{entry_row, shown}
+use Rattle.store_table.specs.Registers.{register_order}
 use Rattle.merkle_store.specs.Kept.{IsKept}
-use Rattle.merkle_store.specs.declared.register.Register.{Register}
+use Rattle.store_table.specs.declared.register.Register.{Register}
 
 -- a row tells the key and the register
 module _ (eq : Register → Register → Bool) (ties : (a b : Register) → eq a b ≡ eq_by_cmp register_order a b) where
@@ -83,7 +83,7 @@ module _ (eq : Register → Register → Bool) (e : IsEquivalence eq) (join : Re
   over a b x h k = on eq e join j (J a x) (J b x) x (cong eq e join j a b x x h (same eq e join j x)) k
 
   -- what is gathered holds each entry
-  holds_each : (k : Key) (entries : List (Key × Register)) (x : Option Register) → E (J (G entries k) x) x → All (AddsNothing x k) (map entry_row entries)
+  pub holds_each : (k : Key) (entries : List (Key × Register)) (x : Option Register) → E (J (G entries k) x) x → All (AddsNothing x k) (map entry_row entries)
   holds_each k [] x h = All-nil (AddsNothing x k)
   holds_each k (s ∷ entries) x h =
       let A = at k s in
@@ -109,7 +109,7 @@ module _ (eq : Register → Register → Bool) (e : IsEquivalence eq) (join : Re
           (on eq e join j (J b (J (J b a) x)) (J (J b a) x) (J (J a b) x) (again b a x) (cong eq e join j (J b a) (J a b) x x (comm eq e join j b a) (same eq e join j x)))
 
   -- what holds each entry holds what is gathered
-  holds_all : (k : Key) (entries : List (Key × Register)) (x : Option Register) → All (AddsNothing x k) (map entry_row entries) → E (J (G entries k) x) x
+  pub holds_all : (k : Key) (entries : List (Key × Register)) (x : Option Register) → All (AddsNothing x k) (map entry_row entries) → E (J (G entries k) x) x
   holds_all k [] x h = same eq e join j x
   holds_all k (s ∷ entries) x h =
       let A = at k s in

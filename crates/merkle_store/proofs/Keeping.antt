@@ -19,10 +19,10 @@ use Rattle.merkle_replica.specs.Puts.{IsPuts, gathered, HasGathered}
 use Rattle.merkle_replica.proofs.Gathering.{gathers_more}
 use Rattle.sqlite.specs.Order.{Row}
 use Rattle.sqlite.specs.Effect.{Database}
-use Rattle.merkle_store.specs.Entries.{store_schema, shown, four, entry_row, noted, IsNoted}
-use Rattle.merkle_store.specs.Changes.{IsNewStore, HasMore, HasInstead}
+use Rattle.store_table.specs.Entries.{store_schema, shown, four, entry_row, noted, IsNoted}
+use Rattle.store_table.specs.Changes.{IsNewStore, HasMore, HasInstead}
 use Rattle.merkle_store.specs.Kept.{IsKept, JoinTheSame}
-use Rattle.merkle_store.specs.declared.register.Register.{Register}
+use Rattle.store_table.specs.declared.register.Register.{Register}
 
 four_shown : (xs : List Row) → map four (map shown xs) ≡ map shown xs
 four_shown [] = refl

@@ -15,9 +15,9 @@ use Rattle.key_order.proofs.Maps.{get_same}
 use Rattle.key_order.proofs.Orders.{either, not_both}
 use Rattle.key_order.proofs.Values.{Eq, on, back, assoc, comm, cong, same, to_none}
 use Rattle.merkle_replica.specs.Puts.{gathered}
-use Rattle.merkle_store.specs.Registers.{is_later, register_order, time_after}
+use Rattle.store_table.specs.Registers.{is_later, register_order, time_after}
 use Rattle.merkle_store.specs.Kept.{JoinTheSame}
-use Rattle.merkle_store.specs.declared.register.Register.{Register}
+use Rattle.store_table.specs.declared.register.Register.{Register}
 
 module _ (o : IsTotalOrder register_order) (eq : Register → Register → Bool) (e : IsEquivalence eq) (j : IsJoining eq (ord_max register_order)) (total : IsTotalOrder text_order) where
   second : (a b : Register) → Upto register_order a b → ord_max register_order a b ≡ b

@@ -5,9 +5,9 @@ use Rattle.key_order.specs.Map.{SameValue, get}
 use Rattle.key_order.specs.Join.{joined}
 use Rattle.sqlite.specs.Effect.{Database}
 use Rattle.merkle_replica.specs.Puts.{gathered, HasGathered}
-use Rattle.merkle_store.specs.Entries.{store_schema, HoldsEntries, IsNoted}
-use Rattle.merkle_store.specs.declared.register.Register.{Register}
-use Rattle.merkle_store.specs.declared.table.TheConstants.{FORMAT}
+use Rattle.store_table.specs.Entries.{store_schema, HoldsEntries, IsNoted}
+use Rattle.store_table.specs.declared.register.Register.{Register}
+use Rattle.store_table.specs.declared.table.TheConstants.{FORMAT}
 
 module _ (eq : Register → Register → Bool) (join : Register → Register → Register) where
   -- The database has the tables of a store by this writer, and the rows in memory are the map that has, for each key of an entry of its

@@ -4,8 +4,8 @@ ghost use Rattle.key_order.specs.Text.{text_order};
 ghost use Rattle.key_order.specs.Map.{IsMap, get};
 ghost use Rattle.merkle_replica.specs.Places.{IsPlaceOf, IsGapFor};
 
-use crate::register::Register;
 use std::cmp::Ordering;
+use store_table::Register;
 
 /// Where the key is among ascending rows, or where it would go.
 fn place(rows: &[(String, Register)], key: &String) -> Result<usize, usize>

@@ -3,12 +3,12 @@ ghost use Rattle.std.specs.Prelude.{◌≡◌};
 ghost use Rattle.std.specs.List.{filter};
 ghost use Rattle.key_order.specs.Text.{text_order};
 ghost use Rattle.key_order.specs.Map.{IsMap, get};
-ghost use Rattle.merkle_store.specs.Registers.{is_later};
+ghost use Rattle.store_table.specs.Registers.{is_later};
 
 use crate::lookup::register_at;
-use crate::register::Register;
-use crate::table::Entries;
 use crate::upkeep::EntryReplica;
+use store_table::Register;
+use store_table::table::Entries;
 
 /// Whether an entry is later than what its key has.
 fn is_news(replica: &EntryReplica, entry: &(String, Register)) -> bool

@@ -108,7 +108,7 @@ fn entries_of_peer<R: Read, W: Write, P: Watch>(
     most: u64,
     watch: &mut P,
 ) -> Result<(crate::table::Entries, Traffic), WireFault> {
-    let (session, message) = CatchingUp::begin(alloc)?;
+    let (session, message) = CatchingUp::begin(alloc, replica)?;
     let mut session = session;
     let mut message = message;
     let mut traffic = Traffic::none();

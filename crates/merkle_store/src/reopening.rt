@@ -6,11 +6,11 @@ ghost use Rattle.sqlite.specs.State.{HasCleanDisk};
 ghost use Rattle.sqlite.specs.Files.{file_state};
 ghost use Rattle.merkle_store.specs.Kept.{IsKept};
 
-use crate::register::Register;
 use crate::store::{Store, open};
 use merkle_replica::Join;
 use sqlite::{Connection, FileStore, Options};
 use sqlite_disk::Disk;
+use store_table::Register;
 
 /// The store, from its files: each key has what it had before the files were closed.
 pub fn reopen<D: Disk + Drop>(

@@ -6,21 +6,19 @@ ghost use Rattle.key_order.specs.Map.{SameValue, get};
 ghost use Rattle.merkle_replica.specs.Puts.{HasGathered};
 ghost use Rattle.sqlite.specs.State.{HasCleanDisk, IsUnchanged, Survives};
 ghost use Rattle.sqlite.specs.Held.{state};
-ghost use Rattle.merkle_store.specs.Entries.{store_schema};
-ghost use Rattle.merkle_store.specs.Changes.{IsNewStore, AreOf};
-ghost use Rattle.merkle_store.specs.Registers.{time_after, text_at};
+ghost use Rattle.store_table.specs.Entries.{store_schema};
+ghost use Rattle.store_table.specs.Changes.{IsNewStore, AreOf};
+ghost use Rattle.store_table.specs.Registers.{time_after, text_at};
 ghost use Rattle.merkle_store.specs.Kept.{IsKept};
 
-use crate::fault::StoreFault;
-use crate::layout::is_of_store;
 use crate::lookup::register_at;
 use crate::news::news_of;
-use crate::register::Register;
-use crate::table::{self, Entries, FORMAT};
 use crate::upkeep::{EntryReplica, add_entries, add_entry, read_replica, rewrite};
 use merkle_replica::Join;
 use sqlite::{Alter, Connection};
 use std::alloc::{AllocError, Global};
+use store_table::table::{self, Entries, FORMAT, recognise};
+use store_table::{Register, StoreFault};
 
 /// How far ahead of the clock, in milliseconds, the time of a peer's entry may be: a day.
 pub const AHEAD: u64 = 86_400_000;
@@ -65,13 +63,7 @@ pub fn read_store<S: Alter>(
     ensures unchanged { HasCleanDisk (state S.Store conn.new) → OnOk result (IsUnchanged (state S.Store conn.old) (state S.Store conn.new)) }
     ensures crash { Survives (state S.Store conn.old) (state S.Store conn.new) (λ _. ⊥) }
 {
-    if !is_of_store(conn.schema()) {
-        return Err(StoreFault::Foreign);
-    }
-    let (format, writer) = table::about(conn)?;
-    if format != FORMAT {
-        return Err(StoreFault::Format(format));
-    }
+    let writer = recognise(conn)?;
     let (replica, count) = read_replica(alloc, conn)?;
     Ok((writer, replica, count))
 }

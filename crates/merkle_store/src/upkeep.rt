@@ -6,20 +6,19 @@ ghost use Rattle.merkle_replica.specs.Puts.{IsPuts, HasGathered};
 ghost use Rattle.sqlite.specs.State.{HasCleanDisk, IsUnchanged, Survives};
 ghost use Rattle.sqlite.specs.View.{doubt};
 ghost use Rattle.sqlite.specs.Held.{state};
-ghost use Rattle.merkle_store.specs.Entries.{store_schema, entry_row, IsNoted};
-ghost use Rattle.merkle_store.specs.Changes.{HasMore, HasInstead, AreOf};
-ghost use Rattle.merkle_store.specs.declared.fault.StoreFault.TheVariants.{Behind};
-ghost use Rattle.merkle_store.specs.declared.table.TheConstants.{FORMAT};
+ghost use Rattle.store_table.specs.Entries.{store_schema, entry_row, IsNoted};
+ghost use Rattle.store_table.specs.Changes.{HasMore, HasInstead, AreOf};
+ghost use Rattle.store_table.specs.declared.fault.StoreFault.TheVariants.{Behind};
+ghost use Rattle.store_table.specs.declared.table.TheConstants.{FORMAT};
 ghost use Rattle.merkle_store.specs.Kept.{IsKept};
 
-use crate::fault::StoreFault;
-use crate::register::Register;
-use crate::table::{self, Entries};
 use merkle_digest::SipHasher;
 use merkle_replica::{Join, Replica};
 use merkle_search_tree::builder::{Builder, PageFormat};
 use sqlite::{Alter, Connection};
 use std::alloc::Global;
+use store_table::table::{self, Entries};
+use store_table::{Register, StoreFault};
 
 /// The entries of a store, as a replica.
 pub type EntryReplica = Replica<String, Register, SipHasher, 16>;

@@ -1,68 +1,58 @@
 //! A key-value store in one SQLite file, kept in step with its copies over any pair of pipes.
 //!
-//! It ends with status 0; with 1, and a line on standard error, where a key is not there or a call failed; and with 2, and the usage
+//! It ends with status 0; with 1, and a line on standard error, where a key is not there or a command failed; and with 2, and a line
 //! there, where the command line is none.
 #![tactic(auto)]
 
-mod arguments;
-mod bounds;
-mod escape;
 mod fault;
 mod files;
-mod lines;
 mod peers;
-mod reading;
+mod shell;
 mod tasks;
-mod writing;
 
-use fault::Fault;
+use fault::Failure;
+use mst_commands::Fault;
+use mst_words::verb::{HELP, VERSION, form_of};
+use mst_words::{Asked, read_words};
 use std::env;
 use std::process::ExitCode;
 
-/// The status after a command line that asks for help or is none.
-fn told(rt: &HostRuntime, error: clap::Error) -> ExitCode {
-    let _ = error.print(rt);
-    if error.exit_code() == 0 {
-        ExitCode::SUCCESS
-    } else {
-        ExitCode::from(2)
-    }
-}
-
-/// The words of the command line.
-fn words(rt: &HostRuntime) -> Result<Vec<String>, Fault> {
+/// The words of the command line, without the name of the program.
+fn words(rt: &HostRuntime) -> Result<Vec<String>, Failure> {
     match env::args(rt) {
-        Ok(words) => Ok(words.collect(rt.alloc())?),
-        Err(_) => Err(Fault::System),
+        Ok(words) => Ok(words.skip(1).collect(rt.alloc())?),
+        Err(_) => Err(Failure::Command(Fault::System)),
     }
 }
 
 /// Runs the words.
-fn run(rt: &HostRuntime, words: &[String]) -> Result<ExitCode, Fault> {
-    let matches = match arguments::parse(rt.alloc(), words) {
-        Ok(matches) => matches,
-        Err(error) => return Ok(told(rt, error)),
-    };
-    match matches.subcommand() {
-        Some((name, of_name)) => tasks::run(rt, name, of_name)?,
-        None => {}
+fn run(rt: &HostRuntime, words: &[String]) -> Result<ExitCode, Failure> {
+    match read_words(words) {
+        Ok(Asked::Help) => print!(rt; "{HELP}")?,
+        Ok(Asked::HelpOf(verb)) => print!(rt; "{}", form_of(verb).help)?,
+        Ok(Asked::Version) => print!(rt; "{VERSION}")?,
+        Ok(Asked::Run(verb, file, given)) => tasks::run(rt, verb, file, &given)?,
+        Err(wrong) => {
+            eprintln!(rt; "mst: {wrong}: mst --help tells the commands")?;
+            return Ok(ExitCode::from(2));
+        }
     }
     Ok(ExitCode::SUCCESS)
+}
+
+/// Says why the program ends early.
+fn failed(rt: &HostRuntime, failure: &Failure) -> ExitCode {
+    let _ = eprintln!(rt; "mst: {failure}");
+    ExitCode::FAILURE
 }
 
 fn main(rt: HostRuntime) -> ExitCode {
     let words = match words(&rt) {
         Ok(words) => words,
-        Err(fault) => {
-            let _ = eprintln!(rt; "mst: {fault}");
-            return ExitCode::FAILURE;
-        }
+        Err(failure) => return failed(&rt, &failure),
     };
     match run(&rt, &words) {
         Ok(status) => status,
-        Err(fault) => {
-            let _ = eprintln!(rt; "mst: {fault}");
-            ExitCode::FAILURE
-        }
+        Err(failure) => failed(&rt, &failure),
     }
 }

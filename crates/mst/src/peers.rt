@@ -1,8 +1,9 @@
-//! The subcommands that speak with a peer.
-use crate::fault::Fault;
-use crate::files::FileOfStore;
+//! The commands that speak with a peer.
+use crate::fault::Failure;
+use merkle_store::Store;
 use merkle_store::framing::{MOST_BYTES, Watch};
 use merkle_store::pulling::{self, Brought};
+use sqlite::Alter;
 
 /// How many bytes come between two lines on standard error.
 const LINE_BYTES: usize = 16_777_216;
@@ -35,7 +36,7 @@ fn lines_of(rt: &HostRuntime) -> Lines<'_> {
 }
 
 /// Says on standard error what a pull brought.
-fn tell(rt: &HostRuntime, brought: &Brought) -> Result<(), Fault> {
+fn tell(rt: &HostRuntime, brought: &Brought) -> Result<(), Failure> {
     eprintln!(rt;
         "mst: {} entries were news, of {} that came, in {} rounds, {} bytes sent, {} came",
         brought.news,
@@ -48,7 +49,7 @@ fn tell(rt: &HostRuntime, brought: &Brought) -> Result<(), Fault> {
 }
 
 /// Answers a peer.
-pub fn serve(rt: &HostRuntime, store: &mut FileOfStore) -> Result<(), Fault> {
+pub fn serve<S: Alter + Drop>(rt: &HostRuntime, store: &mut Store<S>) -> Result<(), Failure> {
     let mut lines = lines_of(rt);
     let _traffic = pulling::serve(
         store,
@@ -61,7 +62,7 @@ pub fn serve(rt: &HostRuntime, store: &mut FileOfStore) -> Result<(), Fault> {
 }
 
 /// Brings what a peer has, and says on standard error what that was.
-pub fn pull(rt: &HostRuntime, store: &mut FileOfStore) -> Result<(), Fault> {
+pub fn pull<S: Alter + Drop>(rt: &HostRuntime, store: &mut Store<S>) -> Result<(), Failure> {
     let mut lines = lines_of(rt);
     let brought = pulling::pull(
         store,

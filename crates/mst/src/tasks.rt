@@ -1,51 +1,70 @@
-//! What each subcommand does.
-use crate::arguments::value;
-use crate::bounds::Bounds;
-use crate::fault::Fault;
-use crate::files::{FileOfStore, close_store, make_store, open_store};
-use crate::{peers, reading, writing};
-use clap::ArgMatches;
+//! What each command does.
+use crate::fault::Failure;
+use crate::files::{FileConnection, make_store, open_file};
+use crate::{peers, shell};
+use merkle_store::upkeep::read_replica;
+use mst_commands::clock::now;
+use mst_commands::run;
+use mst_words::{Given, Verb};
+use sqlite::{Alter, Connection};
+use std::fs;
+use store_table::table::recognise;
 
-/// The bounds of a list.
-fn bounds<'a>(of_name: &ArgMatches<'a>) -> Bounds<'a> {
-    Bounds {
-        first: value(of_name, "FIRST"),
-        last: value(of_name, "LAST"),
-        prefix: value(of_name, "PREFIX"),
-    }
+/// Prints the root hash.
+pub fn print_root<S: Alter>(rt: &HostRuntime, conn: &mut Connection<S>) -> Result<(), Failure> {
+    let (mut replica, _rows) = read_replica(rt.alloc(), conn)?;
+    let root = replica.root_hash().clone()?;
+    println!(rt; "{root}")?;
+    Ok(())
 }
 
-/// Runs a subcommand on an open store.
-fn run_on(
+/// Runs a command that takes the file by a connection that is lent.
+fn run_lent<S: Alter>(
     rt: &HostRuntime,
-    store: &mut FileOfStore,
-    name: &str,
-    of_name: &ArgMatches<'_>,
-) -> Result<(), Fault> {
-    let key = value(of_name, "KEY");
-    match name {
-        "put" => writing::write_one(rt, store, key, Some(value(of_name, "VALUE"))),
-        "del" => writing::write_one(rt, store, key, None),
-        "import" => writing::import(rt, store),
-        "compact" => Ok(store.compact()?),
-        "get" => reading::get(rt, store, key),
-        "list" => reading::list(rt, store, bounds(of_name)),
-        "export" => reading::export(rt, store),
-        "root" => reading::root(rt, store),
-        "count" => reading::count(rt, store),
-        "serve" => peers::serve(rt, store),
-        "pull" => peers::pull(rt, store),
-        _ => Ok(()),
+    conn: &mut Connection<S>,
+    verb: Verb,
+    given: &Given<'_>,
+) -> Result<(), Failure> {
+    let writer = recognise(conn)?;
+    match verb {
+        Verb::Root => print_root(rt, conn),
+        Verb::Shell => shell::run_lines(rt, conn, writer.as_str()),
+        _ => Ok(run::run(rt, conn, writer.as_str(), verb, given)?),
     }
 }
 
-/// Runs a subcommand.
-pub fn run(rt: &HostRuntime, name: &str, of_name: &ArgMatches<'_>) -> Result<(), Fault> {
-    let path = value(of_name, "STORE");
-    if name == "init" {
-        return make_store(rt, path, value(of_name, "WRITER"));
+/// Runs a command of a peer on a file.
+fn run_peer(rt: &HostRuntime, conn: FileConnection, verb: Verb) -> Result<(), Failure> {
+    let mut store = merkle_store::store::open(rt.alloc(), conn, now(rt)?)?;
+    let done = match verb {
+        Verb::Serve => peers::serve(rt, &mut store),
+        _ => peers::pull(rt, &mut store),
+    };
+    store.into_connection().close()?;
+    done
+}
+
+/// Prints how many bytes a file has.
+fn print_size(rt: &HostRuntime, path: &str) -> Result<(), Failure> {
+    let bytes = fs::metadata(rt, path)?.len();
+    println!(rt; "bytes {bytes}")?;
+    Ok(())
+}
+
+/// Runs a command on a file.
+pub fn run(rt: &HostRuntime, verb: Verb, path: &str, given: &Given<'_>) -> Result<(), Failure> {
+    if verb == Verb::Init {
+        return make_store(rt, path, given.writer);
     }
-    let mut store = open_store(rt, path)?;
-    run_on(rt, &mut store, name, of_name)?;
-    close_store(store)
+    let mut conn = open_file(rt, path)?;
+    if verb == Verb::Serve || verb == Verb::Pull {
+        return run_peer(rt, conn, verb);
+    }
+    let done = run_lent(rt, &mut conn, verb, given);
+    conn.close()?;
+    done?;
+    if verb == Verb::Status {
+        print_size(rt, path)?;
+    }
+    Ok(())
 }

@@ -5,9 +5,9 @@ use Rattle.sqlite.specs.Effect.{Database}
 use Rattle.sqlite.specs.State.{HasCleanDisk}
 use Rattle.sqlite.specs.Files.{file_state}
 use Rattle.sqlite.proofs.Callers.{finds_again}
-use Rattle.merkle_store.specs.contracts.register.RegisterEq.TheImpl.Laws.{laws-law}
-use Rattle.merkle_store.specs.contracts.register.RegisterJoin.TheImpl.Laws.{joining-law}
-use Rattle.merkle_store.specs.contracts.register.RegisterOrd.TheImpl.Laws.{matches_eq-law}
+use Rattle.store_table.specs.contracts.register.RegisterEq.TheImpl.Laws.{laws-law}
+use Rattle.store_table.specs.contracts.registers.RegisterJoin.TheImpl.Laws.{joining-law}
+use Rattle.store_table.specs.contracts.register.RegisterOrd.TheImpl.Laws.{matches_eq-law}
 use Rattle.merkle_store.proofs.Agreeing.{rows_tell_entries, kept_agree}
 use Rattle.merkle_store.proofs.reopening.reopen.Goals as goal
 

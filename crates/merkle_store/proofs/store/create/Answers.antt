@@ -1,8 +1,8 @@
 use Rattle.std.specs.String.{string_cmp_total}
 use Rattle.sqlite.specs.Held.{state}
-use Rattle.merkle_store.specs.contracts.register.RegisterEq.TheImpl.Laws.{laws-law}
-use Rattle.merkle_store.specs.contracts.register.RegisterJoin.TheImpl.Laws.{joining-law}
-use Rattle.merkle_store.proofs.Outcomes.{on_ok}
+use Rattle.store_table.specs.contracts.register.RegisterEq.TheImpl.Laws.{laws-law}
+use Rattle.store_table.specs.contracts.registers.RegisterJoin.TheImpl.Laws.{joining-law}
+use Rattle.store_table.proofs.Outcomes.{on_ok}
 use Rattle.merkle_store.proofs.Keeping.{kept_new}
 use Rattle.merkle_store.proofs.store.create.Goals as goal
 

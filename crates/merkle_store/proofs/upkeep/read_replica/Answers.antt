@@ -1,7 +1,7 @@
 use Rattle.std.specs.String.{string_cmp_total}
 use Rattle.sqlite.specs.Held.{state}
-use Rattle.merkle_store.specs.contracts.register.RegisterEq.TheImpl.Laws.{laws-law}
-use Rattle.merkle_store.specs.contracts.register.RegisterJoin.TheImpl.Laws.{joining-law}
+use Rattle.store_table.specs.contracts.register.RegisterEq.TheImpl.Laws.{laws-law}
+use Rattle.store_table.specs.contracts.registers.RegisterJoin.TheImpl.Laws.{joining-law}
 use Rattle.merkle_store.proofs.Keeping.{kept_read}
 use Rattle.merkle_store.proofs.upkeep.read_replica.Goals as goal
 

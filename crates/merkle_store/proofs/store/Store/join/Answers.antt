@@ -4,10 +4,10 @@ use Rattle.std.proofs.lemmas.Grind.{common_steps}
 use Rattle.key_order.specs.Text.{Text as Key, text_order}
 use Rattle.merkle_replica.proofs.Gathering.{gathers_none}
 use Rattle.merkle_store.specs.Kept.{JoinTheSame}
-use Rattle.merkle_store.specs.declared.register.Register.{Register}
-use Rattle.merkle_store.specs.contracts.register.RegisterEq.TheImpl.Laws.{laws-law}
-use Rattle.merkle_store.specs.contracts.register.RegisterJoin.TheImpl.Laws.{joining-law}
-use Rattle.merkle_store.specs.contracts.register.RegisterOrd.TheImpl.Laws.{total-law}
+use Rattle.store_table.specs.declared.register.Register.{Register}
+use Rattle.store_table.specs.contracts.register.RegisterEq.TheImpl.Laws.{laws-law}
+use Rattle.store_table.specs.contracts.registers.RegisterJoin.TheImpl.Laws.{joining-law}
+use Rattle.store_table.specs.contracts.register.RegisterOrd.TheImpl.Laws.{total-law}
 use Rattle.merkle_store.proofs.Keeping.{gathers_same}
 use Rattle.merkle_store.proofs.Latest.{later_join_the_same}
 use Rattle.merkle_store.proofs.store.Store.join.Goals as goal

@@ -2,11 +2,11 @@ use Rattle.std.proofs.Common.{◌≡◌, refl, sym, string_bytes, rules}
 use Rattle.std.specs.String.{string_cmp_total}
 use Rattle.key_order.specs.Text.{text_order}
 use Rattle.key_order.specs.Map.{get}
-use Rattle.merkle_store.specs.Registers.{time_after}
-use Rattle.merkle_store.specs.declared.register.Register.{Register}
-use Rattle.merkle_store.specs.contracts.register.RegisterEq.TheImpl.Laws.{laws-law}
-use Rattle.merkle_store.specs.contracts.register.RegisterJoin.TheImpl.Laws.{joining-law}
-use Rattle.merkle_store.specs.contracts.register.RegisterOrd.TheImpl.Laws.{total-law, matches_eq-law}
+use Rattle.store_table.specs.Registers.{time_after}
+use Rattle.store_table.specs.declared.register.Register.{Register}
+use Rattle.store_table.specs.contracts.register.RegisterEq.TheImpl.Laws.{laws-law}
+use Rattle.store_table.specs.contracts.registers.RegisterJoin.TheImpl.Laws.{joining-law}
+use Rattle.store_table.specs.contracts.register.RegisterOrd.TheImpl.Laws.{total-law, matches_eq-law}
 use Rattle.merkle_store.proofs.Latest.{write_stays}
 use Rattle.merkle_store.proofs.store.Store.write.Goals as goal
 

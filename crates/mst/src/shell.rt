@@ -1,0 +1,101 @@
+//! Commands on one file, a line each.
+use crate::fault::Failure;
+use crate::tasks::print_root;
+use mst_commands::{Fault, run};
+use mst_words::verb::{HELP, verb_of};
+use mst_words::{NoWords, Verb, given_of, words_of};
+use sqlite::{Alter, Connection};
+use store_table::StoreFault;
+
+/// Says on standard error that a line is none.
+fn refuse(rt: &HostRuntime, why: &str) -> Result<bool, Failure> {
+    eprintln!(rt; "mst: {why}")?;
+    Ok(false)
+}
+
+/// Runs a command, and answers whether it succeeded.
+fn run_verb<S: Alter>(
+    rt: &HostRuntime,
+    conn: &mut Connection<S>,
+    writer: &str,
+    verb: Verb,
+    words: &[String],
+) -> Result<bool, Failure> {
+    let given = match given_of(verb, Some(""), words) {
+        Ok((_file, given)) => given,
+        Err(wrong) => {
+            eprintln!(rt; "mst: {wrong}")?;
+            return Ok(false);
+        }
+    };
+    if given.is_input {
+        return refuse(rt, "the shell takes no value from standard input");
+    }
+    let done = match verb {
+        Verb::Root => print_root(rt, conn),
+        Verb::Init | Verb::Shell | Verb::Serve | Verb::Pull | Verb::Import => {
+            return refuse(rt, "the shell has no such command");
+        }
+        _ => match run::run(rt, conn, writer, verb, &given) {
+            Ok(()) => Ok(()),
+            Err(fault) => Err(Failure::Command(fault)),
+        },
+    };
+    match done {
+        Ok(()) => Ok(true),
+        Err(failure) => {
+            eprintln!(rt; "mst: {failure}")?;
+            Ok(false)
+        }
+    }
+}
+
+/// Runs a line, and answers whether it succeeded.
+fn run_line<S: Alter>(
+    rt: &HostRuntime,
+    conn: &mut Connection<S>,
+    writer: &str,
+    line: &str,
+) -> Result<bool, Failure> {
+    let words = match words_of(rt.alloc(), line) {
+        Ok(words) => words,
+        Err(NoWords::Memory) => return Err(Failure::Command(Fault::Store(StoreFault::Memory))),
+        Err(NoWords::Wrong) => {
+            return refuse(rt, "a quote isn't closed, or a backslash has no meaning");
+        }
+    };
+    let Some((name, rest)) = words.split_first() else {
+        return Ok(true);
+    };
+    if name.as_str() == "help" {
+        print!(rt; "{HELP}")?;
+        return Ok(true);
+    }
+    match verb_of(name.as_str()) {
+        Some(verb) => run_verb(rt, conn, writer, verb, rest),
+        None => refuse(rt, "the shell has no such command"),
+    }
+}
+
+/// Runs the lines of standard input.
+///
+/// # Errors
+///
+/// [`Failure::Lines`] where commands failed: each said why on standard error, and the others were carried out.
+pub fn run_lines<S: Alter>(
+    rt: &HostRuntime,
+    conn: &mut Connection<S>,
+    writer: &str,
+) -> Result<(), Failure> {
+    let mut failed = 0u64;
+    for line in rt.lines(rt.alloc()) {
+        let line = line?;
+        if !run_line(rt, conn, writer, line.as_str())? {
+            failed = failed.saturating_add(1);
+        }
+    }
+    if failed > 0 {
+        return Err(Failure::Lines(failed));
+    }
+    Ok(())
+}

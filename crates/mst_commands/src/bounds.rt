@@ -1,0 +1,28 @@
+//! Which keys a list shows.
+
+/// From the first key, to the last one, of those that begin alike.
+#[derive(Clone, Copy)]
+pub struct Bounds<'a> {
+    pub first: Option<&'a str>,
+    pub last: Option<&'a str>,
+    pub prefix: Option<&'a str>,
+}
+
+impl Bounds<'_> {
+    /// Whether a key is within the bounds.
+    pub fn hold(&self, key: &str) -> bool {
+        let from_first = match self.first {
+            Some(first) => first <= key,
+            None => true,
+        };
+        let to_last = match self.last {
+            Some(last) => key <= last,
+            None => true,
+        };
+        let alike = match self.prefix {
+            Some(prefix) => key.as_bytes().starts_with(prefix.as_bytes()),
+            None => true,
+        };
+        from_first && to_last && alike
+    }
+}

@@ -1,0 +1,92 @@
+//! Why a command ends early.
+use csv::ErrorKind;
+use sqlite::{Error, ErrorCode};
+use std::alloc::{AllocError, AllocFailed};
+use std::{fmt, io};
+use store_table::StoreFault;
+
+/// Why a command ends early. The file is then as it was.
+#[derive(Debug, Drop)]
+pub enum Fault {
+    /// There is no such file.
+    NoStore,
+    /// There is a file already.
+    Exists,
+    /// The key is not there.
+    NoKey,
+    /// A key or a value has more than 1 MiB.
+    TooLong(&'static str),
+    /// Standard input is no text in UTF-8.
+    NotText,
+    /// The first line of an import is another than this.
+    NoHeader(&'static str),
+    /// A line of an import is wrong, for this reason.
+    BadLine(u64, &'static str),
+    /// The store refused or failed.
+    Store(StoreFault),
+    /// Standard input or output failed.
+    Device,
+    /// The clock or the source of randomness failed.
+    System,
+}
+
+impl From<StoreFault> for Fault {
+    fn from(fault: StoreFault) -> Self {
+        Fault::Store(fault)
+    }
+}
+
+impl From<Error> for Fault {
+    fn from(error: Error) -> Self {
+        Fault::Store(StoreFault::Database(error))
+    }
+}
+
+impl From<AllocError> for Fault {
+    fn from(_error: AllocError) -> Self {
+        Fault::Store(StoreFault::Memory)
+    }
+}
+
+impl<T: Drop> From<AllocFailed<T>> for Fault {
+    fn from(_error: AllocFailed<T>) -> Self {
+        Fault::Store(StoreFault::Memory)
+    }
+}
+
+impl From<io::Error> for Fault {
+    fn from(_error: io::Error) -> Self {
+        Fault::Device
+    }
+}
+
+/// Why the CSV of an import or an export ended early.
+pub fn csv_fault(error: &csv::Error) -> Fault {
+    match error.kind() {
+        ErrorKind::Utf8 { pos, .. } => match pos {
+            Some(position) => Fault::BadLine(position.line, "it is no text in UTF-8"),
+            None => Fault::NotText,
+        },
+        ErrorKind::OutOfMemory => Fault::Store(StoreFault::Memory),
+        _ => Fault::Device,
+    }
+}
+
+impl fmt::Display for Fault {
+    fn fmt<W: fmt::Write>(&self, f: &mut fmt::Formatter<W>) -> fmt::Result {
+        match self {
+            Fault::NoStore => f.write_str("there is no such file: mst init FILE makes a store"),
+            Fault::Exists => f.write_str("there is a file already"),
+            Fault::NoKey => f.write_str("no such key"),
+            Fault::TooLong(what) => write!(f, "{what} has more than 1 MiB"),
+            Fault::NotText => f.write_str("standard input is no text in UTF-8"),
+            Fault::NoHeader(header) => write!(f, "line 1 is not {header}: nothing is imported"),
+            Fault::BadLine(line, why) => write!(f, "line {line}: {why}: nothing is imported"),
+            Fault::Store(StoreFault::Database(Error::SqliteFailure(ErrorCode::DatabaseBusy))) =>
+                f.write_str("the file is in use by another process"),
+            Fault::Store(fault) => write!(f, "{fault}"),
+            Fault::Device => f.write_str("standard input or output failed"),
+            Fault::System => f.write_str("the clock or the source of randomness failed"),
+        }
+    }
+}

@@ -1,0 +1,14 @@
+//! The commands of `mst` on one store's file that need no tree: each reads or writes the table.
+#![tactic(auto)]
+
+pub mod bounds;
+pub mod clock;
+pub mod escape;
+pub mod fault;
+pub mod log;
+pub mod reading;
+pub mod records;
+pub mod run;
+pub mod writing;
+
+pub use fault::Fault;

@@ -1,0 +1,133 @@
+//! A command on an open database.
+use crate::bounds::Bounds;
+use crate::clock::now;
+use crate::fault::Fault;
+use crate::log::write_log;
+use crate::reading::{Listing, get, list, sum_up};
+use crate::records::write_rows;
+use crate::writing::{del, import, put_text, read_text};
+use mst_words::{Given, Verb};
+use sqlite::{Alter, Connection};
+use std::io::{self, BufWriter, Write};
+use store_table::rows::{compact, read_latest, read_log};
+
+/// Writes the value that is given, or that of standard input.
+fn put_given<S: Alter>(
+    rt: &HostRuntime,
+    conn: &mut Connection<S>,
+    writer: &str,
+    given: &Given<'_>,
+) -> Result<(), Fault> {
+    let alloc = rt.alloc();
+    let text = if given.is_input {
+        read_text(alloc, rt.stdin())?
+    } else {
+        String::from_str(alloc, given.value)?
+    };
+    put_text(alloc, conn, writer, now(rt)?, given.key, text)
+}
+
+/// Prints the value of a key.
+fn print_value<S: Alter>(
+    rt: &HostRuntime,
+    conn: &mut Connection<S>,
+    key: &str,
+) -> Result<(), Fault> {
+    let mut out = BufWriter::new(rt.alloc(), io::writer(rt))?;
+    get(rt.alloc(), conn, &mut out, key)?;
+    out.flush()?;
+    Ok(())
+}
+
+/// Prints the keys with their values.
+fn print_list<S: Alter>(
+    rt: &HostRuntime,
+    conn: &mut Connection<S>,
+    given: &Given<'_>,
+) -> Result<(), Fault> {
+    let mut out = BufWriter::new(rt.alloc(), io::writer(rt))?;
+    let listing = Listing {
+        bounds: Bounds {
+            first: given.from,
+            last: given.to,
+            prefix: given.prefix,
+        },
+        limit: given.limit.unwrap_or(u64::MAX),
+        json: given.json,
+    };
+    list(rt.alloc(), conn, &mut out, &listing)?;
+    out.flush()?;
+    Ok(())
+}
+
+/// Prints how many keys there are.
+fn print_count<S: Alter>(rt: &HostRuntime, conn: &mut Connection<S>) -> Result<(), Fault> {
+    let (summary, _rows) = sum_up(rt.alloc(), conn)?;
+    println!(rt; "{}", summary.keys)?;
+    Ok(())
+}
+
+/// Prints what the file holds.
+fn print_status<S: Alter>(
+    rt: &HostRuntime,
+    conn: &mut Connection<S>,
+    writer: &str,
+) -> Result<(), Fault> {
+    let (summary, rows) = sum_up(rt.alloc(), conn)?;
+    println!(rt; "keys {}", summary.keys)?;
+    println!(rt; "removed {}", summary.removed)?;
+    println!(rt; "rows {rows}")?;
+    println!(rt; "last write {}", summary.last)?;
+    println!(rt; "writer {writer}")?;
+    Ok(())
+}
+
+/// Prints the keys and values, or the log, as CSV.
+fn export<S: Alter>(rt: &HostRuntime, conn: &mut Connection<S>, is_log: bool) -> Result<(), Fault> {
+    let alloc = rt.alloc();
+    let out = BufWriter::new(alloc, io::writer(rt))?;
+    if is_log {
+        let entries = read_log(alloc, conn)?;
+        write_log(alloc, out, &entries)
+    } else {
+        let rows = read_latest(alloc, conn)?;
+        write_rows(out, &rows)
+    }
+}
+
+/// Leaves one row for each key, and drops removals that are older than so many milliseconds.
+fn compact_given<S: Alter>(
+    rt: &HostRuntime,
+    conn: &mut Connection<S>,
+    forget: Option<u64>,
+) -> Result<(), Fault> {
+    let before = match forget {
+        Some(span) => now(rt)?.saturating_sub(span),
+        None => 0,
+    };
+    compact(rt.alloc(), conn, before)?;
+    Ok(())
+}
+
+/// Runs a command that needs no tree on an open database of a store that writes by this name.
+pub fn run<S: Alter>(
+    rt: &HostRuntime,
+    conn: &mut Connection<S>,
+    writer: &str,
+    verb: Verb,
+    given: &Given<'_>,
+) -> Result<(), Fault> {
+    let alloc = rt.alloc();
+    match verb {
+        Verb::Put => put_given(rt, conn, writer, given),
+        Verb::Get => print_value(rt, conn, given.key),
+        Verb::Del => del(alloc, conn, writer, now(rt)?, given.key),
+        Verb::List => print_list(rt, conn, given),
+        Verb::Count => print_count(rt, conn),
+        Verb::Status => print_status(rt, conn, writer),
+        Verb::Import => import(alloc, conn, writer, now(rt)?, rt.stdin(), given.log),
+        Verb::Export => export(rt, conn, given.log),
+        Verb::Compact => compact_given(rt, conn, given.forget),
+        _ => Ok(()),
+    }
+}

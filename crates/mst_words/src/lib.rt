@@ -1,0 +1,13 @@
+//! The command lines of `mst`, and the lines of its shell, as what they ask for.
+#![tactic(auto)]
+
+pub mod line;
+pub mod parse;
+pub mod span;
+pub mod verb;
+pub mod wrong;
+
+pub use line::{NoWords, words_of};
+pub use parse::{Asked, Given, given_of, read_words};
+pub use verb::Verb;
+pub use wrong::Wrong;

@@ -1,0 +1,123 @@
+//! The words of a line of the shell.
+use std::alloc::{AllocError, Global};
+
+/// Why a line has no words.
+#[derive(Clone, Copy, Debug, PartialEq, Eq, Drop)]
+pub enum NoWords {
+    /// A quote isn't closed, or a backslash has no meaning.
+    Wrong,
+    /// Memory was refused.
+    Memory,
+}
+
+impl From<AllocError> for NoWords {
+    fn from(_error: AllocError) -> Self {
+        NoWords::Memory
+    }
+}
+
+/// Where the reading of a line stands.
+#[derive(Clone, Copy, PartialEq, Eq)]
+enum Place {
+    /// Between words.
+    Between,
+    /// In a word.
+    Within,
+    /// In a word, between quotes.
+    Quoted,
+    /// Behind a backslash between quotes.
+    Escaped,
+}
+
+/// The character for which one behind a backslash stands.
+fn meant_by(character: char) -> Option<char> {
+    match character {
+        't' => Some('\t'),
+        'n' => Some('\n'),
+        'r' => Some('\r'),
+        '\\' => Some('\\'),
+        '"' => Some('"'),
+        _ => None,
+    }
+}
+
+/// The words so far.
+#[derive(Drop)]
+struct Reading {
+    words: Vec<String>,
+    word: String,
+    place: Place,
+}
+
+/// Ends the word.
+fn end_word(alloc: Global, reading: Reading) -> Result<Reading, NoWords> {
+    let mut reading = reading;
+    let word = reading.word;
+    reading.word = String::new(alloc);
+    if reading.words.push(word).is_err() {
+        return Err(NoWords::Memory);
+    }
+    reading.place = Place::Between;
+    Ok(reading)
+}
+
+/// Reads a character outside of quotes.
+fn read_plain(alloc: Global, reading: Reading, character: char) -> Result<Reading, NoWords> {
+    let mut reading = reading;
+    match character {
+        ' ' | '\t' => {
+            if reading.place == Place::Within {
+                return end_word(alloc, reading);
+            }
+        }
+        '"' => reading.place = Place::Quoted,
+        _ => {
+            reading.word.push(character)?;
+            reading.place = Place::Within;
+        }
+    }
+    Ok(reading)
+}
+
+/// Reads a character.
+fn read(alloc: Global, reading: Reading, character: char) -> Result<Reading, NoWords> {
+    let mut reading = reading;
+    match reading.place {
+        Place::Between | Place::Within => return read_plain(alloc, reading, character),
+        Place::Quoted => match character {
+            '"' => reading.place = Place::Within,
+            '\\' => reading.place = Place::Escaped,
+            _ => reading.word.push(character)?,
+        },
+        Place::Escaped => match meant_by(character) {
+            Some(meant) => {
+                reading.word.push(meant)?;
+                reading.place = Place::Quoted;
+            }
+            None => return Err(NoWords::Wrong),
+        },
+    }
+    Ok(reading)
+}
+
+/// The words of a line, which blanks part. Between double quotes a blank is one, and `\\`, `\t`, `\n`, `\r` and `\"` stand for these
+/// characters.
+///
+/// # Errors
+///
+/// [`NoWords`]
+pub fn words_of(alloc: Global, line: &str) -> Result<Vec<String>, NoWords> {
+    let mut reading = Reading {
+        words: Vec::new(alloc),
+        word: String::new(alloc),
+        place: Place::Between,
+    };
+    for character in line.chars() {
+        reading = read(alloc, reading, character)?;
+    }
+    match reading.place {
+        Place::Between => Ok(reading.words),
+        Place::Within => Ok(end_word(alloc, reading)?.words),
+        Place::Quoted | Place::Escaped => Err(NoWords::Wrong),
+    }
+}

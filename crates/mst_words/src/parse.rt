@@ -1,0 +1,268 @@
+//! A command line as what it asks for.
+use crate::span::milliseconds_of;
+use crate::verb::{Form, Place, Setting, Verb, form_of, has_value, setting_of, verb_of};
+use crate::wrong::Wrong;
+
+/// What the words of a command give.
+#[derive(Clone, Copy, Debug, PartialEq, Eq)]
+pub struct Given<'a> {
+    pub key: &'a str,
+    pub value: &'a str,
+    /// Whether the value is to be read from standard input.
+    pub is_input: bool,
+    pub writer: Option<&'a str>,
+    pub from: Option<&'a str>,
+    pub to: Option<&'a str>,
+    pub prefix: Option<&'a str>,
+    pub limit: Option<u64>,
+    pub json: bool,
+    pub log: bool,
+    /// Removals that are older, in milliseconds, are dropped.
+    pub forget: Option<u64>,
+}
+
+/// What a command line asks for.
+#[derive(Clone, Copy, Debug, PartialEq, Eq)]
+pub enum Asked<'a> {
+    /// The help of the program.
+    Help,
+    /// The help of a command.
+    HelpOf(Verb),
+    Version,
+    /// A command on a file.
+    Run(Verb, &'a str, Given<'a>),
+}
+
+/// The words so far.
+#[derive(Drop)]
+struct Taken<'a> {
+    given: Given<'a>,
+    /// The file, once it is there.
+    file: Option<&'a str>,
+    /// How many words stood at places behind the file.
+    places: usize,
+    /// The setting whose value is to come.
+    pending: Option<Setting>,
+    /// Whether `--` has come.
+    is_behind: bool,
+}
+
+/// No words, of a file that is known or to come.
+fn nothing<'a>(file: Option<&'a str>) -> Taken<'a> {
+    Taken {
+        given: Given {
+            key: "",
+            value: "",
+            is_input: false,
+            writer: None,
+            from: None,
+            to: None,
+            prefix: None,
+            limit: None,
+            json: false,
+            log: false,
+            forget: None,
+        },
+        file,
+        places: 0,
+        pending: None,
+        is_behind: false,
+    }
+}
+
+/// What is given, with a word at its place.
+fn placed<'a>(given: Given<'a>, place: Place, word: &'a str, is_behind: bool) -> Given<'a> {
+    let mut given = given;
+    match place {
+        Place::Key => given.key = word,
+        Place::Value => {
+            given.value = word;
+            given.is_input = word == "-" && !is_behind;
+        }
+        Place::Writer => given.writer = Some(word),
+    }
+    given
+}
+
+/// Takes a word at its place.
+fn at_place<'a>(
+    taken: Taken<'a>,
+    places: &'static [Place],
+    word: &'a str,
+) -> Result<Taken<'a>, Wrong<'a>> {
+    let mut taken = taken;
+    if taken.file.is_none() {
+        taken.file = Some(word);
+        return Ok(taken);
+    }
+    let Some(place) = places.get(taken.places) else {
+        return Err(Wrong::LeftOver(word));
+    };
+    taken.given = placed(taken.given, *place, word, taken.is_behind);
+    taken.places = taken.places.saturating_add(1);
+    Ok(taken)
+}
+
+/// Takes the value of a setting.
+fn with_value<'a>(
+    given: Given<'a>,
+    setting: Setting,
+    word: &'a str,
+) -> Result<Given<'a>, Wrong<'a>> {
+    let mut given = given;
+    match setting {
+        Setting::From => given.from = Some(word),
+        Setting::To => given.to = Some(word),
+        Setting::Prefix => given.prefix = Some(word),
+        Setting::Limit => match word.parse() {
+            Ok(limit) => given.limit = Some(limit),
+            Err(_) => return Err(Wrong::NoNumber(word)),
+        },
+        Setting::Forget => match milliseconds_of(word) {
+            Some(span) => given.forget = Some(span),
+            None => return Err(Wrong::NoSpan(word)),
+        },
+        Setting::Json => given.json = true,
+        Setting::Log => given.log = true,
+    }
+    Ok(given)
+}
+
+/// Takes an option, and its value where it has one behind `=`.
+fn at_option<'a>(
+    taken: Taken<'a>,
+    settings: &'static [Setting],
+    word: &'a str,
+) -> Result<Taken<'a>, Wrong<'a>> {
+    let mut taken = taken;
+    let (name, value) = match word.split_once('=') {
+        Some((name, value)) => (name, Some(value)),
+        None => (word, None),
+    };
+    let Some(setting) = setting_of(name) else {
+        return Err(Wrong::NoSuchOption(name));
+    };
+    if !settings.contains(&setting) {
+        return Err(Wrong::NoSuchOption(name));
+    }
+    match value {
+        Some(value) => {
+            if !has_value(setting) {
+                return Err(Wrong::HasValue(name));
+            }
+            taken.given = with_value(taken.given, setting, value)?;
+        }
+        None => {
+            if has_value(setting) {
+                taken.pending = Some(setting);
+            } else {
+                taken.given = with_value(taken.given, setting, word)?;
+            }
+        }
+    }
+    Ok(taken)
+}
+
+/// Whether a word is an option, where `--` hasn't come.
+fn is_option(word: &str) -> bool {
+    word != "-" && word.as_bytes().starts_with(b"-")
+}
+
+/// Takes the next word.
+fn take<'a>(taken: Taken<'a>, form: &Form, word: &'a str) -> Result<Taken<'a>, Wrong<'a>> {
+    let mut taken = taken;
+    if let Some(setting) = taken.pending {
+        taken.pending = None;
+        taken.given = with_value(taken.given, setting, word)?;
+        return Ok(taken);
+    }
+    if taken.is_behind || !is_option(word) {
+        return at_place(taken, form.places, word);
+    }
+    if word == "--" {
+        taken.is_behind = true;
+        return Ok(taken);
+    }
+    at_option(taken, form.settings, word)
+}
+
+/// What a place is called.
+fn name_of(places: &'static [Place], at: usize) -> &'static str {
+    match places.get(at) {
+        Some(Place::Key) => "KEY",
+        Some(Place::Value) => "VALUE",
+        _ => "WRITER",
+    }
+}
+
+/// The file and what is given, once all words are taken.
+fn finish<'a>(taken: Taken<'a>, form: &Form) -> Result<(&'a str, Given<'a>), Wrong<'a>> {
+    if taken.pending.is_some() {
+        return Err(Wrong::NoValue("the last option"));
+    }
+    let Some(file) = taken.file else {
+        return Err(Wrong::Missing("FILE"));
+    };
+    if taken.places < form.least {
+        return Err(Wrong::Missing(name_of(form.places, taken.places)));
+    }
+    Ok((file, taken.given))
+}
+
+/// The file and what the words of a command give. The file is the first word at a place, unless it is known.
+///
+/// # Errors
+///
+/// [`Wrong`] says the first word that is wrong, or what is missing.
+pub fn given_of<'a>(
+    verb: Verb,
+    file: Option<&'a str>,
+    words: &'a [String],
+) -> Result<(&'a str, Given<'a>), Wrong<'a>> {
+    let form = form_of(verb);
+    let mut taken = nothing(file);
+    for word in words {
+        taken = take(taken, &form, word.as_str())?;
+    }
+    finish(taken, &form)
+}
+
+/// Whether the words ask for help.
+fn asks_help(words: &[String]) -> bool {
+    for word in words {
+        match word.as_str() {
+            "--help" | "-h" => return true,
+            "--" => return false,
+            _ => {}
+        }
+    }
+    false
+}
+
+/// What the words behind a command ask for.
+fn of_command<'a>(name: &'a str, words: &'a [String]) -> Result<Asked<'a>, Wrong<'a>> {
+    let Some(verb) = verb_of(name) else {
+        return Err(Wrong::NoSuchCommand(name));
+    };
+    if asks_help(words) {
+        return Ok(Asked::HelpOf(verb));
+    }
+    let (file, given) = given_of(verb, None, words)?;
+    Ok(Asked::Run(verb, file, given))
+}
+
+/// What the words of a command line ask for, without the name of the program.
+///
+/// # Errors
+///
+/// [`Wrong`] says the first word that is wrong, or what is missing.
+pub fn read_words<'a>(words: &'a [String]) -> Result<Asked<'a>, Wrong<'a>> {
+    let Some((first, rest)) = words.split_first() else {
+        return Err(Wrong::NoCommand);
+    };
+    match first.as_str() {
+        "--help" | "-h" | "help" => Ok(Asked::Help),
+        "--version" | "-V" => Ok(Asked::Version),
+        name => of_command(name, rest),
+    }
+}

@@ -1,0 +1,47 @@
+//! Why a command line is wrong.
+use std::fmt;
+
+/// Why a command line is wrong.
+#[derive(Clone, Copy, Debug, PartialEq, Eq, Drop)]
+pub enum Wrong<'a> {
+    /// There is no command.
+    NoCommand,
+    /// There is no command of this name.
+    NoSuchCommand(&'a str),
+    /// The command has no such option.
+    NoSuchOption(&'a str),
+    /// An option has no value.
+    NoValue(&'static str),
+    /// An option that takes no value has one.
+    HasValue(&'a str),
+    /// This is no number.
+    NoNumber(&'a str),
+    /// This is no span of time.
+    NoSpan(&'a str),
+    /// A word is left over.
+    LeftOver(&'a str),
+    /// A word is missing.
+    Missing(&'static str),
+}
+
+impl fmt::Display for Wrong<'_> {
+    fn fmt<W: fmt::Write>(&self, f: &mut fmt::Formatter<W>) -> fmt::Result {
+        match self {
+            Wrong::NoCommand => f.write_str("there is no command"),
+            Wrong::NoSuchCommand(name) => write!(f, "there is no command {name}"),
+            Wrong::NoSuchOption(name) => write!(
+                f,
+                "the command has no option {name} (words behind -- are no options)"
+            ),
+            Wrong::NoValue(name) => write!(f, "{name} has no value"),
+            Wrong::HasValue(name) => write!(f, "{name} takes no value"),
+            Wrong::NoNumber(word) => write!(f, "{word} is no number"),
+            Wrong::NoSpan(word) => write!(
+                f,
+                "{word} is no span of time, as 30d, 12h, 15m or 90s are"
+            ),
+            Wrong::LeftOver(word) => write!(f, "{word} is a word too many"),
+            Wrong::Missing(name) => write!(f, "{name} is missing"),
+        }
+    }
+}

@@ -1,0 +1,6 @@
+pub mod Appended
+pub mod Changing
+pub mod EntryLemmas
+pub mod AboutLemmas
+pub mod LatestLemmas
+pub mod Outcomes

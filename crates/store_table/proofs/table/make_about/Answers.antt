@@ -1,0 +1,10 @@
+use Rattle.sqlite.specs.Held.{state}
+use Rattle.store_table.proofs.Outcomes.{of_ok}
+use Rattle.store_table.proofs.AboutLemmas.{makes_about}
+use Rattle.store_table.proofs.table.make_about.Goals as goal
+
+pub returns-clause-made : goal.returns-clause-made
+returns-clause-made g c clean going was =
+    let old = state g.S.Store c.args.transaction.now.conn.now in
+    let new = state g.S.Store c.execute.new.self.conn.now in
+    of_ok c.execute.result _ c.in_ok-execute.field-0 c.in_ok-execute.was (makes_about old new c.execute.result was (c.execute.ensures.runs clean going))

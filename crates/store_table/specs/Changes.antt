@@ -1,0 +1,51 @@
+-- What a store's statements make of its database.
+use Rattle.std.specs.Prelude.{◌≡◌, [], ◌++◌, List, ℕ, ℤ, map}
+use Rattle.std.specs.List.Sorted.{IsPermutation}
+use Rattle.sqlite.specs.Order.{Row}
+use Rattle.sqlite.specs.Tree.{Trees}
+use Rattle.sqlite.specs.Effect.{Database}
+use Rattle.sqlite.specs.State.{State, Survives, HasCleanDisk, KeepsCommit}
+use Rattle.store_table.specs.Entries.{entry_schema, store_schema, shown, IsNoted}
+
+-- it has the table of entries alone, which is empty
+pub record HasEntryTable (db : Database) : Type 0 where
+  pub schema : db.schema ≡ entry_schema
+  pub entries : db.trees 0 ≡ []
+
+-- it has both tables, which are empty
+pub record HasBothTables (db : Database) : Type 0 where
+  pub schema : db.schema ≡ store_schema
+  pub entries : db.trees 0 ≡ []
+  pub about : db.trees 1 ≡ []
+
+-- it has the tables of a store, with no entry, in this format and by this writer
+pub record IsNewStore (format : ℤ) (writer : List ℕ) (db : Database) : Type 0 where
+  pub schema : db.schema ≡ store_schema
+  pub entries : db.trees 0 ≡ []
+  pub about : IsNoted db.trees format writer
+
+-- it has the tables of a store, and says the same of its format and writer
+pub record KeepsAbout (old new : Database) : Type 0 where
+  pub schema : new.schema ≡ store_schema
+  pub about : new.trees 1 ≡ old.trees 1
+
+module _ (rows : List Row) (old new : Database) where
+  -- the table of entries has these rows more, and nothing else has changed
+  pub record HasMore : Type 0 where
+    pub schema : new.schema ≡ store_schema
+    pub entries : IsPermutation (map shown (new.trees 0)) (rows ++ map shown (old.trees 0))
+    pub about : new.trees 1 ≡ old.trees 1
+
+  -- the table of entries has these rows in place of its own, and nothing else has changed
+  pub record HasInstead : Type 0 where
+    pub schema : new.schema ≡ store_schema
+    pub entries : IsPermutation (map shown (new.trees 0)) rows
+    pub about : new.trees 1 ≡ old.trees 1
+
+-- a crash may leave the trees of a database that is so
+abbrev pub AreOf : (Database → Type 0) → Trees → Type 0
+AreOf Is trees = (db : Database) × Is db × (trees ≡ db.trees)
+
+-- nothing is committed, whether the transaction goes on or not
+abbrev pub CommitsNothing : State → State → Type 0
+CommitsNothing old new = Survives old new (λ _. ⊥) × (HasCleanDisk new → KeepsCommit old new)

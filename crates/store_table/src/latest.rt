@@ -1,0 +1,180 @@
+//! The latest register of a key, found in the table without a tree, and writes over it.
+ghost use Rattle.std.specs.Prelude.{◌≡◌, ◌≤◌, [], ◌∷◌, map, Option, Some, None, is_some, false, IfOk, OnOk, OnErr, IsTrue};
+ghost use Rattle.std.specs.List.Sorted.{IsPermutation};
+ghost use Rattle.sqlite.specs.State.{HasCleanDisk, IsUnchanged, Survives};
+ghost use Rattle.sqlite.specs.Held.{state};
+ghost use Rattle.sqlite.specs.View.{doubt};
+ghost use Rattle.store_table.specs.Entries.{store_schema, shown};
+ghost use Rattle.store_table.specs.Changes.{HasMore, AreOf};
+ghost use Rattle.store_table.specs.Registers.{time_after};
+ghost use Rattle.store_table.specs.Latest.{rows_of, later, latest, text_of, written_row, IsLatestAt, WritesOver};
+
+use crate::fault::StoreFault;
+use crate::register::Register;
+use crate::table::{self, Entries, entries_of};
+use sqlite::{Alter, Connection, Error, Row, params};
+use std::alloc::Global;
+
+/// The rows of a key.
+fn read_rows_of<S: Alter>(conn: &mut Connection<S>, key: &str) -> Result<Vec<Row>, Error>
+    ensures rows { (state S.Store conn.old).now.schema ≡ store_schema → HasCleanDisk (state S.Store conn.new) → IfOk result (λ rows. IsPermutation (rows_of key.now (map shown ((state S.Store conn.old).now.trees 0))) rows.items) }
+    ensures unchanged { (state S.Store conn.old).now.schema ≡ store_schema → HasCleanDisk (state S.Store conn.new) → OnOk result (IsUnchanged (state S.Store conn.old) (state S.Store conn.new)) }
+    ensures crash { (state S.Store conn.old).now.schema ≡ store_schema → Survives (state S.Store conn.old) (state S.Store conn.new) (λ _. ⊥) }
+{
+    conn.query_all(
+        "SELECT key, time, writer, value FROM entry WHERE key = ?1",
+        params![key],
+    )
+}
+
+/// The later of what is there and a register.
+fn later_of(found: Option<Register>, register: Register) -> Option<Register>
+    ensures { result ≡ later found register }
+{
+    match found {
+        Some(own) => {
+            if register < own {
+                Some(own)
+            } else {
+                Some(register)
+            }
+        }
+        None => Some(register),
+    }
+}
+
+/// The latest register of entries.
+fn latest_of(entries: Entries) -> Option<Register>
+    ensures { result ≡ latest entries.items }
+{
+    let mut found = None;
+    'entries: for entry in entries {
+        found = later_of(found, entry.1);
+    }
+    found
+}
+
+/// The latest register that the table has for a key, if it has one: a removal too.
+///
+/// # Errors
+///
+/// [`StoreFault::Database`] and [`StoreFault::Memory`]. Nothing is written.
+pub fn find<S: Alter>(
+    alloc: Global,
+    conn: &mut Connection<S>,
+    key: &str,
+) -> Result<Option<Register>, StoreFault>
+    ensures latest { (state S.Store conn.old).now.schema ≡ store_schema → HasCleanDisk (state S.Store conn.new) → IfOk result (λ found. IsLatestAt (state S.Store conn.old).now.trees key.now found) }
+    ensures unchanged { (state S.Store conn.old).now.schema ≡ store_schema → HasCleanDisk (state S.Store conn.new) → OnOk result (IsUnchanged (state S.Store conn.old) (state S.Store conn.new)) }
+    ensures crash { (state S.Store conn.old).now.schema ≡ store_schema → Survives (state S.Store conn.old) (state S.Store conn.new) (λ _. ⊥) }
+{
+    let rows = read_rows_of(conn, key)?;
+    let entries = entries_of(alloc, &rows)?;
+    Ok(latest_of(entries))
+}
+
+/// The time of a write over what is there, at this time of the clock.
+///
+/// # Errors
+///
+/// [`StoreFault::Time`] where what is there has the last time that there is.
+pub fn later_time(found: &Option<Register>, now: u64) -> Result<u64, StoreFault>
+    ensures { IfOk result (λ time. time ≡ time_after found.now now) }
+{
+    let Some(register) = found else {
+        return Ok(now);
+    };
+    match register.time.checked_add(1) {
+        Some(above) => Ok(now.max(above)),
+        None => Err(StoreFault::Time),
+    }
+}
+
+/// Writes a text under a key, or that the key is removed, over what `found` says of the key.
+fn write_over<S: Alter>(
+    conn: &mut Connection<S>,
+    writer: String,
+    now: u64,
+    key: &str,
+    found: &Option<Register>,
+    value: Option<String>,
+) -> Result<(), StoreFault>
+    ensures clean { doubt (state S.Store conn.old).is_clean ≤ doubt (state S.Store conn.new).is_clean }
+    ensures written { (state S.Store conn.old).now.schema ≡ store_schema → HasCleanDisk (state S.Store conn.new)
+        → OnOk result (HasMore (written_row key.now found.now writer now value ∷ []) (state S.Store conn.old).now (state S.Store conn.new).now) }
+    ensures refused { HasCleanDisk (state S.Store conn.new) → IsTrue (state S.Store conn.new).is_open → (state S.Store conn.old).now ≡ (state S.Store conn.old).committed
+        → OnErr result ((state S.Store conn.new).now ≡ (state S.Store conn.old).now) }
+    ensures crash { (HasCleanDisk (state S.Store conn.new) → (state S.Store conn.old).now.schema ≡ store_schema) → Survives (state S.Store conn.old) (state S.Store conn.new)
+        (AreOf (HasMore (written_row key.now found.now writer now value ∷ []) (state S.Store conn.old).now)) }
+{
+    let time = later_time(found, now)?;
+    let register = Register {
+        time,
+        writer,
+        value,
+    };
+    table::add(conn, key, &register)
+}
+
+/// Writes a text under a key, at the clock's time, or one above the time of what is there.
+///
+/// # Errors
+///
+/// [`StoreFault::Time`] where what is there has the last time that there is, [`StoreFault::Database`] and [`StoreFault::Memory`].
+pub fn put<S: Alter>(
+    alloc: Global,
+    conn: &mut Connection<S>,
+    writer: String,
+    now: u64,
+    key: &str,
+    text: String,
+) -> Result<(), StoreFault>
+    ensures written { (state S.Store conn.old).now.schema ≡ store_schema → HasCleanDisk (state S.Store conn.new)
+        → OnOk result (WritesOver key.now writer now (Some text) (state S.Store conn.old).now (state S.Store conn.new).now) }
+    // A crash leaves what it could leave before, or a database with the write.
+    ensures crash { (state S.Store conn.old).now.schema ≡ store_schema
+        → Survives (state S.Store conn.old) (state S.Store conn.new) (AreOf (WritesOver key.now writer now (Some text) (state S.Store conn.old).now)) }
+{
+    let found = find(alloc, conn, key)?;
+    write_over(conn, writer, now, key, &found, Some(text))
+}
+
+/// Whether a register says a text.
+fn has_text(found: &Option<Register>) -> bool
+    ensures { result ≡ is_some (text_of found.now) }
+{
+    match found {
+        Some(register) => register.value.is_some(),
+        None => false,
+    }
+}
+
+/// Removes a key, and answers whether it was there. Where it was not, nothing is written.
+///
+/// # Errors
+///
+/// [`StoreFault::Time`] where what is there has the last time that there is, [`StoreFault::Database`] and [`StoreFault::Memory`].
+pub fn remove<S: Alter>(
+    alloc: Global,
+    conn: &mut Connection<S>,
+    writer: String,
+    now: u64,
+    key: &str,
+) -> Result<bool, StoreFault>
+    ensures written { (state S.Store conn.old).now.schema ≡ store_schema → HasCleanDisk (state S.Store conn.new)
+        → IfOk result (λ was. IsTrue was → WritesOver key.now writer now None (state S.Store conn.old).now (state S.Store conn.new).now) }
+    ensures absent { (state S.Store conn.old).now.schema ≡ store_schema → HasCleanDisk (state S.Store conn.new)
+        → IfOk result (λ was. was ≡ false → IsUnchanged (state S.Store conn.old) (state S.Store conn.new)) }
+    // A crash leaves what it could leave before, or a database with the removal.
+    ensures crash { (state S.Store conn.old).now.schema ≡ store_schema
+        → Survives (state S.Store conn.old) (state S.Store conn.new) (AreOf (WritesOver key.now writer now None (state S.Store conn.old).now)) }
+    ensures was { (state S.Store conn.old).now.schema ≡ store_schema → HasCleanDisk (state S.Store conn.new)
+        → IfOk result (λ was. (found : Option Register) × IsLatestAt (state S.Store conn.old).now.trees key.now found × (was ≡ is_some (text_of found))) }
+{
+    let found = find(alloc, conn, key)?;
+    if !has_text(&found) {
+        return Ok(false);
+    }
+    write_over(conn, writer, now, key, &found, None)?;
+    Ok(true)
+}
