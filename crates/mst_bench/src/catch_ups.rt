@@ -5,8 +5,8 @@ use crate::fault::Fault;
 use crate::keys::{LOCAL_SEED, keys};
 use merkle_digest::SipHasher;
 use merkle_replica::Replica;
-use merkle_search_tree::OutlineItemOf;
 use merkle_search_tree::builder::Builder;
+use merkle_wire::{CatchingUp, Next, answer};
 use std::alloc::Global;
 use std::io::Write;
 use std::rt::Clock;
@@ -17,10 +17,15 @@ type Numbers = Replica<String, u64, SipHasher, 16>;
 /// How many rows differ in the lines of the table.
 const DIFFERING: [usize; 5] = [0, 1, 10, 100, 1000];
 
-/// The bytes of a key of 17 bytes behind its length, and of a digest.
-const KEY: usize = 25;
+/// The bytes of a key of 17 bytes behind its length, of a value, and of a digest.
+const KEY: usize = 18;
+
+const VALUE: usize = 8;
 
 const DIGEST: usize = 16;
+
+/// How many messages a session sends at most: a question for each of 256 levels, one before them and one behind.
+const MOST_MESSAGES: usize = 258;
 
 /// What differs at a row.
 #[derive(Clone, Copy, PartialEq, Eq)]
@@ -79,51 +84,70 @@ fn places(alloc: Global, many: usize, bound: usize) -> Result<Vec<usize>, Fault>
 /// What a catch-up takes over a wire.
 #[derive(Clone, Copy)]
 struct Cost {
-    rounds: usize,
-    items: usize,
+    rounds: u32,
     bytes: usize,
     fetched: usize,
 }
 
-/// What the items that the peer sends, and the spans and keys that it is asked for, take over a wire.
-fn cost_of(alloc: Global, local: &Numbers, peer: &Numbers) -> Result<Cost, Fault> {
-    let mut cost = Cost {
-        rounds: 0,
-        items: 0,
-        bytes: 0,
-        fetched: 0,
-    };
-    let mut items = Vec::new(alloc);
-    if let Some(range) = peer.tree().root_range() {
-        items.push(OutlineItemOf::Page(range))?;
+/// The peer's reply to a message.
+fn reply_to(alloc: Global, peer: &mut Numbers, message: &[u8]) -> Result<Vec<u8>, Fault> {
+    match answer(alloc, peer, message) {
+        Ok(reply) => Ok(reply),
+        Err(_) => Err(Fault::Memory),
     }
-    for _ in 0..256 {
-        for item in &items {
-            cost.items = cost.items.saturating_add(1);
-            let bytes = match item {
-                OutlineItemOf::Node(_, _) => KEY + DIGEST,
-                OutlineItemOf::Page(_) => 2 * KEY + DIGEST,
-            };
-            cost.bytes = cost.bytes.saturating_add(bytes);
-        }
-        let asked = local.sort_out(&items)?;
-        cost.fetched = cost.fetched.saturating_add(asked.keys.len());
-        let asking = asked
-            .keys
-            .len()
-            .saturating_mul(KEY)
-            .saturating_add(asked.spans.len().saturating_mul(2 * KEY));
-        cost.bytes = cost.bytes.saturating_add(asking);
-        if asked.spans.is_empty() {
-            return Ok(cost);
-        }
-        cost.rounds = cost.rounds.saturating_add(1);
-        items = match peer.outlines(&asked.spans)? {
-            Some(items) => items,
-            None => return Err(Fault::Memory),
-        };
+}
+
+/// What comes after a reply.
+fn next_of(
+    session: CatchingUp<String>,
+    local: &mut Numbers,
+    reply: &[u8],
+) -> Result<Next<String, u64>, Fault> {
+    match session.take(local, reply) {
+        Ok(next) => Ok(next),
+        Err(_) => Err(Fault::Memory),
     }
-    Ok(cost)
+}
+
+/// The bytes of the messages of a session, of both sides, and what it brings. Nothing is joined.
+fn cost_of(alloc: Global, local: &mut Numbers, peer: &mut Numbers) -> Result<Cost, Fault> {
+    let (session, message) = CatchingUp::begin(alloc, local)?;
+    let mut session = session;
+    let mut message = message;
+    let mut bytes = 0usize;
+    for _ in 0..MOST_MESSAGES {
+        let reply = reply_to(alloc, peer, &message)?;
+        bytes = bytes
+            .saturating_add(message.len())
+            .saturating_add(reply.len());
+        let rounds = session.rounds();
+        match next_of(session, local, &reply)? {
+            Next::Ask(next, question) => {
+                session = next;
+                message = question;
+            }
+            Next::Came(rows) => {
+                return Ok(Cost {
+                    rounds,
+                    bytes,
+                    fetched: rows.len(),
+                });
+            }
+        }
+    }
+    Err(Fault::Memory)
+}
+
+/// How many bytes the list of the peer's page ranges has, and the rows in the ranges that a pull asks for.
+fn bytes_of_pull(peer: &Numbers, pulled: usize) -> Result<usize, Fault> {
+    let mut pages = 0usize;
+    if let Some(ranges) = peer.tree().page_range_iter()? {
+        for _ in ranges {
+            pages = pages.saturating_add(1);
+        }
+    }
+    let list = pages.saturating_mul(2 * KEY + DIGEST);
+    Ok(list.saturating_add(pulled.saturating_mul(KEY + VALUE)))
 }
 
 /// Times a catch-up of the replica with these differences, and answers how many rows it joined.
@@ -194,7 +218,7 @@ fn write_line<R: Clock, W: Write>(
     let pull_bytes = bytes_of_pull(&peer, pulled)?;
     writeln!(
         out,
-        "{rows} {differing} {way} {catch_up} {pull} {rounds} {items} {bytes} {list} {fetched} {joined} {pulled}"
+        "{rows} {differing} {way} {catch_up} {pull} {rounds} {bytes} {fetched} {joined} {pull_bytes} {pulled}"
     )
     .map_err(|_| Fault::Output)
 }
@@ -209,7 +233,7 @@ pub fn write_table<R: Clock, W: Write>(
 ) -> Result<(), Fault> {
     writeln!(
         out,
-        "rows differing way catch_up_us pull_us rounds items bytes list_bytes asked joined pulled"
+        "rows differing way catch_up_us pull_us rounds bytes fetched joined pull_bytes pulled"
     )
     .map_err(|_| Fault::Output)?;
     for count in counts {
