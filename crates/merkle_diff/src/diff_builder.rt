@@ -32,7 +32,7 @@ impl<'a, K: Ord> DiffListBuilder<'a, K> {
         }
     }
 
-    /// Marks the range from `start` to `end`, both in it, inconsistent. It copies two references.
+    /// Marks the range from `start` to `end`, both in it, inconsistent. `start` has to be at most `end`. It copies two references.
     ///
     /// # Errors
     ///
@@ -46,7 +46,7 @@ impl<'a, K: Ord> DiffListBuilder<'a, K> {
         self.inconsistent.insert(start, end)
     }
 
-    /// Marks the range from `start` to `end`, both in it, consistent. It copies two references.
+    /// Marks the range from `start` to `end`, both in it, consistent. `start` has to be at most `end`. It copies two references.
     ///
     /// # Errors
     ///

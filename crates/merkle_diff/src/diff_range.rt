@@ -20,7 +20,7 @@ pub struct DiffRange<'a, K: Ord> {
 impl<'a, K: Ord> DiffRange<'a, K> {
     ghost use Rattle.merkle_diff.specs.DiffRange.{span};
 
-    /// The range from `start` to `end`.
+    /// The range from `start` to `end`, of which the first has to be at most the second.
     pub fn new(start: &'a K, end: &'a K) -> DiffRange<'a, K>
         requires { Upto K.cmp start.now end.now }
         ensures { span result ≡ record { first = start.now; last = end.now } }

@@ -25,7 +25,8 @@ impl<K: Ord> OwnedPageRange<K> {
     ghost use Rattle.merkle_diff.specs.OwnedPageRange.{owned_entry};
     ghost use Rattle.merkle_diff.specs.PageRange.{entry};
 
-    /// The range from `start` to `end` of a page with the digest `hash`.
+    /// The range from `start` to `end` of a page with the digest `hash`. `start` has to be at most `end`, which
+    /// [`try_new`](OwnedPageRange::try_new) tests.
     pub fn new(start: K, end: K, hash: PageDigest) -> OwnedPageRange<K>
         requires { Upto K.cmp start end }
         ensures { owned_entry result ≡ record { first = start; last = end; digest = hash } }
@@ -54,7 +55,7 @@ impl<K: Ord> OwnedPageRange<K> {
         &self.hash
     }
 
-    /// The same range, with the keys borrowed.
+    /// The same range, with the keys borrowed. It copies the digest, 16 bytes, and takes no memory.
     pub fn as_page_range(&self) -> PageRange<'_, K>
         ensures { entry result ≡ owned_entry self.now }
     {

@@ -27,7 +27,8 @@ impl<'a, K: Ord> PageRange<'a, K> {
     ghost use Rattle.merkle_diff.specs.Entry.{EntryWithin, span_of};
     ghost use Rattle.merkle_diff.specs.PageRange.{entry};
 
-    /// The range from `start` to `end` of a page with the digest `hash`.
+    /// The range from `start` to `end` of a page with the digest `hash`. `start` has to be at most `end`, which
+    /// [`try_new`](PageRange::try_new) tests.
     pub fn new(start: &'a K, end: &'a K, hash: PageDigest) -> PageRange<'a, K>
         requires { Upto K.cmp start.now end.now }
         ensures { entry result ≡ record { first = start.now; last = end.now; digest = hash } }

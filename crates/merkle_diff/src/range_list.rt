@@ -37,7 +37,7 @@ impl<'a, K: Ord> RangeList<'a, K> {
         }
     }
 
-    /// Inserts the range from `start` to `end`, both in it, behind those that are there, whatever their order. `start` is at most `end`. No
+    /// Inserts the range from `start` to `end`, both in it, behind those that are there, whatever their order. `start` has to be at most `end`. No
     /// keys are compared, and it costs what a vector's `push` does.
     ///
     /// # Errors

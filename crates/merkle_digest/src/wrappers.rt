@@ -12,7 +12,8 @@ use std::fmt;
 use std::marker::Model;
 
 /// The digest of the root page of a tree, 16 bytes, which stands for all that the tree holds: under one hasher, level base and page
-/// format, trees of equal keys and values have equal root hashes. The converse holds only as far as no digests collide. It prints as a [`Digest`] does.
+/// format, trees of equal keys and values have equal root hashes. The converse holds only as far as no digests collide, and in page
+/// format 1 only as far as streams are unequal, too. It prints as a [`Digest`] does.
 #[derive(Debug, Drop, Eq)]
 pub struct RootHash {
     digest: Digest<16>,

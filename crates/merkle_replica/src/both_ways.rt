@@ -22,8 +22,8 @@ pub enum CatchUpsError {
 }
 
 /// `a` catches up with `b`, and then `b` with `a`. Both then hold the join of their maps, while digests are faithful in what is met
-/// before each of the two. That holds of any two hashers, level bases and page formats; but only replicas that digest alike spare each
-/// other what they share.
+/// before each of the two. It costs what the two cost ([`Replica::catch_up`]). That holds of any two hashers, level bases and page
+/// formats; but only replicas that digest alike spare each other what they share.
 ///
 /// # Errors
 ///

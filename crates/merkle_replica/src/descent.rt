@@ -1,6 +1,7 @@
 //! The steps of a catch-up, each on its own side: outlines of pages of the peer, and what they leave to ask for.
 
 ghost use Rattle.std.specs.Prelude.{◌≡◌, ◌↔◌, IfOk, OnOk, MatchOption, None, Some, IsTrue, flat_map};
+ghost use Rattle.std.specs.Option.{option_map};
 ghost use Rattle.key_order.specs.Map.{get};
 ghost use Rattle.merkle_tree_theory.specs.Outline.{outline_over};
 ghost use Rattle.merkle_search_tree.specs.Items.{item as item_of, items};
@@ -109,18 +110,26 @@ impl<K: Key + Drop, V: Join + Drop, H: Hasher<N, K> + Hasher<N, V>, const N: usi
         }
     }
 
+    /// The digest of the value at a key, where the key is there. It goes down one path of the tree, and takes no memory.
+    pub fn value_hash(&self, key: &K) -> Option<&ValueDigest<N>>
+        ensures { option_map (λ digest. digest.now) result ≡ get K.cmp (tree_map ⟦<H as Lawful<N, K, V>>⟧.laws (side self.now)) key.now }
+    {
+        self.tree().value_hash(key)
+    }
+
     /// Whether the key is there with this digest of its value.
     fn has_digest(&self, key: &K, digest: &ValueDigest<N>) -> bool
         ensures { let laws = ⟦<H as Lawful<N, K, V>>⟧.laws in IsTrue result ↔ (get K.cmp (tree_map laws (side self.now)) key.now ≡ Some digest.now) }
     {
-        match self.tree().value_hash(key) {
+        match self.value_hash(key) {
             Some(own) => *own == *digest,
             None => false,
         }
     }
 
-    /// Whether the tree has a page with this digest: the one over the gap.
-    fn has_page(&self, gap: &Gap<'_, K>, digest: &PageDigest) -> bool
+    /// Whether the page over the gap has this digest, so that the tree has a page with it. It goes down one path of the tree, and takes no
+    /// memory.
+    pub fn has_page(&self, gap: &Gap<'_, K>, digest: &PageDigest) -> bool
         ensures { IsTrue result → HasPage ⟦<H as Lawful<N, K, V>>⟧.laws (side self.now) digest.now }
     {
         every_tree_is_sound(self.tree());

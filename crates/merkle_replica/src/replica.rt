@@ -66,6 +66,11 @@ impl<K: Key, V: Join, H: Hasher<N, K> + Hasher<N, V>, const N: usize> Replica<K,
         }
     }
 
+    /// The allocator that it was made with.
+    pub fn alloc(&self) -> Global {
+        self.alloc
+    }
+
     /// The rows, strictly ascending by key.
     pub fn rows(&self) -> &[(K, V)]
         ensures rows { result.now ≡ self.now.rows }
@@ -102,7 +107,8 @@ impl<K: Key, V: Join, H: Hasher<N, K> + ValueHasher<N, V>, const N: usize> Repli
     ghost use denote.Follow.{follows_so};
     ghost use denote.Param.{number};
 
-    /// Fills in the digests that pages of the tree lack, so that the tree is hashed then. It takes no memory.
+    /// Fills in the digests that pages of the tree lack, so that the tree is hashed then, at the cost of
+    /// [`MerkleSearchTree::root_hash`]. It takes no memory.
     pub fn hash(&mut self)
         ensures rows { self.new.rows ≡ self.old.rows }
         ensures tree { self.new.tree ≡ hashed_tree K.bytes_of self.old.tree }
@@ -292,8 +298,8 @@ impl<K: Key + Drop, V: Join + Drop, H: Hasher<N, K> + Hasher<N, V>, const N: usi
         join_all(self.alloc, &mut self.rows, &mut self.tree, theirs, ranges)
     }
 
-    /// The row at a key, where there is one. It finds it by halving.
-    pub(crate) fn row_at(&self, key: &K) -> Option<&(K, V)>
+    /// The row at a key, where there is one. It finds it by halving, and takes no memory.
+    pub fn row_at(&self, key: &K) -> Option<&(K, V)>
         ensures { MatchOption result (get K.cmp self.now.rows key.now ≡ None) (λ row. Same K.cmp row.now.0 key.now × (get K.cmp self.now.rows key.now ≡ Some row.now.1)) }
     {
         match place(&self.rows, key) {

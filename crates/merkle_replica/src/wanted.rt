@@ -14,7 +14,8 @@ use merkle_digest::{Hasher, Key};
 use std::alloc::{AllocError, Global};
 use std::cmp::Ordering;
 
-/// The keys in ascending order, each of equal ones once: those that a catch-up in steps asks for at last.
+/// The keys in ascending order, each of equal ones once: those that a catch-up in steps asks for at last. It sorts them, in time
+/// n log n for n keys, compares each with the one before it, and takes memory for as many references.
 ///
 /// # Errors
 ///

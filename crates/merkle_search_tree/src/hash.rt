@@ -170,8 +170,8 @@ impl<K: Ord + KeyBytes, V, H: Hasher<N, K>, const N: usize> MerkleSearchTree<K, 
         }
     }
 
-    /// The root hash, as [`root_hash`](Self::root_hash) gives it, and how many pages were hashed in this call: one for each page
-    /// that lacked a digest, but at most `usize::MAX`.
+    /// The root hash, as [`root_hash`](Self::root_hash) gives it and at its cost, and how many pages were hashed in this call: one for each
+    /// page that lacked a digest, but at most `usize::MAX`.
     pub fn root_hash_counted(&mut self) -> (RootHash, usize)
         ensures tree { self.new ≡ hashed_tree K.bytes_of self.old }
         ensures map { map_of self.new ≡ map_of self.old }

@@ -158,7 +158,7 @@ impl<K: Ord + KeyBytes, V, H: Hasher<N, K>, const N: usize> MerkleSearchTree<K, 
         self.level_base
     }
 
-    /// The digest of a key by the tree's hasher, which tells the level of the key. The key need not be there.
+    /// The digest of a key by the tree's hasher, which tells the level of the key. The key need not be there. It hashes the key once.
     pub fn key_digest(&self, key: &K) -> Digest<N>
         ensures { result ≡ H.digest_of self.now.hasher key.now }
     {
@@ -251,6 +251,20 @@ impl<K: Key, V, H: Hasher<N, K> + Clone, const N: usize> MerkleSearchTree<K, V, 
             root_hash,
             value_type: PhantomData,
         })
+    }
+}
+
+impl<K: Ord + KeyBytes, V: Eq, H: Hasher<N, K> + Hasher<N, V>, const N: usize> MerkleSearchTree<
+    K,
+    V,
+    H,
+    N,
+> {
+    /// The digest of a value by the tree's hasher. It hashes the value once, and takes no memory of its own.
+    pub fn value_digest(&self, value: &V) -> Digest<N>
+        ensures { result ≡ ⟦<H as Hasher<N, V>>⟧.digest_of self.now.hasher value.now }
+    {
+        <H as Hasher<N, V>>::hash(&self.hasher, value)
     }
 }
 

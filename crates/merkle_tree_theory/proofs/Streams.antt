@@ -1,7 +1,8 @@
 -- The stream of a page in format 2 tells its parts.
 use Rattle.std.proofs.Common.{◌≡◌, ℕ, ◌<◌, ◌^◌, List, [], ◌∷◌, ◌++◌, length, Option, refl, ap, sym, ◌∙◌, append_assoc, append-nil, arith}
-use Rattle.std.specs.Int.{w64, to_le_bytes, from_le_bytes}
-use Rattle.std.proofs.lemmas.Nat.{from_le_bytes-to_le_bytes_8}
+use Rattle.std.specs.Int.{w64, to_le_bytes}
+use Rattle.key_order.proofs.ListParts.{join_tells}
+use Rattle.key_order.proofs.Numbers.{number_tells}
 use Rattle.merkle_digest.specs.SipHash.{siphash128, output, zero_key}
 use Rattle.merkle_tree_theory.specs.Tree.{Tree, page, Row, high, node, Held, nothing, below}
 use Rattle.merkle_tree_theory.specs.Page.{row_nodes}
@@ -9,22 +10,6 @@ use Rattle.merkle_tree_theory.specs.declared.page_format.PageFormat.{PageFormat}
 use Rattle.merkle_tree_theory.specs.declared.page_format.PageFormat.TheVariants.{V2}
 use Rattle.merkle_tree_theory.specs.Stream.{page_digest, row_stream, held_stream, stream_of, key_bytes}
 use Rattle.merkle_tree_theory.proofs.SameParts.{SameBelow, SameParts}
-
--- where the first parts have one length, joined lists tell both parts
-pub join_tells : {X : Type 0} → (xs ys us vs : List X) → length xs ≡ length ys → xs ++ us ≡ ys ++ vs → (xs ≡ ys) × (us ≡ vs)
-join_tells [] [] us vs l e = (refl, e)
-join_tells [] (y ∷ ys) us vs l e = absurd (omega (arith, l))
-join_tells (x ∷ xs) [] us vs l e = absurd (omega (arith, l))
-join_tells (x ∷ xs) (y ∷ ys) us vs l e =
-    let rest : xs ++ us ≡ ys ++ vs = cc in
-    let first : x ≡ y = cc in
-    let m : length xs ≡ length ys = omega (arith, l) in
-    let w = join_tells xs ys us vs m rest in
-    (λ i. first i ∷ w.0 i, w.1)
-
--- eight bytes tell a number below 2 ^ 64
-pub number_tells : (m n : ℕ) → m < 2 ^ 64 → n < 2 ^ 64 → to_le_bytes w64 m ≡ to_le_bytes w64 n → m ≡ n
-number_tells m n a b e = sym (from_le_bytes-to_le_bytes_8 m a) ∙ ap (from_le_bytes w64) e ∙ from_le_bytes-to_le_bytes_8 n b
 
 -- a hash has 16 bytes
 pub hash_length : (key message : List ℕ) → length (siphash128 key message) ≡ 16
