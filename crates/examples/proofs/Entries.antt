@@ -6,7 +6,7 @@ use Rattle.std.proofs.lemmas.List.{append_assoc, length-append}
 use Rattle.key_order.specs.Interval.{Span}
 use Rattle.key_order.specs.Text.{Text}
 use Rattle.merkle_diff.specs.Entry.{Entry}
-use Rattle.merkle_tree_theory.proofs.Streams.{join_tells}
+use Rattle.key_order.proofs.ListParts.{join_tells}
 use Rattle.examples.specs.Wire.{number_bytes, text_bytes, page_range_bytes, range_bytes, row_bytes, IsPageRange}
 use Rattle.examples.proofs.Spelled.{text_tells}
 

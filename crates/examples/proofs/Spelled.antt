@@ -5,7 +5,8 @@ use Rattle.std.proofs.lemmas.List.{append_assoc, append-nil, length-append, map-
 use Rattle.std.proofs.lemmas.Grind.{flat_map-append}
 use Rattle.key_order.specs.Text.{Text}
 use Rattle.key_order.proofs.ListParts.{each-append}
-use Rattle.merkle_tree_theory.proofs.Streams.{join_tells, number_tells}
+use Rattle.key_order.proofs.ListParts.{join_tells}
+use Rattle.key_order.proofs.Numbers.{number_tells}
 use Rattle.examples.specs.Wire.{number_bytes, text_bytes, list_bytes}
 
 one_more : {X : Type 0} (bytes : X → List ℕ) (xs : List X) (x : X) → flat_map bytes (xs ++ x ∷ []) ≡ flat_map bytes xs ++ bytes x

@@ -20,7 +20,8 @@ use Rattle.merkle_diff.specs.Merge.{SameSpans}
 use Rattle.merkle_diff.specs.SameEntries.{SameEntry, SameEntries}
 use Rattle.merkle_diff.proofs.SameSpans.{rows_in-alike}
 use Rattle.merkle_replica.proofs.Copying.{take_same}
-use Rattle.merkle_tree_theory.proofs.Streams.{join_tells, number_tells}
+use Rattle.key_order.proofs.ListParts.{join_tells}
+use Rattle.key_order.proofs.Numbers.{number_tells}
 use Rattle.merkle_tree_theory.specs.Gap.{Gap, SameBound, SameGap, SameGaps}
 use Rattle.merkle_tree_theory.specs.Outline.{Item, of_node, of_page}
 use Rattle.merkle_search_tree.specs.SameItems.{SameItem, SameItems}

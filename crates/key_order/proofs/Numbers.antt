@@ -1,5 +1,7 @@
--- Numbers are joined by the greater one.
-use Rattle.std.proofs.Common.{◌≡◌, ℕ, true, subst, arith}
+-- Numbers are joined by the greater one, and told by their bytes.
+use Rattle.std.proofs.Common.{◌≡◌, ◌<◌, ◌^◌, ℕ, true, ap, sym, ◌∙◌, subst, arith}
+use Rattle.std.specs.Int.{w64, to_le_bytes, from_le_bytes}
+use Rattle.std.proofs.lemmas.Nat.{from_le_bytes-to_le_bytes_8}
 use Rattle.std.specs.Prelude.{max, nat_eq}
 use Rattle.std.specs.Cmp.{nat_eq_equiv}
 use Rattle.std.proofs.lemmas.Bool.{eqb-true}
@@ -15,3 +17,7 @@ max_joining = record {
   associative = λ a b c. equal_numbers (max (max a b) c) (max a (max b c)) (omega arith);
   respects = λ a b c d e f. equal_numbers (max a c) (max b d) (let g : a ≡ b = eqb-true a b e in let h : c ≡ d = eqb-true c d f in omega arith);
 }
+
+-- eight bytes tell a number below 2 ^ 64
+pub number_tells : (m n : ℕ) → m < 2 ^ 64 → n < 2 ^ 64 → to_le_bytes w64 m ≡ to_le_bytes w64 n → m ≡ n
+number_tells m n a b e = sym (from_le_bytes-to_le_bytes_8 m a) ∙ ap (from_le_bytes w64) e ∙ from_le_bytes-to_le_bytes_8 n b

@@ -6,6 +6,10 @@ use std::io::{Read, Write};
 /// How many bytes a message has at most, unless more are allowed: 1 GiB.
 pub const MOST_BYTES: u64 = 1_073_741_824;
 
+/// How many bytes an answer has at which it ends, and the rest is asked for: 16 MiB. So neither side holds a long answer whole, and a store
+/// below that is told in one.
+pub const ANSWER_BYTES: usize = 16_777_216;
+
 /// How many bytes of a message are sent in one piece with its length.
 const PIECE: usize = 65_536;
 

@@ -1,17 +1,20 @@
 //! A pull over a pair of pipes or a socket, from both sides.
 use crate::fault::StoreFault;
-use crate::framing::{Watch, receive, send};
+use crate::framing::{ANSWER_BYTES, Watch, receive, send};
 use crate::store::Store;
 use crate::upkeep::EntryReplica;
 use crate::wire::WireFault;
-use merkle_wire::{CatchingUp, Next, answer, refusal};
+use merkle_wire::{CatchingUp, Next, answer_within, refusal};
 use sqlite::Alter;
 use std::alloc::Global;
 use std::fmt;
 use std::io::{Read, Write};
+use store_table::table::Entries;
 
-/// How many messages a pull sends at most: that for the root, one for each round of outlines, and that for the rows.
-const MOST_MESSAGES: usize = 260;
+/// How many messages a pull sends at most, which the peer can't raise. A session asks for the root, for the outlines of at most 256 rounds
+/// with their nodes, and for the rows that these leave: a thousand messages suffice. Each part of an answer that has more than one costs
+/// one more; where parts have [`ANSWER_BYTES`], this many bring a tebibyte, which no store in memory has.
+const MOST_MESSAGES: usize = 65_536;
 
 /// Why a pull ended early. The store is then as it was, but for [`StoreFault::Behind`].
 #[derive(Debug, Drop)]
@@ -107,7 +110,7 @@ fn entries_of_peer<R: Read, W: Write, P: Watch>(
     to: &mut W,
     most: u64,
     watch: &mut P,
-) -> Result<(crate::table::Entries, Traffic), WireFault> {
+) -> Result<(Entries, Traffic), WireFault> {
     let (session, message) = CatchingUp::begin(alloc, replica)?;
     let mut session = session;
     let mut message = message;
@@ -123,10 +126,27 @@ fn entries_of_peer<R: Read, W: Write, P: Watch>(
             Next::Came(entries) => return Ok((entries, traffic)),
         }
     }
-    Err(WireFault::Cut)
+    Err(WireFault::Endless)
 }
 
-/// Brings the entries of a peer that the store lacks.
+/// The entries of a peer that are later than what the store has for their keys: what a pull would bring. The store keeps its rows.
+///
+/// # Errors
+///
+/// [`PullFault`], as of a pull.
+pub fn look<S: Alter + Drop, R: Read, W: Write, P: Watch>(
+    store: &mut Store<S>,
+    from: &mut R,
+    to: &mut W,
+    most: u64,
+    watch: &mut P,
+) -> Result<Entries, PullFault> {
+    let alloc = store.alloc();
+    let (entries, _traffic) = entries_of_peer(alloc, store.replica(), from, to, most, watch)?;
+    Ok(store.news(entries)?)
+}
+
+/// Brings the entries of a peer that the store lacks, all or none. A reply has at most `most` bytes, else the peer is refused.
 ///
 /// # Errors
 ///
@@ -149,7 +169,8 @@ pub fn pull<S: Alter + Drop, R: Read, W: Write, P: Watch>(
     })
 }
 
-/// Answers a peer until the end of its messages.
+/// Answers a peer until the end of its messages, each of at most `most` bytes; an answer ends with the entry by which it has
+/// [`ANSWER_BYTES`], and the peer asks for the rest.
 ///
 /// # Errors
 ///
@@ -167,7 +188,7 @@ pub fn serve<S: Alter + Drop, R: Read, W: Write, P: Watch>(
         let Some(message) = receive(alloc, from, most, watch)? else {
             return Ok(traffic);
         };
-        match answer(alloc, store.replica(), &message) {
+        match answer_within(alloc, store.replica(), &message, ANSWER_BYTES) {
             Ok(reply) => {
                 send(alloc, to, &reply)?;
                 traffic = traffic.with(reply.len(), message.len());

@@ -1,14 +1,15 @@
 //! A store: its table in the database, and the replica of its entries in memory.
 ghost use Rattle.std.specs.Prelude.{◌≡◌, ◌≢◌, ◌≤◌, ◌↔◌, [], All, Some, true, string_bytes, IfOk, IfErr, OnOk, OnErr, IsTrue, MatchOption};
+ghost use Rattle.std.specs.List.{filter};
 ghost use Rattle.std.specs.Option.{option_copied};
 ghost use Rattle.key_order.specs.Text.{text_order};
-ghost use Rattle.key_order.specs.Map.{SameValue, get};
+ghost use Rattle.key_order.specs.Map.{IsMap, SameValue, get};
 ghost use Rattle.merkle_replica.specs.Puts.{HasGathered};
 ghost use Rattle.sqlite.specs.State.{HasCleanDisk, IsUnchanged, Survives};
 ghost use Rattle.sqlite.specs.Held.{state};
 ghost use Rattle.store_table.specs.Entries.{store_schema};
 ghost use Rattle.store_table.specs.Changes.{IsNewStore, AreOf};
-ghost use Rattle.store_table.specs.Registers.{time_after, text_at};
+ghost use Rattle.store_table.specs.Registers.{time_after, text_at, is_later};
 ghost use Rattle.merkle_store.specs.Kept.{IsKept};
 
 use crate::lookup::register_at;
@@ -190,6 +191,23 @@ impl<S: Alter + Drop> Store<S> {
         Ok(())
     }
 
+    /// Those of a peer's entries that are later than what their keys have: what [`join`](Store::join) adds.
+    ///
+    /// # Errors
+    ///
+    /// [`StoreFault::Future`] where an entry has a time that is more than a day ahead of the clock.
+    pub fn news(&self, entries: Entries) -> Result<Entries, StoreFault>
+        ensures ascending { OnOk result (IsMap text_order self.now.replica.rows) }
+        ensures news { IfOk result (λ news. news.items ≡ filter (λ entry. is_later (get text_order self.now.replica.rows entry.0) entry.1) entries.items) }
+        ensures timely { OnOk result (All (λ entry. entry.1.time ≤ self.now.latest) entries.items) }
+        ensures future { (All (λ entry. entry.1.time ≤ self.now.latest) entries.items → ⊥) → result ≡ Err StoreFault.Future }
+    {
+        if !are_timely(&entries, self.latest) {
+            return Err(StoreFault::Future);
+        }
+        Ok(news_of(&self.replica, entries))
+    }
+
     /// Joins entries, as those of a peer, all or none, and answers how many were later than what their keys had: the file takes no others.
     ///
     /// # Errors
@@ -202,10 +220,7 @@ impl<S: Alter + Drop> Store<S> {
         ensures timely { OnOk result (All (λ entry. entry.1.time ≤ self.old.latest) entries.items) }
         ensures future { (All (λ entry. entry.1.time ≤ self.old.latest) entries.items → ⊥) → (result ≡ Err StoreFault.Future) × (self.new ≡ self.old) }
     {
-        if !are_timely(&entries, self.latest) {
-            return Err(StoreFault::Future);
-        }
-        let news = news_of(&self.replica, entries);
+        let news = self.news(entries)?;
         let count = news.len();
         if count == 0 {
             return Ok(0);

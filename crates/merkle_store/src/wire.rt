@@ -12,6 +12,8 @@ pub enum WireFault {
     TooLong(u64),
     /// The peer stopped in the middle of a message, or before its reply.
     Cut,
+    /// The peer answers in more parts than a session may have.
+    Endless,
     /// The input or the output failed.
     Device,
     /// The peer's message has no reply.
@@ -53,6 +55,7 @@ impl fmt::Display for WireFault {
                 "a message of {len} bytes is longer than it may be"
             ),
             WireFault::Cut => f.write_str("the peer stopped in the middle"),
+            WireFault::Endless => f.write_str("the peer's answers have no end"),
             WireFault::Device => f.write_str("the connection to the peer failed"),
             WireFault::Question(error) => write!(f, "{error}"),
             WireFault::Reply(error) => write!(f, "{error}"),

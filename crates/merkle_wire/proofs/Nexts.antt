@@ -1,21 +1,22 @@
--- What comes after a reply.
-use Rattle.std.proofs.Common.{ℕ, ◌+◌, ◌≤◌, List, Result, Ok, Err, arith}
-use Rattle.std.specs.declared.cmp.Ordering.{Ordering}
-use Rattle.std.specs.Result.{IfOk}
-use Rattle.merkle_wire.specs.Sessions.{IsAsked, IsNext, IsCame, AreAskedFor}
+-- What comes after a reply that was taken.
+use Rattle.std.proofs.Common.{◌≡◌, ℕ, List, Option, subst}
+use Rattle.merkle_replica.specs.Contents.{Contents, Side, side}
+use Rattle.merkle_replica.specs.Laws.{Laws}
+use Rattle.merkle_tree_theory.specs.Hashed.{hashed_tree}
+use Rattle.merkle_wire.specs.Found.{Found}
+use Rattle.merkle_wire.specs.Next.{IsNext, AsksOrGoesOn}
+use Rattle.merkle_wire.specs.Underway.{Underway, HasTaken}
 use Rattle.merkle_wire.specs.declared.catching_up.Next.{Next}
-use Rattle.merkle_wire.specs.declared.catching_up.Next.TheVariants.{Ask, Came}
 use Rattle.merkle_wire.specs.declared.question.Question.{Question}
 
-module _ {K V : Type 0} (cmp : K → K → Ordering) (encoding : K → List ℕ) where
-  -- a question of at most one round more
-  pub asked_next : (question asked : Question K) (rounds old : ℕ) (next : Next K V) → rounds ≤ old + 1 → IsAsked encoding question rounds next → IsNext cmp encoding old asked next
-  asked_next question asked rounds old (Ask session message) more a = (a.0, omega (arith, a.2, more), omega (arith, a.2, a.3))
-  asked_next question asked rounds old (Came rows) more a = absurd a
+module _ {K V H : Type 0} where
+  -- a replica whose tree is hashed is the side that it was
+  pub hashed_side : (bytes_of : K → List ℕ) (old new : Contents K V H) → new.rows ≡ old.rows → new.tree ≡ hashed_tree bytes_of old.tree → side new ≡ side old
+  hashed_side bytes_of old new r t = λ i. record { hasher = (t i).hasher; base = (t i).base; format = (t i).format; rows = r i }
 
-  -- rows that were asked for
-  pub came_next : {E : Type 0} (asked : Question K) (rounds : ℕ) (P : List (K × V) → Type 0) (r : Result (Next K V) E) → ((rows : List (K × V)) → P rows → AreAskedFor cmp asked rows)
-      → IfOk r (IsCame P) → IfOk r (IsNext cmp encoding rounds asked)
-  came_next asked rounds P (Ok (Ask session message)) f p = absurd p
-  came_next asked rounds P (Ok (Came rows)) f p = f rows.items p
-  came_next asked rounds P (Err e) f p = tt
+  pub is_next : (laws : Laws K V H) (n : ℕ) (encoding : K → List ℕ) (values : V → List ℕ) (local was : Side K V H) (before inside : Underway K V) (reply : List ℕ) (found : Found K V) (again answered : Option (Question K)) (next : Next K V)
+      → was ≡ local → inside ≡ before → answered ≡ again → HasTaken laws n encoding values was inside.asked reply inside.found found answered → AsksOrGoesOn laws.cmp encoding again inside.rounds found next
+      → IsNext laws n encoding values local before reply next
+  is_next laws n encoding values local was before inside reply found again answered next l s a taken goes =
+      subst (λ u. IsNext laws n encoding values local u reply next) s
+      (subst (λ t. IsNext laws n encoding values t inside reply next) l (found, again, subst (HasTaken laws n encoding values was inside.asked reply inside.found found) a taken, goes))

@@ -1,9 +1,12 @@
--- Gaps as bytes.
-use Rattle.std.specs.Prelude.{◌≡◌, ℕ, ◌<◌, ◌≤◌, ◌^◌, Bool, true, ◌&&◌, List, ◌++◌, length}
+-- Gaps behind a key, as bytes.
+use Rattle.std.specs.Prelude.{◌≡◌, ℕ, ◌≤◌, Bool, true, ◌&&◌, List, ◌++◌, length}
+use Rattle.std.proofs.Common.{sym, ap, ap₂, ◌∙◌, arith}
+use Rattle.std.proofs.lemmas.List.{append_assoc, length-append}
 use Rattle.std.specs.Option.{option_eq}
+use Rattle.merkle_bytes.specs.Options.{IsOption}
+use Rattle.merkle_bytes.specs.Runs.{bound_behind, bound_key}
+use Rattle.merkle_bytes.specs.RunTelling.{bound_some, bound_told}
 use Rattle.merkle_tree_theory.specs.Gap.{Gap}
-use Rattle.merkle_wire.specs.Options.{option_bytes, IsOption, option_some, option_told}
-use Rattle.merkle_wire.specs.Telling.{pair_some, pair_told}
 use Rattle.merkle_wire.specs.declared.gaps.OwnedGap.{OwnedGap}
 
 -- a gap that owns its keys
@@ -11,25 +14,30 @@ abbrev pub owned_gap : {K : Type 0} → OwnedGap K → Gap K
 owned_gap g = record { after = g.after; before = g.before }
 
 module _ {K : Type 0} (encoding : K → List ℕ) where
-  -- the bound that its keys are above, and the bound that they are below
-  abbrev pub gap_bytes : Gap K → List ℕ
-  gap_bytes g = option_bytes encoding g.after ++ option_bytes encoding g.before
+  -- the bound that its keys are above, and behind that the bound that they are below
+  abbrev pub gap_behind : List ℕ → Gap K → List ℕ
+  gap_behind last g = bound_behind encoding last g.after ++ bound_behind encoding (bound_key encoding last g.after) g.before
+
+  -- the last key behind a gap
+  abbrev pub gap_key : List ℕ → Gap K → List ℕ
+  gap_key last g = bound_key encoding (bound_key encoding last g.after) g.before
+
+  pub gap_some : (last : List ℕ) (g : Gap K) → 1 ≤ length (gap_behind last g)
+  gap_some last g = omega (arith, bound_some encoding last g.after, length-append (bound_behind encoding last g.after) (bound_behind encoding (bound_key encoding last g.after) g.before))
 
 module _ {K : Type 0} (is_key : K → Type 0) where
   abbrev pub IsGap : Gap K → Type 0
   IsGap g = IsOption is_key g.after × IsOption is_key g.before
 
-module _ {K : Type 0} (encoding : K → List ℕ) (is_key : K → Type 0) where
-  pub gap_some : (g : Gap K) → IsGap is_key g → 1 ≤ length (gap_bytes encoding g)
-  gap_some g of = pair_some (option_bytes encoding g.after) (option_bytes encoding g.before) (option_some encoding is_key g.after of.0)
-
-  module _ (eq : K → K → Bool)
-      (told : (x y : K) (r s all : List ℕ) → is_key x → is_key y → length all < 2 ^ 64 → all ≡ encoding x ++ r → all ≡ encoding y ++ s → (eq x y ≡ true) × (r ≡ s)) where
-    -- bytes that begin with those of a gap tell its bounds, and what is behind it
-    pub gap_told : (a b : Gap K) (r s all : List ℕ) → IsGap is_key a → IsGap is_key b → length all < 2 ^ 64 → all ≡ gap_bytes encoding a ++ r → all ≡ gap_bytes encoding b ++ s
-        → (option_eq eq a.after b.after && option_eq eq a.before b.before ≡ true) × (r ≡ s)
-    gap_told a b r s all of_a of_b =
-        pair_told (option_bytes encoding a.after) (option_bytes encoding a.before) (option_bytes encoding b.after) (option_bytes encoding b.before) r s all
-        (option_eq eq a.after b.after) (option_eq eq a.before b.before)
-        (option_told encoding is_key eq told a.after b.after (option_bytes encoding a.before ++ r) (option_bytes encoding b.before ++ s) all of_a.0 of_b.0)
-        (option_told encoding is_key eq told a.before b.before r s (option_bytes encoding a.before ++ r) of_a.1 of_b.1)
+module _ {K : Type 0} (encoding : K → List ℕ) (eq : K → K → Bool)
+    (told : (x y : K) (r s : List ℕ) → encoding x ++ r ≡ encoding y ++ s → (eq x y ≡ true) × (r ≡ s)) where
+  -- bytes that begin with those of a gap tell its bounds, the last key behind it, and what is behind it
+  pub gap_told : (last : List ℕ) (a b : Gap K) (r s : List ℕ) → gap_behind encoding last a ++ r ≡ gap_behind encoding last b ++ s
+      → (option_eq eq a.after b.after && option_eq eq a.before b.before ≡ true) × (gap_key encoding last a ≡ gap_key encoding last b) × (r ≡ s)
+  gap_told last a b r s e =
+      let behind = bound_key encoding last in
+      let firsts = bound_told encoding eq told last a.after b.after (bound_behind encoding (behind a.after) a.before ++ r) (bound_behind encoding (behind b.after) b.before ++ s)
+      (sym (append_assoc (bound_behind encoding last a.after) (bound_behind encoding (behind a.after) a.before) r) ∙ e ∙ append_assoc (bound_behind encoding last b.after) (bound_behind encoding (behind b.after) b.before) s) in
+      let seconds = bound_told encoding eq told (behind a.after) a.before b.before r s
+      (firsts.2 ∙ ap (λ k. bound_behind encoding k b.before ++ s) (sym firsts.1)) in
+      (ap₂ (λ x y. x && y) firsts.0 seconds.0, seconds.1 ∙ ap (λ k. bound_key encoding k b.before) firsts.1, seconds.2)

@@ -1,49 +1,84 @@
--- Replies, as bytes.
-use Rattle.std.specs.Prelude.{◌≡◌, ℕ, List, [], ◌∷◌, ◌++◌, length, flat_map, Some, None, ◌⊎◌}
+-- Replies, as bytes. Each begins to answer a list of what was asked for, and says something of the first of it or of all.
+use Rattle.std.specs.Prelude.{◌≡◌, ◌≢◌, ℕ, List, [], ◌∷◌, ◌++◌, length, map, flat_map, Bool, true, false, cond, Option, Some, None}
+use Rattle.std.specs.List.{AllByRecursion}
 use Rattle.std.specs.declared.cmp.Ordering.{Ordering}
-use Rattle.key_order.specs.Order.{Same}
 use Rattle.key_order.specs.Map.{get}
+use Rattle.merkle_bytes.specs.Counts.{count_bytes}
+use Rattle.merkle_bytes.specs.Options.{option_bytes}
+use Rattle.merkle_bytes.specs.Runs.{run_bytes, row_behind, row_key, bound_key}
+use Rattle.merkle_replica.specs.Laws.{Laws}
 use Rattle.merkle_tree_theory.specs.Gap.{pairs_within}
-use Rattle.merkle_tree_theory.specs.Outline.{outline_over, whole_item}
+use Rattle.merkle_tree_theory.specs.Outline.{Item, of_node, of_page, outline_over, whole_item}
 use Rattle.merkle_tree_theory.specs.State.{State}
-use Rattle.merkle_wire.specs.Counts.{count_bytes}
-use Rattle.merkle_wire.specs.Encodings.{list_bytes}
 use Rattle.merkle_wire.specs.Gaps.{owned_gap}
 use Rattle.merkle_wire.specs.Messages.{front}
-use Rattle.merkle_wire.specs.Parts.{outline_bytes, row_bytes}
+use Rattle.merkle_wire.specs.Outlines.{Outline, IsTold, outline_bytes}
+use Rattle.merkle_wire.specs.Questions.{question_bytes}
 use Rattle.merkle_wire.specs.Settings.{AreSettingsOf}
 use Rattle.merkle_wire.specs.declared.gaps.OwnedGap.{OwnedGap}
-use Rattle.merkle_wire.specs.declared.message.Kind.TheVariants.{Root as root_kind, Outlines as outlines_kind, Rows as rows_kind}
+use Rattle.merkle_wire.specs.declared.message.Kind.TheVariants.{Root as root_kind, Outlines as outlines_kind, Nodes as nodes_kind, RowsAt as rows_at_kind, RowsIn as rows_in_kind}
 use Rattle.merkle_wire.specs.declared.question.Question.{Question}
-use Rattle.merkle_wire.specs.declared.question.Question.TheVariants.{Root, Outlines, RowsAt, RowsIn}
+use Rattle.merkle_wire.specs.declared.question.Question.TheVariants.{Root, Outlines, Nodes, RowsAt, RowsIn}
+use Rattle.merkle_wire.specs.declared.wanted.Wanted.{Wanted}
+
+-- something is told of the first of what was asked for, of one at least, each where P holds of both
+pub record Answers {X Y : Type 0} (P : X → Y → Type 0) (asked : List X) (told : List (X × Y)) : Type 0 where
+  pub left : List X
+  pub begins : asked ≡ map (λ t. t.0) told ++ left
+  pub some : asked ≢ [] → told ≢ []
+  pub each : AllByRecursion (λ t. P t.0 t.1) told
+
+-- the rows in a gap that are told: the first of them, and whether they are all
+pub record Part (K V : Type 0) : Type 0 where
+  pub rows : List (K × V)
+  pub whole : Bool
 
 module _ {K V : Type 0} (cmp : K → K → Ordering) (rows : List (K × V)) where
-  -- `found` has the row at each of the keys, one behind the other, but for keys that aren't there
-  abbrev pub AreRowsAt : List K → List (K × V) → Type 0
-  AreRowsAt [] found = found ≡ []
-  AreRowsAt (k ∷ ks) found =
-      ((get cmp rows k ≡ None) × AreRowsAt ks found)
-      ⊎ ((row : K × V) × (rest : List (K × V)) × Same cmp row.0 k × (get cmp rows k ≡ Some row.1) × AreRowsAt ks rest × (found ≡ row ∷ rest))
+  -- the part begins the rows in the gap: all of them, or some
+  abbrev pub IsPartOf : OwnedGap K → Part K V → Type 0
+  IsPartOf gap part = (more : List (K × V)) × (pairs_within cmp (owned_gap gap) rows ≡ part.rows ++ more) × (part.whole ≡ true → more ≡ []) × (part.whole ≡ false → part.rows ≢ [])
 
-  -- the row at the key is added, where there is one
-  abbrev pub HasRowAt : K → List (K × V) → List (K × V) → Type 0
-  HasRowAt k found found' =
-      ((get cmp rows k ≡ None) × (found' ≡ found))
-      ⊎ ((row : K × V) × Same cmp row.0 k × (get cmp rows k ≡ Some row.1) × (found' ≡ found ++ row ∷ []))
+module _ {K V : Type 0} (encoding : K → List ℕ) (values : V → List ℕ) where
+  -- outlines, each behind the bound that the keys of its gap are above
+  abbrev pub outlines_bytes : List (OwnedGap K × Outline K V) → List ℕ
+  outlines_bytes = flat_map (λ t. outline_bytes encoding values (bound_key encoding [] t.0.after) t.1)
 
-  -- the rows in the gaps, one gap behind the other
-  abbrev pub rows_in_gaps : List (OwnedGap K) → List (K × V)
-  rows_in_gaps = flat_map (λ g. pairs_within cmp (owned_gap g) rows)
+  -- a part: how many rows there are, the rows, and a byte 1 where they are all, or 0
+  abbrev pub part_bytes : List ℕ → Part K V → List ℕ
+  part_bytes last part = run_bytes (row_behind encoding values) (row_key encoding) last part.rows ++ cond part.whole 1 0 ∷ []
 
-module _ {K H : Type 0} (cmp : K → K → Ordering) (bytes_of encoding : K → List ℕ) (tree : State K H) where
-  -- the outline over a gap
-  abbrev pub outline_at : OwnedGap K → List ℕ
-  outline_at g = outline_bytes encoding (outline_over tree.format bytes_of cmp tree.root (owned_gap g))
+  abbrev pub parts_bytes : List (OwnedGap K × Part K V) → List ℕ
+  parts_bytes = flat_map (λ t. part_bytes (bound_key encoding [] t.0.after) t.1)
+
+-- values, each where there is one
+abbrev pub values_bytes : {K V : Type 0} → (V → List ℕ) → List (Wanted K × Option V) → List ℕ
+values_bytes values = flat_map (λ t. option_bytes values t.1)
+
+-- the digest of a whole tree that is one item, where it has a node
+abbrev pub whole_digest : {K : Type 0} → List (Item K (List ℕ)) → Option (List ℕ)
+whole_digest [] = None
+whole_digest (of_node k d ∷ xs) = None
+whole_digest (of_page g d ∷ xs) = Some d
+
+-- the items of the page over a gap
+abbrev pub items_over : {K H : Type 0} → (K → K → Ordering) → (K → List ℕ) → State K H → OwnedGap K → List (Item K (List ℕ))
+items_over cmp bytes_of tree gap = outline_over tree.format bytes_of cmp tree.root (owned_gap gap)
 
 module _ {K V H : Type 0} (cmp : K → K → Ordering) (bytes_of encoding : K → List ℕ) (values : V → List ℕ) (digest_of : K → List ℕ) (n : ℕ) (rows : List (K × V)) (tree : State K H) where
-  -- the reply to a question: where the settings are those of the tree, how many rows there are and the whole tree as one item, or none; an outline for each gap; the rows at the keys; or the rows in the gaps
+  -- the reply to a question: where the settings are those of the tree, how many rows there are and the digest of the root page, or none; what is
+  -- told of the pages over the gaps; the values at the keys; or the rows in the gaps
   abbrev pub IsReply : Question K → List ℕ → Type 0
-  IsReply (Root settings) reply = AreSettingsOf digest_of n tree settings × (reply ≡ (front root_kind ++ count_bytes (length rows)) ++ outline_bytes encoding (whole_item tree.format bytes_of tree.root))
-  IsReply (Outlines gaps) reply = reply ≡ front outlines_kind ++ list_bytes (outline_at cmp bytes_of encoding tree) gaps.items
-  IsReply (RowsAt keys) reply = (found : List (K × V)) × AreRowsAt cmp rows keys.items found × (reply ≡ front rows_kind ++ list_bytes (row_bytes encoding values) found)
-  IsReply (RowsIn gaps) reply = reply ≡ front rows_kind ++ list_bytes (row_bytes encoding values) (rows_in_gaps cmp rows gaps.items)
+  IsReply (Root settings) reply = AreSettingsOf digest_of n tree settings × (reply ≡ (front root_kind ++ count_bytes (length rows)) ++ option_bytes (λ d. d) (whole_digest (whole_item tree.format bytes_of tree.root)))
+  IsReply (Outlines most gaps) reply = (told : List (OwnedGap K × Outline K V)) × Answers (λ g. IsTold cmp rows true (items_over cmp bytes_of tree g)) gaps.items told × (reply ≡ front outlines_kind ++ outlines_bytes encoding values told)
+  IsReply (Nodes most gaps) reply = (told : List (OwnedGap K × Outline K V)) × Answers (λ g. IsTold cmp rows false (items_over cmp bytes_of tree g)) gaps.items told × (reply ≡ front nodes_kind ++ outlines_bytes encoding values told)
+  IsReply (RowsAt keys) reply = (told : List (Wanted K × Option V)) × Answers (λ w value. value ≡ get cmp rows w.key) keys.items told × (reply ≡ front rows_at_kind ++ values_bytes values told)
+  IsReply (RowsIn gaps) reply = (told : List (OwnedGap K × Part K V)) × Answers (IsPartOf cmp rows) gaps.items told × (reply ≡ front rows_in_kind ++ parts_bytes encoding values told)
+
+module _ {K V H : Type 0} (laws : Laws K V H) (n : ℕ) (encoding : K → List ℕ) (values : V → List ℕ) where
+  -- the reply to a question of a replica with these rows and this tree, whose digests of values have n bytes
+  abbrev pub IsReplyBy : List (K × V) → State K H → Question K → List ℕ → Type 0
+  IsReplyBy rows tree = IsReply laws.cmp laws.bytes_of encoding values (laws.key_digest tree.hasher) n rows tree
+
+  -- the message asks a question, and this is the reply to it
+  abbrev pub IsAnsweredBy : List (K × V) → State K H → List ℕ → List ℕ → Type 0
+  IsAnsweredBy rows tree message reply = (question : Question K) × (message ≡ question_bytes encoding question) × IsReplyBy rows tree question reply

@@ -1,47 +1,154 @@
--- What the asking side of a session does with a reply.
-use Rattle.std.specs.Prelude.{◌≡◌, ℕ, ◌+◌, ◌≤◌, List, []}
+-- What a session of messages brings: the rows of the peer that a side lacks.
+use Rattle.std.specs.Prelude.{◌≡◌, ℕ, ◌<◌, true, false, List, [], ◌∷◌, map, flat_map, length, take, Some, ⊤, ◌⊎◌}
+use Rattle.std.specs.Global.{Vec}
 use Rattle.std.specs.List.{AllByRecursion}
-use Rattle.std.specs.declared.cmp.Ordering.{Ordering}
+use Rattle.key_order.specs.Join.{IsJoin}
 use Rattle.key_order.specs.Order.{AnyByRecursion, Same}
-use Rattle.key_order.specs.Map.{IsMap}
-use Rattle.merkle_tree_theory.specs.Gap.{IsInGap}
+use Rattle.key_order.specs.Map.{IsMap, get}
+use Rattle.merkle_replica.specs.CatchUp.{IsLacked}
+use Rattle.merkle_replica.specs.Contents.{Side, with_rows, tree_map}
+use Rattle.merkle_replica.specs.Faithful.{IsFaithful}
+use Rattle.merkle_replica.specs.Laws.{Laws}
+use Rattle.merkle_tree_theory.specs.Canonical.{IsTreeOf}
+use Rattle.merkle_tree_theory.specs.Gap.{Gap, IsInGap}
+use Rattle.merkle_tree_theory.specs.Outline.{outline_over}
+use Rattle.merkle_tree_theory.specs.State.{State}
+use Rattle.merkle_tree_theory.specs.Tree.{Tree}
+use Rattle.merkle_wire.specs.Found.{Found, nothing}
 use Rattle.merkle_wire.specs.Gaps.{owned_gap}
+use Rattle.merkle_wire.specs.Next.{IsNext}
+use Rattle.merkle_wire.specs.Outlines.{nodes_among, keys_among, digest_of_all}
 use Rattle.merkle_wire.specs.Questions.{question_bytes}
+use Rattle.merkle_wire.specs.Replies.{IsReply}
+use Rattle.merkle_wire.specs.Taking.{has_row}
+use Rattle.merkle_wire.specs.Underway.{Underway}
 use Rattle.merkle_wire.specs.declared.catching_up.Next.{Next}
 use Rattle.merkle_wire.specs.declared.catching_up.Next.TheVariants.{Ask, Came}
-use Rattle.merkle_wire.specs.declared.gaps.OwnedGap.{OwnedGap}
+use Rattle.merkle_wire.specs.declared.settings.Settings.{Settings}
+use Rattle.merkle_wire.specs.declared.session.BothMessagesError.{BothMessagesError}
+use Rattle.merkle_wire.specs.declared.session.BothMessagesError.TheVariants.{First, Second}
+use Rattle.merkle_wire.specs.declared.session.MessagesError.{MessagesError}
+use Rattle.merkle_wire.specs.declared.session.MessagesError.TheVariants.{Answer, Session, Join}
 use Rattle.merkle_wire.specs.declared.question.Question.{Question}
-use Rattle.merkle_wire.specs.declared.question.Question.TheVariants.{Root, Outlines, RowsAt, RowsIn}
+use Rattle.merkle_wire.specs.declared.question.Question.TheVariants.{Root, Outlines, Nodes, RowsAt, RowsIn}
 
-module _ {K : Type 0} (cmp : K → K → Ordering) where
-  -- the row is at one of the keys
-  abbrev pub IsAtOneOf : {V : Type 0} → List K → K × V → Type 0
-  IsAtOneOf keys row = AnyByRecursion (Same cmp row.0) keys
+-- the catch-up ended before it joined
+abbrev pub IsEarly : MessagesError → Type 0
+IsEarly (Answer error) = ⊤
+IsEarly (Session error) = ⊤
+IsEarly (Join done) = ⊥
 
-  -- the row is in one of the gaps
-  abbrev pub IsInOneOf : {V : Type 0} → List (OwnedGap K) → K × V → Type 0
-  IsInOneOf gaps row = AnyByRecursion (λ g. IsInGap cmp row.0 (owned_gap g)) gaps
+module _ {K V H : Type 0} (laws : Laws K V H) (local peer : Side K V H) where
+  -- where both sides have all of some keys, and the digest of the digests of their values is equal on both, these digests are equal
+  abbrev pub HaveFaithfulNodes : Type 0
+  HaveFaithfulNodes = (keys : List K) (ds es : List (List ℕ)) → map (get laws.cmp (tree_map laws local)) keys ≡ map Some ds → map (get laws.cmp (tree_map laws peer)) keys ≡ map Some es
+      → digest_of_all ds ≡ digest_of_all es → ds ≡ es
 
-  -- rows came where rows were asked for: they ascend, and each is at one of the keys or in one of the gaps
-  abbrev pub AreAskedFor : {V : Type 0} → Question K → List (K × V) → Type 0
-  AreAskedFor (Root settings) rows = rows ≡ []
-  AreAskedFor (Outlines gaps) rows = rows ≡ []
-  AreAskedFor (RowsAt keys) rows = IsMap cmp rows × AllByRecursion (IsAtOneOf keys.items) rows
-  AreAskedFor (RowsIn gaps) rows = IsMap cmp rows × AllByRecursion (IsInOneOf gaps.items) rows
+  -- both sides give each value one digest
+  abbrev pub GiveOneDigest : Type 0
+  GiveOneDigest = (v : V) → laws.value_digest local.hasher v ≡ laws.value_digest peer.hasher v
 
--- rows came, of which this holds
-abbrev pub IsCame : {K V : Type 0} → (List (K × V) → Type 0) → Next K V → Type 0
-IsCame P (Ask session message) = ⊥
-IsCame P (Came rows) = P rows.items
+  -- digests are faithful: those of pages and of values, those of the nodes of a page, and both sides give each value one digest
+  pub record IsFaithfulSession : Type 0 where
+    pub faithful : IsFaithful laws local peer
+    pub nodes : HaveFaithfulNodes
+    pub values : GiveOneDigest
 
-module _ {K V : Type 0} (encoding : K → List ℕ) where
-  -- this question is asked, after so many rounds
-  abbrev pub IsAsked : Question K → ℕ → Next K V → Type 0
-  IsAsked question rounds (Ask session message) = (message.items ≡ question_bytes encoding session.asked) × (session.asked ≡ question) × (session.rounds ≡ rounds) × (rounds ≤ 256)
-  IsAsked question rounds (Came rows) = ⊥
+  -- no two lists of the digests of values collide: where both sides have all of some keys, and the digest of the digests of their values is equal on
+  -- both, these digests, one behind the other, are the same bytes
+  abbrev pub NoNodesCollide : Type 0
+  NoNodesCollide = (keys : List K) (ds es : List (List ℕ)) → map (get laws.cmp (tree_map laws local)) keys ≡ map Some ds → map (get laws.cmp (tree_map laws peer)) keys ≡ map Some es
+      → digest_of_all ds ≡ digest_of_all es → flat_map (λ d. d) ds ≡ flat_map (λ e. e) es
 
-module _ {K V : Type 0} (cmp : K → K → Ordering) (encoding : K → List ℕ) where
-  -- after a reply to `asked`: the message of a question, of at most one round more and at most 256 in all, or rows that were asked for
-  abbrev pub IsNext : ℕ → Question K → Next K V → Type 0
-  IsNext rounds asked (Ask session message) = (message.items ≡ question_bytes encoding session.asked) × (session.rounds ≤ rounds + 1) × (session.rounds ≤ 256)
-  IsNext rounds asked (Came rows) = AreAskedFor cmp asked rows.items
+  -- the row is one of the peer's: an equal key, with an equal value
+  abbrev pub IsRowOfPeer : K × V → Type 0
+  IsRowOfPeer row = (v : V) × (get laws.cmp peer.rows row.0 ≡ Some v) × (laws.eq row.1 v ≡ true)
+
+  -- it is one that local lacks, or has with another digest, by its own hasher
+  abbrev pub IsNewRow : K × V → Type 0
+  IsNewRow row = IsRowOfPeer row × (has_row laws local row ≡ false)
+
+  -- rows in ascending key order, each of them new, and, while digests are faithful, one at each key that local lacks
+  pub record AreBrought (rows : List (K × V)) : Type 0 where
+    pub ascending : IsMap laws.cmp rows
+    pub new : AllByRecursion IsNewRow rows
+    pub all : IsFaithfulSession → (k : K) → IsLacked laws local peer k → AnyByRecursion (λ r. Same laws.cmp k r.0) rows
+
+  -- so many such rows are joined
+  abbrev pub HasJoined : ℕ → List (K × V) → Type 0
+  HasJoined joined after = (rows : List (K × V)) × (joined ≡ length rows) × AreBrought rows × IsJoin laws.cmp laws.eq laws.join local.rows rows after
+
+  -- nothing is joined; or the first `done` of such rows, and not all
+  abbrev pub IsMessagesRefused : MessagesError → List (K × V) → Type 0
+  IsMessagesRefused (Answer error) after = after ≡ local.rows
+  IsMessagesRefused (Session error) after = after ≡ local.rows
+  IsMessagesRefused (Join done) after = (rows : List (K × V)) × AreBrought rows × (done < length rows) × IsJoin laws.cmp laws.eq laws.join local.rows (take done rows) after × (done ≡ 0 → after ≡ local.rows)
+
+module _ {K V H : Type 0} (laws : Laws K V H) where
+  -- a has joined so many rows of b, and then b so many of a
+  abbrev pub HaveJoined : Side K V H → Side K V H → ℕ → ℕ → List (K × V) → List (K × V) → Type 0
+  HaveJoined a b first second a' b' = HasJoined laws a b first a' × HasJoined laws b (with_rows a a') second b'
+
+  -- the first of them ended early, or the second
+  abbrev pub AreBothRefused : Side K V H → Side K V H → BothMessagesError → List (K × V) → List (K × V) → Type 0
+  AreBothRefused a b (First error) a' b' = IsMessagesRefused laws a b error a' × (b' ≡ b.rows)
+  AreBothRefused a b (Second first error) a' b' = HasJoined laws a b first a' × IsMessagesRefused laws b (with_rows a a') error b'
+
+module _ {K V H : Type 0} (laws : Laws K V H) (peer : Side K V H) (root : Tree K (List ℕ)) where
+  -- the key is that of a node of the peer's page over the gap
+  abbrev pub IsNodeOver : K → Gap K → Type 0
+  IsNodeOver k g = AnyByRecursion (Same laws.cmp k) (keys_among (nodes_among (outline_over peer.format laws.bytes_of laws.cmp root g)))
+
+  -- the question asks about the key: about all, about those in gaps, about the nodes of the pages over gaps, or about keys
+  abbrev pub AsksAbout : K → Question K → Type 0
+  AsksAbout k (Root settings) = ⊤
+  AsksAbout k (Outlines most gaps) = AnyByRecursion (λ g. IsInGap laws.cmp k (owned_gap g)) gaps.items
+  AsksAbout k (Nodes most gaps) = AnyByRecursion (λ g. IsNodeOver k (owned_gap g)) gaps.items
+  AsksAbout k (RowsAt keys) = AnyByRecursion (λ w. Same laws.cmp k w.key) keys.items
+  AsksAbout k (RowsIn gaps) = AnyByRecursion (λ g. IsInGap laws.cmp k (owned_gap g)) gaps.items
+
+  -- the key is among what was found: in a gap of a page, a node of one, a key that is wanted, in a gap of which all rows are, or a row's
+  abbrev pub IsAmong : K → Found K V → Type 0
+  IsAmong k f =
+      AnyByRecursion (IsInGap laws.cmp k) f.below ⊎ (AnyByRecursion (IsNodeOver k) f.nodes
+      ⊎ (AnyByRecursion (Same laws.cmp k) f.wanted ⊎ (AnyByRecursion (IsInGap laws.cmp k) f.whole ⊎ AnyByRecursion (λ r. Same laws.cmp k r.0) f.rows)))
+
+module _ {K V H : Type 0} (laws : Laws K V H) (local peer : Side K V H) (root : Tree K (List ℕ)) where
+  -- each row that was found is new; and while digests are faithful, each key that local lacks is asked about or among what was found
+  pub record Covers (u : Underway K V) : Type 0 where
+    pub new : AllByRecursion (IsNewRow laws local peer) u.found.rows
+    pub all : IsFaithfulSession laws local peer → (k : K) → IsLacked laws local peer k → AsksAbout laws peer root k u.asked ⊎ IsAmong laws peer root k u.found
+
+  -- the message that is sent next asks what the catch-up asks, which covers what is lacked; or the rows came
+  abbrev pub CoversNext : (K → List ℕ) → Next K V → Type 0
+  CoversNext encoding (Ask session message) = (message.items ≡ question_bytes encoding session.asked) × Covers session
+  CoversNext encoding (Came rows) = AreBrought laws local peer rows.items
+
+module _ {K V H : Type 0} (laws : Laws K V H) (n : ℕ) (encoding : K → List ℕ) (values : V → List ℕ) (local peer : Side K V H) where
+  -- one exchange of messages, as `answer` and `CatchingUp::take` say of it: the message asks what the catch-up asks, the peer read a question of it and
+  -- answered that by a tree of its map, and the reply was taken, after which this came next
+  pub record IsExchange (before : Underway K V) (next : Next K V) : Type 0 where
+    pub message : List ℕ
+    pub question : Question K
+    pub tree : State K H
+    pub reply : List ℕ
+    pub asks : message ≡ question_bytes encoding before.asked
+    pub reads : message ≡ question_bytes encoding question
+    pub settings : (tree.hasher ≡ peer.hasher) × (tree.base ≡ peer.base) × (tree.format ≡ peer.format)
+    pub of_peer : IsTreeOf laws.cmp (laws.key_digest peer.hasher) peer.base tree.root (tree_map laws peer)
+    pub answers : IsReply laws.cmp laws.bytes_of encoding values (laws.key_digest tree.hasher) n peer.rows tree question reply
+    pub takes : IsNext laws n encoding values local before reply next
+
+  -- exchanges, one after the other, after the last of which the rows came
+  abbrev pub AreExchanges : Underway K V → List (Underway K V) → List (K × V) → Type 0
+  AreExchanges before [] rows = (came : Vec (K × V)) × IsExchange before (Came came) × (rows ≡ came.items)
+  AreExchanges before (next ∷ more) rows = (message : Vec ℕ) × IsExchange before (Ask next message) × AreExchanges next more rows
+
+  -- a session that begins with a question for the root, and in which the rows came
+  pub record IsSession (rows : List (K × V)) : Type 0 where
+    pub begun : Underway K V
+    pub settings : Settings K
+    pub more : List (Underway K V)
+    pub asks_root : begun.asked ≡ Root settings
+    pub nothing_found : begun.found ≡ nothing
+    pub exchanges : AreExchanges begun more rows

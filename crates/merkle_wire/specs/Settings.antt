@@ -4,9 +4,9 @@ use Rattle.std.specs.Global.{Vec}
 use Rattle.merkle_tree_theory.specs.State.{State}
 use Rattle.merkle_tree_theory.specs.declared.page_format.PageFormat.{PageFormat}
 use Rattle.merkle_tree_theory.specs.declared.page_format.PageFormat.TheVariants.{V1, V2}
-use Rattle.merkle_wire.specs.Counts.{count_bytes}
-use Rattle.merkle_wire.specs.Encodings.{string_encoding}
-use Rattle.merkle_wire.specs.Options.{option_bytes}
+use Rattle.merkle_bytes.specs.Counts.{count_bytes}
+use Rattle.merkle_bytes.specs.Encodings.{string_encoding}
+use Rattle.merkle_bytes.specs.Options.{option_bytes}
 use Rattle.merkle_wire.specs.declared.settings.Settings.{Settings}
 
 -- the byte of a page format

@@ -1,28 +1,38 @@
 //! The asking side: what to ask next, and the rows that came in the end.
-ghost use Rattle.std.specs.Prelude.{◌≡◌, ℕ, IfOk};
-ghost use Rattle.std.specs.List.{AllByRecursion};
+ghost use Rattle.std.specs.Prelude.{◌≡◌, ◌++◌, ◌≤◌, ℕ, List, Option, IfOk, OnOk};
 ghost use Rattle.key_order.specs.Map.{IsMap};
+ghost use Rattle.merkle_bytes.specs.Counts.{count_bytes};
+ghost use Rattle.merkle_bytes.specs.Options.{option_bytes};
+ghost use Rattle.merkle_replica.specs.Contents.{side};
 ghost use Rattle.merkle_tree_theory.specs.State.{SameSettings};
+ghost use Rattle.merkle_wire.specs.Found.{nothing};
+ghost use Rattle.merkle_wire.specs.Messages.{front};
+ghost use Rattle.merkle_wire.specs.Next.{AsksFew, GoesOn, IsAsked, IsCame, IsNext, OnlyAskedFor, rounds_with};
 ghost use Rattle.merkle_wire.specs.Questions.{question_bytes};
-ghost use Rattle.merkle_wire.specs.Sessions.{IsAsked, IsAtOneOf, IsCame, IsInOneOf, IsNext};
 ghost use Rattle.merkle_wire.specs.Settings.{AreSettingsOf};
+ghost use Rattle.merkle_wire.specs.Taking.{IsRootTaken};
+ghost use Rattle.merkle_wire.specs.Underway.{HasTaken};
+ghost use Rattle.merkle_wire.specs.declared.message.Kind.TheVariants.{Root as root_kind};
 ghost use Rattle.merkle_wire.specs.declared.question.Question.{Question as QuestionOf};
 ghost use Rattle.merkle_wire.specs.declared.question.Question.TheVariants.{Root};
 ghost use Rattle.merkle_wire.specs.declared.settings.Settings.{Settings as SettingsOf};
 
-use crate::decode::Decode;
-use crate::encode::Encode;
 use crate::gaps::OwnedGap;
-use crate::outlines::{Asking, take_outline};
+use crate::message::Kind;
+use crate::pages::decode_page;
 use crate::question::{Question, encode_question};
-use crate::replies::{begin_outlines, decode_root, decode_rows};
+use crate::replies::{expect, take_outlines, take_parts, take_values};
 use crate::session_error::SessionError;
 use crate::settings::settings_of;
-use crate::walks::{are_at, are_in, rows_ascend};
-use merkle_digest::{Hasher, Key};
-use merkle_replica::{Join, Replica};
+use crate::within::rows_ascend;
+use crate::work::Work;
+use merkle_bytes::{Decode, Reader};
+use merkle_digest::{Hasher, Key, PageDigest};
+use merkle_replica::{Join, Lawful, Replica};
 use merkle_search_tree::Gap;
 use std::alloc::{AllocError, Global};
+use std::cmp::Ordering;
+use std::marker::Model;
 
 /// How many rounds of outlines are asked for at most: a tree has at most 256 levels.
 const MOST_ROUNDS: u32 = 256;
@@ -31,67 +41,87 @@ const MOST_ROUNDS: u32 = 256;
 const FEWEST: u64 = 4;
 
 /// A catch-up that is under way: it waits for a reply.
+///
+/// A contract sees what was asked, what has been found, and how many rounds of outlines were asked for.
 #[derive(Drop)]
-pub struct CatchingUp<K> {
+pub struct CatchingUp<K, V> {
     alloc: Global,
     asked: Question<K>,
-    keys: Vec<K>,
+    work: Work<K, V>,
     rounds: u32,
+}
+
+impl<K, V> Model for CatchingUp<K, V> {
+    ghost use Rattle.std.specs.Prelude.{◌≤◌};
+    ghost use Rattle.merkle_wire.specs.Underway.{Underway};
+
+    ghost Value = { Underway K V };
+
+    ghost view = { λ s. record { asked = s.asked; found = s.work; rounds = s.rounds } };
+
+    ghost invariant = { λ s. s.rounds ≤ 256 };
 }
 
 /// What comes after a reply.
 #[derive(Drop)]
 pub enum Next<K, V> {
     /// This message is to be sent, and its reply to be given to the catch-up.
-    Ask(CatchingUp<K>, Vec<u8>),
-    /// The peer's rows that are to be joined have come, in ascending key order.
+    Ask(CatchingUp<K, V>, Vec<u8>),
+    /// The peer's rows that this side lacks, or has with another digest, in ascending key order: they are to be joined.
     Came(Vec<(K, V)>),
 }
 
-impl<K: Key + Decode> CatchingUp<K> {
+impl<K: Key + Decode, V: Join + Decode> CatchingUp<K, V> {
     /// A catch-up of a replica that begins, and the first message, which tells the replica's settings.
     ///
     /// # Errors
     ///
     /// Want of memory.
-    pub fn begin<V: Join, H: Hasher<N, K> + Hasher<N, V>, const N: usize>(
+    pub fn begin<H: Hasher<N, K> + Hasher<N, V>, const N: usize>(
         alloc: Global,
         replica: &Replica<K, V, H, N>,
     ) -> Result<(Self, Vec<u8>), AllocError>
         ensures settings { IfOk result (λ begun. (settings : SettingsOf K) × (begun.0.asked ≡ Root settings)
             × AreSettingsOf (⟦<H as Hasher<N, K>>⟧.digest_of replica.now.tree.hasher) N replica.now.tree settings) }
         ensures asks { IfOk result (λ begun. begun.1.items ≡ question_bytes K.encoding begun.0.asked) }
-        ensures rounds { IfOk result (λ begun. begun.0.rounds ≡ 0) }
+        ensures nothing { IfOk result (λ begun. (begun.0.found ≡ nothing) × (begun.0.rounds ≡ 0)) }
     {
-        let question = Question::Root(settings_of(alloc, replica)?);
-        let message = encode_question(alloc, &question)?;
+        let asked = Question::Root(settings_of(alloc, replica)?);
+        let message = encode_question(alloc, &asked)?;
         let session = CatchingUp {
             alloc,
-            asked: question,
-            keys: Vec::new(alloc),
+            asked,
+            work: Work::new(alloc),
             rounds: 0,
         };
         Ok((session, message))
     }
 
-    /// How many rounds of outlines were asked for.
+    /// How many rounds of outlines were asked for: 256 at most.
     pub fn rounds(&self) -> u32
         ensures { result ≡ self.now.rounds }
     {
         self.rounds
     }
 
-    /// Takes a reply. The replica keeps its rows; pages that lack a digest get it.
+    /// Takes a reply: what this side doesn't have of what came is added to what was found, and the next question is made of that, or the rows
+    /// are handed out where nothing is left to ask. The replica keeps its rows; pages that lack a digest get it.
+    ///
+    /// It looks up each key and each page that came, down one path of the tree, and takes memory in proportion to the bytes that came.
     ///
     /// # Errors
     ///
     /// [`SessionError`]
-    pub fn take<V: Join + Decode, H: Hasher<N, K> + Hasher<N, V>, const N: usize>(
+    pub fn take<H: Hasher<N, K> + Hasher<N, V>, const N: usize>(
         self,
         replica: &mut Replica<K, V, H, N>,
         reply: &[u8],
     ) -> Result<Next<K, V>, SessionError>
-        ensures next { IfOk result (IsNext K.cmp K.encoding self.rounds self.asked) }
+        ensures next { IfOk result (IsNext ⟦<H as Lawful<N, K, V>>⟧.laws N K.encoding V.encoding (side replica.old) self reply.now) }
+        ensures few { IfOk result AsksFew }
+
+        // What is added to the rows that were found lies in the gaps, or at the keys, that were asked for.
+        ensures asked_for { IfOk result (OnlyAskedFor K.cmp self) }
         ensures rows { replica.new.rows ≡ replica.old.rows }
         ensures settings { SameSettings replica.old.tree replica.new.tree }
     {
@@ -99,40 +129,99 @@ impl<K: Key + Decode> CatchingUp<K> {
         let CatchingUp {
             alloc,
             asked,
-            keys,
+            work,
             rounds,
         } = self;
-        match asked {
-            Question::Root(_) => take_root(alloc, replica, reply),
-            Question::Outlines(gaps) => take_outlines(alloc, replica, &gaps, keys, rounds, reply),
-            Question::RowsAt(keys) => take_rows_at(alloc, &keys, reply),
-            Question::RowsIn(gaps) => take_rows_in(alloc, &gaps, reply),
+        let mut work = work;
+        match take_reply(alloc, replica, asked, reply, &mut work)? {
+            Some(question) => ask(alloc, question, work, rounds),
+            None => go_on(alloc, work, rounds, N),
+        }
+    }
+}
+
+/// Takes a reply to a question, and answers what of it is to be asked again.
+fn take_reply<K: Key + Decode, V: Join + Decode, H: Hasher<N, K> + Hasher<N, V>, const N: usize>(
+    alloc: Global,
+    replica: &Replica<K, V, H, N>,
+    asked: Question<K>,
+    reply: &[u8],
+    work: &mut Work<K, V>,
+) -> Result<Option<Question<K>>, SessionError>
+    ensures { IfOk result (HasTaken ⟦<H as Lawful<N, K, V>>⟧.laws N K.encoding V.encoding (side replica.now) asked reply.now work.old work.new) }
+{
+    match asked {
+        Question::Root(_) => {
+            take_root(alloc, replica, reply, work)?;
+            Ok(None)
+        }
+        Question::Outlines(most, gaps) => {
+            let left = take_outlines(alloc, replica, Kind::Outlines, gaps, reply, work)?;
+            if left.is_empty() {
+                return Ok(None);
+            }
+            Ok(Some(Question::Outlines(most, left)))
+        }
+        Question::Nodes(most, gaps) => {
+            let left = take_outlines(alloc, replica, Kind::Nodes, gaps, reply, work)?;
+            if left.is_empty() {
+                return Ok(None);
+            }
+            Ok(Some(Question::Nodes(most, left)))
+        }
+        Question::RowsAt(keys) => {
+            let left = take_values(alloc, replica, keys, reply, work)?;
+            if left.is_empty() {
+                return Ok(None);
+            }
+            Ok(Some(Question::RowsAt(left)))
+        }
+        Question::RowsIn(gaps) => {
+            let left = take_parts(alloc, replica, gaps, reply, work)?;
+            if left.is_empty() {
+                return Ok(None);
+            }
+            Ok(Some(Question::RowsIn(left)))
         }
     }
 }
 
 /// Takes the number of the peer's rows and the digest of its root page.
-fn take_root<K: Key + Decode, V: Join + Drop, H: Hasher<N, K> + Hasher<N, V>, const N: usize>(
+fn take_root<K: Key + Decode, V: Join + Decode, H: Hasher<N, K> + Hasher<N, V>, const N: usize>(
     alloc: Global,
     replica: &Replica<K, V, H, N>,
     reply: &[u8],
-) -> Result<Next<K, V>, SessionError>
-    ensures { (rounds : ℕ) (asked : QuestionOf K) → IfOk result (IsNext K.cmp K.encoding rounds asked) }
+    work: &mut Work<K, V>,
+) -> Result<(), SessionError>
+    ensures { OnOk result ((count : ℕ) × (digest : Option (List ℕ))
+        × (reply.now ≡ (front root_kind ++ count_bytes count) ++ option_bytes (λ d. d) digest)
+        × IsRootTaken ⟦<H as Lawful<N, K, V>>⟧.laws (side replica.now) digest work.old work.new) }
 {
     let (rows, digest) = decode_root(alloc, reply)?;
     let Some(digest) = digest else {
-        return Ok(Next::Came(Vec::new(alloc)));
+        return Ok(());
     };
-    if replica.tree().has_page(&Gap::everywhere(), &digest) {
-        return Ok(Next::Came(Vec::new(alloc)));
+    if replica.has_page(&Gap::everywhere(), &digest) {
+        return Ok(());
     }
-    let mut gaps = Vec::new(alloc);
-    gaps.push(OwnedGap::everywhere())?;
     if has_few(replica.rows().len() as u64, rows) {
-        ask(alloc, Question::RowsIn(gaps), Vec::new(alloc), 0)
-    } else {
-        ask(alloc, Question::Outlines(gaps), Vec::new(alloc), 1)
+        work.add_whole(OwnedGap::everywhere())?;
+        return Ok(());
     }
+    work.add_below(OwnedGap::everywhere())?;
+    Ok(())
+}
+
+/// How many rows the peer has, and the digest of its root page, or none.
+fn decode_root(alloc: Global, reply: &[u8]) -> Result<(u64, Option<PageDigest>), SessionError>
+    ensures { IfOk result (λ root. reply.now ≡ (front root_kind ++ count_bytes root.0) ++ option_bytes (λ d. d) root.1) }
+{
+    let mut reader = Reader::new(alloc, reply);
+    expect(&mut reader, Kind::Root)?;
+    let rows = reader.count()?;
+    let digest = decode_page(&mut reader)?;
+    reader.end()?;
+    Ok((rows, digest))
 }
 
 /// Whether a replica with so many rows has few of those of a peer with so many: it asks for all then.
@@ -140,108 +229,77 @@ fn has_few(own: u64, count: u64) -> bool {
     own < count / FEWEST
 }
 
+/// Goes on where all that was asked for came: asks for what is found, or hands out the rows where there is nothing.
+fn go_on<K: Key + Decode, V: Join + Decode>(
+    alloc: Global,
+    work: Work<K, V>,
+    rounds: u32,
+    digest_bytes: usize,
+) -> Result<Next<K, V>, SessionError>
+    requires { rounds ≤ 256 }
+    ensures goes_on { IfOk result (GoesOn K.cmp K.encoding rounds work) }
+    ensures few { IfOk result AsksFew }
+{
+    let mut work = work;
+    match work.next_question(digest_bytes)? {
+        None => came(work.into_rows()),
+        Some(question) => {
+            let rounds = rounds_with(rounds, &question)?;
+            ask(alloc, question, work, rounds)
+        }
+    }
+}
+
+/// How many rounds of outlines there are with a question.
+fn rounds_with<K>(rounds: u32, question: &Question<K>) -> Result<u32, SessionError>
+    requires { rounds ≤ 256 }
+    ensures with { IfOk result (λ more. more ≡ rounds_with rounds question.now) }
+    ensures few { IfOk result (λ more. more ≤ 256) }
+{
+    match question {
+        Question::Outlines(_, _) => {
+            if rounds < MOST_ROUNDS {
+                return Ok(rounds + 1);
+            }
+            Err(SessionError::TooManyRounds)
+        }
+        _ => Ok(rounds),
+    }
+}
+
 /// Asks.
-fn ask<K: Encode + Drop, V>(
+fn ask<K: Key + Decode, V: Join + Decode>(
     alloc: Global,
     question: Question<K>,
-    keys: Vec<K>,
+    work: Work<K, V>,
     rounds: u32,
 ) -> Result<Next<K, V>, SessionError>
-    ensures { IfOk result (IsAsked K.encoding question rounds) }
+    requires { rounds ≤ 256 }
+    ensures asked { IfOk result (IsAsked K.encoding question work rounds) }
+    ensures few { IfOk result AsksFew }
 {
-    if rounds > MOST_ROUNDS {
-        return Err(SessionError::TooManyRounds);
-    }
     let message = encode_question(alloc, &question)?;
     let session = CatchingUp {
         alloc,
         asked: question,
-        keys,
+        work,
         rounds,
     };
     Ok(Next::Ask(session, message))
 }
 
-/// Takes the outlines over the gaps.
-fn take_outlines<K: Key + Decode, V: Join + Drop, H: Hasher<N, K> + Hasher<N, V>, const N: usize>(
-    alloc: Global,
-    replica: &Replica<K, V, H, N>,
-    gaps: &[OwnedGap<K>],
-    keys: Vec<K>,
-    rounds: u32,
-    reply: &[u8],
-) -> Result<Next<K, V>, SessionError>
-    ensures { (asked : QuestionOf K) → IfOk result (IsNext K.cmp K.encoding rounds asked) }
+/// The rows in ascending key order.
+fn came<K: Key + Decode, V: Join + Decode>(rows: Vec<(K, V)>) -> Result<Next<K, V>, SessionError>
+    ensures { IfOk result (IsCame K.cmp rows.items) }
 {
-    let mut reader = begin_outlines(alloc, reply, gaps.len())?;
-    let mut asking = Asking {
-        gaps: Vec::new(alloc),
-        keys,
-    };
-    'gaps: for gap in gaps {
-        take_outline(&mut reader, replica, gap, &mut asking)?;
+    let mut rows = rows;
+    rows.sort_by(
+        |a: &(K, V), b: &(K, V)| -> Ordering
+            ensures { result ≡ K.cmp a.now.0 b.now.0 }
+        { a.0.cmp(&b.0) },
+    )?;
+    if rows_ascend(&rows) {
+        return Ok(Next::Came(rows));
     }
-    reader.end()?;
-    go_on(alloc, asking, rounds)
-}
-
-/// Asks for the outlines that are left, or else for the rows at the keys.
-fn go_on<K: Ord + Encode + Drop, V>(
-    alloc: Global,
-    asking: Asking<K>,
-    rounds: u32,
-) -> Result<Next<K, V>, SessionError>
-    ensures { (asked : QuestionOf K) → IfOk result (IsNext K.cmp K.encoding rounds asked) }
-{
-    let Asking { gaps, keys } = asking;
-    if !gaps.is_empty() {
-        return ask(
-            alloc,
-            Question::Outlines(gaps),
-            keys,
-            rounds.saturating_add(1),
-        );
-    }
-    if keys.is_empty() {
-        return Ok(Next::Came(Vec::new(alloc)));
-    }
-    let mut keys = keys;
-    keys.sort()?;
-    ask(alloc, Question::RowsAt(keys), Vec::new(alloc), rounds)
-}
-
-/// Takes the rows at keys.
-fn take_rows_at<K: Decode + Ord, V: Decode>(
-    alloc: Global,
-    keys: &[K],
-    reply: &[u8],
-) -> Result<Next<K, V>, SessionError>
-    ensures { IfOk result (IsCame (λ rows. IsMap K.cmp rows × AllByRecursion (IsAtOneOf K.cmp keys.now) rows)) }
-{
-    let rows = decode_rows::<K, V>(alloc, reply)?;
-    if !rows_ascend(&rows) {
-        return Err(SessionError::NotAsked);
-    }
-    if !are_at(keys, &rows) {
-        return Err(SessionError::NotAsked);
-    }
-    Ok(Next::Came(rows))
-}
-
-/// Takes the rows in gaps.
-fn take_rows_in<K: Decode + Ord, V: Decode>(
-    alloc: Global,
-    gaps: &[OwnedGap<K>],
-    reply: &[u8],
-) -> Result<Next<K, V>, SessionError>
-    ensures { IfOk result (IsCame (λ rows. IsMap K.cmp rows × AllByRecursion (IsInOneOf K.cmp gaps.now) rows)) }
-{
-    let rows = decode_rows::<K, V>(alloc, reply)?;
-    if !rows_ascend(&rows) {
-        return Err(SessionError::NotAsked);
-    }
-    if !are_in(gaps, &rows) {
-        return Err(SessionError::NotAsked);
-    }
-    Ok(Next::Came(rows))
+    Err(SessionError::Twice)
 }

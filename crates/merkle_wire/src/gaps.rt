@@ -1,12 +1,11 @@
-//! Gaps with keys of their own, as their two bounds.
-ghost use Rattle.std.specs.Prelude.{◌≡◌};
-ghost use Rattle.merkle_search_tree.specs.Items.{gap_of};
-ghost use Rattle.merkle_wire.specs.Gaps.{owned_gap, gap_bytes, IsGap, gap_some, gap_told};
+//! Gaps with keys of their own.
+ghost use Rattle.std.specs.Prelude.{◌≡◌, IfOk};
+ghost use Rattle.merkle_search_tree.specs.Items.{bound_of, gap_of};
+ghost use Rattle.merkle_tree_theory.specs.Gap.{everywhere, SameBound, SameGap};
+ghost use Rattle.merkle_wire.specs.Gaps.{owned_gap, gap_behind, gap_key, IsGap, gap_some, gap_told};
 
-use crate::decode::Decode;
-use crate::encode::Encode;
-use crate::error::ReadError;
-use crate::reader::Reader;
+use merkle_bytes::{Decode, DecodeInRun, Encode, EncodeInRun, KeyRun, ReadError, Reader};
+use merkle_digest::Key;
 use merkle_search_tree::Gap;
 use std::alloc::AllocError;
 
@@ -21,7 +20,9 @@ pub struct OwnedGap<K> {
 
 impl<K> OwnedGap<K> {
     /// The gap that has all keys.
-    pub fn everywhere() -> Self {
+    pub fn everywhere() -> Self
+        ensures { owned_gap result ≡ everywhere }
+    {
         OwnedGap {
             after: None,
             before: None,
@@ -39,25 +40,54 @@ impl<K> OwnedGap<K> {
     }
 }
 
-/// The bytes of the bound that its keys are above, and those of the bound that they are below, each as an option.
-impl<K: Encode> Encode for OwnedGap<K> {
-    ghost encoding = { λ gap. gap_bytes K.encoding (owned_gap gap) };
-
-    fn encode(&self, bytes: &mut Vec<u8>) -> Result<(), AllocError> {
-        self.after.encode(bytes)?;
-        self.before.encode(bytes)
+impl<K: Key> OwnedGap<K> {
+    /// The gap between two bounds, with clones of their keys.
+    ///
+    /// # Errors
+    ///
+    /// Want of memory.
+    pub(crate) fn between(after: Option<&K>, before: Option<&K>) -> Result<Self, AllocError>
+        ensures { IfOk result (λ gap. SameGap K.cmp (record { after = bound_of after.entry; before = bound_of before.entry }) (owned_gap gap)) }
+    {
+        Ok(OwnedGap {
+            after: cloned(after)?,
+            before: cloned(before)?,
+        })
     }
 }
 
-impl<K: Decode> Decode for OwnedGap<K> {
-    ghost is_value = { λ gap. IsGap K.is_value (owned_gap gap) };
+/// A bound with a clone of its key.
+fn cloned<K: Key>(bound: Option<&K>) -> Result<Option<K>, AllocError>
+    ensures { IfOk result (SameBound K.cmp (bound_of bound.entry)) }
+{
+    match bound {
+        None => Ok(None),
+        Some(key) => Ok(Some(key.clone()?)),
+    }
+}
 
-    ghost some = { λ gap of. gap_some K.encoding K.is_value (owned_gap gap) of };
+/// The bound that its keys are above, and then the one that they are below.
+impl<K: Encode> EncodeInRun for OwnedGap<K> {
+    ghost bytes_behind = { λ last gap. gap_behind K.encoding last (owned_gap gap) };
 
-    ghost told = { λ a b. gap_told K.encoding K.is_value K.eq K.told (owned_gap a) (owned_gap b) };
+    ghost last_key = { λ last gap. gap_key K.encoding last (owned_gap gap) };
 
-    fn decode(reader: &mut Reader<'_>) -> Result<Self, ReadError> {
-        let (after, before) = <(Option<K>, Option<K>)>::decode(reader)?;
+    fn encode_behind(&self, run: &mut KeyRun, bytes: &mut Vec<u8>) -> Result<(), AllocError> {
+        self.after.encode_behind(run, bytes)?;
+        self.before.encode_behind(run, bytes)
+    }
+}
+
+impl<K: Decode> DecodeInRun for OwnedGap<K> {
+    ghost is_entry = { λ gap. IsGap K.is_value (owned_gap gap) };
+
+    ghost some = { λ last gap. gap_some K.encoding last (owned_gap gap) };
+
+    ghost told = { λ last a b. gap_told K.encoding K.eq K.told last (owned_gap a) (owned_gap b) };
+
+    fn decode_behind(run: &mut KeyRun, reader: &mut Reader<'_>) -> Result<Self, ReadError> {
+        let after = Option::<K>::decode_behind(run, reader)?;
+        let before = Option::<K>::decode_behind(run, reader)?;
         Ok(OwnedGap { after, before })
     }
 }

@@ -1,19 +1,51 @@
-//! Laws over the definitions alone. Each function has no effect and takes no memory.
-ghost use Rattle.std.specs.Prelude.{◌≡◌, ◌++◌, ◌<◌, ◌^◌, ℕ, List, length, true};
-ghost use Rattle.std.specs.List.{AllByRecursion};
-ghost use Rattle.merkle_wire.specs.Counts.{count_bytes};
-ghost use Rattle.merkle_wire.specs.Encodings.{list_bytes, SameLists};
+//! Laws over the definitions alone: that a session of messages is a catch-up, whatever carries the messages, and when digests are faithful in
+//! one. Each function has no effect and takes no memory.
+ghost use Rattle.std.specs.Prelude.{◌≡◌, List, map};
+ghost use Rattle.key_order.specs.Map.{IsMap};
+ghost use Rattle.key_order.specs.Join.{IsJoin};
+ghost use Rattle.merkle_replica.specs.CatchUp.{IsCatchUp};
+ghost use Rattle.merkle_replica.specs.Contents.{Side};
+ghost use Rattle.merkle_replica.specs.Faithful.{AreSetAlike, HasSmallMap, IsCollisionFree};
+ghost use Rattle.merkle_tree_theory.specs.declared.page_format.PageFormat.TheVariants.{V2};
+ghost use Rattle.merkle_wire.specs.Sessions.{IsSession, AreBrought, IsFaithfulSession, GiveOneDigest, NoNodesCollide};
 
-use crate::decode::Decode;
+use merkle_bytes::Decode;
+use merkle_digest::{Hasher, Key, KeyBytesExact};
+use merkle_replica::laws::no_collision_is_enough;
+use merkle_replica::{Join, Lawful};
+use merkle_search_tree::laws::a_map_has_one_tree;
 
-/// Bytes that begin with those of a list tell its entries, up to `==`, and where it ends: two lists with the same bytes have equal entries, place
-/// by place.
-pub fn bytes_tell_lists<T: Decode>()
-    ensures { (xs ys : List T) (r s all : List ℕ) → AllByRecursion T.is_value xs → AllByRecursion T.is_value ys → length all < 2 ^ 64
-        → all ≡ list_bytes T.encoding xs ++ r → all ≡ list_bytes T.encoding ys ++ s → SameLists (λ x y. T.eq x y ≡ true) xs ys × (r ≡ s) }
-{}
+/// A session of messages is a catch-up, whatever carries the messages: where the first of them asks for the root, each is answered as
+/// [`answer`](crate::answer) does, and each reply taken as [`CatchingUp::take`](crate::CatchingUp::take) does, until rows come. These ascend, each is one
+/// of the peer's that this side lacks or has with another digest, and while digests are faithful they are all that it lacks. To join them is
+/// a catch-up then, and leaves the join of both sides' rows. That the peer's map is small says
+/// [`a_replica_in_memory_is_small`](merkle_replica::laws::a_replica_in_memory_is_small).
+pub fn a_session_is_a_catch_up<
+    K: Key + Decode,
+    V: Join + Decode,
+    H: Hasher<N, K> + Hasher<N, V>,
+    const N: usize,
+>()
+    ensures brings { let laws = ⟦<H as Lawful<N, K, V>>⟧.laws in (local peer : Side K V H) (rows : List (K × V)) → IsMap K.cmp local.rows → IsMap K.cmp peer.rows
+        → HasSmallMap laws N peer → IsSession laws N K.encoding V.encoding local peer rows → AreBrought laws local peer rows }
+    ensures catch_up { let laws = ⟦<H as Lawful<N, K, V>>⟧.laws in (local peer : Side K V H) (rows after : List (K × V)) → IsMap K.cmp peer.rows → AreBrought laws local peer rows
+        → IsJoin K.cmp V.eq V.join_of local.rows rows after → IsFaithfulSession laws local peer → IsCatchUp laws local peer (map (λ r. r.0) rows) after }
+    ensures joins { let laws = ⟦<H as Lawful<N, K, V>>⟧.laws in (local peer : Side K V H) (rows after : List (K × V)) → IsMap K.cmp peer.rows → AreBrought laws local peer rows
+        → IsJoin K.cmp V.eq V.join_of local.rows rows after → IsFaithfulSession laws local peer → IsJoin K.cmp V.eq V.join_of local.rows peer.rows after }
+{
+    a_map_has_one_tree::<K, H, N>();
+}
 
-/// Bytes that begin with those of a count tell it, and where it ends: a count has one spelling.
-pub fn bytes_tell_counts()
-    ensures { (m n : ℕ) (r s : List ℕ) → count_bytes m ++ r ≡ count_bytes n ++ s → (m ≡ n) × (r ≡ s) }
-{}
+/// In page format 2, where the bytes of a key tell it from every other, it is premise enough for faithful digests in a session that no streams
+/// of pages, no values and no nodes of pages collide. It holds of any two sides that are alike: one digest a key and a value, one level base.
+pub fn no_collision_makes_a_session_faithful<
+    K: Ord + KeyBytesExact,
+    V: Join,
+    H: Hasher<N, K> + Hasher<N, V>,
+    const N: usize,
+>()
+    ensures { let laws = ⟦<H as Lawful<N, K, V>>⟧.laws in (a b : Side K V H) → AreSetAlike laws a b → GiveOneDigest laws a b → a.format ≡ V2
+        → IsCollisionFree laws N a b → NoNodesCollide laws a b → IsFaithfulSession laws a b }
+{
+    no_collision_is_enough::<K, V, H, N>();
+}

@@ -2,40 +2,35 @@
 #![tactic(auto)]
 
 mod answering;
-mod byte_strings;
 mod catching_up;
-mod counts;
-mod decode;
-mod encode;
-mod error;
 mod gaps;
 pub mod laws;
-mod lists;
 mod message;
-mod numbers;
-mod options;
-mod outline_items;
+mod nodes;
 mod outlines;
-mod page_ranges;
-mod pairs;
+mod pages;
 mod question;
-mod reader;
 mod replies;
+mod rows_at;
 mod rows_in;
+mod session;
 mod session_error;
 mod settings;
-mod walks;
+mod sifting;
+mod taking;
+mod wanted;
+mod within;
+mod work;
 
-pub use answering::{AnswerError, answer};
+pub use answering::{AnswerError, MOST_BYTES, answer, answer_within};
 pub use catching_up::{CatchingUp, Next};
-pub use counts::encode_count;
-pub use decode::Decode;
-pub use encode::Encode;
-pub use error::{Expected, ReadError};
 pub use gaps::OwnedGap;
-pub use lists::{decode_list, encode_list};
+pub use merkle_bytes as bytes;
 pub use message::{Kind, refusal};
-pub use question::{Question, decode_question, encode_question};
-pub use reader::Reader;
+pub use question::{Question, decode_question};
+pub use session::{
+    BothMessagesError, MessagesError, catch_up_both_by_messages, catch_up_by_messages,
+};
 pub use session_error::SessionError;
 pub use settings::Settings;
+pub use wanted::Wanted;

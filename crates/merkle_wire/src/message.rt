@@ -1,11 +1,10 @@
 //! What stands at the front of each message: the version, and the kind of the message.
 ghost use Rattle.std.specs.Prelude.{◌≡◌, ◌≢◌, ◌++◌, ◌∷◌, [], ℕ, List, IfOk, IfErr, MatchOption, Some};
 ghost use Rattle.merkle_wire.specs.Messages.{kind_byte, front};
-ghost use Rattle.merkle_wire.specs.Refusals.{IsMalformed, IsRefusal};
+ghost use Rattle.merkle_bytes.specs.Refusals.{IsMalformed, IsRefusal};
 ghost use Rattle.merkle_wire.specs.declared.message.Kind.{Kind as KindOf};
 
-use crate::error::{Expected, ReadError};
-use crate::reader::Reader;
+use merkle_bytes::{Expected, ReadError, Reader};
 use std::alloc::{AllocError, Global};
 
 /// The version of the messages.
@@ -16,18 +15,24 @@ const VERSION: u8 = 1;
 pub enum Kind {
     /// The asking side wants the number of rows and the digest of the root page.
     AskRoot,
-    /// It wants the outlines over these gaps.
+    /// It wants the outlines of the pages over these gaps.
     AskOutlines,
-    /// It wants the rows at these keys.
+    /// It wants the nodes of the pages over these gaps.
+    AskNodes,
+    /// It wants the values at these keys.
     AskRowsAt,
     /// It wants the rows in these gaps.
     AskRowsIn,
     /// The number of rows, and the digest of the root page, or none.
     Root,
-    /// An outline for each gap.
+    /// An outline for each gap, or for the first of them.
     Outlines,
-    /// Rows.
-    Rows,
+    /// The nodes of the page over each gap, or over the first of them.
+    Nodes,
+    /// The value at each key, or at the first of them.
+    RowsAt,
+    /// The rows in each gap, or the first of them.
+    RowsIn,
     /// The answering side refuses.
     Refusal,
 }
@@ -39,11 +44,14 @@ fn byte_of(kind: Kind) -> u8
     match kind {
         Kind::AskRoot => 1,
         Kind::AskOutlines => 2,
-        Kind::AskRowsAt => 3,
-        Kind::AskRowsIn => 4,
+        Kind::AskNodes => 3,
+        Kind::AskRowsAt => 4,
+        Kind::AskRowsIn => 5,
         Kind::Root => 129,
         Kind::Outlines => 130,
-        Kind::Rows => 131,
+        Kind::Nodes => 131,
+        Kind::RowsAt => 132,
+        Kind::RowsIn => 133,
         Kind::Refusal => 255,
     }
 }
@@ -55,11 +63,14 @@ fn kind_of(byte: u8) -> Option<Kind>
     match byte {
         1 => Some(Kind::AskRoot),
         2 => Some(Kind::AskOutlines),
-        3 => Some(Kind::AskRowsAt),
-        4 => Some(Kind::AskRowsIn),
+        3 => Some(Kind::AskNodes),
+        4 => Some(Kind::AskRowsAt),
+        5 => Some(Kind::AskRowsIn),
         129 => Some(Kind::Root),
         130 => Some(Kind::Outlines),
-        131 => Some(Kind::Rows),
+        131 => Some(Kind::Nodes),
+        132 => Some(Kind::RowsAt),
+        133 => Some(Kind::RowsIn),
         255 => Some(Kind::Refusal),
         _ => None,
     }

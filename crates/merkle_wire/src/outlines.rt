@@ -1,145 +1,189 @@
-//! An outline that came, read item by item: the gaps and keys that it leaves to ask for.
-use crate::decode::Decode;
+//! What the answering side tells of pages.
+ghost use Rattle.std.specs.Prelude.{◌≡◌, ◌++◌, ◌<◌, ◌∷◌, [], true, false, List, IfOk, OnOk, IsSome, IsTrue, length, None};
+ghost use Rattle.merkle_bytes.specs.Runs.{bound_key};
+ghost use Rattle.merkle_search_tree.specs.Items.{items};
+ghost use Rattle.merkle_wire.specs.Messages.{front};
+ghost use Rattle.merkle_wire.specs.Nodes.{node_pairs};
+ghost use Rattle.merkle_wire.specs.Outlines.{Outline, IsTold, HasNoPage, outline_bytes, keys_told, keys_among, nodes_digest, pages_beside, pages_bytes};
+ghost use Rattle.merkle_wire.specs.Replies.{Answers, items_over, outlines_bytes};
+ghost use Rattle.merkle_wire.specs.declared.gaps.OwnedGap.{OwnedGap as OwnedGapOf};
+
 use crate::gaps::OwnedGap;
-use crate::reader::Reader;
-use crate::rows_in::{is_after, is_before};
-use crate::session_error::SessionError;
+use crate::nodes::{NodeRef, encode_keys, nodes_digest, nodes_of, write_nodes};
+use crate::pages::encode_page;
+use merkle_bytes::{Decode, Encode, KeyRun};
 use merkle_digest::{Hasher, Key, PageDigest};
 use merkle_replica::{Join, Replica};
-use merkle_search_tree::Gap;
-use std::alloc::AllocError;
+use merkle_search_tree::OutlineItem;
+use std::alloc::{AllocError, Global};
 
-/// What a peer is still to be asked for.
-#[derive(Drop)]
-pub(crate) struct Asking<K> {
-    /// The gaps of its pages that this side doesn't have.
-    pub(crate) gaps: Vec<OwnedGap<K>>,
-    /// Its keys that this side lacks, or has with another digest.
-    pub(crate) keys: Vec<K>,
+/// How many bytes stand at the front of a message.
+const FRONT: usize = 2;
+
+/// What is told of pages.
+#[derive(Clone, Copy, Drop)]
+pub(crate) struct Telling {
+    /// Whether the pages below them are told too.
+    pub(crate) with_pages: bool,
+    /// How many bytes values may have, on average, for rows to be told in place of digests.
+    pub(crate) most: u64,
+    /// How many bytes a reply has at which it ends.
+    pub(crate) most_bytes: usize,
 }
 
-/// What stands before the items of an outline that are still to come.
-#[derive(Drop)]
-struct Before<K> {
-    /// The key of the last node, or the bound of the gap that is outlined.
-    after: Option<K>,
-    /// The page behind that, whose gap ends at the next node, or with the gap that is outlined.
-    page: Option<PageDigest>,
-    /// Whether there was a node.
-    some: bool,
-}
-
-/// Takes the outline over a gap.
-pub(crate) fn take_outline<
-    K: Key + Decode,
-    V: Join + Drop,
+/// Adds what is told of the pages over the gaps to a message, one behind the other, as far as the bytes suffice.
+pub(crate) fn tell_pages<
+    K: Key + Encode + Drop,
+    V: Join + Encode + Drop,
     H: Hasher<N, K> + Hasher<N, V>,
     const N: usize,
 >(
-    reader: &mut Reader<'_>,
     replica: &Replica<K, V, H, N>,
-    gap: &OwnedGap<K>,
-    asking: &mut Asking<K>,
-) -> Result<(), SessionError> {
-    let count = reader.count()?;
-    let mut before = Before {
-        after: copy_of(&gap.after)?,
-        page: None,
-        some: false,
-    };
-    'items: for _done in 0..count {
-        before = take_item(reader, replica, gap, asking, before)?;
-    }
-    if count != 0 && !before.some {
-        return Err(SessionError::NoNode);
-    }
-    take_page(replica, &before, gap.before.as_ref(), asking)
-}
-
-/// Takes the next item.
-fn take_item<K: Key + Decode, V: Join + Drop, H: Hasher<N, K> + Hasher<N, V>, const N: usize>(
-    reader: &mut Reader<'_>,
-    replica: &Replica<K, V, H, N>,
-    gap: &OwnedGap<K>,
-    asking: &mut Asking<K>,
-    before: Before<K>,
-) -> Result<Before<K>, SessionError> {
-    if reader.flag()? {
-        if before.page.is_some() {
-            return Err(SessionError::TwoPages);
+    telling: Telling,
+    gaps: &[OwnedGap<K>],
+    begun: Vec<u8>,
+) -> Result<Vec<u8>, AllocError>
+    requires hashed { IsSome replica.now.tree.root_hash }
+    requires front { length begun.items ≡ 2 }
+    ensures { IfOk result (λ bytes. (told : List (OwnedGapOf K × Outline K V)) × (bytes.items ≡ begun.items ++ outlines_bytes K.encoding V.encoding told)
+        × Answers (λ g. IsTold K.cmp replica.now.rows telling.with_pages (items_over K.cmp K.bytes_of replica.now.tree g)) gaps.now told) }
+{
+    let mut bytes = begun;
+    'gaps: for gap in gaps {
+        if is_full(&bytes, telling.most_bytes) {
+            return Ok(bytes);
         }
-        let digest = PageDigest::new(reader.array::<16>()?);
-        return Ok(Before {
-            after: before.after,
-            page: Some(digest),
-            some: before.some,
-        });
+        tell_page(replica, telling, gap, &mut bytes)?;
     }
-    let key = K::decode(reader)?;
-    let digest = reader.slice(N)?;
-    if !is_after(&key, &before.after) || !is_before(&key, &gap.before) {
-        return Err(SessionError::NotInGap);
-    }
-    take_page(replica, &before, Some(&key), asking)?;
-    if !has_digest(replica, &key, digest) {
-        asking.keys.push(key.clone()?)?;
-    }
-    Ok(Before {
-        after: Some(key),
-        page: None,
-        some: true,
-    })
+    Ok(bytes)
 }
 
-/// Asks for the page before a key, or before the end of the gap, where there is one that this side doesn't have.
-fn take_page<K: Key + Drop, V: Join + Drop, H: Hasher<N, K> + Hasher<N, V>, const N: usize>(
+/// Whether a message that has an entry has as many bytes as it may have.
+pub(crate) fn is_full(bytes: &[u8], most: usize) -> bool
+    ensures { IsTrue result → 2 < length bytes.now }
+{
+    bytes.len() > FRONT && bytes.len() >= most
+}
+
+/// Writes what is told of the page over a gap.
+fn tell_page<
+    K: Key + Encode + Drop,
+    V: Join + Encode + Drop,
+    H: Hasher<N, K> + Hasher<N, V>,
+    const N: usize,
+>(
     replica: &Replica<K, V, H, N>,
-    before: &Before<K>,
-    end: Option<&K>,
-    asking: &mut Asking<K>,
-) -> Result<(), SessionError> {
-    let Some(digest) = &before.page else {
-        return Ok(());
-    };
-    let gap = Gap {
-        after: before.after.as_ref(),
-        before: end,
-    };
-    if !replica.tree().has_page(&gap, digest) {
-        asking.gaps.push(owned(&gap)?)?;
-    }
+    telling: Telling,
+    gap: &OwnedGap<K>,
+    bytes: &mut Vec<u8>,
+) -> Result<(), AllocError>
+    requires { IsSome replica.now.tree.root_hash }
+    ensures { OnOk result ((told : Outline K V) × IsTold K.cmp replica.now.rows telling.with_pages (items_over K.cmp K.bytes_of replica.now.tree gap.now) told
+        × (bytes.new.items ≡ bytes.old.items ++ outline_bytes K.encoding V.encoding (bound_key K.encoding [] gap.now.after) told)) }
+{
+    let list = outline_over(replica, gap)?;
+    let mut run = KeyRun::behind(replica.alloc(), gap.after.as_ref())?;
+    tell_items(replica, telling, &list, &mut run, bytes)?;
     Ok(())
 }
 
-/// The gap with keys of its own.
-fn owned<K: Key>(gap: &Gap<'_, K>) -> Result<OwnedGap<K>, AllocError> {
-    Ok(OwnedGap {
-        after: owned_bound(gap.after)?,
-        before: owned_bound(gap.before)?,
-    })
-}
-
-/// The bound with a key of its own.
-fn owned_bound<K: Key>(bound: Option<&K>) -> Result<Option<K>, AllocError> {
-    match bound {
-        None => Ok(None),
-        Some(key) => Ok(Some(key.clone()?)),
+/// The items of the page over a gap.
+fn outline_over<'a, K: Key + Drop, V: Join + Drop, H: Hasher<N, K> + Hasher<N, V>, const N: usize>(
+    replica: &'a Replica<K, V, H, N>,
+    gap: &'a OwnedGap<K>,
+) -> Result<Vec<OutlineItem<'a, N, K>>, AllocError>
+    requires { IsSome replica.now.tree.root_hash }
+    ensures { IfOk result (λ list. items list.items ≡ items_over K.cmp K.bytes_of replica.now.tree gap.now) }
+{
+    match replica.tree().outline(gap.as_gap())? {
+        Some(list) => Ok(list),
+        None => unreachable!(),
     }
 }
 
-/// A copy of a bound.
-fn copy_of<K: Key>(bound: &Option<K>) -> Result<Option<K>, AllocError> {
-    owned_bound(bound.as_ref())
-}
-
-/// Whether the key is there with this digest of its value.
-fn has_digest<K: Key, V: Join, H: Hasher<N, K> + Hasher<N, V>, const N: usize>(
+/// Writes what is told of a page with these items.
+fn tell_items<
+    K: Key + Encode + Drop,
+    V: Join + Encode + Drop,
+    H: Hasher<N, K> + Hasher<N, V>,
+    const N: usize,
+>(
     replica: &Replica<K, V, H, N>,
-    key: &K,
-    digest: &[u8],
-) -> bool {
-    match replica.tree().value_hash(key) {
-        Some(own) => own.as_bytes().as_slice() == digest,
-        None => false,
+    telling: Telling,
+    list: &[OutlineItem<'_, N, K>],
+    run: &mut KeyRun,
+    bytes: &mut Vec<u8>,
+) -> Result<(), AllocError>
+    ensures { OnOk result ((told : Outline K V) × IsTold K.cmp replica.now.rows telling.with_pages (items list.now) told
+        × (bytes.new.items ≡ bytes.old.items ++ outline_bytes K.encoding V.encoding run.old told)) }
+{
+    let nodes = nodes_of(replica.alloc(), list)?;
+    if are_told(telling.with_pages, list) {
+        write_page(list, &nodes, run, bytes)?;
+        Ok(())
+    } else {
+        write_nodes(replica, &nodes, telling.most, run, bytes)?;
+        Ok(())
     }
+}
+
+/// Whether pages below are to be told and there are some.
+fn are_told<K, const N: usize>(with_pages: bool, list: &[OutlineItem<'_, N, K>]) -> bool
+    ensures told { IsTrue result → with_pages ≡ true }
+    ensures alone { result ≡ false → with_pages ≡ true → HasNoPage (items list.now) }
+{
+    if with_pages {
+        return has_page(list);
+    }
+    false
+}
+
+/// Whether there is a page among the items.
+fn has_page<K, const N: usize>(list: &[OutlineItem<'_, N, K>]) -> bool
+    ensures { result ≡ false → HasNoPage (items list.now) }
+{
+    'items: for item in list {
+        if let OutlineItem::Page(_, _) = item {
+            return true;
+        }
+    }
+    false
+}
+
+/// Writes a page: a byte 2, the digest of its nodes, its keys, and the digest of the page before each of them and of that behind the last.
+fn write_page<K: Encode, const N: usize>(
+    list: &[OutlineItem<'_, N, K>],
+    nodes: &[NodeRef<'_, N, K>],
+    run: &mut KeyRun,
+    bytes: &mut Vec<u8>,
+) -> Result<(), AllocError>
+    ensures { OnOk result (bytes.new.items ≡ bytes.old.items ++ 2 ∷ (nodes_digest (node_pairs nodes.now)
+        ++ (keys_told K.encoding run.old (keys_among (node_pairs nodes.now)) ++ pages_bytes (pages_beside None (items list.now))))) }
+{
+    bytes.extend_from_slice(&[2])?;
+    bytes.extend_from_slice(&nodes_digest(nodes))?;
+    encode_keys(nodes, run, bytes)?;
+    encode_pages(list, bytes)?;
+    Ok(())
+}
+
+/// Writes the digest of the page before each node, and of that behind the last.
+fn encode_pages<K, const N: usize>(
+    list: &[OutlineItem<'_, N, K>],
+    bytes: &mut Vec<u8>,
+) -> Result<(), AllocError>
+    ensures { OnOk result (bytes.new.items ≡ bytes.old.items ++ pages_bytes (pages_beside None (items list.now))) }
+{
+    let mut page = None;
+    'items: for item in list {
+        match item {
+            OutlineItem::Page(_, digest) => page = Some(*digest),
+            OutlineItem::Node(_, _) => {
+                encode_page(page, bytes)?;
+                page = None;
+            }
+        }
+    }
+    encode_page(page, bytes)?;
+    Ok(())
 }

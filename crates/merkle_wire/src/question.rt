@@ -1,21 +1,18 @@
 //! What the asking side asks for, as messages.
-ghost use Rattle.std.specs.Prelude.{◌≡◌, ◌≢◌, ◌++◌, List, IfOk, IfErr};
-ghost use Rattle.std.specs.List.{AllByRecursion};
-ghost use Rattle.merkle_wire.specs.Encodings.{list_bytes};
+ghost use Rattle.std.specs.Prelude.{◌≡◌, ◌++◌, IfOk, []};
+ghost use Rattle.merkle_bytes.specs.Counts.{count_bytes};
+ghost use Rattle.merkle_bytes.specs.Runs.{run_bytes};
 ghost use Rattle.merkle_wire.specs.Messages.{front};
-ghost use Rattle.merkle_wire.specs.Questions.{question_bytes};
-ghost use Rattle.merkle_wire.specs.Refusals.{IsMalformed, IsRefusal};
-ghost use Rattle.merkle_wire.specs.Settings.{settings_bytes};
-ghost use Rattle.merkle_wire.specs.declared.message.Kind.TheVariants.{AskRoot};
+ghost use Rattle.merkle_wire.specs.Questions.{question_bytes, gaps_bytes};
 
-use crate::decode::Decode;
-use crate::encode::Encode;
-use crate::error::{Expected, ReadError};
 use crate::gaps::OwnedGap;
-use crate::lists::{decode_list, encode_list};
 use crate::message::{Kind, begin, decode_kind};
-use crate::reader::Reader;
 use crate::settings::{Settings, decode_settings, encode_settings};
+use crate::wanted::Wanted;
+use merkle_bytes::{
+    Decode, DecodeInRun, Encode, EncodeInRun, Expected, KeyRun, ReadError, Reader, decode_run,
+    encode_count, encode_run,
+};
 use std::alloc::{AllocError, Global};
 
 /// What the asking side asks for.
@@ -23,10 +20,13 @@ use std::alloc::{AllocError, Global};
 pub enum Question<K> {
     /// How many rows there are, and the digest of the root page, where the peer has these settings.
     Root(Settings<K>),
-    /// The outlines over these gaps.
-    Outlines(Vec<OwnedGap<K>>),
+    /// The outlines of the pages over these gaps. Of a page without pages below it the rows are sent in place of the digests of their
+    /// values, where the values have so many bytes at most, on average.
+    Outlines(u64, Vec<OwnedGap<K>>),
+    /// The nodes of the pages over these gaps: as rows, where their values have so many bytes at most, on average, else as digests.
+    Nodes(u64, Vec<OwnedGap<K>>),
     /// The rows at these keys.
-    RowsAt(Vec<K>),
+    RowsAt(Vec<Wanted<K>>),
     /// The rows in these gaps.
     RowsIn(Vec<OwnedGap<K>>),
 }
@@ -36,39 +36,50 @@ pub enum Question<K> {
 /// # Errors
 ///
 /// Want of memory.
-pub fn encode_question<K: Encode>(
+pub(crate) fn encode_question<K: Encode>(
     alloc: Global,
     question: &Question<K>,
 ) -> Result<Vec<u8>, AllocError>
     ensures { IfOk result (λ message. message.items ≡ question_bytes K.encoding question.now) }
 {
     match question {
-        Question::Root(settings) => root_question(alloc, settings),
-        Question::Outlines(gaps) => with_list(alloc, Kind::AskOutlines, gaps),
-        Question::RowsAt(keys) => with_list(alloc, Kind::AskRowsAt, keys),
-        Question::RowsIn(gaps) => with_list(alloc, Kind::AskRowsIn, gaps),
+        Question::Root(settings) => {
+            let mut message = begin(alloc, Kind::AskRoot)?;
+            encode_settings(settings, &mut message)?;
+            Ok(message)
+        }
+        Question::Outlines(most, gaps) => with_most(alloc, Kind::AskOutlines, *most, gaps),
+        Question::Nodes(most, gaps) => with_most(alloc, Kind::AskNodes, *most, gaps),
+        Question::RowsAt(keys) => with_run(alloc, begin(alloc, Kind::AskRowsAt)?, keys),
+        Question::RowsIn(gaps) => with_run(alloc, begin(alloc, Kind::AskRowsIn)?, gaps),
     }
 }
 
-/// The message that asks what there is in all.
-fn root_question<K: Encode>(alloc: Global, settings: &Settings<K>) -> Result<Vec<u8>, AllocError>
-    ensures { IfOk result (λ message. message.items ≡ front AskRoot ++ settings_bytes K.encoding settings.now) }
-{
-    let mut message = begin(alloc, Kind::AskRoot)?;
-    encode_settings(settings, &mut message)?;
-    Ok(message)
-}
-
-/// A message of a kind and a list.
-pub(crate) fn with_list<T: Encode>(
+/// A message of a kind, a count and gaps.
+fn with_most<K: Encode>(
     alloc: Global,
     kind: Kind,
-    list: &[T],
+    most: u64,
+    gaps: &[OwnedGap<K>],
 ) -> Result<Vec<u8>, AllocError>
-    ensures { IfOk result (λ message. message.items ≡ front kind ++ list_bytes T.encoding list.now) }
+    ensures { IfOk result (λ message. message.items ≡ (front kind ++ count_bytes most) ++ gaps_bytes K.encoding gaps.now) }
 {
     let mut message = begin(alloc, kind)?;
-    encode_list(list, &mut message)?;
+    encode_count(most, &mut message)?;
+    with_run(alloc, message, gaps)
+}
+
+/// A message that goes on with a list.
+fn with_run<T: EncodeInRun>(
+    alloc: Global,
+    begun: Vec<u8>,
+    list: &[T],
+) -> Result<Vec<u8>, AllocError>
+    ensures { IfOk result (λ message. message.items ≡ begun.items ++ run_bytes T.bytes_behind T.last_key [] list.now) }
+{
+    let mut message = begun;
+    let mut run = KeyRun::new(alloc);
+    encode_run(list, &mut run, &mut message)?;
     Ok(message)
 }
 
@@ -87,22 +98,27 @@ pub fn decode_question<K: Decode>(alloc: Global, message: &[u8]) -> Result<Quest
             reader.end()?;
             Ok(Question::Root(settings))
         }
-        Kind::AskOutlines => Ok(Question::Outlines(last_list(reader)?)),
-        Kind::AskRowsAt => Ok(Question::RowsAt(last_list(reader)?)),
-        Kind::AskRowsIn => Ok(Question::RowsIn(last_list(reader)?)),
+        Kind::AskOutlines => {
+            let most = reader.count()?;
+            Ok(Question::Outlines(most, last_run(reader)?))
+        }
+        Kind::AskNodes => {
+            let most = reader.count()?;
+            Ok(Question::Nodes(most, last_run(reader)?))
+        }
+        Kind::AskRowsAt => Ok(Question::RowsAt(last_run(reader)?)),
+        Kind::AskRowsIn => Ok(Question::RowsIn(last_run(reader)?)),
         _ => Err(reader.unexpected(Expected::Question)),
     }
 }
 
-/// The list that is left, with nothing behind it.
-pub(crate) fn last_list<T: Decode>(reader: Reader<'_>) -> Result<Vec<T>, ReadError>
-    ensures read { IfOk result (λ list. reader.entry.left.now ≡ list_bytes T.encoding list.items) }
-    ensures values { IfOk result (λ list. AllByRecursion T.is_value list.items) }
-    ensures refused { IfErr result (IsRefusal reader.entry.total reader.entry.left.now) }
-    ensures malformed { IfErr result (λ error. IsMalformed error → (list : List T) → AllByRecursion T.is_value list → reader.entry.left.now ≢ list_bytes T.encoding list) }
+/// The list that the rest of a message is.
+fn last_run<T: DecodeInRun>(reader: Reader<'_>) -> Result<Vec<T>, ReadError>
+    ensures { IfOk result (λ list. reader.entry.left.now ≡ run_bytes T.bytes_behind T.last_key [] list.items) }
 {
     let mut reader = reader;
-    let list = decode_list(&mut reader)?;
+    let mut run = KeyRun::new(reader.alloc());
+    let list = decode_run(&mut run, &mut reader)?;
     reader.end()?;
     Ok(list)
 }

@@ -1,72 +1,191 @@
-//! Replies, read from their bytes.
-use crate::decode::Decode;
-use crate::lists::decode_list;
+//! Replies that came, read entry by entry: each answers the first of what was asked for, or all of it.
+ghost use Rattle.std.specs.Prelude.{◌≡◌, ◌≢◌, ◌++◌, ◌≤◌, [], List, IfOk, OnOk, length, map, flat_map, take};
+ghost use Rattle.std.specs.List.{AllByRecursion};
+ghost use Rattle.merkle_replica.specs.Contents.{side};
+ghost use Rattle.merkle_wire.specs.Coming.{AscendIn, LiesIn};
+ghost use Rattle.merkle_wire.specs.Gaps.{owned_gap};
+ghost use Rattle.merkle_wire.specs.Messages.{front};
+ghost use Rattle.merkle_wire.specs.Outlines.{Outline};
+ghost use Rattle.merkle_wire.specs.Replies.{Part, outlines_bytes, parts_bytes};
+ghost use Rattle.merkle_wire.specs.Taking.{AddsRows, AreBehind, AreTaken};
+ghost use Rattle.merkle_wire.specs.Underway.{HasOutlines, HasParts, HasValues};
+ghost use Rattle.merkle_wire.specs.declared.gaps.OwnedGap.{OwnedGap as OwnedGapOf};
+
+use crate::gaps::OwnedGap;
 use crate::message::{Kind, decode_kind};
-use crate::reader::Reader;
 use crate::session_error::SessionError;
-use merkle_digest::PageDigest;
+use crate::taking::{take_outline, take_part, take_value};
+use crate::wanted::Wanted;
+use crate::work::Work;
+use merkle_bytes::{Decode, Reader};
+use merkle_digest::{Hasher, Key};
+use merkle_replica::{Join, Lawful, Replica};
 use std::alloc::Global;
 
 /// Reads the front of a reply of this kind.
-fn expect(reader: &mut Reader<'_>, kind: Kind) -> Result<(), SessionError> {
+pub(crate) fn expect(reader: &mut Reader<'_>, kind: Kind) -> Result<(), SessionError>
+    ensures { OnOk result (reader.old.left.now ≡ front kind ++ reader.new.left.now) }
+{
     let came = decode_kind(reader)?;
     if came == kind {
-        Ok(())
-    } else if came == Kind::Refusal {
-        Err(SessionError::Refused)
-    } else {
-        Err(SessionError::OtherKind)
+        return Ok(());
     }
-}
-
-/// How many rows the peer has, and the digest of its root page, or none.
-pub(crate) fn decode_root(
-    alloc: Global,
-    reply: &[u8],
-) -> Result<(u64, Option<PageDigest>), SessionError> {
-    let mut reader = Reader::new(alloc, reply);
-    expect(&mut reader, Kind::Root)?;
-    let rows = reader.count()?;
-    let digest = match reader.count()? {
-        0 => None,
-        1 => Some(whole(&mut reader)?),
-        _ => return Err(SessionError::ManyRoots),
-    };
-    reader.end()?;
-    Ok((rows, digest))
-}
-
-/// The digest of the whole tree, as its one item.
-fn whole(reader: &mut Reader<'_>) -> Result<PageDigest, SessionError> {
-    if reader.flag()? {
-        Ok(PageDigest::new(reader.array::<16>()?))
-    } else {
-        Err(SessionError::ManyRoots)
+    if came == Kind::Refusal {
+        return Err(SessionError::Refused);
     }
+    Err(SessionError::OtherKind)
 }
 
-/// A reader of the outlines that came, behind the front of the reply and their number, where that is the number of those that were asked for.
-pub(crate) fn begin_outlines<'a>(
-    alloc: Global,
-    reply: &'a [u8],
-    asked: usize,
-) -> Result<Reader<'a>, SessionError> {
+/// A reader of what stands behind the front of a reply of this kind, which isn't nothing.
+fn reader_of<'a>(alloc: Global, reply: &'a [u8], kind: Kind) -> Result<Reader<'a>, SessionError>
+    ensures read { IfOk result (λ reader. reply.now ≡ front kind ++ reader.left.now) }
+    ensures some { IfOk result (λ reader. reader.left.now ≢ []) }
+{
     let mut reader = Reader::new(alloc, reply);
-    expect(&mut reader, Kind::Outlines)?;
-    if reader.count()? != asked as u64 {
-        return Err(SessionError::OtherOutlines);
+    expect(&mut reader, kind)?;
+    if reader.left().is_empty() {
+        return Err(SessionError::NothingCame);
     }
     Ok(reader)
 }
 
-/// The rows that came.
-pub(crate) fn decode_rows<K: Decode, V: Decode>(
+/// Takes what came of the pages over the first of the gaps, or over all of them, and answers the others.
+pub(crate) fn take_outlines<
+    K: Key + Decode,
+    V: Join + Decode,
+    H: Hasher<N, K> + Hasher<N, V>,
+    const N: usize,
+>(
     alloc: Global,
+    replica: &Replica<K, V, H, N>,
+    kind: Kind,
+    gaps: Vec<OwnedGap<K>>,
     reply: &[u8],
-) -> Result<Vec<(K, V)>, SessionError> {
-    let mut reader = Reader::new(alloc, reply);
-    expect(&mut reader, Kind::Rows)?;
-    let rows = decode_list::<(K, V)>(&mut reader)?;
+    work: &mut Work<K, V>,
+) -> Result<Vec<OwnedGap<K>>, SessionError>
+    ensures { IfOk result (λ left. HasOutlines ⟦<H as Lawful<N, K, V>>⟧.laws N K.encoding V.encoding (side replica.now)
+        (front kind) gaps.items reply.now work.old work.new left.items) }
+{
+    let mut gaps = gaps;
+    let mut reader = reader_of(alloc, reply, kind)?;
+    let count = take_first_outlines(&mut reader, replica, kind == Kind::Outlines, &gaps, work)?;
     reader.end()?;
-    Ok(rows)
+    Ok(gaps.split_off(count)?)
+}
+
+/// Takes what came of the pages over the first of the gaps, as far as bytes came, and answers how many these are.
+fn take_first_outlines<
+    K: Key + Decode,
+    V: Join + Decode,
+    H: Hasher<N, K> + Hasher<N, V>,
+    const N: usize,
+>(
+    reader: &mut Reader<'_>,
+    replica: &Replica<K, V, H, N>,
+    with_pages: bool,
+    gaps: &[OwnedGap<K>],
+    work: &mut Work<K, V>,
+) -> Result<usize, SessionError>
+    ensures { IfOk result (λ count. (count ≤ length gaps.now)
+        × ((told : List (OwnedGapOf K × Outline K V)) × (map (λ t. t.0) told ≡ take count gaps.now)
+        × (reader.old.left.now ≡ outlines_bytes K.encoding V.encoding told ++ reader.new.left.now)
+        × AllByRecursion (λ t. LiesIn K.cmp N (owned_gap t.0) t.1) told
+        × AreTaken ⟦<H as Lawful<N, K, V>>⟧.laws (side replica.now) told work.old work.new)) }
+{
+    let mut count = 0;
+    'gaps: for gap in gaps {
+        if reader.left().is_empty() {
+            return Ok(count);
+        }
+        take_outline(reader, replica, with_pages, gap, work)?;
+        count += 1;
+    }
+    Ok(count)
+}
+
+/// Takes the values at the first of the keys, or at all of them, and answers the others.
+pub(crate) fn take_values<
+    K: Key + Decode,
+    V: Join + Decode,
+    H: Hasher<N, K> + Hasher<N, V>,
+    const N: usize,
+>(
+    alloc: Global,
+    replica: &Replica<K, V, H, N>,
+    keys: Vec<Wanted<K>>,
+    reply: &[u8],
+    work: &mut Work<K, V>,
+) -> Result<Vec<Wanted<K>>, SessionError>
+    ensures { IfOk result (λ left. HasValues ⟦<H as Lawful<N, K, V>>⟧.laws N K.encoding V.encoding (side replica.now)
+        keys.items reply.now work.old work.new left.items) }
+{
+    let mut reader = reader_of(alloc, reply, Kind::RowsAt)?;
+    let mut left = Vec::new(alloc);
+    'keys: for wanted in keys {
+        if reader.left().is_empty() {
+            left.push(wanted)?;
+        } else {
+            take_value(&mut reader, replica, wanted, work)?;
+        }
+    }
+    reader.end()?;
+    Ok(left)
+}
+
+/// Takes the rows in the first of the gaps, or in all of them, and answers the others, with what is left of a gap of which not all rows came.
+pub(crate) fn take_parts<
+    K: Key + Decode,
+    V: Join + Decode,
+    H: Hasher<N, K> + Hasher<N, V>,
+    const N: usize,
+>(
+    alloc: Global,
+    replica: &Replica<K, V, H, N>,
+    gaps: Vec<OwnedGap<K>>,
+    reply: &[u8],
+    work: &mut Work<K, V>,
+) -> Result<Vec<OwnedGap<K>>, SessionError>
+    ensures { IfOk result (λ left. HasParts ⟦<H as Lawful<N, K, V>>⟧.laws N K.encoding V.encoding (side replica.now)
+        gaps.items reply.now work.old work.new left.items) }
+{
+    let mut gaps = gaps;
+    let mut left = Vec::new(alloc);
+    let mut reader = reader_of(alloc, reply, Kind::RowsIn)?;
+    let count = take_first_parts(&mut reader, replica, &gaps, &mut left, work)?;
+    reader.end()?;
+    let mut rest = gaps.split_off(count)?;
+    left.append(&mut rest)?;
+    Ok(left)
+}
+
+/// Takes the rows in the first of the gaps, as far as bytes came, adds what is left of a gap of which not all rows came, and answers how many
+/// gaps these are.
+fn take_first_parts<
+    K: Key + Decode,
+    V: Join + Decode,
+    H: Hasher<N, K> + Hasher<N, V>,
+    const N: usize,
+>(
+    reader: &mut Reader<'_>,
+    replica: &Replica<K, V, H, N>,
+    gaps: &[OwnedGap<K>],
+    left: &mut Vec<OwnedGap<K>>,
+    work: &mut Work<K, V>,
+) -> Result<usize, SessionError>
+    ensures { IfOk result (λ count. (count ≤ length gaps.now)
+        × ((told : List (OwnedGapOf K × Part K V)) × (behind : List (OwnedGapOf K)) × (map (λ t. t.0) told ≡ take count gaps.now)
+        × (reader.old.left.now ≡ parts_bytes K.encoding V.encoding told ++ reader.new.left.now)
+        × AllByRecursion (λ t. AscendIn K.cmp (owned_gap t.0) (map (λ r. r.0) t.1.rows)) told
+        × AreBehind ⟦<H as Lawful<N, K, V>>⟧.laws (side replica.now) told behind × (left.new.items ≡ left.old.items ++ behind)
+        × AddsRows ⟦<H as Lawful<N, K, V>>⟧.laws (side replica.now) (flat_map (λ t. t.1.rows) told) work.old work.new)) }
+{
+    let mut count = 0;
+    'gaps: for gap in gaps {
+        if reader.left().is_empty() {
+            return Ok(count);
+        }
+        take_part(reader, replica, gap, left, work)?;
+        count += 1;
+    }
+    Ok(count)
 }

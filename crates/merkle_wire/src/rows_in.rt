@@ -1,44 +1,132 @@
-//! The rows of a map in a gap.
-ghost use Rattle.std.specs.Prelude.{◌≡◌, ◌≤◌, ◌++◌, true, false, not, length, take, drop, map, OnOk};
+//! The rows of a map in gaps.
+ghost use Rattle.std.specs.Prelude.{◌≡◌, ◌≢◌, ◌≤◌, ◌++◌, true, false, cond, not, length, take, drop, List, [], IfOk, OnOk};
 ghost use Rattle.std.specs.List.{AllByRecursion};
 ghost use Rattle.key_order.specs.Map.{IsMap};
+ghost use Rattle.merkle_bytes.specs.Runs.{bound_key, entries_bytes, row_behind, row_key};
 ghost use Rattle.merkle_tree_theory.specs.Gap.{is_after, is_before, pairs_within};
 ghost use Rattle.merkle_wire.specs.Gaps.{owned_gap};
+ghost use Rattle.merkle_wire.specs.Replies.{Answers, Part, IsPartOf, part_bytes, parts_bytes};
+ghost use Rattle.merkle_wire.specs.declared.gaps.OwnedGap.{OwnedGap as OwnedGapOf};
 
 use crate::gaps::OwnedGap;
-use std::alloc::AllocError;
+use crate::outlines::is_full;
+use merkle_bytes::{Encode, EncodeInRun, KeyRun, encode_count};
+use std::alloc::{AllocError, Global};
 
-/// Adds the rows in a gap. It finds the first of them by halving, and then walks over them.
-pub(crate) fn add_rows_in<'a, K: Ord, V>(
-    found: &mut Vec<&'a (K, V)>,
-    rows: &'a [(K, V)],
+/// Adds the rows in the gaps to a message, one gap behind the other, as far as the bytes suffice.
+pub(crate) fn tell_rows<K: Ord + Encode, V: Encode>(
+    alloc: Global,
+    rows: &[(K, V)],
+    most_bytes: usize,
+    gaps: &[OwnedGap<K>],
+    begun: Vec<u8>,
+) -> Result<Vec<u8>, AllocError>
+    requires ascending { IsMap K.cmp rows.now }
+    requires front { length begun.items ≡ 2 }
+    ensures { IfOk result (λ bytes. (told : List (OwnedGapOf K × Part K V)) × (bytes.items ≡ begun.items ++ parts_bytes K.encoding V.encoding told)
+        × Answers (IsPartOf K.cmp rows.now) gaps.now told) }
+{
+    let mut bytes = begun;
+    'gaps: for gap in gaps {
+        if is_full(&bytes, most_bytes) {
+            return Ok(bytes);
+        }
+        tell_part(alloc, rows, most_bytes, gap, &mut bytes)?;
+    }
+    Ok(bytes)
+}
+
+/// Writes the rows in a gap, or the first of them: how many they are, the rows, and a byte 1 where they are all, or 0 where more are behind.
+fn tell_part<K: Ord + Encode, V: Encode>(
+    alloc: Global,
+    rows: &[(K, V)],
+    most_bytes: usize,
     gap: &OwnedGap<K>,
+    bytes: &mut Vec<u8>,
 ) -> Result<(), AllocError>
     requires { IsMap K.cmp rows.now }
-    ensures { OnOk result (map (λ row. row.now) found.new.items ≡ map (λ row. row.now) found.old.items ++ pairs_within K.cmp (owned_gap gap.now) rows.now) }
+    ensures { OnOk result ((part : Part K V) × IsPartOf K.cmp rows.now gap.now part
+        × (bytes.new.items ≡ bytes.old.items ++ part_bytes K.encoding V.encoding (bound_key K.encoding [] gap.now.after) part)) }
 {
-    let first = first_behind(rows, &gap.after);
-    let (_, behind) = rows.split_at(first);
-    'rows: for row in behind {
-        if !is_before(&row.0, &gap.before) {
-            return Ok(());
-        }
-        found.push(row)?;
-    }
+    let found = rows_in(rows, gap);
+    let mut run = KeyRun::behind(alloc, gap.after.as_ref())?;
+    let mut part = Vec::new(alloc);
+    let room = most_bytes.saturating_sub(bytes.len());
+    let count = encode_first(found, room, &mut run, &mut part)?;
+    encode_count(count as u64, bytes)?;
+    bytes.extend_from_slice(&part)?;
+    let is_whole = count == found.len();
+    bytes.extend_from_slice(&[byte_of(is_whole)])?;
     Ok(())
 }
 
-/// How many of the rows are not above the bound. It finds the place by halving.
-fn first_behind<K: Ord, V>(rows: &[(K, V)], bound: &Option<K>) -> usize
+/// The byte of a flag.
+fn byte_of(flag: bool) -> u8
+    ensures { result ≡ cond flag 1 0 }
+{
+    if flag { 1 } else { 0 }
+}
+
+/// Writes the first of the rows, up to that by which there are as many bytes as the room, and answers how many they are.
+fn encode_first<K: Encode, V: Encode>(
+    rows: &[(K, V)],
+    room: usize,
+    run: &mut KeyRun,
+    bytes: &mut Vec<u8>,
+) -> Result<usize, AllocError>
+    ensures inside { IfOk result (λ count. count ≤ length rows.now) }
+    ensures some { IfOk result (λ count. rows.now ≢ [] → count ≢ 0) }
+    ensures written { IfOk result (λ count. bytes.new.items ≡ bytes.old.items
+        ++ entries_bytes (row_behind K.encoding V.encoding) (row_key K.encoding) run.old (take count rows.now)) }
+{
+    let mut count = 0;
+    'rows: for row in rows {
+        row.encode_behind(run, bytes)?;
+        count += 1;
+        if bytes.len() >= room {
+            return Ok(count);
+        }
+    }
+    Ok(count)
+}
+
+/// The rows in a gap. It finds the first and the last by halving.
+fn rows_in<'a, K: Ord, V>(rows: &'a [(K, V)], gap: &OwnedGap<K>) -> &'a [(K, V)]
+    requires { IsMap K.cmp rows.now }
+    ensures { result.now ≡ pairs_within K.cmp (owned_gap gap.now) rows.now }
+{
+    let first = count_upto(rows, &gap.after);
+    let (_, behind) = rows.split_at(first);
+    let count = count_before(behind, &gap.before);
+    let (inside, _) = behind.split_at(count);
+    inside
+}
+
+/// How many of the rows are not above the bound.
+fn count_upto<K: Ord, V>(rows: &[(K, V)], bound: &Option<K>) -> usize
     requires { IsMap K.cmp rows.now }
     ensures inside { result ≤ length rows.now }
-    ensures before { AllByRecursion (λ row. is_after K.cmp bound.now row.0 ≡ false) (take result rows.now) }
+    ensures upto { AllByRecursion (λ row. is_after K.cmp bound.now row.0 ≡ false) (take result rows.now) }
     ensures behind { AllByRecursion (λ row. is_after K.cmp bound.now row.0 ≡ true) (drop result rows.now) }
 {
     rows.partition_point(
         |row: &(K, V)| -> bool
             ensures { result ≡ not (is_after K.cmp bound.entry.now row.now.0) }
         { !is_after(&row.0, bound) },
+    )
+}
+
+/// How many of the rows are below the bound.
+fn count_before<K: Ord, V>(rows: &[(K, V)], bound: &Option<K>) -> usize
+    requires { IsMap K.cmp rows.now }
+    ensures inside { result ≤ length rows.now }
+    ensures before { AllByRecursion (λ row. is_before K.cmp bound.now row.0 ≡ true) (take result rows.now) }
+    ensures behind { AllByRecursion (λ row. is_before K.cmp bound.now row.0 ≡ false) (drop result rows.now) }
+{
+    rows.partition_point(
+        |row: &(K, V)| -> bool
+            ensures { result ≡ is_before K.cmp bound.entry.now row.now.0 }
+        { is_before(&row.0, bound) },
     )
 }
 
@@ -59,26 +147,5 @@ pub(crate) fn is_before<K: Ord>(key: &K, bound: &Option<K>) -> bool
     match bound {
         None => true,
         Some(bound) => *key < *bound,
-    }
-}
-
-/// Whether each gap ends, and the next starts at its end or above that.
-pub(crate) fn gaps_ascend<K: Ord>(gaps: &[OwnedGap<K>]) -> bool {
-    'testing: for i in 1..gaps.len() {
-        if !starts_behind(&gaps[i - 1].before, &gaps[i].after) {
-            return false;
-        }
-    }
-    true
-}
-
-/// Whether both bounds are there, and the second is not below the first.
-fn starts_behind<K: Ord>(end: &Option<K>, start: &Option<K>) -> bool {
-    match end {
-        None => false,
-        Some(end) => match start {
-            None => false,
-            Some(start) => *end <= *start,
-        },
     }
 }

@@ -1,7 +1,7 @@
 //! Why a catch-up over a wire ended early.
 ghost use Rattle.std.specs.Prelude.{◌≡◌};
 
-use crate::error::ReadError;
+use merkle_bytes::ReadError;
 use std::alloc::{AllocError, AllocFailed};
 use std::fmt;
 
@@ -16,20 +16,16 @@ pub enum SessionError {
     OtherKind,
     /// The peer refused what was asked.
     Refused,
-    /// The whole tree came as more than one item, or as a node.
-    ManyRoots,
-    /// The number of outlines is not that of the gaps that were asked for.
-    OtherOutlines,
-    /// Keys of an outline don't ascend, or leave the gap that was asked for.
+    /// The reply has nothing of what was asked for.
+    NothingCame,
+    /// Keys don't ascend, or leave the gap that was asked for.
     NotInGap,
-    /// Two pages of an outline have no key between them.
-    TwoPages,
-    /// An outline has a page and no node, which no page of a tree has.
+    /// A page has no node, as no page of a tree has.
     NoNode,
     /// The peer has more rounds of outlines than a tree has levels.
     TooManyRounds,
-    /// Rows don't ascend, or have keys that were not asked for.
-    NotAsked,
+    /// A row came twice.
+    Twice,
 }
 
 impl From<AllocError> for SessionError {
@@ -69,25 +65,15 @@ impl fmt::Display for SessionError {
             SessionError::Malformed(error) => write!(f, "the reply is malformed: {error}"),
             SessionError::OtherKind => f.write_str("the reply is not what was asked for"),
             SessionError::Refused => f.write_str("the peer refused what was asked"),
-            SessionError::ManyRoots => f.write_str(
-                "the peer's whole tree came as more than one page",
-            ),
-            SessionError::OtherOutlines => {
-                f.write_str("the peer sent another number of outlines than were asked for")
-            }
+            SessionError::NothingCame => f.write_str("the peer sent nothing of what was asked for"),
             SessionError::NotInGap => {
                 f.write_str(
                     "the peer sent keys that don't ascend or leave the gap that was asked for",
                 )
             }
-            SessionError::TwoPages => f.write_str(
-                "the peer sent two pages with no key between them",
-            ),
             SessionError::NoNode => f.write_str("the peer sent a page without a node"),
             SessionError::TooManyRounds => f.write_str("the peer's tree has no end"),
-            SessionError::NotAsked => {
-                f.write_str("the peer sent rows that don't ascend or were not asked for")
-            }
+            SessionError::Twice => f.write_str("the peer sent a row twice"),
         }
     }
 }

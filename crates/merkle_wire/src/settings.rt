@@ -3,11 +3,7 @@ ghost use Rattle.std.specs.Prelude.{◌≡◌, ◌≢◌, ◌++◌, ℕ, OnOk, I
 ghost use Rattle.merkle_tree_theory.specs.declared.page_format.PageFormat.{PageFormat as PageFormatOf};
 ghost use Rattle.merkle_wire.specs.Settings.{format_byte, settings_bytes, AreSettingsOf, IsDigested};
 
-use crate::counts::encode_count;
-use crate::decode::Decode;
-use crate::encode::Encode;
-use crate::error::{Expected, ReadError};
-use crate::reader::Reader;
+use merkle_bytes::{Decode, Encode, Expected, ReadError, Reader, encode_count};
 use merkle_digest::{Hasher, Key};
 use merkle_replica::{Join, Replica};
 use merkle_search_tree::builder::PageFormat;

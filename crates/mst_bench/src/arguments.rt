@@ -18,6 +18,8 @@ pub enum Task {
     PullTimes(Vec<usize>),
     /// Print the times of catch-ups with replicas of so many rows each.
     CatchUpTimes(Vec<usize>),
+    /// Print how many messages and bytes catch-ups over a wire take with replicas of so many rows each.
+    Sessions(Vec<usize>),
 }
 
 /// The number that the word spells in decimal digits, where it is one below 2 ^ 64.
@@ -52,6 +54,7 @@ pub fn task_of(alloc: Global, words: &[String]) -> Result<Task, Fault> {
         "--time-cut" => Ok(Task::CutTimes(counts(alloc, numbers)?)),
         "--time-pull" => Ok(Task::PullTimes(counts(alloc, numbers)?)),
         "--time-catch-up" => Ok(Task::CatchUpTimes(counts(alloc, numbers)?)),
+        "--sessions" => Ok(Task::Sessions(counts(alloc, numbers)?)),
         _ => Err(Fault::Usage),
     }
 }

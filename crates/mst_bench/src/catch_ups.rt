@@ -14,18 +14,29 @@ use std::rt::Clock;
 /// A replica of the default settings.
 type Numbers = Replica<String, u64, SipHasher, 16>;
 
-/// How many rows differ in the lines of the table.
-const DIFFERING: [usize; 5] = [0, 1, 10, 100, 1000];
-
-/// The bytes of a key of 17 bytes behind its length, of a value, and of a digest.
+/// The bytes of a key of 17 bytes behind its length, of a value below 128, and of a digest behind its length.
 const KEY: usize = 18;
 
-const VALUE: usize = 8;
+const VALUE: usize = 1;
 
-const DIGEST: usize = 16;
+const DIGEST: usize = 17;
 
-/// How many messages a session sends at most: a question for each of 256 levels, one before them and one behind.
-const MOST_MESSAGES: usize = 258;
+/// How many messages a session sends here at most: 515 questions, which are one for the root, one for the outlines and one for the nodes of
+/// each of 256 levels, and two for rows; and each once more for each 64 MiB of what it is answered.
+const MOST_MESSAGES: usize = 1_024;
+
+/// How many of so many rows differ in the lines of the table: none, 1, 10, 100, a hundredth, a tenth, and all.
+fn differing_of(alloc: Global, count: usize) -> Result<Vec<usize>, Fault> {
+    let mut differing = Vec::new(alloc);
+    for many in [0, 1, 10, 100, count / 100, count / 10, count] {
+        if many <= count {
+            differing.push(many)?;
+        }
+    }
+    differing.sort_unstable();
+    differing.dedup();
+    Ok(differing)
+}
 
 /// What differs at a row.
 #[derive(Clone, Copy, PartialEq, Eq)]
@@ -65,9 +76,15 @@ fn replica(
     }
 }
 
-/// So many different places below a bound, in ascending order.
+/// So many random places below a bound, or all of them, each once and in ascending order.
 fn places(alloc: Global, many: usize, bound: usize) -> Result<Vec<usize>, Fault> {
     let mut places = Vec::new(alloc);
+    if many == bound {
+        for place in 0..bound {
+            places.push(place)?;
+        }
+        return Ok(places);
+    }
     let mut state = 7u64;
     for _ in 0..many {
         state = state
@@ -84,8 +101,10 @@ fn places(alloc: Global, many: usize, bound: usize) -> Result<Vec<usize>, Fault>
 /// What a catch-up takes over a wire.
 #[derive(Clone, Copy)]
 struct Cost {
+    messages: usize,
     rounds: u32,
-    bytes: usize,
+    sent: usize,
+    came: usize,
     fetched: usize,
 }
 
@@ -99,7 +118,7 @@ fn reply_to(alloc: Global, peer: &mut Numbers, message: &[u8]) -> Result<Vec<u8>
 
 /// What comes after a reply.
 fn next_of(
-    session: CatchingUp<String>,
+    session: CatchingUp<String, u64>,
     local: &mut Numbers,
     reply: &[u8],
 ) -> Result<Next<String, u64>, Fault> {
@@ -114,12 +133,11 @@ fn cost_of(alloc: Global, local: &mut Numbers, peer: &mut Numbers) -> Result<Cos
     let (session, message) = CatchingUp::begin(alloc, local)?;
     let mut session = session;
     let mut message = message;
-    let mut bytes = 0usize;
-    for _ in 0..MOST_MESSAGES {
+    let (mut sent, mut came) = (0usize, 0usize);
+    for before in 0..MOST_MESSAGES {
         let reply = reply_to(alloc, peer, &message)?;
-        bytes = bytes
-            .saturating_add(message.len())
-            .saturating_add(reply.len());
+        sent = sent.saturating_add(message.len());
+        came = came.saturating_add(reply.len());
         let rounds = session.rounds();
         match next_of(session, local, &reply)? {
             Next::Ask(next, question) => {
@@ -128,8 +146,10 @@ fn cost_of(alloc: Global, local: &mut Numbers, peer: &mut Numbers) -> Result<Cos
             }
             Next::Came(rows) => {
                 return Ok(Cost {
+                    messages: before.saturating_add(1),
                     rounds,
-                    bytes,
+                    sent,
+                    came,
                     fetched: rows.len(),
                 });
             }
@@ -214,7 +234,8 @@ fn write_line<R: Clock, W: Write>(
     }
     let (rows, differing, way) = (sorted.len(), places.len(), name_of(kind));
     let (catch_up, pull) = (catch_up.each(1000), pull.each(1000));
-    let (rounds, bytes, fetched) = (cost.rounds, cost.bytes, cost.fetched);
+    let (rounds, fetched) = (cost.rounds, cost.fetched);
+    let bytes = cost.sent.saturating_add(cost.came);
     let pull_bytes = bytes_of_pull(&peer, pulled)?;
     writeln!(
         out,
@@ -239,10 +260,48 @@ pub fn write_table<R: Clock, W: Write>(
     for count in counts {
         let mut sorted = keys(alloc, LOCAL_SEED, *count)?;
         sorted.sort_unstable();
-        for differing in DIFFERING {
+        for differing in differing_of(alloc, *count)? {
             let places = places(alloc, differing, *count)?;
             write_line(rt, alloc, &sorted, &places, Kind::Changed, out)?;
             write_line(rt, alloc, &sorted, &places, Kind::Missing, out)?;
+        }
+    }
+    Ok(())
+}
+
+/// Writes the line of the session between replicas of so many rows, of which so many differ in this way.
+fn write_session<W: Write>(
+    alloc: Global,
+    sorted: &[String],
+    places: &[usize],
+    kind: Kind,
+    out: &mut W,
+) -> Result<(), Fault> {
+    let mut peer = replica(alloc, sorted, &[], kind)?;
+    let mut local = replica(alloc, sorted, places, kind)?;
+    let cost = cost_of(alloc, &mut local, &mut peer)?;
+    let (rows, differing, way) = (sorted.len(), places.len(), name_of(kind));
+    let (messages, rounds) = (cost.messages, cost.rounds);
+    let (sent, came, fetched) = (cost.sent, cost.came, cost.fetched);
+    writeln!(
+        out,
+        "{rows} {differing} {way} {messages} {rounds} {sent} {came} {fetched}"
+    )
+    .map_err(|_| Fault::Output)
+}
+
+/// Writes the table of sessions, without times: how many messages and rounds each takes, and how many bytes are sent and come.
+pub fn write_sessions<W: Write>(alloc: Global, counts: &[usize], out: &mut W) -> Result<(), Fault> {
+    writeln!(out, "rows differing way messages rounds sent came fetched").map_err(
+        |_| Fault::Output,
+    )?;
+    for count in counts {
+        let mut sorted = keys(alloc, LOCAL_SEED, *count)?;
+        sorted.sort_unstable();
+        for differing in differing_of(alloc, *count)? {
+            let places = places(alloc, differing, *count)?;
+            write_session(alloc, &sorted, &places, Kind::Changed, out)?;
+            write_session(alloc, &sorted, &places, Kind::Missing, out)?;
         }
     }
     Ok(())

@@ -4,7 +4,8 @@
 //! Without arguments it prints what the trees of the sample keys answer, which is the same on every machine:
 //! `n ROOT_LOCAL ROOT_PEER RANGES_LOCAL RANGES_PEER DIFF_PEER DIFF_THIRD`, for 100, 1,000 and 10,000 keys. `--time N..` prints a
 //! table of times for each number of keys, `--time-cut N..` one for each number of ranges to cut out, and `--time-pull N..` one for each
-//! number of rows to pull, and `--time-catch-up N..` one for each number of rows of which few differ. It ends with status 2 and a
+//! number of rows to pull, and `--time-catch-up N..` one for each number of rows of which some differ; `--sessions N..` counts the messages
+//! and the bytes of these catch-ups over a wire, which are the same on every machine. It ends with status 2 and a
 //! usage line on standard error where the arguments are none of these, and with status 1 and one line there where memory is
 //! refused, or the clock or the output fails.
 #![tactic(auto)]
@@ -30,7 +31,7 @@ use std::{env, io};
 
 /// What the program is called with.
 const USAGE: &str =
-    "usage: mst_bench [--time N.. | --time-cut N.. | --time-pull N.. | --time-catch-up N..]";
+    "usage: mst_bench [--time N.. | --time-cut N.. | --time-pull N.. | --time-catch-up N.. | --sessions N..]";
 
 /// Does what the arguments ask for, and prints it.
 fn run<R: AllocGlobal + Clock + Env + Print>(rt: &R) -> Result<(), Fault> {
@@ -47,6 +48,7 @@ fn run<R: AllocGlobal + Clock + Env + Print>(rt: &R) -> Result<(), Fault> {
         Task::CutTimes(counts) => cut::write_table(rt, alloc, &counts, &mut out)?,
         Task::PullTimes(counts) => pulls::write_table(rt, alloc, &counts, &mut out)?,
         Task::CatchUpTimes(counts) => catch_ups::write_table(rt, alloc, &counts, &mut out)?,
+        Task::Sessions(counts) => catch_ups::write_sessions(alloc, &counts, &mut out)?,
     }
     out.flush().map_err(|_| Fault::Output)
 }

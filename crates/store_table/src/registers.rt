@@ -4,9 +4,9 @@ ghost use Rattle.merkle_digest.specs.Sip24.{Holds};
 ghost use Rattle.store_table.specs.WireRegisters.{register_encoding, IsRegister, register_some, register_told};
 
 use crate::register::Register;
+use merkle_bytes::{Decode, Encode, ReadError, Reader};
 use merkle_digest::{HashBytes, Sip24};
 use merkle_replica::Join;
-use merkle_wire::{Decode, Encode, ReadError, Reader};
 use std::alloc::{AllocError, Global};
 
 /// Its time, the length of the writer's name and the name, and 0, or 1 and the text: so that unequal registers feed unequal bytes.
@@ -65,9 +65,9 @@ impl Encode for Register {
 impl Decode for Register {
     ghost is_value = { IsRegister ⟦<String as Decode>⟧.is_value };
 
-    ghost some = { λ r _. register_some r };
+    ghost some = { register_some };
 
-    ghost told = { register_told ⟦<String as Decode>⟧.is_value };
+    ghost told = { register_told };
 
     fn decode(reader: &mut Reader<'_>) -> Result<Self, ReadError> {
         let (time, (writer, value)) = <(u64, (String, Option<String>))>::decode(reader)?;

@@ -2,14 +2,26 @@
 #![tactic(auto)]
 
 #[cfg(test)]
+mod altered;
+#[cfg(test)]
 mod formats;
 #[cfg(test)]
 mod hex;
 #[cfg(test)]
 mod keys;
 #[cfg(test)]
+mod number;
+#[cfg(test)]
+mod playing;
+#[cfg(test)]
+mod random_sessions;
+#[cfg(test)]
 mod refusals;
 #[cfg(test)]
 mod sessions;
 #[cfg(test)]
+mod values;
+#[cfg(test)]
 mod vectors;
+#[cfg(test)]
+mod wide;

@@ -1,16 +1,16 @@
-//! Messages that a peer made up, and what each is refused with.
+//! Messages that a peer made up, and what each is refused with. The replica has its rows as before.
 use crate::hex::bytes_of;
 use crate::sessions::{Numbers, numbers};
+use merkle_bytes::{Expected, KeyRun, ReadError};
 use merkle_digest::SipHasher;
 use merkle_replica::Replica;
 use merkle_search_tree::builder::{Builder, PageFormat};
-use merkle_wire::{
-    AnswerError, CatchingUp, Expected, Next, ReadError, SessionError, answer, encode_count,
-};
-use std::alloc::Global;
+use merkle_wire::{AnswerError, CatchingUp, Next, SessionError, answer, refusal};
+use std::alloc::{AllocError, Global};
+use std::num::NonZeroU8;
 use std::test::Fail;
 
-/// The kind of keys here: a byte.
+/// The kind of keys here: a byte, which is written as 01 and the byte.
 type Bytes = Numbers<[u8; 1]>;
 
 /// A replica with the keys 1 to 3.
@@ -22,25 +22,41 @@ fn three(alloc: Global) -> Result<Bytes, Fail> {
     Ok(replica)
 }
 
-/// Bytes in hex that are no message: what should have stood behind so many bytes.
-const NO_QUESTIONS: [(&str, usize, Expected); 10] = [
+/// Whether a replica has the keys 1 to 3 with the value 9, and no others.
+fn is_as_before(replica: &Bytes) -> bool {
+    replica.rows() == [([1u8], 9u64), ([2], 9), ([3], 9)].as_slice()
+}
+
+/// Bytes in hex that are no question: what should have stood behind so many bytes. A reply, a version and a kind that there is not, bytes that are
+/// cut or go on, a promised length, a flag and a page format that there is not, and a key in its longer spelling.
+const NO_QUESTIONS: [(&str, usize, Expected); 17] = [
     ("", 0, Expected::Bytes(2)),
-    ("0202", 0, Expected::Version),
     ("01", 0, Expected::Bytes(2)),
-    ("0109", 0, Expected::Kind),
-    ("018300", 2, Expected::Question),
-    ("01030000", 3, Expected::End),
-    ("01038000", 2, Expected::Count),
-    ("0103c80107", 5, Expected::Bytes(1)),
-    ("01020102", 3, Expected::Flag),
-    ("010110031000", 4, Expected::PageFormat),
+    ("0202", 0, Expected::Version),
+    ("0001", 0, Expected::Version),
+    ("0100", 0, Expected::Kind),
+    ("0106", 0, Expected::Kind),
+    ("0182 00", 2, Expected::Question),
+    ("01ff", 2, Expected::Question),
+    ("0104 00 00", 3, Expected::End),
+    ("0104 8000", 2, Expected::Count),
+    ("0104 808080808020 02 0107", 11, Expected::Front),
+    ("0102 10 01 02", 4, Expected::Flag),
+    ("0102 10 01 00", 5, Expected::Bytes(1)),
+    ("0103 10", 3, Expected::Count),
+    ("0104 01 f0 00 02 0107", 3, Expected::Front),
+    ("0101 10 03 10 00", 4, Expected::PageFormat),
+    ("0101 10 01 10 01 02", 7, Expected::Length),
 ];
 
-/// Messages in hex that are refused for what they ask.
-const REFUSED: [(&str, AnswerError); 3] = [
-    ("010110021000", AnswerError::OtherSettings),
-    ("010103011000", AnswerError::OtherSettings),
-    ("01040200000000", AnswerError::NotAscending),
+/// Questions in hex for the root, with other settings than those of a default replica: its level base is 16, its page format 1, and its digests have 16
+/// bytes; and the digest of a key by another hasher.
+const OTHER_SETTINGS: [&str; 5] = [
+    "0101 0f 01 10 00",
+    "0101 10 02 10 00",
+    "0101 10 01 08 00",
+    "0101 10 01 20 00",
+    "0101 10 01 10 01 0101 10 05050505050505050505050505050505",
 ];
 
 #[test]
@@ -52,196 +68,362 @@ fn questions_that_are_refused(rt: HostRuntime) -> Result<(), Fail> {
             offset: case.1,
             expected: case.2,
         });
-        assert!(rt;
-            refused_with(alloc, &mut peer, case.0)? == Some(wanted),
-            "{}",
-            case.0
-        );
+        let found = refused_with(alloc, &mut peer, &bytes_of(alloc, case.0)?);
+        assert!(rt; found == Some(wanted), "{}", case.0);
     }
-    for case in &REFUSED {
-        assert!(rt;
-            refused_with(alloc, &mut peer, case.0)? == Some(case.1),
-            "{}",
-            case.0
-        );
+    for text in &OTHER_SETTINGS {
+        let found = refused_with(alloc, &mut peer, &bytes_of(alloc, *text)?);
+        assert!(rt; found == Some(AnswerError::OtherSettings), "{}", *text);
     }
-    assert_eq!(rt; peer.rows().len(), 3);
+    assert!(rt; is_as_before(&peer));
+    assert_eq!(rt; refusal(alloc)?, bytes_of(alloc, "01ff")?);
     Ok(())
 }
 
 /// Why the peer refuses a message, where it does.
-fn refused_with(alloc: Global, peer: &mut Bytes, text: &str) -> Result<Option<AnswerError>, Fail> {
-    let message = bytes_of(alloc, text)?;
-    match answer(alloc, peer, &message) {
-        Ok(_) => Ok(None),
-        Err(error) => Ok(Some(error)),
+fn refused_with(alloc: Global, peer: &mut Bytes, message: &[u8]) -> Option<AnswerError> {
+    match answer(alloc, peer, message) {
+        Ok(_) => None,
+        Err(error) => Some(error),
     }
 }
 
-/// The first reply of a peer with 5 rows, the digest of whose root page is made of 7s.
-const ROOT: &str = "0181 05 01 01 07070707070707070707070707070707";
-
-/// What a replica with the keys 1 to 3 says to a second reply, where the first one was `ROOT`.
-fn second(alloc: Global, reply: &[u8]) -> Result<Option<SessionError>, Fail> {
-    let mut local = three(alloc)?;
-    let (session, _) = CatchingUp::begin(alloc, &local)?;
-    match session.take(&mut local, &bytes_of(alloc, ROOT)?)? {
-        Next::Ask(next, _) => match next.take(&mut local, reply) {
-            Ok(_) => Ok(None),
-            Err(error) => Ok(Some(error)),
-        },
-        Next::Came(_) => Err(Fail::new("nothing was asked")),
-    }
+/// The first message of a replica with the key 1.
+fn first_message(alloc: Global, builder: Builder<SipHasher>) -> Result<Vec<u8>, Fail> {
+    let mut local: Bytes = Replica::new(alloc, builder);
+    local.put([1], 9)?;
+    let (_, message) = CatchingUp::begin(alloc, &local)?;
+    Ok(message)
 }
 
-/// Second replies in hex, and why each is refused: an outline over all keys was asked for.
-const OUTLINES: [(&str, SessionError); 6] = [
+/// A replica with another level base, page format or key of its hasher than the peer's is refused by the peer. Other lengths of digests are in the
+/// table above.
+#[test]
+fn other_settings_are_refused(rt: HostRuntime) -> Result<(), Fail> {
+    let alloc = rt.alloc();
+    let mut peer = three(alloc)?;
+    let base = NonZeroU8::new(4).ok_or(AllocError)?;
+    let messages = [
+        first_message(alloc, Builder::default().with_level_base(base))?,
+        first_message(alloc, Builder::default().with_page_format(PageFormat::V2))?,
+        first_message(
+            alloc,
+            Builder::default().with_hasher(SipHasher::new(&[7; 16])),
+        )?,
+    ];
+    for message in &messages {
+        assert!(rt; refused_with(alloc, &mut peer, message) == Some(AnswerError::OtherSettings));
+    }
+    let same = first_message(alloc, Builder::default())?;
+    assert!(rt; refused_with(alloc, &mut peer, &same) == None);
+    assert!(rt; is_as_before(&peer));
+    Ok(())
+}
+
+/// What a session comes to.
+#[derive(PartialEq, Eq, Drop)]
+enum Found {
+    /// It asks this.
+    Asks(Vec<u8>),
+    /// So many rows came.
+    Came(usize),
+    /// It refused what came.
+    Refused(SessionError),
+}
+
+/// What a session of a replica comes to by these replies in hex. A refusal that isn't of the last one is a failure of the test.
+fn after(alloc: Global, local: &mut Bytes, replies: &[&str]) -> Result<Found, Fail> {
+    let (session, message) = CatchingUp::begin(alloc, local)?;
+    let mut session = session;
+    let mut found = Found::Asks(message);
+    for (place, text) in replies.iter().enumerate() {
+        let is_last = place.saturating_add(1) == replies.len();
+        match session.take(local, &bytes_of(alloc, *text)?) {
+            Ok(Next::Ask(next, message)) => {
+                session = next;
+                found = Found::Asks(message);
+            }
+            Ok(Next::Came(rows)) if is_last => return Ok(Found::Came(rows.len())),
+            Err(error) if is_last => return Ok(Found::Refused(error)),
+            _ => return Err(Fail::new("the session ended before its last reply")),
+        }
+    }
+    Ok(found)
+}
+
+/// A first reply: a peer with 5 rows, the digest of whose root page is made of 7s. The outline over the gap of all keys is asked for then.
+const ROOT: &str = "0181 05 01 07070707070707070707070707070707";
+
+/// A first reply by which all rows are asked for: a peer with 16 rows.
+const MANY: &str = "0181 10 01 07070707070707070707070707070707";
+
+/// An outline behind `ROOT`: a page with the node 8, whose nodes are lacked, and no page beside it. Its nodes are asked for then.
+const EIGHT: &str = "0182 02 05050505050505050505050505050505 01 02 0108 00 00";
+
+/// The same with a page below 8.
+const BELOW: &str =
+    "0182 02 05050505050505050505050505050505 01 02 0108 01 06060606060606060606060606060606 00";
+
+/// The nodes behind `EIGHT`, as digests: the value at 8 is asked for then.
+const DIGEST: &str = "0183 01 01 02 0108 05050505050505050505050505050505";
+
+/// Nodes that are none.
+const NONE: &str = "0183 00 00";
+
+/// Whether a session refuses the last of these replies in hex for bytes that should have stood behind so many others.
+fn is_malformed(
+    alloc: Global,
+    local: &mut Bytes,
+    replies: &[&str],
+    behind: (usize, Expected),
+) -> Result<bool, Fail> {
+    let error = SessionError::Malformed(ReadError::Unexpected {
+        offset: behind.0,
+        expected: behind.1,
+    });
+    Ok(after(alloc, local, replies)? == Found::Refused(error))
+}
+
+/// Replies to the first message that are none, and what should have stood behind so many bytes: another version, a kind that there is not, cut
+/// messages, a count and a flag out of form, and a byte behind the end.
+const NO_ROOTS: [(&str, usize, Expected); 8] = [
+    ("", 0, Expected::Bytes(2)),
+    ("01", 0, Expected::Bytes(2)),
+    ("0281 05 00", 0, Expected::Version),
+    ("0180 05 00", 0, Expected::Kind),
+    ("0181", 2, Expected::Count),
+    ("0181 8500 00", 2, Expected::Count),
+    ("0181 05 02", 3, Expected::Flag),
+    ("0181 05 00 00", 4, Expected::End),
+];
+
+/// Replies to the first message that are others than was asked for: a question, an outline, a refusal.
+const OTHER_ROOTS: [(&str, SessionError); 3] = [
+    ("0101 10 01 10 00", SessionError::OtherKind),
+    ("0182 00 00", SessionError::OtherKind),
     ("01ff", SessionError::Refused),
-    ("018300", SessionError::OtherKind),
-    ("018200", SessionError::OtherOutlines),
-    ("0182020000", SessionError::OtherOutlines),
+];
+
+#[test]
+fn first_replies_that_are_refused(rt: HostRuntime) -> Result<(), Fail> {
+    let alloc = rt.alloc();
+    let mut local = three(alloc)?;
+    for case in &NO_ROOTS {
+        let is_so = is_malformed(alloc, &mut local, &[case.0], (case.1, case.2))?;
+        assert!(rt; is_so, "{}", case.0);
+    }
+    for case in &OTHER_ROOTS {
+        let found = after(alloc, &mut local, &[case.0])?;
+        assert!(rt; found == Found::Refused(case.1), "{}", case.0);
+    }
+    assert!(rt; is_as_before(&local));
+    Ok(())
+}
+
+/// Replies where the outline over the gap of all keys was asked for, and what should have stood behind so many bytes: an outline of a kind that
+/// there is not, promised lengths of 2 ^ 40, keys that keep more than there is, could keep more, or are spelled at length, bytes that are no
+/// key, digests that are cut, and an outline more than was asked for.
+const NO_OUTLINES: [(&str, usize, Expected); 10] = [
+    ("0182 03", 3, Expected::Kind),
+    ("0182 00 808080808020 02 0102 01", 13, Expected::Front),
+    ("0182 01 808080808020 02 0102", 12, Expected::Front),
     (
-        "0182 01 01 01 05050505050505050505050505050505",
+        "0182 00 01 f0 00 808080808020 01",
+        12,
+        Expected::Bytes(1 << 40),
+    ),
+    ("0182 00 01 22 0102 01", 5, Expected::Front),
+    ("0182 00 02 02 0102 01 02 0103 01", 11, Expected::Front),
+    ("0182 00 01 f0 00 02 0102 01", 4, Expected::Front),
+    ("0182 00 01 03 010203 01", 8, Expected::Key),
+    ("0182 01 01 02 0102 05050505", 7, Expected::Bytes(16)),
+    ("0182 00 00 00", 4, Expected::End),
+];
+
+/// Replies where it was asked for that are refused for what they say: nothing, another kind, a page without a node, and keys that don't ascend, or one twice,
+/// in each kind of outline.
+const OTHER_OUTLINES: [(&str, SessionError); 9] = [
+    ("0182", SessionError::NothingCame),
+    ("0181 05 00", SessionError::OtherKind),
+    ("0183 00 00", SessionError::OtherKind),
+    ("01ff", SessionError::Refused),
+    (
+        "0182 02 05050505050505050505050505050505 00 00",
         SessionError::NoNode,
     ),
+    ("0182 00 02 02 0102 01 11 01 01", SessionError::NotInGap),
+    ("0182 00 02 02 0102 01 20 01", SessionError::NotInGap),
     (
-        "0182010000",
-        SessionError::Malformed(ReadError::Unexpected {
-            offset: 4,
-            expected: Expected::End,
-        }),
+        "0182 01 02 02 0102 11 01 0505050505050505050505050505050505050505050505050505050505050505",
+        SessionError::NotInGap,
+    ),
+    (
+        "0182 02 05050505050505050505050505050505 02 02 0102 11 01 00 00 00",
+        SessionError::NotInGap,
     ),
 ];
 
 #[test]
 fn outlines_that_are_refused(rt: HostRuntime) -> Result<(), Fail> {
     let alloc = rt.alloc();
-    for case in &OUTLINES {
-        match second(alloc, &bytes_of(alloc, case.0)?)? {
-            None => assert!(rt; false, "{}", case.0),
-            Some(error) => assert_eq!(rt; error, case.1),
-        }
-    }
-    Ok(())
-}
-
-/// The bytes of an outline over all keys: the items, each a key or none for a page, with digests of 5s.
-fn outline(alloc: Global, items: &[Option<u8>]) -> Result<Vec<u8>, Fail> {
-    let mut bytes = Vec::from_slice(alloc, &[1, 130, 1])?;
-    encode_count(items.len() as u64, &mut bytes)?;
-    for item in items {
-        match item {
-            Some(key) => bytes.extend_from_slice(&[0, *key])?,
-            None => bytes.extend_from_slice(&[1])?,
-        }
-        bytes.extend_from_slice(&[5; 16])?;
-    }
-    Ok(bytes)
-}
-
-/// The keys and the pages (none) of outlines over all keys, and why they are refused.
-const SHOWN: [(&[Option<u8>], Option<SessionError>); 7] = [
-    (&[], None),
-    (&[Some(1), Some(2)], None),
-    (&[None, Some(2), None], None),
-    (&[Some(2), Some(1)], Some(SessionError::NotInGap)),
-    (&[Some(2), None, Some(2)], Some(SessionError::NotInGap)),
-    (&[Some(2), None, None], Some(SessionError::TwoPages)),
-    (&[None], Some(SessionError::NoNode)),
-];
-
-#[test]
-fn keys_and_pages_out_of_place_are_refused(rt: HostRuntime) -> Result<(), Fail> {
-    let alloc = rt.alloc();
-    for case in &SHOWN {
-        let found = second(alloc, &outline(alloc, case.0)?)?;
-        assert!(rt; found == case.1);
-    }
-    Ok(())
-}
-
-/// The keys of rows that came where the rows at the keys 8 and 9 were asked for, and why they are refused.
-const ROWS: [(&[u8], Option<SessionError>); 6] = [
-    (&[], None),
-    (&[8], None),
-    (&[8, 9], None),
-    (&[7], Some(SessionError::NotAsked)),
-    (&[9, 8], Some(SessionError::NotAsked)),
-    (&[8, 8], Some(SessionError::NotAsked)),
-];
-
-#[test]
-fn rows_that_were_not_asked_for_are_refused(rt: HostRuntime) -> Result<(), Fail> {
-    let alloc = rt.alloc();
-    for case in &ROWS {
-        assert!(rt; third(alloc, case.0)? == case.1);
-    }
-    Ok(())
-}
-
-/// What a replica with the keys 1 to 3 says to rows at these keys, where the peer has shown the keys 8 and 9.
-fn third(alloc: Global, keys: &[u8]) -> Result<Option<SessionError>, Fail> {
     let mut local = three(alloc)?;
-    let (session, _) = CatchingUp::begin(alloc, &local)?;
-    let Next::Ask(session, _) = session.take(&mut local, &bytes_of(alloc, ROOT)?)? else {
-        return Err(Fail::new("no outline was asked for"));
-    };
-    let shown = outline(alloc, &[Some(8), Some(9)])?;
-    let Next::Ask(session, message) = session.take(&mut local, &shown)? else {
-        return Err(Fail::new("no row was asked for"));
-    };
-    if message.as_slice() != [1u8, 3, 2, 8, 9].as_slice() {
-        return Err(Fail::new("other keys were asked for"));
+    for case in &NO_OUTLINES {
+        let is_so = is_malformed(alloc, &mut local, &[ROOT, case.0], (case.1, case.2))?;
+        assert!(rt; is_so, "{}", case.0);
     }
-    let mut reply = Vec::from_slice(alloc, &[1, 131])?;
-    encode_count(keys.len() as u64, &mut reply)?;
-    for key in keys {
-        reply.extend_from_slice(&[*key, 1, 0, 0, 0, 0, 0, 0, 0])?;
+    for case in &OTHER_OUTLINES {
+        let found = after(alloc, &mut local, &[ROOT, case.0])?;
+        assert!(rt; found == Found::Refused(case.1), "{}", case.0);
     }
-    match session.take(&mut local, &reply) {
-        Ok(_) => Ok(None),
-        Err(error) => Ok(Some(error)),
-    }
-}
-
-/// A replica with another level base, page format or hasher than the peer's is refused by the peer.
-#[test]
-fn other_settings_are_refused(rt: HostRuntime) -> Result<(), Fail> {
-    let alloc = rt.alloc();
-    let mut peer = three(alloc)?;
-    let mut local: Bytes = Replica::new(alloc, Builder::default().with_page_format(PageFormat::V2));
-    local.put([1], 9)?;
-    let (_, message) = CatchingUp::begin(alloc, &local)?;
-    match answer(alloc, &mut peer, &message) {
-        Ok(_) => assert!(rt; false),
-        Err(error) => assert_eq!(rt; error, AnswerError::OtherSettings),
-    }
+    assert!(rt; is_as_before(&local));
     Ok(())
 }
 
-/// A session in which the peer has more and more pages below one another ends.
+/// Sessions of a lying peer whose last reply is no message that was due, and what should have stood behind so many bytes: a page where its nodes alone were
+/// asked for, values that are cut, out of form, or more than were asked for, and a flag of rows out of form.
+const NO_REPLIES: [(&[&str], usize, Expected); 5] = [
+    (
+        &[
+            ROOT,
+            EIGHT,
+            "0183 02 05050505050505050505050505050505 01 02 0108 00 00",
+        ],
+        3,
+        Expected::Kind,
+    ),
+    (&[ROOT, EIGHT, DIGEST, "0184 02"], 2, Expected::Flag),
+    (&[ROOT, EIGHT, DIGEST, "0184 01"], 3, Expected::Count),
+    (&[ROOT, EIGHT, DIGEST, "0184 00 00"], 3, Expected::End),
+    (&[MANY, "0185 01 02 0108 01 02"], 7, Expected::Flag),
+];
+
+/// Sessions of a lying peer whose last reply is refused for what it says: an outline in place of nodes, a key outside of the gap that was asked for on
+/// either side of it, no value, rows in place of values, a part of which more is said to come and no row did, rows that were told before, and a row
+/// that is told among the nodes of a page and among the rows below it.
+const OTHER_REPLIES: [(&[&str], SessionError); 9] = [
+    (&[ROOT, EIGHT, "0182 00 00"], SessionError::OtherKind),
+    (
+        &[ROOT, BELOW, NONE, "0182 00 01 02 0108 01"],
+        SessionError::NotInGap,
+    ),
+    (
+        &[ROOT, BELOW, NONE, "0182 00 01 02 0109 01"],
+        SessionError::NotInGap,
+    ),
+    (&[ROOT, EIGHT, DIGEST, "0184"], SessionError::NothingCame),
+    (
+        &[ROOT, EIGHT, DIGEST, "0185 00 01"],
+        SessionError::OtherKind,
+    ),
+    (&[MANY, "0185 00 00"], SessionError::NothingCame),
+    (
+        &[MANY, "0185 01 02 0108 01 00", "0185 01 20 01 01"],
+        SessionError::NotInGap,
+    ),
+    (
+        &[MANY, "0185 01 02 0108 01 00", "0185 01 11 07 01 01"],
+        SessionError::NotInGap,
+    ),
+    (
+        &[
+            ROOT,
+            BELOW,
+            "0183 00 02 02 0107 01 11 08 01",
+            "0185 01 02 0107 01 01",
+        ],
+        SessionError::Twice,
+    ),
+];
+
 #[test]
-fn rounds_without_end_are_refused(rt: HostRuntime) -> Result<(), Fail> {
+fn later_replies_that_are_refused(rt: HostRuntime) -> Result<(), Fail> {
     let alloc = rt.alloc();
+    let mut local = three(alloc)?;
+    for (place, case) in NO_REPLIES.iter().enumerate() {
+        let is_so = is_malformed(alloc, &mut local, case.0, (case.1, case.2))?;
+        assert!(rt; is_so, "{place}");
+    }
+    for (place, case) in OTHER_REPLIES.iter().enumerate() {
+        let found = after(alloc, &mut local, case.0)?;
+        assert!(rt; found == Found::Refused(case.1), "{place}");
+    }
+    assert!(rt; is_as_before(&local));
+    Ok(())
+}
+
+/// What a session asks behind replies, or how many rows come, so that the refusals above are of what they say: rows at the keys that were asked for are
+/// told without a key, so a row at another can't be said.
+#[test]
+fn sessions_that_go_on(rt: HostRuntime) -> Result<(), Fail> {
+    let alloc = rt.alloc();
+    let mut local = three(alloc)?;
+    let cases: [(&[&str], &str); 7] = [
+        (&[ROOT], "0102 10 01 00 00"),
+        (&[MANY], "0105 01 00 00"),
+        (&[ROOT, EIGHT], "0103 10 01 00 00"),
+        (&[ROOT, EIGHT, DIGEST], "0104 01 02 0108"),
+        (&[ROOT, BELOW, NONE], "0102 10 01 00 01 02 0108"),
+        (&[MANY, "0185 01 02 0108 01 00"], "0105 01 01 02 0108 00"),
+        (
+            &[ROOT, BELOW, "0183 00 02 02 0107 01 11 08 01"],
+            "0105 01 00 01 02 0108",
+        ),
+    ];
+    for case in &cases {
+        let wanted = Found::Asks(bytes_of(alloc, case.1)?);
+        assert!(rt; after(alloc, &mut local, case.0)? == wanted, "{}", case.1);
+    }
+    assert!(rt; after(alloc, &mut local, &["0181 00 00"])? == Found::Came(0));
+    assert!(rt; after(alloc, &mut local, &[ROOT, "0182 00 00"])? == Found::Came(0));
+    assert!(rt; after(alloc, &mut local, &[ROOT, EIGHT, DIGEST, "0184 01 05"])? == Found::Came(1));
+    assert!(rt;
+        after(alloc, &mut local, &[MANY, "0185 02 02 0101 09 11 08 05 01"])? == Found::Came(1)
+    );
+    assert!(rt; is_as_before(&local));
+    Ok(())
+}
+
+/// The outline of a page over a gap above a key: one node, a page behind it, and a digest of nodes.
+fn page_above(alloc: Global, after: Option<[u8; 8]>, node: [u8; 8]) -> Result<Vec<u8>, Fail> {
+    let mut reply = bytes_of(alloc, "0182 02 05050505050505050505050505050505 01")?;
+    KeyRun::behind(alloc, after.as_ref())?.encode(&node, &mut reply)?;
+    reply.extend_from_slice(&bytes_of(alloc, "00 01 06060606060606060606060606060606")?)?;
+    Ok(reply)
+}
+
+/// How many rounds a session takes in which the peer has a page below each page, until it is refused.
+fn rounds_until_refused(alloc: Global) -> Result<Option<(u64, SessionError)>, Fail> {
     let mut local = numbers::<[u8; 8]>(alloc, 3, 1, 1)?;
     let (session, _) = CatchingUp::begin(alloc, &local)?;
     let mut session = session;
     let mut reply = bytes_of(alloc, ROOT)?;
-    for round in 0..300u64 {
-        match session.take(&mut local, &reply) {
-            Ok(Next::Ask(next, _)) => session = next,
-            Ok(Next::Came(_)) => return Err(Fail::new("rows came")),
-            Err(error) => {
-                assert_eq!(rt; error, SessionError::TooManyRounds);
-                assert_eq!(rt; round, 256);
-                return Ok(());
+    let mut node = None;
+    let mut rounds = 0u64;
+    for _ in 0..1000 {
+        let message = match session.take(&mut local, &reply) {
+            Ok(Next::Ask(next, message)) => {
+                session = next;
+                message
             }
+            Ok(Next::Came(_)) => return Ok(None),
+            Err(error) => return Ok(Some((rounds, error))),
+        };
+        if message.get(1) == Some(&3) {
+            reply = bytes_of(alloc, NONE)?;
+        } else {
+            rounds = rounds.saturating_add(1);
+            let next = rounds.saturating_add(10).to_be_bytes();
+            reply = page_above(alloc, node, next)?;
+            node = Some(next);
         }
-        reply = Vec::from_slice(alloc, &[1, 130, 1, 2, 0])?;
-        reply.extend_from_slice(&(round + 10).to_be_bytes())?;
-        reply.extend_from_slice(&[5; 16])?;
-        reply.extend_from_slice(&[1])?;
-        reply.extend_from_slice(&[5; 16])?;
     }
-    Err(Fail::new("no end"))
+    Ok(None)
+}
+
+/// A session in which the peer has more and more pages below one another ends: a tree has at most 256 levels.
+#[test]
+fn rounds_without_end_are_refused(rt: HostRuntime) -> Result<(), Fail> {
+    let found = rounds_until_refused(rt.alloc())?;
+    assert!(rt; found == Some((256, SessionError::TooManyRounds)));
+    Ok(())
 }

@@ -3,7 +3,7 @@ use crate::keys::Sample;
 use merkle_digest::SipHasher;
 use merkle_replica::Replica;
 use merkle_search_tree::builder::Builder;
-use merkle_wire::{CatchingUp, Next, answer};
+use merkle_wire::{CatchingUp, Next, answer, catch_up_by_messages};
 use std::alloc::Global;
 use std::test::Fail;
 
@@ -25,15 +25,14 @@ pub(crate) fn numbers<K: Sample>(
         };
         rows.push((K::of(alloc, i)?, number))?;
     }
-    let mut replica = Replica::new(alloc, Builder::default());
-    if replica.put_all(rows).is_err() {
-        return Err(Fail::new("memory"));
+    match Replica::from_rows(alloc, Builder::default(), rows) {
+        Ok(replica) => Ok(replica),
+        Err(_) => Err(Fail::new("rows")),
     }
-    Ok(replica)
 }
 
-/// What a catch-up over a wire did.
-#[derive(Drop)]
+/// What a session took, and how many rows it brought.
+#[derive(Debug, PartialEq, Eq, Drop)]
 pub(crate) struct Done {
     pub(crate) messages: usize,
     pub(crate) sent: usize,
@@ -41,18 +40,18 @@ pub(crate) struct Done {
     pub(crate) rows: usize,
 }
 
-/// Brings what the peer has.
-pub(crate) fn catch_up<K: Sample>(
+/// The rows of the peer that a session brings, and what it took. Nothing is joined.
+fn session<K: Sample>(
     alloc: Global,
     local: &mut Numbers<K>,
     peer: &mut Numbers<K>,
-) -> Result<Done, Fail> {
+) -> Result<(Vec<(K, u64)>, Done), Fail> {
     let (session, message) = CatchingUp::begin(alloc, local)?;
     let mut session = session;
     let mut message = message;
     let mut sent = 0usize;
     let mut came = 0usize;
-    for messages in 1..300usize {
+    for messages in 1..600usize {
         let reply = answer(alloc, peer, &message)?;
         sent = sent.saturating_add(message.len());
         came = came.saturating_add(reply.len());
@@ -63,113 +62,71 @@ pub(crate) fn catch_up<K: Sample>(
             }
             Next::Came(rows) => {
                 let count = rows.len();
-                if local.join_rows(rows).is_err() {
-                    return Err(Fail::new("join"));
-                }
-                return Ok(Done {
+                let done = Done {
                     messages,
                     sent,
                     came,
                     rows: count,
-                });
+                };
+                return Ok((rows, done));
             }
         }
     }
     Err(Fail::new("no end"))
 }
 
-/// How two replicas differ, and what a catch-up between them costs.
-struct Case {
-    /// How many rows the asking side has.
-    own: u64,
-    /// How many the peer has.
-    peer: u64,
-    /// The number of each row that has another value at the peer is a multiple of this.
-    step: u64,
-    /// How many rows come.
-    rows: usize,
-    /// In how many messages at most, each with its reply.
-    messages: usize,
-    /// In how many bytes both ways at most.
-    bytes: usize,
-}
+/// A replica that sessions are with, and what a session costs: how many rows it has, of which those have another value whose number is a multiple of
+/// the second number; how many rows come; in how many messages at most, each with its reply; and in how many bytes both ways at most.
+type Case = (u64, u64, usize, usize, usize);
 
-/// Texts of nine letters with numbers, so that a row has 18 bytes. The bytes are those of `docs/WIRE.md`, rounded up.
-const CASES: [Case; 7] = [
-    Case {
-        own: 1000,
-        peer: 1000,
-        step: 2000,
-        rows: 1,
-        messages: 5,
-        bytes: 1_700,
-    },
-    Case {
-        own: 1000,
-        peer: 1000,
-        step: 100,
-        rows: 10,
-        messages: 5,
-        bytes: 12_200,
-    },
-    Case {
-        own: 1000,
-        peer: 1000,
-        step: 1,
-        rows: 1000,
-        messages: 5,
-        bytes: 57_800,
-    },
-    Case {
-        own: 0,
-        peer: 1000,
-        step: 1,
-        rows: 1000,
-        messages: 2,
-        bytes: 18_100,
-    },
-    Case {
-        own: 1000,
-        peer: 0,
-        step: 1,
-        rows: 0,
-        messages: 1,
-        bytes: 40,
-    },
-    Case {
-        own: 20_000,
-        peer: 20_000,
-        step: 20_000,
-        rows: 1,
-        messages: 6,
-        bytes: 2_400,
-    },
-    Case {
-        own: 20_000,
-        peer: 20_000,
-        step: 100,
-        rows: 200,
-        messages: 6,
-        bytes: 232_100,
-    },
+/// Sessions of a side without rows, to which all rows are told at once.
+const EMPTY: [Case; 2] = [(1000, 1, 1000, 2, 3160), (20_000, 1, 20_000, 2, 62_300)];
+
+/// Sessions of a side with 1,000 rows.
+const SMALL: [Case; 7] = [
+    (0, 1, 0, 1, 38),
+    (1000, 2000, 1, 4, 605),
+    (1000, 100, 10, 5, 2770),
+    (1000, 10, 100, 5, 4990),
+    (1000, 5, 200, 6, 5200),
+    (1000, 2, 500, 6, 5320),
+    (1000, 1, 1000, 4, 3420),
 ];
+
+/// Sessions of a side with 20,000 rows.
+const LARGE: [Case; 4] = [
+    (20_000, 20_000, 1, 5, 1010),
+    (20_000, 200, 100, 6, 37_000),
+    (20_000, 20, 1000, 5, 65_200),
+    (20_000, 1, 20_000, 4, 62_600),
+];
+
+/// How many bytes a row has by itself: a text of nine letters behind its length, and a number below 128.
+const ROW: usize = 11;
+
+/// The first session of a side with so many rows that brings other rows than a case says or costs more, or more than all rows of the peer by
+/// themselves and a tenth: what it took, where there is one.
+fn first_over(alloc: Global, own: u64, cases: &[Case]) -> Result<Option<Done>, Fail> {
+    let mut local = numbers::<String>(alloc, own, 1, 1)?;
+    for case in cases {
+        let mut peer = numbers::<String>(alloc, case.0, case.1, 2)?;
+        let (_, done) = session(alloc, &mut local, &mut peer)?;
+        let bytes = done.sent.saturating_add(done.came);
+        let all = (case.0 as usize).saturating_mul(ROW).saturating_mul(11) / 10;
+        let is_within = done.messages <= case.3 && bytes <= case.4;
+        if done.rows != case.2 || !is_within || bytes > all.max(100) {
+            return Ok(Some(done));
+        }
+    }
+    Ok(None)
+}
 
 #[test]
 fn sessions_cost_what_the_table_says(rt: HostRuntime) -> Result<(), Fail> {
     let alloc = rt.alloc();
-    for case in &CASES {
-        let mut local = numbers::<String>(alloc, case.own, 1, 1)?;
-        let mut peer = numbers::<String>(alloc, case.peer, case.step, 2)?;
-        let done = catch_up(alloc, &mut local, &mut peer)?;
-        let bytes = done.sent.saturating_add(done.came);
-        assert_eq!(rt; done.rows, case.rows);
-        assert!(rt; done.messages <= case.messages, "{}", done.messages);
-        assert!(rt; bytes <= case.bytes, "{}", bytes);
-        if case.peer != 0 {
-            assert!(rt; local.rows() == peer.rows());
-            assert!(rt; local.root_hash() == peer.root_hash());
-        }
-    }
+    assert_eq!(rt; first_over(alloc, 0, &EMPTY)?, None);
+    assert_eq!(rt; first_over(alloc, 1000, &SMALL)?, None);
+    assert_eq!(rt; first_over(alloc, 20_000, &LARGE)?, None);
     Ok(())
 }
 
@@ -178,18 +135,24 @@ fn nothing_comes_where_nothing_differs(rt: HostRuntime) -> Result<(), Fail> {
     let alloc = rt.alloc();
     let mut local = numbers::<String>(alloc, 300, 7, 2)?;
     let mut peer = numbers::<String>(alloc, 300, 7, 2)?;
-    let done = catch_up(alloc, &mut local, &mut peer)?;
+    let (_, done) = session(alloc, &mut local, &mut peer)?;
     assert_eq!(rt; done.rows, 0);
     assert_eq!(rt; done.messages, 1);
     Ok(())
 }
 
-/// Whether catch-ups in both directions, between replicas of different sizes and values, leave both with the greater number at each key.
+/// Whether catch-ups in both directions, between replicas of different sizes and values, bring the 267 rows in which the first differs from the
+/// second, and then the 334 in which that does from their join, and leave both with the greater number at each key.
 fn joins_both_ways<K: Sample>(alloc: Global) -> Result<bool, Fail> {
     let mut a = numbers::<K>(alloc, 600, 3, 5)?;
     let mut b = numbers::<K>(alloc, 400, 2, 4)?;
-    catch_up(alloc, &mut a, &mut b)?;
-    catch_up(alloc, &mut b, &mut a)?;
+    let brought = (
+        catch_up_by_messages(alloc, &mut a, &mut b),
+        catch_up_by_messages(alloc, &mut b, &mut a),
+    );
+    if brought != (Ok(267), Ok(334)) {
+        return Ok(false);
+    }
     let mut wanted = numbers::<K>(alloc, 600, 3, 5)?;
     if wanted.put_all(twos::<K>(alloc)?).is_err() {
         return Err(Fail::new("memory"));

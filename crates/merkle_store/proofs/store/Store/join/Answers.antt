@@ -20,13 +20,13 @@ pub returns-clause-joined : goal.returns-clause-joined
 returns-clause-joined g c =
     let rows = c.args.self.now.replica.rows in
     let entries = c.args.entries.items in
-    let alike = subst (JoinTheSame _ _ rows entries) (sym c.news_of-news.ensures.news) (later_join_the_same total-law _ laws-law joining-law string_cmp_total rows entries) in
-    gathers_same _ laws-law _ joining-law string_cmp_total rows entries c.news_of-news.result.items c.add_entries.new.replica.rows alike c.in_ok-add_entries.ensures.joined
+    let alike = subst (JoinTheSame _ _ rows entries) (sym c.in_ok-news.ensures.news) (later_join_the_same total-law _ laws-law joining-law string_cmp_total rows entries) in
+    gathers_same _ laws-law _ joining-law string_cmp_total rows entries c.in_ok-news.news.items c.add_entries.new.replica.rows alike c.in_ok-add_entries.ensures.joined
 
 pub returns-then-count-eq0-clause-joined : goal.returns-then-count-eq0-clause-joined
 returns-then-count-eq0-clause-joined g c =
     let rows = c.args.self.now.replica.rows in
     let entries = c.args.entries.items in
-    let none : c.news_of-news.result.items ≡ [] = none_of c.news_of-news.result.items (grind (arith, common_steps)) in
-    let alike = subst (JoinTheSame _ _ rows entries) (sym c.news_of-news.ensures.news ∙ none) (later_join_the_same total-law _ laws-law joining-law string_cmp_total rows entries) in
-    gathers_same _ laws-law _ joining-law string_cmp_total rows entries [] rows alike (gathers_none text_order string_cmp_total _ laws-law _ joining-law rows c.news_of-news.ensures.ascending)
+    let none : c.in_ok-news.news.items ≡ [] = none_of c.in_ok-news.news.items (grind (arith, common_steps)) in
+    let alike = subst (JoinTheSame _ _ rows entries) (sym c.in_ok-news.ensures.news ∙ none) (later_join_the_same total-law _ laws-law joining-law string_cmp_total rows entries) in
+    gathers_same _ laws-law _ joining-law string_cmp_total rows entries [] rows alike (gathers_none text_order string_cmp_total _ laws-law _ joining-law rows c.in_ok-news.ensures.ascending)

@@ -1,21 +1,43 @@
-use Rattle.merkle_wire.specs.declared.question.Question.TheVariants.{RowsAt, RowsIn}
-use Rattle.merkle_wire.proofs.Nexts.{came_next}
+use Rattle.std.proofs.Common.{Some, None}
+use Rattle.std.proofs.lemmas.Result.{IfOk-weaker}
+use Rattle.merkle_replica.specs.Contents.{side}
+use Rattle.merkle_replica.proofs.Sides.{laws_of}
+use Rattle.merkle_wire.specs.Next.{GoesOn, IsAsked, IsNext, OnlyAskedFor}
+use Rattle.merkle_wire.specs.Underway.{Underway}
+use Rattle.merkle_wire.proofs.AskedFor.{only_asked}
+use Rattle.merkle_wire.proofs.Nexts.{hashed_side, is_next}
 use Rattle.merkle_wire.proofs.catching_up.CatchingUp.take.Goals as goal
 
-pub returns-in-Root-clause-next : goal.returns-in-Root-clause-next
-returns-in-Root-clause-next g c = c.take_root.ensures c.args.self.rounds c.args.self.asked
+pub returns-in-Some-clause-next : goal.returns-in-Some-clause-next
+returns-in-Some-clause-next g c =
+    let laws = laws_of g.K.Ord.cmp g.K.KeyBytes.bytes_of g.H.Hasher-1.digest_of g.V.PartialEq.eq g.V.Join.join_of g.H.Hasher-2.digest_of in
+    let encoding = g.K.Encode.encoding in
+    let values = g.V.Encode.encoding in
+    let local = side c.args.replica.now in
+    let inside : Underway g.row.K.Denot g.row.V.Denot = record { asked = c.self.inside.asked; found = c.self.inside.work; rounds = c.self.inside.rounds } in
+    IfOk-weaker c.ask.result (IsAsked encoding c.in-Some.question c.take_reply.new.work c.self.inside.rounds) (IsNext laws g.row.N encoding values local c.args.self c.args.reply.now)
+    (λ next. is_next laws g.row.N encoding values local (side c.hash.new.self) c.args.self inside c.args.reply.now c.take_reply.new.work (Some c.in-Some.question) c.in_ok-question.field-0 next
+    (hashed_side g.K.KeyBytes.bytes_of c.args.replica.now c.hash.new.self c.hash.ensures.rows c.hash.ensures.tree) c.self.view_is c.in-Some.is c.in_ok-question.ensures) c.ask.ensures.asked
 
-pub returns-in-Outlines-clause-next : goal.returns-in-Outlines-clause-next
-returns-in-Outlines-clause-next g c = c.take_outlines.ensures c.args.self.asked
+pub returns-in-None-clause-next : goal.returns-in-None-clause-next
+returns-in-None-clause-next g c =
+    let laws = laws_of g.K.Ord.cmp g.K.KeyBytes.bytes_of g.H.Hasher-1.digest_of g.V.PartialEq.eq g.V.Join.join_of g.H.Hasher-2.digest_of in
+    let encoding = g.K.Encode.encoding in
+    let values = g.V.Encode.encoding in
+    let local = side c.args.replica.now in
+    let inside : Underway g.row.K.Denot g.row.V.Denot = record { asked = c.self.inside.asked; found = c.self.inside.work; rounds = c.self.inside.rounds } in
+    IfOk-weaker c.go_on.result (GoesOn g.K.Ord.cmp encoding c.self.inside.rounds c.take_reply.new.work) (IsNext laws g.row.N encoding values local c.args.self c.args.reply.now)
+    (λ next. is_next laws g.row.N encoding values local (side c.hash.new.self) c.args.self inside c.args.reply.now c.take_reply.new.work None c.in_ok-question.field-0 next
+    (hashed_side g.K.KeyBytes.bytes_of c.args.replica.now c.hash.new.self c.hash.ensures.rows c.hash.ensures.tree) c.self.view_is c.in-None.is c.in_ok-question.ensures) c.go_on.ensures.goes_on
 
-pub returns-in-RowsAt-clause-next : goal.returns-in-RowsAt-clause-next
-returns-in-RowsAt-clause-next g c =
-    let cmp = g.K.Ord.cmp in
-    let asked = rw c.deref-in-RowsAt.ensures.value at c.take_rows_at.ensures in
-    rw c.in-RowsAt.is (came_next cmp g.K.Encode.encoding (RowsAt c.in-RowsAt.keys) c.args.self.rounds _ c.take_rows_at.result (λ rows p. p) asked)
+pub returns-in-Some-clause-asked_for : goal.returns-in-Some-clause-asked_for
+returns-in-Some-clause-asked_for g c =
+    let laws = laws_of g.K.Ord.cmp g.K.KeyBytes.bytes_of g.H.Hasher-1.digest_of g.V.PartialEq.eq g.V.Join.join_of g.H.Hasher-2.digest_of in
+    IfOk-weaker c.ask.result (IsNext laws g.row.N g.K.Encode.encoding g.V.Encode.encoding (side c.args.replica.now) c.args.self c.args.reply.now) (OnlyAskedFor g.K.Ord.cmp c.args.self)
+    (λ next. only_asked laws g.met.K.Ord.total g.row.N g.K.Encode.encoding g.V.Encode.encoding (side c.args.replica.now) c.args.self c.args.reply.now next) (returns-in-Some-clause-next g c)
 
-pub returns-clause-next : goal.returns-clause-next
-returns-clause-next g c =
-    let cmp = g.K.Ord.cmp in
-    let asked = rw c.deref-in-RowsIn.ensures.value at c.take_rows_in.ensures in
-    rw c.in-RowsIn.is (came_next cmp g.K.Encode.encoding (RowsIn c.in-RowsIn.gaps) c.args.self.rounds _ c.take_rows_in.result (λ rows p. p) asked)
+pub returns-in-None-clause-asked_for : goal.returns-in-None-clause-asked_for
+returns-in-None-clause-asked_for g c =
+    let laws = laws_of g.K.Ord.cmp g.K.KeyBytes.bytes_of g.H.Hasher-1.digest_of g.V.PartialEq.eq g.V.Join.join_of g.H.Hasher-2.digest_of in
+    IfOk-weaker c.go_on.result (IsNext laws g.row.N g.K.Encode.encoding g.V.Encode.encoding (side c.args.replica.now) c.args.self c.args.reply.now) (OnlyAskedFor g.K.Ord.cmp c.args.self)
+    (λ next. only_asked laws g.met.K.Ord.total g.row.N g.K.Encode.encoding g.V.Encode.encoding (side c.args.replica.now) c.args.self c.args.reply.now next) (returns-in-None-clause-next g c)

@@ -1,0 +1,19 @@
+-- Byte strings and lists as bytes.
+use Rattle.std.specs.Prelude.{ℕ, List, [], ◌∷◌, ◌++◌, length, ⊤}
+use Rattle.std.specs.List.{flat_map}
+use Rattle.merkle_bytes.specs.Counts.{count_bytes}
+
+-- bytes, as many as there are: their count, and the bytes
+abbrev pub string_encoding : List ℕ → List ℕ
+string_encoding bytes = count_bytes (length bytes) ++ bytes
+
+-- a list: how many entries it has, and the entries
+abbrev pub list_bytes : {X : Type 0} → (X → List ℕ) → List X → List ℕ
+list_bytes encoding xs = count_bytes (length xs) ++ flat_map encoding xs
+
+-- as many entries, each related to the one at its place
+abbrev pub SameLists : {X : Type 0} → (X → X → Type 0) → List X → List X → Type 0
+SameLists E [] [] = ⊤
+SameLists E [] (y ∷ ys) = ⊥
+SameLists E (x ∷ xs) [] = ⊥
+SameLists E (x ∷ xs) (y ∷ ys) = E x y × SameLists E xs ys

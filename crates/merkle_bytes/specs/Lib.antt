@@ -1,0 +1,9 @@
+pub mod Counts
+pub mod Encodings
+pub mod Options
+pub mod PageRanges
+pub mod Refusals
+pub mod Telling
+pub mod Keys
+pub mod Runs
+pub mod RunTelling

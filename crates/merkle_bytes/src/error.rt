@@ -1,0 +1,96 @@
+//! Why bytes were not read.
+ghost use Rattle.std.specs.Prelude.{◌≡◌};
+
+use std::alloc::{AllocError, AllocFailed};
+use std::fmt;
+
+/// What should have stood where bytes could not be read on.
+#[derive(Clone, Copy, Debug, PartialEq, Eq, Drop)]
+pub enum Expected {
+    /// This many bytes more.
+    Bytes(u64),
+    /// A count in its shortest form.
+    Count,
+    /// A text in UTF-8.
+    Text,
+    /// A key that is not below the one before it.
+    LastKey,
+    /// How many bytes a key shares with the one before it, and how many more it has, in the shortest form.
+    Front,
+    /// A key.
+    Key,
+    /// A byte 0 or 1.
+    Flag,
+    /// The byte of a kind.
+    Kind,
+    /// A message that asks.
+    Question,
+    /// The byte of a page format.
+    PageFormat,
+    /// The byte of the version.
+    Version,
+    /// A byte string that is as long as the array.
+    Length,
+    /// A number that fits the type.
+    Number,
+    /// The end.
+    End,
+}
+
+/// Why bytes were not read.
+#[derive(Clone, Copy, Debug, PartialEq, Eq, Drop)]
+pub enum ReadError {
+    /// Memory was refused.
+    Memory,
+    /// What was expected does not stand there.
+    Unexpected {
+        /// How many bytes stand before that place.
+        offset: usize,
+        /// What was expected.
+        expected: Expected,
+    },
+}
+
+impl From<AllocError> for ReadError {
+    ghost use Rattle.merkle_bytes.specs.declared.error.ReadError.TheVariants.{Memory};
+
+    ghost from_gives = { λ _ fault. fault ≡ Memory };
+
+    fn from(_error: AllocError) -> Self {
+        ReadError::Memory
+    }
+}
+
+impl fmt::Display for Expected {
+    fn fmt<W: fmt::Write>(&self, f: &mut fmt::Formatter<W>) -> fmt::Result {
+        match self {
+            Expected::Bytes(count) => write!(f, "{count} bytes more"),
+            Expected::Count => f.write_str("a count in its shortest form"),
+            Expected::Text => f.write_str("a text in UTF-8"),
+            Expected::LastKey => f.write_str("a key that is not below the one before it"),
+            Expected::Front => f.write_str(
+                "what a key shares with the one before it, in its shortest form",
+            ),
+            Expected::Key => f.write_str("a key"),
+            Expected::Flag => f.write_str("a byte 0 or 1"),
+            Expected::Kind => f.write_str("the byte of a kind"),
+            Expected::Question => f.write_str("a message that asks"),
+            Expected::PageFormat => f.write_str("the byte of a page format"),
+            Expected::Version => f.write_str("the byte of the version"),
+            Expected::Number => f.write_str("a number that fits"),
+            Expected::Length => f.write_str("a byte string that is as long as the array"),
+            Expected::End => f.write_str("the end"),
+        }
+    }
+}
+
+impl fmt::Display for ReadError {
+    fn fmt<W: fmt::Write>(&self, f: &mut fmt::Formatter<W>) -> fmt::Result {
+        match self {
+            ReadError::Memory => f.write_str("out of memory"),
+            ReadError::Unexpected { offset, expected } => {
+                write!(f, "behind {offset} bytes {expected} was expected")
+            }
+        }
+    }
+}

@@ -1,0 +1,43 @@
+-- What is left of what was asked for.
+use Rattle.std.proofs.Common.{◌≡◌, ◌≢◌, ℕ, true, false, ◌==◌, List, [], ◌∷◌, ◌++◌, length, take, drop, map, Some, None, refl, ap, sym, ◌∙◌, inl, inr, arith}
+use Rattle.std.specs.Global.{Vec}
+use Rattle.std.specs.Vec.{vec_len}
+use Rattle.std.proofs.lemmas.Bool.{eqb-true}
+use Rattle.std.proofs.lemmas.Bool.Decides.{nat_tests}
+use Rattle.std.proofs.lemmas.List.{take-append-drop}
+use Rattle.merkle_wire.specs.Underway.{AsksAgain}
+use Rattle.merkle_wire.specs.declared.question.Question.{Question}
+
+no_items : {X : Type 0} (xs : List X) → length xs ≡ 0 → xs ≡ []
+no_items [] n = refl
+no_items (x ∷ xs) n = absurd (omega (arith, n))
+
+pub no_bytes : (bytes : List ℕ) → (length bytes == 0) ≡ true → bytes ≡ []
+no_bytes bytes e = no_items bytes (eqb-true (length bytes) 0 e)
+
+module _ {X : Type 0} where
+  pub none_left : (v : Vec X) → (vec_len v == 0) ≡ true → v.items ≡ []
+  none_left v e = let n = eqb-true (vec_len v) 0 e in no_items v.items (omega (arith, v.ok.0, n))
+
+  pub some_left : (v : Vec X) → (vec_len v == 0) ≡ false → v.items ≢ []
+  some_left v e n = let l : vec_len v ≡ 0 = omega (arith, v.ok.0, ap length n) in absurd (grind (arith, nat_tests, e, l))
+
+  pub some_mapped : {Y : Type 0} (f : X → Y) (xs : List X) → xs ≢ [] → map f xs ≢ []
+  some_mapped f [] some e = some refl
+  some_mapped f (x ∷ xs) some e = absurd (cc)
+
+  -- what is asked for has been told of, but for what is left
+  pub told_and_left : {Y : Type 0} (told : List (X × Y)) (asked left : List X) (n : ℕ) → map (λ t. t.0) told ≡ take n asked → left ≡ drop n asked → asked ≡ map (λ t. t.0) told ++ left
+  told_and_left told asked left n t l = sym (take-append-drop n asked) ∙ ap (λ xs. xs ++ drop n asked) (sym t) ∙ ap (λ ys. map (λ t. t.0) told ++ ys) (sym l)
+
+  -- where bytes are left only once all was told, nothing is left while some are
+  pub none_before : (left : List X) (bytes : List ℕ) → (left ≢ [] → bytes ≡ []) → bytes ≢ [] → left ≡ []
+  none_before [] bytes f some = refl
+  none_before (x ∷ xs) bytes f some = absurd (some (f (λ e. absurd (cc))))
+
+module _ {K X : Type 0} (ask : Vec X → Question K) where
+  pub asks_none : (left : Vec X) → (vec_len left == 0) ≡ true → AsksAgain ask left.items None
+  asks_none left e = inl (none_left left e, refl)
+
+  pub asks_some : (left : Vec X) → (vec_len left == 0) ≡ false → AsksAgain ask left.items (Some (ask left))
+  asks_some left e = inr (left, refl, some_left left e, refl)

@@ -1,0 +1,13 @@
+-- Rows at keys, one key after the other.
+use Rattle.std.proofs.Common.{◌++◌, List, [], ◌∷◌, ap, ◌∙◌, refl, inl, inr}
+use Rattle.std.specs.declared.cmp.Ordering.{Ordering}
+use Rattle.merkle_wire.specs.RowsAt.{AreRowsAt, HasRowAt}
+
+module _ {K V : Type 0} (cmp : K → K → Ordering) (rows : List (K × V)) where
+  pub rows_more : (ks : List K) (k : K) (found found' : List (K × V)) → AreRowsAt cmp rows ks found → HasRowAt cmp rows k found found' → AreRowsAt cmp rows (ks ++ k ∷ []) found'
+  rows_more [] k found found' a (inl h) = inl (h.0, h.1 ∙ a)
+  rows_more [] k found found' a (inr h) = inr (h.0, [], h.1, h.2, refl, h.3 ∙ ap (λ t. t ++ h.0 ∷ []) a)
+  rows_more (j ∷ ks) k found found' (inl a) h = inl (a.0, rows_more ks k found found' a.1 h)
+  rows_more (j ∷ ks) k found found' (inr a) (inl h) = inr (a.0, a.1, a.2, a.3, rows_more ks k a.1 a.1 a.4 (inl (h.0, refl)), h.1 ∙ a.5)
+  rows_more (j ∷ ks) k found found' (inr a) (inr h) =
+      inr (a.0, a.1 ++ h.0 ∷ [], a.2, a.3, rows_more ks k a.1 (a.1 ++ h.0 ∷ []) a.4 (inr (h.0, h.1, h.2, refl)), h.3 ∙ ap (λ t. t ++ h.0 ∷ []) a.5)

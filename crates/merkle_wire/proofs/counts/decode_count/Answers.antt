@@ -1,6 +1,0 @@
-use Rattle.merkle_wire.specs.Counts.{count_bytes}
-use Rattle.merkle_wire.proofs.counts.decode_count.Goals as goal
-
-pub returns : goal.returns
-unfolding count_bytes
-returns c = c.decode_bits.ensures

@@ -1,0 +1,8 @@
+use Rattle.std.proofs.Common.{◌≡◌, ◌++◌, take}
+use Rattle.std.specs.List.{flat_map}
+use Rattle.merkle_wire.specs.Nodes.{node_pairs}
+use Rattle.merkle_wire.proofs.nodes.encode_digests.Given as goal
+
+-- the digests of the first nodes are written
+abbrev pub invariant-nodes : goal.invariant-nodes
+invariant-nodes g l = l.bytes.items ≡ l.fn.bytes.items ++ flat_map (λ p. p.1) (node_pairs (take l.node-index l.nodes))

@@ -1,0 +1,83 @@
+use Rattle.std.proofs.Common.{◌≡◌, ◌++◌, ◌∷◌, [], Option, length, map, append_assoc, append-nil, arith, ap, sym, ◌∙◌, rules}
+use Rattle.std.proofs.lemmas.List.{map-append}
+use Rattle.std.specs.List.{flat_map}
+use Rattle.std.specs.Vec.Iter.{into_iter_items}
+use Rattle.merkle_replica.specs.Contents.{side}
+use Rattle.merkle_replica.proofs.Sides.{laws_of}
+use Rattle.merkle_wire.specs.Messages.{front}
+use Rattle.merkle_wire.specs.Replies.{values_bytes}
+use Rattle.merkle_wire.specs.Taking.{new_rows, value_row}
+use Rattle.merkle_wire.specs.declared.message.Kind.TheVariants.{RowsAt as rows_at_kind}
+use Rattle.merkle_wire.specs.declared.wanted.Wanted.{Wanted}
+use Rattle.merkle_wire.proofs.Left.{no_bytes, none_before}
+use Rattle.merkle_wire.proofs.TakenMore.{rows-more, all_yielded}
+use Rattle.merkle_wire.proofs.ValuesRead.{values_more, rows_of_more}
+use Rattle.merkle_wire.proofs.replies.take_values.Goals as goal
+
+pub keys-init : goal.keys-init
+keys-init g c = record {
+  left = search rules;
+  count = search rules;
+  told = [];
+  of = sym c.new-left.ensures.items;
+  once = λ some. absurd (some c.new-left.ensures.items);
+  read = c.in_ok-reader.ensures.read;
+  taken = λ i. record c.args.work.now { rows = sym (append-nil c.args.work.now.rows) i };
+}
+
+pub keys-preserved-in-Continue-branch-2 : goal.keys-preserved-in-Continue-branch-2
+keys-preserved-in-Continue-branch-2 g c =
+    let w = c.in-Some.wanted in
+    let kept = c.keys.invariant in
+    let steps : into_iter_items c.keys.wanted-iterator ≡ w ∷ into_iter_items c.next.new.self = c.in-Some.ensures.steps.0 in
+    record {
+      left = append_assoc c.keys.yielded (w ∷ []) _ ∙ rw (← steps) kept.left;
+      count =
+          let was = kept.count in
+          let gone = c.in-Some.ensures.steps.1 in
+          let short = ap length steps in
+          omega arith;
+      told = kept.told;
+      of = ap (λ t. t ++ w ∷ []) kept.of ∙ append_assoc (map (λ t. t.0) kept.told) c.keys.left.items (w ∷ []) ∙ ap (λ t. map (λ t. t.0) kept.told ++ t) (sym c.in_ok-push.ensures.items);
+      once = λ some. sym c.left.ensures ∙ no_bytes c.left.result.now (sym c.is_empty.ensures ∙ c.if-is_empty.true);
+      read = kept.read;
+      taken = kept.taken;
+    }
+
+pub keys-preserved : goal.keys-preserved
+keys-preserved g c =
+    let laws = laws_of g.K.Ord.cmp g.K.KeyBytes.bytes_of g.H.Hasher-1.digest_of g.V.PartialEq.eq g.V.Join.join_of g.H.Hasher-2.digest_of in
+    let w = c.in-Some.wanted in
+    let kept = c.keys.invariant in
+    let came = c.in_ok-take_value.ensures in
+    let one : Wanted g.row.K.Denot × Option g.row.V.Denot = (w, came.0) in
+    let steps : into_iter_items c.keys.wanted-iterator ≡ w ∷ into_iter_items c.next.new.self = c.in-Some.ensures.steps.0 in
+    let none : c.keys.left.items ≡ [] = none_before c.keys.left.items c.keys.reader.left.now kept.once (search rules) in
+    record {
+      left = append_assoc c.keys.yielded (w ∷ []) _ ∙ rw (← steps) kept.left;
+      count =
+          let was = kept.count in
+          let gone = c.in-Some.ensures.steps.1 in
+          let short = ap length steps in
+          omega arith;
+      told = kept.told ++ one ∷ [];
+      of = ap (λ t. t ++ w ∷ []) (kept.of ∙ ap (λ l. map (λ t. t.0) kept.told ++ l) none ∙ append-nil (map (λ t. t.0) kept.told)) ∙ sym (map-append (λ t. t.0) kept.told (one ∷ []))
+          ∙ sym (append-nil (map (λ t. t.0) (kept.told ++ one ∷ []))) ∙ ap (λ l. map (λ t. t.0) (kept.told ++ one ∷ []) ++ l) (sym none);
+      once = λ some. absurd (some none);
+      read = kept.read ∙ ap (λ t. front rows_at_kind ++ t) (values_more g.V.Encode.encoding kept.told one c.keys.reader.left.now c.take_value.new.reader.left.now came.1);
+      taken = rows-more laws (side c.args.replica.now) c.args.work.now c.keys.work c.take_value.new.work (flat_map value_row kept.told) (value_row one) kept.taken came.2
+          ∙ ap (λ rs. record c.args.work.now { rows = c.args.work.now.rows ++ new_rows laws (side c.args.replica.now) rs }) (rows_of_more kept.told one);
+    }
+
+pub returns : goal.returns
+returns g c =
+    let kept = c.keys.invariant in
+    let bytes = values_bytes g.V.Encode.encoding in
+    let done = all_yielded c.keys.yielded (into_iter_items c.keys.wanted-iterator) c.args.keys.items kept.left (sym kept.count ∙ c.in-None.ensures.steps.0) in
+    let all = kept.read ∙ ap (λ t. front rows_at_kind ++ (bytes kept.told ++ t)) c.in_ok-end.ensures.ended ∙ ap (λ t. front rows_at_kind ++ t) (append-nil (bytes kept.told)) in (
+      kept.told,
+      all,
+      λ e. c.in_ok-reader.ensures.some (let same : front rows_at_kind ++ c.in_ok-reader.reader.left.now ≡ front rows_at_kind ++ [] = sym c.in_ok-reader.ensures.read ∙ all ∙ ap (λ t. front rows_at_kind ++ bytes t) e in cc),
+      sym done ∙ kept.of,
+      kept.taken,
+    )

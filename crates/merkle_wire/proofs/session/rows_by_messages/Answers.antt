@@ -1,0 +1,51 @@
+use Rattle.std.proofs.Common.{refl, subst, sym, ◌∙◌}
+use Rattle.merkle_digest.specs.Level.{level_of}
+use Rattle.merkle_replica.specs.Contents.{side}
+use Rattle.merkle_replica.specs.Faithful.{HasSmallMap}
+use Rattle.merkle_replica.proofs.Sides.{laws_of, same_side}
+use Rattle.merkle_tree_theory.specs.Canonical.{IsCanonicalRoot}
+use Rattle.merkle_wire.specs.Sessions.{CoversNext}
+use Rattle.merkle_wire.proofs.NextCovers.{begun_covers, covers_since}
+use Rattle.merkle_wire.proofs.session.rows_by_messages.Goals as goal
+
+pub exchanges-init : goal.exchanges-init
+exchanges-init g c =
+    let laws = laws_of g.K.Ord.cmp g.K.KeyBytes.bytes_of g.H.Hasher-1.digest_of g.V.PartialEq.eq g.V.Join.join_of g.H.Hasher-2.digest_of in
+    let (settings, asked, of_tree) = c.in-Ok.ensures.settings in
+    record {
+      asks = c.in-Ok.ensures.asks;
+      covers = begun_covers laws g.K.Encode.encoding (side c.args.replica.now) (side c.args.peer.now) c.args.peer.now.tree.root c.in-Ok.begun.0 settings asked c.in-Ok.ensures.nothing.0;
+      rows = refl;
+      settings = (refl, refl, refl);
+      peer_rows = refl;
+      peer_settings = (refl, refl, refl);
+    }
+
+pub exchanges-preserved : goal.exchanges-preserved
+exchanges-preserved g c =
+    let laws = laws_of g.K.Ord.cmp g.K.KeyBytes.bytes_of g.H.Hasher-1.digest_of g.V.PartialEq.eq g.V.Join.join_of g.H.Hasher-2.digest_of in
+    let inv = c.exchanges.invariant in
+    let new = c.exchange.ensures in
+    let canonical = subst (λ t. IsCanonicalRoot (λ k. level_of (laws.key_digest t.hasher k) t.base) t.root) c.tree.ensures.tree c.every_tree_is_sound.ensures.sound.canonical in
+    let small = subst (HasSmallMap laws g.row.N) (sym (same_side c.args.peer.now c.exchanges.peer inv.peer_rows inv.peer_settings)) c.a_replica_in_memory_is_small.ensures in
+    let covers = covers_since laws g.K.Encode.encoding c.args.replica.now c.exchanges.replica c.args.peer.now c.exchanges.peer inv.rows inv.settings inv.peer_rows inv.peer_settings canonical c.tree.ensures.digests
+    c.exchanges.session c.in_ok-rows.field-0 (λ root of covers. c.in_ok-rows.ensures.covers root of small covers) inv.covers in
+    let next = subst (CoversNext laws (side c.args.replica.now) (side c.args.peer.now) c.args.peer.now.tree.root g.K.Encode.encoding) c.in-Ask.is covers in
+    record {
+      asks = next.0;
+      covers = next.1;
+      rows = new.rows ∙ inv.rows;
+      settings = (new.settings.0 ∙ inv.settings.0, new.settings.1 ∙ inv.settings.1, new.settings.2 ∙ inv.settings.2);
+      peer_rows = new.peer_rows ∙ inv.peer_rows;
+      peer_settings = (new.peer_settings.0 ∙ inv.peer_settings.0, new.peer_settings.1 ∙ inv.peer_settings.1, new.peer_settings.2 ∙ inv.peer_settings.2);
+    }
+
+pub returns-in-Came-clause-brought : goal.returns-in-Came-clause-brought
+returns-in-Came-clause-brought g c =
+    let laws = laws_of g.K.Ord.cmp g.K.KeyBytes.bytes_of g.H.Hasher-1.digest_of g.V.PartialEq.eq g.V.Join.join_of g.H.Hasher-2.digest_of in
+    let inv = c.exchanges.invariant in
+    let canonical = subst (λ t. IsCanonicalRoot (λ k. level_of (laws.key_digest t.hasher k) t.base) t.root) c.tree.ensures.tree c.every_tree_is_sound.ensures.sound.canonical in
+    let small = subst (HasSmallMap laws g.row.N) (sym (same_side c.args.peer.now c.exchanges.peer inv.peer_rows inv.peer_settings)) c.a_replica_in_memory_is_small.ensures in
+    let covers = covers_since laws g.K.Encode.encoding c.args.replica.now c.exchanges.replica c.args.peer.now c.exchanges.peer inv.rows inv.settings inv.peer_rows inv.peer_settings canonical c.tree.ensures.digests
+    c.exchanges.session c.in_ok-rows.field-0 (λ root of covers. c.in_ok-rows.ensures.covers root of small covers) inv.covers in
+    subst (CoversNext laws (side c.args.replica.now) (side c.args.peer.now) c.args.peer.now.tree.root g.K.Encode.encoding) c.in-Came.is covers

@@ -1,0 +1,52 @@
+use Rattle.std.proofs.Common.{◌≡◌, ◌++◌, ◌∷◌, [], ℕ, List, length, map, append_assoc, append-nil, arith, refl, ap, sym, subst, ◌∙◌, rules}
+use Rattle.std.proofs.lemmas.Grind.{flat_map-append}
+use Rattle.std.proofs.lemmas.List.{map-append}
+use Rattle.std.specs.List.{flat_map}
+use Rattle.std.specs.Vec.Iter.{into_iter_items}
+use Rattle.key_order.proofs.ListParts.{each-append}
+use Rattle.merkle_replica.specs.Contents.{side}
+use Rattle.merkle_replica.proofs.Sides.{laws_of}
+use Rattle.merkle_wire.proofs.TakenMore.{new_key, keys-more, all_yielded}
+use Rattle.merkle_wire.proofs.taking.take_nodes.Goals as goal
+
+pub keys-init : goal.keys-init
+keys-init g c = record {
+  left = search rules;
+  count = search rules;
+  nodes = [];
+  of = refl;
+  read = refl;
+  lengths = tt;
+  taken = λ i. record c.args.work.now { wanted = sym (append-nil c.args.work.now.wanted) i };
+}
+
+pub keys-preserved : goal.keys-preserved
+keys-preserved g c =
+    let laws = laws_of g.K.Ord.cmp g.K.KeyBytes.bytes_of g.H.Hasher-1.digest_of g.V.PartialEq.eq g.V.Join.join_of g.H.Hasher-2.digest_of in
+    let w = c.in-Some.wanted in
+    let digest = c.in_ok-digest.digest.now in
+    let kept = c.keys.invariant in
+    let node : g.row.K.Denot × List ℕ = (w.key, digest) in
+    let left = c.slice.new.self.left.now in
+    let steps : into_iter_items c.keys.wanted-iterator ≡ w ∷ into_iter_items c.next.new.self = c.in-Some.ensures.steps.0 in
+    record {
+      left = append_assoc c.keys.yielded (w ∷ []) _ ∙ rw (← steps) kept.left;
+      count =
+          let was = kept.count in
+          let gone = c.in-Some.ensures.steps.1 in
+          let short = ap length steps in
+          omega arith;
+      nodes = kept.nodes ++ node ∷ [];
+      of = map-append _ kept.nodes (node ∷ []) ∙ ap (λ ks. ks ++ w.key ∷ []) kept.of ∙ sym (map-append _ c.keys.yielded (w ∷ []));
+      read = kept.read ∙ ap (λ t. flat_map (λ n. n.1) kept.nodes ++ t) (c.in_ok-digest.ensures.read ∙ ap (λ b. b ++ left) (sym (append-nil digest))) ∙ sym (append_assoc (flat_map (λ n. n.1) kept.nodes) (digest ++ []) left)
+          ∙ ap (λ t. t ++ left) (sym (flat_map-append _ kept.nodes (node ∷ [])));
+      lengths = each-append _ kept.nodes (node ∷ []) kept.lengths (c.in_ok-digest.ensures.len, tt);
+      taken = keys-more laws (side c.args.replica.now) c.args.work.now c.keys.work c.take_key.new.self kept.nodes (node ∷ []) kept.taken
+          (subst (λ ks. c.take_key.new.self ≡ record c.keys.work { wanted = c.keys.work.wanted ++ ks }) (sym (new_key laws (side c.args.replica.now) node)) (rw c.has_digest-is_there.ensures at c.in_ok-take_key.ensures));
+    }
+
+pub returns : goal.returns
+returns g c =
+    let kept = c.keys.invariant in
+    let done = all_yielded c.keys.yielded (into_iter_items c.keys.wanted-iterator) c.args.keys.items kept.left (sym kept.count ∙ c.in-None.ensures.steps.0) in
+    (kept.nodes, kept.of ∙ ap (map (λ x. x.key)) done, kept.read, kept.lengths, kept.taken)

@@ -1,0 +1,38 @@
+use Rattle.std.proofs.Common.{[], take, map, Some, sym, subst}
+use Rattle.std.proofs.lemmas.List.{take_all}
+use Rattle.merkle_replica.specs.Contents.{side}
+use Rattle.merkle_replica.proofs.Sides.{laws_of}
+use Rattle.merkle_search_tree.specs.Items.{bound_of}
+use Rattle.merkle_wire.specs.Gaps.{owned_gap}
+use Rattle.merkle_wire.proofs.ItemsMore.{map_more}
+use Rattle.merkle_wire.proofs.NewGaps.{ArePagesSoFar, pages_none, pages_more_of, pages_end}
+use Rattle.merkle_wire.proofs.taking.take_pages.Goals as goal
+
+pub keys-init : goal.keys-init
+keys-init g c =
+    let laws = laws_of g.K.Ord.cmp g.K.KeyBytes.bytes_of g.H.Hasher-1.digest_of g.V.PartialEq.eq g.V.Join.join_of g.H.Hasher-2.digest_of in
+    let begun = c.args.reader.now.left.now in
+    let gap = owned_gap c.args.gap.now in
+    subst (λ b. ArePagesSoFar laws (side c.args.replica.now) gap b [] begun begun c.args.work.now c.args.work.now) (sym c.as_ref-after.ensures.value) (pages_none laws (side c.args.replica.now) gap begun c.args.work.now)
+
+pub keys-preserved : goal.keys-preserved
+keys-preserved g c =
+    let laws = laws_of g.K.Ord.cmp g.K.KeyBytes.bytes_of g.H.Hasher-1.digest_of g.V.PartialEq.eq g.V.Join.join_of g.H.Hasher-2.digest_of in
+    let gap = owned_gap c.args.gap.now in
+    let w = c.wanted-item.result in
+    let below = c.in_ok-take_below.ensures in
+    subst (λ ks. ArePagesSoFar laws (side c.args.replica.now) gap (Some w.key) ks c.args.reader.now.left.now c.take_below.new.reader.left.now c.args.work.now c.take_below.new.work)
+    (sym (map_more (λ x. x.key) c.args.keys.now c.keys.wanted-index w c.keys-test.true c.wanted-item.is))
+    (pages_more_of laws (side c.args.replica.now) gap (bound_of c.keys.after) (map (λ x. x.key) (take c.keys.wanted-index c.args.keys.now)) w.key c.args.reader.now.left.now c.keys.reader.left.now c.take_below.new.reader.left.now
+    c.args.work.now c.keys.work c.take_below.new.work below.0 below.1 c.keys.invariant below.2 below.3 below.4 below.5)
+
+pub returns : goal.returns
+returns g c =
+    let laws = laws_of g.K.Ord.cmp g.K.KeyBytes.bytes_of g.H.Hasher-1.digest_of g.V.PartialEq.eq g.V.Join.join_of g.H.Hasher-2.digest_of in
+    let gap = owned_gap c.args.gap.now in
+    let keys = map (λ x. x.key) c.args.keys.now in
+    let so = subst (λ xs. ArePagesSoFar laws (side c.args.replica.now) gap (bound_of c.keys.after) (map (λ x. x.key) xs) c.args.reader.now.left.now c.keys.reader.left.now c.args.work.now c.keys.work)
+    (take_all c.keys.wanted-index c.args.keys.now c.keys-test.false) c.keys.invariant in
+    let below = rw c.as_ref.ensures.value at c.in_ok-take_below-2.ensures in
+    pages_end laws (side c.args.replica.now) gap (bound_of c.keys.after) keys c.args.reader.now.left.now c.keys.reader.left.now c.take_below-2.new.reader.left.now
+    c.args.work.now c.keys.work c.take_below-2.new.work below.0 below.1 so below.2 below.3 below.4 below.5

@@ -1,0 +1,9 @@
+use Rattle.std.proofs.Common.{None, map, subst}
+use Rattle.merkle_wire.specs.Coming.{AscendIn}
+use Rattle.merkle_wire.proofs.Ascending.{between-map}
+use Rattle.merkle_wire.proofs.within.rows_ascend.Goals as goal
+
+pub returns : goal.returns
+returns g c = λ t.
+    let rows = c.args.rows.now in
+    between-map g.K.Ord.cmp g.met.K.Ord.total None None rows (subst (λ gap. AscendIn g.K.Ord.cmp gap (map (λ r. r.0) rows)) c.everywhere.ensures (c.rows_lie_in.ensures t))

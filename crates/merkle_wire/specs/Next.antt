@@ -1,0 +1,69 @@
+-- What comes after a reply.
+use Rattle.std.specs.Prelude.{◌≡◌, ℕ, ◌+◌, ◌≤◌, ◌++◌, List, Option, Some, None, ⊤}
+use Rattle.std.specs.List.{AllByRecursion}
+use Rattle.std.specs.List.Sorted.{IsPermutation}
+use Rattle.std.specs.declared.cmp.Ordering.{Ordering}
+use Rattle.key_order.specs.Map.{IsMap}
+use Rattle.merkle_replica.specs.Contents.{Side}
+use Rattle.merkle_replica.specs.Laws.{Laws}
+use Rattle.merkle_wire.specs.Asking.{IsAskedOf, IsDone}
+use Rattle.merkle_wire.specs.Coming.{IsAskedFor}
+use Rattle.merkle_wire.specs.Found.{Found}
+use Rattle.merkle_wire.specs.Questions.{question_bytes}
+use Rattle.merkle_wire.specs.Underway.{Underway, HasTaken}
+use Rattle.merkle_wire.specs.declared.catching_up.Next.{Next}
+use Rattle.merkle_wire.specs.declared.catching_up.Next.TheVariants.{Ask, Came}
+use Rattle.merkle_wire.specs.declared.question.Question.{Question}
+use Rattle.merkle_wire.specs.declared.question.Question.TheVariants.{Root, Outlines, Nodes, RowsAt, RowsIn}
+
+-- how many rounds of outlines there are with a question
+abbrev pub rounds_with : {K : Type 0} → ℕ → Question K → ℕ
+rounds_with rounds (Root settings) = rounds
+rounds_with rounds (Outlines most gaps) = rounds + 1
+rounds_with rounds (Nodes most gaps) = rounds
+rounds_with rounds (RowsAt keys) = rounds
+rounds_with rounds (RowsIn gaps) = rounds
+
+-- a catch-up that asks on has asked in 256 rounds at most
+abbrev pub AsksFew : {K V : Type 0} → Next K V → Type 0
+AsksFew (Ask session message) = session.rounds ≤ 256
+AsksFew (Came rows) = ⊤
+
+-- the rows came, in ascending order
+abbrev pub IsCame : {K V : Type 0} → (K → K → Ordering) → List (K × V) → Next K V → Type 0
+IsCame cmp rows (Ask session message) = ⊥
+IsCame cmp rows (Came came) = IsPermutation rows came.items × IsMap cmp came.items
+
+module _ {K V : Type 0} (encoding : K → List ℕ) where
+  -- the question is asked, with what was found besides, in so many rounds
+  abbrev pub IsAsked : Question K → Found K V → ℕ → Next K V → Type 0
+  IsAsked question found rounds (Ask session message) =
+      (message.items ≡ question_bytes encoding question) × (session ≡ record { asked = question; found = found; rounds = rounds })
+  IsAsked question found rounds (Came rows) = ⊥
+
+module _ {K V : Type 0} (cmp : K → K → Ordering) (encoding : K → List ℕ) where
+  -- the catch-up goes on with what was found: it asks for a part of it, or nothing is to be asked for and the rows came
+  abbrev pub GoesOn : ℕ → Found K V → Next K V → Type 0
+  GoesOn rounds found (Ask session message) =
+      IsAskedOf (Some session.asked) found session.found × (message.items ≡ question_bytes encoding session.asked)
+      × (session.rounds ≡ rounds_with rounds session.asked)
+  GoesOn rounds found (Came rows) = IsDone found × IsCame cmp found.rows (Came rows)
+
+  -- what is left of the question is asked again, or the catch-up goes on
+  abbrev pub AsksOrGoesOn : Option (Question K) → ℕ → Found K V → Next K V → Type 0
+  AsksOrGoesOn None rounds found next = GoesOn rounds found next
+  AsksOrGoesOn (Some question) rounds found next = IsAsked encoding question found rounds next
+
+module _ {K V H : Type 0} (laws : Laws K V H) (n : ℕ) (encoding : K → List ℕ) (values : V → List ℕ) where
+  -- the reply is taken, where digests of values have n bytes, and this comes next
+  abbrev pub IsNext : Side K V H → Underway K V → List ℕ → Next K V → Type 0
+  IsNext local before reply next = (found : Found K V) × (again : Option (Question K))
+      × HasTaken laws n encoding values local before.asked reply before.found found again × AsksOrGoesOn laws.cmp encoding again before.rounds found next
+
+module _ {K V : Type 0} (cmp : K → K → Ordering) where
+  -- the rows that are found besides those that were found before are at keys that were asked for
+  abbrev pub OnlyAskedFor : Underway K V → Next K V → Type 0
+  OnlyAskedFor before (Ask session message) =
+      (new : List (K × V)) × AllByRecursion (λ r. IsAskedFor cmp before.asked r.0) new × (session.found.rows ≡ before.found.rows ++ new)
+  OnlyAskedFor before (Came rows) =
+      (new : List (K × V)) × AllByRecursion (λ r. IsAskedFor cmp before.asked r.0) new × IsPermutation (before.found.rows ++ new) rows.items

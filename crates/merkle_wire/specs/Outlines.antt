@@ -1,0 +1,78 @@
+-- What the answering side tells of a page, and its bytes.
+use Rattle.std.specs.Prelude.{◌≡◌, ℕ, List, [], ◌∷◌, ◌++◌, map, flat_map, Bool, true, Option, Some, None, ⊤}
+use Rattle.std.specs.declared.cmp.Ordering.{Ordering}
+use Rattle.merkle_bytes.specs.Keys.{key_behind}
+use Rattle.merkle_bytes.specs.Options.{option_bytes}
+use Rattle.merkle_bytes.specs.Runs.{run_bytes, row_behind, row_key}
+use Rattle.merkle_digest.specs.SipHash.{siphash128, zero_key}
+use Rattle.merkle_tree_theory.specs.Outline.{Item, of_node, of_page}
+use Rattle.merkle_wire.specs.RowsAt.{AreRowsAt}
+
+-- rows; keys with the digests of their values; or a page with others below it: the digest of its nodes, their keys, and the digest of the
+-- page before each of them and of that behind the last
+pub data Outline (K V : Type 0) : Type 0 where
+  rows_told : List (K × V) → Outline K V
+  digests_told : List (K × List ℕ) → Outline K V
+  page_told : List ℕ → List K → List (Option (List ℕ)) → Outline K V
+
+module _ {K : Type 0} where
+  -- the nodes among the items of an outline, each as its key and the digest of its value
+  abbrev pub nodes_among : List (Item K (List ℕ)) → List (K × List ℕ)
+  nodes_among [] = []
+  nodes_among (of_node k d ∷ xs) = (k, d) ∷ nodes_among xs
+  nodes_among (of_page g d ∷ xs) = nodes_among xs
+
+  -- the digest of the page before each node and of that behind the last, where `before` is what stands before the first item
+  abbrev pub pages_beside : Option (List ℕ) → List (Item K (List ℕ)) → List (Option (List ℕ))
+  pages_beside before [] = before ∷ []
+  pages_beside before (of_node k d ∷ xs) = before ∷ pages_beside None xs
+  pages_beside before (of_page g d ∷ xs) = pages_beside (Some d) xs
+
+  -- no page is below
+  abbrev pub HasNoPage : List (Item K (List ℕ)) → Type 0
+  HasNoPage [] = ⊤
+  HasNoPage (of_node k d ∷ xs) = HasNoPage xs
+  HasNoPage (of_page g d ∷ xs) = ⊥
+
+  -- the keys of nodes
+  abbrev pub keys_among : List (K × List ℕ) → List K
+  keys_among = map (λ p. p.0)
+
+-- the digest of digests, one behind the other
+abbrev pub digest_of_all : List (List ℕ) → List ℕ
+digest_of_all ds = siphash128 zero_key (flat_map (λ d. d) ds)
+
+-- the digest of nodes: that of the digests of their values
+abbrev pub nodes_digest : {K : Type 0} → List (K × List ℕ) → List ℕ
+nodes_digest nodes = digest_of_all (map (λ p. p.1) nodes)
+
+module _ {K V : Type 0} (cmp : K → K → Ordering) (rows : List (K × V)) where
+  -- the nodes, as rows or as digests
+  abbrev pub AreNodes : List (K × List ℕ) → Outline K V → Type 0
+  AreNodes nodes (rows_told rs) = AreRowsAt cmp rows (keys_among nodes) rs
+  AreNodes nodes (digests_told same) = same ≡ nodes
+  AreNodes nodes (page_told digest keys pages) = ⊥
+
+  -- what is told of a page with these items, where it is to be told with the pages below it or alone: a page where there are pages below it and they
+  -- are to be told, else its nodes
+  abbrev pub IsTold : Bool → List (Item K (List ℕ)) → Outline K V → Type 0
+  IsTold with_pages items (rows_told rs) = (with_pages ≡ true → HasNoPage items) × AreNodes (nodes_among items) (rows_told rs)
+  IsTold with_pages items (digests_told nodes) = (with_pages ≡ true → HasNoPage items) × AreNodes (nodes_among items) (digests_told nodes)
+  IsTold with_pages items (page_told digest keys pages) =
+      (with_pages ≡ true) × (digest ≡ nodes_digest (nodes_among items)) × (keys ≡ keys_among (nodes_among items)) × (pages ≡ pages_beside None items)
+
+module _ {K : Type 0} (encoding : K → List ℕ) where
+  -- how many keys there are, and the keys, each behind the one before
+  abbrev pub keys_told : List ℕ → List K → List ℕ
+  keys_told = run_bytes (λ last k. key_behind last (encoding k)) (λ last k. encoding k)
+
+-- the digests of pages, each where there is one
+abbrev pub pages_bytes : List (Option (List ℕ)) → List ℕ
+pages_bytes = flat_map (option_bytes (λ d. d))
+
+module _ {K V : Type 0} (encoding : K → List ℕ) (values : V → List ℕ) where
+  -- the bytes of what is told, behind a key
+  abbrev pub outline_bytes : List ℕ → Outline K V → List ℕ
+  outline_bytes last (rows_told rows) = 0 ∷ run_bytes (row_behind encoding values) (row_key encoding) last rows
+  outline_bytes last (digests_told nodes) = 1 ∷ (keys_told encoding last (keys_among nodes) ++ flat_map (λ p. p.1) nodes)
+  outline_bytes last (page_told digest keys pages) = 2 ∷ (digest ++ (keys_told encoding last keys ++ pages_bytes pages))

@@ -1,0 +1,57 @@
+//! The values of a replica at keys.
+ghost use Rattle.std.specs.Prelude.{◌≡◌, ◌++◌, IfOk, OnOk, List, Option, length};
+ghost use Rattle.key_order.specs.Map.{get};
+ghost use Rattle.merkle_bytes.specs.Options.{option_bytes};
+ghost use Rattle.merkle_wire.specs.Replies.{Answers, values_bytes};
+ghost use Rattle.merkle_wire.specs.declared.wanted.Wanted.{Wanted as WantedOf};
+
+use crate::outlines::is_full;
+use crate::wanted::Wanted;
+use merkle_bytes::Encode;
+use merkle_digest::{Hasher, Key};
+use merkle_replica::{Join, Replica};
+use std::alloc::AllocError;
+
+/// Adds the values at the keys to a message, one behind the other, as far as the bytes suffice.
+pub(crate) fn tell_values<
+    K: Key + Drop,
+    V: Join + Encode + Drop,
+    H: Hasher<N, K> + Hasher<N, V>,
+    const N: usize,
+>(
+    replica: &Replica<K, V, H, N>,
+    most_bytes: usize,
+    keys: &[Wanted<K>],
+    begun: Vec<u8>,
+) -> Result<Vec<u8>, AllocError>
+    requires { length begun.items ≡ 2 }
+    ensures { IfOk result (λ bytes. (told : List (WantedOf K × Option V)) × (bytes.items ≡ begun.items ++ values_bytes V.encoding told)
+        × Answers (λ wanted value. value ≡ get K.cmp replica.now.rows wanted.key) keys.now told) }
+{
+    let mut bytes = begun;
+    'keys: for wanted in keys {
+        if is_full(&bytes, most_bytes) {
+            return Ok(bytes);
+        }
+        tell_value(replica, &wanted.key, &mut bytes)?;
+    }
+    Ok(bytes)
+}
+
+/// Writes the value at a key: a byte 0 where there is none, or a byte 1 and the value.
+fn tell_value<
+    K: Key + Drop,
+    V: Join + Encode + Drop,
+    H: Hasher<N, K> + Hasher<N, V>,
+    const N: usize,
+>(replica: &Replica<K, V, H, N>, key: &K, bytes: &mut Vec<u8>) -> Result<(), AllocError>
+    ensures { OnOk result (bytes.new.items ≡ bytes.old.items ++ option_bytes V.encoding (get K.cmp replica.now.rows key.now)) }
+{
+    match replica.row_at(key) {
+        None => bytes.extend_from_slice(&[0]),
+        Some(row) => {
+            bytes.extend_from_slice(&[1])?;
+            row.1.encode(bytes)
+        }
+    }
+}

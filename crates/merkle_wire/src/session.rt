@@ -1,0 +1,191 @@
+//! A whole catch-up between two replicas, through messages.
+ghost use Rattle.std.specs.Prelude.{◌≡◌, ℕ, List, length, IfOk, IfErr};
+ghost use Rattle.key_order.specs.Join.{IsJoin};
+ghost use Rattle.merkle_replica.specs.CatchUp.{IsCatchUpOf};
+ghost use Rattle.merkle_replica.specs.Contents.{side, tree_map, with_rows};
+ghost use Rattle.merkle_replica.specs.Faithful.{HasSmallMap};
+ghost use Rattle.merkle_replica.specs.Pulls.{HoldTheJoin};
+ghost use Rattle.merkle_tree_theory.specs.Canonical.{IsTreeOf};
+ghost use Rattle.merkle_tree_theory.specs.State.{SameSettings};
+ghost use Rattle.merkle_tree_theory.specs.Tree.{Tree};
+ghost use Rattle.merkle_wire.specs.Questions.{question_bytes};
+ghost use Rattle.merkle_wire.specs.Sessions.{IsFaithfulSession, AreBrought, HasJoined, HaveJoined, AreBothRefused, Covers, CoversNext, IsMessagesRefused, IsEarly};
+
+use crate::answering::{AnswerError, answer};
+use crate::catching_up::{CatchingUp, Next};
+use crate::session_error::SessionError;
+use merkle_bytes::Decode;
+use merkle_digest::{Hasher, Key};
+use merkle_replica::laws::a_replica_in_memory_is_small;
+use merkle_replica::{Join, JoinRefused, Lawful, Replica};
+use merkle_search_tree::laws::{a_map_has_one_tree, every_tree_is_sound};
+use std::alloc::Global;
+
+/// Why a catch-up through messages ended early.
+#[derive(Clone, Copy, Debug, PartialEq, Eq, Drop)]
+pub enum MessagesError {
+    /// A message has no reply. Nothing is joined.
+    Answer(AnswerError),
+    /// A reply was refused. Nothing is joined.
+    Session(SessionError),
+    /// Memory was refused as the rows were joined: the first of them are, this many.
+    Join(usize),
+}
+
+/// Catches up with a peer by the messages of a session, each made to bytes and read again, and answers how many rows of the peer were joined.
+///
+/// # Errors
+///
+/// [`MessagesError`]
+pub fn catch_up_by_messages<
+    K: Key + Decode,
+    V: Join + Decode,
+    H: Hasher<N, K> + Hasher<N, V>,
+    const N: usize,
+>(
+    alloc: Global,
+    replica: &mut Replica<K, V, H, N>,
+    peer: &mut Replica<K, V, H, N>,
+) -> Result<usize, MessagesError>
+    // New rows of the peer are joined; while digests are faithful, all that this side lacked.
+    ensures joined { IfOk result (λ joined. HasJoined ⟦<H as Lawful<N, K, V>>⟧.laws (side replica.old) (side peer.old) joined replica.new.rows) }
+
+    // So it is a catch-up then, and leaves the join of both sides' rows.
+    ensures catch_up { let laws = ⟦<H as Lawful<N, K, V>>⟧.laws in IfOk result (λ joined. IsFaithfulSession laws (side replica.old) (side peer.old)
+        → IsCatchUpOf laws (side replica.old) (side peer.old) joined replica.new.rows) }
+    ensures join { let laws = ⟦<H as Lawful<N, K, V>>⟧.laws in IfOk result (λ joined. IsFaithfulSession laws (side replica.old) (side peer.old)
+        → IsJoin K.cmp V.eq V.join_of replica.old.rows peer.old.rows replica.new.rows) }
+
+    // Refused, it has joined no row, or the first ones.
+    ensures refused { IfErr result (λ fault. IsMessagesRefused ⟦<H as Lawful<N, K, V>>⟧.laws (side replica.old) (side peer.old) fault replica.new.rows) }
+
+    ensures peer_rows { peer.new.rows ≡ peer.old.rows }
+    ensures settings { SameSettings replica.old.tree replica.new.tree }
+    ensures peer_settings { SameSettings peer.old.tree peer.new.tree }
+{
+    let _ = peer.rows();
+    let rows = match rows_by_messages(alloc, replica, peer) {
+        Ok(rows) => rows,
+        Err(error) => return Err(error),
+    };
+    let count = rows.len();
+    match replica.join_rows(rows) {
+        Ok(()) => {}
+        Err(JoinRefused::Memory(done)) => return Err(MessagesError::Join(done)),
+        Err(JoinRefused::NotAscending(_)) => unreachable!(),
+    }
+    Ok(count)
+}
+
+/// Why catch-ups through messages in both directions ended early.
+#[derive(Clone, Copy, Debug, PartialEq, Eq, Drop)]
+pub enum BothMessagesError {
+    /// In the first of them.
+    First(MessagesError),
+    /// In the second one, after the first joined so many rows.
+    Second(usize, MessagesError),
+}
+
+/// `a` catches up with `b` by messages, and then `b` with `a`. Both then hold the join of their maps, while digests are faithful in what is met
+/// before each of the two. It answers how many rows each of them joined.
+///
+/// # Errors
+///
+/// [`BothMessagesError`]
+pub fn catch_up_both_by_messages<
+    K: Key + Decode,
+    V: Join + Decode,
+    H: Hasher<N, K> + Hasher<N, V>,
+    const N: usize,
+>(
+    alloc: Global,
+    a: &mut Replica<K, V, H, N>,
+    b: &mut Replica<K, V, H, N>,
+) -> Result<(usize, usize), BothMessagesError>
+    ensures joined { IfOk result (λ joined. HaveJoined ⟦<H as Lawful<N, K, V>>⟧.laws (side a.old) (side b.old) joined.0 joined.1 a.new.rows b.new.rows) }
+
+    // While digests are faithful before each of them, both then hold the join.
+    ensures join { let laws = ⟦<H as Lawful<N, K, V>>⟧.laws in IfOk result (λ joined. IsFaithfulSession laws (side a.old) (side b.old)
+        → IsFaithfulSession laws (side b.old) (with_rows (side a.old) a.new.rows) → HoldTheJoin laws (side a.old) (side b.old) a.new.rows b.new.rows) }
+
+    ensures refused { IfErr result (λ error. AreBothRefused ⟦<H as Lawful<N, K, V>>⟧.laws (side a.old) (side b.old) error a.new.rows b.new.rows) }
+    ensures a_settings { SameSettings a.old.tree a.new.tree }
+    ensures b_settings { SameSettings b.old.tree b.new.tree }
+{
+    let first = match catch_up_by_messages(alloc, a, b) {
+        Ok(first) => first,
+        Err(error) => return Err(BothMessagesError::First(error)),
+    };
+    match catch_up_by_messages(alloc, b, a) {
+        Ok(second) => Ok((first, second)),
+        Err(error) => Err(BothMessagesError::Second(first, error)),
+    }
+}
+
+/// The rows of a peer that a replica lacks, by the messages of a session.
+fn rows_by_messages<
+    K: Key + Decode,
+    V: Join + Decode,
+    H: Hasher<N, K> + Hasher<N, V>,
+    const N: usize,
+>(
+    alloc: Global,
+    replica: &mut Replica<K, V, H, N>,
+    peer: &mut Replica<K, V, H, N>,
+) -> Result<Vec<(K, V)>, MessagesError>
+    ensures brought { IfOk result (λ rows. AreBrought ⟦<H as Lawful<N, K, V>>⟧.laws (side replica.old) (side peer.old) rows.items) }
+    ensures early { IfErr result IsEarly }
+    ensures rows { replica.new.rows ≡ replica.old.rows }
+    ensures settings { SameSettings replica.old.tree replica.new.tree }
+    ensures peer_rows { peer.new.rows ≡ peer.old.rows }
+    ensures peer_settings { SameSettings peer.old.tree peer.new.tree }
+{
+    let (mut session, mut message) = match CatchingUp::begin(alloc, replica) {
+        Ok(begun) => begun,
+        Err(_) => return Err(MessagesError::Session(SessionError::Memory)),
+    };
+    every_tree_is_sound(peer.tree());
+    a_replica_in_memory_is_small(peer);
+    'exchanges: for _ in 0..u64::MAX {
+        match exchange(alloc, replica, peer, session, message)? {
+            Next::Came(rows) => return Ok(rows),
+            Next::Ask(next, question) => {
+                session = next;
+                message = question;
+            }
+        }
+    }
+    Err(MessagesError::Session(SessionError::TooManyRounds))
+}
+
+/// One exchange of messages: the peer's reply is taken. What comes next covers what the catch-up covered, by any tree of the peer's map.
+fn exchange<K: Key + Decode, V: Join + Decode, H: Hasher<N, K> + Hasher<N, V>, const N: usize>(
+    alloc: Global,
+    replica: &mut Replica<K, V, H, N>,
+    peer: &mut Replica<K, V, H, N>,
+    session: CatchingUp<K, V>,
+    message: Vec<u8>,
+) -> Result<Next<K, V>, MessagesError>
+    requires { message.items ≡ question_bytes K.encoding session.asked }
+    ensures covers { let laws = ⟦<H as Lawful<N, K, V>>⟧.laws in IfOk result (λ next. (root : Tree K (List ℕ))
+        → IsTreeOf K.cmp (laws.key_digest peer.old.tree.hasher) peer.old.tree.base root (tree_map laws (side peer.old)) → HasSmallMap laws N (side peer.old)
+        → Covers laws (side replica.old) (side peer.old) root session → CoversNext laws (side replica.old) (side peer.old) root K.encoding next) }
+    ensures early { IfErr result IsEarly }
+    ensures rows { replica.new.rows ≡ replica.old.rows }
+    ensures settings { SameSettings replica.old.tree replica.new.tree }
+    ensures peer_rows { peer.new.rows ≡ peer.old.rows }
+    ensures peer_settings { SameSettings peer.old.tree peer.new.tree }
+{
+    let reply = match answer(alloc, peer, &message) {
+        Ok(reply) => reply,
+        Err(error) => return Err(MessagesError::Answer(error)),
+    };
+    let _ = replica.rows();
+    let _ = peer.rows();
+    every_tree_is_sound(peer.tree());
+    a_map_has_one_tree::<K, H, N>();
+    match session.take(replica, &reply) {
+        Ok(next) => Ok(next),
+        Err(error) => Err(MessagesError::Session(error)),
+    }
+}

@@ -1,0 +1,292 @@
+//! What came of pages, rows and values, read and compared with what this side has.
+ghost use Rattle.std.specs.Prelude.{◌≡◌, ◌++◌, ◌∷◌, [], ℕ, List, Option, OnOk, length, map, flat_map};
+ghost use Rattle.std.specs.List.{AllByRecursion};
+ghost use Rattle.key_order.specs.Map.{last_key};
+ghost use Rattle.merkle_bytes.specs.Options.{option_bytes};
+ghost use Rattle.merkle_bytes.specs.Runs.{bound_key, run_bytes, row_behind, row_key};
+ghost use Rattle.merkle_replica.specs.Contents.{side};
+ghost use Rattle.merkle_search_tree.specs.Items.{bound_of};
+ghost use Rattle.merkle_tree_theory.specs.Gap.{Gap as GapOf, SameGap, part_behind};
+ghost use Rattle.merkle_wire.specs.Coming.{AscendIn, IsPageDigest, LiesIn};
+ghost use Rattle.merkle_wire.specs.Gaps.{owned_gap};
+ghost use Rattle.merkle_wire.specs.Outlines.{Outline, page_told, outline_bytes, keys_told, keys_among, pages_bytes};
+ghost use Rattle.merkle_wire.specs.Replies.{Part, part_bytes};
+ghost use Rattle.merkle_wire.specs.Taking.{AddsGaps, AddsKeys, AddsRows, AreNewGaps, IsBehind, IsNewGap, IsTaken, value_row};
+ghost use Rattle.merkle_wire.specs.declared.gaps.OwnedGap.{OwnedGap as OwnedGapOf};
+
+use crate::gaps::OwnedGap;
+use crate::pages::decode_page;
+use crate::session_error::SessionError;
+use crate::sifting::{has_digest, has_nodes, has_value};
+use crate::wanted::Wanted;
+use crate::within::{keys_lie_in, rows_lie_in};
+use crate::work::Work;
+use merkle_bytes::{Decode, Expected, KeyRun, Reader, decode_run};
+use merkle_digest::{Hasher, Key, PageDigest};
+use merkle_replica::{Join, Lawful, Replica};
+use merkle_search_tree::Gap;
+use std::alloc::AllocError;
+
+/// Takes what came of the page over a gap: its outline, or its nodes alone.
+pub(crate) fn take_outline<
+    K: Key + Decode,
+    V: Join + Decode,
+    H: Hasher<N, K> + Hasher<N, V>,
+    const N: usize,
+>(
+    reader: &mut Reader<'_>,
+    replica: &Replica<K, V, H, N>,
+    with_pages: bool,
+    gap: &OwnedGap<K>,
+    work: &mut Work<K, V>,
+) -> Result<(), SessionError>
+    ensures { OnOk result ((told : Outline K V)
+        × (reader.old.left.now ≡ outline_bytes K.encoding V.encoding (bound_key K.encoding [] gap.now.after) told ++ reader.new.left.now)
+        × LiesIn K.cmp N (owned_gap gap.now) told × IsTaken ⟦<H as Lawful<N, K, V>>⟧.laws (side replica.now) (owned_gap gap.now) told work.old work.new) }
+{
+    let mut run = KeyRun::behind(reader.alloc(), gap.after.as_ref())?;
+    let [kind] = reader.array::<1>()?;
+    if kind == 0 {
+        take_rows(reader, replica, gap, &mut run, work)?;
+        return Ok(());
+    }
+    if kind == 1 {
+        take_digests(reader, replica, gap, &mut run, work)?;
+        return Ok(());
+    }
+    if kind == 2 && with_pages {
+        take_page(reader, replica, gap, &mut run, work)?;
+        return Ok(());
+    }
+    Err(SessionError::Malformed(reader.unexpected(Expected::Kind)))
+}
+
+/// Takes rows in a gap.
+fn take_rows<K: Key + Decode, V: Join + Decode, H: Hasher<N, K> + Hasher<N, V>, const N: usize>(
+    reader: &mut Reader<'_>,
+    replica: &Replica<K, V, H, N>,
+    gap: &OwnedGap<K>,
+    run: &mut KeyRun,
+    work: &mut Work<K, V>,
+) -> Result<(), SessionError>
+    ensures { OnOk result ((rows : List (K × V))
+        × (reader.old.left.now ≡ run_bytes (row_behind K.encoding V.encoding) (row_key K.encoding) run.old rows ++ reader.new.left.now)
+        × AscendIn K.cmp (owned_gap gap.now) (map (λ r. r.0) rows) × AddsRows ⟦<H as Lawful<N, K, V>>⟧.laws (side replica.now) rows work.old work.new) }
+{
+    let before = reader.left().len();
+    let rows = decode_run::<(K, V)>(run, reader)?;
+    if !rows_lie_in(&rows, gap) {
+        return Err(SessionError::NotInGap);
+    }
+    work.note_bytes(before.saturating_sub(reader.left().len()));
+    take_all(replica, rows, work)?;
+    Ok(())
+}
+
+/// Takes those of the rows that this side doesn't have.
+fn take_all<K: Key + Drop, V: Join + Drop, H: Hasher<N, K> + Hasher<N, V>, const N: usize>(
+    replica: &Replica<K, V, H, N>,
+    rows: Vec<(K, V)>,
+    work: &mut Work<K, V>,
+) -> Result<(), AllocError>
+    ensures { OnOk result (AddsRows ⟦<H as Lawful<N, K, V>>⟧.laws (side replica.now) rows.items work.old work.new) }
+{
+    'rows: for row in rows {
+        let is_there = has_value(replica, &row.0, &row.1);
+        work.take_row(row, is_there)?;
+    }
+    Ok(())
+}
+
+/// Takes keys in a gap, with the digests of their values.
+fn take_digests<K: Key + Decode, V: Join + Drop, H: Hasher<N, K> + Hasher<N, V>, const N: usize>(
+    reader: &mut Reader<'_>,
+    replica: &Replica<K, V, H, N>,
+    gap: &OwnedGap<K>,
+    run: &mut KeyRun,
+    work: &mut Work<K, V>,
+) -> Result<(), SessionError>
+    ensures { OnOk result ((nodes : List (K × List ℕ))
+        × (reader.old.left.now ≡ (keys_told K.encoding run.old (keys_among nodes) ++ flat_map (λ n. n.1) nodes) ++ reader.new.left.now)
+        × AscendIn K.cmp (owned_gap gap.now) (keys_among nodes) × AllByRecursion (λ n. length n.1 ≡ N) nodes
+        × AddsKeys ⟦<H as Lawful<N, K, V>>⟧.laws (side replica.now) nodes work.old work.new) }
+{
+    let keys = decode_run::<Wanted<K>>(run, reader)?;
+    if !keys_lie_in(&keys, gap) {
+        return Err(SessionError::NotInGap);
+    }
+    take_nodes(reader, replica, keys, work)?;
+    Ok(())
+}
+
+/// Takes those of the keys that this side doesn't have with the digest that comes for each.
+fn take_nodes<K: Key + Drop, V: Join + Drop, H: Hasher<N, K> + Hasher<N, V>, const N: usize>(
+    reader: &mut Reader<'_>,
+    replica: &Replica<K, V, H, N>,
+    keys: Vec<Wanted<K>>,
+    work: &mut Work<K, V>,
+) -> Result<(), SessionError>
+    ensures { OnOk result ((nodes : List (K × List ℕ)) × (keys_among nodes ≡ map (λ w. w.key) keys.items)
+        × (reader.old.left.now ≡ flat_map (λ n. n.1) nodes ++ reader.new.left.now)
+        × AllByRecursion (λ n. length n.1 ≡ N) nodes × AddsKeys ⟦<H as Lawful<N, K, V>>⟧.laws (side replica.now) nodes work.old work.new) }
+{
+    'keys: for wanted in keys {
+        let digest = reader.slice(N)?;
+        let is_there = has_digest(replica, &wanted.key, digest);
+        work.take_key(wanted, is_there)?;
+    }
+    Ok(())
+}
+
+/// Takes a page that has others below it.
+fn take_page<K: Key + Decode, V: Join + Drop, H: Hasher<N, K> + Hasher<N, V>, const N: usize>(
+    reader: &mut Reader<'_>,
+    replica: &Replica<K, V, H, N>,
+    gap: &OwnedGap<K>,
+    run: &mut KeyRun,
+    work: &mut Work<K, V>,
+) -> Result<(), SessionError>
+    ensures { OnOk result ((digest : List ℕ) × (keys : List K) × (pages : List (Option (List ℕ)))
+        × (reader.old.left.now ≡ (digest ++ (keys_told K.encoding run.old keys ++ pages_bytes pages)) ++ reader.new.left.now)
+        × LiesIn K.cmp {V = V} N (owned_gap gap.now) (page_told digest keys pages)
+        × IsTaken ⟦<H as Lawful<N, K, V>>⟧.laws (side replica.now) (owned_gap gap.now) (page_told digest keys pages) work.old work.new) }
+{
+    let digest = reader.array::<16>()?;
+    let before = reader.left().len();
+    let keys = decode_run::<Wanted<K>>(run, reader)?;
+    let bytes = before.saturating_sub(reader.left().len());
+    if keys.is_empty() {
+        return Err(SessionError::NoNode);
+    }
+    if !keys_lie_in(&keys, gap) {
+        return Err(SessionError::NotInGap);
+    }
+    take_pages(reader, replica, gap, &keys, work)?;
+    if has_nodes(replica, &keys, &digest) {
+        work.note_same(keys.len(), bytes);
+        return Ok(());
+    }
+    let own = OwnedGap::between(gap.after.as_ref(), gap.before.as_ref())?;
+    work.add_nodes(own)?;
+    Ok(())
+}
+
+/// Takes the digests of the pages before the keys and behind the last of them.
+fn take_pages<K: Key + Decode, V: Join + Drop, H: Hasher<N, K> + Hasher<N, V>, const N: usize>(
+    reader: &mut Reader<'_>,
+    replica: &Replica<K, V, H, N>,
+    gap: &OwnedGap<K>,
+    keys: &[Wanted<K>],
+    work: &mut Work<K, V>,
+) -> Result<(), SessionError>
+    ensures { OnOk result ((pages : List (Option (List ℕ))) × (gaps : List (GapOf K))
+        × (reader.old.left.now ≡ pages_bytes pages ++ reader.new.left.now) × AllByRecursion IsPageDigest pages
+        × AreNewGaps ⟦<H as Lawful<N, K, V>>⟧.laws (side replica.now) (owned_gap gap.now) (map (λ w. w.key) keys.now) pages gaps
+        × AddsGaps ⟦<H as Lawful<N, K, V>>⟧.laws (side replica.now) gaps work.old work.new) }
+{
+    let mut after = gap.after.as_ref();
+    'keys: for wanted in keys {
+        take_below(reader, replica, after, Some(&wanted.key), work)?;
+        after = Some(&wanted.key);
+    }
+    take_below(reader, replica, after, gap.before.as_ref(), work)?;
+    Ok(())
+}
+
+/// Adds the gap between two bounds, where the page that fills it is one that this side doesn't have.
+fn take_below<K: Key + Drop, V: Join + Drop, H: Hasher<N, K> + Hasher<N, V>, const N: usize>(
+    reader: &mut Reader<'_>,
+    replica: &Replica<K, V, H, N>,
+    after: Option<&K>,
+    before: Option<&K>,
+    work: &mut Work<K, V>,
+) -> Result<(), SessionError>
+    ensures { OnOk result ((page : Option (List ℕ)) × (new : List (GapOf K))
+        × (reader.old.left.now ≡ option_bytes (λ d. d) page ++ reader.new.left.now) × IsPageDigest page
+        × IsNewGap ⟦<H as Lawful<N, K, V>>⟧.laws (side replica.now) (record { after = bound_of after.entry; before = bound_of before.entry }) page new
+        × AddsGaps ⟦<H as Lawful<N, K, V>>⟧.laws (side replica.now) new work.old work.new) }
+{
+    let Some(digest) = decode_page(reader)? else {
+        return Ok(());
+    };
+    let gap = Gap { after, before };
+    if replica.has_page(&gap, &digest) {
+        return Ok(());
+    }
+    let own = OwnedGap::between(gap.after, gap.before)?;
+    work.add_below(own)?;
+    Ok(())
+}
+
+/// Takes the value at a key that was asked for, where the peer has it and this side doesn't.
+pub(crate) fn take_value<
+    K: Key + Decode,
+    V: Join + Decode,
+    H: Hasher<N, K> + Hasher<N, V>,
+    const N: usize,
+>(
+    reader: &mut Reader<'_>,
+    replica: &Replica<K, V, H, N>,
+    wanted: Wanted<K>,
+    work: &mut Work<K, V>,
+) -> Result<(), SessionError>
+    ensures { OnOk result ((value : Option V) × (reader.old.left.now ≡ option_bytes V.encoding value ++ reader.new.left.now)
+        × AddsRows ⟦<H as Lawful<N, K, V>>⟧.laws (side replica.now) (value_row (wanted, value)) work.old work.new) }
+{
+    let Some(value) = Option::<V>::decode(reader)? else {
+        return Ok(());
+    };
+    let is_there = has_value(replica, &wanted.key, &value);
+    work.take_row((wanted.key, value), is_there)?;
+    Ok(())
+}
+
+/// Takes the rows in a gap, or the first of them, and adds the gap behind these, where there are more.
+pub(crate) fn take_part<
+    K: Key + Decode,
+    V: Join + Decode,
+    H: Hasher<N, K> + Hasher<N, V>,
+    const N: usize,
+>(
+    reader: &mut Reader<'_>,
+    replica: &Replica<K, V, H, N>,
+    gap: &OwnedGap<K>,
+    left: &mut Vec<OwnedGap<K>>,
+    work: &mut Work<K, V>,
+) -> Result<(), SessionError>
+    ensures { OnOk result ((part : Part K V) × (behind : List (OwnedGapOf K))
+        × (reader.old.left.now ≡ part_bytes K.encoding V.encoding (bound_key K.encoding [] gap.now.after) part ++ reader.new.left.now)
+        × AscendIn K.cmp (owned_gap gap.now) (map (λ r. r.0) part.rows)
+        × IsBehind ⟦<H as Lawful<N, K, V>>⟧.laws (side replica.now) (owned_gap gap.now) part behind
+        × (left.new.items ≡ left.old.items ++ behind) × AddsRows ⟦<H as Lawful<N, K, V>>⟧.laws (side replica.now) part.rows work.old work.new) }
+{
+    let mut run = KeyRun::behind(reader.alloc(), gap.after.as_ref())?;
+    let rows = decode_run::<(K, V)>(&mut run, reader)?;
+    if !rows_lie_in(&rows, gap) {
+        return Err(SessionError::NotInGap);
+    }
+    if reader.flag()? {
+        take_all(replica, rows, work)?;
+        return Ok(());
+    }
+    add_behind(&rows, gap, left)?;
+    take_all(replica, rows, work)?;
+    Ok(())
+}
+
+/// Adds what is left of a gap behind the last of the rows.
+fn add_behind<K: Key, V>(
+    rows: &[(K, V)],
+    gap: &OwnedGap<K>,
+    left: &mut Vec<OwnedGap<K>>,
+) -> Result<(), SessionError>
+    ensures { OnOk result ((row : K × V) × (behind : List (K × V)) × (own : OwnedGapOf K) × (rows.now ≡ row ∷ behind)
+        × SameGap K.cmp (part_behind (owned_gap gap.now) (last_key row.0 behind)) (owned_gap own) × (left.new.items ≡ left.old.items ++ own ∷ [])) }
+{
+    let Some(last) = rows.last() else {
+        return Err(SessionError::NothingCame);
+    };
+    let own = OwnedGap::between(Some(&last.0), gap.before.as_ref())?;
+    left.push(own)?;
+    Ok(())
+}

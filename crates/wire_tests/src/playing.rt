@@ -1,0 +1,81 @@
+//! Sessions between two replicas in memory, from any message on, with any replies.
+use merkle_bytes::Decode;
+use merkle_digest::{HashBytes, Key, SipHasher};
+use merkle_replica::{Join, Replica};
+use merkle_wire::{CatchingUp, Next, SessionError, answer_within};
+use std::alloc::Global;
+use std::test::Fail;
+
+/// A replica whose hasher is the default one.
+pub type Rows<K, V> = Replica<K, V, SipHasher, 16>;
+
+/// How many messages a session has here at most. A reply brings a row, a key or a page at least, and the replicas here have few.
+const MOST_MESSAGES: usize = 10_000;
+
+/// A session that waits for the reply to a message.
+#[derive(Drop)]
+pub struct Waiting<K, V> {
+    pub session: CatchingUp<K, V>,
+    pub message: Vec<u8>,
+}
+
+/// A session that begins.
+pub fn begun<K: Key + Decode + HashBytes, V: Join + Decode + HashBytes>(
+    alloc: Global,
+    local: &Rows<K, V>,
+) -> Result<Waiting<K, V>, Fail> {
+    let (session, message) = CatchingUp::begin(alloc, local)?;
+    Ok(Waiting { session, message })
+}
+
+/// The rows that a session brings in the end from the peer, whose replies end at so many bytes, or why it refused a reply.
+pub fn brought<K: Key + Decode + HashBytes, V: Join + Decode + HashBytes>(
+    alloc: Global,
+    waiting: Waiting<K, V>,
+    sides: (&mut Rows<K, V>, &mut Rows<K, V>),
+    most_bytes: usize,
+) -> Result<Result<Vec<(K, V)>, SessionError>, Fail> {
+    let (local, peer) = sides;
+    let mut waiting = waiting;
+    for _ in 0..MOST_MESSAGES {
+        let reply = answer_within(alloc, peer, &waiting.message, most_bytes)?;
+        match waiting.session.take(local, &reply) {
+            Ok(Next::Ask(session, message)) => waiting = Waiting { session, message },
+            Ok(Next::Came(rows)) => return Ok(Ok(rows)),
+            Err(error) => return Ok(Err(error)),
+        }
+    }
+    Err(Fail::new("no end"))
+}
+
+/// The rows that a session brings from its first message on.
+pub fn rows_lacked<K: Key + Decode + HashBytes, V: Join + Decode + HashBytes>(
+    alloc: Global,
+    local: &mut Rows<K, V>,
+    peer: &mut Rows<K, V>,
+    most_bytes: usize,
+) -> Result<Vec<(K, V)>, Fail> {
+    let waiting = begun(alloc, local)?;
+    Ok(brought(alloc, waiting, (local, peer), most_bytes)??)
+}
+
+/// The replies of the peer in a session, in turn.
+pub fn replies_of<K: Key + Decode + HashBytes, V: Join + Decode + HashBytes>(
+    alloc: Global,
+    local: &mut Rows<K, V>,
+    peer: &mut Rows<K, V>,
+    most_bytes: usize,
+) -> Result<Vec<(Vec<u8>, Vec<u8>)>, Fail> {
+    let mut steps = Vec::new(alloc);
+    let mut waiting = begun(alloc, local)?;
+    for _ in 0..MOST_MESSAGES {
+        let reply = answer_within(alloc, peer, &waiting.message, most_bytes)?;
+        let next = waiting.session.take(local, &reply)?;
+        steps.push((waiting.message, reply))?;
+        match next {
+            Next::Ask(session, message) => waiting = Waiting { session, message },
+            Next::Came(_) => return Ok(steps),
+        }
+    }
+    Err(Fail::new("no end"))
+}
