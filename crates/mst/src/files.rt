@@ -1,9 +1,11 @@
 //! The files of stores.
 use crate::fault::Failure;
 use mst_commands::Fault;
-use sqlite::{Connection, File, FileStore};
+use sqlite::{Connection, Error, ErrorCode, File, FileStore};
 use std::fs;
 use std::hash::{BuildHasher, RandomState};
+use std::thread::sleep;
+use std::time::Duration;
 use store_table::table::create;
 
 /// A database in a file.
@@ -17,12 +19,28 @@ fn is_there(rt: &HostRuntime, path: &str) -> Result<bool, Fault> {
     }
 }
 
-/// Opens a file that is there.
-pub fn open_file(rt: &HostRuntime, path: &str) -> Result<FileConnection, Failure> {
+/// How many times a second a file is tried that another process has.
+const TRIES: u64 = 20;
+
+/// Whether a file wasn't opened since another process has it.
+fn is_in_use(opened: &Result<FileConnection, Error>) -> bool {
+    matches!(opened, Err(Error::SqliteFailure(ErrorCode::DatabaseBusy)))
+}
+
+/// Opens a file that is there. Where another process has it, it is tried again for so many seconds.
+pub fn open_file(rt: &HostRuntime, path: &str, seconds: u64) -> Result<FileConnection, Failure> {
     if !is_there(rt, path)? {
         return Err(Failure::Command(Fault::NoStore));
     }
-    Ok(Connection::open(rt, path)?)
+    let mut opened = Connection::open(rt, path);
+    for _ in 0..seconds.saturating_mul(TRIES) {
+        if !is_in_use(&opened) {
+            break;
+        }
+        sleep(rt, Duration::from_millis(1_000 / TRIES));
+        opened = Connection::open(rt, path);
+    }
+    Ok(opened?)
 }
 
 /// The name, or a random one.

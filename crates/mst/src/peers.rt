@@ -1,9 +1,11 @@
 //! The commands that speak with a peer.
 use crate::fault::Failure;
 use merkle_store::Store;
-use merkle_store::framing::{MOST_BYTES, Watch};
+use merkle_store::framing::{MOST_BYTES, Unwatched, Watch};
 use merkle_store::pulling::{self, Brought};
+use mst_commands::reading::write_keys;
 use sqlite::Alter;
+use std::io::{BufWriter, Write};
 
 /// How many bytes come between two lines on standard error.
 const LINE_BYTES: usize = 16_777_216;
@@ -72,4 +74,19 @@ pub fn pull<S: Alter + Drop>(rt: &HostRuntime, store: &mut Store<S>) -> Result<(
         &mut lines,
     )?;
     tell(rt, &brought)
+}
+
+/// Tells on standard error which keys a pull would bring, a line each.
+pub fn diff<S: Alter + Drop>(rt: &HostRuntime, store: &mut Store<S>) -> Result<(), Failure> {
+    let news = pulling::look(
+        store,
+        &mut rt.stdin(),
+        &mut rt.stdout(),
+        MOST_BYTES,
+        &mut Unwatched,
+    )?;
+    let mut out = BufWriter::new(rt.alloc(), rt.stderr())?;
+    write_keys(rt.alloc(), &mut out, &news)?;
+    out.flush()?;
+    Ok(())
 }

@@ -3,7 +3,7 @@ use crate::fault::Failure;
 use crate::tasks::print_root;
 use mst_commands::{Fault, run};
 use mst_words::verb::{HELP, verb_of};
-use mst_words::{NoWords, Verb, given_of, words_of};
+use mst_words::{Given, NoWords, Verb, given_of, words_of};
 use sqlite::{Alter, Connection};
 use store_table::StoreFault;
 
@@ -11,6 +11,22 @@ use store_table::StoreFault;
 fn refuse(rt: &HostRuntime, why: &str) -> Result<bool, Failure> {
     eprintln!(rt; "mst: {why}")?;
     Ok(false)
+}
+
+/// Why a command has no place in the shell, if it has none.
+fn refusal_of(verb: Verb, given: &Given<'_>) -> Option<&'static str> {
+    if given.is_input {
+        return Some("the shell takes no value from standard input");
+    }
+    if given.wait > 0 {
+        return Some("the shell has the file already, so there is nothing to wait for");
+    }
+    match verb {
+        Verb::Init | Verb::Shell | Verb::Serve | Verb::Pull | Verb::Diff | Verb::Import => {
+            Some("the shell has no such command")
+        }
+        _ => None,
+    }
 }
 
 /// Runs a command, and answers whether it succeeded.
@@ -28,14 +44,11 @@ fn run_verb<S: Alter>(
             return Ok(false);
         }
     };
-    if given.is_input {
-        return refuse(rt, "the shell takes no value from standard input");
+    if let Some(why) = refusal_of(verb, &given) {
+        return refuse(rt, why);
     }
     let done = match verb {
         Verb::Root => print_root(rt, conn),
-        Verb::Init | Verb::Shell | Verb::Serve | Verb::Pull | Verb::Import => {
-            return refuse(rt, "the shell has no such command");
-        }
         _ => match run::run(rt, conn, writer, verb, &given) {
             Ok(()) => Ok(()),
             Err(fault) => Err(Failure::Command(fault)),

@@ -33,11 +33,26 @@ fn run_lent<S: Alter>(
     }
 }
 
+/// The time that a store is opened at: entries of a peer of up to a day behind it are taken.
+fn time_of(rt: &HostRuntime, given: &Given<'_>) -> Result<u64, Failure> {
+    if given.ahead {
+        Ok(u64::MAX)
+    } else {
+        Ok(now(rt)?)
+    }
+}
+
 /// Runs a command of a peer on a file.
-fn run_peer(rt: &HostRuntime, conn: FileConnection, verb: Verb) -> Result<(), Failure> {
-    let mut store = merkle_store::store::open(rt.alloc(), conn, now(rt)?)?;
+fn run_peer(
+    rt: &HostRuntime,
+    conn: FileConnection,
+    verb: Verb,
+    given: &Given<'_>,
+) -> Result<(), Failure> {
+    let mut store = merkle_store::store::open(rt.alloc(), conn, time_of(rt, given)?)?;
     let done = match verb {
         Verb::Serve => peers::serve(rt, &mut store),
+        Verb::Diff => peers::diff(rt, &mut store),
         _ => peers::pull(rt, &mut store),
     };
     store.into_connection().close()?;
@@ -56,9 +71,9 @@ pub fn run(rt: &HostRuntime, verb: Verb, path: &str, given: &Given<'_>) -> Resul
     if verb == Verb::Init {
         return make_store(rt, path, given.writer);
     }
-    let mut conn = open_file(rt, path)?;
-    if verb == Verb::Serve || verb == Verb::Pull {
-        return run_peer(rt, conn, verb);
+    let mut conn = open_file(rt, path, given.wait)?;
+    if let Verb::Serve | Verb::Pull | Verb::Diff = verb {
+        return run_peer(rt, conn, verb, given);
     }
     let done = run_lent(rt, &mut conn, verb, given);
     conn.close()?;

@@ -18,3 +18,12 @@ pub fn now(rt: &HostRuntime) -> Result<u64, Fault> {
         Err(_) => Err(Fault::System),
     }
 }
+
+/// The latest time that an entry of another copy may have: a day ahead of the clock, unless any is taken.
+pub fn latest(now: u64, any: bool) -> u64 {
+    if any {
+        u64::MAX
+    } else {
+        now.saturating_add(AHEAD)
+    }
+}

@@ -61,6 +61,19 @@ fn write_object<W: Write>(alloc: Global, out: &mut W, key: &str, text: &str) -> 
     Ok(())
 }
 
+/// Writes the keys of entries, a line each, as a list writes them.
+pub fn write_keys<W: Write>(
+    alloc: Global,
+    out: &mut W,
+    entries: &[(String, Register)],
+) -> Result<(), Fault> {
+    for entry in entries {
+        out.write_all(escape(alloc, entry.0.as_str())?.as_bytes())?;
+        out.write_all(b"\n")?;
+    }
+    Ok(())
+}
+
 /// How a list is written.
 #[derive(Clone, Copy)]
 pub struct Listing<'a> {

@@ -1,6 +1,6 @@
 //! A command on an open database.
 use crate::bounds::Bounds;
-use crate::clock::now;
+use crate::clock::{latest, now};
 use crate::fault::Fault;
 use crate::log::write_log;
 use crate::reading::{Listing, get, list, sum_up};
@@ -95,6 +95,22 @@ fn export<S: Alter>(rt: &HostRuntime, conn: &mut Connection<S>, is_log: bool) ->
     }
 }
 
+/// Writes the records on standard input.
+fn import_given<S: Alter>(
+    rt: &HostRuntime,
+    conn: &mut Connection<S>,
+    writer: &str,
+    given: &Given<'_>,
+) -> Result<(), Fault> {
+    let time = now(rt)?;
+    let log = if given.log {
+        Some(latest(time, given.ahead))
+    } else {
+        None
+    };
+    import(rt.alloc(), conn, writer, time, rt.stdin(), log)
+}
+
 /// Leaves one row for each key, and drops removals that are older than so many milliseconds.
 fn compact_given<S: Alter>(
     rt: &HostRuntime,
@@ -125,7 +141,7 @@ pub fn run<S: Alter>(
         Verb::List => print_list(rt, conn, given),
         Verb::Count => print_count(rt, conn),
         Verb::Status => print_status(rt, conn, writer),
-        Verb::Import => import(alloc, conn, writer, now(rt)?, rt.stdin(), given.log),
+        Verb::Import => import_given(rt, conn, writer, given),
         Verb::Export => export(rt, conn, given.log),
         Verb::Compact => compact_given(rt, conn, given.forget),
         _ => Ok(()),

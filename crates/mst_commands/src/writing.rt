@@ -1,5 +1,4 @@
 //! The commands that write.
-use crate::clock::AHEAD;
 use crate::fault::Fault;
 use crate::records::{MOST, read_entries};
 use sqlite::{Alter, Connection};
@@ -117,9 +116,8 @@ fn is_news(rows: &[(String, Register)], entry: &(String, Register)) -> bool {
     }
 }
 
-/// Refuses entries whose time is more than a day ahead of the clock.
-fn not_ahead(entries: &[(String, Register)], now: u64) -> Result<(), Fault> {
-    let latest = now.saturating_add(AHEAD);
+/// Refuses entries whose time is above the latest that is taken.
+fn not_above(entries: &[(String, Register)], latest: u64) -> Result<(), Fault> {
     for entry in entries {
         if entry.1.time > latest {
             return Err(Fault::Store(StoreFault::Future));
@@ -135,19 +133,20 @@ fn entries_to_add<S: Alter>(
     writer: &str,
     now: u64,
     entries: Entries,
-    is_log: bool,
+    log: Option<u64>,
 ) -> Result<Entries, Fault> {
     let rows = read_latest(alloc, conn)?;
-    let mut latest = latest_rows(entries);
-    if is_log {
-        not_ahead(&latest, now)?;
-        latest.retain(|entry| is_news(&rows, entry));
-        return Ok(latest);
-    }
-    all_dated(alloc, &rows, writer, now, latest)
+    let mut news = latest_rows(entries);
+    let Some(latest) = log else {
+        return all_dated(alloc, &rows, writer, now, news);
+    };
+    not_above(&news, latest)?;
+    news.retain(|entry| is_news(&rows, entry));
+    Ok(news)
 }
 
-/// Writes the records of a CSV, all or none: the last of each key, and of a log those that are later than what the store has.
+/// Writes the records of a CSV, all or none: the last of each key; and of a log, where `log` has the latest time that an entry may have,
+/// those that are later than what the store has.
 ///
 /// # Errors
 ///
@@ -158,10 +157,10 @@ pub fn import<S: Alter, R: Read + Drop>(
     writer: &str,
     now: u64,
     from: R,
-    is_log: bool,
+    log: Option<u64>,
 ) -> Result<(), Fault> {
-    let entries = read_entries(alloc, from, is_log)?;
-    let entries = entries_to_add(alloc, conn, writer, now, entries, is_log)?;
+    let entries = read_entries(alloc, from, log.is_some())?;
+    let entries = entries_to_add(alloc, conn, writer, now, entries, log)?;
     add_all(conn, &entries)?;
     Ok(())
 }

@@ -19,6 +19,10 @@ pub struct Given<'a> {
     pub log: bool,
     /// Removals that are older, in milliseconds, are dropped.
     pub forget: Option<u64>,
+    /// Whether entries of another copy may be more than a day ahead of the clock.
+    pub ahead: bool,
+    /// How many seconds the command waits for a file that another process has.
+    pub wait: u64,
 }
 
 /// What a command line asks for.
@@ -62,6 +66,8 @@ fn nothing<'a>(file: Option<&'a str>) -> Taken<'a> {
             json: false,
             log: false,
             forget: None,
+            ahead: false,
+            wait: 0,
         },
         file,
         places: 0,
@@ -103,6 +109,14 @@ fn at_place<'a>(
     Ok(taken)
 }
 
+/// The number that a word is.
+fn number_of(word: &str) -> Result<u64, Wrong<'_>> {
+    match word.parse() {
+        Ok(number) => Ok(number),
+        Err(_) => Err(Wrong::NoNumber(word)),
+    }
+}
+
 /// Takes the value of a setting.
 fn with_value<'a>(
     given: Given<'a>,
@@ -114,16 +128,15 @@ fn with_value<'a>(
         Setting::From => given.from = Some(word),
         Setting::To => given.to = Some(word),
         Setting::Prefix => given.prefix = Some(word),
-        Setting::Limit => match word.parse() {
-            Ok(limit) => given.limit = Some(limit),
-            Err(_) => return Err(Wrong::NoNumber(word)),
-        },
+        Setting::Limit => given.limit = Some(number_of(word)?),
+        Setting::Wait => given.wait = number_of(word)?,
         Setting::Forget => match milliseconds_of(word) {
             Some(span) => given.forget = Some(span),
             None => return Err(Wrong::NoSpan(word)),
         },
         Setting::Json => given.json = true,
         Setting::Log => given.log = true,
+        Setting::Ahead => given.ahead = true,
     }
     Ok(given)
 }

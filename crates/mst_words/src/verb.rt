@@ -17,6 +17,7 @@ pub enum Verb {
     Shell,
     Serve,
     Pull,
+    Diff,
 }
 
 /// What a word is at its place.
@@ -37,6 +38,8 @@ pub enum Setting {
     Json,
     Log,
     Forget,
+    Ahead,
+    Wait,
 }
 
 /// How the words of a command are given.
@@ -69,6 +72,7 @@ pub fn verb_of(name: &str) -> Option<Verb> {
         "shell" => Some(Verb::Shell),
         "serve" => Some(Verb::Serve),
         "pull" => Some(Verb::Pull),
+        "diff" => Some(Verb::Diff),
         _ => None,
     }
 }
@@ -83,6 +87,8 @@ pub fn setting_of(name: &str) -> Option<Setting> {
         "--json" => Some(Setting::Json),
         "--log" => Some(Setting::Log),
         "--forget-removals-older-than" => Some(Setting::Forget),
+        "--allow-ahead" => Some(Setting::Ahead),
+        "--wait" => Some(Setting::Wait),
         _ => None,
     }
 }
@@ -90,7 +96,7 @@ pub fn setting_of(name: &str) -> Option<Setting> {
 /// Whether a setting has a value behind it.
 pub fn has_value(setting: Setting) -> bool {
     match setting {
-        Setting::Json | Setting::Log => false,
+        Setting::Json | Setting::Log | Setting::Ahead => false,
         _ => true,
     }
 }
@@ -114,10 +120,12 @@ as \\t, \\n, \\r and \\\\. With --json each line is an object with the names key
 ";
 
 const IMPORT_HELP: &str = "\
-usage: mst import FILE [--log]
+usage: mst import FILE [--log] [--allow-ahead]
 
 Writes the records of the CSV on standard input, all or none. Its first line is key,value. Of records with one key the last counts.
 With --log it takes the entries of an export with --log, each at its own time and by its own writer.
+
+  --allow-ahead  takes entries whose time is more than a day ahead of this clock, too
 ";
 
 const EXPORT_HELP: &str = "\
@@ -136,86 +144,128 @@ Leaves one row in the file for each key. It changes no key and no value.
                                      removal that was dropped brings the key back at the next sync
 ";
 
-/// How the words of a command are given.
-pub fn form_of(verb: Verb) -> Form {
+const PULL_HELP: &str = "\
+usage: mst pull FILE [--allow-ahead]
+
+Brings what a peer has that serves, on standard input and standard output, all or nothing.
+
+  --allow-ahead  takes entries whose time is more than a day ahead of this clock, too: a later write of their keys
+                 is then above their time
+";
+
+const DIFF_HELP: &str = "\
+usage: mst diff FILE [--allow-ahead]
+
+Tells which keys a pull would bring from a peer that serves, on standard input and standard output, and brings nothing. It prints them on
+standard error, a line each, as list writes keys. mst-sync --diff prints them on standard output.
+
+  --allow-ahead  as of mst pull, which refuses entries more than a day ahead of this clock
+";
+
+const INIT_HELP: &str = "\
+usage: mst init FILE [WRITER]
+
+Makes a store. WRITER is the name by which this copy writes; left out, it is a random one.
+";
+
+const GET_HELP: &str = "\
+usage: mst get FILE KEY
+
+Prints the value of the key as it is, and a newline. It ends with status 1 where the key isn't there.
+";
+
+const DEL_HELP: &str = "\
+usage: mst del FILE KEY
+
+Removes the key. It ends with status 1 where the key isn't there.
+";
+
+const STATUS_HELP: &str = "\
+usage: mst status FILE
+
+Prints how many keys, removed keys and rows the file has, its writer, its size and the time of the last write.
+";
+
+const ROOT_HELP: &str = "\
+usage: mst root FILE
+
+Prints the root hash, which copies with the same content share.
+";
+
+const SHELL_HELP: &str = "\
+usage: mst shell FILE
+
+Reads commands from standard input, a line each, without mst and FILE. A word in double quotes may have blanks, and \\\\, \\t, \\n, \\r
+and \\\" for these characters.
+";
+
+const SERVE_HELP: &str = "\
+usage: mst serve FILE
+
+Answers a peer that pulls, on standard input and standard output.
+";
+
+/// What stands at each place behind the file.
+fn places_of(verb: Verb) -> &'static [Place] {
     match verb {
-        Verb::Init => Form {
-            places: &[Place::Writer],
-            least: 0,
-            settings: &[],
-            help: "usage: mst init FILE [WRITER]\n\nMakes a store. WRITER is the name by which this copy writes; left out, it is a random one.\n",
-        },
-        Verb::Put => Form {
-            places: &[Place::Key, Place::Value],
-            least: 2,
-            settings: &[],
-            help: PUT_HELP,
-        },
-        Verb::Get => Form {
-            places: &[Place::Key],
-            least: 1,
-            settings: &[],
-            help: "usage: mst get FILE KEY\n\nPrints the value of the key as it is, and a newline. It ends with status 1 where the key isn't there.\n",
-        },
-        Verb::Del => Form {
-            places: &[Place::Key],
-            least: 1,
-            settings: &[],
-            help: "usage: mst del FILE KEY\n\nRemoves the key. It ends with status 1 where the key isn't there.\n",
-        },
-        Verb::List => Form {
-            places: &[],
-            least: 0,
-            settings: &[
-                Setting::From,
-                Setting::To,
-                Setting::Prefix,
-                Setting::Limit,
-                Setting::Json,
-            ],
-            help: LIST_HELP,
-        },
-        Verb::Import => Form {
-            places: &[],
-            least: 0,
-            settings: &[Setting::Log],
-            help: IMPORT_HELP,
-        },
-        Verb::Export => Form {
-            places: &[],
-            least: 0,
-            settings: &[Setting::Log],
-            help: EXPORT_HELP,
-        },
-        Verb::Compact => Form {
-            places: &[],
-            least: 0,
-            settings: &[Setting::Forget],
-            help: COMPACT_HELP,
-        },
-        _ => Form {
-            places: &[],
-            least: 0,
-            settings: &[],
-            help: plain_help(verb),
-        },
+        Verb::Init => &[Place::Writer],
+        Verb::Put => &[Place::Key, Place::Value],
+        Verb::Get | Verb::Del => &[Place::Key],
+        _ => &[],
     }
 }
 
-/// The help of a command that takes the file alone.
-fn plain_help(verb: Verb) -> &'static str {
+/// Which settings a command takes.
+fn settings_of(verb: Verb) -> &'static [Setting] {
     match verb {
+        Verb::Init => &[],
+        Verb::List => &[
+            Setting::From,
+            Setting::To,
+            Setting::Prefix,
+            Setting::Limit,
+            Setting::Json,
+            Setting::Wait,
+        ],
+        Verb::Import => &[Setting::Log, Setting::Ahead, Setting::Wait],
+        Verb::Export => &[Setting::Log, Setting::Wait],
+        Verb::Compact => &[Setting::Forget, Setting::Wait],
+        Verb::Pull | Verb::Diff => &[Setting::Ahead, Setting::Wait],
+        _ => &[Setting::Wait],
+    }
+}
+
+/// The help of a command.
+fn help_of(verb: Verb) -> &'static str {
+    match verb {
+        Verb::Init => INIT_HELP,
+        Verb::Put => PUT_HELP,
+        Verb::Get => GET_HELP,
+        Verb::Del => DEL_HELP,
+        Verb::List => LIST_HELP,
         Verb::Count => "usage: mst count FILE\n\nPrints how many keys there are.\n",
-        Verb::Root =>
-            "usage: mst root FILE\n\nPrints the root hash, which copies with the same content share.\n",
-        Verb::Status =>
-            "usage: mst status FILE\n\nPrints how many keys, removed keys and rows the file has, its writer, its size and the time of the last write.\n",
-        Verb::Shell =>
-            "usage: mst shell FILE\n\nReads commands from standard input, a line each, without mst and FILE. A word in double quotes may have blanks, and \\\\, \\t, \\n, \\r\nand \\\" for these characters.\n",
-        Verb::Serve =>
-            "usage: mst serve FILE\n\nAnswers a peer that pulls, on standard input and standard output.\n",
-        _ =>
-            "usage: mst pull FILE\n\nBrings what a peer has that serves, on standard input and standard output.\n",
+        Verb::Root => ROOT_HELP,
+        Verb::Status => STATUS_HELP,
+        Verb::Import => IMPORT_HELP,
+        Verb::Export => EXPORT_HELP,
+        Verb::Compact => COMPACT_HELP,
+        Verb::Shell => SHELL_HELP,
+        Verb::Serve => SERVE_HELP,
+        Verb::Pull => PULL_HELP,
+        Verb::Diff => DIFF_HELP,
+    }
+}
+
+/// How the words of a command are given.
+pub fn form_of(verb: Verb) -> Form {
+    Form {
+        places: places_of(verb),
+        least: match verb {
+            Verb::Init => 0,
+            _ => places_of(verb).len(),
+        },
+        settings: settings_of(verb),
+        help: help_of(verb),
     }
 }
 
@@ -239,8 +289,10 @@ usage: mst COMMAND FILE [WORDS]
   shell FILE             reads commands from standard input, a line each
   serve FILE             answers a peer on standard input and standard output
   pull FILE              brings what a peer on standard input and standard output has
+  diff FILE              tells which keys a pull would bring
 
 mst COMMAND --help tells more of a command. Words behind -- are no options. mst --version prints the version.
+Each command but init takes --wait SECONDS: so long it waits for a file that another process has, and is then refused.
 It ends with status 0; with 1, and a line on standard error, where it failed or a key isn't there; with 2 for a wrong command line.
 ";
 
