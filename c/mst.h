@@ -35,7 +35,7 @@ enum {
     MST_MALFORMED = 2,    /* the bytes are no list of the kind that the call takes, or its rows don't ascend */
     MST_TOO_SHORT = 3,    /* `out` is too short, and is as before; *needed says how many bytes it takes */
     MST_BAD_ARGUMENT = 4, /* an argument isn't one that the call takes */
-    MST_ABSENT = 5        /* there is no such key, or no further range */
+    MST_ABSENT = 5        /* there is no such key, or no further range or row */
 };
 
 /* A handle: a tree, or none. It has none when its one member is null, as the initializer MST_NO_TREE makes it; a handle whose member
@@ -57,6 +57,20 @@ int mst_tree_new(struct mst_tree *out);
  * of can be read in one way only: take 2 where no peer needs root hashes of the Rust crate. MST_BAD_ARGUMENT for any other base or
  * format, too; MST_NO_MEMORY. One request for memory. */
 int mst_tree_new_with(struct mst_tree *out, const uint8_t key[16], uint8_t level_base, uint8_t page_format);
+
+/* How the keys of a tree are fed to SipHash, whose digest tells the level of a key. */
+enum {
+    MST_FEED_BYTES = 0,  /* the bytes of the key alone */
+    MST_FEED_TEXT = 1,   /* its bytes and a byte 0xff, as `Hash` of Rust feeds a `str` or a `String` */
+    MST_FEED_VECTOR = 2  /* the number of its bytes (a number as in a list, below) and its bytes, as it feeds a `[u8]` or a `Vec<u8>` */
+};
+
+/* The same with a way of feeding keys, which peers have in common too; mst_tree_new and mst_tree_new_with take MST_FEED_BYTES. In the
+ * page format 1 a tree with MST_FEED_TEXT has the root hashes of the Rust crate for keys of the type `String` under its own SipHasher,
+ * and one with MST_FEED_VECTOR those for `Vec<u8>`. What is fed of a value is the caller's: of a `u64` it is its eight bytes, the
+ * lowest first, and of a `String` its bytes and a byte 0xff. Copies and loads keep the way. MST_BAD_ARGUMENT for any other way, too;
+ * MST_NO_MEMORY. One request for memory. */
+int mst_tree_new_as(struct mst_tree *out, const uint8_t key[16], uint8_t level_base, uint8_t page_format, uint8_t key_feed);
 
 /* Gives `out`, which has no tree, a copy of the tree and of the digests that its pages have; mst_tree_free lets it go.
  * MST_BAD_ARGUMENT where `tree` has none or `out` has one; MST_NO_MEMORY. Time and memory in proportion to the tree. */
@@ -86,9 +100,19 @@ int mst_tree_remove(struct mst_tree *tree, const uint8_t *key, size_t key_len);
  * keys, and the next root hash hashes every page. */
 int mst_tree_load(struct mst_tree *tree, const uint8_t *rows, size_t rows_len);
 
+/* The same of a list of digests (below), as mst_tree_digests writes it: so a tree is kept between runs without its values.
+ * MST_MALFORMED where the keys don't ascend, or where it is no such list; MST_NO_MEMORY; MST_BAD_ARGUMENT. Time and memory as for
+ * mst_tree_load. */
+int mst_tree_load_digests(struct mst_tree *tree, const uint8_t *list, size_t list_len);
+
 /* Writes how many keys a tree has. It counts them, in time in proportion to the tree, and takes memory for the path on which it goes.
  * MST_NO_MEMORY; MST_BAD_ARGUMENT. */
 int mst_tree_len(struct mst_tree *tree, size_t *out);
+
+/* Writes the digest of the value at a key. MST_ABSENT where the tree has no such key; MST_NO_MEMORY, since the key is copied first, and
+ * let go again; MST_BAD_ARGUMENT. It hashes nothing, and the tree is as before. Time in proportion to the logarithm of the number of
+ * keys, on average, and to the length of the key. */
+int mst_tree_find(struct mst_tree *tree, const uint8_t *key, size_t key_len, uint8_t digest[16]);
 
 /* Writes the root hash. Trees of one map and with the same settings have one root hash, in whatever order their keys came. It hashes
  * the pages that changed since the last call, after which none is without a digest, and takes no memory. To these pages an upsert adds
@@ -106,6 +130,12 @@ int mst_tree_page_ranges(struct mst_tree *tree, uint8_t *out, size_t out_len, si
  * is (an `out_len` of 0 as above). It hashes nothing, and the tree is as before. MST_TOO_SHORT; MST_NO_MEMORY; MST_BAD_ARGUMENT. Time
  * and memory in proportion to the list. */
 int mst_tree_digests(struct mst_tree *tree, uint8_t *out, size_t out_len, size_t *needed);
+
+/* Writes the pages of a tree as they are, each before those below it, and their keys, as a list of pages (below), and how many bytes that
+ * is (an `out_len` of 0 as above): for a picture of the tree, or for tests. It hashes nothing, so that a page which changed since the last
+ * root hash has no digest in the list, and the tree is as before. MST_TOO_SHORT; MST_NO_MEMORY; MST_BAD_ARGUMENT. Time and memory in
+ * proportion to the list. */
+int mst_tree_pages(struct mst_tree *tree, uint8_t *out, size_t out_len, size_t *needed);
 
 /* Compares two lists of page ranges, one's own and a peer's, and writes the ranges of keys to ask the peer for, as a list of key
  * ranges, and how many bytes that is (an `out_len` of 0 as above). The ranges ascend, and no two meet. They may hold many more keys
@@ -135,15 +165,35 @@ struct mst_range {
  * whatever the list and its keys: going over a list reads the lengths in it twice, and its keys never. */
 int mst_ranges_next(const uint8_t *list, size_t list_len, size_t *at, struct mst_range *out);
 
+/* A row of a list: its key and its value, which in a list of digests is the 16 bytes of digest. The pointers are into the list. */
+struct mst_row {
+    const uint8_t *key;
+    size_t key_len;
+    const uint8_t *value;
+    size_t value_len;
+};
+
+/* Goes to the next row of a list of rows or of digests, as mst_ranges_next goes to the next range, with its statuses and in its time: so a
+ * list that a peer sent is read without a reader of one's own. Whether the keys ascend isn't looked for, which mst_tree_load does and
+ * mst_tree_load_digests. */
+int mst_rows_next(const uint8_t *list, size_t list_len, size_t *at, struct mst_row *out);
+
 /* Lists, byte by byte. A number is eight bytes, the lowest first. A string is its length, a number, and its bytes.
  *
  *   page ranges   the four bytes "MSTp", how many ranges there are, and each range: first key, last key, 16 bytes of digest
  *   key ranges    the four bytes "MSTk", how many ranges there are, and each range: first key, last key
  *   digests       the four bytes "MSTd", how many keys there are, and each key with the 16 bytes of the digest of its value
  *   rows          the four bytes "MSTr", how many rows there are, and each row: key, value
+ *   pages         the four bytes "MSTt", how many pages and keys there are, and each of them: a page is a byte 1, or 2 where it is the high
+ *                 page of another, a byte that is its level, a byte 0, or 1 and the 16 bytes of its digest where it has one, and how many
+ *                 keys stand on it; a key is a byte 0 and the key
  *
  * Keys and values are strings. In a list of page ranges no first key is above its last key; a list of key ranges that a peer sent may
- * have one whose first key is above its last, and which holds no key. Nothing follows the last entry. Each list may be sent as it is. */
+ * have one whose first key is above its last, and which holds no key. Nothing follows the last entry. Each list may be sent as it is.
+ *
+ * A list of pages begins with the root page, and a page is followed by as many keys as stand on it, and each of these may have a page of
+ * its own in front of it, which holds the keys between it and the one before. Behind the last key there may be the high page, which holds
+ * the keys above it. So all keys come in their order. The empty tree has one page, of level 0, without keys. */
 
 #ifdef __cplusplus
 }

@@ -63,10 +63,14 @@ static int put(struct mst_tree *tree, unsigned i, uint64_t value) {
     return mst_tree_upsert(tree, key, len, bytes, 8);
 }
 
-static void squares_under(struct mst_tree *tree, const uint8_t key[16], uint8_t level_base, uint8_t format, unsigned size) {
+static void put_squares(struct mst_tree *tree, unsigned size) {
     unsigned i;
-    WANT(mst_tree_new_with(tree, key, level_base, format) == MST_DONE);
     for (i = 0; i < size; i++) WANT(put(tree, i, i) == MST_DONE);
+}
+
+static void squares_under(struct mst_tree *tree, const uint8_t key[16], uint8_t level_base, uint8_t format, unsigned size) {
+    WANT(mst_tree_new_with(tree, key, level_base, format) == MST_DONE);
+    put_squares(tree, size);
 }
 
 static void squares(struct mst_tree *tree, unsigned size, uint8_t format) {
@@ -123,6 +127,23 @@ static size_t row_list(uint8_t *out, unsigned size, int swapped) {
     return at;
 }
 
+/* That many keys as a list of digests, the digest of each 16 times one byte. */
+static size_t digest_list(uint8_t *out, unsigned size) {
+    size_t at = 12;
+    unsigned i;
+    memcpy(out, "MSTd", 4);
+    add_number(out + 4, size);
+    for (i = 0; i < size; i++) {
+        uint8_t key[16];
+        size_t len = key_of(key, i);
+        at += add_number(out + at, len);
+        memcpy(out + at, key, len);
+        memset(out + at + len, (int)i, 16);
+        at += len + 16;
+    }
+    return at;
+}
+
 /* ---- roots, and the number of page ranges: format 1 by the Rust crate merkle-search-tree 0.8.0, format 2 by a second program */
 static const struct { unsigned size, ranges; const char *first, *second; } ROOTS[] = {
     {0, 0, "5049d74780a3e07d4202ab47d4cef2f4", "f7f170089f9c5a4339efb2c4ba7b2b1d"},
@@ -139,6 +160,19 @@ static const struct { uint8_t level_base; unsigned ranges; const char *first, *s
     {4, 101, "7e48a06ba06be2b468ea6dd8075afeb5", "d77ecb8cc22a96cadae5719905b82590"},
     {128, 7, "0c9503cdaef72b1981df6df63e48c57c", "578a7dab0c81c92573088eaae4d00249"},
     {255, 9, "86ed190f5351ccc301057fa942b0e922", "cdf41ea7186c4a138feb9f32112c4c81"},
+};
+
+/* The root hashes of the Rust crate under its own hasher, for keys of the types `String` and `Vec<u8>` and values of the type `u64`: under
+ * the zero key, or 00 01 .. 0f where a byte is the one before it and one more. */
+static const struct { uint8_t step, level_base; unsigned size, text_ranges, vector_ranges; const char *text, *vector; } FEEDS[] = {
+    {0, 16, 1, 1, 1, "c879f141bd9402f250325abd4d62bf0b", "c879f141bd9402f250325abd4d62bf0b"},
+    {0, 16, 100, 11, 6, "2ff6fe415502d740232f55925114d313", "dc86ecde4cff2b22e81b8878f269ed63"},
+    {0, 16, 500, 38, 33, "8be1367fcd4d9748f243be463225cce3", "2f05ae8934e6c7379cbe9e17fecd6ca0"},
+    {0, 16, 2000, 124, 135, "f17260b4981e0fd8d218e8a5881fa4a6", "aeaff8d434a441bf5a34738186a27aa9"},
+    {1, 4, 3, 1, 1, "c70254031c778ad5b17145c13300953c", "c70254031c778ad5b17145c13300953c"},
+    {1, 4, 100, 20, 24, "08153b9ff9d76e91ca0a786c26c3d5da", "a0765b42bfd832863271be2cf7d4876c"},
+    {1, 4, 500, 93, 98, "538ee05c9cfdd29267cf2213c81ad21c", "68390685900895e2ae63193d8d1e33fb"},
+    {1, 4, 2000, 388, 392, "9f42d3adce3a690d472178b759b9ffc4", "6fd76cc7c1630be4ba10aa9a571b0386"},
 };
 
 /* The page ranges of a tree: so many, the first of them with the digest of the root page. No step over them takes memory. */
@@ -159,11 +193,12 @@ static void are_ranges(struct mst_tree *tree, unsigned ranges) {
     free(list);
 }
 
-/* A tree of so many squares, its copy, and the tree that a load of the same rows makes of it once it has another key. */
+/* A tree of so many squares, its copy, and the trees that loads of the same rows, and of their digests, make of it once it has another
+ * key. */
 static void is_tree(struct mst_tree *tree, unsigned size, unsigned ranges, const char *root) {
     static uint8_t rows[1 << 17];
     struct mst_tree copy = MST_NO_TREE;
-    size_t count;
+    size_t count, needed;
     WANT(has_root(tree, root));
     are_ranges(tree, ranges);
     WANT(mst_tree_len(tree, &count) == MST_DONE && count == size);
@@ -171,6 +206,10 @@ static void is_tree(struct mst_tree *tree, unsigned size, unsigned ranges, const
     WANT(put(tree, 9999, 1) == MST_DONE && !has_root(tree, root));
     WANT(has_root(&copy, root));
     WANT(mst_tree_load(tree, rows, row_list(rows, size, 0)) == MST_DONE);
+    WANT(has_root(tree, root));
+    WANT(put(tree, 9999, 1) == MST_DONE && !has_root(tree, root));
+    WANT(mst_tree_digests(&copy, rows, sizeof rows, &needed) == MST_DONE);
+    WANT(mst_tree_load_digests(tree, rows, needed) == MST_DONE);
     WANT(has_root(tree, root));
     mst_tree_free(tree);
     mst_tree_free(&copy);
@@ -193,6 +232,21 @@ static void roots_and_loads(void) {
             squares_under(&tree, key, BASES[at].level_base, format, 500);
             is_tree(&tree, 500, BASES[at].ranges, format == 1 ? BASES[at].first : BASES[at].second);
         }
+    }
+}
+
+static void feeds(void) {
+    struct mst_tree tree = MST_NO_TREE;
+    uint8_t key[16];
+    size_t at, i;
+    for (at = 0; at < sizeof FEEDS / sizeof *FEEDS; at++) {
+        for (i = 0; i < sizeof key; i++) key[i] = (uint8_t)(FEEDS[at].step * i);
+        WANT(mst_tree_new_as(&tree, key, FEEDS[at].level_base, 1, MST_FEED_TEXT) == MST_DONE);
+        put_squares(&tree, FEEDS[at].size);
+        is_tree(&tree, FEEDS[at].size, FEEDS[at].text_ranges, FEEDS[at].text);
+        WANT(mst_tree_new_as(&tree, key, FEEDS[at].level_base, 1, MST_FEED_VECTOR) == MST_DONE);
+        put_squares(&tree, FEEDS[at].size);
+        is_tree(&tree, FEEDS[at].size, FEEDS[at].vector_ranges, FEEDS[at].vector);
     }
 }
 
@@ -232,6 +286,122 @@ static void difference(void) {
     }
 }
 
+/* ---- the rows of a list, which ascend as the keys of the tests do; no step over them takes memory */
+static void are_rows(const uint8_t *list, size_t list_len, unsigned size, size_t value_len) {
+    size_t at = 0, behind = 12;
+    unsigned found = 0;
+    struct mst_row row;
+    made = 0;
+    while (mst_rows_next(list, list_len, &at, &row) == MST_DONE) {
+        uint8_t key[16];
+        WANT(row.key_len == key_of(key, found) && !memcmp(row.key, key, row.key_len));
+        WANT(row.value_len == value_len && row.key == list + behind + 8 && row.value + row.value_len == list + at);
+        behind = at;
+        found++;
+    }
+    WANT(!made && found == size && at == list_len);
+    WANT(mst_rows_next(list, list_len, &at, &row) == MST_ABSENT && at == list_len);
+}
+
+static void rows(void) {
+    static uint8_t list[1 << 14];
+    size_t len = row_list(list, 300, 0), at = 12 + 8 + 5;
+    uint8_t value[8];
+    struct mst_row row;
+    are_rows(list, len, 300, 8);
+    WANT(mst_rows_next(list, 12 + 8 + 5 + 8 + 8, &at, &row) == MST_MALFORMED && at == 12 + 8 + 5);
+    at = 12 + 7 * (8 + 5 + 8 + 8);
+    WANT(mst_rows_next(list, len, &at, &row) == MST_DONE);
+    value_of(value, 7);
+    WANT(!memcmp(row.value, value, sizeof value));
+    at = len + 1;
+    WANT(mst_rows_next(list, len, &at, &row) == MST_BAD_ARGUMENT && at == len + 1);
+}
+
+/* ---- pages: those of a tree of squares, read once more */
+struct pages { const uint8_t *at; unsigned keys, pages, hashed; };
+
+static uint64_t next_number(struct pages *pages) {
+    uint64_t number = 0;
+    int at;
+    for (at = 7; at >= 0; at--) number = number << 8 | pages->at[at];
+    pages->at += 8;
+    return number;
+}
+
+/* The page that comes next, which is a high page or not, stands under that level, and whose digest is this one where it is known; and all
+ * that is below it: the keys come in their order. */
+static void is_page(struct pages *pages, int kind, int under, const uint8_t *digest) {
+    int level = pages->at[1], has_digest = pages->at[2];
+    uint64_t size, i;
+    WANT(pages->at[0] == kind && level < under && has_digest <= 1);
+    pages->at += 3;
+    pages->pages++;
+    if (has_digest) {
+        WANT(!digest || !memcmp(pages->at, digest, 16));
+        pages->at += 16;
+        pages->hashed++;
+    }
+    size = next_number(pages);
+    for (i = 0; i < size; i++) {
+        uint8_t key[16];
+        size_t len;
+        if (pages->at[0] == 1) is_page(pages, 1, level, NULL);
+        WANT(pages->at[0] == 0);
+        pages->at++;
+        len = key_of(key, pages->keys++);
+        WANT(next_number(pages) == len && !memcmp(pages->at, key, len));
+        pages->at += len;
+    }
+    if (pages->at[0] == 2) is_page(pages, 2, level, NULL);
+}
+
+/* The pages of a tree of so many squares, of which so many have a digest, and the number of pages. */
+static unsigned are_pages(struct mst_tree *tree, unsigned size, const uint8_t *digest, unsigned unhashed) {
+    static uint8_t list[1 << 16];
+    struct pages pages = {list + 4, 0, 0, 0};
+    size_t needed;
+    uint64_t entries;
+    memset(list, 0xff, sizeof list);
+    WANT(mst_tree_pages(tree, NULL, 0, &needed) == MST_TOO_SHORT && needed < sizeof list);
+    WANT(mst_tree_pages(tree, list, needed - 1, &needed) == MST_TOO_SHORT && list[0] == 0xff);
+    WANT(mst_tree_pages(tree, list, sizeof list, &needed) == MST_DONE && !memcmp(list, "MSTt", 4) && list[needed] == 0xff);
+    entries = next_number(&pages);
+    is_page(&pages, 1, 256, digest);
+    WANT(pages.at == list + needed && pages.keys == size && entries == pages.keys + pages.pages);
+    WANT(pages.hashed + unhashed == pages.pages);
+    return pages.pages;
+}
+
+/* How many pages have the first key of the tree on them or below them: their page ranges begin with it. */
+static unsigned first_pages(struct mst_tree *tree) {
+    size_t len, place = 0;
+    unsigned found = 0;
+    struct mst_range range;
+    uint8_t *list = page_ranges(tree, &len);
+    while (mst_ranges_next(list, len, &place, &range) == MST_DONE) found += !memcmp(range.first, "k0000", 5);
+    free(list);
+    return found;
+}
+
+static void pages(void) {
+    struct mst_tree tree = MST_NO_TREE;
+    uint8_t root[16];
+    unsigned at, all, first;
+    for (at = 0; at < sizeof ROOTS / sizeof *ROOTS; at++) {
+        squares(&tree, ROOTS[at].size, 1);
+        first = first_pages(&tree);
+        WANT(mst_tree_root_hash(&tree, root) == MST_DONE);
+        all = are_pages(&tree, ROOTS[at].size, root, 0);
+        WANT(all == (ROOTS[at].size ? ROOTS[at].ranges : 1));
+        if (ROOTS[at].size) {
+            WANT(put(&tree, 0, 0) == MST_DONE);
+            WANT(are_pages(&tree, ROOTS[at].size, NULL, first) == all);
+        }
+        mst_tree_free(&tree);
+    }
+}
+
 /* ---- digests: the keys in their order, each with the digest of its value, make the same tree once more */
 static void digests(void) {
     enum { KEYS = 500, ENTRY = 8 + 5 + 16 };
@@ -250,9 +420,12 @@ static void digests(void) {
     WANT(mst_tree_new(&again) == MST_DONE);
     for (i = KEYS; i-- > 0;) {
         const uint8_t *entry = list + 12 + i * ENTRY;
+        uint8_t digest[16];
         WANT(entry[0] == key_of(key, i) && !memcmp(entry + 8, key, 5));
+        WANT(mst_tree_find(&tree, key, 5, digest) == MST_DONE && !memcmp(digest, entry + 8 + 5, sizeof digest));
         WANT(mst_tree_upsert_digest(&again, key, 5, entry + 8 + 5) == MST_DONE);
     }
+    are_rows(list, sizeof list, KEYS, 16);
     root_text(&tree, root);
     WANT(has_root(&again, root));
     WANT(mst_tree_new(&empty) == MST_DONE && mst_tree_digests(&empty, list, sizeof list, &needed) == MST_DONE);
@@ -271,6 +444,7 @@ static void bad_arguments(void) {
     static const uint8_t zero_key[16];
     struct mst_tree tree = MST_NO_TREE, none = MST_NO_TREE, empty = MST_NO_TREE, other = MST_NO_TREE;
     struct mst_range range = {0};
+    struct mst_row row = {0};
     uint8_t key[16], out[16] = {0}, *list;
     size_t len = key_of(key, 3), list_len, count = 77, needed = 3, at = 0, i;
     char before[33], others[33];
@@ -283,9 +457,13 @@ static void bad_arguments(void) {
     BAD(mst_tree_new_with(&none, zero_key, 0, 1));
     BAD(mst_tree_new_with(&none, zero_key, 16, 0));
     BAD(mst_tree_new_with(&none, zero_key, 16, 3));
+    BAD(mst_tree_new_as(&none, zero_key, 16, 1, 3));
+    BAD(mst_tree_new_as(&none, zero_key, 0, 1, MST_FEED_TEXT));
+    BAD(mst_tree_new_as(&none, zero_key, 16, 3, MST_FEED_TEXT));
 
     BAD(mst_tree_new(&tree));
     BAD(mst_tree_new_with(&tree, zero_key, 16, 1));
+    BAD(mst_tree_new_as(&tree, zero_key, 16, 1, MST_FEED_TEXT));
     BAD(mst_tree_clone(&tree, &tree));
     BAD(mst_tree_clone(&tree, &other));
     BAD(mst_tree_clone(&none, &tree));
@@ -294,7 +472,10 @@ static void bad_arguments(void) {
     BAD(mst_tree_upsert_digest(&none, key, len, zero_key));
     BAD(mst_tree_remove(&none, key, len));
     BAD(mst_tree_digests(&none, out, sizeof out, &needed));
+    BAD(mst_tree_pages(&none, out, sizeof out, &needed));
     BAD(mst_tree_load(&none, key, 0));
+    BAD(mst_tree_load_digests(&none, key, 0));
+    BAD(mst_tree_find(&none, key, len, out));
     BAD(mst_tree_len(&none, &count));
     BAD(mst_tree_root_hash(&none, out));
     BAD(mst_tree_page_ranges(&none, out, sizeof out, &needed));
@@ -302,6 +483,8 @@ static void bad_arguments(void) {
     BAD(mst_tree_new(NULL));
     BAD(mst_tree_new_with(NULL, zero_key, 16, 1));
     BAD(mst_tree_new_with(&none, NULL, 16, 1));
+    BAD(mst_tree_new_as(NULL, zero_key, 16, 1, MST_FEED_TEXT));
+    BAD(mst_tree_new_as(&none, NULL, 16, 1, MST_FEED_TEXT));
     BAD(mst_tree_clone(NULL, &none));
     BAD(mst_tree_clone(&tree, NULL));
     BAD(mst_tree_upsert(NULL, key, len, key, len));
@@ -313,10 +496,18 @@ static void bad_arguments(void) {
     BAD(mst_tree_digests(NULL, out, sizeof out, &needed));
     BAD(mst_tree_digests(&tree, NULL, list_len, &needed));
     BAD(mst_tree_digests(&tree, out, sizeof out, NULL));
+    BAD(mst_tree_pages(NULL, out, sizeof out, &needed));
+    BAD(mst_tree_pages(&tree, NULL, list_len, &needed));
+    BAD(mst_tree_pages(&tree, out, sizeof out, NULL));
     BAD(mst_tree_remove(NULL, key, len));
     BAD(mst_tree_remove(&tree, NULL, 1));
     BAD(mst_tree_load(NULL, list, list_len));
     BAD(mst_tree_load(&tree, NULL, 1));
+    BAD(mst_tree_load_digests(NULL, list, list_len));
+    BAD(mst_tree_load_digests(&tree, NULL, 1));
+    BAD(mst_tree_find(NULL, key, len, out));
+    BAD(mst_tree_find(&tree, NULL, 1, out));
+    BAD(mst_tree_find(&tree, key, len, NULL));
     BAD(mst_tree_len(NULL, &count));
     BAD(mst_tree_len(&tree, NULL));
     BAD(mst_tree_root_hash(NULL, out));
@@ -331,6 +522,9 @@ static void bad_arguments(void) {
     BAD(mst_ranges_next(NULL, 1, &at, &range));
     BAD(mst_ranges_next(list, list_len, NULL, &range));
     BAD(mst_ranges_next(list, list_len, &at, NULL));
+    BAD(mst_rows_next(NULL, 1, &at, &row));
+    BAD(mst_rows_next(list, list_len, NULL, &row));
+    BAD(mst_rows_next(list, list_len, &at, NULL));
     mst_tree_free(NULL);
 
     for (i = 0; i < sizeof NO_LENGTHS / sizeof *NO_LENGTHS; i++) {
@@ -338,18 +532,23 @@ static void bad_arguments(void) {
         BAD(mst_tree_upsert(&tree, key, len, key, NO_LENGTHS[i]));
         BAD(mst_tree_upsert_digest(&tree, key, NO_LENGTHS[i], zero_key));
         BAD(mst_tree_digests(&tree, out, NO_LENGTHS[i], &needed));
+        BAD(mst_tree_pages(&tree, out, NO_LENGTHS[i], &needed));
         BAD(mst_tree_remove(&tree, key, NO_LENGTHS[i]));
         BAD(mst_tree_load(&tree, list, NO_LENGTHS[i]));
+        BAD(mst_tree_load_digests(&tree, list, NO_LENGTHS[i]));
+        BAD(mst_tree_find(&tree, key, NO_LENGTHS[i], out));
         BAD(mst_tree_page_ranges(&tree, out, NO_LENGTHS[i], &needed));
         BAD(mst_diff(list, NO_LENGTHS[i], list, list_len, out, sizeof out, &needed));
         BAD(mst_diff(list, list_len, list, NO_LENGTHS[i], out, sizeof out, &needed));
         BAD(mst_diff(list, list_len, list, list_len, out, NO_LENGTHS[i], &needed));
         BAD(mst_ranges_next(list, NO_LENGTHS[i], &at, &range));
+        BAD(mst_rows_next(list, NO_LENGTHS[i], &at, &row));
     }
 
     /* none of them has written anything */
     WANT(has_root(&tree, before) && has_root(&other, others));
     WANT(!none.at && !empty.at && count == 77 && needed == 3 && !at && !range.first && !range.last && !range.digest);
+    WANT(!row.key && !row.value);
     for (i = 0; i < sizeof out; i++) WANT(!out[i]);
 
     mst_tree_free(&tree);
@@ -363,17 +562,19 @@ static void bad_arguments(void) {
 static void statuses(void) {
     static uint8_t rows[1 << 12];
     struct mst_tree tree = MST_NO_TREE;
-    uint8_t key[16], out[11] = {0}, *list;
+    uint8_t key[16], out[16] = {0}, *list;
     size_t len = key_of(key, 3), list_len, count, needed, at = 0, i;
     struct mst_range range;
+    struct mst_row row;
     char before[33], after[33];
     squares(&tree, 20, 1);
     root_text(&tree, before);
     list = page_ranges(&tree, &list_len);
 
-    WANT(mst_tree_page_ranges(&tree, out, sizeof out, &needed) == MST_TOO_SHORT && needed == list_len);
-    WANT(mst_diff(list, list_len, list, list_len, out, sizeof out, &needed) == MST_TOO_SHORT && needed == 12);
+    WANT(mst_tree_page_ranges(&tree, out, 11, &needed) == MST_TOO_SHORT && needed == list_len);
+    WANT(mst_diff(list, list_len, list, list_len, out, 11, &needed) == MST_TOO_SHORT && needed == 12);
     WANT(mst_diff(list, list_len, list, list_len, NULL, 0, &needed) == MST_TOO_SHORT && needed == 12);
+    WANT(mst_tree_find(&tree, key, len - 1, out) == MST_ABSENT && mst_tree_find(&tree, NULL, 0, out) == MST_ABSENT);
     for (i = 0; i < sizeof out; i++) WANT(!out[i]);
 
     WANT(mst_diff(key, len, list, list_len, out, sizeof out, &needed) == MST_MALFORMED);
@@ -382,7 +583,9 @@ static void statuses(void) {
     WANT(mst_diff(list, list_len, NULL, 0, out, sizeof out, &needed) == MST_MALFORMED);
     WANT(needed == 12);
     WANT(mst_ranges_next(NULL, 0, &at, &range) == MST_MALFORMED);
+    WANT(mst_rows_next(NULL, 0, &at, &row) == MST_MALFORMED);
     WANT(mst_tree_load(&tree, NULL, 0) == MST_MALFORMED);
+    WANT(mst_tree_load_digests(&tree, NULL, 0) == MST_MALFORMED);
     WANT(mst_tree_load(&tree, rows, row_list(rows, 20, 1)) == MST_MALFORMED);
     WANT(mst_tree_load(&tree, rows, row_list(rows, 20, 0) - 1) == MST_MALFORMED);
     WANT(mst_tree_remove(&tree, key, len - 1) == MST_ABSENT);
@@ -397,13 +600,14 @@ static void statuses(void) {
     root_text(&tree, after);
     WANT(!strcmp(before, after));
     WANT(mst_tree_upsert(&tree, NULL, 0, NULL, 0) == MST_DONE);
+    WANT(mst_tree_find(&tree, NULL, 0, out) == MST_DONE);
     WANT(mst_tree_remove(&tree, NULL, 0) == MST_DONE);
     mst_tree_free(&tree);
     free(list);
 }
 
 /* ---- refusals: each call is made again until it isn't refused */
-/* The requests of the load: a page that is done gives up the room beyond its nodes where memory is at hand for that, and else keeps it. */
+/* The requests of the loads: a page that is done gives up the room beyond its nodes where memory is at hand for that, and else keeps it. */
 static long load_begins, load_ends;
 
 #define AGAIN(call) \
@@ -412,12 +616,13 @@ static long load_begins, load_ends;
 static void a_life(char text[33], int *refused) {
     static uint8_t rows[1 << 12], asked[1 << 12];
     struct mst_tree tree = MST_NO_TREE, copy = MST_NO_TREE;
-    size_t len = row_list(rows, 40, 0), own_len, other_len, needed, count;
+    size_t len = row_list(rows, 40, 0), asked_len = digest_list(asked, 30), own_len, other_len, needed, count;
     static uint8_t own[1 << 14], other[1 << 14];
-    uint8_t key[16];
+    uint8_t key[16], digest[16];
     unsigned i;
     AGAIN(mst_tree_new(&tree));
     load_begins = made;
+    AGAIN(mst_tree_load_digests(&tree, asked, asked_len));
     AGAIN(mst_tree_load(&tree, rows, len));
     load_ends = made;
     for (i = 40; i < 60; i++) AGAIN(put(&tree, i, i));
@@ -432,7 +637,10 @@ static void a_life(char text[33], int *refused) {
     WANT(needed == 12 + 40 * (8 + 5 + 16));
     key_of(key, 20);
     AGAIN(mst_tree_upsert_digest(&copy, key, 5, asked + 12 + 8 + 5));
+    AGAIN(mst_tree_find(&copy, key, 5, digest));
+    WANT(!memcmp(digest, asked + 12 + 8 + 5, sizeof digest));
     AGAIN(mst_diff(other, other_len, own, own_len, asked, sizeof asked, &needed));
+    AGAIN(mst_tree_pages(&copy, other, sizeof other, &needed));
     AGAIN(mst_tree_len(&copy, &count));
     WANT(count == 40);
     root_text(&copy, text);
@@ -461,7 +669,7 @@ static void refusals(void) {
     }
     WANT(spared < ends - begins);
     refused_at = 0;
-    printf("%ld requests for memory, each refused in turn; the load does without %ld of them\n", all, spared);
+    printf("%ld requests for memory, each refused in turn; the loads do without %ld of them\n", all, spared);
 }
 
 /* ---- the room of a tree whose keys come level by level: those on level 0, in their order, and then the others in theirs. The keys
@@ -671,33 +879,47 @@ static void ends(const uint8_t *list, size_t len) {
 
 /* A list that is cut or has a byte too many, or is of another kind, is malformed wherever it is given, and moves and changes nothing. */
 static void cut_lists(struct mst_tree *tree, const uint8_t *own, size_t own_len, const uint8_t *peer, size_t peer_len) {
-    static uint8_t rows[1 << 12], asked[1 << 12], more[1 << 12];
-    size_t rows_len = row_list(rows, 40, 0), asked_len, len, needed, at = 0;
+    static uint8_t rows[1 << 12], digests[1 << 12], asked[1 << 12], more[1 << 12];
+    size_t rows_len = row_list(rows, 40, 0), digests_len = digest_list(digests, 40), asked_len, len, needed, at = 0;
     struct mst_range range;
+    struct mst_row row;
     char root[33];
     root_text(tree, root);
     WANT(mst_diff(own, own_len, peer, peer_len, asked, sizeof asked - 1, &asked_len) == MST_DONE && asked_len > 12);
     for (len = 0; len <= asked_len + 1; len++)
         if (len != asked_len) WANT(mst_ranges_next(before_a_wall(asked, len), len, &at, &range) == MST_MALFORMED && !at);
     for (len = 0; len <= rows_len + 1; len++)
-        if (len != rows_len) WANT(mst_tree_load(tree, before_a_wall(rows, len), len) == MST_MALFORMED);
+        if (len != rows_len) {
+            const uint8_t *held = before_a_wall(rows, len);
+            WANT(mst_tree_load(tree, held, len) == MST_MALFORMED && mst_rows_next(held, len, &at, &row) == MST_MALFORMED && !at);
+        }
+    for (len = 0; len <= digests_len + 1; len++)
+        if (len != digests_len) {
+            const uint8_t *held = before_a_wall(digests, len);
+            WANT(mst_tree_load_digests(tree, held, len) == MST_MALFORMED && mst_rows_next(held, len, &at, &row) == MST_MALFORMED && !at);
+        }
     WANT(peer_len < sizeof more);
     memcpy(more, peer, peer_len);
     WANT(mst_diff(own, own_len, before_a_wall(more, peer_len + 1), peer_len + 1, NULL, 0, &needed) == MST_MALFORMED);
     WANT(mst_diff(before_a_wall(more, peer_len + 1), peer_len + 1, own, own_len, NULL, 0, &needed) == MST_MALFORMED);
     WANT(mst_tree_load(tree, peer, peer_len) == MST_MALFORMED);
     WANT(mst_tree_load(tree, asked, asked_len) == MST_MALFORMED);
+    WANT(mst_tree_load(tree, digests, digests_len) == MST_MALFORMED);
+    WANT(mst_tree_load_digests(tree, rows, rows_len) == MST_MALFORMED);
     WANT(mst_diff(own, own_len, asked, asked_len, NULL, 0, &needed) == MST_MALFORMED);
     WANT(mst_diff(rows, rows_len, peer, peer_len, NULL, 0, &needed) == MST_MALFORMED);
     WANT(mst_ranges_next(rows, rows_len, &at, &range) == MST_MALFORMED && !at);
+    WANT(mst_rows_next(peer, peer_len, &at, &row) == MST_MALFORMED && !at);
     /* the second key is the first once more */
     memcpy(rows + 12 + 8 + 5 + 16 + 8, rows + 12 + 8, 5);
+    memcpy(digests + 12 + 8 + 5 + 16 + 8, digests + 12 + 8, 5);
     WANT(mst_tree_load(tree, rows, rows_len) == MST_MALFORMED);
+    WANT(mst_tree_load_digests(tree, digests, digests_len) == MST_MALFORMED);
     WANT(has_root(tree, root));
 }
 
 static void hostile(void) {
-    static const char *const MARKS[] = {"MSTp", "MSTk", "MSTr"};
+    static const char *const MARKS[] = {"MSTp", "MSTk", "MSTr", "MSTd"};
     struct mst_tree tree = MST_NO_TREE, other = MST_NO_TREE, later = MST_NO_TREE;
     size_t len, own_len, later_len, cut;
     uint8_t *list, *own, *behind, any[256];
@@ -738,9 +960,10 @@ static void hostile(void) {
     for (cut = 0; cut < 20000; cut++) {
         size_t size = draw() % sizeof any, at, place = 0;
         struct mst_range range;
+        struct mst_row row;
         for (at = 0; at < size; at++) any[at] = (uint8_t)(draw() % (draw() % 2 ? 4 : 256));
-        if (size >= 12 && cut % 4) {
-            memcpy(any, MARKS[cut % 4 - 1], 4);
+        if (size >= 12 && cut % 5) {
+            memcpy(any, MARKS[cut % 5 - 1], 4);
             add_number(any + 4, draw() % 4);
         }
         differs(own, own_len, any, size);
@@ -750,7 +973,13 @@ static void hostile(void) {
         place = draw() % 300;
         if (mst_ranges_next(held, size, &place, &range) == MST_DONE)
             WANT(range.first + range.first_len <= held + size && range.last + range.last_len <= held + size);
+        for (place = 0; mst_rows_next(held, size, &place, &row) == MST_DONE;)
+            WANT(row.key + row.key_len <= held + size && row.value + row.value_len <= held + size);
+        place = draw() % 300;
+        if (mst_rows_next(held, size, &place, &row) == MST_DONE)
+            WANT(row.key + row.key_len <= held + size && row.value + row.value_len <= held + size);
         WANT(mst_tree_load(&tree, held, size) != MST_NO_MEMORY);
+        WANT(mst_tree_load_digests(&tree, held, size) != MST_NO_MEMORY);
     }
     puts("20000 lists of random bytes");
     free(list);
@@ -764,8 +993,11 @@ static void hostile(void) {
 int main(void) {
     WANT(!strcmp(mst_version(), MST_VERSION));
     roots_and_loads();
+    feeds();
     difference();
+    rows();
     digests();
+    pages();
     bad_arguments();
     statuses();
     refusals();

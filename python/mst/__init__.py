@@ -11,8 +11,8 @@ from ._library import MalformedError, version
 from ._ranges import KeyRange, KeyRanges, PageRange, PageRanges, diff, unshared
 from ._store import Store
 from ._sync import LIMIT, Replica, Synced, sync, sync_steps, sync_streams
-from ._tree import Tree
+from ._tree import Page, Tree
 
 __version__ = version()
-__all__ = ["LIMIT", "KeyRange", "KeyRanges", "MalformedError", "PageRange", "PageRanges", "Replica", "Store", "Synced", "Tree", "diff", "sync",
+__all__ = ["LIMIT", "KeyRange", "KeyRanges", "MalformedError", "Page", "PageRange", "PageRanges", "Replica", "Store", "Synced", "Tree", "diff", "sync",
            "sync_steps", "sync_streams", "unshared", "version"]

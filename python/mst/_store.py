@@ -17,14 +17,14 @@ class Store(MutableMapping[bytes, bytes]):
     """
 
     def __init__(self, rows: Rows = (), *, rule: "Callable[[bytes, bytes], bytes]" = max, key: bytes = bytes(16), level_base: int = 16,
-                 page_format: int = 1) -> None:
+                 page_format: int = 1, key_feed: str = "bytes") -> None:
         """A store of these rows. `rule` makes one value of one that is there and one that came, whatever their order, and of two equal ones
         the same; where it isn't given, the greater stays. The settings are those of `Tree`."""
         self._rows: "Dict[bytes, bytes]" = dict(rows)
         self._order: "Optional[List[bytes]]" = None
         self._rule = rule
         self._lock = threading.RLock()
-        self.tree = Tree(self._rows, key=key, level_base=level_base, page_format=page_format)
+        self.tree = Tree(self._rows, key=key, level_base=level_base, page_format=page_format, key_feed=key_feed)
 
     def copy(self) -> "Store":
         """A store of the same rows, rule and settings."""

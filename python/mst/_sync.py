@@ -7,7 +7,7 @@ import asyncio
 import struct
 from typing import Callable, Generator, Iterable, Iterator, List, NamedTuple, Optional, Protocol, Tuple, Union
 
-from ._library import MalformedError
+from ._library import MalformedError, are_rows
 from ._ranges import KeyRange, KeyRanges, PageRanges, unshared
 from ._tree import Tree
 
@@ -211,21 +211,17 @@ def _list(rows: "List[Tuple[bytes, bytes]]") -> bytes:
 
 def _rows(data: bytes) -> "List[Tuple[bytes, bytes]]":
     """The rows of a list; MalformedError where the bytes are none."""
-    if data[:4] != b"MSTr" or len(data) < 12:
+    if data[:4] != b"MSTr" or not are_rows(data):
         raise MalformedError("the bytes are no list of rows")
     at, rows = 12, []
     while at < len(data):
         key, at = _string(data, at)
         value, at = _string(data, at)
         rows.append((key, value))
-    if _number(data, 4)[0] != len(rows):
-        raise MalformedError("the number of rows isn't that of the list")
     return rows
 
 
 def _string(data: bytes, at: int) -> "Tuple[bytes, int]":
     """The string at a place of a list, and the place behind it."""
-    if at + 8 > len(data) or at + 8 + _number(data, at)[0] > len(data):
-        raise MalformedError("a row is cut")
     end = at + 8 + _number(data, at)[0]
     return data[at + 8:end], end

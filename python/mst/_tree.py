@@ -1,7 +1,7 @@
 """The tree."""
 import ctypes
 import struct
-from typing import Dict, Iterable, List, Mapping, NoReturn, Tuple, Union
+from typing import Dict, Iterable, List, Mapping, NamedTuple, NoReturn, Optional, Tuple, Union
 
 from ._library import ABSENT, check, library, written
 from ._ranges import PageRanges
@@ -13,6 +13,43 @@ _number = struct.Struct("<Q").unpack_from
 _upsert, _remove = library.mst_tree_upsert, library.mst_tree_remove
 
 
+_FEEDS = ("bytes", "text", "vector")
+
+
+class Page(NamedTuple):
+    """A page of a tree: its keys in their order, for each of them the page of the keys between it and the one before, if any, and the page of
+    the keys above the last, if any. The digest is None where the page changed since the tree was hashed."""
+    level: int
+    digest: "Optional[bytes]"
+    keys: "Tuple[bytes, ...]"
+    below: "Tuple[Optional[Page], ...]"
+    high: "Optional[Page]"
+
+
+def _page(data: bytes, at: int) -> "Tuple[Page, int]":
+    """The page that is at a place of a list of pages, and the place behind it and what is below it."""
+    level, has_digest = data[at + 1], data[at + 2]
+    at += 3
+    digest = data[at:at + 16] if has_digest else None
+    at += 16 * has_digest
+    keys: "List[bytes]" = []
+    pages: "List[Optional[Page]]" = []
+    high: "Optional[Page]" = None
+    size = _number(data, at)[0]
+    at += 8
+    while len(keys) < size:
+        below: "Optional[Page]" = None
+        if data[at] == 1:
+            below, at = _page(data, at)
+        end = at + 9 + _number(data, at + 1)[0]
+        pages.append(below)
+        keys.append(data[at + 9:end])
+        at = end
+    if data[at:at + 1] == b"\2":
+        high, at = _page(data, at)
+    return Page(level, digest, tuple(keys), tuple(pages), high), at
+
+
 class Tree:
     """A Merkle search tree: a map from byte strings to the digests of byte strings, whose root hash depends on the map and on the settings
     alone. The values aren't kept.
@@ -22,8 +59,8 @@ class Tree:
     >>> tree.root_hash() == Tree({b"melon": b"2", b"kiwi": b"1"}).root_hash()
     True
     >>> del tree[b"kiwi"]
-    >>> len(tree)
-    1
+    >>> len(tree), b"melon" in tree, b"kiwi" in tree
+    (1, True, False)
 
     Any thread may use a tree: one call at a time is under way. A tree holds memory outside of Python, which `close`, a `with` statement or
     the collector gives back. ValueError where it is closed, in every call but `close`; MemoryError where memory is refused, and then the
@@ -32,13 +69,18 @@ class Tree:
 
     __slots__ = ("_handle", "_address", "_guess", "__weakref__")
 
-    def __init__(self, rows: Rows = (), *, key: bytes = bytes(16), level_base: int = 16, page_format: int = 1) -> None:
+    def __init__(self, rows: Rows = (), *, key: bytes = bytes(16), level_base: int = 16, page_format: int = 1,
+                 key_feed: str = "bytes") -> None:
         """The tree of these rows, of which the last stays where a key comes twice.
 
-        Trees that are compared have key, level base and page format in common. Where others may choose keys of rows, take a secret `key` of
+        Trees that are compared have key, level base, page format and key feed in common. Where others may choose keys of rows, take a secret `key` of
         SipHash, which all replicas share: under one that they know, they can choose keys that all lie on one page, and then each call takes
         time in proportion to the number of keys. The level base is from 1 to 255: from 2 to 128, about one key in so many stands above
         level 0. Page format 1 is that of the Rust crate; take 2 where no peer needs its root hashes.
+
+        The key feed says what of a key is fed to SipHash: its "bytes" alone; or those of a "text", with a byte 0xff behind them; or those of a
+        "vector", with their number in front of them. In page format 1 a tree with "text" has the root hashes of the Rust crate for keys of
+        the type `String` under its own SipHasher, and one with "vector" those for `Vec<u8>`, where values are what `Hash` of Rust feeds.
         """
         if len(key) != 16:
             raise ValueError("the key of SipHash is of 16 bytes")
@@ -46,10 +88,12 @@ class Tree:
             raise ValueError("the level base is from 1 to 255")
         if page_format not in (1, 2):
             raise ValueError("the page format is 1 or 2")
+        if key_feed not in _FEEDS:
+            raise ValueError("the key feed is bytes, text or vector")
         self._handle = ctypes.c_void_p()
         self._address = ctypes.addressof(self._handle)
         self._guess = 1024
-        check(library.mst_tree_new_with(self._address, key, level_base, page_format))
+        check(library.mst_tree_new_as(self._address, key, level_base, page_format, _FEEDS.index(key_feed)))
         found = dict(rows)
         if found:
             self.load(sorted(found.items()))
@@ -105,6 +149,40 @@ class Tree:
         data = b"".join([b"MSTr", _pack(count), *parts])
         check(library.mst_tree_load(self._address, data, len(data)))
 
+    def load_digests(self, rows: Rows) -> None:
+        """The same of keys with the digests of their values, as `digests` answers them: so a tree is kept between runs.
+
+        >>> tree, again = Tree({b"kiwi": b"1", b"melon": b"2"}), Tree()
+        >>> again.load_digests(tree.digests())
+        >>> again.root_hash() == tree.root_hash()
+        True
+        """
+        parts: "List[bytes]" = []
+        count = 0
+        for key, digest in (rows.items() if isinstance(rows, Mapping) else rows):
+            if len(digest) != 16:
+                raise ValueError("a digest is of 16 bytes")
+            parts += (_pack(len(key)), key, digest)
+            count += 1
+        data = b"".join([b"MSTd", _pack(count), *parts])
+        check(library.mst_tree_load_digests(self._address, data, len(data)))
+
+    def get_digest(self, key: bytes) -> "Optional[bytes]":
+        """The digest of the value at a key; None where the key isn't there."""
+        digest = ctypes.create_string_buffer(16)
+        try:
+            status = library.mst_tree_find(self._address, key, len(key), digest)
+        except ctypes.ArgumentError:
+            raise TypeError("keys are bytes") from None
+        if status == ABSENT:
+            return None
+        check(status)
+        return digest.raw
+
+    def __contains__(self, key: bytes) -> bool:
+        """Whether a key is there."""
+        return self.get_digest(key) is not None
+
     def root_hash(self) -> bytes:
         """The root hash, 16 bytes. It hashes the pages that changed since the last call."""
         root = ctypes.create_string_buffer(16)
@@ -126,6 +204,18 @@ class Tree:
             found[data[at + 8:end]] = data[end:end + 16]
             at = end + 16
         return found
+
+    def pages(self) -> Page:
+        """The root page, and by it all pages as they are. It hashes nothing.
+
+        >>> root = Tree({b"%02d" % i: b"" for i in range(8)}).pages()
+        >>> root.level, root.digest, root.keys
+        (1, None, (b'05',))
+        >>> root.below[0].keys, root.high.keys
+        ((b'00', b'01', b'02', b'03', b'04'), (b'06', b'07'))
+        """
+        data = written(0, lambda out, size, needed: library.mst_tree_pages(self._address, out, size, needed))
+        return _page(data, 12)[0]
 
     def copy(self) -> "Tree":
         """A copy of the tree, its settings, and the digests that its pages have."""

@@ -41,6 +41,14 @@ class Roots(unittest.TestCase):
         for size, root in table("format2.txt"):
             self.assertEqual(squares(int(size), page_format=2).root_hash(), base64.b64decode(root))
 
+    def test_keys_that_are_fed_as_in_the_rust_crate(self):
+        lines = table("feeds.txt")
+        self.assertEqual(len(lines), 20)
+        for feed, step, base, size, count, root in lines:
+            tree = squares(int(size), key=bytes(int(step) * i for i in range(16)), level_base=int(base), key_feed=feed)
+            self.assertEqual((tree.root_hash().hex(), len(tree.page_ranges())), (root, int(count)))
+            self.assertEqual(tree.copy().root_hash().hex(), root)
+
     def test_another_key_and_other_bases(self):
         for base, page_format, root, count in [
             (1, 1, "943ebbaf1652f9a0296e5ad760b80238", 5),
@@ -103,17 +111,50 @@ class Changes(unittest.TestCase):
         self.assertRaises(ValueError, tree.set_digest, b"key", b"short")
         self.assertEqual(Tree().digests(), {})
 
+    def test_digests_are_found_and_loaded(self):
+        tree, again = squares(300), squares(3)
+        digests = tree.digests()
+        self.assertEqual({key: tree.get_digest(key) for key in digests}, digests)
+        self.assertTrue(b"k0299" in tree and b"k0300" not in tree and b"" not in tree)
+        self.assertIsNone(tree.get_digest(b"k"))
+        self.assertRaises(MalformedError, again.load_digests, reversed(list(digests.items())))
+        self.assertRaises(ValueError, again.load_digests, {b"key": b"short"})
+        self.assertEqual(len(again), 3)
+        again.load_digests(digests)
+        self.assertEqual(again.root_hash(), tree.root_hash())
+
+    def test_pages(self):
+        def walk(page, under):
+            self.assertLess(page.level, under)
+            found.append(page)
+            keys = []
+            for key, below in zip(page.keys, page.below):
+                keys += (walk(below, page.level) if below else []) + [key]
+            return keys + (walk(page.high, page.level) if page.high else [])
+
+        tree = squares(500)
+        found = []
+        self.assertEqual(walk(tree.pages(), 256), [row(i)[0] for i in range(500)])
+        self.assertEqual([page.digest for page in found], [None] * 31)
+        root = tree.root_hash()
+        found = []
+        walk(tree.pages(), 256)
+        self.assertEqual([page.digest for page in found], [page.digest for page in tree.page_ranges()])
+        self.assertEqual(found[0].digest, root)
+        self.assertEqual(Tree().pages(), (0, None, (), (), None))
+
     def test_a_closed_tree(self):
         with squares(3) as tree:
             self.assertEqual(len(tree), 3)
         for call in [tree.root_hash, tree.page_ranges, tree.digests, tree.copy, lambda: len(tree), lambda: tree.discard(b""),
-                     lambda: tree.update({b"": b""}), lambda: tree.set_digest(b"", bytes(16)), lambda: tree.load([])]:
+                     lambda: tree.update({b"": b""}), lambda: tree.set_digest(b"", bytes(16)), lambda: tree.load([]),
+                     lambda: tree.load_digests([]), lambda: tree.get_digest(b""), tree.pages]:
             self.assertRaises(ValueError, call)
         tree.close()
         self.assertEqual(repr(tree), "<Tree, closed>")
 
     def test_settings_that_are_none(self):
-        for settings in [{"key": b"short"}, {"level_base": 0}, {"level_base": 256}, {"page_format": 3}]:
+        for settings in [{"key": b"short"}, {"level_base": 0}, {"level_base": 256}, {"page_format": 3}, {"key_feed": "str"}]:
             self.assertRaises(ValueError, Tree, **settings)
 
     def test_what_is_no_bytes(self):
@@ -122,6 +163,7 @@ class Changes(unittest.TestCase):
             self.assertRaises(TypeError, tree.__setitem__, key, value)
         for key in ["text", None, 3]:
             self.assertRaises(TypeError, tree.discard, key)
+            self.assertRaises(TypeError, tree.get_digest, key)
             self.assertRaises(TypeError, tree.set_digest, key, bytes(16))
         self.assertRaises(TypeError, tree.load, [("text", b"")])
         self.assertEqual((len(tree), bool(tree)), (0, True))

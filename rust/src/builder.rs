@@ -12,7 +12,19 @@ pub enum PageFormat {
     V2,
 }
 
-/// The settings of a tree. Trees that are compared have all three in common.
+/// What of a key is fed to SipHash, whose digest tells the level of the key. What is fed of a value is [`HashBytes`](crate::HashBytes).
+#[derive(Debug, Clone, Copy, PartialEq, Eq, Default)]
+pub enum KeyFeed {
+    /// The bytes of the key alone.
+    #[default]
+    Bytes,
+    /// Its bytes and a byte `ff`, as its `Hash` feeds a `str` or a `String`.
+    Text,
+    /// How many bytes it has, in eight bytes, the lowest first, and its bytes, as its `Hash` feeds a `[u8]` or a `Vec<u8>`.
+    Vector,
+}
+
+/// The settings of a tree. Trees that are compared have all four in common.
 ///
 /// ```
 /// use merkle_search_tree::{builder::{Builder, PageFormat}, digest::siphash::SipHasher, MerkleSearchTree};
@@ -27,13 +39,19 @@ pub struct Builder {
     hasher: SipHasher,
     level_base: NonZeroU8,
     page_format: PageFormat,
+    key_feed: KeyFeed,
 }
 
 impl Default for Builder {
-    /// [`SipHasher`] under the zero key, level base 16 and page format 1: the settings of the crate.
+    /// [`SipHasher`] under the zero key, level base 16 and page format 1, the settings of the crate, and keys that feed their bytes alone.
     fn default() -> Self {
         const SIXTEEN: NonZeroU8 = NonZeroU8::MIN.saturating_add(15);
-        Self { hasher: SipHasher::default(), level_base: SIXTEEN, page_format: PageFormat::V1 }
+        Self {
+            hasher: SipHasher::default(),
+            level_base: SIXTEEN,
+            page_format: PageFormat::V1,
+            key_feed: KeyFeed::Bytes,
+        }
     }
 }
 
@@ -54,6 +72,19 @@ impl Builder {
         Self { page_format, ..self }
     }
 
+    /// Sets what of a key is fed. In page format 1 a tree of texts with [`KeyFeed::Text`], or of byte vectors with [`KeyFeed::Vector`], has the
+    /// root hashes of the crate under its own `SipHasher`, where its values are numbers, or are given by [`ByHash`](crate::ByHash).
+    ///
+    /// ```
+    /// use merkle_search_tree::{builder::{Builder, KeyFeed}, ByHash, MerkleSearchTree};
+    ///
+    /// let mut tree: MerkleSearchTree<String, ByHash<&str>> = Builder::default().with_key_feed(KeyFeed::Text).build();
+    /// tree.upsert("kiwi".into(), &ByHash("great"));
+    /// ```
+    pub fn with_key_feed(self, key_feed: KeyFeed) -> Self {
+        Self { key_feed, ..self }
+    }
+
     /// The empty tree with these settings.
     pub fn build<K, V>(self) -> MerkleSearchTree<K, V> {
         granted(self.try_build())
@@ -65,6 +96,11 @@ impl Builder {
             PageFormat::V1 => 1,
             PageFormat::V2 => 2,
         };
-        MerkleSearchTree::with_settings(self.hasher.key(), self.level_base.get(), format)
+        let key_feed = match self.key_feed {
+            KeyFeed::Bytes => 0,
+            KeyFeed::Text => 1,
+            KeyFeed::Vector => 2,
+        };
+        MerkleSearchTree::with_settings(self.hasher.key(), self.level_base.get(), format, key_feed)
     }
 }

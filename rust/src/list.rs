@@ -19,7 +19,12 @@ impl Writer {
 
     /// Adds an entry of two strings, and of what follows them.
     pub(crate) fn push(&mut self, first: &[u8], second: &[u8], rest: &[u8]) {
-        for string in [first, second] {
+        self.push_strings(&[first, second], rest);
+    }
+
+    /// Adds an entry of strings, and of what follows them.
+    pub(crate) fn push_strings(&mut self, strings: &[&[u8]], rest: &[u8]) {
+        for string in strings {
             self.bytes.extend_from_slice(&(string.len() as u64).to_le_bytes());
             self.bytes.extend_from_slice(string);
         }

@@ -7,7 +7,7 @@
 use crate::{
     bytes::Key,
     diff::{unshared, DiffRange, KeyRangeIter, KeyRanges, PageRangeSnapshot},
-    list, MerkleSearchTree,
+    list, sys, MerkleSearchTree,
 };
 use std::io::{self, Read, Write};
 
@@ -107,17 +107,13 @@ impl<C: Read + Write> Talk<'_, C> {
     /// Takes a message of rows, and answers whether it had any.
     fn take_rows<R: Replica>(&mut self, store: &mut R, expected: &mut Expected<'_, R::Key>) -> io::Result<bool> {
         let message = self.take()?;
-        let mut rest =
-            message.strip_prefix(b"MSTr").and_then(|rest| rest.get(8..)).ok_or_else(|| unexpected(NO_ROWS))?;
-        let mut rows = 0;
-        while !rest.is_empty() {
-            let row = list::string(&mut rest).and_then(|key| Some((key, list::string(&mut rest)?)));
-            let (key, value) = row.ok_or_else(|| unexpected(NO_ROWS))?;
+        if !message.starts_with(b"MSTr") {
+            return Err(unexpected(NO_ROWS));
+        }
+        let (mut at, mut rows) = (0, 0);
+        while let Some((key, value)) = sys::next_row(&message, &mut at).map_err(|_| unexpected(NO_ROWS))? {
             store.join(expected.see(key)?, value)?;
             rows += 1;
-        }
-        if rows != list::count(&message) {
-            return Err(unexpected(NO_ROWS));
         }
         self.came += rows;
         Ok(rows > 0)

@@ -31,16 +31,27 @@ struct Range {
     digest: *const u8,
 }
 
+/// `struct mst_row`.
+#[repr(C)]
+struct Row {
+    key: *const u8,
+    key_len: usize,
+    value: *const u8,
+    value_len: usize,
+}
+
 #[rustfmt::skip]
 extern "C" {
     fn mst_version() -> *const c_char;
-    fn mst_tree_new_with(out: *mut Handle, key: *const u8, level_base: u8, page_format: u8) -> c_int;
+    fn mst_tree_new_as(out: *mut Handle, key: *const u8, level_base: u8, page_format: u8, key_feed: u8) -> c_int;
     fn mst_tree_clone(tree: *mut Handle, out: *mut Handle) -> c_int;
     fn mst_tree_free(tree: *mut Handle);
     fn mst_tree_upsert(tree: *mut Handle, key: *const u8, key_len: usize, value: *const u8, value_len: usize) -> c_int;
     fn mst_tree_upsert_digest(tree: *mut Handle, key: *const u8, key_len: usize, digest: *const u8) -> c_int;
     fn mst_tree_remove(tree: *mut Handle, key: *const u8, key_len: usize) -> c_int;
     fn mst_tree_load(tree: *mut Handle, rows: *const u8, rows_len: usize) -> c_int;
+    fn mst_tree_load_digests(tree: *mut Handle, list: *const u8, list_len: usize) -> c_int;
+    fn mst_tree_find(tree: *mut Handle, key: *const u8, key_len: usize, digest: *mut u8) -> c_int;
     fn mst_tree_len(tree: *mut Handle, out: *mut usize) -> c_int;
     fn mst_tree_root_hash(tree: *mut Handle, out: *mut u8) -> c_int;
     fn mst_tree_page_ranges(tree: *mut Handle, out: *mut u8, out_len: usize, needed: *mut usize) -> c_int;
@@ -48,6 +59,7 @@ extern "C" {
     fn mst_diff(local: *const u8, local_len: usize, peer: *const u8, peer_len: usize, out: *mut u8, out_len: usize,
                 needed: *mut usize) -> c_int;
     fn mst_ranges_next(list: *const u8, list_len: usize, at: *mut usize, out: *mut Range) -> c_int;
+    fn mst_rows_next(list: *const u8, list_len: usize, at: *mut usize, out: *mut Row) -> c_int;
 }
 
 /// What a call refuses.
@@ -102,11 +114,11 @@ pub(crate) struct Tree(UnsafeCell<Handle>);
 unsafe impl Send for Tree {}
 
 impl Tree {
-    /// The empty tree with these settings; the page format is 1 or 2.
-    pub(crate) fn new(key: &[u8; 16], level_base: u8, page_format: u8) -> Result<Self, OutOfMemory> {
+    /// The empty tree with these settings; the page format is 1 or 2, and keys are fed in the way 0, 1 or 2.
+    pub(crate) fn new(key: &[u8; 16], level_base: u8, page_format: u8, key_feed: u8) -> Result<Self, OutOfMemory> {
         let mut handle = Handle { at: ptr::null_mut() };
         // SAFETY: the handle has no tree, and the key is of 16 bytes.
-        done_or_no_memory(unsafe { mst_tree_new_with(&mut handle, key.as_ptr(), level_base, page_format) })?;
+        done_or_no_memory(unsafe { mst_tree_new_as(&mut handle, key.as_ptr(), level_base, page_format, key_feed) })?;
         Ok(Self(UnsafeCell::new(handle)))
     }
 
@@ -142,6 +154,20 @@ impl Tree {
     pub(crate) fn load(&mut self, rows: &[u8]) -> Result<(), Refused> {
         // SAFETY: the list is a slice.
         done(unsafe { mst_tree_load(self.0.get_mut(), rows.as_ptr(), rows.len()) })
+    }
+
+    /// Makes the keys of a list of digests the map.
+    pub(crate) fn load_digests(&mut self, list: &[u8]) -> Result<(), Refused> {
+        // SAFETY: the list is a slice.
+        done(unsafe { mst_tree_load_digests(self.0.get_mut(), list.as_ptr(), list.len()) })
+    }
+
+    /// The digest of the value at a key.
+    pub(crate) fn find(&self, key: &[u8]) -> Result<[u8; 16], Refused> {
+        let mut digest = [0; 16];
+        // SAFETY: the key is a slice, `digest` is of 16 bytes, and no other call has the handle.
+        done(unsafe { mst_tree_find(self.0.get(), key.as_ptr(), key.len(), digest.as_mut_ptr()) })?;
+        Ok(digest)
     }
 
     /// How many keys there are.
@@ -211,6 +237,24 @@ pub(crate) fn next_range<'a>(list: &'a [u8], at: &mut usize) -> Result<Option<En
             slice::from_raw_parts(found.last, found.last_len),
             found.digest.cast::<[u8; 16]>().as_ref(),
         )
+    }))
+}
+
+/// A row of a list: its key and its value.
+type Pair<'a> = (&'a [u8], &'a [u8]);
+
+/// The row of a list of rows or of digests that is at `at`, which goes to the next; `None` behind the last.
+pub(crate) fn next_row<'a>(list: &'a [u8], at: &mut usize) -> Result<Option<Pair<'a>>, Refused> {
+    let mut found = Row { key: ptr::null(), key_len: 0, value: ptr::null(), value_len: 0 };
+    // SAFETY: the list is a slice, which lives for as long as what is answered. A place beyond its end would be MST_BAD_ARGUMENT.
+    match done(unsafe { mst_rows_next(list.as_ptr(), list.len(), at, &mut found) }) {
+        Ok(()) => {}
+        Err(Refused::Absent) => return Ok(None),
+        Err(refused) => return Err(refused),
+    }
+    // SAFETY: what a call that is done writes points to bytes of the list, so many as it says.
+    Ok(Some(unsafe {
+        (slice::from_raw_parts(found.key, found.key_len), slice::from_raw_parts(found.value, found.value_len))
     }))
 }
 

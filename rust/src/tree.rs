@@ -3,7 +3,7 @@ use crate::{
     builder::Builder,
     bytes::{HashBytes, Key},
     diff::{PageRange, PageRangeSnapshot},
-    digest::{PageDigest, RootHash, ValueDigest},
+    digest::{Digest, PageDigest, RootHash, ValueDigest},
     granted, list,
     node::Nodes,
     sys::{self, Refused},
@@ -70,8 +70,13 @@ impl<K, V> Default for MerkleSearchTree<K, V> {
 }
 
 impl<K, V> MerkleSearchTree<K, V> {
-    pub(crate) fn with_settings(key: &[u8; 16], level_base: u8, page_format: u8) -> Result<Self, OutOfMemory> {
-        sys::Tree::new(key, level_base, page_format).map(|tree| Self::of(tree, None))
+    pub(crate) fn with_settings(
+        key: &[u8; 16],
+        level_base: u8,
+        page_format: u8,
+        key_feed: u8,
+    ) -> Result<Self, OutOfMemory> {
+        sys::Tree::new(key, level_base, page_format, key_feed).map(|tree| Self::of(tree, None))
     }
 
     fn of(tree: sys::Tree, root_hash: Option<RootHash>) -> Self {
@@ -91,6 +96,30 @@ impl<K, V> MerkleSearchTree<K, V> {
     /// Whether the tree has no key. It counts them.
     pub fn is_empty(&self) -> bool {
         self.len() == 0
+    }
+
+    /// The digest of the value at a key, where the key is there.
+    ///
+    /// ```
+    /// use merkle_search_tree::MerkleSearchTree;
+    ///
+    /// let mut tree = MerkleSearchTree::default();
+    /// tree.upsert("kiwi", &1);
+    /// tree.upsert("melon", &1);
+    /// assert_eq!(tree.value_hash("kiwi"), tree.value_hash("melon"));
+    /// assert_eq!(tree.value_hash("apple"), None);
+    /// ```
+    pub fn value_hash(&self, key: impl AsRef<[u8]>) -> Option<ValueDigest> {
+        match self.tree.find(key.as_ref()) {
+            Ok(digest) => Some(ValueDigest::new(Digest::new(digest))),
+            Err(Refused::Absent) => None,
+            Err(_) => granted(Err(OutOfMemory)),
+        }
+    }
+
+    /// Whether a key is there.
+    pub fn contains_key(&self, key: impl AsRef<[u8]>) -> bool {
+        self.value_hash(key).is_some()
     }
 
     /// The root hash, where no key was set or taken out since it was asked for.
@@ -205,7 +234,32 @@ impl<K: Key, V> MerkleSearchTree<K, V> {
         for (key, value) in rows {
             value.with_bytes(|value| list.push(key.as_ref(), value, &[]));
         }
-        match self.tree.load(&list.into_bytes()) {
+        let loaded = self.tree.load(&list.into_bytes());
+        self.is_loaded(loaded)
+    }
+
+    /// The same of keys with the digests of their values, as [`MerkleSearchTree::nodes`] has them: so a tree is kept between runs.
+    ///
+    /// ```
+    /// use merkle_search_tree::MerkleSearchTree;
+    ///
+    /// let mut tree = MerkleSearchTree::<String, u64>::from_iter([("kiwi".into(), 1), ("melon".into(), 2)]);
+    /// let mut again = MerkleSearchTree::<String, u64>::default();
+    /// again.load_digests(tree.nodes().iter().map(|node| (node.key().to_owned(), *node.value_hash()))).unwrap();
+    /// assert_eq!(again.root_hash(), tree.root_hash());
+    /// ```
+    pub fn load_digests(&mut self, rows: impl IntoIterator<Item = (K, ValueDigest)>) -> Result<(), NotAscending> {
+        let mut list = list::Writer::new(b"MSTd");
+        for (key, digest) in rows {
+            list.push_strings(&[key.as_ref()], digest.as_bytes());
+        }
+        let loaded = self.tree.load_digests(&list.into_bytes());
+        self.is_loaded(loaded)
+    }
+
+    /// After a load of a list that was written here, in which nothing but the order of the keys can be refused.
+    fn is_loaded(&mut self, loaded: Result<(), Refused>) -> Result<(), NotAscending> {
+        match loaded {
             Ok(()) => {
                 self.changed();
                 Ok(())

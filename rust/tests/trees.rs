@@ -1,9 +1,9 @@
 //! Trees: their root hashes against answers from outside, and what changes one.
 use merkle_search_tree::{
-    builder::{Builder, PageFormat},
+    builder::{Builder, KeyFeed, PageFormat},
     diff::{diff_snapshots, PageRangeSnapshot},
     digest::{siphash::SipHasher, Digest, PageDigest, RootHash, ValueDigest},
-    version, ByHash, MerkleSearchTree, NotAscending, OutOfMemory,
+    version, ByHash, Key, MerkleSearchTree, NotAscending, OutOfMemory,
 };
 use std::{error::Error, num::NonZeroU8};
 
@@ -48,6 +48,53 @@ fn root_hashes_in_format_2() {
         lines += 1;
     }
     assert_eq!(lines, 15);
+}
+
+/// The root hash of a tree in base 16, and how many page ranges it has.
+fn root_and_ranges<K: Key>(tree: &mut MerkleSearchTree<K, u64>) -> (String, usize) {
+    let root = tree.root_hash().as_bytes().iter().map(|byte| format!("{byte:02x}")).collect();
+    (root, tree.serialise_page_ranges().unwrap().len())
+}
+
+#[test]
+fn root_hashes_of_keys_that_are_fed_as_in_the_crate() {
+    let mut lines = 0;
+    for words in table(include_str!("feeds.txt")) {
+        let [step, base, size, ranges] = [1, 2, 3, 4].map(|at| words[at].parse::<usize>().unwrap());
+        let key: [u8; 16] = std::array::from_fn(|i| (step * i) as u8);
+        let rows = (0..size as u64).map(|i| (format!("k{i:04}"), i * i));
+        let builder =
+            Builder::default().with_hasher(SipHasher::new(&key)).with_level_base(NonZeroU8::new(base as u8).unwrap());
+        let found = if words[0] == "text" {
+            let mut tree = builder.with_key_feed(KeyFeed::Text).build();
+            tree.extend(rows);
+            root_and_ranges(&mut tree)
+        } else {
+            let mut tree = builder.with_key_feed(KeyFeed::Vector).build();
+            tree.extend(rows.map(|(key, value)| (key.into_bytes(), value)));
+            root_and_ranges(&mut tree)
+        };
+        assert_eq!(found, (words[5].to_owned(), ranges));
+        lines += 1;
+    }
+    assert_eq!(lines, 20);
+}
+
+#[test]
+fn digests_are_found_by_their_keys_and_loaded() {
+    let mut tree = squares(500);
+    let nodes = tree.nodes();
+    for (i, node) in nodes.iter().enumerate() {
+        assert_eq!(tree.value_hash(format!("k{i:04}")), Some(*node.value_hash()));
+    }
+    assert_eq!(tree.value_hash("k"), None);
+    assert!(tree.contains_key("k0499") && !tree.contains_key("k0500"));
+    let rows: Vec<_> = nodes.iter().map(|node| (node.key().to_owned(), *node.value_hash())).collect();
+    let mut again = squares(3);
+    assert_eq!(again.load_digests(rows.iter().rev().cloned()), Err(NotAscending));
+    assert_eq!(again.len(), 3);
+    assert_eq!(again.load_digests(rows), Ok(()));
+    assert_eq!(again.root_hash(), tree.root_hash());
 }
 
 #[test]

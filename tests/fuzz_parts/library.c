@@ -45,6 +45,11 @@ static uint8_t *copied(unsigned place, const uint8_t *bytes, size_t len) {
 /* ---- a reader of lists */
 struct text { const uint8_t *bytes; size_t len; };
 struct entry { struct text first, last; const uint8_t *digest; };
+
+/* A kind of list: its mark, how many strings an entry has, and how many bytes of digest stand behind them. */
+struct kind { const char *mark; int texts; size_t digest_len; };
+static const struct kind PAGE_RANGES = {"MSTp", 2, 16}, KEY_RANGES = {"MSTk", 2, 0}, ROWS = {"MSTr", 2, 0}, DIGESTS = {"MSTd", 1, 16};
+
 struct listed { struct entry at[MOST]; size_t count; };
 
 static uint64_t number_at(const uint8_t *bytes) {
@@ -71,42 +76,44 @@ static int text_at(const uint8_t *list, size_t len, size_t *at, struct text *out
     return 1;
 }
 
-/* Whether an entry of two strings and a digest of so many bytes begins at *at, which is then behind it. */
-static int entry_at(const uint8_t *list, size_t len, size_t digest_len, size_t *at, struct entry *out) {
-    if (!text_at(list, len, at, &out->first) || !text_at(list, len, at, &out->last) || len - *at < digest_len) return 0;
-    out->digest = digest_len ? list + *at : NULL;
-    *at += digest_len;
+/* Whether an entry of this kind begins at *at, which is then behind it. */
+static int entry_at(const uint8_t *list, size_t len, const struct kind *kind, size_t *at, struct entry *out) {
+    if (!text_at(list, len, at, &out->first)) return 0;
+    if (kind->texts == 2 && !text_at(list, len, at, &out->last)) return 0;
+    if (len - *at < kind->digest_len) return 0;
+    out->digest = kind->digest_len ? list + *at : NULL;
+    *at += kind->digest_len;
     return 1;
 }
 
-static int has_front(const uint8_t *list, size_t len, const char *mark) {
-    return len >= 12 && !memcmp(list, mark, 4);
+static int has_front(const uint8_t *list, size_t len, const struct kind *kind) {
+    return len >= 12 && !memcmp(list, kind->mark, 4);
 }
 
-/* Whether the bytes are a list with this mark, of entries as above. */
-static int is_list(const uint8_t *list, size_t len, const char *mark, size_t digest_len, struct listed *out) {
+/* Whether the bytes are a list of this kind. */
+static int is_list(const uint8_t *list, size_t len, const struct kind *kind, struct listed *out) {
     uint64_t left;
     size_t at = 12;
     out->count = 0;
-    if (!has_front(list, len, mark)) return 0;
+    if (!has_front(list, len, kind)) return 0;
     for (left = number_at(list + 4); left; left--) {
-        if (out->count == MOST || !entry_at(list, len, digest_len, &at, &out->at[out->count++])) return 0;
+        if (out->count == MOST || !entry_at(list, len, kind, &at, &out->at[out->count++])) return 0;
     }
     return at == len;
 }
 
 static int are_page_ranges(const uint8_t *list, size_t len, struct listed *out) {
     size_t i;
-    if (!is_list(list, len, "MSTp", 16, out)) return 0;
+    if (!is_list(list, len, &PAGE_RANGES, out)) return 0;
     for (i = 0; i < out->count; i++) {
         if (compare(out->at[i].first, out->at[i].last) > 0) return 0;
     }
     return 1;
 }
 
-static int are_rows(const uint8_t *list, size_t len, struct listed *out) {
+static int are_rows(const uint8_t *list, size_t len, const struct kind *kind, struct listed *out) {
     size_t i;
-    if (!is_list(list, len, "MSTr", 0, out)) return 0;
+    if (!is_list(list, len, kind, out)) return 0;
     for (i = 1; i < out->count; i++) {
         if (compare(out->at[i - 1].first, out->at[i].first) >= 0) return 0;
     }
@@ -210,7 +217,7 @@ static void compare_both(unsigned kind, const uint8_t *one, size_t one_len, cons
     }
     out = ending(2, needed);
     WANT(mst_diff(one, one_len, other, other_len, out, needed, &again) == MST_DONE && again == needed);
-    WANT(is_list(out, needed, "MSTk", 0, &found));
+    WANT(is_list(out, needed, &KEY_RANGES, &found));
     see(kind, MST_DONE, found.count);
     has_laws(&local, &peer, &found);
 }
@@ -261,17 +268,33 @@ static int same_text(const uint8_t *bytes, size_t len, struct text text) {
     return bytes == text.bytes && len == text.len;
 }
 
-/* What a step at a place answers, by the reader. */
-static int steps_from(const uint8_t *list, size_t len, size_t *place, struct entry *out) {
+/* What a step at a place over a list of one of two kinds answers, by the reader. */
+static int steps_from(const uint8_t *list, size_t len, const struct kind *one, const struct kind *other, size_t *place, struct entry *out) {
     static struct listed whole;
-    int pages = has_front(list, len, "MSTp");
+    const struct kind *kind = has_front(list, len, one) ? one : other;
     size_t at = *place ? *place : 12;
-    if (!pages && !has_front(list, len, "MSTk")) return MST_MALFORMED;
-    if (!*place && !is_list(list, len, pages ? "MSTp" : "MSTk", pages ? 16 : 0, &whole)) return MST_MALFORMED;
+    if (!has_front(list, len, kind)) return MST_MALFORMED;
+    if (!*place && !is_list(list, len, kind, &whole)) return MST_MALFORMED;
     if (at >= len) return at == len ? MST_ABSENT : MST_BAD_ARGUMENT;
-    if (!entry_at(list, len, pages ? 16 : 0, &at, out)) return MST_MALFORMED;
+    if (!entry_at(list, len, kind, &at, out)) return MST_MALFORMED;
     *place = at;
     return MST_DONE;
+}
+
+static int step_over_rows(const uint8_t *list, size_t len, size_t *place) {
+    static const struct mst_row none;
+    struct mst_row row = none;
+    struct entry entry;
+    size_t wanted_place = *place;
+    int wanted = steps_from(list, len, &DIGESTS, &ROWS, &wanted_place, &entry);
+    WANT(mst_rows_next(list, len, place, &row) == wanted && *place == wanted_place);
+    if (wanted == MST_DONE) {
+        WANT(same_text(row.key, row.key_len, entry.first));
+        WANT(entry.digest ? row.value == entry.digest && row.value_len == 16 : same_text(row.value, row.value_len, entry.last));
+    } else {
+        WANT(!row.key && !row.value);
+    }
+    return wanted;
 }
 
 static int step(const uint8_t *list, size_t len, size_t *place) {
@@ -279,7 +302,7 @@ static int step(const uint8_t *list, size_t len, size_t *place) {
     struct mst_range range = none;
     struct entry entry;
     size_t wanted_place = *place;
-    int wanted = steps_from(list, len, &wanted_place, &entry);
+    int wanted = steps_from(list, len, &PAGE_RANGES, &KEY_RANGES, &wanted_place, &entry);
     WANT(mst_ranges_next(list, len, place, &range) == wanted && *place == wanted_place);
     if (wanted == MST_DONE) {
         WANT(same_text(range.first, range.first_len, entry.first) && same_text(range.last, range.last_len, entry.last));
@@ -300,12 +323,17 @@ static void go_over(const uint8_t *data, size_t len) {
     see(1, status, steps);
     place = data[0] | (size_t)data[1] << 8;
     see(1, step(list, len - 2, &place), 0);
+    place = data[0] | (size_t)data[1] << 8;
+    see(1, step_over_rows(list, len - 2, &place), 1);
+    for (place = steps = 0; (status = step_over_rows(list, len - 2, &place)) == MST_DONE;) steps++;
+    see(1, status, 2 + steps);
 }
 
 /* ---- trees */
 static void of_settings(struct mst_tree *tree, uint8_t choice) {
     static const uint8_t keys[2][16] = {{0}, {1, 2, 3, 4, 5, 6, 7, 8}}, bases[8] = {16, 1, 2, 3, 4, 16, 128, 255};
-    WANT(mst_tree_new_with(tree, keys[choice & 1], bases[choice >> 2 & 7], 1 + (choice >> 1 & 1)) == MST_DONE);
+    uint8_t key_feed = choice >> 5 < 3 ? choice >> 5 : MST_FEED_BYTES;
+    WANT(mst_tree_new_as(tree, keys[choice & 1], bases[choice >> 2 & 7], 1 + (choice >> 1 & 1), key_feed) == MST_DONE);
 }
 
 /* The list that a call writes, in the room of a place. */
@@ -335,20 +363,22 @@ static void are_one(struct mst_tree *tree, struct mst_tree *other, size_t keys) 
     WANT(mst_tree_len(other, &count) == MST_DONE && count == keys);
 }
 
-/* ---- rows to load, behind a byte that says into what tree: upserts of the rows, the last first, make the same one */
+/* ---- rows to load, or digests, behind a byte that says into what tree: upserts of them, the last first, make the same one */
 static void load(const uint8_t *data, size_t len) {
     static struct listed rows;
     struct mst_tree tree = MST_NO_TREE, other = MST_NO_TREE;
     uint8_t *list;
-    int status, right;
+    int status, right, of_digests;
     size_t i;
     if (!len) return;
     list = copied(0, data + 1, len - 1);
-    right = are_rows(list, len - 1, &rows);
+    of_digests = has_front(list, len - 1, &DIGESTS);
+    right = are_rows(list, len - 1, of_digests ? &DIGESTS : &ROWS, &rows);
     of_settings(&tree, data[0]);
     of_settings(&other, data[0]);
     WANT(mst_tree_upsert(&tree, data, 1, data, 1) == MST_DONE);
-    status = mst_tree_load(&tree, list, len - 1);
+    WANT((of_digests ? mst_tree_load : mst_tree_load_digests)(&tree, list, len - 1) == MST_MALFORMED);
+    status = (of_digests ? mst_tree_load_digests : mst_tree_load)(&tree, list, len - 1);
     WANT(status == (right ? MST_DONE : MST_MALFORMED));
     see(2, status, rows.count);
     if (!right) {
@@ -357,7 +387,8 @@ static void load(const uint8_t *data, size_t len) {
     }
     for (i = right ? rows.count : 0; i-- > 0;) {
         struct entry *row = &rows.at[i];
-        WANT(mst_tree_upsert(&other, row->first.bytes, row->first.len, row->last.bytes, row->last.len) == MST_DONE);
+        if (of_digests) WANT(mst_tree_upsert_digest(&other, row->first.bytes, row->first.len, row->digest) == MST_DONE);
+        else WANT(mst_tree_upsert(&other, row->first.bytes, row->first.len, row->last.bytes, row->last.len) == MST_DONE);
     }
     are_one(&tree, &other, rows.count);
     mst_tree_free(&tree);

@@ -27,10 +27,10 @@ class Handles:
     def answer(self, step):
         return getattr(self, step[0])(*step[1:])
 
-    def new(self, slot, key=bytes(16), base=16, form=1):
-        if self.at[slot] or not 1 <= base <= 255 or form not in (1, 2):
+    def new(self, slot, key=bytes(16), base=16, form=1, feed=0):
+        if self.at[slot] or not 1 <= base <= 255 or form not in (1, 2) or feed > 2:
             return BAD_ARGUMENT, None
-        self.at[slot] = Handle(Settings(key, base, form), {})
+        self.at[slot] = Handle(Settings(key, base, form, feed), {})
         return DONE, None
 
     def clone(self, slot, to):
@@ -66,6 +66,21 @@ class Handles:
         self.at[slot].digests = {key: self.at[slot].settings.digest(value) for key, value in rows}
         return DONE, None
 
+    def load_digests(self, slot, given):
+        if not self.at[slot]:
+            return BAD_ARGUMENT, None
+        rows = lists.digests(given)
+        if rows is None:
+            return MALFORMED, None
+        self.at[slot].digests = dict(rows)
+        return DONE, None
+
+    def find(self, slot, key):
+        if not self.at[slot]:
+            return BAD_ARGUMENT, None
+        found = self.at[slot].digests.get(key)
+        return (ABSENT if found is None else DONE), found
+
     def count(self, slot):
         return (DONE, len(self.at[slot].digests)) if self.at[slot] else (BAD_ARGUMENT, None)
 
@@ -77,6 +92,12 @@ class Handles:
 
     def digests(self, slot):
         return (DONE, lists.written(lists.DIGESTS, sorted(self.at[slot].digests.items()))) if self.at[slot] else (BAD_ARGUMENT, None)
+
+    def pages(self, slot):
+        """The pages of a tree that was hashed right before."""
+        if not self.at[slot]:
+            return BAD_ARGUMENT, None
+        return DONE, lists.written(lists.PAGES, [(entry,) for entry in self.at[slot].settings.pages_of(self.at[slot].digests)])
 
     def diff(self, local, peer):
         """The comparison of two lists of any bytes."""
@@ -118,14 +139,22 @@ class Handles:
 
     def goes(self, given, place):
         """Where going over a list goes from a place: the place behind, and the keys and the digest of the range there."""
-        kind = next((kind for kind in (lists.PAGE_RANGES, lists.KEY_RANGES) if given[:4] == kind[0]), None)
+        return self.step(given, place, (lists.PAGE_RANGES, lists.KEY_RANGES))
+
+    def rows(self, given, place):
+        """The same over a list of rows or of digests."""
+        return self.step(given, place, (lists.ROWS, lists.DIGESTS))
+
+    def step(self, given, place, kinds):
+        """The same over a list of one of these kinds."""
+        kind = next((kind for kind in kinds if given[:4] == kind[0]), None)
         if kind is None or len(given) < 12 or place == 0 and lists.read(kind, given) is None:
             return MALFORMED, None
         start = place or 12
         if start >= len(given):
             return (ABSENT if start == len(given) else BAD_ARGUMENT), None
         at, found = start, []
-        for _ in range(2):
+        for _ in range(kind[1]):
             if at + 8 > len(given):
                 return MALFORMED, None
             length = struct.unpack_from("<Q", given, at)[0]

@@ -25,21 +25,31 @@ class Range(ctypes.Structure):
     _fields_ = [("first", ctypes.c_void_p), ("first_len", SIZE), ("last", ctypes.c_void_p), ("last_len", SIZE), ("digest", ctypes.c_void_p)]
 
 
+class Row(ctypes.Structure):
+    """`struct mst_row` of mst.h."""
+    _fields_ = [("key", ctypes.c_void_p), ("key_len", SIZE), ("value", ctypes.c_void_p), ("value_len", SIZE)]
+
+
 CALLS = {
     "mst_tree_new": [HANDLE],
     "mst_tree_new_with": [HANDLE, BYTES, BYTE, BYTE],
+    "mst_tree_new_as": [HANDLE, BYTES, BYTE, BYTE, BYTE],
     "mst_tree_clone": [HANDLE, HANDLE],
     "mst_tree_free": [HANDLE],
     "mst_tree_upsert": [HANDLE, BYTES, SIZE, BYTES, SIZE],
     "mst_tree_upsert_digest": [HANDLE, BYTES, SIZE, BYTES],
     "mst_tree_remove": [HANDLE, BYTES, SIZE],
     "mst_tree_load": [HANDLE, BYTES, SIZE],
+    "mst_tree_load_digests": [HANDLE, BYTES, SIZE],
+    "mst_tree_find": [HANDLE, BYTES, SIZE, BYTES],
     "mst_tree_len": [HANDLE, WRITTEN],
     "mst_tree_root_hash": [HANDLE, BYTES],
     "mst_tree_page_ranges": [HANDLE, BYTES, SIZE, WRITTEN],
     "mst_tree_digests": [HANDLE, BYTES, SIZE, WRITTEN],
+    "mst_tree_pages": [HANDLE, BYTES, SIZE, WRITTEN],
     "mst_diff": [BYTES, SIZE, BYTES, SIZE, BYTES, SIZE, WRITTEN],
     "mst_ranges_next": [BYTES, SIZE, WRITTEN, ctypes.POINTER(Range)],
+    "mst_rows_next": [BYTES, SIZE, WRITTEN, ctypes.POINTER(Row)],
 }
 
 
@@ -66,6 +76,8 @@ class Trees:
         return getattr(self, step[0])(*step[1:])
 
     def new(self, slot, *settings):
+        if len(settings) == 4:
+            return self.library.mst_tree_new_as(self.at[slot], *settings), None
         if settings:
             return self.library.mst_tree_new_with(self.at[slot], *settings), None
         return self.library.mst_tree_new(self.at[slot]), None
@@ -91,6 +103,15 @@ class Trees:
     def load(self, slot, given):
         return self.library.mst_tree_load(self.at[slot], given, len(given)), None
 
+    def load_digests(self, slot, given):
+        return self.library.mst_tree_load_digests(self.at[slot], given, len(given)), None
+
+    def find(self, slot, key):
+        out = ctypes.create_string_buffer(b"\xaa" * 20, 20)
+        status = self.library.mst_tree_find(self.at[slot], key, len(key), out)
+        left(out.raw[16:] == b"\xaa" * 4)
+        return (status, out.raw[:16]) if status == DONE else (status, left(out.raw == b"\xaa" * 20))
+
     def count(self, slot):
         out = SIZE(77)
         status = self.library.mst_tree_len(self.at[slot], out)
@@ -107,6 +128,10 @@ class Trees:
 
     def digests(self, slot):
         return written(lambda *out: self.library.mst_tree_digests(self.at[slot], *out))
+
+    def pages(self, slot):
+        self.root_hash(slot)
+        return written(lambda *out: self.library.mst_tree_pages(self.at[slot], *out))
 
     def diff(self, local, peer):
         return written(lambda *out: self.library.mst_diff(local, len(local), peer, len(peer), *out))
@@ -138,9 +163,22 @@ class Trees:
         if status != DONE:
             left(at.value == place and not found.first and not found.last and not found.digest)
             return status, None
-        text = lambda start, length: ctypes.string_at(start, length) if length else b""
         digest = ctypes.string_at(found.digest, 16) if found.digest else None
         return status, (at.value, text(found.first, found.first_len), text(found.last, found.last_len), digest)
+
+    def rows(self, given, place):
+        at, found = SIZE(place), Row()
+        status = self.library.mst_rows_next(given, len(given), at, found)
+        if status != DONE:
+            left(at.value == place and not found.key and not found.value)
+            return status, None
+        key, value = text(found.key, found.key_len), text(found.value, found.value_len)
+        return status, (at.value, key, value, None) if given[:4] == lists.ROWS[0] else (at.value, key, value)
+
+
+def text(start, length):
+    """So many bytes at a place."""
+    return ctypes.string_at(start, length) if length else b""
 
 
 def left(as_before):
@@ -193,7 +231,8 @@ class Steps:
 
     def __init__(self, chosen, count):
         self.chosen, self.keys, self.values = chosen, keys_of(chosen, count), [b"", b"v", b"w", b"a longer value"]
-        self.settings = [(chosen.choice([bytes(16), bytes(range(16))]), chosen.choice([16, 16, 1, 2, 4, 128, 255]), chosen.randrange(1, 3))]
+        self.settings = [(chosen.choice([bytes(16), bytes(range(16))]), chosen.choice([16, 16, 1, 2, 4, 128, 255]), chosen.randrange(1, 3),
+                          chosen.choice([0, 0, 1, 2]))]
         self.settings += self.settings * 3 + [(bytes(16), 16, 2)]
         # How often steps of each kind come: rows, looks, pulls, lists, handles.
         self.weights = [chosen.choice([10, 40]), chosen.choice([2, 6]), chosen.choice([1, 4]), chosen.choice([0, 2, 8]), 1]
@@ -210,14 +249,22 @@ class Steps:
             return "upsert_digest", slot, key, bytes([chosen.randrange(3)] * 16)
         if kind < 9:
             return "remove", slot, key
-        return "load", slot, self.rows(chosen)
+        return ("load", slot, self.rows(chosen)) if chosen.randrange(2) else ("load_digests", slot, self.digests(chosen))
 
     def rows(self, chosen):
         """A list of rows, which may not ascend, may be altered, or may be none."""
-        keys = chosen.sample(self.keys, chosen.randrange(len(self.keys) + 1))
-        keys = sorted(set(keys)) if chosen.randrange(4) else sorted(keys) if chosen.randrange(2) else keys
-        given = lists.written(lists.ROWS, [(key, chosen.choice(self.values)) for key in keys])
+        given = lists.written(lists.ROWS, [(key, chosen.choice(self.values)) for key in self.some(chosen)])
         return given if chosen.randrange(4) else self.altered(chosen, given)
+
+    def digests(self, chosen):
+        """The same of a list of digests."""
+        given = lists.written(lists.DIGESTS, [(key, bytes([chosen.randrange(3)] * 16)) for key in self.some(chosen)])
+        return given if chosen.randrange(4) else self.altered(chosen, given)
+
+    def some(self, chosen):
+        """Some of the keys, which may not ascend."""
+        keys = chosen.sample(self.keys, chosen.randrange(len(self.keys) + 1))
+        return sorted(set(keys)) if chosen.randrange(4) else sorted(keys) if chosen.randrange(2) else keys
 
     def most(self):
         """A list of rows of nearly all keys."""
@@ -225,14 +272,18 @@ class Steps:
         return lists.written(lists.ROWS, [(key, self.chosen.choice(self.values)) for key in keys])
 
     def look(self, chosen, slot):
-        return chosen.choice(["count", "root_hash", "page_ranges", "digests", "root_hash"]), slot
+        kind = chosen.choice(["count", "root_hash", "page_ranges", "digests", "root_hash", "find", "find", "pages"])
+        return (kind, slot, chosen.choice(self.keys)) if kind == "find" else (kind, slot)
 
     def exchange(self, chosen, slot):
         other = chosen.choice([at for at in range(SLOTS) if at != slot])
         return chosen.choice(["pull", "pull", "turns"]), slot, other
 
     def lists(self, chosen, slot):
-        kind = chosen.randrange(8)
+        kind = chosen.randrange(10)
+        if kind > 7:
+            given = self.rows(chosen) if chosen.randrange(2) else self.digests(chosen)
+            return "rows", given, chosen.choice([0, 0, 12, len(given) + 1, chosen.randrange(len(given) + 3)])
         if kind < 4:
             return "diff", self.entries(chosen), self.entries(chosen)
         if kind == 4:
@@ -286,7 +337,7 @@ class Steps:
         if kind == 2:
             return "new", slot
         if kind == 3:
-            return "new", slot, bytes(16), chosen.choice([0, 1, 255]), chosen.choice([0, 1, 2, 3, 255])
+            return "new", slot, bytes(16), chosen.choice([0, 1, 255]), chosen.choice([0, 1, 2, 3, 255]), chosen.choice([0, 1, 2, 3, 255])
         return "new", slot, *chosen.choice(self.settings)
 
 
@@ -340,7 +391,7 @@ def fault(path, steps):
 
 def smaller_bytes(given, fails):
     """A list with fewer entries that still fails, or, of bytes that are no list, fewer bytes."""
-    for kind in (lists.PAGE_RANGES, lists.KEY_RANGES, lists.ROWS):
+    for kind in (lists.PAGE_RANGES, lists.KEY_RANGES, lists.ROWS, lists.DIGESTS):
         entries = lists.read(kind, given)
         if entries is not None:
             return lists.written(kind, smaller(entries, lambda some: fails(lists.written(kind, some))))

@@ -3,6 +3,8 @@ import struct
 
 # A kind of list: its mark, how many strings each entry has, and how many bytes of digest stand behind them.
 PAGE_RANGES, KEY_RANGES, DIGESTS, ROWS = (b"MSTp", 2, 16), (b"MSTk", 2, 0), (b"MSTd", 1, 16), (b"MSTr", 2, 0)
+# Pages, whose entries are written as they are.
+PAGES = (b"MSTt", 0, 0)
 
 
 def written(kind, entries):
@@ -43,7 +45,12 @@ def page_ranges(given):
     return None if entries is None or any(first > last for first, last, _ in entries) else entries
 
 
-def rows(given):
+def rows(given, kind=ROWS):
     """The rows that the bytes spell, which ascend by key."""
-    entries = read(ROWS, given)
+    entries = read(kind, given)
     return None if entries is None or any(one[0] >= other[0] for one, other in zip(entries, entries[1:])) else entries
+
+
+def digests(given):
+    """The keys with their digests that the bytes spell, which ascend."""
+    return rows(given, DIGESTS)

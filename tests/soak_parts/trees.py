@@ -58,16 +58,16 @@ def number(value):
 
 
 class Settings:
-    """The key of SipHash for keys and values, the level base and the page format."""
+    """The key of SipHash for keys and values, the level base, the page format, and how keys are fed."""
 
-    def __init__(self, key=ZERO_KEY, base=16, form=1):
-        self.key, self.base, self.form = key, base, form
+    def __init__(self, key=ZERO_KEY, base=16, form=1, feed=0):
+        self.key, self.base, self.form, self.feed = key, base, form, feed
 
     def digest(self, fed):
         return siphash128(self.key, fed)
 
     def level(self, key):
-        return level_of(self.digest(key), self.base)
+        return level_of(self.digest((key, key + b"\xff", number(len(key)) + key)[self.feed]), self.base)
 
     def stream_of_key(self, key):
         return number(len(key)) + key if self.form == 2 else key
@@ -89,6 +89,23 @@ class Settings:
                 stream += [self.stream_of_key(rows[end][0]), rows[end][1]]
         digest = siphash128(ZERO_KEY, b"".join(stream))
         return digest, [(rows[0][0], rows[-1][0], digest)] + ranges if rows else []
+
+    def pages(self, rows, levels, is_high=False):
+        """The entries of a list of pages: that of the page of these rows, and those of its keys and of all below it. Each page has its digest."""
+        top = max(levels, default=0)
+        nodes = [place for place, level in enumerate(levels) if level == top]
+        entries = [bytes([1 + is_high, top, 1]) + self.page(rows, levels)[0] + number(len(nodes))]
+        for start, end in zip([0] + [place + 1 for place in nodes], nodes + [len(rows)]):
+            if start < end:
+                entries += self.pages(rows[start:end], levels[start:end], end == len(rows))
+            if end < len(rows):
+                entries.append(b"\0" + number(len(rows[end][0])) + rows[end][0])
+        return entries
+
+    def pages_of(self, digests):
+        """The entries of the list of the pages of the tree of a map."""
+        rows = sorted(digests.items())
+        return self.pages(rows, [self.level(key) for key, _ in rows])
 
     def tree(self, digests):
         """The root hash and the page ranges of the tree of a map: of each page the first key, the last key and the digest."""

@@ -5,7 +5,7 @@ use Rattle.std.specs.Global.{Vec}
 use Rattle.std.specs.Ordering.{is_eq, match_ordering}
 use Rattle.std.specs.declared.cmp.Ordering.{Ordering}
 use Rattle.std.specs.declared.cmp.Ordering.TheVariants.{Less, Greater}
-use Rattle.key_order.specs.Map.{set, del, has_key, entry, IsPresent}
+use Rattle.key_order.specs.Map.{get, set, del, has_key, entry, IsPresent}
 use Rattle.key_order.proofs.Dels.{entry-there, entry-absent}
 use Rattle.mst_c.specs.Trees.{bytes_cmp, by_bytes, key_cmp}
 
@@ -36,6 +36,10 @@ rows_del (r ∷ rs) k =
 pub rows_have : (m : List ByteRow) (k : Vec ℕ) → has_key key_cmp m k ≡ has_key bytes_cmp (map by_bytes m) k.items
 rows_have [] k = refl
 rows_have (r ∷ rs) k = ap (λ b. is_eq (key_cmp k r.0) || b) (rows_have rs k)
+
+pub rows_get : (m : List ByteRow) (k : Vec ℕ) → get key_cmp m k ≡ get bytes_cmp (map by_bytes m) k.items
+rows_get [] k = refl
+rows_get (r ∷ rs) k = ap (cond (is_eq (key_cmp r.0 k)) (Some r.1)) (rows_get rs k)
 
 -- a key without an entry isn't there, and one with an entry is
 pub absent : (m : List ByteRow) (k : Vec ℕ) → entry key_cmp m k ≡ None → false ≡ has_key bytes_cmp (map by_bytes m) k.items

@@ -1,6 +1,7 @@
 pub mod Bytes
 pub mod Lists
 pub mod Loads
+pub mod Pages
 pub mod Ranges
 pub mod Rows
 pub mod Spots

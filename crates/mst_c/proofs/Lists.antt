@@ -4,7 +4,7 @@ use Rattle.std.specs.Bool.{⊤}
 use Rattle.std.specs.List.{AllByRecursion, flat_map}
 use Rattle.std.proofs.lemmas.List.{append_assoc, append-nil, length-append, map-append, take_more}
 use Rattle.std.proofs.lemmas.Grind.{flat_map-append}
-use Rattle.merkle_tree_theory.proofs.Streams.{join_tells}
+use Rattle.key_order.proofs.ListParts.{join_tells}
 use Rattle.mst_c.specs.Wire.{number_bytes, list_bytes}
 use Rattle.mst_c.proofs.Strings.{one_number}
 
@@ -70,7 +70,7 @@ list_length mark count body = omega (arith, length-append mark (number_bytes cou
 
 module _ {X : Type 0} (bytes : X → List ℕ) (some : (x : X) → 1 ≤ length (bytes x)) where
   -- each is written as some bytes, so there are no more entries than bytes
-  no_more : (xs : List X) → length xs ≤ length (flat_map bytes xs)
+  pub no_more : (xs : List X) → length xs ≤ length (flat_map bytes xs)
   no_more [] = omega arith
   no_more (x ∷ xs) = omega (arith, some x, no_more xs, length-append (bytes x) (flat_map bytes xs))
 

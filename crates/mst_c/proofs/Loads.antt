@@ -1,5 +1,5 @@
 -- What a load makes of the rows that bytes spell.
-use Rattle.std.proofs.Common.{◌≡◌, ℕ, List, [], ◌∷◌, ◌++◌, map, sym, ap, subst, ◌∙◌}
+use Rattle.std.proofs.Common.{◌≡◌, ℕ, List, [], ◌∷◌, ◌++◌, map, sym, ap, subst, ◌∙◌, Result, Ok, Err, IfOk, OnOk}
 use Rattle.std.proofs.IntoIterSteps.{takes}
 use Rattle.std.specs.Global.{Vec}
 use Rattle.std.specs.Iterator.{Yields}
@@ -14,6 +14,15 @@ use Rattle.merkle_search_tree.specs.Loading.{LoadFails, digests}
 use Rattle.merkle_search_tree.specs.declared.load.LoadRefused.{LoadRefused}
 use Rattle.merkle_search_tree.specs.declared.load.LoadRefused.TheVariants.{NotAscending}
 use Rattle.mst_c.specs.Trees.{bytes_cmp, by_bytes, key_cmp}
+
+-- of a success more holds where it follows
+pub on_ok : {T E P Q : Type 0} (r : Result T E) → (P → Q) → OnOk r P → OnOk r Q
+on_ok (Ok x) f p = f p
+on_ok (Err x) f p = tt
+
+pub if_ok : {T E : Type 0} {P Q R : T → Type 0} (r : Result T E) → ((x : T) → P x → Q x → R x) → IfOk r P → IfOk r Q → IfOk r R
+if_ok (Ok x) f p q = f x p q
+if_ok (Err x) f p q = tt
 
 -- pairs ascend where pairs ascend that compare alike
 module _ {K L X Y : Type 0} (cmp : K → K → Ordering) (other : L → L → Ordering) (f : K × X → L × Y) (alike : (a b : K × X) → other (f a).0 (f b).0 ≡ cmp a.0 b.0) where
@@ -33,14 +42,21 @@ module _ {K L X Y : Type 0} (cmp : K → K → Ordering) (other : L → L → Or
   map_from [] a = tt
   map_from (r ∷ rs) a = (all_from r rs a.0, map_from rs a.1)
 
+-- pairs ascend as the bytes of their keys do
+pub by_bytes_ascend : (pairs : List (Vec ℕ × List ℕ)) → IsMap key_cmp pairs → IsMap bytes_cmp (map by_bytes pairs)
+by_bytes_ascend = map_to key_cmp bytes_cmp by_bytes (λ r s. λ i. key_cmp r.0 s.0)
+
+pub from_bytes_ascend : (pairs : List (Vec ℕ × List ℕ)) → IsMap bytes_cmp (map by_bytes pairs) → IsMap key_cmp pairs
+from_bytes_ascend = map_from key_cmp bytes_cmp by_bytes (λ r s. λ i. key_cmp r.0 s.0)
+
 module _ (h : List ℕ → List ℕ) (pairs : List (Vec ℕ × List ℕ)) (rows : List (List ℕ × List ℕ)) (e : map by_bytes pairs ≡ digests h rows) where
   -- the rows ascend where the pairs do that have their keys
   pub rows_ascend : IsMap key_cmp pairs → IsMap bytes_cmp rows
   rows_ascend a = map_from bytes_cmp bytes_cmp (λ r. (r.0, h r.1)) (λ r s. λ i. bytes_cmp r.0 s.0) rows
-      (subst (IsMap bytes_cmp) e (map_to key_cmp bytes_cmp by_bytes (λ r s. λ i. key_cmp r.0 s.0) pairs a))
+      (subst (IsMap bytes_cmp) e (by_bytes_ascend pairs a))
 
   pub pairs_ascend : IsMap bytes_cmp rows → IsMap key_cmp pairs
-  pairs_ascend a = map_from key_cmp bytes_cmp by_bytes (λ r s. λ i. key_cmp r.0 s.0) pairs
+  pairs_ascend a = from_bytes_ascend pairs
       (subst (IsMap bytes_cmp) (sym e) (map_to bytes_cmp bytes_cmp (λ r. (r.0, h r.1)) (λ r s. λ i. bytes_cmp r.0 s.0) rows a))
 
 -- what came of a vector is in front of what is left of it

@@ -1,14 +1,17 @@
--- Rows, page ranges and key ranges as bytes: a list of each is read in one way.
+-- Rows, page ranges, key ranges and digests as bytes: a list of each is read in one way.
 use Rattle.std.proofs.Common.{◌≡◌, ℕ, ◌<◌, ◌≤◌, ◌^◌, List, ◌++◌, length, map, sym, ap, ◌∙◌, arith}
 use Rattle.std.specs.Bool.{⊤}
 use Rattle.std.specs.Global.{Vec}
 use Rattle.std.proofs.lemmas.List.{append_assoc, length-append, map-id}
+use Rattle.std.specs.List.{AllByRecursion, flat_map}
 use Rattle.key_order.specs.Interval.{Span}
+use Rattle.key_order.proofs.ListParts.{join_tells}
 use Rattle.merkle_diff.specs.Entry.{Entry}
-use Rattle.mst_c.specs.Lists.{ArePageRanges, IsPageRange, entry_by_bytes, span_by_bytes}
-use Rattle.mst_c.specs.Wire.{entry_bytes, key_mark, key_ranges_bytes, number_bytes, page_mark, row_bytes, row_mark, rows_bytes, span_bytes, text_bytes}
-use Rattle.mst_c.proofs.Lists.{each_trivial, one_list}
-use Rattle.mst_c.proofs.Strings.{one_row, one_row_with, some_row}
+use Rattle.merkle_search_tree.specs.Loading.{row_count}
+use Rattle.mst_c.specs.Lists.{ArePageRanges, HasDigest, IsPageRange, entry_by_bytes, span_by_bytes}
+use Rattle.mst_c.specs.Wire.{digest_bytes, digest_mark, digests_bytes, entry_bytes, key_mark, key_ranges_bytes, list_bytes, number_bytes, page_mark, row_bytes, row_mark, rows_bytes, span_bytes, text_bytes}
+use Rattle.mst_c.proofs.Lists.{each_trivial, list_length, no_more, one_list}
+use Rattle.mst_c.proofs.Strings.{one_row, one_row_with, one_text, some_row}
 
 one_trivial_row : (x y : List ℕ × List ℕ) (r s : List ℕ) → ⊤ → ⊤ → length (row_bytes x ++ r) < 2 ^ 64 → row_bytes x ++ r ≡ row_bytes y ++ s → (x ≡ y) × (r ≡ s)
 one_trivial_row x y r s p q = one_row x y r s
@@ -57,3 +60,30 @@ one_span s t a b p q fits is =
 -- a list of key ranges is read in one way
 pub one_list_of_key_ranges : (all : List ℕ) (ss ts : List (Span (Vec ℕ))) → length all < 2 ^ 64 → all ≡ key_ranges_bytes ss → all ≡ key_ranges_bytes ts → map span_by_bytes ss ≡ map span_by_bytes ts
 one_list_of_key_ranges all ss ts short = one_list span_bytes (λ s. some_row (bounds s)) (λ _. ⊤) span_by_bytes one_span key_mark all ss ts short (each_trivial ss) (each_trivial ts)
+
+-- a key and its digest with what is behind
+pub as_text : (x : List ℕ × List ℕ) (rest : List ℕ) → digest_bytes x ++ rest ≡ text_bytes x.0 ++ (x.1 ++ rest)
+as_text x rest = append_assoc (text_bytes x.0) x.1 rest
+
+pub one_digest : (x y : List ℕ × List ℕ) (r s : List ℕ) → HasDigest x → HasDigest y → length (digest_bytes x ++ r) < 2 ^ 64 → digest_bytes x ++ r ≡ digest_bytes y ++ s → (x ≡ y) × (r ≡ s)
+one_digest x y r s p q fits e =
+    let key = one_text x.0 y.0 (x.1 ++ r) (y.1 ++ s) (omega (arith, ap length (as_text x r))) (sym (as_text x r) ∙ e ∙ as_text y s) in
+    let rest = join_tells x.1 y.1 r s (p ∙ sym q) key.1 in
+    ((λ i. (key.0 i, rest.0 i)), rest.1)
+
+pub digest_ends : (x y : List ℕ × List ℕ) (r s : List ℕ) → HasDigest x → HasDigest y → length (digest_bytes x ++ r) < 2 ^ 64 → digest_bytes x ++ r ≡ digest_bytes y ++ s → r ≡ s
+digest_ends x y r s p q fits e = (one_digest x y r s p q fits e).1
+
+pub some_digest : (x : List ℕ × List ℕ) → 1 ≤ length (digest_bytes x)
+some_digest x = omega (arith, length-append (text_bytes x.0) x.1, length-append (number_bytes (length x.0)) x.0)
+
+-- the number of a list of digests in memory is that of its keys
+pub counted_digests : (all : List ℕ) (xs : List (List ℕ × List ℕ)) → length all < 2 ^ 64 → all ≡ digests_bytes xs → all ≡ list_bytes digest_mark digest_bytes xs
+counted_digests all xs short e =
+    let count : row_count xs ≡ length xs = omega (arith, no_more digest_bytes some_digest xs, ap length e, list_length digest_mark (row_count xs) (flat_map digest_bytes xs)) in
+    e ∙ ap (λ n. digest_mark ++ (number_bytes n ++ flat_map digest_bytes xs)) count
+
+-- a list of digests is read in one way
+pub one_list_of_digests : (all : List ℕ) (xs ys : List (List ℕ × List ℕ)) → length all < 2 ^ 64 → AllByRecursion HasDigest xs → AllByRecursion HasDigest ys → all ≡ digests_bytes xs → all ≡ digests_bytes ys → xs ≡ ys
+one_list_of_digests all xs ys short ps qs e f =
+    sym (map-id xs) ∙ one_list digest_bytes some_digest HasDigest (λ x. x) one_digest digest_mark all xs ys short ps qs (counted_digests all xs short e) (counted_digests all ys short f) ∙ map-id ys

@@ -1,7 +1,8 @@
 -- Numbers, strings and rows as bytes: each tells where it ends, so it is read in one way.
 use Rattle.std.proofs.Common.{◌≡◌, ℕ, ◌+◌, ◌<◌, ◌≤◌, ◌^◌, List, ◌++◌, length, sym, ap, ◌∙◌, arith}
 use Rattle.std.proofs.lemmas.List.{append_assoc, length-append}
-use Rattle.merkle_tree_theory.proofs.Streams.{join_tells, number_tells}
+use Rattle.key_order.proofs.ListParts.{join_tells}
+use Rattle.key_order.proofs.Numbers.{number_tells}
 use Rattle.mst_c.specs.Wire.{number_bytes, text_bytes, row_bytes}
 
 pub one_number : (m n : ℕ) (r s : List ℕ) → m < 2 ^ 64 → n < 2 ^ 64 → number_bytes m ++ r ≡ number_bytes n ++ s → (m ≡ n) × (r ≡ s)

@@ -1,6 +1,8 @@
 pub mod Handles
+pub mod Keys
 pub mod Lists
 pub mod Owned
+pub mod Pages
 pub mod Spots
 pub mod Trees
 pub mod Wire

@@ -9,9 +9,9 @@ use Rattle.merkle_digest.specs.SipHash.{siphash128}
 use Rattle.merkle_diff.specs.Difference.{IsAnswer}
 use Rattle.merkle_diff.specs.Entry.{Entry}
 use Rattle.merkle_search_tree.specs.Loading.{digests}
-use Rattle.merkle_tree_theory.specs.State.{SameSettings}
+use Rattle.merkle_tree_theory.specs.State.{SameSettings, map_of}
 use Rattle.mst_c.specs.Trees.{ByteState, bytes_cmp, key_cmp, rows_of}
-use Rattle.mst_c.specs.Wire.{page_ranges_bytes, key_ranges_bytes, rows_bytes}
+use Rattle.mst_c.specs.Wire.{page_ranges_bytes, key_ranges_bytes, rows_bytes, digests_bytes}
 
 -- an entry of a list of page ranges has a digest of 16 bytes, and its first key is at most its last
 abbrev pub IsPageRange : Entry (Vec ℕ) (List ℕ) → Type 0
@@ -21,13 +21,29 @@ IsPageRange e = (length e.digest ≡ 16) × Upto key_cmp e.first e.last
 abbrev pub ArePageRanges : List ℕ → List (Entry (Vec ℕ) (List ℕ)) → Type 0
 ArePageRanges bytes es = (bytes ≡ page_ranges_bytes es) × AllByRecursion IsPageRange es
 
+-- a key and 16 bytes of digest
+abbrev pub HasDigest : List ℕ × List ℕ → Type 0
+HasDigest row = length row.1 ≡ 16
+
 -- the bytes are the list of these rows, which ascend by key
 abbrev pub AreRows : List ℕ → List (List ℕ × List ℕ) → Type 0
 AreRows bytes rows = (bytes ≡ rows_bytes rows) × IsMap bytes_cmp rows
 
+-- the map is these pairs, which ascend by key, and the settings stay
+abbrev pub HasPairs : List (Vec ℕ × List ℕ) → ByteState → ByteState → Type 0
+HasPairs pairs old new = (map_of new ≡ pairs) × IsMap key_cmp pairs × SameSettings old new
+
 -- the map is the rows that the bytes spell, each with the digest of its value, and the settings stay
 abbrev pub IsLoaded : List ℕ → ByteState → ByteState → Type 0
-IsLoaded bytes old new = (rows : List (List ℕ × List ℕ)) × AreRows bytes rows × (rows_of new ≡ digests (siphash128 old.hasher) rows) × SameSettings old new
+IsLoaded bytes old new = (rows : List (List ℕ × List ℕ)) × AreRows bytes rows × (rows_of new ≡ digests (siphash128 old.hasher.key) rows) × SameSettings old new
+
+-- the bytes are the list of these keys, which ascend, each with 16 bytes of digest
+abbrev pub AreDigests : List ℕ → List (List ℕ × List ℕ) → Type 0
+AreDigests bytes rows = (bytes ≡ digests_bytes rows) × AllByRecursion HasDigest rows × IsMap bytes_cmp rows
+
+-- the map is what the bytes spell, and the settings stay
+abbrev pub AreLoaded : List ℕ → ByteState → ByteState → Type 0
+AreLoaded bytes old new = AreDigests bytes (rows_of new) × SameSettings old new
 
 -- the bytes are the list of the key ranges that `diff` may answer on the page ranges that local and peer spell
 abbrev pub IsDiffOf : List ℕ → List ℕ → List ℕ → Type 0

@@ -1,55 +1,73 @@
 -- The entries of a list, and where they lie.
-use Rattle.std.specs.Prelude.{◌≡◌, ℕ, ◌+◌, Bool, if◌then◌else◌, nat_eq, List, ◌++◌, length}
+use Rattle.std.specs.Prelude.{◌≡◌, ℕ, ◌+◌, Bool, true, not, ◌&&◌, if◌then◌else◌, nat_eq, List, ◌++◌, length}
 use Rattle.std.specs.List.{AllByRecursion, flat_map}
-use Rattle.mst_c.specs.Wire.{number_bytes, row_bytes, page_mark, key_mark}
+use Rattle.mst_c.specs.Lists.{HasDigest}
+use Rattle.mst_c.specs.Wire.{number_bytes, row_bytes, digest_bytes, page_mark, key_mark, row_mark, digest_mark}
 use Rattle.mst_c.specs.declared.entries.MstSpot.{MstSpot}
 
--- the mark of a list, by whether its entries have digests
-abbrev pub mark_of : Bool → List ℕ
-mark_of has_digests = if has_digests then page_mark else key_mark
+-- the mark of a list, by whether it is one of rows, and whether its entries have digests
+abbrev pub mark_of : Bool → Bool → List ℕ
+mark_of rows digests = if rows then (if digests then digest_mark else row_mark) else (if digests then page_mark else key_mark)
 
--- how long the digest of an entry is
+-- how long the digest behind the two parts of an entry is
 abbrev pub digest_len : Bool → ℕ
-digest_len has_digests = if has_digests then 16 else 0
+digest_len hashed = if hashed then 16 else 0
 
--- the keys of an entry, and its digest
+-- how long the length in front of the second part is, which a digest doesn't have
+abbrev pub gap_len : Bool → ℕ
+gap_len plain = if plain then 0 else 8
+
+-- the two keys of a range, or the key and the value of a row; and the digest behind them
 abbrev pub EntryParts : Type 0
 EntryParts = (List ℕ × List ℕ) × List ℕ
 
+-- the bytes of two parts: two strings, or a key and the digest of its value
+abbrev pub two_bytes : Bool → List ℕ × List ℕ → List ℕ
+two_bytes plain two = if plain then digest_bytes two else row_bytes two
+
+-- a digest as the second part has its length
+abbrev pub IsTwo : Bool → List ℕ × List ℕ → Type 0
+IsTwo plain two = plain ≡ true → HasDigest two
+
 -- the bytes of an entry
-abbrev pub parts_bytes : EntryParts → List ℕ
-parts_bytes e = row_bytes e.0 ++ e.1
+abbrev pub parts_bytes : Bool → EntryParts → List ℕ
+parts_bytes plain e = two_bytes plain e.0 ++ e.1
 
--- the bytes are so many entries, each with a digest or none
-abbrev pub AreEntries : Bool → ℕ → List ℕ → Type 0
-AreEntries has_digests count bytes = (es : List EntryParts) × (length es ≡ count) × AllByRecursion (λ e. length e.1 ≡ digest_len has_digests) es × (bytes ≡ flat_map parts_bytes es)
+-- the digests of an entry have their length
+abbrev pub IsParts : Bool → Bool → EntryParts → Type 0
+IsParts plain hashed e = IsTwo plain e.0 × (length e.1 ≡ digest_len hashed)
 
--- the bytes are a list of page ranges or of key ranges, whatever the order of its keys
-abbrev pub IsList : List ℕ → Type 0
-IsList list = (has_digests : Bool) × (count : ℕ) × (body : List ℕ) × (list ≡ mark_of has_digests ++ (number_bytes count ++ body)) × AreEntries has_digests count body
+-- the bytes are so many entries, whose second part is a digest or a string, and which have a digest behind it or none
+abbrev pub AreEntries : Bool → Bool → ℕ → List ℕ → Type 0
+AreEntries plain hashed count bytes = (es : List EntryParts) × (length es ≡ count) × AllByRecursion (IsParts plain hashed) es × (bytes ≡ flat_map (parts_bytes plain) es)
+
+-- the bytes are a list of rows or of digests, or else of page ranges or of key ranges, whatever the order of its keys
+abbrev pub IsList : Bool → List ℕ → Type 0
+IsList rows list = (digests : Bool) × (count : ℕ) × (body : List ℕ) × (list ≡ mark_of rows digests ++ (number_bytes count ++ body)) × AreEntries (rows && digests) (not rows && digests) count body
 
 -- the mark of either kind of list stands in front, and a number behind it
-abbrev pub HasFront : List ℕ → Type 0
-HasFront list = (has_digests : Bool) × (count : ℕ) × (body : List ℕ) × (list ≡ mark_of has_digests ++ (number_bytes count ++ body))
+abbrev pub HasFront : Bool → List ℕ → Type 0
+HasFront rows list = (digests : Bool) × (count : ℕ) × (body : List ℕ) × (list ≡ mark_of rows digests ++ (number_bytes count ++ body))
 
 -- the list's mark stands in front, and an entry of its kind lies where the spot says: it begins at `old`, or behind the mark and the
 -- number where that is 0, and then the whole is a list; and it ends at `new`
-pub record IsEntryAt (list : List ℕ) (old new : ℕ) (spot : MstSpot) : Type 0 where
-  pub has_digests : Bool
+pub record IsEntryAt (rows : Bool) (list : List ℕ) (old new : ℕ) (spot : MstSpot) : Type 0 where
+  pub digests : Bool
   pub count : ℕ
   pub body : List ℕ
-  pub marked : list ≡ mark_of has_digests ++ (number_bytes count ++ body)
-  pub whole : old ≡ 0 → AreEntries has_digests count body
+  pub marked : list ≡ mark_of rows digests ++ (number_bytes count ++ body)
+  pub whole : old ≡ 0 → AreEntries (rows && digests) (not rows && digests) count body
   pub before : List ℕ
   pub entry : EntryParts
   pub behind : List ℕ
-  pub parts : list ≡ before ++ (parts_bytes entry ++ behind)
+  pub parts : list ≡ before ++ (parts_bytes (rows && digests) entry ++ behind)
+  pub sized : IsParts (rows && digests) (not rows && digests) entry
   pub starts : length before ≡ (if nat_eq old 0 then 12 else old)
   pub first : (spot.first_at ≡ length before + 8) × (spot.first_len ≡ length entry.0.0)
-  pub last : (spot.last_at ≡ spot.first_at + spot.first_len + 8) × (spot.last_len ≡ length entry.0.1)
-  pub digest : (length entry.1 ≡ digest_len has_digests) × (spot.digest_at ≡ (if has_digests then spot.last_at + spot.last_len else 0))
+  pub last : (spot.last_at ≡ spot.first_at + spot.first_len + gap_len (rows && digests)) × (spot.last_len ≡ length entry.0.1)
+  pub digest : spot.digest_at ≡ (if not rows && digests then spot.last_at + spot.last_len else 0)
   pub ends : new + length behind ≡ length list
 
 -- an entry of the kind of the list's mark begins there
-abbrev pub HasEntryAt : List ℕ → ℕ → Type 0
-HasEntryAt list at = (behind : ℕ) × (spot : MstSpot) × IsEntryAt list at behind spot
+abbrev pub HasEntryAt : Bool → List ℕ → ℕ → Type 0
+HasEntryAt rows list at = (behind : ℕ) × (spot : MstSpot) × IsEntryAt rows list at behind spot

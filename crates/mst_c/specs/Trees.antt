@@ -10,10 +10,11 @@ use Rattle.merkle_digest.specs.SipHash.{siphash128}
 use Rattle.merkle_tree_theory.specs.Copy.{IsCopy}
 use Rattle.merkle_tree_theory.specs.Dropped.{UpsertDropsFew}
 use Rattle.merkle_tree_theory.specs.State.{State, SameSettings, map_of}
+use Rattle.mst_c.specs.Keys.{Hashing, key_digest}
 
--- a tree whose keys are byte strings and whose hasher is a key of SipHash
+-- a tree whose keys are byte strings and whose hasher is SipHash
 abbrev pub ByteState : Type 0
-ByteState = State (Vec ℕ) (List ℕ)
+ByteState = State (Vec ℕ) Hashing
 
 -- the bytes of a key
 abbrev pub bytes_of : Vec ℕ → List ℕ
@@ -47,7 +48,7 @@ pub record IsSetTo (key digest : List ℕ) (old new : ByteState) : Type 0 where
 
 -- the map has the key with the digest of the value
 abbrev pub IsSet : List ℕ → List ℕ → ByteState → ByteState → Type 0
-IsSet key value old = IsSetTo key (siphash128 old.hasher value) old
+IsSet key value old = IsSetTo key (siphash128 old.hasher.key value) old
 
 -- the map no longer has the key, and whether it had it was answered
 pub record IsDel (key : List ℕ) (found : Bool) (old new : ByteState) : Type 0 where
@@ -57,7 +58,7 @@ pub record IsDel (key : List ℕ) (found : Bool) (old new : ByteState) : Type 0 
 
 -- an upsert of the key: few pages more than before lack a digest
 abbrev pub SetDropsFew : List ℕ → ByteState → ByteState → Type 0
-SetDropsFew key old = UpsertDropsFew (siphash128 old.hasher key) old
+SetDropsFew key old = UpsertDropsFew (key_digest old.hasher key) old
 
 -- the pages are equal, and so are all cached digests and the cached root hash
 pub record IsCopied (old copy : ByteState) : Type 0 where

@@ -1,19 +1,22 @@
 //! What a handle holds: a tree of byte strings.
 ghost use Rattle.std.specs.Prelude.{◌≡◌, ◌≢◌, ℕ, List, None, Err, OnOk, OnErr, IfOk, false, length};
 ghost use Rattle.std.specs.Int.NonZero.{non_zero_u8_get};
+ghost use Rattle.key_order.specs.Map.{IsMap, get};
 ghost use Rattle.merkle_tree_theory.specs.Dropped.{RemovalDropsFew};
 ghost use Rattle.merkle_tree_theory.specs.Hashed.{IsHashed};
 ghost use Rattle.merkle_tree_theory.specs.State.{IsNew, map_of};
 ghost use Rattle.merkle_tree_theory.specs.Stream.{page_digest};
 ghost use Rattle.merkle_tree_theory.specs.Ranges.{ranges_of};
 ghost use Rattle.merkle_search_tree.specs.Loading.{row_count};
-ghost use Rattle.mst_c.specs.Lists.{ArePageRanges, AreRows, IsLoaded};
-ghost use Rattle.mst_c.specs.Trees.{bytes_of, SameRows, IsSet, IsSetTo, SetDropsFew, IsDel, IsCopied, rows_of};
+ghost use Rattle.mst_c.specs.Lists.{AreDigests, AreLoaded, ArePageRanges, AreRows, HasPairs, IsLoaded};
+ghost use Rattle.mst_c.specs.Pages.{pages_bytes};
+ghost use Rattle.mst_c.specs.Trees.{bytes_cmp, bytes_of, key_cmp, SameRows, IsSet, IsSetTo, SetDropsFew, IsDel, IsCopied, rows_of};
 ghost use Rattle.mst_c.specs.Wire.{digests_bytes};
 ghost use Rattle.mst_c.specs.declared.reading.ReadError.TheVariants.{Malformed};
 
 use crate::byte_hasher::ByteHasher;
-use crate::reading::{ReadError, decode_rows};
+use crate::reading::{ReadError, decode_digests, decode_rows};
+use crate::walk::Pages;
 use crate::wire::{DIGESTS, encode, put, put_digest, put_number};
 use merkle_search_tree::builder::{Builder, PageFormat};
 use merkle_search_tree::{LoadRefused, MerkleSearchTree};
@@ -33,23 +36,24 @@ pub struct ByteTree {
 }
 
 impl ByteTree {
-    /// The empty tree with this key of SipHash, level base and page format.
+    /// The empty tree with this key of SipHash, way of feeding keys, level base and page format.
     pub fn new(
         alloc: Global,
         key: &[u8; 16],
+        feed: u8,
         level_base: NonZeroU8,
         page_format: PageFormat,
     ) -> ByteTree
-        ensures { IsNew key.now (non_zero_u8_get level_base) page_format result.tree }
+        ensures { IsNew (record { key = key.now; feed = feed }) (non_zero_u8_get level_base) page_format result.tree }
     {
         let tree = Builder::default()
-            .with_hasher(ByteHasher::new(key))
+            .with_hasher(ByteHasher::new(key, feed))
             .with_level_base(level_base)
             .with_page_format(page_format)
             .build(alloc);
         ByteTree {
             tree,
-            hasher: ByteHasher::new(key),
+            hasher: ByteHasher::new(key, feed),
             level_base,
         }
     }
@@ -96,6 +100,17 @@ impl ByteTree {
         }
     }
 
+    /// The digest of the value at a key, where the key is there.
+    pub fn find(&self, alloc: Global, key: &[u8]) -> Result<Option<[u8; 16]>, AllocError>
+        ensures { IfOk result (λ found. found ≡ get bytes_cmp (rows_of self.now.tree) key.now) }
+    {
+        let own_key = Vec::from_slice(alloc, key)?;
+        match self.tree.value_hash(&own_key) {
+            None => Ok(None),
+            Some(digest) => Ok(Some(*digest.as_bytes())),
+        }
+    }
+
     /// Makes these rows the map, in place of the map that the tree has. Refused, the tree is as before.
     pub fn load(&mut self, alloc: Global, rows: &[u8]) -> Result<(), ReadError>
         ensures done { OnOk result (IsLoaded rows.now self.old.tree self.new.tree) }
@@ -103,6 +118,29 @@ impl ByteTree {
         ensures unchanged { OnErr result (self.new ≡ self.old) }
     {
         let pairs = decode_rows(alloc, &self.hasher, rows)?;
+        self.load_pairs(alloc, pairs)
+    }
+
+    /// The same of keys that come with the digests of their values.
+    pub fn load_digests(&mut self, alloc: Global, list: &[u8]) -> Result<(), ReadError>
+        ensures done { OnOk result (AreLoaded list.now self.old.tree self.new.tree) }
+        ensures malformed { result ≡ Err Malformed → (given : List (List ℕ × List ℕ)) → ¬ (AreDigests list.now given) }
+        ensures unchanged { OnErr result (self.new ≡ self.old) }
+    {
+        let pairs = decode_digests(alloc, list)?;
+        self.load_pairs(alloc, pairs)
+    }
+
+    /// Makes these pairs of keys and digests the map. Refused, the tree is as before.
+    fn load_pairs(
+        &mut self,
+        alloc: Global,
+        pairs: Vec<(Vec<u8>, [u8; 16])>,
+    ) -> Result<(), ReadError>
+        ensures done { OnOk result (HasPairs pairs.items self.old.tree self.new.tree) }
+        ensures malformed { result ≡ Err Malformed → ¬ (IsMap key_cmp pairs.items) }
+        ensures unchanged { OnErr result (self.new ≡ self.old) }
+    {
         let builder = Builder::default()
             .with_hasher(self.hasher.clone()?)
             .with_level_base(self.level_base)
@@ -140,6 +178,15 @@ impl ByteTree {
             put_digest(node, &mut out)?;
         }
         Ok(out)
+    }
+
+    /// The pages as they are, as bytes.
+    pub fn pages(&self, alloc: Global) -> Result<Vec<u8>, AllocError>
+        ensures { IfOk result (λ out. out.items ≡ pages_bytes self.now.tree.root) }
+    {
+        let mut pages = Pages::new(alloc);
+        self.tree.in_order_traversal(&mut pages);
+        pages.list(alloc)
     }
 
     /// The ranges of all pages, as bytes.

@@ -1,47 +1,76 @@
-//! The entries of a list of page ranges or of key ranges, one after the other, where they lie.
+//! The entries of a list of ranges or of rows, one after the other, where they lie.
 
-ghost use Rattle.std.specs.Prelude.{◌≡◌, ◌≢◌, ◌↔◌, Bool, true, None, ◌<◌, ◌+◌, ◌-◌, ◌^◌, ◌⊎◌, ◌++◌, ℕ, List, IfSome, if◌then◌else◌, length, nat_eq};
-ghost use Rattle.mst_c.specs.Spots.{AreEntries, HasEntryAt, HasFront, IsEntryAt, IsList, EntryParts, digest_len, mark_of, parts_bytes};
+ghost use Rattle.std.specs.Prelude.{◌≡◌, ◌≢◌, ◌↔◌, Bool, true, false, not, ◌&&◌, None, ◌<◌, ◌+◌, ◌-◌, ◌^◌, ◌⊎◌, ◌++◌, ℕ, List, IfSome, if◌then◌else◌, length, nat_eq};
+ghost use Rattle.mst_c.specs.Spots.{AreEntries, HasEntryAt, HasFront, IsEntryAt, IsList, IsParts, IsTwo, EntryParts, gap_len, mark_of, parts_bytes, two_bytes};
 ghost use Rattle.mst_c.specs.Wire.{number_bytes};
 
-use crate::reading::{body_of, pair_of};
+use crate::reading::{body_of, keyed_of, pair_of};
 use crate::status::{ABSENT, ARGUMENT, DONE, MALFORMED};
-use crate::wire::{KEY_RANGES, PAGE_RANGES};
+use crate::wire::{DIGESTS, KEY_RANGES, PAGE_RANGES, ROWS};
 
-/// Where the parts of an entry lie in its list: places in bytes from the front of the list, and lengths in bytes. A key's place is
-/// behind its length.
+/// Where the parts of an entry lie in its list: places in bytes from the front of the list, and lengths in bytes. The place of a string
+/// is behind its length.
 #[repr(C)]
 #[derive(Drop)]
 pub struct MstSpot {
+    /// The first key of a range, or the key of a row.
     pub first_at: usize,
     pub first_len: usize,
+    /// The last key of a range, or the value of a row, which is the digest in a list of digests.
     pub last_at: usize,
     pub last_len: usize,
     /// Where the 16 bytes of the digest begin, in a list of page ranges; else 0.
     pub digest_at: usize,
 }
 
-/// Whether the list is one of page ranges, how many entries it has, and the bytes of the entries; `None` where it has no such front.
-fn front_of(list: &[u8]) -> Option<(bool, u64, &[u8])>
-    ensures front { IfSome result (λ r. list.now ≡ mark_of r.0 ++ (number_bytes r.1 ++ r.2.now)) }
-    ensures none { result ≡ None → (has_digests : Bool) (count : ℕ) (body : List ℕ) → list.now ≢ mark_of has_digests ++ (number_bytes count ++ body) }
+/// The mark of a list of rows or of ranges, with digests or without.
+fn mark(rows: bool, digests: bool) -> [u8; 4]
+    ensures { result ≡ mark_of rows digests }
 {
-    match body_of(&PAGE_RANGES, list) {
+    if rows {
+        if digests { DIGESTS } else { ROWS }
+    } else if digests {
+        PAGE_RANGES
+    } else {
+        KEY_RANGES
+    }
+}
+
+/// Whether the entries of the list have digests, how many there are, and their bytes; `None` where it has no such front.
+fn front_of(rows: bool, list: &[u8]) -> Option<(bool, u64, &[u8])>
+    ensures front { IfSome result (λ r. list.now ≡ mark_of rows r.0 ++ (number_bytes r.1 ++ r.2.now)) }
+    ensures none { result ≡ None → (digests : Bool) (count : ℕ) (body : List ℕ) → list.now ≢ mark_of rows digests ++ (number_bytes count ++ body) }
+{
+    match body_of(&mark(rows, true), list) {
         Some((count, body)) => Some((true, count, body)),
         None => {
-            let (count, body) = body_of(&KEY_RANGES, list)?;
+            let (count, body) = body_of(&mark(rows, false), list)?;
             Some((false, count, body))
         }
     }
 }
 
-/// The first and the last key of the entry at the front, and the bytes behind the entry.
-fn entry_of(has_digests: bool, bytes: &[u8]) -> Option<(&[u8], &[u8], &[u8])>
-    ensures entry { IfSome result (λ r. (digest : List ℕ) × (length digest ≡ digest_len has_digests) × (bytes.now ≡ parts_bytes ((r.0.now, r.1.now), digest) ++ r.2.now)) }
-    ensures none { result ≡ None → (e : EntryParts) (rest : List ℕ) → length e.1 ≡ digest_len has_digests → bytes.now ≢ parts_bytes e ++ rest }
+/// The two parts at the front, the second a digest where that is asked, and the bytes behind them.
+fn two_of(plain: bool, bytes: &[u8]) -> Option<(&[u8], &[u8], &[u8])>
+    ensures two { IfSome result (λ r. IsTwo plain (r.0.now, r.1.now) × (bytes.now ≡ two_bytes plain (r.0.now, r.1.now) ++ r.2.now)) }
+    ensures none { result ≡ None → (two : List ℕ × List ℕ) (rest : List ℕ) → IsTwo plain two → bytes.now ≢ two_bytes plain two ++ rest }
 {
-    let (first, last, rest) = pair_of(bytes)?;
-    if has_digests {
+    if plain {
+        let (key, digest, rest) = keyed_of(bytes)?;
+        Some((key, digest, rest))
+    } else {
+        pair_of(bytes)
+    }
+}
+
+/// The two parts of the entry at the front, and the bytes behind the entry.
+fn entry_of(plain: bool, hashed: bool, bytes: &[u8]) -> Option<(&[u8], &[u8], &[u8])>
+    ensures entry { IfSome result (λ r. (digest : List ℕ) × IsParts plain hashed ((r.0.now, r.1.now), digest)
+        × (bytes.now ≡ parts_bytes plain ((r.0.now, r.1.now), digest) ++ r.2.now)) }
+    ensures none { result ≡ None → (e : EntryParts) (rest : List ℕ) → IsParts plain hashed e → bytes.now ≢ parts_bytes plain e ++ rest }
+{
+    let (first, last, rest) = two_of(plain, bytes)?;
+    if hashed {
         let (_, rest) = rest.split_first_chunk::<16>()?;
         Some((first, last, rest))
     } else {
@@ -50,12 +79,12 @@ fn entry_of(has_digests: bool, bytes: &[u8]) -> Option<(&[u8], &[u8], &[u8])>
 }
 
 /// Whether the bytes are so many entries.
-fn is_list(has_digests: bool, count: u64, body: &[u8]) -> bool
-    ensures { (result ≡ true) ↔ AreEntries has_digests count body.now }
+fn is_list(plain: bool, hashed: bool, count: u64, body: &[u8]) -> bool
+    ensures { (result ≡ true) ↔ AreEntries plain hashed count body.now }
 {
     let mut rest = body;
     'entries: for _done in 0..count {
-        match entry_of(has_digests, rest) {
+        match entry_of(plain, hashed, rest) {
             Some((_, _, behind)) => rest = behind,
             None => return false,
         }
@@ -74,16 +103,17 @@ fn start_of(at: usize, list: &[u8], body: &[u8]) -> usize
     }
 }
 
-/// Where the parts of an entry with these keys lie, which begins at `start`.
-fn spot_of(has_digests: bool, start: usize, first: &[u8], last: &[u8]) -> MstSpot
-    requires { start + length first.now + length last.now + 16 < 2 ^ 64 }
+/// Where the parts of an entry lie that begins at `start`.
+fn spot_of(plain: bool, hashed: bool, start: usize, first: &[u8], last: &[u8]) -> MstSpot
+    requires { start + length first.now + gap_len plain + length last.now + 8 < 2 ^ 64 }
     ensures first { (result.first_at ≡ start + 8) × (result.first_len ≡ length first.now) }
-    ensures last { (result.last_at ≡ result.first_at + result.first_len + 8) × (result.last_len ≡ length last.now) }
-    ensures hash { result.digest_at ≡ (if has_digests then result.last_at + result.last_len else 0) }
+    ensures last { (result.last_at ≡ result.first_at + result.first_len + gap_len plain) × (result.last_len ≡ length last.now) }
+    ensures hash { result.digest_at ≡ (if hashed then result.last_at + result.last_len else 0) }
 {
     let first_at = start + 8;
-    let last_at = first_at + first.len() + 8;
-    let digest_at = if has_digests { last_at + last.len() } else { 0 };
+    let gap = if plain { 0 } else { 8 };
+    let last_at = first_at + first.len() + gap;
+    let digest_at = if hashed { last_at + last.len() } else { 0 };
     MstSpot {
         first_at,
         first_len: first.len(),
@@ -93,30 +123,26 @@ fn spot_of(has_digests: bool, start: usize, first: &[u8], last: &[u8]) -> MstSpo
     }
 }
 
-/// Writes where the parts of the entry at `at` lie, and moves `at` behind it. An `at` of 0 is the first entry, and there the whole
-/// list is read once to see that it is one.
-///
-/// `DONE`; `MALFORMED` where a mark and a number don't stand in front, where `at` is 0 and the whole is no list, or where `at` is within
-/// the list and no entry of the mark's kind begins there; `ABSENT` behind the last entry; `ARGUMENT` where `at` is beyond the end. Where it isn't `DONE`, `at` and
-/// `spot` are as before.
-#[unsafe(no_mangle)]
-pub extern "C" fn mst_proved_ranges_next(list: &[u8], at: &mut usize, spot: &mut MstSpot) -> u32
-    ensures entry { result ≡ 0 → IsEntryAt list.now at.old at.new spot.new }
-    ensures front { result ≢ 2 → HasFront list.now }
-    ensures whole { result ≢ 2 → at.old ≡ 0 → IsList list.now }
-    ensures malformed { result ≡ 2 → at.old ≡ 0 → ¬ (IsList list.now) }
-    ensures no_entry { result ≡ 2 → ¬ (HasEntryAt list.now at.old) }
+/// Goes to the next entry of a list of rows or of ranges, as the two calls below.
+fn next(rows: bool, list: &[u8], at: &mut usize, spot: &mut MstSpot) -> u32
+    ensures entry { result ≡ 0 → IsEntryAt rows list.now at.old at.new spot.new }
+    ensures front { result ≢ 2 → HasFront rows list.now }
+    ensures whole { result ≢ 2 → at.old ≡ 0 → IsList rows list.now }
+    ensures malformed { result ≡ 2 → at.old ≡ 0 → ¬ (IsList rows list.now) }
+    ensures no_entry { result ≡ 2 → ¬ (HasEntryAt rows list.now at.old) }
     ensures argument { result ≡ 4 → length list.now < at.old }
-    ensures beyond { HasFront list.now → length list.now < at.old → result ≡ 4 }
+    ensures beyond { HasFront rows list.now → length list.now < at.old → result ≡ 4 }
     ensures absent { result ≡ 5 → (at.old ≡ length list.now) ⊎ ((at.old ≡ 0) × (length list.now ≡ 12)) }
-    ensures at_end { HasFront list.now → at.old ≡ length list.now → result ≡ 5 }
+    ensures at_end { HasFront rows list.now → at.old ≡ length list.now → result ≡ 5 }
     ensures unchanged { result ≢ 0 → (at.new ≡ at.old) × (spot.new ≡ spot.old) }
     ensures status { (result ≡ 0) ⊎ (result ≡ 2) ⊎ (result ≡ 4) ⊎ (result ≡ 5) }
 {
-    let Some((has_digests, count, body)) = front_of(list) else {
+    let Some((digests, count, body)) = front_of(rows, list) else {
         return MALFORMED;
     };
-    if *at == 0 && !is_list(has_digests, count, body) {
+    let plain = rows & digests;
+    let hashed = !rows & digests;
+    if *at == 0 && !is_list(plain, hashed, count, body) {
         return MALFORMED;
     }
     let start = start_of(*at, list, body);
@@ -126,10 +152,51 @@ pub extern "C" fn mst_proved_ranges_next(list: &[u8], at: &mut usize, spot: &mut
     if rest.is_empty() {
         return ABSENT;
     }
-    let Some((first, last, behind)) = entry_of(has_digests, rest) else {
+    let Some((first, last, behind)) = entry_of(plain, hashed, rest) else {
         return MALFORMED;
     };
-    *spot = spot_of(has_digests, start, first, last);
+    *spot = spot_of(plain, hashed, start, first, last);
     *at = list.len().saturating_sub(behind.len());
     DONE
+}
+
+/// Writes where the parts of the range at `at` lie, and moves `at` behind it. An `at` of 0 is the first one, and there the whole
+/// list is read once to see that it is one of page ranges or of key ranges.
+///
+/// `DONE`; `MALFORMED` where a mark and a number don't stand in front, where `at` is 0 and the whole is no list, or where `at` is within
+/// the list and no entry of the mark's kind begins there; `ABSENT` behind the last entry; `ARGUMENT` where `at` is beyond the end. Where it isn't `DONE`, `at` and
+/// `spot` are as before.
+#[unsafe(no_mangle)]
+pub extern "C" fn mst_proved_ranges_next(list: &[u8], at: &mut usize, spot: &mut MstSpot) -> u32
+    ensures entry { result ≡ 0 → IsEntryAt false list.now at.old at.new spot.new }
+    ensures front { result ≢ 2 → HasFront false list.now }
+    ensures whole { result ≢ 2 → at.old ≡ 0 → IsList false list.now }
+    ensures malformed { result ≡ 2 → at.old ≡ 0 → ¬ (IsList false list.now) }
+    ensures no_entry { result ≡ 2 → ¬ (HasEntryAt false list.now at.old) }
+    ensures argument { result ≡ 4 → length list.now < at.old }
+    ensures beyond { HasFront false list.now → length list.now < at.old → result ≡ 4 }
+    ensures absent { result ≡ 5 → (at.old ≡ length list.now) ⊎ ((at.old ≡ 0) × (length list.now ≡ 12)) }
+    ensures at_end { HasFront false list.now → at.old ≡ length list.now → result ≡ 5 }
+    ensures unchanged { result ≢ 0 → (at.new ≡ at.old) × (spot.new ≡ spot.old) }
+    ensures status { (result ≡ 0) ⊎ (result ≡ 2) ⊎ (result ≡ 4) ⊎ (result ≡ 5) }
+{
+    next(false, list, at, spot)
+}
+
+/// The same of a list of rows or of digests.
+#[unsafe(no_mangle)]
+pub extern "C" fn mst_proved_rows_next(list: &[u8], at: &mut usize, spot: &mut MstSpot) -> u32
+    ensures entry { result ≡ 0 → IsEntryAt true list.now at.old at.new spot.new }
+    ensures front { result ≢ 2 → HasFront true list.now }
+    ensures whole { result ≢ 2 → at.old ≡ 0 → IsList true list.now }
+    ensures malformed { result ≡ 2 → at.old ≡ 0 → ¬ (IsList true list.now) }
+    ensures no_entry { result ≡ 2 → ¬ (HasEntryAt true list.now at.old) }
+    ensures argument { result ≡ 4 → length list.now < at.old }
+    ensures beyond { HasFront true list.now → length list.now < at.old → result ≡ 4 }
+    ensures absent { result ≡ 5 → (at.old ≡ length list.now) ⊎ ((at.old ≡ 0) × (length list.now ≡ 12)) }
+    ensures at_end { HasFront true list.now → at.old ≡ length list.now → result ≡ 5 }
+    ensures unchanged { result ≢ 0 → (at.new ≡ at.old) × (spot.new ≡ spot.old) }
+    ensures status { (result ≡ 0) ⊎ (result ≡ 2) ⊎ (result ≡ 4) ⊎ (result ≡ 5) }
+{
+    next(true, list, at, spot)
 }

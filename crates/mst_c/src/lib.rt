@@ -15,4 +15,5 @@ mod status;
 mod summaries;
 mod trees;
 mod updates;
+mod walk;
 mod wire;

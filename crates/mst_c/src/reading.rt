@@ -1,4 +1,4 @@
-//! Bytes read as lists of page ranges and of rows. What isn't such a list is malformed.
+//! Bytes read as lists of page ranges, of rows and of digests. What isn't such a list is malformed.
 
 ghost use Rattle.std.specs.Prelude.{◌≡◌, ◌≢◌, ◌<◌, ◌^◌, ◌++◌, ℕ, List, None, Err, IfOk, IfSome, length, map};
 ghost use Rattle.std.specs.Global.{Vec};
@@ -7,14 +7,14 @@ ghost use Rattle.merkle_digest.specs.SipHash.{siphash128};
 ghost use Rattle.merkle_diff.specs.Entry.{Entry};
 ghost use Rattle.merkle_diff.specs.OwnedPageRange.{owned_entry, owned_entries};
 ghost use Rattle.merkle_diff.specs.PageRangeSnapshot.{snapshot_entries};
-ghost use Rattle.merkle_search_tree.specs.Loading.{digests};
-ghost use Rattle.mst_c.specs.Lists.{IsPageRange, ArePageRanges, IsDiffOf};
+ghost use Rattle.merkle_search_tree.specs.Loading.{digests, row_count};
+ghost use Rattle.mst_c.specs.Lists.{HasDigest, IsPageRange, ArePageRanges, IsDiffOf};
 ghost use Rattle.mst_c.specs.Trees.{by_bytes};
-ghost use Rattle.mst_c.specs.Wire.{number_bytes, text_bytes, row_bytes, entry_bytes, rows_bytes};
+ghost use Rattle.mst_c.specs.Wire.{number_bytes, text_bytes, row_bytes, digest_bytes, entry_bytes, rows_bytes, digests_bytes};
 ghost use Rattle.mst_c.specs.declared.reading.ReadError.TheVariants.{Memory, Malformed};
 
 use crate::byte_hasher::ByteHasher;
-use crate::wire::{PAGE_RANGES, ROWS, encode_found};
+use crate::wire::{DIGESTS, PAGE_RANGES, ROWS, encode_found};
 use merkle_diff::{OwnedPageRange, PageRangeSnapshot, diff_snapshots};
 use merkle_digest::PageDigest;
 use std::alloc::{AllocError, Global};
@@ -150,7 +150,7 @@ fn rows_of(
     body: &[u8],
 ) -> Result<Vec<(Vec<u8>, [u8; 16])>, ReadError>
     ensures rows { IfOk result (λ rows. (given : List (List ℕ × List ℕ)) × (body.now ≡ flat_map row_bytes given) × (length given ≡ count)
-        × (map by_bytes rows.items ≡ digests (siphash128 hasher.now) given)) }
+        × (map by_bytes rows.items ≡ digests (siphash128 hasher.now.key) given)) }
     ensures malformed { result ≡ Err Malformed → (given : List (List ℕ × List ℕ)) → length given ≡ count → body.now ≢ flat_map row_bytes given }
 {
     let mut rows = Vec::new(alloc);
@@ -179,13 +179,62 @@ pub fn decode_rows(
     bytes: &[u8],
 ) -> Result<Vec<(Vec<u8>, [u8; 16])>, ReadError>
     ensures rows { IfOk result (λ rows. (given : List (List ℕ × List ℕ)) × (bytes.now ≡ rows_bytes given)
-        × (map by_bytes rows.items ≡ digests (siphash128 hasher.now) given)) }
+        × (map by_bytes rows.items ≡ digests (siphash128 hasher.now.key) given)) }
     ensures malformed { result ≡ Err Malformed → (given : List (List ℕ × List ℕ)) → bytes.now ≢ rows_bytes given }
 {
     let Some((count, body)) = body_of(&ROWS, bytes) else {
         return Err(ReadError::Malformed);
     };
     rows_of(alloc, hasher, count, body)
+}
+
+/// The key at the front and its digest, and the bytes behind them.
+pub fn keyed_of(bytes: &[u8]) -> Option<(&[u8], &[u8; 16], &[u8])>
+    ensures keyed { IfSome result (λ r. bytes.now ≡ digest_bytes (r.0.now, r.1.now) ++ r.2.now) }
+    ensures sized { IfSome result (λ r. length r.1.now ≡ 16) }
+    ensures none { result ≡ None → (row : List ℕ × List ℕ) (rest : List ℕ) → HasDigest row → bytes.now ≢ digest_bytes row ++ rest }
+{
+    let (key, rest) = text_of(bytes)?;
+    let (digest, rest) = rest.split_first_chunk::<16>()?;
+    Some((key, digest, rest))
+}
+
+/// So many keys with digests, which the bytes are.
+fn digests_of(alloc: Global, count: u64, body: &[u8]) -> Result<Vec<(Vec<u8>, [u8; 16])>, ReadError>
+    ensures rows { IfOk result (λ rows. body.now ≡ flat_map digest_bytes (map by_bytes rows.items)) }
+    ensures counted { IfOk result (λ rows. row_count (map by_bytes rows.items) ≡ count) }
+    ensures each { IfOk result (λ rows. AllByRecursion HasDigest (map by_bytes rows.items)) }
+    ensures malformed { result ≡ Err Malformed → (given : List (List ℕ × List ℕ)) → AllByRecursion HasDigest given → length given ≡ count → body.now ≢ flat_map digest_bytes given }
+{
+    let mut rows = Vec::new(alloc);
+    let mut rest = body;
+    'entries: for _done in 0..count {
+        let Some((key, digest, behind)) = keyed_of(rest) else {
+            return Err(ReadError::Malformed);
+        };
+        let own_key = Vec::from_slice(alloc, key)?;
+        if rows.push((own_key, *digest)).is_err() {
+            return Err(ReadError::Memory);
+        }
+        rest = behind;
+    }
+    if rest.is_empty() {
+        Ok(rows)
+    } else {
+        Err(ReadError::Malformed)
+    }
+}
+
+/// The keys with digests that the bytes spell.
+pub fn decode_digests(alloc: Global, bytes: &[u8]) -> Result<Vec<(Vec<u8>, [u8; 16])>, ReadError>
+    ensures rows { IfOk result (λ rows. bytes.now ≡ digests_bytes (map by_bytes rows.items)) }
+    ensures each { IfOk result (λ rows. AllByRecursion HasDigest (map by_bytes rows.items)) }
+    ensures malformed { result ≡ Err Malformed → (given : List (List ℕ × List ℕ)) → AllByRecursion HasDigest given → bytes.now ≢ digests_bytes given }
+{
+    let Some((count, body)) = body_of(&DIGESTS, bytes) else {
+        return Err(ReadError::Malformed);
+    };
+    digests_of(alloc, count, body)
 }
 
 /// What [`diff_snapshots`] answers on two lists of page ranges, as bytes.

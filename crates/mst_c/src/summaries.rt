@@ -7,6 +7,7 @@ ghost use Rattle.std.specs.Global.{Vec};
 ghost use Rattle.merkle_diff.specs.Entry.{Entry};
 ghost use Rattle.mst_c.specs.Handles.{HasTree, Changes, IsOutput, IsShort};
 ghost use Rattle.mst_c.specs.Lists.{ArePageRanges, IsDiffOf};
+ghost use Rattle.mst_c.specs.Pages.{pages_bytes};
 ghost use Rattle.mst_c.specs.Trees.{bytes_of, rows_of, SameRows};
 ghost use Rattle.mst_c.specs.Wire.{digests_bytes};
 
@@ -153,6 +154,46 @@ fn digests(handle: MstTree, alloc: Global) -> (MstTree, Result<Vec<u8>, u32>)
         return (MstTree::empty(alloc), Err(ARGUMENT));
     };
     match held.digests(alloc) {
+        Ok(bytes) => (MstTree::of_box(held), Ok(bytes)),
+        Err(_) => (MstTree::of_box(held), Err(MEMORY)),
+    }
+}
+
+/// Writes the pages of a tree as they are to `out`, and how many bytes they are to `needed`.
+///
+/// `DONE`; `SHORT` where `out` is too short, and `needed` is written and `out` as before; `MEMORY`; `ARGUMENT` where the handle has no
+/// tree. But for `DONE`, `out` is as before, and but for `DONE` and `SHORT`, `needed`.
+#[unsafe(no_mangle)]
+pub extern "C" fn mst_proved_tree_pages(
+    alloc: Global,
+    handle: &mut MstTree,
+    out: &mut [u8],
+    needed: &mut usize,
+) -> u32
+    ensures done { result ≡ 0 → HasTree handle.old.tree (λ s. IsOutput out.old out.new needed.new (λ bytes. bytes ≡ pages_bytes s.root)) }
+    ensures short { result ≡ 3 → HasTree handle.old.tree (λ s. IsShort out.old needed.new (λ bytes. bytes ≡ pages_bytes s.root)) }
+    ensures tree { handle.new.tree ≡ handle.old.tree }
+    ensures unchanged { result ≢ 0 → out.new ≡ out.old }
+    ensures refused { result ≢ 0 → result ≢ 3 → needed.new ≡ needed.old }
+    ensures argument { (result ≡ 4) ↔ (handle.old.tree ≡ None) }
+    ensures status { (result ≡ 0) ⊎ (result ≡ 1) ⊎ (result ≡ 3) ⊎ (result ≡ 4) }
+{
+    match mem::replace_with(handle, alloc, pages) {
+        Ok(bytes) => put_bytes(bytes.as_slice(), out, needed),
+        Err(why) => why,
+    }
+}
+
+fn pages(handle: MstTree, alloc: Global) -> (MstTree, Result<Vec<u8>, u32>)
+    ensures pages { IfOk result.1 (λ out. HasTree handle.tree (λ s. out.items ≡ pages_bytes s.root)) }
+    ensures tree { result.0.tree ≡ handle.tree }
+    ensures argument { (result.1 ≡ Err 4) ↔ (handle.tree ≡ None) }
+    ensures refused { IfErr result.1 (λ status. (status ≡ 1) ⊎ (status ≡ 4)) }
+{
+    let Some(held) = handle.into_box() else {
+        return (MstTree::empty(alloc), Err(ARGUMENT));
+    };
+    match held.pages(alloc) {
         Ok(bytes) => (MstTree::of_box(held), Ok(bytes)),
         Err(_) => (MstTree::of_box(held), Err(MEMORY)),
     }

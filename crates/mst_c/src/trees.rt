@@ -1,24 +1,26 @@
-//! Calls that make trees, copy them, let them go and count their keys.
-ghost use Rattle.std.specs.Prelude.{◌≡◌, ◌≢◌, ◌↔◌, ◌⊎◌, true, None, Err, IfOk, IfErr};
+//! Calls that make trees, copy them, let them go, count their keys and look one up.
+ghost use Rattle.std.specs.Prelude.{◌≡◌, ◌≢◌, ◌<◌, ◌≤◌, ◌↔◌, ◌⊎◌, true, None, Some, Err, IfOk, IfErr};
 ghost use Rattle.std.specs.Int.NonZero.{non_zero_u8_get};
+ghost use Rattle.key_order.specs.Map.{get};
 ghost use Rattle.merkle_tree_theory.specs.State.{IsNew};
 ghost use Rattle.merkle_tree_theory.specs.declared.page_format.PageFormat.TheVariants.{V1, V2};
 ghost use Rattle.merkle_search_tree.specs.Loading.{row_count};
 ghost use Rattle.mst_c.specs.Handles.{HasTree, Changes};
-ghost use Rattle.mst_c.specs.Trees.{IsCopied, rows_of};
+ghost use Rattle.mst_c.specs.Trees.{IsCopied, bytes_cmp, rows_of};
 
 use crate::byte_tree::ByteTree;
 use crate::bytes16::MstBytes16;
 use crate::handle::MstTree;
-use crate::status::{ARGUMENT, DONE, MEMORY};
+use crate::status::{ABSENT, ARGUMENT, DONE, MEMORY};
 use core::mem;
 use merkle_search_tree::builder::PageFormat;
 use std::alloc::Global;
 use std::num::NonZeroU8;
 
-/// Gives a handle that has no tree the empty tree with this key of SipHash, level base and page format.
+/// Gives a handle that has no tree the empty tree with this key of SipHash, level base, page format and way of feeding keys.
 ///
-/// `DONE`; `MEMORY`; `ARGUMENT` where the handle has a tree, the base is 0, or the format isn't 1 or 2. Refused, the handle is as before.
+/// `DONE`; `MEMORY`; `ARGUMENT` where the handle has a tree, the base is 0, the format isn't 1 or 2, or the way is above 2. Refused, the
+/// handle is as before.
 #[unsafe(no_mangle)]
 pub extern "C" fn mst_proved_tree_new(
     alloc: Global,
@@ -26,40 +28,33 @@ pub extern "C" fn mst_proved_tree_new(
     key: &MstBytes16,
     level_base: u8,
     page_format: u8,
+    key_feed: u8,
 ) -> u32
-    ensures v1 { result ≡ 0 → page_format ≡ 1 → HasTree handle.new.tree (IsNew key.now.bytes level_base V1) }
-    ensures v2 { result ≡ 0 → page_format ≡ 2 → HasTree handle.new.tree (IsNew key.now.bytes level_base V2) }
+    ensures v1 { result ≡ 0 → page_format ≡ 1 → HasTree handle.new.tree (IsNew (record { key = key.now.bytes; feed = key_feed }) level_base V1) }
+    ensures v2 { result ≡ 0 → page_format ≡ 2 → HasTree handle.new.tree (IsNew (record { key = key.now.bytes; feed = key_feed }) level_base V2) }
     ensures empty { result ≢ 4 → handle.old.tree ≡ None }
     ensures unchanged { result ≢ 0 → handle.new.tree ≡ handle.old.tree }
     ensures base { result ≢ 4 → level_base ≢ 0 }
     ensures format { result ≢ 4 → (page_format ≡ 1) ⊎ (page_format ≡ 2) }
-    ensures argument { result ≡ 4 → (handle.old.tree ≢ None) ⊎ (level_base ≡ 0) ⊎ ((page_format ≢ 1) × (page_format ≢ 2)) }
+    ensures feed { result ≢ 4 → key_feed ≤ 2 }
+    ensures argument { result ≡ 4 → (handle.old.tree ≢ None) ⊎ (level_base ≡ 0) ⊎ ((page_format ≢ 1) × (page_format ≢ 2)) ⊎ (2 < key_feed) }
     ensures status { (result ≡ 0) ⊎ (result ≡ 1) ⊎ (result ≡ 4) }
 {
     let Some(base) = NonZeroU8::new(level_base) else {
         return ARGUMENT;
     };
-    if page_format == 1 {
-        mem::replace_with(
-            handle,
-            (
-                alloc,
-                ByteTree::new(alloc, &key.bytes, base, PageFormat::V1),
-            ),
-            give,
-        )
-    } else if page_format == 2 {
-        mem::replace_with(
-            handle,
-            (
-                alloc,
-                ByteTree::new(alloc, &key.bytes, base, PageFormat::V2),
-            ),
-            give,
-        )
-    } else {
-        ARGUMENT
+    if key_feed > 2 {
+        return ARGUMENT;
     }
+    let format = if page_format == 1 {
+        PageFormat::V1
+    } else if page_format == 2 {
+        PageFormat::V2
+    } else {
+        return ARGUMENT;
+    };
+    let tree = ByteTree::new(alloc, &key.bytes, key_feed, base, format);
+    mem::replace_with(handle, (alloc, tree), give)
 }
 
 /// Gives a handle that has no tree this one.
@@ -180,4 +175,45 @@ fn count_of(handle: MstTree, alloc: Global) -> (MstTree, Result<usize, u32>)
     };
     let count = held.count().map_err(|_| MEMORY);
     (MstTree::of_box(held), count)
+}
+
+/// Writes the digest of the value at a key.
+///
+/// `DONE`; `ABSENT` where the tree has no such key; `MEMORY`; `ARGUMENT` where the handle has no tree. But for `DONE`, `digest` is as
+/// before.
+#[unsafe(no_mangle)]
+pub extern "C" fn mst_proved_tree_find(
+    alloc: Global,
+    handle: &mut MstTree,
+    key: &[u8],
+    digest: &mut MstBytes16,
+) -> u32
+    ensures done { result ≡ 0 → HasTree handle.old.tree (λ s. get bytes_cmp (rows_of s) key.now ≡ Some digest.new.bytes) }
+    ensures absent { result ≡ 5 → HasTree handle.old.tree (λ s. get bytes_cmp (rows_of s) key.now ≡ None) }
+    ensures tree { handle.new.tree ≡ handle.old.tree }
+    ensures unchanged { result ≢ 0 → digest.new.bytes ≡ digest.old.bytes }
+    ensures argument { (result ≡ 4) ↔ (handle.old.tree ≡ None) }
+    ensures status { (result ≡ 0) ⊎ (result ≡ 1) ⊎ (result ≡ 4) ⊎ (result ≡ 5) }
+{
+    match mem::replace_with(handle, (alloc, key), find) {
+        Ok(Some(bytes)) => {
+            digest.bytes = bytes;
+            DONE
+        }
+        Ok(None) => ABSENT,
+        Err(status) => status,
+    }
+}
+
+fn find(handle: MstTree, asked: (Global, &[u8])) -> (MstTree, Result<Option<[u8; 16]>, u32>)
+    ensures found { IfOk result.1 (λ found. HasTree handle.tree (λ s. get bytes_cmp (rows_of s) asked.entry.1.now ≡ found)) }
+    ensures tree { result.0.tree ≡ handle.tree }
+    ensures argument { (result.1 ≡ Err 4) ↔ (handle.tree ≡ None) }
+    ensures refused { IfErr result.1 (λ status. (status ≡ 1) ⊎ (status ≡ 4)) }
+{
+    let Some(held) = handle.into_box() else {
+        return (MstTree::empty(asked.0), Err(ARGUMENT));
+    };
+    let found = held.find(asked.0, asked.1).map_err(|_| MEMORY);
+    (MstTree::of_box(held), found)
 }

@@ -2,7 +2,7 @@
 ghost use Rattle.std.specs.Prelude.{◌≡◌, ◌≢◌, ◌↔◌, ◌⊎◌, ℕ, List, None, true, false};
 ghost use Rattle.merkle_tree_theory.specs.Dropped.{RemovalDropsFew};
 ghost use Rattle.mst_c.specs.Handles.{Changes};
-ghost use Rattle.mst_c.specs.Lists.{AreRows, IsLoaded};
+ghost use Rattle.mst_c.specs.Lists.{AreDigests, AreLoaded, AreRows, IsLoaded};
 ghost use Rattle.mst_c.specs.Trees.{IsSet, IsSetTo, SetDropsFew, IsDel};
 
 use crate::bytes16::MstBytes16;
@@ -142,6 +142,42 @@ fn load(handle: MstTree, asked: (Global, &[u8])) -> (MstTree, u32)
         return (MstTree::empty(asked.0), ARGUMENT);
     };
     match held.load(asked.0, asked.1) {
+        Ok(()) => (MstTree::of_box(held), DONE),
+        Err(ReadError::Memory) => (MstTree::of_box(held), MEMORY),
+        Err(ReadError::Malformed) => (MstTree::of_box(held), MALFORMED),
+    }
+}
+
+/// Makes these keys with digests the map of a tree, in place of the map that it has.
+///
+/// `DONE`; `MEMORY`; `MALFORMED` where the bytes are no list of digests, or its keys don't ascend strictly; `ARGUMENT` where the handle
+/// has no tree. Refused, the tree is as before.
+#[unsafe(no_mangle)]
+pub extern "C" fn mst_proved_tree_load_digests(
+    alloc: Global,
+    handle: &mut MstTree,
+    list: &[u8],
+) -> u32
+    ensures done { result ≡ 0 → Changes handle.old.tree handle.new.tree (AreLoaded list.now) }
+    ensures malformed { result ≡ 2 → (given : List (List ℕ × List ℕ)) → ¬ (AreDigests list.now given) }
+    ensures unchanged { result ≢ 0 → handle.new.tree ≡ handle.old.tree }
+    ensures argument { (result ≡ 4) ↔ (handle.old.tree ≡ None) }
+    ensures status { (result ≡ 0) ⊎ (result ≡ 1) ⊎ (result ≡ 2) ⊎ (result ≡ 4) }
+{
+    mem::replace_with(handle, (alloc, list), load_digests)
+}
+
+fn load_digests(handle: MstTree, asked: (Global, &[u8])) -> (MstTree, u32)
+    ensures done { result.1 ≡ 0 → Changes handle.tree result.0.tree (AreLoaded asked.entry.1.now) }
+    ensures malformed { result.1 ≡ 2 → (given : List (List ℕ × List ℕ)) → ¬ (AreDigests asked.entry.1.now given) }
+    ensures unchanged { result.1 ≢ 0 → result.0.tree ≡ handle.tree }
+    ensures argument { (result.1 ≡ 4) ↔ (handle.tree ≡ None) }
+    ensures status { (result.1 ≡ 0) ⊎ (result.1 ≡ 1) ⊎ (result.1 ≡ 2) ⊎ (result.1 ≡ 4) }
+{
+    let Some(mut held) = handle.into_box() else {
+        return (MstTree::empty(asked.0), ARGUMENT);
+    };
+    match held.load_digests(asked.0, asked.1) {
         Ok(()) => (MstTree::of_box(held), DONE),
         Err(ReadError::Memory) => (MstTree::of_box(held), MEMORY),
         Err(ReadError::Malformed) => (MstTree::of_box(held), MALFORMED),

@@ -41,7 +41,7 @@ pub fn put_number(number: usize, out: &mut Vec<u8>) -> Result<(), AllocError>
 }
 
 /// Writes a string.
-fn put_text(text: &[u8], out: &mut Vec<u8>) -> Result<(), AllocError>
+pub fn put_text(text: &[u8], out: &mut Vec<u8>) -> Result<(), AllocError>
     ensures { OnOk result (out.new.items ≡ out.old.items ++ text_bytes text.now) }
 {
     put_number(text.len(), out)?;

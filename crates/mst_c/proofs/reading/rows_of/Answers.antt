@@ -19,7 +19,7 @@ returns-in_default-clause-malformed c is all count e =
 pub entries-preserved : goal.entries-preserved
 entries-preserved c =
     let kept = c.entries.invariant in
-    let h = siphash128 c.args.hasher.now in
+    let h = siphash128 c.args.hasher.now.key in
     let own : Vec ℕ × List ℕ = (c.in_ok-own_key.own_key, c.hash_bytes.result) in
     let pushed : c.push.new.self.items ≡ c.entries.rows.items ++ own ∷ [] = search rules in
     let row : List ℕ × List ℕ = (c.in-Some.key.now, c.in-Some.value.now) in (

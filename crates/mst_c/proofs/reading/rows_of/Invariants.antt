@@ -9,4 +9,4 @@ use Rattle.mst_c.proofs.reading.rows_of.Given as goal
 -- the rows so far were read, and the rest is still to be
 abbrev pub invariant-entries : goal.invariant-entries
 invariant-entries l =
-    (given : List (List ℕ × List ℕ)) × (l.body ≡ flat_map row_bytes given ++ l.rest) × (length given ≡ l._done) × (map by_bytes l.rows.items ≡ digests (siphash128 l.hasher) given)
+    (given : List (List ℕ × List ℕ)) × (l.body ≡ flat_map row_bytes given ++ l.rest) × (length given ≡ l._done) × (map by_bytes l.rows.items ≡ digests (siphash128 l.hasher.key) given)
