@@ -120,14 +120,21 @@ class Trees {
     }
 }
 
+// What is wrong with the answer to a line; undefined where it is the one that the line has.
+function fault(trees, line) {
+    const [[name, ...words], wanted] = JSON.parse(line);
+    if (!trees[name]) return `web/replay.mjs has no step ${name}`;
+    const seen = JSON.stringify(trees[name](...words.map(read)));
+    return seen === JSON.stringify(wanted) ? undefined : `${name}: the module answers ${seen}, and the native library ${JSON.stringify(wanted)}`;
+}
+
 const [, , module, calls] = process.argv;
 const library = await Library.load(readFileSync(module));
 const trees = new Trees(library);
 for (const [at, line] of readFileSync(calls, "utf8").trim().split("\n").entries()) {
-    const [[name, ...words], wanted] = JSON.parse(line);
-    const seen = JSON.stringify(trees[name](...words.map(read)));
-    if (seen !== JSON.stringify(wanted)) {
-        console.log(`line ${at + 1}, ${name}: the module answers ${seen}, and the native library ${JSON.stringify(wanted)}`);
+    const found = fault(trees, line);
+    if (found) {
+        console.log(`line ${at + 1}: ${found}`);
         process.exit(1);
     }
 }

@@ -19,6 +19,10 @@ if (document.documentElement.scrollWidth > innerWidth) found.push("the page is w
 if (performance.getEntriesByType("resource").length) found.push("something was loaded");
 return found.slice(0, 5);
 """
+IN_VIEW = """
+const [mark, window] = ["#trees .marked", ".scrolled"].map((it) => document.querySelector(it).getBoundingClientRect());
+return window.left <= mark.left && mark.right <= window.right;
+"""
 
 
 def check(what, seen, wanted):
@@ -63,11 +67,14 @@ def pull(user):
 
 
 def put(user):
-    """A row that is put into one store."""
-    user.focus("#store0 input")
-    user.press(*"zebra", "Tab", "ArrowRight", "Tab", "Enter")
-    check("the stores after a put", user.shown("#verdict strong"), "The stores differ. ")
-    check("the rows after a put", "zebra" in user.shown("#store0 .rows"), True)
+    """Rows that are put into one store, one with a key that is cut in the picture and one with wide letters."""
+    for key in ("zebra", "a-key-that-is-cut", "\u6728\u306e\u9375"):
+        user.focus("#store0 input")
+        user.browser.run("document.activeElement.value = ''")
+        user.press(*key, "Tab", "Tab", "Enter")
+        check("the stores after a put", user.shown("#verdict strong"), "The stores differ. ")
+        check("the rows after a put", key in user.shown("#store0 .rows"), True)
+    check("that the row is in view", user.browser.run(IN_VIEW), True)
     user.see("put")
 
 

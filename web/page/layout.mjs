@@ -15,13 +15,22 @@ const FEW = 40;
 const BAND = 46;
 const EDGE = 8;
 
-export const shortKey = (key) => (key.length > LONGEST ? `${key.slice(0, LONGEST - 1)}…` : key);
+// How many characters wide a text is: those behind the letters of Latin alphabets are taken for two.
+const widthOf = (text) => [...text].reduce((width, character) => width + (character < "\u0250" ? 1 : 2), 0);
+
+// A key as it is drawn.
+export function shortKey(key) {
+    if (widthOf(key) <= LONGEST) return key;
+    const characters = [...key];
+    while (widthOf(characters.join("")) >= LONGEST) characters.pop();
+    return `${characters.join("")}…`;
+}
 
 // The columns of the axis: the keys of both trees, and how wide each is, in a picture with room for so much. Where it has to fit, they are
 // as narrow as that takes, and `areRead` says whether there is room for the keys.
 function columnsOf(trees, { room, fits }) {
     const keys = [...new Set(trees.flatMap(pagesOf).flatMap((page) => page.keys))].sort(compareKeys);
-    const needed = Math.max(NARROWEST, ...keys.map((key) => CHARACTER * shortKey(key).length + 12));
+    const needed = Math.max(NARROWEST, ...keys.map((key) => CHARACTER * widthOf(shortKey(key)) + 12));
     const share = Math.min(WIDEST, (room - 2 * EDGE) / Math.max(keys.length, 1));
     const width = fits && keys.length > FEW ? share : Math.max(needed, share);
     const at = new Map(keys.map((key, place) => [key, EDGE + width * (place + 0.5)]));

@@ -66,10 +66,19 @@ function showVerdict(session) {
         "Root hashes: A ", first, sign, "B ", second);
 }
 
+// Scrolls the picture to the first key that is marked or asked for, where it isn't to be seen.
+function scrollToMark() {
+    const mark = document.querySelector("#trees .marked, #trees .asked")?.getBoundingClientRect();
+    const scrolled = document.querySelector(".scrolled");
+    const { left, right } = scrolled.getBoundingClientRect();
+    if (mark && (mark.left < left || mark.right > right)) scrolled.scrollLeft += mark.left - left - (right - left) / 3;
+}
+
 function showAll(session, choosers) {
     const room = document.querySelector(".picture").clientWidth - LABELS;
     const pictures = { trees: byId("trees"), labels: byId("labels"), room, fits: byId("fits").checked };
     const counts = draw(pictures, session.stores, session);
+    scrollToMark();
     counts.forEach((count, at) => showStore(at, session, count, choosers[at]));
     showVerdict(session);
     byId("step").textContent = session.said.slice(session.said.at(-2)?.startsWith("Step 4") ? -2 : -1).join(" ");

@@ -39,6 +39,7 @@ export class Session {
         else if (store.value(key) === undefined) return this.#say(`${store.name} has no row ${key} to delete.`);
         else store.remove(key);
         const what = value === null ? `deletes ${key}` : `puts ${key} = ${value}`;
+        this.marked[at].add(key);
         const count = this.#hash(at);
         const hint = value === null ? " A pull from a store that has the row brings it back, since a deletion isn't a row." : "";
         return this.#say(`${store.name} ${what}, and hashes ${count} of its pages anew: those above the key.${hint}`);
