@@ -16,23 +16,30 @@ CODES = {"Enter": ("\ue007", 13), "Tab": ("\ue004", 9), "End": ("\ue010", 35), "
 
 
 class Browser:
-    """What both have: the process and its profile."""
+    """What both have: the process and its profile, from the beginning of a `with` to its end."""
 
-    def __init__(self, words, **more):
-        self.profile = tempfile.mkdtemp(prefix="web-test-")
-        self.process = None
-        self.words = [word.replace("PROFILE", self.profile) for word in words]
-        self.more = {"stdout": subprocess.DEVNULL, "stderr": subprocess.DEVNULL, "stdin": subprocess.DEVNULL, **more}
+    def __init__(self, path):
+        self.path, self.profile, self.process = path, tempfile.mkdtemp(prefix="web-test-"), None
 
-    def start(self):
-        self.process = subprocess.Popen(self.words, env={**os.environ, "HOME": self.profile}, **self.more)
+    def launch(self, *words, **more):
+        more = {**dict.fromkeys(("stdin", "stdout", "stderr"), subprocess.DEVNULL), **more}
+        self.process = subprocess.Popen([self.path, *words], env={**os.environ, "HOME": self.profile}, **more)
 
     def __enter__(self):
+        try:
+            self.start()
+        except BaseException:
+            self.__exit__()
+            raise
         return self
 
     def __exit__(self, *_):
-        self.process.terminate()
-        self.process.wait(PATIENCE)
+        if self.process:
+            self.process.terminate()
+            try:
+                self.process.wait(PATIENCE)
+            except subprocess.TimeoutExpired:
+                self.process.kill()
         shutil.rmtree(self.profile, ignore_errors=True)
 
     def wait(self, body):
@@ -48,11 +55,10 @@ class Browser:
 class Chromium(Browser):
     NAMES = ("chromium", "chromium-browser", "google-chrome")
 
-    def __init__(self, path):
-        super().__init__([path, "--headless", "--no-sandbox", "--disable-gpu", "--disable-dev-shm-usage", "--hide-scrollbars",
-                          "--remote-debugging-pipe", "--user-data-dir=PROFILE", "about:blank"], close_fds=False, preexec_fn=self.plug)
+    def start(self):
         (self.theirs, self.out), (self.back, self.answers) = os.pipe(), os.pipe()
-        self.start()
+        self.launch("--headless", "--no-sandbox", "--disable-gpu", "--disable-dev-shm-usage", "--hide-scrollbars", "--remote-debugging-pipe",
+                    f"--user-data-dir={self.profile}", "about:blank", close_fds=False, preexec_fn=self.plug)
         os.close(self.theirs)
         os.close(self.answers)
         self.asked, self.session, self.rest = 0, None, b""
@@ -108,14 +114,13 @@ class Chromium(Browser):
 class Firefox(Browser):
     NAMES = ("firefox", "firefox-esr")
 
-    def __init__(self, path):
-        super().__init__([path, "--headless", "--marionette", "--no-remote", "--profile", "PROFILE"])
+    def start(self):
         with socket.socket() as free:
             free.bind(("127.0.0.1", 0))
             port = free.getsockname()[1]
         with open(f"{self.profile}/user.js", "w", encoding="utf-8") as settings:
             settings.write(f'user_pref("marionette.port", {port});\nuser_pref("datareporting.policy.dataSubmissionEnabled", false);\n')
-        self.start()
+        self.launch("--headless", "--marionette", "--no-remote", "--profile", self.profile)
         self.asked, self.socket = 0, self.connected(port)
         self.stream = self.socket.makefile("rb")
         self.message()
