@@ -227,6 +227,9 @@ fn five_meet<K: Sample, V: Worth>(alloc: Global, random: &mut Random) -> Result<
     }
     let mut are_met = true;
     for _turn in 0..10 {
+        if ring.is_empty() {
+            return Ok(false);
+        }
         let mut first = ring.remove(0);
         if let Some(last) = ring.last_mut() {
             are_met = catches_up(alloc, &mut first, last, 200)? && are_met;
