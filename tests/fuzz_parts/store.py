@@ -1,0 +1,130 @@
+"""Hostile input to the program `mst`: messages of syncs, CSV, lines of the shell and files of stores, each broken in many ways.
+
+A run must end with status 0, or with 1 and one line that says why. What is refused leaves the log as it was; what is taken adds to it
+and loses none of its entries; a file that is no store any more is left byte by byte.
+"""
+import csv
+import io
+import os
+import random
+import shutil
+import struct
+import subprocess
+import tempfile
+import threading
+
+from soak_parts.hostile import break_once
+
+SECONDS = 60
+KINDS = {"questions": ["serve"], "replies": ["pull"], "differences": ["diff"], "rows": ["import"], "log": ["import", "--log"], "lines": ["shell"],
+         "file": None}
+
+
+def framed(messages):
+    return b"".join(struct.pack("<Q", len(message)) + message for message in messages)
+
+
+class Driver:
+    """Hostile input to the built program at this path."""
+
+    def __init__(self, path):
+        self.path, self.room = path, tempfile.TemporaryDirectory()
+        self.own, self.peer, self.tried = f"{self.room.name}/own.db", f"{self.room.name}/peer.db", f"{self.room.name}/tried.db"
+        chosen = random.Random(1)
+        lines = {store: b"".join(b"put k%d v%d\n" % (key, chosen.randrange(9)) for key in sorted(chosen.sample(range(90), 80))) + b"del k45\n"
+                 for store in (self.own, self.peer)}
+        for store, put in lines.items():
+            self.run(["init", store, os.path.basename(store)])
+            self.run(["shell", store], put)
+        self.lines = lines[self.own]
+        self.questions, self.replies = self.recorded()
+        self.rows = self.run(["export", self.peer])[1]
+        self.log = self.run(["export", self.peer, "--log"])[1]
+        self.entries = self.entries_of(self.own)
+
+    def run(self, words, put=b""):
+        done = subprocess.run([self.path, *words], input=put, capture_output=True, timeout=SECONDS)
+        return done.returncode, done.stdout, done.stderr
+
+    def recorded(self):
+        """The questions and the replies of a pull, as both sides sent them."""
+        shutil.copyfile(self.own, self.tried)
+        pull = subprocess.Popen([self.path, "pull", self.tried], stdin=subprocess.PIPE, stdout=subprocess.PIPE, stderr=subprocess.DEVNULL)
+        serve = subprocess.Popen([self.path, "serve", self.peer], stdin=subprocess.PIPE, stdout=subprocess.PIPE)
+        heard = {pull: [], serve: []}
+
+        def carry(one, other):
+            while len(length := one.stdout.read(8)) == 8:
+                heard[one].append(one.stdout.read(struct.unpack("<Q", length)[0]))
+                other.stdin.write(framed(heard[one][-1:]))
+                other.stdin.flush()
+            other.stdin.close()
+
+        back = threading.Thread(target=carry, args=(serve, pull))
+        back.start()
+        carry(pull, serve)
+        back.join()
+        pull.wait()
+        serve.wait()
+        return heard[pull], heard[serve]
+
+    def entries_of(self, store):
+        """The entries of a store's log, or None where it isn't read."""
+        status, written, _ = self.run(["export", store, "--log"])
+        return sorted(map(tuple, list(csv.reader(io.StringIO(written.decode(), newline="")))[1:])) if status == 0 else None
+
+    def broken(self, chosen, given):
+        given = bytearray(given)
+        for _ in range(chosen.choice([1, 1, 3, 10])):
+            break_once(chosen, given)
+        return bytes(given)
+
+    def input_of(self, chosen, kind):
+        """Broken bytes of this kind: of messages one message, whole in its frame, or the stream."""
+        if kind not in ("questions", "replies", "differences"):
+            return self.broken(chosen, {"rows": self.rows, "log": self.log, "lines": self.lines}[kind])
+        messages = list(self.questions if kind == "questions" else self.replies)
+        if not chosen.randrange(4):
+            return self.broken(chosen, framed(messages))
+        at = chosen.randrange(len(messages))
+        messages[at] = self.broken(chosen, messages[at])
+        return framed(messages)
+
+    def fault_of_file(self, chosen):
+        """Runs a command on a broken file: how many bytes it has, and what is wrong."""
+        with open(self.own, "rb") as file:
+            given = self.broken(chosen, file.read())
+        with open(self.tried, "wb") as file:
+            file.write(given)
+        words = chosen.choice([["get", self.tried, "k7"], ["put", self.tried, "k7", "v"], ["list", self.tried], ["root", self.tried], ["compact", self.tried]])
+        status, _, said = self.run(words)
+        with open(self.tried, "rb") as file:
+            left = file.read()
+        if status not in (0, 1) or status == 1 and (said.count(b"\n") != 1 or left != given):
+            return len(given), f"{words}: status {status}, {said}, and the file is {'as it was' if left == given else 'another'}"
+        return len(given), None
+
+    def fault_of_input(self, chosen, kind):
+        """Runs a command on broken input: how many bytes it has, and what is wrong."""
+        given = self.input_of(chosen, kind)
+        shutil.copyfile(self.own, self.tried)
+        words = [KINDS[kind][0], self.tried, *KINDS[kind][1:]]
+        status, _, said = self.run(words, given)
+        after = self.entries_of(self.tried)
+        keeps = after is not None and not set(self.entries) - set(after)
+        may_add = kind == "lines" or status == 0 and kind in ("replies", "rows", "log")
+        if status not in (0, 1) or not keeps or after != self.entries and not may_add or status == 1 and kind != "lines" and said.count(b"\n") != 1:
+            return len(given), f"{words}: status {status}, {said[-300:]}, {'no entry is lost' if keeps else 'entries are lost'}; input {given[:2000].hex()}"
+        return len(given), None
+
+    def soak(self, seed):
+        """Runs the input of a seed: how many bytes it has, and, if it fails, what is to be shown."""
+        chosen = random.Random(f"store {seed}")
+        kind = chosen.choice(list(KINDS))
+        for left in (self.tried, f"{self.tried}-wal", f"{self.tried}-shm"):
+            if os.path.exists(left):
+                os.remove(left)
+        try:
+            return self.fault_of_file(chosen) if kind == "file" else self.fault_of_input(chosen, kind)
+        except subprocess.TimeoutExpired as late:
+            return 0, f"{late.cmd[1:]}: it has not ended in {SECONDS} seconds"
