@@ -4,3 +4,4 @@ pub mod Later
 pub mod Listed
 pub mod Flagged
 pub mod KeyParts
+mod KeySizes

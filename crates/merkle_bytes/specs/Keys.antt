@@ -1,5 +1,5 @@
 -- A key behind another: how many bytes it begins with as that does, how many more it has, and these.
-use Rattle.std.specs.Prelude.{◌≢◌, ℕ, suc, ◌+◌, ◌-◌, ◌*◌, ◌≤◌, ⊤, Bool, ◌&&◌, ◌==◌, nat_lt, List, [], ◌∷◌, ◌++◌, length, drop, if◌then◌else◌}
+use Rattle.std.specs.Prelude.{◌≢◌, ℕ, suc, ◌+◌, ◌-◌, ◌*◌, ◌≤◌, ⊤, Bool, ◌&&◌, ◌==◌, nat_lt, List, [], ◌∷◌, ◌++◌, length, take, drop, if◌then◌else◌}
 use Rattle.merkle_bytes.specs.Counts.{count_bytes}
 
 -- how many bytes both begin with
@@ -22,11 +22,19 @@ fit_a_byte kept more = nat_lt kept 15 && nat_lt more 16
 unfoldable pub front_bytes : ℕ → ℕ → List ℕ
 front_bytes kept more = if (fit_a_byte kept more) then ((16 * kept + more) ∷ []) else (240 ∷ (count_bytes kept ++ count_bytes more))
 
+-- the part of a key that the next one may share: its first 255 bytes
+unfoldable pub shareable : List ℕ → List ℕ
+shareable key = take 255 key
+
+-- how many bytes a key keeps of the one before: those that both begin with, of the part that may be shared
+abbrev pub kept_of : List ℕ → List ℕ → ℕ
+kept_of last key = shared (shareable last) key
+
 -- what stands for a key with these bytes, behind a key with the bytes `last`
 unfoldable pub key_behind : List ℕ → List ℕ → List ℕ
-key_behind last key = front_bytes (shared last key) (length key - shared last key) ++ drop (shared last key) key
+key_behind last key = front_bytes (kept_of last key) (length key - kept_of last key) ++ drop (kept_of last key) key
 
--- so many bytes are kept of the key before, and no more could be: it ends there, or goes on otherwise than the rest
-pub record SharesNoMore (last : List ℕ) (kept : ℕ) (rest : List ℕ) : Type 0 where
-  pub within : kept ≤ length last
-  pub ends : GoOnApart (drop kept last) rest
+-- so many bytes are kept of a part, and no more could be: it ends there, or goes on otherwise than the rest
+pub record SharesNoMore (part : List ℕ) (kept : ℕ) (rest : List ℕ) : Type 0 where
+  pub within : kept ≤ length part
+  pub ends : GoOnApart (drop kept part) rest

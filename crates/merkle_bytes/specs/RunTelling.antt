@@ -6,8 +6,8 @@ use Rattle.std.proofs.lemmas.List.{append_assoc, length-append, length-drop, tak
 use Rattle.std.specs.Option.{option_eq}
 use Rattle.key_order.proofs.ListParts.{join_tells}
 use Rattle.merkle_bytes.specs.Counts.{count_bytes, count_told}
-use Rattle.merkle_bytes.specs.Keys.{shared, front_bytes, key_behind}
-use Rattle.merkle_bytes.specs.Runs.{row_behind, row_key, bound_behind, bound_key}
+use Rattle.merkle_bytes.specs.Keys.{shared, front_bytes, shareable, kept_of, key_behind}
+use Rattle.merkle_bytes.specs.Runs.{row_behind, bound_behind, bound_key}
 
 -- what both begin with is the same of both
 pub shared_same : (xs ys : List ℕ) → take (shared xs ys) xs ≡ take (shared xs ys) ys
@@ -65,20 +65,20 @@ key_parts last key = sym (take-append-drop (shared last key) key) ∙ ap (λ t. 
 pub behind_told : (last a b r s : List ℕ) → key_behind last a ++ r ≡ key_behind last b ++ s → (a ≡ b) × (r ≡ s)
 unfolding key_behind
 behind_told last a b r s e =
-    let m = shared last a in
-    let n = shared last b in
+    let m = kept_of last a in
+    let n = kept_of last b in
     let flat = sym (append_assoc (front_bytes m (length a - m)) (drop m a) r) ∙ e ∙ append_assoc (front_bytes n (length b - n)) (drop n b) s in
     let fronts = front_told m (length a - m) n (length b - n) (drop m a ++ r) (drop n b ++ s) flat in
     let long : length (drop m a) ≡ length (drop n b) = omega (arith, length-drop m a, length-drop n b, fronts.0, fronts.1) in
     let rests = join_tells (drop m a) (drop n b) r s long fronts.2 in
-    (key_parts last a ∙ ap₂ (λ i t. take i last ++ t) fronts.0 rests.0 ∙ sym (key_parts last b), rests.1)
+    (key_parts (shareable last) a ∙ ap₂ (λ i t. take i (shareable last) ++ t) fronts.0 rests.0 ∙ sym (key_parts (shareable last) b), rests.1)
 
 -- there is a byte
 pub behind_some : (last a : List ℕ) → 1 ≤ length (key_behind last a)
 unfolding key_behind
-behind_some last a = elim (fit_or_not (shared last a) (length a - shared last a)) [
-  | inl few ↦ omega (arith, ap length (front_few (shared last a) (length a - shared last a) few.0 few.1), length-append (front_bytes (shared last a) (length a - shared last a)) (drop (shared last a) a))
-  | inr long ↦ omega (arith, ap length (front_long (shared last a) (length a - shared last a) long), length-append (front_bytes (shared last a) (length a - shared last a)) (drop (shared last a) a))
+behind_some last a = elim (fit_or_not (kept_of last a) (length a - kept_of last a)) [
+  | inl few ↦ omega (arith, ap length (front_few (kept_of last a) (length a - kept_of last a) few.0 few.1), length-append (front_bytes (kept_of last a) (length a - kept_of last a)) (drop (kept_of last a) a))
+  | inr long ↦ omega (arith, ap length (front_long (kept_of last a) (length a - kept_of last a) long), length-append (front_bytes (kept_of last a) (length a - kept_of last a)) (drop (kept_of last a) a))
 ]
 
 module _ {K : Type 0} (encoding : K → List ℕ) (eq : K → K → Bool)

@@ -1,12 +1,25 @@
 //! How many bytes a key keeps of the one before it, and how many more it has.
 ghost use Rattle.std.specs.Prelude.{◌≡◌, ◌≢◌, ◌++◌, ◌<◌, ◌^◌, ℕ, List, OnOk, MatchOption};
-ghost use Rattle.merkle_bytes.specs.Keys.{front_bytes, fit_a_byte, shared};
+ghost use Rattle.merkle_bytes.specs.Keys.{front_bytes, fit_a_byte, shareable, shared};
 
 use crate::counts::{decode_count, encode_count};
 use std::alloc::AllocError;
 
 /// The byte before two counts that don't fit one byte together.
 const LONG: u8 = 240;
+
+/// As many bytes of a key the next one may share at most.
+const MOST_SHARED: usize = 255;
+
+/// The part of a key that the next one may share.
+pub(crate) fn shareable(key: &[u8]) -> &[u8]
+    ensures { result.now ≡ shareable key.now }
+{
+    match key.split_at_checked(MOST_SHARED) {
+        Some((part, _)) => part,
+        None => key,
+    }
+}
 
 /// How many bytes both begin with.
 pub(crate) fn shared_len(first: &[u8], second: &[u8]) -> usize

@@ -1,4 +1,5 @@
-//! Keys one behind the other: each is written as what it shares with the one before, and the bytes that it has behind that.
+//! Keys one behind the other: each is written as what it shares with the first 255 bytes of the one before, and the bytes that it has behind
+//! that.
 ghost use Rattle.std.specs.Prelude.{◌≡◌, ◌≢◌, ◌++◌, ◌↔◌, ℕ, List, [], OnOk, IfOk, IfErr, IsTrue};
 ghost use Rattle.std.specs.Option.{option_map};
 ghost use Rattle.merkle_bytes.specs.Keys.{key_behind, GoOnApart};
@@ -8,7 +9,7 @@ ghost use Rattle.merkle_bytes.specs.Runs.{bound_key};
 use crate::decode::Decode;
 use crate::encode::Encode;
 use crate::error::{Expected, ReadError};
-use crate::fronts::{encode_front, shared_len};
+use crate::fronts::{encode_front, shareable, shared_len};
 use crate::reader::Reader;
 use std::alloc::{AllocError, Global};
 use std::marker::Model;
@@ -65,7 +66,7 @@ impl KeyRun {
     {
         self.next.clear();
         key.encode(&mut self.next)?;
-        let kept = shared_len(&self.last, &self.next);
+        let kept = shared_len(shareable(&self.last), &self.next);
         let (_, rest) = self.next.split_at(kept);
         encode_front(kept as u64, rest.len() as u64, bytes)?;
         bytes.extend_from_slice(rest)?;
@@ -73,7 +74,8 @@ impl KeyRun {
         Ok(())
     }
 
-    /// Reads the next key. The memory that it takes grows with the bytes of the keys that were read.
+    /// Reads the next key. It has at most 251 bytes more than are read, and at most 64 times as many, so the memory that it takes grows with the
+    /// bytes that are read ([`laws::keys_of_a_run_are_bounded`](crate::laws::keys_of_a_run_are_bounded)).
     ///
     /// # Errors
     ///
@@ -87,13 +89,14 @@ impl KeyRun {
         ensures malformed { IfErr result (λ error. IsMalformed error → (key : K) (rest : List ℕ) → K.is_value key
             → reader.old.left.now ≢ key_behind self.old (K.encoding key) ++ rest) }
     {
-        let last_len = self.last.len() as u64;
+        let part = shareable(&self.last);
+        let part_len = part.len() as u64;
         let (kept, more) = reader.front()?;
-        if kept > last_len {
+        if kept > part_len {
             return Err(reader.unexpected(Expected::Front));
         }
         let rest = reader.slice(more as usize)?;
-        let (_, after) = self.last.split_at(kept as usize);
+        let (_, after) = part.split_at(kept as usize);
         if !go_on_apart(after, rest) {
             return Err(reader.unexpected(Expected::Front));
         }

@@ -1,9 +1,12 @@
 //! Laws over the definitions alone. Each function has no effect and takes no memory.
-ghost use Rattle.std.specs.Prelude.{◌≡◌, ◌++◌, ℕ, List, true};
+ghost use Rattle.std.specs.Prelude.{◌≡◌, ◌≤◌, ◌+◌, ◌*◌, ◌++◌, ℕ, List, length, sum_by, true};
 ghost use Rattle.merkle_bytes.specs.Counts.{count_bytes};
 ghost use Rattle.merkle_bytes.specs.Encodings.{list_bytes, SameLists};
+ghost use Rattle.merkle_bytes.specs.Keys.{key_behind};
+ghost use Rattle.merkle_bytes.specs.Runs.{entries_bytes, row_behind, row_key};
 
 use crate::decode::Decode;
+use crate::encode::Encode;
 
 /// Bytes that begin with those of a list tell its entries, up to `==`, and where it ends: two lists with the same bytes have equal entries, place
 /// by place.
@@ -15,4 +18,13 @@ pub fn bytes_tell_lists<T: Decode>()
 /// Bytes that begin with those of a count tell it, and where it ends: a count has one spelling.
 pub fn bytes_tell_counts()
     ensures { (m n : ℕ) (r s : List ℕ) → count_bytes m ++ r ≡ count_bytes n ++ s → (m ≡ n) × (r ≡ s) }
+{}
+
+/// A key has at most 251 bytes more than stand for it behind another, and at most 64 times as many. So the keys of rows have at most 64 times the
+/// bytes of the rows: a key keeps at most 255 bytes of the one before, and where it keeps 128 or more the counts before its rest have four bytes.
+pub fn keys_of_a_run_are_bounded<K: Encode, V: Encode>()
+    ensures more { (last key : List ℕ) → length key ≤ 251 + length (key_behind last key) }
+    ensures times { (last key : List ℕ) → length key ≤ 64 * length (key_behind last key) }
+    ensures rows { (last : List ℕ) (rows : List (K × V))
+        → sum_by (λ row. length (K.encoding row.0)) rows ≤ 64 * length (entries_bytes (row_behind K.encoding V.encoding) (row_key K.encoding) last rows) }
 {}

@@ -294,6 +294,58 @@ fn other_spellings_of_keys_are_refused(rt: HostRuntime) -> Result<(), Fail> {
     Ok(())
 }
 
+/// Fronts of a key of 300 bytes behind one of as many, how many letters a and b stand behind each, and what was expected behind how many bytes,
+/// where that is no key: of the 290 bytes that both begin with 255 are kept, and no fewer and no more.
+const LONG_KEYS: [(&str, usize, usize, Option<(usize, Expected)>); 4] = [
+    ("f0 ff01 2d", 35, 10, None),
+    ("f0 fe01 2e", 36, 10, Some((50, Expected::Front))),
+    ("f0 8002 2c", 34, 10, Some((4, Expected::Front))),
+    ("f0 a202 0a", 0, 10, Some((4, Expected::Front))),
+];
+
+/// So many letters a, and so many letters b.
+fn letters(alloc: Global, first: usize, second: usize) -> Result<Vec<u8>, Fail> {
+    let mut letters = Vec::new(alloc);
+    for _ in 0..first {
+        letters.push(b'a')?;
+    }
+    for _ in 0..second {
+        letters.push(b'b')?;
+    }
+    Ok(letters)
+}
+
+#[test]
+fn a_key_keeps_255_bytes_at_most(rt: HostRuntime) -> Result<(), Fail> {
+    let alloc = rt.alloc();
+    let last = letters(alloc, 298, 0)?;
+    let key = letters(alloc, 288, 10)?;
+    for case in &LONG_KEYS {
+        let mut bytes = bytes_of(alloc, case.0)?;
+        bytes.extend_from_slice(&letters(alloc, case.1, case.2)?)?;
+        let mut reader = Reader::new(alloc, &bytes);
+        let mut run = KeyRun::behind(alloc, Some(&last))?;
+        let read = run.decode::<Vec<u8>>(&mut reader);
+        match case.3 {
+            None => assert!(rt; read? == key && reader.end().is_ok(), "{}", case.0),
+            Some((offset, expected)) => {
+                assert!(rt;
+                    read == Err(ReadError::Unexpected { offset, expected }),
+                    "{}",
+                    case.0
+                );
+            }
+        }
+    }
+    let mut written = Vec::new(alloc);
+    let mut run = KeyRun::behind(alloc, Some(&last))?;
+    run.encode(&key, &mut written)?;
+    let mut wanted = bytes_of(alloc, "f0 ff01 2d")?;
+    wanted.extend_from_slice(&letters(alloc, 35, 10)?)?;
+    assert!(rt; written == wanted);
+    Ok(())
+}
+
 #[test]
 fn lists_are_a_count_and_entries(rt: HostRuntime) -> Result<(), Fail> {
     let alloc = rt.alloc();

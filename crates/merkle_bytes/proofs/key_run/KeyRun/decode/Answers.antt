@@ -1,7 +1,7 @@
-use Rattle.std.proofs.Common.{rules, ◌≡◌, ◌≢◌, ◌<◌, ◌^◌, ◌++◌, length, take, drop, refl, ap, sym, subst, ◌∙◌, arith}
-use Rattle.std.proofs.lemmas.List.{append_assoc, length-append}
+use Rattle.std.proofs.Common.{rules, ◌≡◌, ◌<◌, ◌^◌, ◌++◌, length, take, drop, refl, ap, sym, subst, ◌∙◌, arith}
+use Rattle.std.proofs.lemmas.List.{append_assoc}
 use Rattle.std.proofs.lemmas.Result.{err_from_is_err_and}
-use Rattle.merkle_bytes.specs.Keys.{shared, front_bytes, key_behind, GoOnApart, SharesNoMore}
+use Rattle.merkle_bytes.specs.Keys.{shareable, kept_of, front_bytes, key_behind, GoOnApart, SharesNoMore}
 use Rattle.merkle_bytes.specs.RunTelling.{shared_within}
 use Rattle.merkle_bytes.specs.Refusals.{IsMalformed}
 use Rattle.merkle_bytes.specs.declared.error.Expected.TheVariants.{Front, Key}
@@ -14,11 +14,10 @@ returns-in_err-kept-clause-malformed g c =
     let p = err_from_is_err_and c.from_residual.result c.from_residual.ensures.1 in
     let last = c.args.self.now in
     let left = c.args.reader.now.left.now in
-    let few : length last < 2 ^ 64 = omega (arith, c.len-last_len.type_inv, c.len-last_len.ensures, ap length c.self.view_is) in
     let low : length left < 2 ^ 64 = search rules in
     rw (p.1, p.2) (λ malformed key rest of e.
     let k = g.K.Encode.encoding key in
-    let fit = counts_fit last k left rest few low e in
+    let fit = counts_fit last k left rest low e in
     c.in_err-kept.ensures.malformed malformed _ _ _ fit.0 fit.1 (behind_parts last k left rest e))
 
 pub returns-in_err-rest-clause-refused : goal.returns-in_err-rest-clause-refused
@@ -34,12 +33,13 @@ returns-in_err-rest-clause-malformed g c =
     let enough = counts_told c.args.self.now (g.K.Encode.encoding key) c.args.reader.now.left.now rest c.front.new.self.left.now c.in_ok-kept.kept c.in_ok-kept.more c.in_ok-kept.ensures.read e in
     absurd (omega (arith, enough.1, c.in_err-rest.ensures.malformed malformed)))
 
-pub returns-then-kept-last_len-clause-malformed : goal.returns-then-kept-last_len-clause-malformed
-returns-then-kept-last_len-clause-malformed g c = λ malformed key rest of e.
+pub returns-then-kept-part_len-clause-malformed : goal.returns-then-kept-part_len-clause-malformed
+returns-then-kept-part_len-clause-malformed g c = λ malformed key rest of e.
     let last = c.args.self.now in
     let k = g.K.Encode.encoding key in
     let same = counts_told last k c.args.reader.now.left.now rest c.front.new.self.left.now c.in_ok-kept.kept c.in_ok-kept.more c.in_ok-kept.ensures.read e in
-    absurd (omega (arith, same.0, (shared_within last k).0, c.if-kept-last_len.true, c.len-last_len.ensures, ap length c.self.view_is))
+    let part_is : c.shareable-part.result.now ≡ shareable last = c.shareable-part.ensures ∙ ap shareable (c.deref.ensures.value ∙ c.self.view_is) in
+    absurd (omega (arith, same.0, (shared_within (shareable last) k).0, c.if-kept-part_len.true, ap length part_is))
 
 pub returns-then-not-go_on_apart-clause-refused : goal.returns-then-not-go_on_apart-clause-refused
 returns-then-not-go_on_apart-clause-refused g c =
@@ -56,8 +56,9 @@ returns-then-not-go_on_apart-clause-malformed g c = λ malformed key rest of e.
     let k = g.K.Encode.encoding key in
     let own = c.in_ok-rest.rest.now in
     let told = parts_told last k c.args.reader.now.left.now rest own c.slice.new.self.left.now c.in_ok-kept.kept c.in_ok-kept.more c.in_ok-rest.ensures.len (c.in_ok-kept.ensures.read ∙ ap (λ t. front_bytes c.in_ok-kept.kept c.in_ok-kept.more ++ t) c.in_ok-rest.ensures.read) e in
-    let after : c.split_at.result.1.now ≡ drop (shared last k) last = c.split_at.ensures.back ∙ ap (drop c.in_ok-kept.kept) (c.deref.ensures.value ∙ c.self.view_is) ∙ ap (λ n. drop n last) told.0 in
-    absurd (let wrong = c.if-not-go_on_apart.ensures.1 (rw after (rw told.1 (shares_no_more last k).ends)) in cc)
+    let part_is : c.shareable-part.result.now ≡ shareable last = c.shareable-part.ensures ∙ ap shareable (c.deref.ensures.value ∙ c.self.view_is) in
+    let after : c.split_at.result.1.now ≡ drop (kept_of last k) (shareable last) = c.split_at.ensures.back ∙ ap (drop c.in_ok-kept.kept) part_is ∙ ap (λ n. drop n (shareable last)) told.0 in
+    absurd (let wrong = c.if-not-go_on_apart.ensures.1 (rw after (rw told.1 (shares_no_more (shareable last) k).ends)) in cc)
 
 pub returns-in-Ok-clause-read : goal.returns-in-Ok-clause-read
 returns-in-Ok-clause-read g c =
@@ -65,10 +66,10 @@ returns-in-Ok-clause-read g c =
     let kept = c.in_ok-kept.kept in
     let rest = c.in_ok-rest.rest.now in
     let left = c.slice.new.self.left.now in
-    let same_last : c.deref.result.now ≡ last = c.deref.ensures.value ∙ c.self.view_is in
-    let no_more : SharesNoMore last kept rest = record {
-      within = omega (arith, c.if-kept-last_len.false, c.len-last_len.ensures, ap length c.self.view_is);
-      ends = subst (λ t. GoOnApart t rest) (c.split_at.ensures.back ∙ ap (drop kept) same_last) (c.if-not-go_on_apart.ensures.0 refl);
+    let part_is : c.shareable-part.result.now ≡ shareable last = c.shareable-part.ensures ∙ ap shareable (c.deref.ensures.value ∙ c.self.view_is) in
+    let no_more : SharesNoMore (shareable last) kept rest = record {
+      within = omega (arith, c.if-kept-part_len.false, ap length part_is);
+      ends = subst (λ t. GoOnApart t rest) (c.split_at.ensures.back ∙ ap (drop kept) part_is) (c.if-not-go_on_apart.ensures.0 refl);
     } in
     let key : g.K.Encode.encoding c.in-Ok.key ≡ take kept last ++ rest =
     sym c.in-Ok.ensures.read ∙ c.deref-2.ensures.value ∙ c.in_ok-extend_from_slice.ensures.items ∙ ap (λ t. t ++ rest) (c.truncate.ensures.items ∙ ap (take kept) c.self.view_is) in
