@@ -2,8 +2,6 @@
 #![tactic(auto)]
 
 #[cfg(test)]
-mod catch_up_wire;
-#[cfg(test)]
 mod gossip;
 #[cfg(test)]
 mod readme;

@@ -9,5 +9,3 @@ pub mod Gossip
 pub mod Wire
 pub mod StoreLaws
 pub mod PullMessages
-pub mod CatchUpMessages
-pub mod CameItem
