@@ -1,3 +1,5 @@
 pub mod Outcomes
 pub mod Told
 pub mod Trees
+pub mod GossipSessions
+pub mod ThroughHub

@@ -7,6 +7,7 @@ pub mod gossip;
 pub mod hashing;
 mod lists;
 pub mod meeting;
+pub mod messages;
 pub mod readme;
 pub mod register;
 pub mod removable;
