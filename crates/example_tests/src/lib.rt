@@ -2,9 +2,9 @@
 #![tactic(auto)]
 
 #[cfg(test)]
-mod catch_up_wire;
-#[cfg(test)]
 mod gossip;
+#[cfg(test)]
+mod messages;
 #[cfg(test)]
 mod readme;
 #[cfg(test)]

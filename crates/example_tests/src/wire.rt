@@ -27,14 +27,15 @@ fn four_pulls_over_bytes_leave_both_with_the_greater_numbers(rt: HostRuntime) ->
     Ok(())
 }
 
-/// Lists of rows that are cut, too long, not UTF-8, or not ascending.
-const MALFORMED: [&[u8]; 6] = [
+/// Lists of rows that are cut, too long, with a count in a longer spelling, not UTF-8, or not ascending.
+const MALFORMED: [&[u8]; 7] = [
     b"",
-    b"\x01\0\0\0\0\0\0",
-    b"\x01\0\0\0\0\0\0\0",
-    b"\0\0\0\0\0\0\0\0\0",
-    b"\x01\0\0\0\0\0\0\0\x01\0\0\0\0\0\0\0\xff\x07\0\0\0\0\0\0\0",
-    b"\x02\0\0\0\0\0\0\0\x01\0\0\0\0\0\0\0b\x07\0\0\0\0\0\0\0\x01\0\0\0\0\0\0\0a\x07\0\0\0\0\0\0\0",
+    b"\x81",
+    b"\x01",
+    b"\0\0",
+    b"\x80\0",
+    b"\x01\x01\xff\x07",
+    b"\x02\x01b\x07\x01a\x07",
 ];
 
 #[test]
@@ -49,12 +50,13 @@ fn bytes_that_are_no_rows_change_nothing(rt: HostRuntime) -> Result<(), Fail> {
 }
 
 /// A list of one range, from a to a.
-const ASKED: &[u8] = b"\x01\0\0\0\0\0\0\0\x01\0\0\0\0\0\0\0a\x01\0\0\0\0\0\0\0a";
+const ASKED: &[u8] = b"\x01\x01a\x01a";
 /// A list of one row, a with 9.
-const SENT: &[u8] = b"\x01\0\0\0\0\0\0\0\x01\0\0\0\0\0\0\0a\x09\0\0\0\0\0\0\0";
+const SENT: &[u8] = b"\x01\x01a\x09";
+/// A list of one row, a with 300, which takes two bytes.
+const SENT_MORE: &[u8] = b"\x01\x01a\xac\x02";
 /// A list of two ranges that don't ascend, from b to b and from a to a.
-const FALLING: &[u8] =
-    b"\x02\0\0\0\0\0\0\0\x01\0\0\0\0\0\0\0b\x01\0\0\0\0\0\0\0b\x01\0\0\0\0\0\0\0a\x01\0\0\0\0\0\0\0a";
+const FALLING: &[u8] = b"\x02\x01b\x01b\x01a\x01a";
 
 #[test]
 fn ranges_are_answered_with_their_rows(rt: HostRuntime) -> Result<(), Fail> {
@@ -65,8 +67,29 @@ fn ranges_are_answered_with_their_rows(rt: HostRuntime) -> Result<(), Fail> {
         assert!(rt; send_rows(alloc, &store, bytes).err() == Some(WireFault::Malformed));
     }
     assert!(rt; send_rows(alloc, &store, FALLING).err() == Some(WireFault::Malformed));
+    let larger = open_rows(alloc, numbers(alloc, &[("a", 300), ("b", 7)])?)?;
+    assert_eq!(rt; send_rows(alloc, &larger, ASKED)?.as_slice(), SENT_MORE);
     Ok(())
 }
+
+/// What a list of one page range from a to b begins with: all but its digest, of 16 bytes.
+const BOUNDS: &[u8] = b"\x01\x01a\x01b\x10";
+
+#[test]
+fn a_page_range_is_its_bounds_and_its_digest(rt: HostRuntime) -> Result<(), Fail> {
+    let alloc = rt.alloc();
+    let mut store = open_rows(alloc, numbers(alloc, &[("a", 9), ("b", 7)])?)?;
+    let sent = send_page_ranges(alloc, &mut store)?;
+    let Some(digest) = sent.strip_prefix(BOUNDS) else {
+        return Err(Fail::from("other bounds"));
+    };
+    // The tree has one page, so its digest is the root hash.
+    assert_eq!(rt; digest, store.root_hash().as_bytes().as_slice());
+    Ok(())
+}
+
+/// A list of one page range, from b back to a.
+const BACKWARD: &[u8] = b"\x01\x01b\x01a\x10................";
 
 #[test]
 fn bytes_that_are_no_page_ranges_are_malformed(rt: HostRuntime) -> Result<(), Fail> {
@@ -75,5 +98,6 @@ fn bytes_that_are_no_page_ranges_are_malformed(rt: HostRuntime) -> Result<(), Fa
     for bytes in MALFORMED {
         assert!(rt; ask(alloc, &mut store, bytes).err() == Some(WireFault::Malformed));
     }
+    assert!(rt; ask(alloc, &mut store, BACKWARD).err() == Some(WireFault::Malformed));
     Ok(())
 }

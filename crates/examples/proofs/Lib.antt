@@ -1,6 +1,5 @@
 pub mod Outcomes
-pub mod Spelled
-pub mod Entries
 pub mod Told
-pub mod Rounds
 pub mod Trees
+pub mod GossipSessions
+pub mod ThroughHub

@@ -6,8 +6,7 @@ pub mod RegisterLaws
 pub mod Removable
 pub mod RemovableLaws
 pub mod Gossip
+pub mod GossipMessages
 pub mod Wire
 pub mod StoreLaws
 pub mod PullMessages
-pub mod CatchUpMessages
-pub mod CameItem

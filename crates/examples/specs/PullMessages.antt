@@ -5,12 +5,13 @@ use Rattle.key_order.specs.Interval.{Span}
 use Rattle.key_order.specs.Join.{IsJoin}
 use Rattle.key_order.specs.Map.{rows_in}
 use Rattle.key_order.specs.Text.{Text, text_order}
+use Rattle.merkle_bytes.specs.Encodings.{list_bytes}
 use Rattle.merkle_diff.specs.Entry.{Entry}
 use Rattle.merkle_replica.specs.Contents.{Side}
 use Rattle.merkle_replica.specs.Pulls.{HasRanges}
 use Rattle.merkle_replica.specs.Steps.{IsAnswerTo}
 use Rattle.examples.specs.StoreLaws.{store_laws}
-use Rattle.examples.specs.Wire.{IsPageRange, IsRow, page_range_bytes, range_bytes, row_bytes, list_bytes}
+use Rattle.examples.specs.Wire.{IsPageRange, IsRow, page_range_bytes, range_bytes, row_bytes}
 
 -- the bytes spell the page ranges of the peer
 abbrev pub SendsPageRanges : Side Text ℕ (List ℕ) → List ℕ → Type 0

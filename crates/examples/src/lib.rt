@@ -3,17 +3,15 @@
 
 pub mod accounts;
 pub mod asking;
-pub mod catch_up_wire;
 pub mod gossip;
 pub mod hashing;
-mod items;
+mod lists;
 pub mod meeting;
-mod reading;
+pub mod messages;
 pub mod readme;
 pub mod register;
 pub mod removable;
 pub mod set;
-mod spelling;
 pub mod store;
 pub mod sync;
 pub mod wire;

@@ -1,14 +1,15 @@
 //! A sync between two machines: the three steps of a pull, with bytes between them. That such steps are a pull is the law
 //! [`messages_are_a_pull`].
 //!
-//! What is sent is a list: how many entries it has, and the entries. A number is eight bytes, the lowest first; a text is the number of
-//! its bytes and its bytes, in UTF-8; a digest is its 16 bytes. Nothing that came is trusted.
+//! What is sent is a list, by the encodings of `merkle_bytes`: of page ranges, of ranges of names, or of rows. Nothing that came is
+//! trusted.
 ghost use Rattle.std.specs.Prelude.{◌≡◌, ◌≢◌, ◌⊎◌, ℕ, List, IfOk, OnOk, OnErr, Err, max, nat_eq, string_bytes};
 ghost use Rattle.std.specs.List.{AllByRecursion};
 ghost use Rattle.key_order.specs.Interval.{Span};
 ghost use Rattle.key_order.specs.Join.{IsJoin};
 ghost use Rattle.key_order.specs.Map.{IsMap};
 ghost use Rattle.key_order.specs.Text.{Text, text_order};
+ghost use Rattle.merkle_bytes.specs.Encodings.{list_bytes};
 ghost use Rattle.merkle_diff.specs.Entry.{Entry};
 ghost use Rattle.merkle_tree_theory.specs.Ranges.{ranges_of};
 ghost use Rattle.merkle_tree_theory.specs.State.{SameSettings};
@@ -17,12 +18,14 @@ ghost use Rattle.merkle_replica.specs.Steps.{AreRanges};
 ghost use Rattle.merkle_replica.specs.Pulls.{Answer, IsPull, IsPartOfPull};
 ghost use Rattle.examples.specs.StoreLaws.{store_laws};
 ghost use Rattle.examples.specs.PullMessages.{SendsPageRanges, Asks, SendsRows, JoinsRows, JoinsFirstRows};
-ghost use Rattle.examples.specs.Wire.{IsInMemory, IsPageRange, page_range_bytes, range_bytes, row_bytes, list_bytes};
+ghost use Rattle.examples.specs.Wire.{IsPageRange, IsRow, page_range_bytes, range_bytes, row_bytes};
 ghost use Rattle.examples.specs.declared.wire.WireFault.TheVariants.{Malformed};
 
-use crate::reading::{read_page_ranges, read_ranges, read_rows};
-use crate::spelling::{spell_page_ranges, spell_ranges, spell_rows};
+use crate::lists::{
+    read_page_ranges, read_ranges, read_rows, write_page_ranges, write_ranges, write_rows,
+};
 use crate::store::Store;
+use merkle_bytes::ReadError;
 use merkle_digest::SipHasher;
 use merkle_replica::JoinRefused;
 use merkle_replica::laws::steps_are_a_pull;
@@ -36,8 +39,6 @@ pub enum WireFault {
     Memory,
     /// The bytes are no such list, or one of ranges or rows that don't ascend.
     Malformed,
-    /// The items of an outline don't lie within the gaps that were asked for.
-    NotAsked,
 }
 
 impl From<AllocError> for WireFault {
@@ -47,6 +48,19 @@ impl From<AllocError> for WireFault {
 
     fn from(_error: AllocError) -> Self {
         WireFault::Memory
+    }
+}
+
+impl From<ReadError> for WireFault {
+    ghost use Rattle.examples.specs.Wire.{fault_of};
+
+    ghost from_gives = { λ error fault. fault ≡ fault_of error };
+
+    fn from(error: ReadError) -> Self {
+        match error {
+            ReadError::Memory => WireFault::Memory,
+            ReadError::Unexpected { .. } => WireFault::Malformed,
+        }
     }
 }
 
@@ -64,7 +78,7 @@ pub fn send_page_ranges(alloc: Global, store: &mut Store<u64>) -> Result<Vec<u8>
     store.hash();
     every_tree_is_sound(store.tree());
     match store.tree().serialise_page_ranges()? {
-        Some(ranges) => spell_page_ranges(alloc, &ranges),
+        Some(ranges) => write_page_ranges(alloc, &ranges),
         None => unreachable!(),
     }
 }
@@ -82,7 +96,7 @@ pub fn ask(alloc: Global, store: &mut Store<u64>, page_ranges: &[u8]) -> Result<
 {
     let theirs = read_page_ranges(alloc, page_ranges)?;
     let asked = store.ranges_to_ask_of(&theirs)?;
-    let bytes = spell_ranges(alloc, &asked)?;
+    let bytes = write_ranges(alloc, &asked)?;
     Ok(bytes)
 }
 
@@ -103,7 +117,7 @@ pub fn send_rows(alloc: Global, store: &Store<u64>, asked: &[u8]) -> Result<Vec<
         return Err(WireFault::Malformed);
     };
     let rows: Vec<&(String, u64)> = found.collect(alloc)?;
-    let bytes = spell_rows(alloc, &rows)?;
+    let bytes = write_rows(alloc, &rows)?;
     Ok(bytes)
 }
 
@@ -118,7 +132,7 @@ pub fn join(alloc: Global, store: &mut Store<u64>, rows: &[u8]) -> Result<(), Wi
     ensures joined { OnOk result (JoinsRows (side store.old) rows.now store.new.rows) }
 
     // The bytes spell no rows, or some that don't ascend.
-    ensures malformed { result ≡ Err Malformed → ((came : List (Text × ℕ)) → rows.now ≢ list_bytes row_bytes came)
+    ensures malformed { result ≡ Err Malformed → ((came : List (Text × ℕ)) → AllByRecursion IsRow came → rows.now ≢ list_bytes row_bytes came)
         ⊎ ((came : List (Text × ℕ)) × (rows.now ≡ list_bytes row_bytes came) × ¬ (IsMap text_order came)) }
 
     ensures unchanged { result ≡ Err Malformed → store.new ≡ store.old }
@@ -137,12 +151,12 @@ pub fn join(alloc: Global, store: &mut Store<u64>, rows: &[u8]) -> Result<(), Wi
 /// the local side as it was. So coverage and convergence hold of syncs over bytes as of pulls.
 pub fn messages_are_a_pull()
     ensures pull { (local peer : Side Text ℕ (List ℕ)) (ranges asked rows : List ℕ) (after : List (Text × ℕ))
-        → IsMap text_order peer.rows → IsInMemory ranges → IsInMemory asked → IsInMemory rows → SendsPageRanges peer ranges → Asks local ranges asked
+        → IsMap text_order peer.rows → SendsPageRanges peer ranges → Asks local ranges asked
         → SendsRows peer asked rows → JoinsRows local rows after → (answer : Answer Text) × IsPull store_laws local peer answer after }
 
     // Where the first rows were joined, they are a part of one.
     ensures part { (local peer : Side Text ℕ (List ℕ)) (ranges asked rows : List ℕ) (after : List (Text × ℕ))
-        → IsMap text_order peer.rows → IsInMemory ranges → IsInMemory asked → IsInMemory rows → SendsPageRanges peer ranges → Asks local ranges asked
+        → IsMap text_order peer.rows → SendsPageRanges peer ranges → Asks local ranges asked
         → SendsRows peer asked rows → JoinsFirstRows local rows after → (answer : Answer Text) × (done : ℕ) × IsPartOfPull store_laws local peer answer done after }
 {
     steps_are_a_pull::<String, u64, SipHasher, 16>();

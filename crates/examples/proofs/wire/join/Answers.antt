@@ -2,9 +2,10 @@ use Rattle.std.proofs.Common.{◌≡◌, ◌<◌, ℕ, zero, suc, List, length, 
 use Rattle.std.specs.List.{AllByRecursion}
 use Rattle.key_order.specs.Join.{IsJoin}
 use Rattle.key_order.specs.Text.{Text, text_order}
+use Rattle.merkle_bytes.specs.Encodings.{list_bytes}
 use Rattle.merkle_replica.specs.Contents.{Side, side}
 use Rattle.examples.specs.PullMessages.{JoinsFirstRows}
-use Rattle.examples.specs.Wire.{IsRow, row_bytes, list_bytes}
+use Rattle.examples.specs.Wire.{IsRow, row_bytes}
 use Rattle.examples.proofs.wire.join.Goals as goal
 
 first_rows : (local : Side Text ℕ (List ℕ)) (bytes : List ℕ) (rows after : List (Text × ℕ)) (done : ℕ) → AllByRecursion IsRow rows → bytes ≡ list_bytes row_bytes rows → done < length rows

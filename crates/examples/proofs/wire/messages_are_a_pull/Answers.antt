@@ -7,7 +7,7 @@ use Rattle.examples.proofs.Told.{same_page_ranges, same_ranges, same_rows, rows_
 use Rattle.examples.proofs.wire.messages_are_a_pull.Goals as goal
 
 pub returns-clause-pull : goal.returns-clause-pull
-returns-clause-pull c local peer ranges asked rows after up ranges_fit asked_fits rows_fit (theirs, of_peer, each, sent) (came, found, each_came, read, answers, asks) (spans, read_spans, each_row, sent_rows) (got, each_got, read_rows, joins) = (
+returns-clause-pull c local peer ranges asked rows after up (theirs, of_peer, each, sent) (came, found, each_came, read, answers, asks) (spans, read_spans, each_row, sent_rows) (got, each_got, read_rows, joins) = (
   record { ranges = found; joined = length (rows_in text_order found peer.rows) },
   c.steps_are_a_pull.ensures.pull local peer found after up
       (record {
@@ -16,22 +16,22 @@ returns-clause-pull c local peer ranges asked rows after up ranges_fit asked_fit
         asked = spans;
         rows = got;
         of_peer = of_peer;
-        ranges_came = same_page_ranges theirs came ranges each each_came ranges_fit sent read;
+        ranges_came = same_page_ranges theirs came ranges sent read;
         answered = answers;
-        asked_came = same_ranges found spans asked asked_fits asks read_spans;
-        rows_came = same_rows (rows_in text_order spans peer.rows) got rows each_row each_got rows_fit sent_rows read_rows;
+        asked_came = same_ranges found spans asked asks read_spans;
+        rows_came = same_rows (rows_in text_order spans peer.rows) got rows sent_rows read_rows;
         joins = joins;
       }),
 )
 
 pub returns-clause-part : goal.returns-clause-part
-returns-clause-part c local peer ranges asked rows after up ranges_fit asked_fits rows_fit (theirs, of_peer, each, sent) (came, found, each_came, read, answers, asks) (spans, read_spans, each_row, sent_rows) (got, done, each_got, read_rows, some, not_all, joins) =
+returns-clause-part c local peer ranges asked rows after up (theirs, of_peer, each, sent) (came, found, each_came, read, answers, asks) (spans, read_spans, each_row, sent_rows) (got, done, each_got, read_rows, some, not_all, joins) =
     let within = rows_in text_order found peer.rows in
-    let same = rows_asked_for peer.rows found spans got asked rows asked_fits rows_fit asks read_spans each_row each_got sent_rows read_rows in (
+    let same = rows_asked_for peer.rows found spans got asked rows asks read_spans sent_rows read_rows in (
       record { ranges = found; joined = length within },
       done,
       record {
-        answered = c.steps_are_a_pull.ensures.answer local peer theirs came found up of_peer (same_page_ranges theirs came ranges each each_came ranges_fit sent read) answers;
+        answered = c.steps_are_a_pull.ensures.answer local peer theirs came found up of_peer (same_page_ranges theirs came ranges sent read) answers;
         counted = refl;
         some = some;
         not_all = subst (λ n. done < n) (sym (same_rows-length text_order string_cmp_total (λ x y. nat_eq x y ≡ true) within got same)) not_all;

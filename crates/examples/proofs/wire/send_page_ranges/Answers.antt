@@ -17,4 +17,4 @@ returns-clause-message c =
     let listed : R c.tree-2.result.now = rw c.in-Some.is at c.in_ok-ranges.ensures.ranges in
     let S : PageFormat → Type 0 = λ format. entries c.in-Some.ranges.items ≡ ranges_of format string_bytes new.root in
     let ranges = subst S (ap (λ (s : State Text (List ℕ)). s.format) c.hash.ensures.tree) (subst R c.tree-2.ensures.tree listed) in
-    if_ok_both c.spell_page_ranges.result _ _ _ (λ bytes spelled each. (entries c.deref.result.now, (new.root, tree, ap entries c.deref.ensures.value ∙ ranges), each, spelled)) c.spell_page_ranges.ensures.bytes c.spell_page_ranges.ensures.each
+    if_ok_both c.write_page_ranges.result _ _ _ (λ bytes spelled each. (entries c.deref.result.now, (new.root, tree, ap entries c.deref.ensures.value ∙ ranges), each, spelled)) c.write_page_ranges.ensures.bytes c.write_page_ranges.ensures.each

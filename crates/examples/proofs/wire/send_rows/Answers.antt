@@ -2,9 +2,10 @@ use Rattle.std.proofs.Common.{map, ap, ◌∙◌, subst}
 use Rattle.std.specs.List.{AllByRecursion}
 use Rattle.key_order.specs.Map.{rows_in}
 use Rattle.key_order.specs.Text.{text_order}
+use Rattle.merkle_bytes.specs.Encodings.{list_bytes}
 use Rattle.merkle_diff.proofs.Snapshots.{drained}
 use Rattle.merkle_replica.specs.Answers.{spans_of}
-use Rattle.examples.specs.Wire.{row_bytes, list_bytes, IsRow}
+use Rattle.examples.specs.Wire.{row_bytes, IsRow}
 use Rattle.examples.proofs.wire.send_rows.Goals as goal
 
 -- the rows that were collected are those in the ranges

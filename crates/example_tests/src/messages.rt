@@ -1,0 +1,41 @@
+use crate::rows::{are_rows, numbers};
+use examples::messages::gossip_by_messages;
+use examples::store::open_rows;
+use std::test::Fail;
+
+/// The rows of five replicas, the hub's first.
+const ROWS: [&[(&str, u64)]; 5] = [
+    &[("a", 1), ("b", 7)],
+    &[("b", 5), ("c", 3)],
+    &[],
+    &[("a", 4), ("d", 2)],
+    &[("c", 9)],
+];
+
+/// The greatest number at each name.
+const JOIN: [(&str, u64); 4] = [("a", 4), ("b", 7), ("c", 9), ("d", 2)];
+
+#[test]
+fn five_replicas_come_to_the_join_of_all(rt: HostRuntime) -> Result<(), Fail> {
+    let alloc = rt.alloc();
+    let mut hub = open_rows(alloc, numbers(alloc, ROWS[0])?)?;
+    let mut others = Vec::new(alloc);
+    for rows in &ROWS[1..] {
+        others.push(open_rows(alloc, numbers(alloc, rows)?)?)?;
+    }
+    assert!(rt; gossip_by_messages(alloc, &mut hub, &mut others).is_ok());
+    assert!(rt; are_rows(hub.rows(), &JOIN));
+    for other in &others {
+        assert!(rt; are_rows(other.rows(), &JOIN));
+    }
+    Ok(())
+}
+
+#[test]
+fn a_hub_alone_keeps_its_rows(rt: HostRuntime) -> Result<(), Fail> {
+    let alloc = rt.alloc();
+    let mut hub = open_rows(alloc, numbers(alloc, ROWS[0])?)?;
+    assert!(rt; gossip_by_messages(alloc, &mut hub, &mut []).is_ok());
+    assert!(rt; are_rows(hub.rows(), ROWS[0]));
+    Ok(())
+}
