@@ -10,6 +10,8 @@ mod hex;
 #[cfg(test)]
 mod keys;
 #[cfg(test)]
+mod memory;
+#[cfg(test)]
 mod number;
 #[cfg(test)]
 mod playing;
