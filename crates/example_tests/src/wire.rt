@@ -1,6 +1,6 @@
 use crate::rows::{are_rows, numbers};
 use examples::store::{Store, open_rows};
-use examples::wire::{WireFault, ask, join, send_page_ranges, send_rows};
+use examples::wire::{WireFault, ask, join, pull_over_bytes, send_page_ranges, send_rows};
 use std::alloc::Global;
 use std::test::Fail;
 
@@ -20,6 +20,21 @@ fn four_pulls_over_bytes_leave_both_with_the_greater_numbers(rt: HostRuntime) ->
     for _ in 0..2 {
         pull(alloc, &mut a, &mut b)?;
         pull(alloc, &mut b, &mut a)?;
+    }
+    let both = [("w", 4), ("x", 1), ("y", 5), ("z", 2)];
+    assert!(rt; are_rows(a.rows(), &both));
+    assert!(rt; are_rows(b.rows(), &both));
+    Ok(())
+}
+
+#[test]
+fn pulls_over_bytes_leave_both_with_the_greater_numbers(rt: HostRuntime) -> Result<(), Fail> {
+    let alloc = rt.alloc();
+    let mut a = open_rows(alloc, numbers(alloc, &[("x", 1), ("y", 5)])?)?;
+    let mut b = open_rows(alloc, numbers(alloc, &[("w", 4), ("y", 3), ("z", 2)])?)?;
+    for _ in 0..2 {
+        pull_over_bytes(alloc, &mut a, &mut b)?;
+        pull_over_bytes(alloc, &mut b, &mut a)?;
     }
     let both = [("w", 4), ("x", 1), ("y", 5), ("z", 2)];
     assert!(rt; are_rows(a.rows(), &both));

@@ -33,7 +33,7 @@ module _ {K V H : Type 0} (laws : Laws K V H) where
       (joined, after, rest ++ later, ap (λ m. m ++ later) is, has, sessions-append steps more (changed first s.0 (with_rows (first s.0) after)) mid last rest later others b)
 
   -- one session more
-  pub sessions-more : (steps : List (ℕ × ℕ)) (s : ℕ × ℕ) (first mid last : ℕ → Side K V H) (met : Met) (a b : Side K V H) (joined : ℕ) (after : List (K × V)) → AreSessions laws steps first mid met
+  sessions-more : (steps : List (ℕ × ℕ)) (s : ℕ × ℕ) (first mid last : ℕ → Side K V H) (met : Met) (a b : Side K V H) (joined : ℕ) (after : List (K × V)) → AreSessions laws steps first mid met
       → mid s.0 ≡ a → mid s.1 ≡ b → HasJoined laws a b joined after → ((n : ℕ) → last n ≡ changed mid s.0 (with_rows a after) n) → (later : Met) × AreSessions laws (steps ++ s ∷ []) first last later
   sessions-more steps s first mid last met a b joined after made own other has ends =
       let here = subst (λ y. HasJoined laws (mid s.0) y joined after) (sym other) (subst (λ x. HasJoined laws x b joined after) (sym own) has) in
@@ -41,7 +41,7 @@ module _ {K V H : Type 0} (laws : Laws K V H) where
       (met ++ (mid s.0, mid s.1) ∷ [], sessions-append steps (s ∷ []) first mid last met ((mid s.0, mid s.1) ∷ []) made (joined, after, [], refl, here, (later, refl)))
 
   -- one that ended early
-  pub stops-here : (steps : List (ℕ × ℕ)) (s : ℕ × ℕ) (first mid last : ℕ → Side K V H) (met : Met) (a b : Side K V H) (fault : MessagesError) (after : List (K × V)) → AreSessions laws steps first mid met
+  stops-here : (steps : List (ℕ × ℕ)) (s : ℕ × ℕ) (first mid last : ℕ → Side K V H) (met : Met) (a b : Side K V H) (fault : MessagesError) (after : List (K × V)) → AreSessions laws steps first mid met
       → mid s.0 ≡ a → mid s.1 ≡ b → IsMessagesRefused laws a b fault after → ((n : ℕ) → last n ≡ changed mid s.0 (with_rows a after) n) → StopsBehind laws steps s fault first last
   stops-here steps s first mid last met a b fault after made own other refused ends = record {
     mid = mid;

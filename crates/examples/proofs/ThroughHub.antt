@@ -12,7 +12,7 @@ use Rattle.merkle_replica.specs.Laws.{Laws}
 use Rattle.merkle_wire.proofs.Covering.{any-map as any-mapped}
 
 -- the numbers up to one
-abbrev pub upto : ℕ → List ℕ
+abbrev upto : ℕ → List ℕ
 upto zero = 0 ∷ []
 upto (suc n) = upto n ++ suc n ∷ []
 
@@ -72,12 +72,12 @@ below_all : (n k : ℕ) → k ≤ suc n → (k ≡ suc n → ⊥) → k ≤ n
 below_all n k low differs = elim (cases_lt n k) [ inl high ↦ absurd (differs (omega (arith, low, high))) | inr few ↦ few ]
 
 -- so each has those of all, and its own
-pub heard_all : (n : ℕ) → heard (through_hub n) 0 ≡ upto n
+heard_all : (n : ℕ) → heard (through_hub n) 0 ≡ upto n
 heard_all n =
     let (all, own) = gathered n in
     (λ i. come_to-append (λ n. n ∷ []) (gathering n) (spreading n) i 0) ∙ (spread (heard (gathering n)) own n).hub ∙ all
 
-pub heard_more : (n k : ℕ) → k < n → heard (through_hub n) (suc k) ≡ suc k ∷ upto n
+heard_more : (n k : ℕ) → k < n → heard (through_hub n) (suc k) ≡ suc k ∷ upto n
 heard_more n k low =
     let (all, own) = gathered n in
     (λ i. come_to-append (λ n. n ∷ []) (gathering n) (spreading n) i (suc k)) ∙ (spread (heard (gathering n)) own n).done k low ∙ ap (λ t. suc k ∷ t) all
