@@ -1,9 +1,9 @@
 //! Which entries are later than what their keys have.
 ghost use Rattle.std.specs.Prelude.{◌≡◌};
-ghost use Rattle.std.specs.List.{filter};
 ghost use Rattle.key_order.specs.Text.{text_order};
 ghost use Rattle.key_order.specs.Map.{IsMap, get};
 ghost use Rattle.store_table.specs.Registers.{is_later};
+ghost use Rattle.merkle_store.specs.Writes.{later_entries};
 
 use crate::lookup::register_at;
 use crate::upkeep::EntryReplica;
@@ -23,7 +23,7 @@ fn is_news(replica: &EntryReplica, entry: &(String, Register)) -> bool
 /// The entries that are later than what their keys have.
 pub fn news_of(replica: &EntryReplica, entries: Entries) -> Entries
     ensures ascending { IsMap text_order replica.now.rows }
-    ensures news { result.items ≡ filter (λ entry. is_later (get text_order replica.now.rows entry.0) entry.1) entries.items }
+    ensures news { result.items ≡ later_entries replica.now.rows entries.items }
 {
     let _rows = replica.rows();
     let mut news = entries;

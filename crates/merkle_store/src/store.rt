@@ -1,16 +1,16 @@
 //! A store: its table in the database, and the replica of its entries in memory.
-ghost use Rattle.std.specs.Prelude.{◌≡◌, ◌≢◌, ◌≤◌, ◌↔◌, [], All, Some, true, string_bytes, IfOk, IfErr, OnOk, OnErr, IsTrue, MatchOption};
-ghost use Rattle.std.specs.List.{filter};
+ghost use Rattle.std.specs.Prelude.{◌≡◌, ◌≢◌, ◌≤◌, ◌↔◌, [], ◌∷◌, map, All, Some, true, string_bytes, IfOk, IfErr, OnOk, OnErr, IsTrue, MatchOption};
 ghost use Rattle.std.specs.Option.{option_copied};
 ghost use Rattle.key_order.specs.Text.{text_order};
 ghost use Rattle.key_order.specs.Map.{IsMap, SameValue, get};
 ghost use Rattle.merkle_replica.specs.Puts.{HasGathered};
 ghost use Rattle.sqlite.specs.State.{HasCleanDisk, IsUnchanged, Survives};
 ghost use Rattle.sqlite.specs.Held.{state};
-ghost use Rattle.store_table.specs.Entries.{store_schema};
-ghost use Rattle.store_table.specs.Changes.{IsNewStore, AreOf};
-ghost use Rattle.store_table.specs.Registers.{time_after, text_at, is_later};
+ghost use Rattle.store_table.specs.Entries.{store_schema, entry_row};
+ghost use Rattle.store_table.specs.Changes.{IsNewStore, HasMore, HasInstead, AreOf};
+ghost use Rattle.store_table.specs.Registers.{time_after, text_at};
 ghost use Rattle.merkle_store.specs.Kept.{IsKept};
+ghost use Rattle.merkle_store.specs.Writes.{register_of, later_entries};
 
 use crate::lookup::register_at;
 use crate::news::news_of;
@@ -170,14 +170,25 @@ impl<S: Alter + Drop> Store<S> {
     ///
     /// # Errors
     ///
-    /// [`StoreFault`]
+    /// [`StoreFault::Time`] where the key's register has the greatest time of all, [`StoreFault::Behind`] where the file has the write and
+    /// memory was refused for the row in memory, and faults of the file; but for `Behind` all is as it was.
     pub fn write(&mut self, now: u64, key: String, value: Option<String>) -> Result<(), StoreFault>
         ensures kept { HasCleanDisk (state S.Store self.new.conn) → IsKept ⟦<Register as PartialEq>⟧.eq ⟦<Register as Join>⟧.join_of (string_bytes self.old.writer) (state S.Store self.old.conn).now self.old.replica.rows
             → OnOk result (IsKept ⟦<Register as PartialEq>⟧.eq ⟦<Register as Join>⟧.join_of (string_bytes self.new.writer) (state S.Store self.new.conn).now self.new.replica.rows) }
 
         // The key then has what was written, and each other key what it had.
         ensures written { OnOk result (SameValue (λ x y. ⟦<Register as PartialEq>⟧.eq x y ≡ true) (get text_order self.new.replica.rows key)
-            (Some (record { time = time_after (get text_order self.old.replica.rows key) now; writer = self.old.writer; value = value }))) }
+            (Some (register_of self.old.replica.rows now self.old.writer key value))) }
+
+        // Refused, the rows in memory stay, and the file's too, but for `Behind`.
+        ensures memory { OnErr result (self.new.replica ≡ self.old.replica) }
+        ensures refused { HasCleanDisk (state S.Store self.new.conn) → IsTrue (state S.Store self.new.conn).is_open
+            → (state S.Store self.old.conn).now ≡ (state S.Store self.old.conn).committed
+            → IfErr result (λ why. why ≢ StoreFault.Behind → (state S.Store self.new.conn).now ≡ (state S.Store self.old.conn).now) }
+
+        // A crash leaves what it could leave before, or a database with the one row more.
+        ensures crash { (state S.Store self.old.conn).now.schema ≡ store_schema → Survives (state S.Store self.old.conn) (state S.Store self.new.conn)
+            (AreOf (HasMore (entry_row (key, register_of self.old.replica.rows now self.old.writer key value) ∷ []) (state S.Store self.old.conn).now)) }
     {
         let time = self.later_time(&key, now)?;
         let writer = self.writer.clone()?;
@@ -198,7 +209,7 @@ impl<S: Alter + Drop> Store<S> {
     /// [`StoreFault::Future`] where an entry has a time that is more than a day ahead of the clock.
     pub fn news(&self, entries: Entries) -> Result<Entries, StoreFault>
         ensures ascending { OnOk result (IsMap text_order self.now.replica.rows) }
-        ensures news { IfOk result (λ news. news.items ≡ filter (λ entry. is_later (get text_order self.now.replica.rows entry.0) entry.1) entries.items) }
+        ensures news { IfOk result (λ news. news.items ≡ later_entries self.now.replica.rows entries.items) }
         ensures timely { OnOk result (All (λ entry. entry.1.time ≤ self.now.latest) entries.items) }
         ensures future { (All (λ entry. entry.1.time ≤ self.now.latest) entries.items → ⊥) → result ≡ Err StoreFault.Future }
     {
@@ -212,13 +223,23 @@ impl<S: Alter + Drop> Store<S> {
     ///
     /// # Errors
     ///
-    /// [`StoreFault::Future`] where an entry has a time that is more than a day ahead of the clock: nothing is joined then.
+    /// [`StoreFault::Future`] where an entry has a time that is more than a day ahead of the clock; [`StoreFault::Behind`] where the file
+    /// has the entries and memory was refused for the rows in memory; and faults of the file. But for `Behind` all is as it was.
     pub fn join(&mut self, entries: Entries) -> Result<usize, StoreFault>
         ensures kept { HasCleanDisk (state S.Store self.new.conn) → IsKept ⟦<Register as PartialEq>⟧.eq ⟦<Register as Join>⟧.join_of (string_bytes self.old.writer) (state S.Store self.old.conn).now self.old.replica.rows
             → OnOk result (IsKept ⟦<Register as PartialEq>⟧.eq ⟦<Register as Join>⟧.join_of (string_bytes self.new.writer) (state S.Store self.new.conn).now self.new.replica.rows) }
         ensures joined { OnOk result (HasGathered text_order ⟦<Register as PartialEq>⟧.eq ⟦<Register as Join>⟧.join_of self.old.replica.rows entries.items self.new.replica.rows) }
         ensures timely { OnOk result (All (λ entry. entry.1.time ≤ self.old.latest) entries.items) }
         ensures future { (All (λ entry. entry.1.time ≤ self.old.latest) entries.items → ⊥) → (result ≡ Err StoreFault.Future) × (self.new ≡ self.old) }
+
+        // Refused, the rows in memory stay, and the file's too, but for `Behind`.
+        ensures memory { IfErr result (λ why. why ≢ StoreFault.Behind → self.new.replica ≡ self.old.replica) }
+        ensures refused { (state S.Store self.old.conn).now.schema ≡ store_schema → HasCleanDisk (state S.Store self.new.conn) → IsTrue (state S.Store self.new.conn).is_open
+            → IfErr result (λ why. why ≢ StoreFault.Behind → (state S.Store self.new.conn).now ≡ (state S.Store self.old.conn).now) }
+
+        // A crash leaves what it could leave before, or a database with a row more for each entry that is later, and no other.
+        ensures crash { (state S.Store self.old.conn).now.schema ≡ store_schema → Survives (state S.Store self.old.conn) (state S.Store self.new.conn)
+            (AreOf (HasMore (map entry_row (later_entries self.old.replica.rows entries.items)) (state S.Store self.old.conn).now)) }
     {
         let news = self.news(entries)?;
         let count = news.len();
@@ -234,11 +255,17 @@ impl<S: Alter + Drop> Store<S> {
     ///
     /// # Errors
     ///
-    /// [`StoreFault`]
+    /// Faults of the file, by which all is as it was.
     pub fn compact(&mut self) -> Result<(), StoreFault>
         ensures kept { HasCleanDisk (state S.Store self.new.conn) → IsKept ⟦<Register as PartialEq>⟧.eq ⟦<Register as Join>⟧.join_of (string_bytes self.old.writer) (state S.Store self.old.conn).now self.old.replica.rows
             → OnOk result (IsKept ⟦<Register as PartialEq>⟧.eq ⟦<Register as Join>⟧.join_of (string_bytes self.new.writer) (state S.Store self.new.conn).now self.new.replica.rows) }
         ensures same { self.new.replica ≡ self.old.replica }
+        ensures refused { (state S.Store self.old.conn).now.schema ≡ store_schema → HasCleanDisk (state S.Store self.new.conn) → IsTrue (state S.Store self.new.conn).is_open
+            → OnErr result ((state S.Store self.new.conn).now ≡ (state S.Store self.old.conn).now) }
+
+        // A crash leaves what it could leave before, or a database with one row for each key, the one in memory.
+        ensures crash { (state S.Store self.old.conn).now.schema ≡ store_schema → Survives (state S.Store self.old.conn) (state S.Store self.new.conn)
+            (AreOf (HasInstead (map entry_row self.old.replica.rows) (state S.Store self.old.conn).now)) }
     {
         rewrite(&mut self.conn, &self.replica)?;
         self.rows = self.replica.rows().len();
