@@ -187,6 +187,20 @@ fn time_catch_up<R: Clock>(
     }
 }
 
+/// Times a session by messages, both sides of it, which joins nothing, and answers what it takes over a wire.
+fn time_session<R: Clock>(
+    rt: &R,
+    alloc: Global,
+    local: &mut Numbers,
+    peer: &mut Numbers,
+    best: &mut Best,
+) -> Result<Cost, Fault> {
+    let start = now(rt)?;
+    let cost = cost_of(alloc, local, peer);
+    best.note_since(rt, start)?;
+    cost
+}
+
 /// Times a pull of the replica with these differences, and answers how many rows it joined.
 fn time_pull<R: Clock>(
     rt: &R,
@@ -222,24 +236,25 @@ fn write_line<R: Clock, W: Write>(
     out: &mut W,
 ) -> Result<(), Fault> {
     let mut peer = replica(alloc, sorted, &[], kind)?;
-    let mut local = replica(alloc, sorted, places, kind)?;
-    let cost = cost_of(alloc, &mut local, &mut peer)?;
-    let (mut catch_up, mut pull) = (Best::new(), Best::new());
+    let mut asking = replica(alloc, sorted, places, kind)?;
+    let (mut session, mut catch_up, mut pull) = (Best::new(), Best::new(), Best::new());
+    let mut cost = time_session(rt, alloc, &mut asking, &mut peer, &mut session)?;
     let (mut joined, mut pulled) = (0, 0);
     for _ in 0..3 {
+        cost = time_session(rt, alloc, &mut asking, &mut peer, &mut session)?;
         let local = replica(alloc, sorted, places, kind)?;
         joined = time_catch_up(rt, local, &mut peer, &mut catch_up)?;
         let local = replica(alloc, sorted, places, kind)?;
         pulled = time_pull(rt, local, &mut peer, &mut pull)?;
     }
     let (rows, differing, way) = (sorted.len(), places.len(), name_of(kind));
-    let (catch_up, pull) = (catch_up.each(1000), pull.each(1000));
+    let (session, catch_up, pull) = (session.each(1000), catch_up.each(1000), pull.each(1000));
     let (rounds, fetched) = (cost.rounds, cost.fetched);
     let bytes = cost.sent.saturating_add(cost.came);
     let pull_bytes = bytes_of_pull(&peer, pulled)?;
     writeln!(
         out,
-        "{rows} {differing} {way} {catch_up} {pull} {rounds} {bytes} {fetched} {joined} {pull_bytes} {pulled}"
+        "{rows} {differing} {way} {catch_up} {session} {pull} {rounds} {bytes} {fetched} {joined} {pull_bytes} {pulled}"
     )
     .map_err(|_| Fault::Output)
 }
@@ -254,7 +269,7 @@ pub fn write_table<R: Clock, W: Write>(
 ) -> Result<(), Fault> {
     writeln!(
         out,
-        "rows differing way catch_up_us pull_us rounds bytes fetched joined pull_bytes pulled"
+        "rows differing way catch_up_us session_us pull_us rounds bytes fetched joined pull_bytes pulled"
     )
     .map_err(|_| Fault::Output)?;
     for count in counts {
