@@ -141,8 +141,8 @@ int mst_tree_pages(struct mst_tree *tree, uint8_t *out, size_t out_len, size_t *
  * ranges, and how many bytes that is (an `out_len` of 0 as above). The ranges ascend, and no two meet. They may hold many more keys
  * than differ, and there may be none though the root hashes differ: pulls by turns go on until the root hashes are equal. The peer's
  * list may be any bytes. MST_TOO_SHORT; MST_MALFORMED where one of them is no list of page ranges; MST_NO_MEMORY; MST_BAD_ARGUMENT.
- * Memory in proportion to both lists, and time too but for a sort of the ranges in which they differ: as much where the length alone
- * is asked for. */
+ * No key is copied: memory in proportion to the number of ranges of both lists and to the answer, and time in proportion to both lists
+ * but for a sort of the ranges in which they differ: as much where the length alone is asked for. */
 int mst_diff(const uint8_t *local, size_t local_len, const uint8_t *peer, size_t peer_len, uint8_t *out, size_t out_len,
              size_t *needed);
 

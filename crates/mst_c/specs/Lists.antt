@@ -1,5 +1,5 @@
 -- What bytes spell, and what is made of it.
-use Rattle.std.specs.Prelude.{◌≡◌, ℕ, List, length}
+use Rattle.std.specs.Prelude.{◌≡◌, ℕ, List, length, map}
 use Rattle.std.specs.Global.{Vec}
 use Rattle.std.specs.List.{AllByRecursion}
 use Rattle.key_order.specs.Interval.{Span}
@@ -9,16 +9,17 @@ use Rattle.merkle_digest.specs.SipHash.{siphash128}
 use Rattle.merkle_diff.specs.Difference.{IsAnswer}
 use Rattle.merkle_diff.specs.Entry.{Entry}
 use Rattle.merkle_search_tree.specs.Loading.{digests}
+use Rattle.merkle_tree_theory.specs.Ranges.{ranges_of}
 use Rattle.merkle_tree_theory.specs.State.{SameSettings, map_of}
-use Rattle.mst_c.specs.Trees.{ByteState, bytes_cmp, key_cmp, rows_of}
+use Rattle.mst_c.specs.Trees.{ByteState, bytes_cmp, bytes_of, key_cmp, rows_of}
 use Rattle.mst_c.specs.Wire.{page_ranges_bytes, key_ranges_bytes, rows_bytes, digests_bytes}
 
 -- an entry of a list of page ranges has a digest of 16 bytes, and its first key is at most its last
-abbrev pub IsPageRange : Entry (Vec ℕ) (List ℕ) → Type 0
-IsPageRange e = (length e.digest ≡ 16) × Upto key_cmp e.first e.last
+abbrev pub IsPageRange : Entry (List ℕ) (List ℕ) → Type 0
+IsPageRange e = (length e.digest ≡ 16) × Upto bytes_cmp e.first e.last
 
 -- the bytes are the list of these page ranges
-abbrev pub ArePageRanges : List ℕ → List (Entry (Vec ℕ) (List ℕ)) → Type 0
+abbrev pub ArePageRanges : List ℕ → List (Entry (List ℕ) (List ℕ)) → Type 0
 ArePageRanges bytes es = (bytes ≡ page_ranges_bytes es) × AllByRecursion IsPageRange es
 
 -- a key and 16 bytes of digest
@@ -48,13 +49,13 @@ AreLoaded bytes old new = AreDigests bytes (rows_of new) × SameSettings old new
 -- the bytes are the list of the key ranges that `diff` may answer on the page ranges that local and peer spell
 abbrev pub IsDiffOf : List ℕ → List ℕ → List ℕ → Type 0
 IsDiffOf local peer bytes =
-    (ls : List (Entry (Vec ℕ) (List ℕ))) × (ps : List (Entry (Vec ℕ) (List ℕ))) × (found : List (Span (Vec ℕ)))
-    × ArePageRanges local ls × ArePageRanges peer ps × IsAnswer key_cmp ls ps found × (bytes ≡ key_ranges_bytes found)
+    (ls : List (Entry (List ℕ) (List ℕ))) × (ps : List (Entry (List ℕ) (List ℕ))) × (found : List (Span (List ℕ)))
+    × ArePageRanges local ls × ArePageRanges peer ps × IsAnswer bytes_cmp ls ps found × (bytes ≡ key_ranges_bytes found)
 
 -- an entry by the bytes of its keys
 abbrev pub entry_by_bytes : Entry (Vec ℕ) (List ℕ) → Entry (List ℕ) (List ℕ)
 entry_by_bytes e = record { first = e.first.items; last = e.last.items; digest = e.digest }
 
--- a range of keys by their bytes
-abbrev pub span_by_bytes : Span (Vec ℕ) → Span (List ℕ)
-span_by_bytes s = record { first = s.first.items; last = s.last.items }
+-- the page ranges of a tree, by the bytes of their keys
+abbrev pub page_ranges_of : ByteState → List (Entry (List ℕ) (List ℕ))
+page_ranges_of s = map entry_by_bytes (ranges_of s.format bytes_of s.root)

@@ -6,9 +6,8 @@ ghost use Rattle.merkle_tree_theory.specs.Dropped.{RemovalDropsFew};
 ghost use Rattle.merkle_tree_theory.specs.Hashed.{IsHashed};
 ghost use Rattle.merkle_tree_theory.specs.State.{IsNew, map_of};
 ghost use Rattle.merkle_tree_theory.specs.Stream.{page_digest};
-ghost use Rattle.merkle_tree_theory.specs.Ranges.{ranges_of};
 ghost use Rattle.merkle_search_tree.specs.Loading.{row_count};
-ghost use Rattle.mst_c.specs.Lists.{AreDigests, AreLoaded, ArePageRanges, AreRows, HasPairs, IsLoaded};
+ghost use Rattle.mst_c.specs.Lists.{AreDigests, AreLoaded, ArePageRanges, AreRows, HasPairs, IsLoaded, page_ranges_of};
 ghost use Rattle.mst_c.specs.Pages.{pages_bytes};
 ghost use Rattle.mst_c.specs.Trees.{bytes_cmp, bytes_of, key_cmp, SameRows, IsSet, IsSetTo, SetDropsFew, IsDel, IsCopied, rows_of};
 ghost use Rattle.mst_c.specs.Wire.{digests_bytes};
@@ -191,7 +190,7 @@ impl ByteTree {
 
     /// The ranges of all pages, as bytes.
     pub fn page_ranges(&mut self, alloc: Global) -> Result<Vec<u8>, AllocError>
-        ensures ranges { IfOk result (λ out. ArePageRanges out.items (ranges_of self.new.tree.format bytes_of self.new.tree.root)) }
+        ensures ranges { IfOk result (λ out. ArePageRanges out.items (page_ranges_of self.new.tree)) }
         ensures kept { SameRows self.old.tree self.new.tree }
         ensures hashed { IsHashed bytes_of self.old.tree self.new.tree }
     {

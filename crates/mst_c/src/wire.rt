@@ -4,14 +4,15 @@
 //! its length and its bytes, and behind them, in a list of page ranges, the 16 bytes of the page's digest; in a list of rows it is a
 //! key and a value. A number is eight bytes, the lowest first.
 
-ghost use Rattle.std.specs.Prelude.{◌≡◌, ◌++◌, OnOk, IfOk};
+ghost use Rattle.std.specs.Prelude.{◌≡◌, ◌++◌, OnOk, IfOk, map};
 ghost use Rattle.merkle_diff.specs.DiffRange.{span, spans};
 ghost use Rattle.merkle_diff.specs.PageRange.{entry, entries};
 ghost use Rattle.merkle_tree_theory.specs.Page.{pair_of};
-ghost use Rattle.mst_c.specs.Lists.{ArePageRanges, IsPageRange};
+ghost use Rattle.mst_c.specs.Lists.{ArePageRanges, IsPageRange, entry_by_bytes};
 ghost use Rattle.mst_c.specs.Trees.{by_bytes};
 ghost use Rattle.mst_c.specs.Wire.{number_bytes, text_bytes, digest_bytes, entry_bytes, span_bytes, key_ranges_bytes};
 
+use crate::key::Key;
 use merkle_diff::{DiffRange, PageRange};
 use merkle_search_tree::Node;
 use std::alloc::{AllocError, Global};
@@ -50,8 +51,8 @@ pub fn put_text(text: &[u8], out: &mut Vec<u8>) -> Result<(), AllocError>
 
 /// Writes a page range.
 fn put_range(range: &PageRange<'_, Vec<u8>>, out: &mut Vec<u8>) -> Result<(), AllocError>
-    ensures written { OnOk result (out.new.items ≡ out.old.items ++ entry_bytes (entry range.now)) }
-    ensures range { OnOk result (IsPageRange (entry range.now)) }
+    ensures written { OnOk result (out.new.items ≡ out.old.items ++ entry_bytes (entry_by_bytes (entry range.now))) }
+    ensures range { OnOk result (IsPageRange (entry_by_bytes (entry range.now))) }
 {
     put_text(range.start().as_slice(), out)?;
     put_text(range.end().as_slice(), out)?;
@@ -59,11 +60,11 @@ fn put_range(range: &PageRange<'_, Vec<u8>>, out: &mut Vec<u8>) -> Result<(), Al
 }
 
 /// Writes a range of keys.
-fn put_found(range: &DiffRange<'_, Vec<u8>>, out: &mut Vec<u8>) -> Result<(), AllocError>
+fn put_found(range: &DiffRange<'_, Key<'_>>, out: &mut Vec<u8>) -> Result<(), AllocError>
     ensures { OnOk result (out.new.items ≡ out.old.items ++ span_bytes (span range.now)) }
 {
-    put_text(range.start().as_slice(), out)?;
-    put_text(range.end().as_slice(), out)
+    put_text(range.start().bytes(), out)?;
+    put_text(range.end().bytes(), out)
 }
 
 /// Writes the key of a node and the digest of its value.
@@ -76,7 +77,7 @@ pub fn put_digest(node: &Node<16, Vec<u8>>, out: &mut Vec<u8>) -> Result<(), All
 
 /// The page ranges as bytes.
 pub fn encode(alloc: Global, ranges: &[PageRange<'_, Vec<u8>>]) -> Result<Vec<u8>, AllocError>
-    ensures { IfOk result (λ out. ArePageRanges out.items (entries ranges.now)) }
+    ensures { IfOk result (λ out. ArePageRanges out.items (map entry_by_bytes (entries ranges.now))) }
 {
     let mut out = Vec::new(alloc);
     put(&PAGE_RANGES, &mut out)?;
@@ -88,7 +89,7 @@ pub fn encode(alloc: Global, ranges: &[PageRange<'_, Vec<u8>>]) -> Result<Vec<u8
 }
 
 /// The ranges of keys as bytes.
-pub fn encode_found(alloc: Global, found: &[DiffRange<'_, Vec<u8>>]) -> Result<Vec<u8>, AllocError>
+pub fn encode_found(alloc: Global, found: &[DiffRange<'_, Key<'_>>]) -> Result<Vec<u8>, AllocError>
     ensures { IfOk result (λ out. out.items ≡ key_ranges_bytes (spans found.now)) }
 {
     let mut out = Vec::new(alloc);
