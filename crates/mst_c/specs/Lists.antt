@@ -1,9 +1,9 @@
 -- What bytes spell, and what is made of it.
-use Rattle.std.specs.Prelude.{◌≡◌, ℕ, List, length, map}
+use Rattle.std.specs.Prelude.{◌≡◌, ℕ, ◌<◌, ◌≤◌, List, [], ◌∷◌, length, map, take}
 use Rattle.std.specs.Global.{Vec}
-use Rattle.std.specs.List.{AllByRecursion}
+use Rattle.std.specs.List.{AllByRecursion, flat_map}
 use Rattle.key_order.specs.Interval.{Span}
-use Rattle.key_order.specs.Map.{IsMap}
+use Rattle.key_order.specs.Map.{IsMap, set}
 use Rattle.key_order.specs.Order.{Upto}
 use Rattle.merkle_digest.specs.SipHash.{siphash128}
 use Rattle.merkle_diff.specs.Difference.{IsAnswer}
@@ -12,7 +12,7 @@ use Rattle.merkle_search_tree.specs.Loading.{digests}
 use Rattle.merkle_tree_theory.specs.Ranges.{ranges_of}
 use Rattle.merkle_tree_theory.specs.State.{SameSettings, map_of}
 use Rattle.mst_c.specs.Trees.{ByteState, bytes_cmp, bytes_of, key_cmp, rows_of}
-use Rattle.mst_c.specs.Wire.{page_ranges_bytes, key_ranges_bytes, rows_bytes, digests_bytes}
+use Rattle.mst_c.specs.Wire.{page_ranges_bytes, key_ranges_bytes, row_bytes, rows_bytes, digests_bytes}
 
 -- an entry of a list of page ranges has a digest of 16 bytes, and its first key is at most its last
 abbrev pub IsPageRange : Entry (List ℕ) (List ℕ) → Type 0
@@ -37,6 +37,33 @@ HasPairs pairs old new = (map_of new ≡ pairs) × IsMap key_cmp pairs × SameSe
 -- the map is the rows that the bytes spell, each with the digest of its value, and the settings stay
 abbrev pub IsLoaded : List ℕ → ByteState → ByteState → Type 0
 IsLoaded bytes old new = (rows : List (List ℕ × List ℕ)) × AreRows bytes rows × (rows_of new ≡ digests (siphash128 old.hasher.key) rows) × SameSettings old new
+
+-- the bytes are so many rows, whatever the order of their keys
+abbrev pub AreManyRows : ℕ → List ℕ → Type 0
+AreManyRows count bytes = (rows : List (List ℕ × List ℕ)) × (length rows ≡ count) × (bytes ≡ flat_map row_bytes rows)
+
+-- the map with these rows set one after the other, each to the digest of its value
+abbrev pub set_rows : (List ℕ → List ℕ) → List (List ℕ × List ℕ) → List (List ℕ × List ℕ) → List (List ℕ × List ℕ)
+set_rows hash pairs [] = pairs
+set_rows hash pairs (r ∷ rs) = set_rows hash (set bytes_cmp pairs r.0 (hash r.1)) rs
+
+-- the map has these rows set one after the other, and the settings stay
+pub record AreSet (rows : List (List ℕ × List ℕ)) (old new : ByteState) : Type 0 where
+  pub pairs : rows_of new ≡ set_rows (siphash128 old.hasher.key) (rows_of old) rows
+  pub settings : SameSettings old new
+
+-- the bytes are so many rows, of which the first `done` were set
+abbrev pub AreSetOf : ℕ → List ℕ → ℕ → ByteState → ByteState → Type 0
+AreSetOf count bytes done old new =
+    (rows : List (List ℕ × List ℕ)) × (length rows ≡ count) × (bytes ≡ flat_map row_bytes rows) × (done ≤ count) × AreSet (take done rows) old new
+
+-- the rows that the bytes spell, whatever the order of their keys, were all set, and there are so many of them
+abbrev pub AllSet : List ℕ → ℕ → ByteState → ByteState → Type 0
+AllSet bytes count old new = (rows : List (List ℕ × List ℕ)) × (bytes ≡ rows_bytes rows) × (count ≡ length rows) × AreSet rows old new
+
+-- of the rows that the bytes spell the first so many were set, and not all
+abbrev pub FirstSet : List ℕ → ℕ → ByteState → ByteState → Type 0
+FirstSet bytes count old new = (rows : List (List ℕ × List ℕ)) × (bytes ≡ rows_bytes rows) × (count < length rows) × AreSet (take count rows) old new
 
 -- the bytes are the list of these keys, which ascend, each with 16 bytes of digest
 abbrev pub AreDigests : List ℕ → List (List ℕ × List ℕ) → Type 0

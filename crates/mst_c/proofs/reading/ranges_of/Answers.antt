@@ -1,4 +1,4 @@
-use Rattle.std.proofs.Common.{rules, arith, ◌≡◌, ◌<◌, ◌^◌, length, sym, ap, ◌∙◌}
+use Rattle.std.proofs.Common.{rules, arith, ◌<◌, ◌^◌, length, sym, ap, ◌∙◌}
 use Rattle.merkle_diff.specs.OwnedPageRange.{owned_entries}
 use Rattle.mst_c.specs.Lists.{IsPageRange}
 use Rattle.mst_c.specs.Wire.{entry_bytes}
