@@ -130,19 +130,19 @@ int mst_tree_root_hash(struct mst_tree *tree, uint8_t out[16]);
 
 /* Writes the page ranges of a tree as a list (below), which may be sent to a peer as it is, and how many bytes they are. To learn
  * that number alone, give an `out_len` of 0, which answers MST_TOO_SHORT. It hashes what mst_tree_root_hash would, where it answers
- * MST_TOO_SHORT or MST_NO_MEMORY too. MST_TOO_SHORT; MST_NO_MEMORY; MST_BAD_ARGUMENT. Time and memory in proportion to the list,
- * which is made also where its length alone is asked for. */
+ * MST_TOO_SHORT or MST_NO_MEMORY too. MST_TOO_SHORT; MST_NO_MEMORY; MST_BAD_ARGUMENT. Time and memory in proportion to the list; where
+ * its length alone is asked for, time in proportion to the number of pages, and one request for memory, for the way down to them. */
 int mst_tree_page_ranges(struct mst_tree *tree, uint8_t *out, size_t out_len, size_t *needed);
 
 /* Writes the keys of a tree in their order, each with the digest of its value, as a list of digests (below), and how many bytes that
  * is (an `out_len` of 0 as above). It hashes nothing, and the tree is as before. MST_TOO_SHORT; MST_NO_MEMORY; MST_BAD_ARGUMENT. Time
- * and memory in proportion to the list. */
+ * and memory in proportion to the list, which is made also where its length alone is asked for. */
 int mst_tree_digests(struct mst_tree *tree, uint8_t *out, size_t out_len, size_t *needed);
 
 /* Writes the pages of a tree as they are, each before those below it, and their keys, as a list of pages (below), and how many bytes that
  * is (an `out_len` of 0 as above): for a picture of the tree, or for tests. It hashes nothing, so that a page which changed since the last
- * root hash has no digest in the list, and the tree is as before. MST_TOO_SHORT; MST_NO_MEMORY; MST_BAD_ARGUMENT. Time and memory in
- * proportion to the list. */
+ * root hash has no digest in the list, and the tree is as before. MST_TOO_SHORT; MST_NO_MEMORY; MST_BAD_ARGUMENT. Time and memory as for
+ * mst_tree_digests. */
 int mst_tree_pages(struct mst_tree *tree, uint8_t *out, size_t out_len, size_t *needed);
 
 /* Compares two lists of page ranges, one's own and a peer's, and writes the ranges of keys to ask the peer for, as a list of key

@@ -176,12 +176,15 @@ static const struct { uint8_t step, level_base; unsigned size, text_ranges, vect
     {1, 4, 2000, 388, 392, "9f42d3adce3a690d472178b759b9ffc4", "6fd76cc7c1630be4ba10aa9a571b0386"},
 };
 
-/* The page ranges of a tree: so many, the first of them with the digest of the root page. No step over them takes memory. */
+/* The page ranges of a tree: so many, the first of them with the digest of the root page. No step over them takes memory, and their length
+ * alone takes one request. */
 static void are_ranges(struct mst_tree *tree, unsigned ranges) {
-    size_t len, place = 0;
+    size_t len, needed, place = 0;
     unsigned found = 0;
     struct mst_range range;
     uint8_t *list = page_ranges(tree, &len), root[16];
+    made = 0;
+    WANT(mst_tree_page_ranges(tree, NULL, 0, &needed) == MST_TOO_SHORT && needed == len && made == (ranges > 0));
     made = 0;
     WANT(mst_tree_root_hash(tree, root) == MST_DONE);
     while (mst_ranges_next(list, len, &place, &range) == MST_DONE) {
@@ -674,7 +677,9 @@ static void a_life(char text[33], int *refused) {
         size_t key_len = key_of(key, i);
         AGAIN(mst_tree_remove(&copy, key, key_len));
     }
+    while (mst_tree_page_ranges(&tree, NULL, 0, &needed) == MST_NO_MEMORY) (*refused)++;
     AGAIN(mst_tree_page_ranges(&tree, own, sizeof own, &own_len));
+    WANT(needed == own_len);
     AGAIN(mst_tree_page_ranges(&copy, other, sizeof other, &other_len));
     AGAIN(mst_tree_digests(&copy, asked, sizeof asked, &needed));
     WANT(needed == 12 + 40 * (8 + 5 + 16));

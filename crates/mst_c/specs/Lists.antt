@@ -22,6 +22,10 @@ IsPageRange e = (length e.digest ≡ 16) × Upto bytes_cmp e.first e.last
 abbrev pub ArePageRanges : List ℕ → List (Entry (List ℕ) (List ℕ)) → Type 0
 ArePageRanges bytes es = (bytes ≡ page_ranges_bytes es) × AllByRecursion IsPageRange es
 
+-- the list of these page ranges has so many bytes, and some it has
+abbrev pub IsLengthOf : List (Entry (List ℕ) (List ℕ)) → ℕ → Type 0
+IsLengthOf es len = (0 < len) × ((bytes : List ℕ) × ArePageRanges bytes es × (len ≡ length bytes))
+
 -- a key and 16 bytes of digest
 abbrev pub HasDigest : List ℕ × List ℕ → Type 0
 HasDigest row = length row.1 ≡ 16

@@ -7,7 +7,7 @@ ghost use Rattle.merkle_tree_theory.specs.Hashed.{IsHashed};
 ghost use Rattle.merkle_tree_theory.specs.State.{IsNew, map_of};
 ghost use Rattle.merkle_tree_theory.specs.Stream.{page_digest};
 ghost use Rattle.merkle_search_tree.specs.Loading.{row_count};
-ghost use Rattle.mst_c.specs.Lists.{AllSet, AreDigests, AreLoaded, AreManyRows, ArePageRanges, AreRows, AreSetOf, FirstSet, HasPairs, IsLoaded, page_ranges_of};
+ghost use Rattle.mst_c.specs.Lists.{AllSet, AreDigests, AreLoaded, AreManyRows, ArePageRanges, AreRows, AreSetOf, FirstSet, HasPairs, IsLengthOf, IsLoaded, page_ranges_of};
 ghost use Rattle.mst_c.specs.Pages.{pages_bytes};
 ghost use Rattle.mst_c.specs.Trees.{bytes_cmp, bytes_of, key_cmp, SameRows, IsSet, IsSetTo, SetDropsFew, IsDel, IsCopied, rows_of};
 ghost use Rattle.mst_c.specs.Wire.{digests_bytes, rows_bytes};
@@ -17,7 +17,7 @@ use crate::byte_hasher::ByteHasher;
 use crate::entries::is_list;
 use crate::reading::{ReadError, body_of, decode_digests, decode_rows, pair_of};
 use crate::walk::Pages;
-use crate::wire::{DIGESTS, ROWS, encode, put, put_digest, put_number};
+use crate::wire::{DIGESTS, ROWS, encode, encoded_len, put, put_digest, put_number};
 use merkle_search_tree::builder::{Builder, PageFormat};
 use merkle_search_tree::{LoadRefused, MerkleSearchTree};
 use std::alloc::{AllocError, Global};
@@ -233,6 +233,19 @@ impl ByteTree {
         match self.tree.serialise_page_ranges()? {
             Some(ranges) => encode(alloc, &ranges),
             None => encode(alloc, &[]),
+        }
+    }
+
+    /// How many bytes the ranges of all pages are. It takes no memory for them.
+    pub fn page_ranges_len(&mut self) -> Result<usize, AllocError>
+        ensures len { IfOk result (λ len. IsLengthOf (page_ranges_of self.new.tree) len) }
+        ensures kept { SameRows self.old.tree self.new.tree }
+        ensures hashed { IsHashed bytes_of self.old.tree self.new.tree }
+    {
+        let _ = self.root_hash();
+        match self.tree.page_range_iter()? {
+            Some(ranges) => encoded_len(ranges),
+            None => Err(AllocError),
         }
     }
 

@@ -4,7 +4,7 @@ ghost use Rattle.merkle_tree_theory.specs.Hashed.{IsHashed};
 ghost use Rattle.merkle_tree_theory.specs.Stream.{page_digest};
 ghost use Rattle.merkle_diff.specs.Entry.{Entry};
 ghost use Rattle.mst_c.specs.Handles.{HasTree, Changes, IsOutput, IsShort};
-ghost use Rattle.mst_c.specs.Lists.{ArePageRanges, IsDiffOf, page_ranges_of};
+ghost use Rattle.mst_c.specs.Lists.{ArePageRanges, IsDiffOf, IsLengthOf, page_ranges_of};
 ghost use Rattle.mst_c.specs.Pages.{pages_bytes};
 ghost use Rattle.mst_c.specs.Trees.{bytes_of, rows_of, SameRows};
 ghost use Rattle.mst_c.specs.Wire.{digests_bytes};
@@ -94,9 +94,35 @@ pub extern "C" fn mst_proved_tree_page_ranges(
     ensures argument { (result ≡ 4) ↔ (handle.old.tree ≡ None) }
     ensures status { (result ≡ 0) ⊎ (result ≡ 1) ⊎ (result ≡ 3) ⊎ (result ≡ 4) }
 {
+    if out.is_empty() {
+        return match mem::replace_with(handle, alloc, page_ranges_len) {
+            Ok(len) => {
+                *needed = len;
+                SHORT
+            }
+            Err(status) => status,
+        };
+    }
     match mem::replace_with(handle, alloc, page_ranges) {
         Ok(bytes) => put_bytes(bytes.as_slice(), out, needed),
         Err(status) => status,
+    }
+}
+
+fn page_ranges_len(handle: MstTree, alloc: Global) -> (MstTree, Result<usize, u32>)
+    ensures len { IfOk result.1 (λ len. HasTree result.0.tree (λ s. IsLengthOf (page_ranges_of s) len)) }
+    ensures kept { handle.tree ≢ None → Changes handle.tree result.0.tree SameRows }
+    ensures hashed { handle.tree ≢ None → Changes handle.tree result.0.tree (IsHashed bytes_of) }
+    ensures no_tree { handle.tree ≡ None → result.0.tree ≡ None }
+    ensures argument { (result.1 ≡ Err 4) ↔ (handle.tree ≡ None) }
+    ensures refused { IfErr result.1 (λ status. (status ≡ 1) ⊎ (status ≡ 4)) }
+{
+    let Some(mut held) = handle.into_box() else {
+        return (MstTree::empty(alloc), Err(ARGUMENT));
+    };
+    match held.page_ranges_len() {
+        Ok(len) => (MstTree::of_box(held), Ok(len)),
+        Err(_) => (MstTree::of_box(held), Err(MEMORY)),
     }
 }
 

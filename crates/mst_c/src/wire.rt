@@ -4,18 +4,21 @@
 //! its length and its bytes, and behind them, in a list of page ranges, the 16 bytes of the page's digest; in a list of rows it is a
 //! key and a value. A number is eight bytes, the lowest first.
 
-ghost use Rattle.std.specs.Prelude.{◌≡◌, ◌++◌, OnOk, IfOk, map};
+ghost use Rattle.std.specs.Prelude.{◌≡◌, ◌+◌, ◌++◌, OnOk, IfOk, IfSome, length, map};
 ghost use Rattle.merkle_diff.specs.DiffRange.{span, spans};
 ghost use Rattle.merkle_diff.specs.PageRange.{entry, entries};
 ghost use Rattle.merkle_tree_theory.specs.Page.{pair_of};
-ghost use Rattle.mst_c.specs.Lists.{ArePageRanges, IsPageRange, entry_by_bytes};
+ghost use Rattle.mst_c.specs.Lists.{ArePageRanges, IsLengthOf, IsPageRange, entry_by_bytes};
 ghost use Rattle.mst_c.specs.Trees.{by_bytes};
 ghost use Rattle.mst_c.specs.Wire.{number_bytes, text_bytes, digest_bytes, entry_bytes, span_bytes, key_ranges_bytes};
 
 use crate::key::Key;
 use merkle_diff::{DiffRange, PageRange};
-use merkle_search_tree::Node;
+use merkle_search_tree::{Node, PageRangeIter};
 use std::alloc::{AllocError, Global};
+
+/// How many bytes stand in front of the entries of a list: the mark and their number.
+const FRONT: usize = 12;
 
 /// The mark of a list of page ranges.
 pub const PAGE_RANGES: [u8; 4] = *b"MSTp";
@@ -86,6 +89,45 @@ pub fn encode(alloc: Global, ranges: &[PageRange<'_, Vec<u8>>]) -> Result<Vec<u8
         put_range(range, &mut out)?;
     }
     Ok(out)
+}
+
+/// How many bytes page ranges are, as [`encode`] writes them, of which none is written. Refused beyond what memory can have.
+pub fn encoded_len(ranges: PageRangeIter<'_, 16, Vec<u8>>) -> Result<usize, AllocError>
+    ensures { IfOk result (λ len. IsLengthOf (map entry_by_bytes ranges.entry) len) }
+{
+    let mut len = FRONT;
+    'entries: for range in ranges {
+        len = with_range(len, &range).ok_or(AllocError)?;
+    }
+    Ok(len)
+}
+
+/// The number, and how many bytes a page range is; `None` beyond what a number can be.
+fn with_range(len: usize, range: &PageRange<'_, Vec<u8>>) -> Option<usize>
+    ensures sum { IfSome result (λ sum. sum ≡ len + length (entry_bytes (entry_by_bytes (entry range.now)))) }
+    ensures range { IfSome result (λ sum. IsPageRange (entry_by_bytes (entry range.now))) }
+{
+    let first = with_text(len, range.start().as_slice())?;
+    let last = with_text(first, range.end().as_slice())?;
+    let sum = with_bytes(last, range.hash().as_bytes())?;
+    Some(sum)
+}
+
+/// The number, and how many bytes a string is with its length.
+fn with_text(len: usize, text: &[u8]) -> Option<usize>
+    ensures { IfSome result (λ sum. sum ≡ len + length (text_bytes text.now)) }
+{
+    let behind = len.checked_add(8)?;
+    let sum = with_bytes(behind, text)?;
+    Some(sum)
+}
+
+/// The number, and how many bytes these are.
+fn with_bytes(len: usize, bytes: &[u8]) -> Option<usize>
+    ensures { IfSome result (λ sum. sum ≡ len + length bytes.now) }
+{
+    let sum = len.checked_add(bytes.len())?;
+    Some(sum)
 }
 
 /// The ranges of keys as bytes.
