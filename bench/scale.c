@@ -114,9 +114,11 @@ static void show_lists(struct mst_tree *tree, double each, uint64_t state) {
     uint8_t key[KEY_LEN + 1], out[1 << 12];
     size_t len, other_len, needed;
     uint8_t *list, *other;
-    double start = now();
+    double start;
     list = page_ranges(tree, &len);
-    show("page_ranges", (now() - start) * each / 2);
+    start = now();
+    want(mst_tree_page_ranges(tree, list, len, &len) == MST_DONE, "no page ranges");
+    show("page_ranges", (now() - start) * each);
     show("page_ranges_bytes", (double)len * each);
     next_key(&state, key);
     upsert(tree, key, TWO);

@@ -1,5 +1,6 @@
-/* How long an upsert, a load, a root hash and a list of page ranges take over the boundary, in nanoseconds a key: the best of several
- * rounds, for 100, 1,000, 10,000 and 100,000 keys or for those of the arguments. Keys and rounds are those of the program mst_bench. */
+/* How long an upsert, a load, a root hash, a list of page ranges and a comparison of that list with itself take over the boundary, in
+ * nanoseconds a key: the best of several rounds, for 100, 1,000, 10,000 and 100,000 keys or for those of the arguments. Keys and rounds
+ * are those of the program mst_bench. */
 #define _POSIX_C_SOURCE 199309L
 #include <stdint.h>
 #include <stdio.h>
@@ -74,13 +75,13 @@ static uint8_t *rows_of(char (*keys)[KEY_LEN + 1], size_t count, size_t *len) {
     return rows;
 }
 
-struct times { double upsert, load, root, page_ranges; };
+struct times { double upsert, load, root, page_ranges, diff; };
 
 /* One round of upserts, and what can then be asked of the tree. */
 static void note_upserts(struct times *best, char (*keys)[KEY_LEN + 1], size_t count) {
     struct mst_tree tree = MST_NO_TREE;
-    uint8_t root[16], *list;
-    size_t at, len;
+    uint8_t root[16], *list, found[16];
+    size_t at, len, needed;
     double start;
     int status = MST_DONE;
     want(mst_tree_new(&tree) == MST_DONE, "no tree");
@@ -97,6 +98,9 @@ static void note_upserts(struct times *best, char (*keys)[KEY_LEN + 1], size_t c
     start = now();
     want(mst_tree_page_ranges(&tree, list, len, &len) == MST_DONE, "no page ranges");
     note(&best->page_ranges, start);
+    start = now();
+    want(mst_diff(list, len, list, len, found, sizeof found, &needed) == MST_DONE, "no comparison");
+    note(&best->diff, start);
     free(list);
     mst_tree_free(&tree);
 }
@@ -113,7 +117,7 @@ static void note_load(struct times *best, const uint8_t *rows, size_t len) {
 
 static void write_line(size_t count) {
     size_t rounds = 400000 / count, round, len;
-    struct times best = {1e18, 1e18, 1e18, 1e18};
+    struct times best = {1e18, 1e18, 1e18, 1e18, 1e18};
     char(*keys)[KEY_LEN + 1] = keys_of(count);
     double each = 1.0 / (double)count;
     uint8_t *rows;
@@ -122,7 +126,8 @@ static void write_line(size_t count) {
     for (round = 0; round < rounds; round++) note_upserts(&best, keys, count);
     rows = rows_of(keys, count, &len);
     for (round = 0; round < rounds; round++) note_load(&best, rows, len);
-    printf("%zu %.2f %.2f %.2f %.2f\n", count, best.upsert * each, best.load * each, best.root * each, best.page_ranges * each);
+    printf("%zu %.2f %.2f %.2f %.2f %.2f\n", count, best.upsert * each, best.load * each, best.root * each, best.page_ranges * each,
+           best.diff * each);
     free(rows);
     free(keys);
 }
@@ -131,7 +136,7 @@ int main(int words, char **word) {
     static const size_t COUNTS[] = {100, 1000, 10000, 100000};
     size_t at;
     int next;
-    puts("keys upsert_ns load_ns root_ns page_ranges_ns");
+    puts("keys upsert_ns load_ns root_ns page_ranges_ns diff_ns");
     for (next = 1; next < words; next++) {
         long count = strtol(word[next], NULL, 10);
         want(count > 0, "usage: bench [NUMBER OF KEYS]..");

@@ -16,6 +16,7 @@ uint32_t mst_proved_tree_len(struct mst_tree *, size_t *);
 uint32_t mst_proved_tree_find(struct mst_tree *, const uint8_t *, size_t, struct bytes16 *);
 uint32_t mst_proved_tree_upsert(struct mst_tree *, const uint8_t *, size_t, const uint8_t *, size_t);
 uint32_t mst_proved_tree_upsert_digest(struct mst_tree *, const uint8_t *, size_t, const struct bytes16 *);
+uint32_t mst_proved_tree_upsert_rows(struct mst_tree *, const uint8_t *, size_t, size_t *);
 uint32_t mst_proved_tree_remove(struct mst_tree *, const uint8_t *, size_t);
 uint32_t mst_proved_tree_load(struct mst_tree *, const uint8_t *, size_t);
 uint32_t mst_proved_tree_load_digests(struct mst_tree *, const uint8_t *, size_t);
@@ -94,6 +95,13 @@ int mst_tree_upsert_digest(struct mst_tree *tree, const uint8_t *key, size_t key
     POINTER(digest);
     BYTES(key, key_len);
     return (int)mst_proved_tree_upsert_digest(tree, key, key_len, (const struct bytes16 *)digest);
+}
+
+int mst_tree_upsert_rows(struct mst_tree *tree, const uint8_t *rows, size_t rows_len, size_t *done) {
+    POINTER(tree);
+    POINTER(done);
+    BYTES(rows, rows_len);
+    return (int)mst_proved_tree_upsert_rows(tree, rows, rows_len, done);
 }
 
 int mst_tree_remove(struct mst_tree *tree, const uint8_t *key, size_t key_len) {

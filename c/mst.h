@@ -2,7 +2,8 @@
  * of the tree alone, and what two stores need to bring each other up to date by the ranges of their pages, one for some sixteen keys.
  *
  * Every call but mst_tree_free answers one of the statuses below, and none aborts. A call that doesn't answer MST_DONE leaves the map
- * as it was, and what it would write to; but where it answers MST_TOO_SHORT, *needed is written. A null pointer where the call needs
+ * as it was, and what it would write to; but where it answers MST_TOO_SHORT, *needed is written, and where mst_tree_upsert_rows is
+ * refused memory, the rows in front are set, and *done tells how many. A null pointer where the call needs
  * something to point to is MST_BAD_ARGUMENT, and so is a length above PTRDIFF_MAX; where a length is 0, its pointer may be null.
  *
  * What the caller owes, since no call can test it: a length is at most that of the memory behind its pointer; a handle is changed
@@ -32,7 +33,7 @@ const char *mst_version(void);
 enum {
     MST_DONE = 0,         /* the call did what it is for */
     MST_NO_MEMORY = 1,    /* memory was refused; the same call may be made again */
-    MST_MALFORMED = 2,    /* the bytes are no list of the kind that the call takes, or its rows don't ascend */
+    MST_MALFORMED = 2,    /* the bytes are no list of the kind that the call takes, or its rows don't ascend where they have to */
     MST_TOO_SHORT = 3,    /* `out` is too short, and is as before; *needed says how many bytes it takes */
     MST_BAD_ARGUMENT = 4, /* an argument isn't one that the call takes */
     MST_ABSENT = 5        /* there is no such key, or no further range or row */
@@ -89,6 +90,13 @@ int mst_tree_upsert(struct mst_tree *tree, const uint8_t *key, size_t key_len, c
  * in one way. MST_NO_MEMORY; MST_BAD_ARGUMENT. Time as for mst_tree_upsert, and none for the value. */
 int mst_tree_upsert_digest(struct mst_tree *tree, const uint8_t *key, size_t key_len, const uint8_t digest[16]);
 
+/* Sets the rows of a list of rows (below) one after the other, each as mst_tree_upsert does, and writes how many were set. They come in
+ * any order, over what the tree has, and of rows with one key the last stays. MST_NO_MEMORY where memory is refused for a row: *done rows
+ * in front of it were set, and neither it nor those behind it; the same call may be made again. MST_MALFORMED where it is no list of
+ * rows, and then none is set; MST_BAD_ARGUMENT. The list is read twice and not kept. Time and memory for each row as for
+ * mst_tree_upsert; where rows that ascend are to be the whole map, mst_tree_load takes less of both. */
+int mst_tree_upsert_rows(struct mst_tree *tree, const uint8_t *rows, size_t rows_len, size_t *done);
+
 /* Takes a key out. MST_ABSENT where the tree has no such key, and then it is as before, digests included; MST_NO_MEMORY, since the
  * key is copied first; MST_BAD_ARGUMENT. Time as for mst_tree_upsert. */
 int mst_tree_remove(struct mst_tree *tree, const uint8_t *key, size_t key_len);
@@ -122,27 +130,27 @@ int mst_tree_root_hash(struct mst_tree *tree, uint8_t out[16]);
 
 /* Writes the page ranges of a tree as a list (below), which may be sent to a peer as it is, and how many bytes they are. To learn
  * that number alone, give an `out_len` of 0, which answers MST_TOO_SHORT. It hashes what mst_tree_root_hash would, where it answers
- * MST_TOO_SHORT or MST_NO_MEMORY too. MST_TOO_SHORT; MST_NO_MEMORY; MST_BAD_ARGUMENT. Time and memory in proportion to the list,
- * which is made also where its length alone is asked for. */
+ * MST_TOO_SHORT or MST_NO_MEMORY too. MST_TOO_SHORT; MST_NO_MEMORY; MST_BAD_ARGUMENT. Time and memory in proportion to the list; where
+ * its length alone is asked for, time in proportion to the number of pages, and one request for memory, for the way down to them. */
 int mst_tree_page_ranges(struct mst_tree *tree, uint8_t *out, size_t out_len, size_t *needed);
 
 /* Writes the keys of a tree in their order, each with the digest of its value, as a list of digests (below), and how many bytes that
  * is (an `out_len` of 0 as above). It hashes nothing, and the tree is as before. MST_TOO_SHORT; MST_NO_MEMORY; MST_BAD_ARGUMENT. Time
- * and memory in proportion to the list. */
+ * and memory in proportion to the list, which is made also where its length alone is asked for. */
 int mst_tree_digests(struct mst_tree *tree, uint8_t *out, size_t out_len, size_t *needed);
 
 /* Writes the pages of a tree as they are, each before those below it, and their keys, as a list of pages (below), and how many bytes that
  * is (an `out_len` of 0 as above): for a picture of the tree, or for tests. It hashes nothing, so that a page which changed since the last
- * root hash has no digest in the list, and the tree is as before. MST_TOO_SHORT; MST_NO_MEMORY; MST_BAD_ARGUMENT. Time and memory in
- * proportion to the list. */
+ * root hash has no digest in the list, and the tree is as before. MST_TOO_SHORT; MST_NO_MEMORY; MST_BAD_ARGUMENT. Time and memory as for
+ * mst_tree_digests. */
 int mst_tree_pages(struct mst_tree *tree, uint8_t *out, size_t out_len, size_t *needed);
 
 /* Compares two lists of page ranges, one's own and a peer's, and writes the ranges of keys to ask the peer for, as a list of key
  * ranges, and how many bytes that is (an `out_len` of 0 as above). The ranges ascend, and no two meet. They may hold many more keys
  * than differ, and there may be none though the root hashes differ: pulls by turns go on until the root hashes are equal. The peer's
  * list may be any bytes. MST_TOO_SHORT; MST_MALFORMED where one of them is no list of page ranges; MST_NO_MEMORY; MST_BAD_ARGUMENT.
- * Memory in proportion to both lists, and time too but for a sort of the ranges in which they differ: as much where the length alone
- * is asked for. */
+ * No key is copied: memory in proportion to the number of ranges of both lists and to the answer, and time in proportion to both lists
+ * but for a sort of the ranges in which they differ: as much where the length alone is asked for. */
 int mst_diff(const uint8_t *local, size_t local_len, const uint8_t *peer, size_t peer_len, uint8_t *out, size_t out_len,
              size_t *needed);
 

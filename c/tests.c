@@ -107,6 +107,14 @@ static size_t add_number(uint8_t *out, uint64_t number) {
     return 8;
 }
 
+static size_t add_row(uint8_t *out, unsigned number, uint64_t value) {
+    size_t len = key_of(out + 8, number);
+    add_number(out, len);
+    add_number(out + 8 + len, 8);
+    value_of(out + 8 + len + 8, value);
+    return 8 + len + 8 + 8;
+}
+
 /* The rows of that many keys as a list; two keys change places where that is asked. */
 static size_t row_list(uint8_t *out, unsigned size, int swapped) {
     size_t at = 12;
@@ -115,14 +123,7 @@ static size_t row_list(uint8_t *out, unsigned size, int swapped) {
     add_number(out + 4, size);
     for (i = 0; i < size; i++) {
         unsigned number = swapped && i < 2 ? 1 - i : i;
-        uint8_t key[16];
-        size_t len = key_of(key, number);
-        at += add_number(out + at, len);
-        memcpy(out + at, key, len);
-        at += len;
-        at += add_number(out + at, 8);
-        value_of(out + at, number);
-        at += 8;
+        at += add_row(out + at, number, number);
     }
     return at;
 }
@@ -175,12 +176,15 @@ static const struct { uint8_t step, level_base; unsigned size, text_ranges, vect
     {1, 4, 2000, 388, 392, "9f42d3adce3a690d472178b759b9ffc4", "6fd76cc7c1630be4ba10aa9a571b0386"},
 };
 
-/* The page ranges of a tree: so many, the first of them with the digest of the root page. No step over them takes memory. */
+/* The page ranges of a tree: so many, the first of them with the digest of the root page. No step over them takes memory, and their length
+ * alone takes one request. */
 static void are_ranges(struct mst_tree *tree, unsigned ranges) {
-    size_t len, place = 0;
+    size_t len, needed, place = 0;
     unsigned found = 0;
     struct mst_range range;
     uint8_t *list = page_ranges(tree, &len), root[16];
+    made = 0;
+    WANT(mst_tree_page_ranges(tree, NULL, 0, &needed) == MST_TOO_SHORT && needed == len && made == (ranges > 0));
     made = 0;
     WANT(mst_tree_root_hash(tree, root) == MST_DONE);
     while (mst_ranges_next(list, len, &place, &range) == MST_DONE) {
@@ -233,6 +237,39 @@ static void roots_and_loads(void) {
             is_tree(&tree, 500, BASES[at].ranges, format == 1 ? BASES[at].first : BASES[at].second);
         }
     }
+}
+
+/* ---- rows that are set in some order, each key first with another value: over nothing, over other values, and over themselves */
+static size_t rows_by_steps(uint8_t *out, unsigned size, unsigned step) {
+    size_t at = 12;
+    unsigned i;
+    memcpy(out, "MSTr", 4);
+    add_number(out + 4, 2 * size);
+    for (i = 0; i < size; i++) at += add_row(out + at, i, i + 1);
+    for (i = 0; i < size; i++) at += add_row(out + at, i * step % size, i * step % size);
+    return at;
+}
+
+static void set_rows(void) {
+    static const unsigned STEPS[] = {1, 7, 0};
+    static uint8_t rows[1 << 17];
+    size_t at, turn, done, len;
+    for (at = 0; at < sizeof ROOTS / sizeof *ROOTS; at++)
+        for (turn = 0; turn < sizeof STEPS / sizeof *STEPS; turn++) {
+            struct mst_tree tree = MST_NO_TREE;
+            unsigned size = ROOTS[at].size, i;
+            len = rows_by_steps(rows, size, STEPS[turn] ? STEPS[turn] : size - 1);
+            squares(&tree, 0, 2);
+            WANT(mst_tree_upsert_rows(&tree, rows, len, &done) == MST_DONE && done == 2 * size && has_root(&tree, ROOTS[at].second));
+            WANT(mst_tree_upsert_rows(&tree, rows, len, &done) == MST_DONE && done == 2 * size && has_root(&tree, ROOTS[at].second));
+            mst_tree_free(&tree);
+            squares(&tree, 0, 1);
+            for (i = 0; i < size; i += 2) WANT(put(&tree, i, i + 3) == MST_DONE);
+            WANT(mst_tree_upsert_rows(&tree, rows, len, &done) == MST_DONE && done == 2 * size && has_root(&tree, ROOTS[at].first));
+            WANT(put(&tree, 9999, 1) == MST_DONE && mst_tree_upsert_rows(&tree, rows, len, &done) == MST_DONE);
+            WANT(mst_tree_len(&tree, &done) == MST_DONE && done == size + 1);
+            mst_tree_free(&tree);
+        }
 }
 
 static void feeds(void) {
@@ -470,6 +507,7 @@ static void bad_arguments(void) {
     BAD(mst_tree_clone(&none, &empty));
     BAD(mst_tree_upsert(&none, key, len, key, len));
     BAD(mst_tree_upsert_digest(&none, key, len, zero_key));
+    BAD(mst_tree_upsert_rows(&none, list, list_len, &count));
     BAD(mst_tree_remove(&none, key, len));
     BAD(mst_tree_digests(&none, out, sizeof out, &needed));
     BAD(mst_tree_pages(&none, out, sizeof out, &needed));
@@ -499,6 +537,9 @@ static void bad_arguments(void) {
     BAD(mst_tree_pages(NULL, out, sizeof out, &needed));
     BAD(mst_tree_pages(&tree, NULL, list_len, &needed));
     BAD(mst_tree_pages(&tree, out, sizeof out, NULL));
+    BAD(mst_tree_upsert_rows(NULL, list, list_len, &count));
+    BAD(mst_tree_upsert_rows(&tree, NULL, 1, &count));
+    BAD(mst_tree_upsert_rows(&tree, list, list_len, NULL));
     BAD(mst_tree_remove(NULL, key, len));
     BAD(mst_tree_remove(&tree, NULL, 1));
     BAD(mst_tree_load(NULL, list, list_len));
@@ -533,6 +574,7 @@ static void bad_arguments(void) {
         BAD(mst_tree_upsert_digest(&tree, key, NO_LENGTHS[i], zero_key));
         BAD(mst_tree_digests(&tree, out, NO_LENGTHS[i], &needed));
         BAD(mst_tree_pages(&tree, out, NO_LENGTHS[i], &needed));
+        BAD(mst_tree_upsert_rows(&tree, list, NO_LENGTHS[i], &count));
         BAD(mst_tree_remove(&tree, key, NO_LENGTHS[i]));
         BAD(mst_tree_load(&tree, list, NO_LENGTHS[i]));
         BAD(mst_tree_load_digests(&tree, list, NO_LENGTHS[i]));
@@ -584,6 +626,8 @@ static void statuses(void) {
     WANT(needed == 12);
     WANT(mst_ranges_next(NULL, 0, &at, &range) == MST_MALFORMED);
     WANT(mst_rows_next(NULL, 0, &at, &row) == MST_MALFORMED);
+    count = 77;
+    WANT(mst_tree_upsert_rows(&tree, NULL, 0, &count) == MST_MALFORMED && count == 77);
     WANT(mst_tree_load(&tree, NULL, 0) == MST_MALFORMED);
     WANT(mst_tree_load_digests(&tree, NULL, 0) == MST_MALFORMED);
     WANT(mst_tree_load(&tree, rows, row_list(rows, 20, 1)) == MST_MALFORMED);
@@ -626,12 +670,16 @@ static void a_life(char text[33], int *refused) {
     AGAIN(mst_tree_load(&tree, rows, len));
     load_ends = made;
     for (i = 40; i < 60; i++) AGAIN(put(&tree, i, i));
+    AGAIN(mst_tree_upsert_rows(&tree, rows, len, &count));
+    WANT(count == 40);
     AGAIN(mst_tree_clone(&tree, &copy));
     for (i = 0; i < 20; i++) {
         size_t key_len = key_of(key, i);
         AGAIN(mst_tree_remove(&copy, key, key_len));
     }
+    while (mst_tree_page_ranges(&tree, NULL, 0, &needed) == MST_NO_MEMORY) (*refused)++;
     AGAIN(mst_tree_page_ranges(&tree, own, sizeof own, &own_len));
+    WANT(needed == own_len);
     AGAIN(mst_tree_page_ranges(&copy, other, sizeof other, &other_len));
     AGAIN(mst_tree_digests(&copy, asked, sizeof asked, &needed));
     WANT(needed == 12 + 40 * (8 + 5 + 16));
@@ -670,6 +718,36 @@ static void refusals(void) {
     WANT(spared < ends - begins);
     refused_at = 0;
     printf("%ld requests for memory, each refused in turn; the loads do without %ld of them\n", all, spared);
+}
+
+/* Each request of a call that sets rows refused in turn: it tells how many were set, and the tree is the one that these make. */
+static void refused_rows(void) {
+    enum { SIZE = 40 };
+    static uint8_t rows[1 << 12];
+    size_t len = row_list(rows, SIZE, 0), before = 0, done, again;
+    long at = 0, stops = 0;
+    int status;
+    do {
+        struct mst_tree tree = MST_NO_TREE, front = MST_NO_TREE;
+        char root[33];
+        WANT(mst_tree_new(&tree) == MST_DONE);
+        made = 0;
+        refused_at = ++at;
+        done = 77;
+        status = mst_tree_upsert_rows(&tree, rows, len, &done);
+        refused_at = 0;
+        WANT(status == MST_NO_MEMORY ? done < SIZE && before <= done : status == MST_DONE && done == SIZE && made < at);
+        stops += done != before;
+        before = done;
+        squares(&front, (unsigned)done, 1);
+        root_text(&front, root);
+        WANT(has_root(&tree, root));
+        WANT(mst_tree_upsert_rows(&tree, rows, len, &again) == MST_DONE && again == SIZE);
+        mst_tree_free(&tree);
+        mst_tree_free(&front);
+    } while (status != MST_DONE);
+    WANT(stops == SIZE);
+    printf("%ld requests for memory for %d rows, each refused in turn\n", at - 1, SIZE);
 }
 
 /* ---- the room of a tree whose keys come level by level: those on level 0, in their order, and then the others in theirs. The keys
@@ -880,7 +958,7 @@ static void ends(const uint8_t *list, size_t len) {
 /* A list that is cut or has a byte too many, or is of another kind, is malformed wherever it is given, and moves and changes nothing. */
 static void cut_lists(struct mst_tree *tree, const uint8_t *own, size_t own_len, const uint8_t *peer, size_t peer_len) {
     static uint8_t rows[1 << 12], digests[1 << 12], asked[1 << 12], more[1 << 12];
-    size_t rows_len = row_list(rows, 40, 0), digests_len = digest_list(digests, 40), asked_len, len, needed, at = 0;
+    size_t rows_len = row_list(rows, 40, 0), digests_len = digest_list(digests, 40), asked_len, len, needed, at = 0, done = 77;
     struct mst_range range;
     struct mst_row row;
     char root[33];
@@ -892,6 +970,7 @@ static void cut_lists(struct mst_tree *tree, const uint8_t *own, size_t own_len,
         if (len != rows_len) {
             const uint8_t *held = before_a_wall(rows, len);
             WANT(mst_tree_load(tree, held, len) == MST_MALFORMED && mst_rows_next(held, len, &at, &row) == MST_MALFORMED && !at);
+            WANT(mst_tree_upsert_rows(tree, held, len, &done) == MST_MALFORMED && done == 77);
         }
     for (len = 0; len <= digests_len + 1; len++)
         if (len != digests_len) {
@@ -905,6 +984,9 @@ static void cut_lists(struct mst_tree *tree, const uint8_t *own, size_t own_len,
     WANT(mst_tree_load(tree, peer, peer_len) == MST_MALFORMED);
     WANT(mst_tree_load(tree, asked, asked_len) == MST_MALFORMED);
     WANT(mst_tree_load(tree, digests, digests_len) == MST_MALFORMED);
+    WANT(mst_tree_upsert_rows(tree, peer, peer_len, &done) == MST_MALFORMED);
+    WANT(mst_tree_upsert_rows(tree, asked, asked_len, &done) == MST_MALFORMED);
+    WANT(mst_tree_upsert_rows(tree, digests, digests_len, &done) == MST_MALFORMED && done == 77);
     WANT(mst_tree_load_digests(tree, rows, rows_len) == MST_MALFORMED);
     WANT(mst_diff(own, own_len, asked, asked_len, NULL, 0, &needed) == MST_MALFORMED);
     WANT(mst_diff(rows, rows_len, peer, peer_len, NULL, 0, &needed) == MST_MALFORMED);
@@ -926,6 +1008,7 @@ static void hostile(void) {
     const uint8_t *held;
     long lists = 0, all;
     unsigned i;
+    int are;
     squares(&tree, 300, 1);
     squares(&other, 300, 1);
     WANT(put(&other, 77, 1) == MST_DONE);
@@ -980,6 +1063,9 @@ static void hostile(void) {
             WANT(row.key + row.key_len <= held + size && row.value + row.value_len <= held + size);
         WANT(mst_tree_load(&tree, held, size) != MST_NO_MEMORY);
         WANT(mst_tree_load_digests(&tree, held, size) != MST_NO_MEMORY);
+        place = 0;
+        are = mst_rows_next(held, size, &place, &row) != MST_MALFORMED && !memcmp(held, "MSTr", 4);
+        WANT(mst_tree_upsert_rows(&tree, held, size, &place) == (are ? MST_DONE : MST_MALFORMED));
     }
     puts("20000 lists of random bytes");
     free(list);
@@ -993,6 +1079,7 @@ static void hostile(void) {
 int main(void) {
     WANT(!strcmp(mst_version(), MST_VERSION));
     roots_and_loads();
+    set_rows();
     feeds();
     difference();
     rows();
@@ -1001,6 +1088,7 @@ int main(void) {
     bad_arguments();
     statuses();
     refusals();
+    refused_rows();
     rooms();
     hostile();
     return 0;

@@ -15,6 +15,7 @@ _CALLS = {
     "mst_tree_free": [_HANDLE],
     "mst_tree_upsert": [_HANDLE, _BYTES, _SIZE, _BYTES, _SIZE],
     "mst_tree_upsert_digest": [_HANDLE, _BYTES, _SIZE, _BYTES],
+    "mst_tree_upsert_rows": [_HANDLE, _BYTES, _SIZE, _OUT],
     "mst_tree_remove": [_HANDLE, _BYTES, _SIZE],
     "mst_tree_load": [_HANDLE, _BYTES, _SIZE],
     "mst_tree_load_digests": [_HANDLE, _BYTES, _SIZE],

@@ -15,6 +15,9 @@ _upsert, _remove = library.mst_tree_upsert, library.mst_tree_remove
 
 _FEEDS = ("bytes", "text", "vector")
 
+# How many rows go over in one call of `update`.
+_MANY = 1000
+
 
 class Page(NamedTuple):
     """A page of a tree: its keys in their order, for each of them the page of the keys between it and the one before, if any, and the page of
@@ -64,7 +67,7 @@ class Tree:
 
     Any thread may use a tree: one call at a time is under way. A tree holds memory outside of Python, which `close`, a `with` statement or
     the collector gives back. ValueError where it is closed, in every call but `close`; MemoryError where memory is refused, and then the
-    tree is as before; TypeError where a key or a value is none of bytes.
+    tree is as before but for `update`; TypeError where a key or a value is none of bytes.
     """
 
     __slots__ = ("_handle", "_address", "_guess", "__weakref__")
@@ -125,9 +128,29 @@ class Tree:
         return True
 
     def update(self, rows: Rows) -> None:
-        """Sets each key of the rows to the digest of its value."""
+        """Sets each key of the rows to the digest of its value, in any order; of rows with one key the last stays. They go over a thousand at a
+        time. Where a row is none of bytes, or memory is refused, some of those in front are set, and none behind.
+
+        >>> tree = Tree({b"kiwi": b"1"})
+        >>> tree.update([(b"melon", b"1"), (b"kiwi", b"2"), (b"melon", b"2")])
+        >>> tree.root_hash() == Tree({b"kiwi": b"2", b"melon": b"2"}).root_hash()
+        True
+        """
+        parts: "List[bytes]" = []
         for key, value in (rows.items() if isinstance(rows, Mapping) else rows):
-            self[key] = value
+            if not (isinstance(key, bytes) and isinstance(value, bytes)):
+                raise TypeError("keys and values are bytes")
+            parts += (_pack(len(key)), key, _pack(len(value)), value)
+            if len(parts) == 4 * _MANY:
+                self._set_rows(parts)
+                parts = []
+        self._set_rows(parts)
+
+    def _set_rows(self, parts: "List[bytes]") -> None:
+        """Sets rows, each of which is four parts of a list."""
+        if parts:
+            data = b"".join([b"MSTr", _pack(len(parts) // 4), *parts])
+            check(library.mst_tree_upsert_rows(self._address, data, len(data), ctypes.byref(ctypes.c_size_t())))
 
     def set_digest(self, key: bytes, digest: bytes) -> None:
         """Sets a key to the digest of a value, by whatever hash function: 16 bytes, which peers that compare trees make in one way."""

@@ -68,6 +68,17 @@ class Roots(unittest.TestCase):
         tree.update(dict(rows[:9]))
         self.assertEqual(tree.root_hash(), squares(500).root_hash())
 
+    def test_many_rows_are_set_in_lists(self):
+        for size in [999, 1000, 1001, 2500]:
+            rows = [row(i) for i in range(size)]
+            random.Random(size).shuffle(rows)
+            tree, one_by_one = Tree({b"more": b"kept", rows[0][0]: b"older"}), squares(size)
+            one_by_one[b"more"] = b"kept"
+            tree.update([(key, b"older") for key, _ in rows] + rows)
+            self.assertEqual((len(tree), tree.root_hash()), (size + 1, one_by_one.root_hash()))
+        tree.update([])
+        self.assertEqual(len(tree), 2501)
+
 
 class Changes(unittest.TestCase):
     def test_the_last_of_equal_keys_stays(self):
@@ -161,6 +172,7 @@ class Changes(unittest.TestCase):
         tree = Tree()
         for key, value in [("text", b""), (b"", "text"), (None, b""), (b"", 3)]:
             self.assertRaises(TypeError, tree.__setitem__, key, value)
+            self.assertRaises(TypeError, tree.update, [(key, value)])
         for key in ["text", None, 3]:
             self.assertRaises(TypeError, tree.discard, key)
             self.assertRaises(TypeError, tree.get_digest, key)

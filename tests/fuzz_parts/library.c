@@ -363,7 +363,29 @@ static void are_one(struct mst_tree *tree, struct mst_tree *other, size_t keys) 
     WANT(mst_tree_len(other, &count) == MST_DONE && count == keys);
 }
 
-/* ---- rows to load, or digests, behind a byte that says into what tree: upserts of them, the last first, make the same one */
+/* ---- rows to load, or digests, behind a byte that says into what tree: upserts of them, the last first, make the same one, and so do rows
+ * that are set by one call, whether they ascend or not */
+static void set_in_one_call(const uint8_t *list, size_t len, uint8_t settings) {
+    static struct listed rows;
+    struct mst_tree tree = MST_NO_TREE, other = MST_NO_TREE;
+    size_t done = 77, i, count;
+    int listed = is_list(list, len, &ROWS, &rows);
+    uint8_t root[16], other_root[16];
+    of_settings(&tree, settings);
+    of_settings(&other, settings);
+    WANT(mst_tree_upsert_rows(&tree, list, len, &done) == (listed ? MST_DONE : MST_MALFORMED));
+    WANT(done == (listed ? rows.count : 77));
+    for (i = 0; listed && i < rows.count; i++) {
+        struct entry *row = &rows.at[i];
+        WANT(mst_tree_upsert(&other, row->first.bytes, row->first.len, row->last.bytes, row->last.len) == MST_DONE);
+    }
+    WANT(mst_tree_root_hash(&tree, root) == MST_DONE && mst_tree_root_hash(&other, other_root) == MST_DONE);
+    WANT(!memcmp(root, other_root, sizeof root));
+    WANT(mst_tree_len(&tree, &count) == MST_DONE && count <= (listed ? rows.count : 0));
+    mst_tree_free(&tree);
+    mst_tree_free(&other);
+}
+
 static void load(const uint8_t *data, size_t len) {
     static struct listed rows;
     struct mst_tree tree = MST_NO_TREE, other = MST_NO_TREE;
@@ -372,6 +394,7 @@ static void load(const uint8_t *data, size_t len) {
     size_t i;
     if (!len) return;
     list = copied(0, data + 1, len - 1);
+    set_in_one_call(list, len - 1, data[0]);
     of_digests = has_front(list, len - 1, &DIGESTS);
     right = are_rows(list, len - 1, of_digests ? &DIGESTS : &ROWS, &rows);
     of_settings(&tree, data[0]);

@@ -66,6 +66,15 @@ class Handles:
         self.at[slot].digests = {key: self.at[slot].settings.digest(value) for key, value in rows}
         return DONE, None
 
+    def upsert_rows(self, slot, given):
+        if not self.at[slot]:
+            return BAD_ARGUMENT, None
+        rows = lists.read(lists.ROWS, given)
+        if rows is None:
+            return MALFORMED, None
+        self.at[slot].digests.update((key, self.at[slot].settings.digest(value)) for key, value in rows)
+        return DONE, len(rows)
+
     def load_digests(self, slot, given):
         if not self.at[slot]:
             return BAD_ARGUMENT, None

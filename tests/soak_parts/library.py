@@ -38,6 +38,7 @@ CALLS = {
     "mst_tree_free": [HANDLE],
     "mst_tree_upsert": [HANDLE, BYTES, SIZE, BYTES, SIZE],
     "mst_tree_upsert_digest": [HANDLE, BYTES, SIZE, BYTES],
+    "mst_tree_upsert_rows": [HANDLE, BYTES, SIZE, WRITTEN],
     "mst_tree_remove": [HANDLE, BYTES, SIZE],
     "mst_tree_load": [HANDLE, BYTES, SIZE],
     "mst_tree_load_digests": [HANDLE, BYTES, SIZE],
@@ -96,6 +97,11 @@ class Trees:
 
     def upsert_digest(self, slot, key, digest):
         return self.library.mst_tree_upsert_digest(self.at[slot], key, len(key), digest), None
+
+    def upsert_rows(self, slot, given):
+        out = SIZE(77)
+        status = self.library.mst_tree_upsert_rows(self.at[slot], given, len(given), out)
+        return (status, out.value) if status == DONE else (status, left(out.value == 77))
 
     def remove(self, slot, key):
         return self.library.mst_tree_remove(self.at[slot], key, len(key)), None
@@ -242,13 +248,15 @@ class Steps:
         return (self.row, self.look, self.exchange, self.lists, self.handle)[kind](self.chosen, self.chosen.randrange(SLOTS))
 
     def row(self, chosen, slot):
-        key, kind = chosen.choice(self.keys), chosen.randrange(10)
+        key, kind = chosen.choice(self.keys), chosen.randrange(11)
         if kind < 5:
             return "upsert", slot, key, chosen.choice(self.values)
         if kind < 7:
             return "upsert_digest", slot, key, bytes([chosen.randrange(3)] * 16)
         if kind < 9:
             return "remove", slot, key
+        if kind < 10:
+            return "upsert_rows", slot, self.rows(chosen)
         return ("load", slot, self.rows(chosen)) if chosen.randrange(2) else ("load_digests", slot, self.digests(chosen))
 
     def rows(self, chosen):

@@ -4,6 +4,7 @@ pub mod Loads
 pub mod Pages
 pub mod Ranges
 pub mod Rows
+pub mod Sets
 pub mod Spots
 pub mod Strings
 mod Goes

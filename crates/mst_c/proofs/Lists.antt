@@ -37,7 +37,7 @@ each_trivial (x ∷ xs) = (tt, each_trivial xs)
 module _ {X : Type 0} (P : X → Type 0) (bytes : X → List ℕ)
     (ends : (x y : X) (r s : List ℕ) → P x → P y → length (bytes x ++ r) < 2 ^ 64 → bytes x ++ r ≡ bytes y ++ s → r ≡ s) where
   -- what is behind some of the entries is the other entries
-  behind : (xs done : List X) (rest : List ℕ) → AllByRecursion P xs → AllByRecursion P done → length done ≤ length xs → length (flat_map bytes xs) < 2 ^ 64
+  pub behind : (xs done : List X) (rest : List ℕ) → AllByRecursion P xs → AllByRecursion P done → length done ≤ length xs → length (flat_map bytes xs) < 2 ^ 64
       → flat_map bytes xs ≡ flat_map bytes done ++ rest → (ys : List X) × AllByRecursion P ys × (length ys + length done ≡ length xs) × (rest ≡ flat_map bytes ys)
   behind xs [] rest ps qs low fits e = (xs, ps, omega arith, sym e)
   behind [] (d ∷ ds) rest ps qs low fits e = absurd (omega arith)

@@ -1,14 +1,13 @@
 -- Rows, page ranges, key ranges and digests as bytes: a list of each is read in one way.
-use Rattle.std.proofs.Common.{◌≡◌, ℕ, ◌<◌, ◌≤◌, ◌^◌, List, ◌++◌, length, map, sym, ap, ◌∙◌, arith}
+use Rattle.std.proofs.Common.{◌≡◌, ℕ, ◌<◌, ◌≤◌, ◌^◌, List, ◌++◌, length, sym, ap, ◌∙◌, arith}
 use Rattle.std.specs.Bool.{⊤}
-use Rattle.std.specs.Global.{Vec}
 use Rattle.std.proofs.lemmas.List.{append_assoc, length-append, map-id}
 use Rattle.std.specs.List.{AllByRecursion, flat_map}
 use Rattle.key_order.specs.Interval.{Span}
 use Rattle.key_order.proofs.ListParts.{join_tells}
 use Rattle.merkle_diff.specs.Entry.{Entry}
 use Rattle.merkle_search_tree.specs.Loading.{row_count}
-use Rattle.mst_c.specs.Lists.{ArePageRanges, HasDigest, IsPageRange, entry_by_bytes, span_by_bytes}
+use Rattle.mst_c.specs.Lists.{ArePageRanges, HasDigest, IsPageRange}
 use Rattle.mst_c.specs.Wire.{digest_bytes, digest_mark, digests_bytes, entry_bytes, key_mark, key_ranges_bytes, list_bytes, number_bytes, page_mark, row_bytes, row_mark, rows_bytes, span_bytes, text_bytes}
 use Rattle.mst_c.proofs.Lists.{each_trivial, list_length, no_more, one_list}
 use Rattle.mst_c.proofs.Strings.{one_row, one_row_with, one_text, some_row}
@@ -25,41 +24,43 @@ one_list_of_rows all xs ys short e f =
     sym (map-id xs) ∙ one_list row_bytes some_row (λ _. ⊤) (λ x. x) one_trivial_row row_mark all xs ys short (each_trivial xs) (each_trivial ys) e f ∙ map-id ys
 
 -- a page range as its keys, and its digest with what is behind
-pub as_row : (e : Entry (Vec ℕ) (List ℕ)) (rest : List ℕ) → entry_bytes e ++ rest ≡ row_bytes (e.first.items, e.last.items) ++ (e.digest ++ rest)
+pub as_row : (e : Entry (List ℕ) (List ℕ)) (rest : List ℕ) → entry_bytes e ++ rest ≡ row_bytes (e.first, e.last) ++ (e.digest ++ rest)
 as_row e rest =
-    let first = text_bytes e.first.items in let last = text_bytes e.last.items in
+    let first = text_bytes e.first in let last = text_bytes e.last in
     append_assoc first (last ++ e.digest) rest ∙ ap (λ t. first ++ t) (append_assoc last e.digest rest) ∙ sym (append_assoc first last (e.digest ++ rest))
 
-one_entry : (e f : Entry (Vec ℕ) (List ℕ)) (r s : List ℕ) → IsPageRange e → IsPageRange f → length (entry_bytes e ++ r) < 2 ^ 64
-    → entry_bytes e ++ r ≡ entry_bytes f ++ s → (entry_by_bytes e ≡ entry_by_bytes f) × (r ≡ s)
+one_entry : (e f : Entry (List ℕ) (List ℕ)) (r s : List ℕ) → IsPageRange e → IsPageRange f → length (entry_bytes e ++ r) < 2 ^ 64
+    → entry_bytes e ++ r ≡ entry_bytes f ++ s → (e ≡ f) × (r ≡ s)
 one_entry e f r s p q fits is =
-    let parts = one_row_with (e.first.items, e.last.items) (f.first.items, f.last.items) e.digest f.digest r s (p.0 ∙ sym q.0) (omega (arith, ap length (as_row e r)))
+    let parts = one_row_with (e.first, e.last) (f.first, f.last) e.digest f.digest r s (p.0 ∙ sym q.0) (omega (arith, ap length (as_row e r)))
     (sym (as_row e r) ∙ is ∙ as_row f s) in
     ((λ i. record { first = (parts.0 i).0; last = (parts.0 i).1; digest = parts.1 i }), parts.2)
 
-pub entry_ends : (e f : Entry (Vec ℕ) (List ℕ)) (r s : List ℕ) → IsPageRange e → IsPageRange f → length (entry_bytes e ++ r) < 2 ^ 64
+pub entry_ends : (e f : Entry (List ℕ) (List ℕ)) (r s : List ℕ) → IsPageRange e → IsPageRange f → length (entry_bytes e ++ r) < 2 ^ 64
     → entry_bytes e ++ r ≡ entry_bytes f ++ s → r ≡ s
 entry_ends e f r s p q fits is = (one_entry e f r s p q fits is).1
 
-pub some_entry : (e : Entry (Vec ℕ) (List ℕ)) → 1 ≤ length (entry_bytes e)
-some_entry e = omega (arith, length-append (text_bytes e.first.items) (text_bytes e.last.items ++ e.digest), length-append (number_bytes (length e.first.items)) e.first.items)
+pub some_entry : (e : Entry (List ℕ) (List ℕ)) → 1 ≤ length (entry_bytes e)
+some_entry e = omega (arith, length-append (text_bytes e.first) (text_bytes e.last ++ e.digest), length-append (number_bytes (length e.first)) e.first)
 
 -- a list of page ranges is read in one way
-pub one_list_of_page_ranges : (all : List ℕ) (es fs : List (Entry (Vec ℕ) (List ℕ))) → length all < 2 ^ 64 → ArePageRanges all es → ArePageRanges all fs → map entry_by_bytes es ≡ map entry_by_bytes fs
-one_list_of_page_ranges all es fs short e f = one_list entry_bytes some_entry IsPageRange entry_by_bytes one_entry page_mark all es fs short e.1 f.1 e.0 f.0
+pub one_list_of_page_ranges : (all : List ℕ) (es fs : List (Entry (List ℕ) (List ℕ))) → length all < 2 ^ 64 → ArePageRanges all es → ArePageRanges all fs → es ≡ fs
+one_list_of_page_ranges all es fs short e f =
+    sym (map-id es) ∙ one_list entry_bytes some_entry IsPageRange (λ e. e) one_entry page_mark all es fs short e.1 f.1 e.0 f.0 ∙ map-id fs
 
 -- a key range is written as the row of its bounds
-abbrev bounds : Span (Vec ℕ) → List ℕ × List ℕ
-bounds s = (s.first.items, s.last.items)
+abbrev bounds : Span (List ℕ) → List ℕ × List ℕ
+bounds s = (s.first, s.last)
 
-one_span : (s t : Span (Vec ℕ)) (a b : List ℕ) → ⊤ → ⊤ → length (span_bytes s ++ a) < 2 ^ 64 → span_bytes s ++ a ≡ span_bytes t ++ b → (span_by_bytes s ≡ span_by_bytes t) × (a ≡ b)
+one_span : (s t : Span (List ℕ)) (a b : List ℕ) → ⊤ → ⊤ → length (span_bytes s ++ a) < 2 ^ 64 → span_bytes s ++ a ≡ span_bytes t ++ b → (s ≡ t) × (a ≡ b)
 one_span s t a b p q fits is =
     let both = one_row (bounds s) (bounds t) a b fits is in
     ((λ i. record { first = (both.0 i).0; last = (both.0 i).1 }), both.1)
 
 -- a list of key ranges is read in one way
-pub one_list_of_key_ranges : (all : List ℕ) (ss ts : List (Span (Vec ℕ))) → length all < 2 ^ 64 → all ≡ key_ranges_bytes ss → all ≡ key_ranges_bytes ts → map span_by_bytes ss ≡ map span_by_bytes ts
-one_list_of_key_ranges all ss ts short = one_list span_bytes (λ s. some_row (bounds s)) (λ _. ⊤) span_by_bytes one_span key_mark all ss ts short (each_trivial ss) (each_trivial ts)
+pub one_list_of_key_ranges : (all : List ℕ) (ss ts : List (Span (List ℕ))) → length all < 2 ^ 64 → all ≡ key_ranges_bytes ss → all ≡ key_ranges_bytes ts → ss ≡ ts
+one_list_of_key_ranges all ss ts short e f =
+    sym (map-id ss) ∙ one_list span_bytes (λ s. some_row (bounds s)) (λ _. ⊤) (λ s. s) one_span key_mark all ss ts short (each_trivial ss) (each_trivial ts) e f ∙ map-id ts
 
 -- a key and its digest with what is behind
 pub as_text : (x : List ℕ × List ℕ) (rest : List ℕ) → digest_bytes x ++ rest ≡ text_bytes x.0 ++ (x.1 ++ rest)

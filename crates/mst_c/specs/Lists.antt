@@ -1,25 +1,30 @@
 -- What bytes spell, and what is made of it.
-use Rattle.std.specs.Prelude.{◌≡◌, ℕ, List, length}
+use Rattle.std.specs.Prelude.{◌≡◌, ℕ, ◌<◌, ◌≤◌, List, [], ◌∷◌, length, map, take}
 use Rattle.std.specs.Global.{Vec}
-use Rattle.std.specs.List.{AllByRecursion}
+use Rattle.std.specs.List.{AllByRecursion, flat_map}
 use Rattle.key_order.specs.Interval.{Span}
-use Rattle.key_order.specs.Map.{IsMap}
+use Rattle.key_order.specs.Map.{IsMap, set}
 use Rattle.key_order.specs.Order.{Upto}
 use Rattle.merkle_digest.specs.SipHash.{siphash128}
 use Rattle.merkle_diff.specs.Difference.{IsAnswer}
 use Rattle.merkle_diff.specs.Entry.{Entry}
 use Rattle.merkle_search_tree.specs.Loading.{digests}
+use Rattle.merkle_tree_theory.specs.Ranges.{ranges_of}
 use Rattle.merkle_tree_theory.specs.State.{SameSettings, map_of}
-use Rattle.mst_c.specs.Trees.{ByteState, bytes_cmp, key_cmp, rows_of}
-use Rattle.mst_c.specs.Wire.{page_ranges_bytes, key_ranges_bytes, rows_bytes, digests_bytes}
+use Rattle.mst_c.specs.Trees.{ByteState, bytes_cmp, bytes_of, key_cmp, rows_of}
+use Rattle.mst_c.specs.Wire.{page_ranges_bytes, key_ranges_bytes, row_bytes, rows_bytes, digests_bytes}
 
 -- an entry of a list of page ranges has a digest of 16 bytes, and its first key is at most its last
-abbrev pub IsPageRange : Entry (Vec ℕ) (List ℕ) → Type 0
-IsPageRange e = (length e.digest ≡ 16) × Upto key_cmp e.first e.last
+abbrev pub IsPageRange : Entry (List ℕ) (List ℕ) → Type 0
+IsPageRange e = (length e.digest ≡ 16) × Upto bytes_cmp e.first e.last
 
 -- the bytes are the list of these page ranges
-abbrev pub ArePageRanges : List ℕ → List (Entry (Vec ℕ) (List ℕ)) → Type 0
+abbrev pub ArePageRanges : List ℕ → List (Entry (List ℕ) (List ℕ)) → Type 0
 ArePageRanges bytes es = (bytes ≡ page_ranges_bytes es) × AllByRecursion IsPageRange es
+
+-- the list of these page ranges has so many bytes, and some it has
+abbrev pub IsLengthOf : List (Entry (List ℕ) (List ℕ)) → ℕ → Type 0
+IsLengthOf es len = (0 < len) × ((bytes : List ℕ) × ArePageRanges bytes es × (len ≡ length bytes))
 
 -- a key and 16 bytes of digest
 abbrev pub HasDigest : List ℕ × List ℕ → Type 0
@@ -37,6 +42,33 @@ HasPairs pairs old new = (map_of new ≡ pairs) × IsMap key_cmp pairs × SameSe
 abbrev pub IsLoaded : List ℕ → ByteState → ByteState → Type 0
 IsLoaded bytes old new = (rows : List (List ℕ × List ℕ)) × AreRows bytes rows × (rows_of new ≡ digests (siphash128 old.hasher.key) rows) × SameSettings old new
 
+-- the bytes are so many rows, whatever the order of their keys
+abbrev pub AreManyRows : ℕ → List ℕ → Type 0
+AreManyRows count bytes = (rows : List (List ℕ × List ℕ)) × (length rows ≡ count) × (bytes ≡ flat_map row_bytes rows)
+
+-- the map with these rows set one after the other, each to the digest of its value
+abbrev pub set_rows : (List ℕ → List ℕ) → List (List ℕ × List ℕ) → List (List ℕ × List ℕ) → List (List ℕ × List ℕ)
+set_rows hash pairs [] = pairs
+set_rows hash pairs (r ∷ rs) = set_rows hash (set bytes_cmp pairs r.0 (hash r.1)) rs
+
+-- the map has these rows set one after the other, and the settings stay
+pub record AreSet (rows : List (List ℕ × List ℕ)) (old new : ByteState) : Type 0 where
+  pub pairs : rows_of new ≡ set_rows (siphash128 old.hasher.key) (rows_of old) rows
+  pub settings : SameSettings old new
+
+-- the bytes are so many rows, of which the first `done` were set
+abbrev pub AreSetOf : ℕ → List ℕ → ℕ → ByteState → ByteState → Type 0
+AreSetOf count bytes done old new =
+    (rows : List (List ℕ × List ℕ)) × (length rows ≡ count) × (bytes ≡ flat_map row_bytes rows) × (done ≤ count) × AreSet (take done rows) old new
+
+-- the rows that the bytes spell, whatever the order of their keys, were all set, and there are so many of them
+abbrev pub AllSet : List ℕ → ℕ → ByteState → ByteState → Type 0
+AllSet bytes count old new = (rows : List (List ℕ × List ℕ)) × (bytes ≡ rows_bytes rows) × (count ≡ length rows) × AreSet rows old new
+
+-- of the rows that the bytes spell the first so many were set, and not all
+abbrev pub FirstSet : List ℕ → ℕ → ByteState → ByteState → Type 0
+FirstSet bytes count old new = (rows : List (List ℕ × List ℕ)) × (bytes ≡ rows_bytes rows) × (count < length rows) × AreSet (take count rows) old new
+
 -- the bytes are the list of these keys, which ascend, each with 16 bytes of digest
 abbrev pub AreDigests : List ℕ → List (List ℕ × List ℕ) → Type 0
 AreDigests bytes rows = (bytes ≡ digests_bytes rows) × AllByRecursion HasDigest rows × IsMap bytes_cmp rows
@@ -48,13 +80,13 @@ AreLoaded bytes old new = AreDigests bytes (rows_of new) × SameSettings old new
 -- the bytes are the list of the key ranges that `diff` may answer on the page ranges that local and peer spell
 abbrev pub IsDiffOf : List ℕ → List ℕ → List ℕ → Type 0
 IsDiffOf local peer bytes =
-    (ls : List (Entry (Vec ℕ) (List ℕ))) × (ps : List (Entry (Vec ℕ) (List ℕ))) × (found : List (Span (Vec ℕ)))
-    × ArePageRanges local ls × ArePageRanges peer ps × IsAnswer key_cmp ls ps found × (bytes ≡ key_ranges_bytes found)
+    (ls : List (Entry (List ℕ) (List ℕ))) × (ps : List (Entry (List ℕ) (List ℕ))) × (found : List (Span (List ℕ)))
+    × ArePageRanges local ls × ArePageRanges peer ps × IsAnswer bytes_cmp ls ps found × (bytes ≡ key_ranges_bytes found)
 
 -- an entry by the bytes of its keys
 abbrev pub entry_by_bytes : Entry (Vec ℕ) (List ℕ) → Entry (List ℕ) (List ℕ)
 entry_by_bytes e = record { first = e.first.items; last = e.last.items; digest = e.digest }
 
--- a range of keys by their bytes
-abbrev pub span_by_bytes : Span (Vec ℕ) → Span (List ℕ)
-span_by_bytes s = record { first = s.first.items; last = s.last.items }
+-- the page ranges of a tree, by the bytes of their keys
+abbrev pub page_ranges_of : ByteState → List (Entry (List ℕ) (List ℕ))
+page_ranges_of s = map entry_by_bytes (ranges_of s.format bytes_of s.root)

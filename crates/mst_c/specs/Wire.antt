@@ -1,6 +1,5 @@
 -- Page ranges, ranges of keys, and rows, as bytes.
 use Rattle.std.specs.Prelude.{ℕ, List, [], ◌∷◌, ◌++◌, length}
-use Rattle.std.specs.Global.{Vec}
 use Rattle.std.specs.List.{flat_map}
 use Rattle.std.specs.Int.{w64, to_le_bytes}
 use Rattle.key_order.specs.Interval.{Span}
@@ -16,12 +15,12 @@ abbrev pub text_bytes : List ℕ → List ℕ
 text_bytes text = number_bytes (length text) ++ text
 
 -- an entry of a list of page ranges
-abbrev pub entry_bytes : Entry (Vec ℕ) (List ℕ) → List ℕ
-entry_bytes e = text_bytes e.first.items ++ (text_bytes e.last.items ++ e.digest)
+abbrev pub entry_bytes : Entry (List ℕ) (List ℕ) → List ℕ
+entry_bytes e = text_bytes e.first ++ (text_bytes e.last ++ e.digest)
 
 -- an entry of a list of key ranges
-abbrev pub span_bytes : Span (Vec ℕ) → List ℕ
-span_bytes s = text_bytes s.first.items ++ text_bytes s.last.items
+abbrev pub span_bytes : Span (List ℕ) → List ℕ
+span_bytes s = text_bytes s.first ++ text_bytes s.last
 
 -- a row: its key and its value
 abbrev pub row_bytes : List ℕ × List ℕ → List ℕ
@@ -44,11 +43,11 @@ abbrev pub row_mark : List ℕ
 row_mark = 77 ∷ 83 ∷ 84 ∷ 114 ∷ []
 
 -- a list of page ranges
-abbrev pub page_ranges_bytes : List (Entry (Vec ℕ) (List ℕ)) → List ℕ
+abbrev pub page_ranges_bytes : List (Entry (List ℕ) (List ℕ)) → List ℕ
 page_ranges_bytes = list_bytes page_mark entry_bytes
 
 -- a list of key ranges
-abbrev pub key_ranges_bytes : List (Span (Vec ℕ)) → List ℕ
+abbrev pub key_ranges_bytes : List (Span (List ℕ)) → List ℕ
 key_ranges_bytes = list_bytes key_mark span_bytes
 
 -- a list of rows

@@ -1,23 +1,23 @@
 //! What a handle holds: a tree of byte strings.
-ghost use Rattle.std.specs.Prelude.{◌≡◌, ◌≢◌, ℕ, List, None, Err, OnOk, OnErr, IfOk, false, length};
+ghost use Rattle.std.specs.Prelude.{◌≡◌, ◌≢◌, ℕ, List, None, Err, OnOk, OnErr, IfOk, IfSome, false, true, length};
 ghost use Rattle.std.specs.Int.NonZero.{non_zero_u8_get};
 ghost use Rattle.key_order.specs.Map.{IsMap, get};
 ghost use Rattle.merkle_tree_theory.specs.Dropped.{RemovalDropsFew};
 ghost use Rattle.merkle_tree_theory.specs.Hashed.{IsHashed};
 ghost use Rattle.merkle_tree_theory.specs.State.{IsNew, map_of};
 ghost use Rattle.merkle_tree_theory.specs.Stream.{page_digest};
-ghost use Rattle.merkle_tree_theory.specs.Ranges.{ranges_of};
 ghost use Rattle.merkle_search_tree.specs.Loading.{row_count};
-ghost use Rattle.mst_c.specs.Lists.{AreDigests, AreLoaded, ArePageRanges, AreRows, HasPairs, IsLoaded};
+ghost use Rattle.mst_c.specs.Lists.{AllSet, AreDigests, AreLoaded, AreManyRows, ArePageRanges, AreRows, AreSetOf, FirstSet, HasPairs, IsLengthOf, IsLoaded, page_ranges_of};
 ghost use Rattle.mst_c.specs.Pages.{pages_bytes};
 ghost use Rattle.mst_c.specs.Trees.{bytes_cmp, bytes_of, key_cmp, SameRows, IsSet, IsSetTo, SetDropsFew, IsDel, IsCopied, rows_of};
-ghost use Rattle.mst_c.specs.Wire.{digests_bytes};
+ghost use Rattle.mst_c.specs.Wire.{digests_bytes, rows_bytes};
 ghost use Rattle.mst_c.specs.declared.reading.ReadError.TheVariants.{Malformed};
 
 use crate::byte_hasher::ByteHasher;
-use crate::reading::{ReadError, decode_digests, decode_rows};
+use crate::entries::is_list;
+use crate::reading::{ReadError, body_of, decode_digests, decode_rows, pair_of};
 use crate::walk::Pages;
-use crate::wire::{DIGESTS, encode, put, put_digest, put_number};
+use crate::wire::{DIGESTS, ROWS, encode, encoded_len, put, put_digest, put_number};
 use merkle_search_tree::builder::{Builder, PageFormat};
 use merkle_search_tree::{LoadRefused, MerkleSearchTree};
 use std::alloc::{AllocError, Global};
@@ -111,6 +111,40 @@ impl ByteTree {
         }
     }
 
+    /// Sets the rows of a list one after the other until memory is refused, and answers how many were set, and whether that is all of
+    /// them. `None` where the bytes are no list of rows, and then the tree is as before.
+    pub fn upsert_rows(&mut self, alloc: Global, list: &[u8]) -> Option<(usize, bool)>
+        ensures all { IfSome result (λ set. set.1 ≡ true → AllSet list.now set.0 self.old.tree self.new.tree) }
+        ensures first { IfSome result (λ set. set.1 ≡ false → FirstSet list.now set.0 self.old.tree self.new.tree) }
+        ensures malformed { result ≡ None → (given : List (List ℕ × List ℕ)) → list.now ≢ rows_bytes given }
+        ensures unchanged { result ≡ None → self.new ≡ self.old }
+    {
+        let (count, body) = body_of(&ROWS, list)?;
+        if !is_list(false, false, count, body) {
+            return None;
+        }
+        let done = self.set_rows(alloc, count, body);
+        Some((done as usize, done == count))
+    }
+
+    /// Sets so many rows, which the bytes are, one after the other until memory is refused, and answers how many were set.
+    fn set_rows(&mut self, alloc: Global, count: u64, body: &[u8]) -> u64
+        requires { AreManyRows count body.now }
+        ensures { AreSetOf count body.now result self.old.tree self.new.tree }
+    {
+        let mut rest = body;
+        'rows: for done in 0..count {
+            let Some((key, value, behind)) = pair_of(rest) else {
+                return done;
+            };
+            match self.upsert(alloc, key, value) {
+                Ok(()) => rest = behind,
+                Err(_) => return done,
+            }
+        }
+        count
+    }
+
     /// Makes these rows the map, in place of the map that the tree has. Refused, the tree is as before.
     pub fn load(&mut self, alloc: Global, rows: &[u8]) -> Result<(), ReadError>
         ensures done { OnOk result (IsLoaded rows.now self.old.tree self.new.tree) }
@@ -191,7 +225,7 @@ impl ByteTree {
 
     /// The ranges of all pages, as bytes.
     pub fn page_ranges(&mut self, alloc: Global) -> Result<Vec<u8>, AllocError>
-        ensures ranges { IfOk result (λ out. ArePageRanges out.items (ranges_of self.new.tree.format bytes_of self.new.tree.root)) }
+        ensures ranges { IfOk result (λ out. ArePageRanges out.items (page_ranges_of self.new.tree)) }
         ensures kept { SameRows self.old.tree self.new.tree }
         ensures hashed { IsHashed bytes_of self.old.tree self.new.tree }
     {
@@ -199,6 +233,19 @@ impl ByteTree {
         match self.tree.serialise_page_ranges()? {
             Some(ranges) => encode(alloc, &ranges),
             None => encode(alloc, &[]),
+        }
+    }
+
+    /// How many bytes the ranges of all pages are. It takes no memory for them.
+    pub fn page_ranges_len(&mut self) -> Result<usize, AllocError>
+        ensures len { IfOk result (λ len. IsLengthOf (page_ranges_of self.new.tree) len) }
+        ensures kept { SameRows self.old.tree self.new.tree }
+        ensures hashed { IsHashed bytes_of self.old.tree self.new.tree }
+    {
+        let _ = self.root_hash();
+        match self.tree.page_range_iter()? {
+            Some(ranges) => encoded_len(ranges),
+            None => Err(AllocError),
         }
     }
 

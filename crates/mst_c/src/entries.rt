@@ -79,7 +79,7 @@ fn entry_of(plain: bool, hashed: bool, bytes: &[u8]) -> Option<(&[u8], &[u8], &[
 }
 
 /// Whether the bytes are so many entries.
-fn is_list(plain: bool, hashed: bool, count: u64, body: &[u8]) -> bool
+pub fn is_list(plain: bool, hashed: bool, count: u64, body: &[u8]) -> bool
     ensures { (result ≡ true) ↔ AreEntries plain hashed count body.now }
 {
     let mut rest = body;

@@ -8,6 +8,7 @@ mod byte_tree;
 mod bytes16;
 mod entries;
 mod handle;
+mod key;
 pub mod laws;
 mod parts;
 mod reading;

@@ -1,7 +1,6 @@
 //! Bytes read as lists of page ranges, of rows and of digests. What isn't such a list is malformed.
 
 ghost use Rattle.std.specs.Prelude.{◌≡◌, ◌≢◌, ◌<◌, ◌^◌, ◌++◌, ℕ, List, None, Err, IfOk, IfSome, length, map};
-ghost use Rattle.std.specs.Global.{Vec};
 ghost use Rattle.std.specs.List.{AllByRecursion, flat_map};
 ghost use Rattle.merkle_digest.specs.SipHash.{siphash128};
 ghost use Rattle.merkle_diff.specs.Entry.{Entry};
@@ -14,10 +13,14 @@ ghost use Rattle.mst_c.specs.Wire.{number_bytes, text_bytes, row_bytes, digest_b
 ghost use Rattle.mst_c.specs.declared.reading.ReadError.TheVariants.{Memory, Malformed};
 
 use crate::byte_hasher::ByteHasher;
+use crate::key::Key;
 use crate::wire::{DIGESTS, PAGE_RANGES, ROWS, encode_found};
 use merkle_diff::{OwnedPageRange, PageRangeSnapshot, diff_snapshots};
 use merkle_digest::PageDigest;
 use std::alloc::{AllocError, Global};
+
+/// How few bytes a page range is: two lengths and a digest.
+const LEAST_RANGE: usize = 32;
 
 /// Why bytes were not read.
 #[derive(Clone, Copy, Debug, PartialEq, Eq)]
@@ -84,40 +87,35 @@ pub fn body_of<'b>(mark: &[u8; 4], bytes: &'b [u8]) -> Option<(u64, &'b [u8])>
     number_of(rest)
 }
 
-/// The page range at the front, and the bytes behind it.
-fn range_of(alloc: Global, bytes: &[u8]) -> Result<(OwnedPageRange<Vec<u8>>, &[u8]), ReadError>
-    ensures range { IfOk result (λ r. (bytes.now ≡ entry_bytes (owned_entry r.0) ++ r.1.now) × IsPageRange (owned_entry r.0)) }
-    ensures malformed { result ≡ Err Malformed → (e : Entry (Vec ℕ) (List ℕ)) (rest : List ℕ) → IsPageRange e → bytes.now ≢ entry_bytes e ++ rest }
+/// The page range at the front, whose keys lie in the bytes, and the bytes behind it.
+fn range_of(bytes: &[u8]) -> Option<(OwnedPageRange<Key<'_>>, &[u8])>
+    ensures range { IfSome result (λ r. (bytes.now ≡ entry_bytes (owned_entry r.0) ++ r.1.now) × IsPageRange (owned_entry r.0)) }
+    ensures none { result ≡ None → (e : Entry (List ℕ) (List ℕ)) (rest : List ℕ) → IsPageRange e → bytes.now ≢ entry_bytes e ++ rest }
 {
-    let Some((first, last, rest)) = pair_of(bytes) else {
-        return Err(ReadError::Malformed);
-    };
-    let Some((digest, rest)) = rest.split_first_chunk::<16>() else {
-        return Err(ReadError::Malformed);
-    };
-    let own_first = Vec::from_slice(alloc, first)?;
-    let own_last = Vec::from_slice(alloc, last)?;
-    match OwnedPageRange::try_new(own_first, own_last, PageDigest::new(*digest)) {
-        Some(range) => Ok((range, rest)),
-        None => Err(ReadError::Malformed),
-    }
+    let (first, last, rest) = pair_of(bytes)?;
+    let (digest, rest) = rest.split_first_chunk::<16>()?;
+    let range = OwnedPageRange::try_new(Key::new(first), Key::new(last), PageDigest::new(*digest))?;
+    Some((range, rest))
 }
 
-/// So many page ranges, which the bytes are.
-fn ranges_of(
+/// So many page ranges, which the bytes are, and in which their keys lie. Room for them is made once.
+fn ranges_of<'b>(
     alloc: Global,
     count: u64,
-    body: &[u8],
-) -> Result<Vec<OwnedPageRange<Vec<u8>>>, ReadError>
+    body: &'b [u8],
+) -> Result<Vec<OwnedPageRange<Key<'b>>>, ReadError>
     ensures ranges { IfOk result (λ ranges. body.now ≡ flat_map entry_bytes (owned_entries ranges.items)) }
     ensures counted { IfOk result (λ ranges. length ranges.items ≡ count) }
     ensures each { IfOk result (λ ranges. AllByRecursion IsPageRange (owned_entries ranges.items)) }
-    ensures malformed { result ≡ Err Malformed → (es : List (Entry (Vec ℕ) (List ℕ))) → AllByRecursion IsPageRange es → length es ≡ count → body.now ≢ flat_map entry_bytes es }
+    ensures malformed { result ≡ Err Malformed → (es : List (Entry (List ℕ) (List ℕ))) → AllByRecursion IsPageRange es → length es ≡ count → body.now ≢ flat_map entry_bytes es }
 {
-    let mut ranges = Vec::new(alloc);
+    let room = (body.len() / LEAST_RANGE).min(count as usize);
+    let mut ranges = Vec::with_capacity(alloc, room)?;
     let mut rest = body;
     'entries: for _done in 0..count {
-        let (range, behind) = range_of(alloc, rest)?;
+        let Some((range, behind)) = range_of(rest) else {
+            return Err(ReadError::Malformed);
+        };
         if ranges.push(range).is_err() {
             return Err(ReadError::Memory);
         }
@@ -130,10 +128,10 @@ fn ranges_of(
     }
 }
 
-/// The page ranges that the bytes spell.
-pub fn decode(alloc: Global, bytes: &[u8]) -> Result<PageRangeSnapshot<Vec<u8>>, ReadError>
+/// The page ranges that the bytes spell, whose keys lie in the bytes.
+pub fn decode<'b>(alloc: Global, bytes: &'b [u8]) -> Result<PageRangeSnapshot<Key<'b>>, ReadError>
     ensures ranges { IfOk result (λ snapshot. ArePageRanges bytes.now (snapshot_entries snapshot)) }
-    ensures malformed { result ≡ Err Malformed → (es : List (Entry (Vec ℕ) (List ℕ))) → ¬ (ArePageRanges bytes.now es) }
+    ensures malformed { result ≡ Err Malformed → (es : List (Entry (List ℕ) (List ℕ))) → ¬ (ArePageRanges bytes.now es) }
 {
     let Some((count, body)) = body_of(&PAGE_RANGES, bytes) else {
         return Err(ReadError::Malformed);
@@ -240,7 +238,7 @@ pub fn decode_digests(alloc: Global, bytes: &[u8]) -> Result<Vec<(Vec<u8>, [u8; 
 /// What [`diff_snapshots`] answers on two lists of page ranges, as bytes.
 pub fn differences(alloc: Global, local: &[u8], peer: &[u8]) -> Result<Vec<u8>, ReadError>
     ensures answer { IfOk result (λ out. IsDiffOf local.now peer.now out.items) }
-    ensures malformed { result ≡ Err Malformed → (ls ps : List (Entry (Vec ℕ) (List ℕ))) → ArePageRanges local.now ls → ¬ (ArePageRanges peer.now ps) }
+    ensures malformed { result ≡ Err Malformed → (ls ps : List (Entry (List ℕ) (List ℕ))) → ArePageRanges local.now ls → ¬ (ArePageRanges peer.now ps) }
 {
     let local = decode(alloc, local)?;
     let peer = decode(alloc, peer)?;

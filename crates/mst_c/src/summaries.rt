@@ -2,11 +2,9 @@
 ghost use Rattle.std.specs.Prelude.{◌≡◌, ◌≢◌, ◌<◌, ◌≤◌, ◌↔◌, ◌⊎◌, ◌++◌, ℕ, List, None, Err, IfSome, IfOk, IfErr, drop, length};
 ghost use Rattle.merkle_tree_theory.specs.Hashed.{IsHashed};
 ghost use Rattle.merkle_tree_theory.specs.Stream.{page_digest};
-ghost use Rattle.merkle_tree_theory.specs.Ranges.{ranges_of};
-ghost use Rattle.std.specs.Global.{Vec};
 ghost use Rattle.merkle_diff.specs.Entry.{Entry};
 ghost use Rattle.mst_c.specs.Handles.{HasTree, Changes, IsOutput, IsShort};
-ghost use Rattle.mst_c.specs.Lists.{ArePageRanges, IsDiffOf};
+ghost use Rattle.mst_c.specs.Lists.{ArePageRanges, IsDiffOf, IsLengthOf, page_ranges_of};
 ghost use Rattle.mst_c.specs.Pages.{pages_bytes};
 ghost use Rattle.mst_c.specs.Trees.{bytes_of, rows_of, SameRows};
 ghost use Rattle.mst_c.specs.Wire.{digests_bytes};
@@ -86,8 +84,8 @@ pub extern "C" fn mst_proved_tree_page_ranges(
     out: &mut [u8],
     needed: &mut usize,
 ) -> u32
-    ensures done { result ≡ 0 → HasTree handle.new.tree (λ s. IsOutput out.old out.new needed.new (λ bytes. ArePageRanges bytes (ranges_of s.format bytes_of s.root))) }
-    ensures short { result ≡ 3 → HasTree handle.new.tree (λ s. IsShort out.old needed.new (λ bytes. ArePageRanges bytes (ranges_of s.format bytes_of s.root))) }
+    ensures done { result ≡ 0 → HasTree handle.new.tree (λ s. IsOutput out.old out.new needed.new (λ bytes. ArePageRanges bytes (page_ranges_of s))) }
+    ensures short { result ≡ 3 → HasTree handle.new.tree (λ s. IsShort out.old needed.new (λ bytes. ArePageRanges bytes (page_ranges_of s))) }
     ensures kept { result ≢ 4 → Changes handle.old.tree handle.new.tree SameRows }
     ensures hashed { result ≢ 4 → Changes handle.old.tree handle.new.tree (IsHashed bytes_of) }
     ensures no_tree { result ≡ 4 → handle.new.tree ≡ None }
@@ -96,14 +94,40 @@ pub extern "C" fn mst_proved_tree_page_ranges(
     ensures argument { (result ≡ 4) ↔ (handle.old.tree ≡ None) }
     ensures status { (result ≡ 0) ⊎ (result ≡ 1) ⊎ (result ≡ 3) ⊎ (result ≡ 4) }
 {
+    if out.is_empty() {
+        return match mem::replace_with(handle, alloc, page_ranges_len) {
+            Ok(len) => {
+                *needed = len;
+                SHORT
+            }
+            Err(status) => status,
+        };
+    }
     match mem::replace_with(handle, alloc, page_ranges) {
         Ok(bytes) => put_bytes(bytes.as_slice(), out, needed),
         Err(status) => status,
     }
 }
 
+fn page_ranges_len(handle: MstTree, alloc: Global) -> (MstTree, Result<usize, u32>)
+    ensures len { IfOk result.1 (λ len. HasTree result.0.tree (λ s. IsLengthOf (page_ranges_of s) len)) }
+    ensures kept { handle.tree ≢ None → Changes handle.tree result.0.tree SameRows }
+    ensures hashed { handle.tree ≢ None → Changes handle.tree result.0.tree (IsHashed bytes_of) }
+    ensures no_tree { handle.tree ≡ None → result.0.tree ≡ None }
+    ensures argument { (result.1 ≡ Err 4) ↔ (handle.tree ≡ None) }
+    ensures refused { IfErr result.1 (λ status. (status ≡ 1) ⊎ (status ≡ 4)) }
+{
+    let Some(mut held) = handle.into_box() else {
+        return (MstTree::empty(alloc), Err(ARGUMENT));
+    };
+    match held.page_ranges_len() {
+        Ok(len) => (MstTree::of_box(held), Ok(len)),
+        Err(_) => (MstTree::of_box(held), Err(MEMORY)),
+    }
+}
+
 fn page_ranges(handle: MstTree, alloc: Global) -> (MstTree, Result<Vec<u8>, u32>)
-    ensures ranges { IfOk result.1 (λ out. HasTree result.0.tree (λ s. ArePageRanges out.items (ranges_of s.format bytes_of s.root))) }
+    ensures ranges { IfOk result.1 (λ out. HasTree result.0.tree (λ s. ArePageRanges out.items (page_ranges_of s))) }
     ensures kept { handle.tree ≢ None → Changes handle.tree result.0.tree SameRows }
     ensures hashed { handle.tree ≢ None → Changes handle.tree result.0.tree (IsHashed bytes_of) }
     ensures no_tree { handle.tree ≡ None → result.0.tree ≡ None }
@@ -213,7 +237,7 @@ pub extern "C" fn mst_proved_diff(
 ) -> u32
     ensures done { result ≡ 0 → IsOutput out.old out.new needed.new (IsDiffOf local.now peer.now) }
     ensures short { result ≡ 3 → IsShort out.old needed.new (IsDiffOf local.now peer.now) }
-    ensures malformed { result ≡ 2 → (ls ps : List (Entry (Vec ℕ) (List ℕ))) → ArePageRanges local.now ls → ¬ (ArePageRanges peer.now ps) }
+    ensures malformed { result ≡ 2 → (ls ps : List (Entry (List ℕ) (List ℕ))) → ArePageRanges local.now ls → ¬ (ArePageRanges peer.now ps) }
     ensures unchanged { result ≢ 0 → out.new ≡ out.old }
     ensures refused { result ≢ 0 → result ≢ 3 → needed.new ≡ needed.old }
     ensures status { (result ≡ 0) ⊎ (result ≡ 1) ⊎ (result ≡ 2) ⊎ (result ≡ 3) }

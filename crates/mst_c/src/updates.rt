@@ -1,9 +1,10 @@
 //! Calls that change the map of a tree.
-ghost use Rattle.std.specs.Prelude.{◌≡◌, ◌≢◌, ◌↔◌, ◌⊎◌, ℕ, List, None, true, false};
+ghost use Rattle.std.specs.Prelude.{◌≡◌, ◌≢◌, ◌↔◌, ◌⊎◌, ℕ, List, None, Err, IfErr, IfOk, OnErr, true, false};
 ghost use Rattle.merkle_tree_theory.specs.Dropped.{RemovalDropsFew};
 ghost use Rattle.mst_c.specs.Handles.{Changes};
-ghost use Rattle.mst_c.specs.Lists.{AreDigests, AreLoaded, AreRows, IsLoaded};
+ghost use Rattle.mst_c.specs.Lists.{AllSet, AreDigests, AreLoaded, AreRows, FirstSet, IsLoaded};
 ghost use Rattle.mst_c.specs.Trees.{IsSet, IsSetTo, SetDropsFew, IsDel};
+ghost use Rattle.mst_c.specs.Wire.{rows_bytes};
 
 use crate::bytes16::MstBytes16;
 use crate::handle::MstTree;
@@ -113,6 +114,50 @@ fn remove(handle: MstTree, asked: (Global, &[u8])) -> (MstTree, u32)
         Ok(true) => (MstTree::of_box(held), DONE),
         Ok(false) => (MstTree::of_box(held), ABSENT),
         Err(_) => (MstTree::of_box(held), MEMORY),
+    }
+}
+
+/// Sets the rows of a list one after the other, whatever the order of their keys, and writes how many were set.
+///
+/// `DONE`; `MEMORY`, and then those in front were set, and not all; `MALFORMED` where the bytes are no list of rows; `ARGUMENT` where
+/// the handle has no tree. But for `DONE` and `MEMORY`, the tree and `done` are as before.
+#[unsafe(no_mangle)]
+pub extern "C" fn mst_proved_tree_upsert_rows(
+    alloc: Global,
+    handle: &mut MstTree,
+    list: &[u8],
+    done: &mut usize,
+) -> u32
+    ensures done { result ≡ 0 → Changes handle.old.tree handle.new.tree (AllSet list.now done.new) }
+    ensures refused { result ≡ 1 → Changes handle.old.tree handle.new.tree (FirstSet list.now done.new) }
+    ensures malformed { result ≡ 2 → (given : List (List ℕ × List ℕ)) → list.now ≢ rows_bytes given }
+    ensures unchanged { result ≢ 0 → result ≢ 1 → (handle.new.tree ≡ handle.old.tree) × (done.new ≡ done.old) }
+    ensures argument { (result ≡ 4) ↔ (handle.old.tree ≡ None) }
+    ensures status { (result ≡ 0) ⊎ (result ≡ 1) ⊎ (result ≡ 2) ⊎ (result ≡ 4) }
+{
+    match mem::replace_with(handle, (alloc, list), upsert_rows) {
+        Ok((count, is_all)) => {
+            *done = count;
+            if is_all { DONE } else { MEMORY }
+        }
+        Err(status) => status,
+    }
+}
+
+fn upsert_rows(handle: MstTree, asked: (Global, &[u8])) -> (MstTree, Result<(usize, bool), u32>)
+    ensures all { IfOk result.1 (λ set. set.1 ≡ true → Changes handle.tree result.0.tree (AllSet asked.entry.1.now set.0)) }
+    ensures first { IfOk result.1 (λ set. set.1 ≡ false → Changes handle.tree result.0.tree (FirstSet asked.entry.1.now set.0)) }
+    ensures malformed { result.1 ≡ Err 2 → (given : List (List ℕ × List ℕ)) → asked.entry.1.now ≢ rows_bytes given }
+    ensures unchanged { OnErr result.1 (result.0.tree ≡ handle.tree) }
+    ensures argument { (result.1 ≡ Err 4) ↔ (handle.tree ≡ None) }
+    ensures refused { IfErr result.1 (λ status. (status ≡ 2) ⊎ (status ≡ 4)) }
+{
+    let Some(mut held) = handle.into_box() else {
+        return (MstTree::empty(asked.0), Err(ARGUMENT));
+    };
+    match held.upsert_rows(asked.0, asked.1) {
+        Some(set) => (MstTree::of_box(held), Ok(set)),
+        None => (MstTree::of_box(held), Err(MALFORMED)),
     }
 }
 

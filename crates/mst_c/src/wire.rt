@@ -4,17 +4,21 @@
 //! its length and its bytes, and behind them, in a list of page ranges, the 16 bytes of the page's digest; in a list of rows it is a
 //! key and a value. A number is eight bytes, the lowest first.
 
-ghost use Rattle.std.specs.Prelude.{◌≡◌, ◌++◌, OnOk, IfOk};
+ghost use Rattle.std.specs.Prelude.{◌≡◌, ◌+◌, ◌++◌, OnOk, IfOk, IfSome, length, map};
 ghost use Rattle.merkle_diff.specs.DiffRange.{span, spans};
 ghost use Rattle.merkle_diff.specs.PageRange.{entry, entries};
 ghost use Rattle.merkle_tree_theory.specs.Page.{pair_of};
-ghost use Rattle.mst_c.specs.Lists.{ArePageRanges, IsPageRange};
+ghost use Rattle.mst_c.specs.Lists.{ArePageRanges, IsLengthOf, IsPageRange, entry_by_bytes};
 ghost use Rattle.mst_c.specs.Trees.{by_bytes};
 ghost use Rattle.mst_c.specs.Wire.{number_bytes, text_bytes, digest_bytes, entry_bytes, span_bytes, key_ranges_bytes};
 
+use crate::key::Key;
 use merkle_diff::{DiffRange, PageRange};
-use merkle_search_tree::Node;
+use merkle_search_tree::{Node, PageRangeIter};
 use std::alloc::{AllocError, Global};
+
+/// How many bytes stand in front of the entries of a list: the mark and their number.
+const FRONT: usize = 12;
 
 /// The mark of a list of page ranges.
 pub const PAGE_RANGES: [u8; 4] = *b"MSTp";
@@ -50,8 +54,8 @@ pub fn put_text(text: &[u8], out: &mut Vec<u8>) -> Result<(), AllocError>
 
 /// Writes a page range.
 fn put_range(range: &PageRange<'_, Vec<u8>>, out: &mut Vec<u8>) -> Result<(), AllocError>
-    ensures written { OnOk result (out.new.items ≡ out.old.items ++ entry_bytes (entry range.now)) }
-    ensures range { OnOk result (IsPageRange (entry range.now)) }
+    ensures written { OnOk result (out.new.items ≡ out.old.items ++ entry_bytes (entry_by_bytes (entry range.now))) }
+    ensures range { OnOk result (IsPageRange (entry_by_bytes (entry range.now))) }
 {
     put_text(range.start().as_slice(), out)?;
     put_text(range.end().as_slice(), out)?;
@@ -59,11 +63,11 @@ fn put_range(range: &PageRange<'_, Vec<u8>>, out: &mut Vec<u8>) -> Result<(), Al
 }
 
 /// Writes a range of keys.
-fn put_found(range: &DiffRange<'_, Vec<u8>>, out: &mut Vec<u8>) -> Result<(), AllocError>
+fn put_found(range: &DiffRange<'_, Key<'_>>, out: &mut Vec<u8>) -> Result<(), AllocError>
     ensures { OnOk result (out.new.items ≡ out.old.items ++ span_bytes (span range.now)) }
 {
-    put_text(range.start().as_slice(), out)?;
-    put_text(range.end().as_slice(), out)
+    put_text(range.start().bytes(), out)?;
+    put_text(range.end().bytes(), out)
 }
 
 /// Writes the key of a node and the digest of its value.
@@ -76,7 +80,7 @@ pub fn put_digest(node: &Node<16, Vec<u8>>, out: &mut Vec<u8>) -> Result<(), All
 
 /// The page ranges as bytes.
 pub fn encode(alloc: Global, ranges: &[PageRange<'_, Vec<u8>>]) -> Result<Vec<u8>, AllocError>
-    ensures { IfOk result (λ out. ArePageRanges out.items (entries ranges.now)) }
+    ensures { IfOk result (λ out. ArePageRanges out.items (map entry_by_bytes (entries ranges.now))) }
 {
     let mut out = Vec::new(alloc);
     put(&PAGE_RANGES, &mut out)?;
@@ -87,8 +91,47 @@ pub fn encode(alloc: Global, ranges: &[PageRange<'_, Vec<u8>>]) -> Result<Vec<u8
     Ok(out)
 }
 
+/// How many bytes page ranges are, as [`encode`] writes them, of which none is written. Refused beyond what memory can have.
+pub fn encoded_len(ranges: PageRangeIter<'_, 16, Vec<u8>>) -> Result<usize, AllocError>
+    ensures { IfOk result (λ len. IsLengthOf (map entry_by_bytes ranges.entry) len) }
+{
+    let mut len = FRONT;
+    'entries: for range in ranges {
+        len = with_range(len, &range).ok_or(AllocError)?;
+    }
+    Ok(len)
+}
+
+/// The number, and how many bytes a page range is; `None` beyond what a number can be.
+fn with_range(len: usize, range: &PageRange<'_, Vec<u8>>) -> Option<usize>
+    ensures sum { IfSome result (λ sum. sum ≡ len + length (entry_bytes (entry_by_bytes (entry range.now)))) }
+    ensures range { IfSome result (λ sum. IsPageRange (entry_by_bytes (entry range.now))) }
+{
+    let first = with_text(len, range.start().as_slice())?;
+    let last = with_text(first, range.end().as_slice())?;
+    let sum = with_bytes(last, range.hash().as_bytes())?;
+    Some(sum)
+}
+
+/// The number, and how many bytes a string is with its length.
+fn with_text(len: usize, text: &[u8]) -> Option<usize>
+    ensures { IfSome result (λ sum. sum ≡ len + length (text_bytes text.now)) }
+{
+    let behind = len.checked_add(8)?;
+    let sum = with_bytes(behind, text)?;
+    Some(sum)
+}
+
+/// The number, and how many bytes these are.
+fn with_bytes(len: usize, bytes: &[u8]) -> Option<usize>
+    ensures { IfSome result (λ sum. sum ≡ len + length bytes.now) }
+{
+    let sum = len.checked_add(bytes.len())?;
+    Some(sum)
+}
+
 /// The ranges of keys as bytes.
-pub fn encode_found(alloc: Global, found: &[DiffRange<'_, Vec<u8>>]) -> Result<Vec<u8>, AllocError>
+pub fn encode_found(alloc: Global, found: &[DiffRange<'_, Key<'_>>]) -> Result<Vec<u8>, AllocError>
     ensures { IfOk result (λ out. out.items ≡ key_ranges_bytes (spans found.now)) }
 {
     let mut out = Vec::new(alloc);
