@@ -34,6 +34,11 @@ class Trees {
         return answered(() => spelt(this.library.written(name, ...words)));
     }
 
+    // The number of eight bytes that a call writes.
+    numberFrom(name, ...words) {
+        return Number(new DataView(this.library.filled(8, name, ...words).buffer).getBigUint64(0, true));
+    }
+
     new(slot, key, ...settings) {
         if (!key) return this.done("mst_tree_new", slot);
         const name = settings.length === 3 ? "mst_tree_new_as" : "mst_tree_new_with";
@@ -57,6 +62,10 @@ class Trees {
         return this.done("mst_tree_upsert_digest", slot, key, new Place(digest));
     }
 
+    upsert_rows(slot, list) {
+        return answered(() => this.numberFrom("mst_tree_upsert_rows", this.at[slot], list));
+    }
+
     remove(slot, key) {
         return this.done("mst_tree_remove", slot, key);
     }
@@ -74,7 +83,7 @@ class Trees {
     }
 
     count(slot) {
-        return answered(() => Number(new DataView(this.library.filled(8, "mst_tree_len", this.at[slot]).buffer).getBigUint64(0, true)));
+        return answered(() => this.numberFrom("mst_tree_len", this.at[slot]));
     }
 
     root_hash(slot) {
