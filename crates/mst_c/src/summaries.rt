@@ -73,7 +73,7 @@ fn put_bytes(bytes: &[u8], out: &mut [u8], needed: &mut usize) -> u32
     DONE
 }
 
-/// Writes the page ranges of a tree to `out`, and how many bytes they are to `needed`.
+/// Writes the page ranges of a tree to `out`, and how many bytes they are to `needed`. Into no room they are counted, and not made.
 ///
 /// `DONE`; `SHORT` where `out` is too short, and `needed` is written and `out` as before; `MEMORY`; `ARGUMENT` where the handle has no
 /// tree. But for `DONE`, `out` is as before, and but for `DONE` and `SHORT`, `needed`.
