@@ -16,6 +16,7 @@ import threading
 from soak_parts.hostile import break_once
 
 SECONDS = 60
+csv.field_size_limit(1 << 30)
 KINDS = {"questions": ["serve"], "replies": ["pull"], "differences": ["diff"], "rows": ["import"], "log": ["import", "--log"], "lines": ["shell"],
          "file": None}
 
