@@ -4,6 +4,8 @@
 #[cfg(test)]
 mod altered;
 #[cfg(test)]
+mod endless_rounds;
+#[cfg(test)]
 mod formats;
 #[cfg(test)]
 mod hex;

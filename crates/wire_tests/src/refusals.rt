@@ -1,7 +1,7 @@
 //! Messages that a peer made up, and what each is refused with. The replica has its rows as before.
 use crate::hex::bytes_of;
-use crate::sessions::{Numbers, numbers};
-use merkle_bytes::{Expected, KeyRun, ReadError};
+use crate::sessions::Numbers;
+use merkle_bytes::{Expected, ReadError};
 use merkle_digest::SipHasher;
 use merkle_replica::Replica;
 use merkle_search_tree::builder::{Builder, PageFormat};
@@ -152,7 +152,7 @@ fn after(alloc: Global, local: &mut Bytes, replies: &[&str]) -> Result<Found, Fa
 }
 
 /// A first reply: a peer with 5 rows, the digest of whose root page is made of 7s. The outline over the gap of all keys is asked for then.
-const ROOT: &str = "0181 05 01 07070707070707070707070707070707";
+pub const ROOT: &str = "0181 05 01 07070707070707070707070707070707";
 
 /// A first reply by which all rows are asked for: a peer with 16 rows.
 const MANY: &str = "0181 10 01 07070707070707070707070707070707";
@@ -168,7 +168,7 @@ const BELOW: &str =
 const DIGEST: &str = "0183 01 01 02 0108 05050505050505050505050505050505";
 
 /// Nodes that are none.
-const NONE: &str = "0183 00 00";
+pub const NONE: &str = "0183 00 00";
 
 /// Whether a session refuses the last of these replies in hex for bytes that should have stood behind so many others.
 fn is_malformed(
@@ -380,50 +380,5 @@ fn sessions_that_go_on(rt: HostRuntime) -> Result<(), Fail> {
         after(alloc, &mut local, &[MANY, "0185 02 02 0101 09 11 08 05 01"])? == Found::Came(1)
     );
     assert!(rt; is_as_before(&local));
-    Ok(())
-}
-
-/// The outline of a page over a gap above a key: one node, a page behind it, and a digest of nodes.
-fn page_above(alloc: Global, after: Option<[u8; 8]>, node: [u8; 8]) -> Result<Vec<u8>, Fail> {
-    let mut reply = bytes_of(alloc, "0182 02 05050505050505050505050505050505 01")?;
-    KeyRun::behind(alloc, after.as_ref())?.encode(&node, &mut reply)?;
-    reply.extend_from_slice(&bytes_of(alloc, "00 01 06060606060606060606060606060606")?)?;
-    Ok(reply)
-}
-
-/// How many rounds a session takes in which the peer has a page below each page, until it is refused.
-fn rounds_until_refused(alloc: Global) -> Result<Option<(u64, SessionError)>, Fail> {
-    let mut local = numbers::<[u8; 8]>(alloc, 3, 1, 1)?;
-    let (session, _) = CatchingUp::begin(alloc, &local)?;
-    let mut session = session;
-    let mut reply = bytes_of(alloc, ROOT)?;
-    let mut node = None;
-    let mut rounds = 0u64;
-    for _ in 0..1000 {
-        let message = match session.take(&mut local, &reply) {
-            Ok(Next::Ask(next, message)) => {
-                session = next;
-                message
-            }
-            Ok(Next::Came(_)) => return Ok(None),
-            Err(error) => return Ok(Some((rounds, error))),
-        };
-        if message.get(1) == Some(&3) {
-            reply = bytes_of(alloc, NONE)?;
-        } else {
-            rounds = rounds.saturating_add(1);
-            let next = rounds.saturating_add(10).to_be_bytes();
-            reply = page_above(alloc, node, next)?;
-            node = Some(next);
-        }
-    }
-    Ok(None)
-}
-
-/// A session in which the peer has more and more pages below one another ends: a tree has at most 256 levels.
-#[test]
-fn rounds_without_end_are_refused(rt: HostRuntime) -> Result<(), Fail> {
-    let found = rounds_until_refused(rt.alloc())?;
-    assert!(rt; found == Some((256, SessionError::TooManyRounds)));
     Ok(())
 }

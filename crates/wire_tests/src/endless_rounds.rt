@@ -1,0 +1,53 @@
+//! A peer whose tree has no end: it has a page below each page that it told.
+use crate::hex::bytes_of;
+use crate::refusals::{NONE, ROOT};
+use crate::sessions::numbers;
+use merkle_bytes::KeyRun;
+use merkle_wire::{CatchingUp, Next, SessionError};
+use std::alloc::Global;
+use std::test::Fail;
+
+/// The outline of a page over a gap above a key: one node, a page behind it, and a digest of nodes.
+fn page_above(alloc: Global, after: Option<[u8; 8]>, node: [u8; 8]) -> Result<Vec<u8>, Fail> {
+    let mut reply = bytes_of(alloc, "0182 02 05050505050505050505050505050505 01")?;
+    KeyRun::behind(alloc, after.as_ref())?.encode(&node, &mut reply)?;
+    reply.extend_from_slice(&bytes_of(alloc, "00 01 06060606060606060606060606060606")?)?;
+    Ok(reply)
+}
+
+/// How many rounds a session takes in which the peer has a page below each page, until it is refused.
+fn rounds_until_refused(alloc: Global) -> Result<Option<(u64, SessionError)>, Fail> {
+    let mut local = numbers::<[u8; 8]>(alloc, 3, 1, 1)?;
+    let (session, _) = CatchingUp::begin(alloc, &local)?;
+    let mut session = session;
+    let mut reply = bytes_of(alloc, ROOT)?;
+    let mut node = None;
+    let mut rounds = 0u64;
+    for _ in 0..1000 {
+        let message = match session.take(&mut local, &reply) {
+            Ok(Next::Ask(next, message)) => {
+                session = next;
+                message
+            }
+            Ok(Next::Came(_)) => return Ok(None),
+            Err(error) => return Ok(Some((rounds, error))),
+        };
+        if message.get(1) == Some(&3) {
+            reply = bytes_of(alloc, NONE)?;
+        } else {
+            rounds = rounds.saturating_add(1);
+            let next = rounds.saturating_add(10).to_be_bytes();
+            reply = page_above(alloc, node, next)?;
+            node = Some(next);
+        }
+    }
+    Ok(None)
+}
+
+/// A session in which the peer has more and more pages below one another ends: a tree has at most 256 levels.
+#[test]
+fn rounds_without_end_are_refused(rt: HostRuntime) -> Result<(), Fail> {
+    let found = rounds_until_refused(rt.alloc())?;
+    assert!(rt; found == Some((256, SessionError::TooManyRounds)));
+    Ok(())
+}
