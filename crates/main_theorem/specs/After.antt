@@ -5,7 +5,7 @@ use Rattle.key_order.specs.Map.{get, set, has_key, del, SameMap}
 use Rattle.merkle_diff.specs.Entry.{Entry}
 use Rattle.merkle_diff.specs.SameEntries.{SameEntries}
 use Rattle.merkle_tree_theory.specs.Canonical.{SamePages}
-use Rattle.merkle_tree_theory.specs.State.{State}
+use Rattle.merkle_tree_theory.specs.State.{State, HasSettings}
 use Rattle.merkle_search_tree.specs.Loading.{digests}
 use Rattle.merkle_tree_theory.specs.Ranges.{ranges_of}
 use Rattle.merkle_tree_theory.specs.Remove.{HasFreeGap}
@@ -15,6 +15,7 @@ use Rattle.merkle_tree_theory.specs.Tree.{Tree}
 use Rattle.merkle_tree_theory.specs.TreeOf.{defined_tree}
 use Rattle.merkle_search_tree.specs.declared.updates.Update.{Update}
 use Rattle.merkle_search_tree.specs.declared.updates.Update.TheVariants.{Upsert, Remove, RootHash}
+use Rattle.merkle_replica.specs.Contents.{Contents}
 use Rattle.merkle_replica.specs.Laws.{Laws}
 
 -- a value joined to the one that is there, where there is one
@@ -42,6 +43,10 @@ module _ {K V : Type 0} (cmp : K → K → Ordering) (join : V → V → V) wher
   abbrev pub rows_after : List (Update K V) → List Bool → List (K × V)
   rows_after = rows_after_all []
 
+-- the settings of a tree
+abbrev pub settings_of : {K H : Type 0} → State K H → Settings H
+settings_of tree = record { hasher = tree.hasher; base = tree.base; format = tree.format }
+
 -- equal keys, and equal values
 abbrev pub AreEqual : {K V : Type 0} → (K → K → Ordering) → (V → V → Bool) → List (K × V) → List (K × V) → Type 0
 AreEqual cmp eq = SameMap cmp (λ x y. eq x y ≡ true)
@@ -57,6 +62,11 @@ module _ {K V H : Type 0} (laws : Laws K V H) where
   abbrev pub root_hash_under : Settings H → List (K × V) → List ℕ
   root_hash_under s m = page_digest s.format laws.bytes_of (tree_under s m)
 
+  -- whatever map the old rows equal, the new ones equal the map after the update
+  abbrev pub IsCarriedOut : Update K V → Bool → List (K × V) → List (K × V) → Type 0
+  IsCarriedOut update accepted old new =
+      (m : List (K × V)) → AreEqual laws.cmp laws.eq old m → AreEqual laws.cmp laws.eq new (rows_after_one laws.cmp laws.join m update accepted)
+
   -- an update that takes no memory was accepted: hashing, and a removal of a key that the map hasn't, or beside which a gap is empty in the
   -- tree that the map defines
   abbrev pub IsAcceptedIfFree : Settings H → List (K × V) → Update K V → Bool → Type 0
@@ -69,6 +79,11 @@ module _ {K V H : Type 0} (laws : Laws K V H) where
   FreeAreAccepted s m [] accepted = ⊤
   FreeAreAccepted s m (u ∷ us) [] = ⊤
   FreeAreAccepted s m (u ∷ us) (a ∷ accepted) = IsAcceptedIfFree s m u a × FreeAreAccepted s (rows_after_one laws.cmp laws.join m u a) us accepted
+
+  -- so was an update of a tree whose rows are equal to a map, under the settings of the tree
+  abbrev pub IsAcceptedBy : Contents K V H → Update K V → Bool → Type 0
+  IsAcceptedBy replica update accepted = (s : Settings H) (m : List (K × V)) → HasSettings s replica.tree
+      → AreEqual laws.cmp laws.eq replica.rows m → IsAcceptedIfFree s m update accepted
 
   -- a tree has the pages of the one that a map defines, apart from caches, its page ranges, and its root hash
   pub record IsDefinedBy (s : Settings H) (m : List (K × V)) (tree : State K H) : Type 0 where

@@ -1,2 +1,3 @@
 pub mod After
 pub mod Course
+pub mod Runs

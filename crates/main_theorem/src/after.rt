@@ -1,12 +1,8 @@
 //! A replica's whole life: updates carried out one after the other, from no row on.
-ghost use Rattle.std.specs.Prelude.{◌≡◌, List, [], IfOk, Some, length};
+ghost use Rattle.std.specs.Prelude.{◌≡◌, [], IfOk, Some, length};
 ghost use Rattle.key_order.specs.Order.{Same};
-ghost use Rattle.merkle_search_tree.specs.Loading.{digests};
-ghost use Rattle.merkle_tree_theory.specs.Settings.{Settings};
 ghost use Rattle.merkle_tree_theory.specs.State.{HasSettings, SameSettings};
-ghost use Rattle.merkle_tree_theory.specs.Stream.{page_digest};
-ghost use Rattle.merkle_tree_theory.specs.TreeOf.{defined_tree};
-ghost use Rattle.main_theorem.specs.After.{AreEqual, FreeAreAccepted, IsAcceptedIfFree, rows_after, rows_after_one};
+ghost use Rattle.main_theorem.specs.After.{AreEqual, FreeAreAccepted, IsAcceptedBy, IsCarriedOut, root_hash_under, rows_after, settings_of};
 
 use merkle_digest::{Hasher, Key};
 use merkle_replica::{Join, Lawful, Replica};
@@ -24,9 +20,8 @@ where
     K: Key + Drop,
     V: Join + Drop,
     H: Hasher<N, K> + Hasher<N, V>,
-    ensures rows { (m : List (K × V)) → AreEqual K.cmp V.eq replica.old.rows m → AreEqual K.cmp V.eq replica.new.rows (rows_after_one K.cmp V.join_of m update result) }
-    ensures free { (s : Settings H) (m : List (K × V)) → HasSettings s replica.old.tree → AreEqual K.cmp V.eq replica.old.rows m
-        → IsAcceptedIfFree ⟦<H as Lawful<N, K, V>>⟧.laws s m update result }
+    ensures rows { IsCarriedOut ⟦<H as Lawful<N, K, V>>⟧.laws update result replica.old.rows replica.new.rows }
+    ensures free { IsAcceptedBy ⟦<H as Lawful<N, K, V>>⟧.laws replica.old update result }
     ensures settings { SameSettings replica.old.tree replica.new.tree }
 {
     a_map_has_one_tree::<K, H, N>();
@@ -56,8 +51,7 @@ where
     ensures free { IfOk result (λ r. FreeAreAccepted ⟦<H as Lawful<N, K, V>>⟧.laws builder [] updates.items r.1.items) }
     ensures rows { IfOk result (λ r. AreEqual K.cmp V.eq r.0.rows (rows_after K.cmp V.join_of updates.items r.1.items)) }
     ensures settings { IfOk result (λ r. HasSettings builder r.0.tree) }
-    ensures root_hash { IfOk result (λ r. r.0.tree.root_hash ≡ Some (page_digest builder.format K.bytes_of
-        (defined_tree (⟦<H as Hasher<N, K>>⟧.digest_of builder.hasher) builder.base (digests (⟦<H as Hasher<N, V>>⟧.digest_of builder.hasher) r.0.rows)))) }
+    ensures root_hash { IfOk result (λ r. r.0.tree.root_hash ≡ Some (root_hash_under ⟦<H as Lawful<N, K, V>>⟧.laws builder r.0.rows)) }
 {
     let mut accepted = Vec::with_capacity(alloc, updates.len())?;
     let mut replica = Replica::new(alloc, builder);
@@ -76,8 +70,7 @@ where
     H: Hasher<N, K> + Hasher<N, V>,
     ensures rows { replica.new.rows ≡ replica.old.rows }
     ensures settings { SameSettings replica.old.tree replica.new.tree }
-    ensures root_hash { replica.new.tree.root_hash ≡ Some (page_digest replica.old.tree.format K.bytes_of
-        (defined_tree (⟦<H as Hasher<N, K>>⟧.digest_of replica.old.tree.hasher) replica.old.tree.base (digests (⟦<H as Hasher<N, V>>⟧.digest_of replica.old.tree.hasher) replica.old.rows))) }
+    ensures root_hash { replica.new.tree.root_hash ≡ Some (root_hash_under ⟦<H as Lawful<N, K, V>>⟧.laws (settings_of replica.old.tree) replica.old.rows) }
 {
     a_map_has_one_tree::<K, H, N>();
     every_tree_is_sound(replica.tree());

@@ -1,11 +1,9 @@
 //! How two replicas come together.
-ghost use Rattle.std.specs.Prelude.{◌≡◌, List, IfOk, IfErr};
+ghost use Rattle.std.specs.Prelude.{◌≡◌, IfOk, IfErr};
 ghost use Rattle.key_order.specs.Order.{Same};
 ghost use Rattle.merkle_tree_theory.specs.State.{SameSettings};
-ghost use Rattle.merkle_replica.specs.Contents.{Side, side};
-ghost use Rattle.merkle_replica.specs.Faithful.{AllFaithful};
-ghost use Rattle.merkle_replica.specs.Pulls.{HoldTheJoin};
-ghost use Rattle.main_theorem.specs.Course.{AreExchanged, IsDone, IsEnough, IsStopped};
+ghost use Rattle.merkle_replica.specs.Contents.{side};
+ghost use Rattle.main_theorem.specs.Course.{ComeTogether, IsDone, IsStopped};
 
 use merkle_digest::{Hasher, Key};
 use merkle_replica::{
@@ -60,9 +58,7 @@ pub(crate) fn come_together<
     exchange: Exchange,
 ) -> Result<Exchanged<K>, RunRefused<K>>
     ensures done { IfOk result (λ exchanged. IsDone exchange exchanged) }
-    ensures converges { let laws = ⟦<H as Lawful<N, K, V>>⟧.laws in IfOk result (λ exchanged. (met : List (Side K V H × Side K V H))
-        × AreExchanged laws exchanged (side a.old) (side b.old) a.new.rows b.new.rows met
-        × (AllFaithful laws met → IsEnough exchange → HoldTheJoin laws (side a.old) (side b.old) a.new.rows b.new.rows)) }
+    ensures converges { IfOk result (λ exchanged. ComeTogether ⟦<H as Lawful<N, K, V>>⟧.laws exchange exchanged (side a.old) (side b.old) a.new.rows b.new.rows) }
     ensures stopped { IfErr result (λ refused. IsStopped exchange refused) }
     ensures a_settings { SameSettings a.old.tree a.new.tree }
     ensures b_settings { SameSettings b.old.tree b.new.tree }

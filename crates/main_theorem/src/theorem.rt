@@ -1,10 +1,8 @@
 //! The main theorem.
-ghost use Rattle.std.specs.Prelude.{◌≡◌, List, [], IfOk, IfErr, length};
+ghost use Rattle.std.specs.Prelude.{◌≡◌, IfOk, IfErr};
 ghost use Rattle.key_order.specs.Order.{Same};
-ghost use Rattle.merkle_replica.specs.Contents.{Side};
-ghost use Rattle.merkle_replica.specs.Faithful.{AllFaithful};
-ghost use Rattle.main_theorem.specs.After.{AreEqual, FreeAreAccepted, rows_after, IsDefinedBy};
-ghost use Rattle.main_theorem.specs.Course.{IsCourse, IsDone, IsEnough, IsStopped, AreOne};
+ghost use Rattle.main_theorem.specs.Course.{IsDone, IsStopped};
+ghost use Rattle.main_theorem.specs.Runs.{AreAnswered, AcceptsTheFree, HasItsMap, HasTheDefinedTree, Converge};
 ghost use Rattle.main_theorem.specs.declared.course.Exchange.TheVariants.{Apart};
 
 use crate::after::{after, hash_last};
@@ -66,30 +64,26 @@ where
     // A clone of the hasher is the hasher.
     requires hashers { (x y : H) → H.is_clone x y → y ≡ x }
 
-    // Each update is answered.
-    ensures answers { IfOk result (λ r. (length r.a.accepted.items ≡ length a_updates.items) × (length r.b.accepted.items ≡ length b_updates.items)) }
-
-    // Those that take no memory are accepted.
-    ensures free { let laws = ⟦<H as Lawful<N, K, V>>⟧.laws in IfOk result (λ r.
-        FreeAreAccepted laws builder [] a_updates.items r.a.accepted.items × FreeAreAccepted laws builder [] b_updates.items r.b.accepted.items) }
+    // Each update is answered, and accepted where it takes no memory.
+    ensures answers { IfOk result (λ r. AreAnswered a_updates.items r.a × AreAnswered b_updates.items r.b) }
+    ensures free { IfOk result (λ r. AcceptsTheFree ⟦<H as Lawful<N, K, V>>⟧.laws builder a_updates.items r.a
+        × AcceptsTheFree ⟦<H as Lawful<N, K, V>>⟧.laws builder b_updates.items r.b) }
 
     // The rows that the updates leave are the map of the accepted ones.
-    ensures rows { exchange ≡ Apart → IfOk result (λ r. AreEqual K.cmp V.eq r.a.replica.rows (rows_after K.cmp V.join_of a_updates.items r.a.accepted.items)
-        × AreEqual K.cmp V.eq r.b.replica.rows (rows_after K.cmp V.join_of b_updates.items r.b.accepted.items)) }
+    ensures rows { exchange ≡ Apart → IfOk result (λ r. HasItsMap ⟦<H as Lawful<N, K, V>>⟧.laws a_updates.items r.a
+        × HasItsMap ⟦<H as Lawful<N, K, V>>⟧.laws b_updates.items r.b) }
 
     // Whatever map the rows of a replica are, its pages are the one tree that the map defines, apart from caches, and its page ranges
     // and root hash are the defined ones.
-    ensures a_defined { IfOk result (λ r. (m : List (K × V)) → AreEqual K.cmp V.eq r.a.replica.rows m → IsDefinedBy ⟦<H as Lawful<N, K, V>>⟧.laws builder m r.a.replica.tree) }
-    ensures b_defined { IfOk result (λ r. (m : List (K × V)) → AreEqual K.cmp V.eq r.b.replica.rows m → IsDefinedBy ⟦<H as Lawful<N, K, V>>⟧.laws builder m r.b.replica.tree) }
+    ensures a_defined { IfOk result (λ r. HasTheDefinedTree ⟦<H as Lawful<N, K, V>>⟧.laws builder r.a) }
+    ensures b_defined { IfOk result (λ r. HasTheDefinedTree ⟦<H as Lawful<N, K, V>>⟧.laws builder r.b) }
 
     // The exchange that was asked for led from the two maps to the rows at the end.
     ensures exchanged { IfOk result (λ r. IsDone exchange r.exchanged) }
 
     // While digests are faithful in what was met on the way, four pulls by turns or more, or a catch-up each way, leave both replicas with
     // the join of the two maps, and one root hash.
-    ensures converges { let laws = ⟦<H as Lawful<N, K, V>>⟧.laws in IfOk result (λ r. let m = rows_after K.cmp V.join_of a_updates.items r.a.accepted.items in let n = rows_after K.cmp V.join_of b_updates.items r.b.accepted.items in
-        (met : List (Side K V H × Side K V H)) × IsCourse laws builder m n r.exchanged r.a.replica.rows r.b.replica.rows met
-        × (AllFaithful laws met → IsEnough exchange → AreOne laws m n r.a.replica r.b.replica)) }
+    ensures converges { IfOk result (Converge ⟦<H as Lawful<N, K, V>>⟧.laws builder a_updates.items b_updates.items exchange) }
 
     // A run is refused before the exchange, or in the one that was asked for.
     ensures refused { IfErr result (λ refused. IsStopped exchange refused) }
