@@ -1,4 +1,6 @@
 //! The words of a line of the shell.
+ghost use Rattle.std.specs.Prelude.{◌≡◌};
+
 use std::alloc::{AllocError, Global};
 
 /// Why a line has no words.
@@ -11,6 +13,10 @@ pub enum NoWords {
 }
 
 impl From<AllocError> for NoWords {
+    ghost use Rattle.mst_words.specs.declared.line.NoWords.TheVariants.{Memory};
+
+    ghost from_gives = { λ _ why. why ≡ Memory };
+
     fn from(_error: AllocError) -> Self {
         NoWords::Memory
     }

@@ -1,4 +1,8 @@
 //! The commands, and what each takes.
+ghost use Rattle.std.specs.Prelude.{◌≡◌, ◌≢◌, MatchOption};
+ghost use Rattle.mst_words.specs.Names.{verb_name, setting_name, takes_value};
+ghost use Rattle.mst_words.specs.declared.verb.Setting.{Setting as SettingOf};
+ghost use Rattle.mst_words.specs.declared.verb.Verb.{Verb as VerbOf};
 
 /// A command.
 #[derive(Clone, Copy, Debug, PartialEq, Eq)]
@@ -56,7 +60,9 @@ pub struct Form {
 }
 
 /// The command of this name.
-pub fn verb_of(name: &str) -> Option<Verb> {
+pub fn verb_of(name: &str) -> Option<Verb>
+    ensures { MatchOption result ((verb : VerbOf) → name.now ≢ verb_name verb) (λ verb. name.now ≡ verb_name verb) }
+{
     match name {
         "init" => Some(Verb::Init),
         "put" => Some(Verb::Put),
@@ -78,7 +84,9 @@ pub fn verb_of(name: &str) -> Option<Verb> {
 }
 
 /// The setting of this name.
-pub fn setting_of(name: &str) -> Option<Setting> {
+pub fn setting_of(name: &str) -> Option<Setting>
+    ensures { MatchOption result ((setting : SettingOf) → name.now ≢ setting_name setting) (λ setting. name.now ≡ setting_name setting) }
+{
     match name {
         "--from" => Some(Setting::From),
         "--to" => Some(Setting::To),
@@ -94,7 +102,9 @@ pub fn setting_of(name: &str) -> Option<Setting> {
 }
 
 /// Whether a setting has a value behind it.
-pub fn has_value(setting: Setting) -> bool {
+pub fn has_value(setting: Setting) -> bool
+    ensures { result ≡ takes_value setting }
+{
     match setting {
         Setting::Json | Setting::Log | Setting::Ahead => false,
         _ => true,

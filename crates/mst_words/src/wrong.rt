@@ -1,4 +1,7 @@
 //! Why a command line is wrong.
+ghost use Rattle.std.specs.Prelude.{Some};
+ghost use Rattle.mst_words.specs.Texts.{wrong_text};
+
 use std::fmt;
 
 /// Why a command line is wrong.
@@ -25,6 +28,8 @@ pub enum Wrong<'a> {
 }
 
 impl fmt::Display for Wrong<'_> {
+    ghost output = { λ wrong. Some (wrong_text wrong) };
+
     fn fmt<W: fmt::Write>(&self, f: &mut fmt::Formatter<W>) -> fmt::Result {
         match self {
             Wrong::NoCommand => f.write_str("there is no command"),

@@ -1,0 +1,43 @@
+-- What commands and settings are called.
+use Rattle.std.specs.Prelude.{ℕ, List, Bool, true, false, codes}
+use Rattle.mst_words.specs.declared.verb.Verb.{Verb}
+use Rattle.mst_words.specs.declared.verb.Verb.TheVariants.{Init, Put, Get, Del, List as ListOf, Count, Root, Status, Import, Export, Compact, Shell, Serve, Pull, Diff}
+use Rattle.mst_words.specs.declared.verb.Setting.{Setting}
+use Rattle.mst_words.specs.declared.verb.Setting.TheVariants.{From, To, Prefix, Limit, Json, Log, Forget, Ahead, Wait}
+
+-- the name of a command
+abbrev pub verb_name : Verb → List ℕ
+verb_name Init = codes "init"
+verb_name Put = codes "put"
+verb_name Get = codes "get"
+verb_name Del = codes "del"
+verb_name ListOf = codes "list"
+verb_name Count = codes "count"
+verb_name Root = codes "root"
+verb_name Status = codes "status"
+verb_name Import = codes "import"
+verb_name Export = codes "export"
+verb_name Compact = codes "compact"
+verb_name Shell = codes "shell"
+verb_name Serve = codes "serve"
+verb_name Pull = codes "pull"
+verb_name Diff = codes "diff"
+
+-- the name of a setting
+abbrev pub setting_name : Setting → List ℕ
+setting_name From = codes "--from"
+setting_name To = codes "--to"
+setting_name Prefix = codes "--prefix"
+setting_name Limit = codes "--limit"
+setting_name Json = codes "--json"
+setting_name Log = codes "--log"
+setting_name Forget = codes "--forget-removals-older-than"
+setting_name Ahead = codes "--allow-ahead"
+setting_name Wait = codes "--wait"
+
+-- whether a value stands behind a setting
+abbrev pub takes_value : Setting → Bool
+takes_value Json = false
+takes_value Log = false
+takes_value Ahead = false
+takes_value _ = true
