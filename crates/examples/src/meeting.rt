@@ -2,6 +2,9 @@
 ghost use Rattle.std.specs.Prelude.{◌≡◌, [], ◌∷◌, OnOk, OnErr, IfErr, max, nat_eq};
 ghost use Rattle.key_order.specs.Join.{IsJoin};
 ghost use Rattle.key_order.specs.Text.{text_order};
+ghost use Rattle.merkle_tree_theory.specs.Settings.{default_settings};
+ghost use Rattle.merkle_tree_theory.specs.State.{HasSettings};
+ghost use Rattle.merkle_tree_theory.specs.declared.page_format.PageFormat.TheVariants.{V1};
 ghost use Rattle.merkle_replica.specs.CatchUp.{AreCatchUpsRefused};
 ghost use Rattle.merkle_replica.specs.Contents.{side, with_rows};
 ghost use Rattle.merkle_replica.specs.Faithful.{IsFaithful};
@@ -17,7 +20,8 @@ pub type Numbers = Replica<String, u64, SipHasher, 16>;
 
 /// Numbers, none yet, under the default settings.
 pub fn no_numbers(alloc: Global) -> Numbers
-    ensures { result.rows ≡ [] }
+    ensures empty { result.rows ≡ [] }
+    ensures defaults { HasSettings (default_settings V1) result.tree }
 {
     Replica::new(alloc, Builder::default())
 }
@@ -29,6 +33,7 @@ pub fn no_numbers(alloc: Global) -> Numbers
 /// Want of memory: the numbers are as they were.
 pub fn raise(numbers: &mut Numbers, name: String, number: u64) -> Result<(), AllocError>
     ensures joined { OnOk result (IsJoin text_order nat_eq max numbers.old.rows ((name, number) ∷ []) numbers.new.rows) }
+    ensures side { OnOk result (side numbers.new ≡ with_rows (side numbers.old) numbers.new.rows) }
     ensures unchanged { OnErr result (numbers.new ≡ numbers.old) }
 {
     numbers.put(name, number)
