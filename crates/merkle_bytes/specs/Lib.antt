@@ -4,6 +4,7 @@ pub mod Options
 pub mod PageRanges
 pub mod Refusals
 pub mod Telling
+pub mod Texts
 pub mod Keys
 pub mod Runs
 pub mod RunTelling

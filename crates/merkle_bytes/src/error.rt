@@ -1,5 +1,6 @@
 //! Why bytes were not read.
-ghost use Rattle.std.specs.Prelude.{◌≡◌};
+ghost use Rattle.std.specs.Prelude.{◌≡◌, Some};
+ghost use Rattle.merkle_bytes.specs.Texts.{expected_text, read_error_text};
 
 use std::alloc::{AllocError, AllocFailed};
 use std::fmt;
@@ -62,6 +63,8 @@ impl From<AllocError> for ReadError {
 }
 
 impl fmt::Display for Expected {
+    ghost output = { λ expected. Some (expected_text expected) };
+
     fn fmt<W: fmt::Write>(&self, f: &mut fmt::Formatter<W>) -> fmt::Result {
         match self {
             Expected::Bytes(count) => write!(f, "{count} bytes more"),
@@ -85,6 +88,8 @@ impl fmt::Display for Expected {
 }
 
 impl fmt::Display for ReadError {
+    ghost output = { λ error. Some (read_error_text error) };
+
     fn fmt<W: fmt::Write>(&self, f: &mut fmt::Formatter<W>) -> fmt::Result {
         match self {
             ReadError::Memory => f.write_str("out of memory"),
