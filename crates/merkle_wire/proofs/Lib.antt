@@ -29,3 +29,5 @@ pub mod ValuesRead
 pub mod OutlinesRead
 pub mod AskedFor
 pub mod WholeSessions
+pub mod NoSettings
+pub mod NoQuestion

@@ -13,3 +13,6 @@ pub mod Asking
 pub mod Underway
 pub mod Next
 pub mod Sessions
+pub mod Faults
+pub mod Steps
+pub mod Told

@@ -1,16 +1,23 @@
 -- What a message can ask for, as bytes.
-use Rattle.std.specs.Prelude.{ℕ, List, [], ◌++◌}
+use Rattle.std.specs.Prelude.{◌≡◌, ◌≢◌, ℕ, ◌<◌, ◌^◌, List, [], ◌++◌}
+use Rattle.std.specs.List.{AllByRecursion}
 use Rattle.merkle_bytes.specs.Counts.{count_bytes}
 use Rattle.merkle_bytes.specs.Keys.{key_behind}
 use Rattle.merkle_bytes.specs.Runs.{run_bytes}
-use Rattle.merkle_wire.specs.Gaps.{owned_gap, gap_behind, gap_key}
+use Rattle.merkle_tree_theory.specs.State.{State}
+use Rattle.merkle_wire.specs.Gaps.{IsGap, owned_gap, gap_behind, gap_key}
 use Rattle.merkle_wire.specs.Messages.{front}
-use Rattle.merkle_wire.specs.Settings.{settings_bytes}
+use Rattle.merkle_wire.specs.Settings.{AreSettings, AreSettingsOf, settings_bytes}
 use Rattle.merkle_wire.specs.declared.gaps.OwnedGap.{OwnedGap}
 use Rattle.merkle_wire.specs.declared.message.Kind.TheVariants.{AskRoot, AskOutlines, AskNodes, AskRowsAt, AskRowsIn}
 use Rattle.merkle_wire.specs.declared.question.Question.{Question}
 use Rattle.merkle_wire.specs.declared.question.Question.TheVariants.{Root, Outlines, Nodes, RowsAt, RowsIn}
+use Rattle.merkle_wire.specs.declared.settings.Settings.{Settings}
 use Rattle.merkle_wire.specs.declared.wanted.Wanted.{Wanted}
+
+-- the bytes are no list of such entries
+abbrev pub IsNoRun : {X S : Type 0} → (S → X → List ℕ) → (S → X → S) → (X → Type 0) → S → List ℕ → Type 0
+IsNoRun {X} bytes next is_entry s left = (list : List X) → AllByRecursion is_entry list → left ≢ run_bytes bytes next s list
 
 module _ {K : Type 0} (encoding : K → List ℕ) where
   -- gaps, each behind the last key of the one before
@@ -28,3 +35,25 @@ module _ {K : Type 0} (encoding : K → List ℕ) where
   question_bytes (Nodes most gaps) = (front AskNodes ++ count_bytes most) ++ gaps_bytes gaps.items
   question_bytes (RowsAt keys) = front AskRowsAt ++ keys_bytes [] keys.items
   question_bytes (RowsIn gaps) = front AskRowsIn ++ gaps_bytes gaps.items
+
+module _ {K : Type 0} (is_value : K → Type 0) where
+  -- gaps between keys that are values
+  abbrev pub AreGaps : List (OwnedGap K) → Type 0
+  AreGaps = AllByRecursion (λ g. IsGap is_value (owned_gap g))
+
+  -- a question that can be read: its numbers fit, and its keys are values
+  abbrev pub IsQuestion : Question K → Type 0
+  IsQuestion (Root settings) = AreSettings is_value settings
+  IsQuestion (Outlines most gaps) = (most < 2 ^ 64) × AreGaps gaps.items
+  IsQuestion (Nodes most gaps) = (most < 2 ^ 64) × AreGaps gaps.items
+  IsQuestion (RowsAt keys) = AllByRecursion (λ w. is_value w.key) keys.items
+  IsQuestion (RowsIn gaps) = AreGaps gaps.items
+
+module _ {K : Type 0} (encoding : K → List ℕ) (is_value : K → Type 0) where
+  -- the message is that of no question
+  abbrev pub AsksNothing : List ℕ → Type 0
+  AsksNothing message = (question : Question K) → IsQuestion is_value question → message ≢ question_bytes encoding question
+
+-- the question is for the root, with the settings of a tree whose digests have n bytes
+abbrev pub AsksForRoot : {K H : Type 0} → (K → List ℕ) → ℕ → State K H → Question K → Type 0
+AsksForRoot {K} digest_of n tree question = (settings : Settings K) × (question ≡ Root settings) × AreSettingsOf digest_of n tree settings

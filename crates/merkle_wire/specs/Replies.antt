@@ -1,11 +1,13 @@
 -- Replies, as bytes. Each begins to answer a list of what was asked for, and says something of the first of it or of all.
 use Rattle.std.specs.Prelude.{◌≡◌, ◌≢◌, ℕ, List, [], ◌∷◌, ◌++◌, length, map, flat_map, Bool, true, false, cond, Option, Some, None}
+use Rattle.std.specs.Global.{Vec}
 use Rattle.std.specs.List.{AllByRecursion}
 use Rattle.std.specs.declared.cmp.Ordering.{Ordering}
 use Rattle.key_order.specs.Map.{get}
 use Rattle.merkle_bytes.specs.Counts.{count_bytes}
 use Rattle.merkle_bytes.specs.Options.{option_bytes}
 use Rattle.merkle_bytes.specs.Runs.{run_bytes, row_behind, row_key, bound_key}
+use Rattle.merkle_replica.specs.Contents.{Contents}
 use Rattle.merkle_replica.specs.Laws.{Laws}
 use Rattle.merkle_tree_theory.specs.Gap.{pairs_within}
 use Rattle.merkle_tree_theory.specs.Outline.{Item, of_node, of_page, outline_over, whole_item}
@@ -60,6 +62,10 @@ whole_digest [] = None
 whole_digest (of_node k d ∷ xs) = None
 whole_digest (of_page g d ∷ xs) = Some d
 
+-- the reply to a question for the root: how many rows there are, and the digest of the root page, or none
+abbrev pub root_bytes : {K V H : Type 0} → (K → List ℕ) → List (K × V) → State K H → List ℕ
+root_bytes bytes_of rows tree = (front root_kind ++ count_bytes (length rows)) ++ option_bytes (λ d. d) (whole_digest (whole_item tree.format bytes_of tree.root))
+
 -- the items of the page over a gap
 abbrev pub items_over : {K H : Type 0} → (K → K → Ordering) → (K → List ℕ) → State K H → OwnedGap K → List (Item K (List ℕ))
 items_over cmp bytes_of tree gap = outline_over tree.format bytes_of cmp tree.root (owned_gap gap)
@@ -68,7 +74,7 @@ module _ {K V H : Type 0} (cmp : K → K → Ordering) (bytes_of encoding : K �
   -- the reply to a question: where the settings are those of the tree, how many rows there are and the digest of the root page, or none; what is
   -- told of the pages over the gaps; the values at the keys; or the rows in the gaps
   abbrev pub IsReply : Question K → List ℕ → Type 0
-  IsReply (Root settings) reply = AreSettingsOf digest_of n tree settings × (reply ≡ (front root_kind ++ count_bytes (length rows)) ++ option_bytes (λ d. d) (whole_digest (whole_item tree.format bytes_of tree.root)))
+  IsReply (Root settings) reply = AreSettingsOf digest_of n tree settings × (reply ≡ root_bytes bytes_of rows tree)
   IsReply (Outlines most gaps) reply = (told : List (OwnedGap K × Outline K V)) × Answers (λ g. IsTold cmp rows true (items_over cmp bytes_of tree g)) gaps.items told × (reply ≡ front outlines_kind ++ outlines_bytes encoding values told)
   IsReply (Nodes most gaps) reply = (told : List (OwnedGap K × Outline K V)) × Answers (λ g. IsTold cmp rows false (items_over cmp bytes_of tree g)) gaps.items told × (reply ≡ front nodes_kind ++ outlines_bytes encoding values told)
   IsReply (RowsAt keys) reply = (told : List (Wanted K × Option V)) × Answers (λ w value. value ≡ get cmp rows w.key) keys.items told × (reply ≡ front rows_at_kind ++ values_bytes values told)
@@ -76,9 +82,22 @@ module _ {K V H : Type 0} (cmp : K → K → Ordering) (bytes_of encoding : K �
 
 module _ {K V H : Type 0} (laws : Laws K V H) (n : ℕ) (encoding : K → List ℕ) (values : V → List ℕ) where
   -- the reply to a question of a replica with these rows and this tree, whose digests of values have n bytes
-  abbrev pub IsReplyBy : List (K × V) → State K H → Question K → List ℕ → Type 0
-  IsReplyBy rows tree = IsReply laws.cmp laws.bytes_of encoding values (laws.key_digest tree.hasher) n rows tree
+  abbrev pub IsReplyBy : List (K × V) → State K H → Question K → Vec ℕ → Type 0
+  IsReplyBy rows tree question reply = IsReply laws.cmp laws.bytes_of encoding values (laws.key_digest tree.hasher) n rows tree question reply.items
 
-  -- the message asks a question, and this is the reply to it
-  abbrev pub IsAnsweredBy : List (K × V) → State K H → List ℕ → List ℕ → Type 0
-  IsAnsweredBy rows tree message reply = (question : Question K) × (message ≡ question_bytes encoding question) × IsReplyBy rows tree question reply
+  -- the message asks a question, and this is the reply to it, by the rows that a replica had and the tree that it has
+  abbrev pub IsAnsweredBy : Contents K V H → Contents K V H → List ℕ → Vec ℕ → Type 0
+  IsAnsweredBy old new message reply = (question : Question K) × (message ≡ question_bytes encoding question) × IsReplyBy old.rows new.tree question reply
+
+module _ {K V H : Type 0} (laws : Laws K V H) (n : ℕ) where
+  -- the question is for the root, with settings that are not those of the tree
+  abbrev pub TellsOthers : State K H → Question K → Type 0
+  TellsOthers tree (Root settings) = ¬ AreSettingsOf (laws.key_digest tree.hasher) n tree settings
+  TellsOthers tree (Outlines most gaps) = ⊥
+  TellsOthers tree (Nodes most gaps) = ⊥
+  TellsOthers tree (RowsAt keys) = ⊥
+  TellsOthers tree (RowsIn gaps) = ⊥
+
+  -- the message asks such a question
+  abbrev pub AsksWithOthers : (K → List ℕ) → State K H → List ℕ → Type 0
+  AsksWithOthers encoding tree message = (question : Question K) × (message ≡ question_bytes encoding question) × TellsOthers tree question

@@ -5,15 +5,17 @@ use Rattle.std.specs.List.{AllByRecursion}
 use Rattle.key_order.specs.Join.{IsJoin}
 use Rattle.key_order.specs.Order.{AnyByRecursion, Same}
 use Rattle.key_order.specs.Map.{IsMap, get}
-use Rattle.merkle_replica.specs.CatchUp.{IsLacked}
+use Rattle.merkle_replica.specs.CatchUp.{IsCatchUp, IsCatchUpOf, IsLacked}
 use Rattle.merkle_replica.specs.Contents.{Side, with_rows, tree_map}
-use Rattle.merkle_replica.specs.Faithful.{IsFaithful}
+use Rattle.merkle_replica.specs.Faithful.{AreSetAlike, HasSmallMap, IsCollisionFree, IsFaithful}
 use Rattle.merkle_replica.specs.Laws.{Laws}
+use Rattle.merkle_replica.specs.Pulls.{HoldTheJoin}
 use Rattle.merkle_tree_theory.specs.Canonical.{IsTreeOf}
 use Rattle.merkle_tree_theory.specs.Gap.{Gap, IsInGap}
 use Rattle.merkle_tree_theory.specs.Outline.{outline_over}
 use Rattle.merkle_tree_theory.specs.State.{State}
 use Rattle.merkle_tree_theory.specs.Tree.{Tree}
+use Rattle.merkle_tree_theory.specs.declared.page_format.PageFormat.TheVariants.{V2}
 use Rattle.merkle_wire.specs.Found.{Found, nothing}
 use Rattle.merkle_wire.specs.Gaps.{owned_gap}
 use Rattle.merkle_wire.specs.Next.{IsNext}
@@ -78,6 +80,14 @@ module _ {K V H : Type 0} (laws : Laws K V H) (local peer : Side K V H) where
   abbrev pub HasJoined : ℕ → List (K × V) → Type 0
   HasJoined joined after = (rows : List (K × V)) × (joined ≡ length rows) × AreBrought rows × IsJoin laws.cmp laws.eq laws.join local.rows rows after
 
+  -- while digests are faithful, to have joined so many rows is a catch-up
+  abbrev pub CatchesUpWhileFaithful : ℕ → List (K × V) → Type 0
+  CatchesUpWhileFaithful joined after = IsFaithfulSession → IsCatchUpOf laws local peer joined after
+
+  -- while digests are faithful, the rows are the join of both sides' rows
+  abbrev pub JoinsWhileFaithful : List (K × V) → Type 0
+  JoinsWhileFaithful after = IsFaithfulSession → IsJoin laws.cmp laws.eq laws.join local.rows peer.rows after
+
   -- nothing is joined; or the first `done` of such rows, and not all
   abbrev pub IsMessagesRefused : MessagesError → List (K × V) → Type 0
   IsMessagesRefused (Answer error) after = after ≡ local.rows
@@ -88,6 +98,10 @@ module _ {K V H : Type 0} (laws : Laws K V H) where
   -- a has joined so many rows of b, and then b so many of a
   abbrev pub HaveJoined : Side K V H → Side K V H → ℕ → ℕ → List (K × V) → List (K × V) → Type 0
   HaveJoined a b first second a' b' = HasJoined laws a b first a' × HasJoined laws b (with_rows a a') second b'
+
+  -- while digests are faithful before each of the two, both hold the join
+  abbrev pub HoldTheJoinWhileFaithful : Side K V H → Side K V H → List (K × V) → List (K × V) → Type 0
+  HoldTheJoinWhileFaithful a b a' b' = IsFaithfulSession laws a b → IsFaithfulSession laws b (with_rows a a') → HoldTheJoin laws a b a' b'
 
   -- the first of them ended early, or the second
   abbrev pub AreBothRefused : Side K V H → Side K V H → BothMessagesError → List (K × V) → List (K × V) → Type 0
@@ -152,3 +166,31 @@ module _ {K V H : Type 0} (laws : Laws K V H) (n : ℕ) (encoding : K → List �
     pub asks_root : begun.asked ≡ Root settings
     pub nothing_found : begun.found ≡ nothing
     pub exchanges : AreExchanges begun more rows
+
+module _ {K V H : Type 0} (laws : Laws K V H) (n : ℕ) (encoding : K → List ℕ) where
+  -- where the catch-up covers what the side lacks, by any tree of the peer's map, what comes next covers it
+  abbrev pub GoesOnCovering : Side K V H → Side K V H → Underway K V → Next K V → Type 0
+  GoesOnCovering local peer before next = (root : Tree K (List ℕ)) → IsTreeOf laws.cmp (laws.key_digest peer.hasher) peer.base root (tree_map laws peer)
+      → HasSmallMap laws n peer → Covers laws local peer root before → CoversNext laws local peer root encoding next
+
+module _ {K V H : Type 0} (laws : Laws K V H) where
+  -- a session brings rows of the peer that the side lacks
+  abbrev pub SessionsBring : ℕ → (K → List ℕ) → (V → List ℕ) → Type 0
+  SessionsBring n encoding values = (local peer : Side K V H) (rows : List (K × V)) → IsMap laws.cmp local.rows → IsMap laws.cmp peer.rows
+      → HasSmallMap laws n peer → IsSession laws n encoding values local peer rows → AreBrought laws local peer rows
+
+  -- to join such rows is a catch-up, while digests are faithful
+  abbrev pub BroughtRowsCatchUp : Type 0
+  BroughtRowsCatchUp = (local peer : Side K V H) (rows after : List (K × V)) → IsMap laws.cmp peer.rows → AreBrought laws local peer rows
+      → IsJoin laws.cmp laws.eq laws.join local.rows rows after → IsFaithfulSession laws local peer → IsCatchUp laws local peer (map (λ r. r.0) rows) after
+
+  -- and leaves the join of both sides' rows
+  abbrev pub BroughtRowsJoin : Type 0
+  BroughtRowsJoin = (local peer : Side K V H) (rows after : List (K × V)) → IsMap laws.cmp peer.rows → AreBrought laws local peer rows
+      → IsJoin laws.cmp laws.eq laws.join local.rows rows after → IsFaithfulSession laws local peer
+      → IsJoin laws.cmp laws.eq laws.join local.rows peer.rows after
+
+  -- in page format 2 digests are faithful in a session of two sides that are set alike, where nothing collides
+  abbrev pub NoCollisionIsFaithful : ℕ → Type 0
+  NoCollisionIsFaithful n = (a b : Side K V H) → AreSetAlike laws a b → GiveOneDigest laws a b → a.format ≡ V2
+      → IsCollisionFree laws n a b → NoNodesCollide laws a b → IsFaithfulSession laws a b

@@ -1,12 +1,12 @@
 -- What the digests of two sides rest on.
-use Rattle.std.specs.Prelude.{◌≡◌, ℕ, List, ◌∷◌, ◌++◌, Option, Some, None, ⊤}
+use Rattle.std.specs.Prelude.{◌≡◌, ◌≢◌, ℕ, ◌<◌, ◌^◌, List, ◌∷◌, ◌++◌, Option, Some, None, ⊤}
 use Rattle.std.specs.Global.{Vec}
 use Rattle.merkle_tree_theory.specs.State.{State}
 use Rattle.merkle_tree_theory.specs.declared.page_format.PageFormat.{PageFormat}
 use Rattle.merkle_tree_theory.specs.declared.page_format.PageFormat.TheVariants.{V1, V2}
 use Rattle.merkle_bytes.specs.Counts.{count_bytes}
 use Rattle.merkle_bytes.specs.Encodings.{string_encoding}
-use Rattle.merkle_bytes.specs.Options.{option_bytes}
+use Rattle.merkle_bytes.specs.Options.{option_bytes, IsOption}
 use Rattle.merkle_wire.specs.declared.settings.Settings.{Settings}
 
 -- the byte of a page format
@@ -18,6 +18,16 @@ module _ {K : Type 0} (encoding : K → List ℕ) where
   -- the level base, the page format, how many bytes a digest has, and a key with its digest, or none
   abbrev pub settings_bytes : Settings K → List ℕ
   settings_bytes s = s.level_base ∷ format_byte s.page_format ∷ (count_bytes s.digest_bytes ++ option_bytes (λ p. encoding p.0 ++ string_encoding p.1.items) s.sample)
+
+module _ {K : Type 0} (is_value : K → Type 0) where
+  -- settings that can be read: the number of bytes of a digest fits, and the key of the sample is a value
+  abbrev pub AreSettings : Settings K → Type 0
+  AreSettings s = (s.digest_bytes < 2 ^ 64) × IsOption (λ p. is_value p.0) s.sample
+
+module _ {K : Type 0} (encoding : K → List ℕ) (is_value : K → Type 0) where
+  -- no settings stand at the front
+  abbrev pub NoSettings : List ℕ → Type 0
+  NoSettings left = (settings : Settings K) (rest : List ℕ) → AreSettings is_value settings → left ≢ settings_bytes encoding settings ++ rest
 
 module _ {K : Type 0} (digest_of : K → List ℕ) where
   -- the digest is that of the key

@@ -1,13 +1,11 @@
 //! The answering side: a reply to a message, with nothing kept between messages.
-ghost use Rattle.std.specs.Prelude.{◌≡◌, ◌++◌, List, IsSome, IfOk, length};
+ghost use Rattle.std.specs.Prelude.{◌≡◌, IsSome, IfOk, IfErr, Some};
 ghost use Rattle.std.specs.Option.{option_map};
-ghost use Rattle.merkle_bytes.specs.Counts.{count_bytes};
-ghost use Rattle.merkle_bytes.specs.Options.{option_bytes};
 ghost use Rattle.merkle_tree_theory.specs.Outline.{whole_item};
 ghost use Rattle.merkle_tree_theory.specs.State.{SameSettings};
-ghost use Rattle.merkle_wire.specs.Messages.{front};
-ghost use Rattle.merkle_wire.specs.Replies.{IsAnsweredBy, IsReplyBy, whole_digest};
-ghost use Rattle.merkle_wire.specs.declared.message.Kind.TheVariants.{Root as root_kind};
+ghost use Rattle.merkle_wire.specs.Faults.{IsOfOthers, IsUnread, answer_error_text};
+ghost use Rattle.merkle_wire.specs.Questions.{AsksNothing};
+ghost use Rattle.merkle_wire.specs.Replies.{AsksWithOthers, IsAnsweredBy, IsReplyBy, TellsOthers, root_bytes, whole_digest};
 
 use crate::message::{Kind, begin};
 use crate::outlines::{Telling, tell_pages};
@@ -58,16 +56,21 @@ impl<T: Drop> From<AllocFailed<T>> for AnswerError {
 }
 
 impl From<ReadError> for AnswerError {
-    ghost use Rattle.merkle_wire.specs.declared.answering.AnswerError.TheVariants.{Malformed};
+    ghost use Rattle.merkle_wire.specs.Faults.{unread_message};
 
-    ghost from_gives = { λ error fault. fault ≡ Malformed error };
+    ghost from_gives = { λ error fault. fault ≡ unread_message error };
 
     fn from(error: ReadError) -> Self {
-        AnswerError::Malformed(error)
+        match error {
+            ReadError::Memory => AnswerError::Memory,
+            ReadError::Unexpected { .. } => AnswerError::Malformed(error),
+        }
     }
 }
 
 impl fmt::Display for AnswerError {
+    ghost output = { λ error. Some (answer_error_text error) };
+
     fn fmt<W: fmt::Write>(&self, f: &mut fmt::Formatter<W>) -> fmt::Result {
         match self {
             AnswerError::Memory => f.write_str("out of memory"),
@@ -89,8 +92,10 @@ pub fn answer<
     const N: usize,
 >(alloc: Global, replica: &mut Replica<K, V, H, N>, message: &[u8]) -> Result<Vec<u8>, AnswerError>
     // The message asks, and the reply is that of the rows and the tree.
-    ensures answered { IfOk result (λ reply. IsAnsweredBy ⟦<H as Lawful<N, K, V>>⟧.laws N K.encoding V.encoding
-        replica.old.rows replica.new.tree message.now reply.items) }
+    ensures answered { IfOk result (IsAnsweredBy ⟦<H as Lawful<N, K, V>>⟧.laws N K.encoding V.encoding replica.old replica.new message.now) }
+    ensures malformed { IfErr result (λ error. IsUnread error → AsksNothing K.encoding K.is_value message.now) }
+    ensures other_settings { IfErr result (λ error. IsOfOthers error
+        → AsksWithOthers ⟦<H as Lawful<N, K, V>>⟧.laws N K.encoding replica.new.tree message.now) }
     ensures rows { replica.new.rows ≡ replica.old.rows }
     ensures settings { SameSettings replica.old.tree replica.new.tree }
 {
@@ -114,8 +119,10 @@ pub fn answer_within<
     message: &[u8],
     most_bytes: usize,
 ) -> Result<Vec<u8>, AnswerError>
-    ensures answered { IfOk result (λ reply. IsAnsweredBy ⟦<H as Lawful<N, K, V>>⟧.laws N K.encoding V.encoding
-        replica.old.rows replica.new.tree message.now reply.items) }
+    ensures answered { IfOk result (IsAnsweredBy ⟦<H as Lawful<N, K, V>>⟧.laws N K.encoding V.encoding replica.old replica.new message.now) }
+    ensures malformed { IfErr result (λ error. IsUnread error → AsksNothing K.encoding K.is_value message.now) }
+    ensures other_settings { IfErr result (λ error. IsOfOthers error
+        → AsksWithOthers ⟦<H as Lawful<N, K, V>>⟧.laws N K.encoding replica.new.tree message.now) }
     ensures rows { replica.new.rows ≡ replica.old.rows }
     ensures settings { SameSettings replica.old.tree replica.new.tree }
 {
@@ -137,8 +144,10 @@ fn reply_to<
     most_bytes: usize,
 ) -> Result<Vec<u8>, AnswerError>
     requires hashed { IsSome replica.now.tree.root_hash }
-    ensures { IfOk result (λ bytes. IsReplyBy ⟦<H as Lawful<N, K, V>>⟧.laws N K.encoding V.encoding
-        replica.now.rows replica.now.tree question.now bytes.items) }
+    ensures reply { IfOk result (IsReplyBy ⟦<H as Lawful<N, K, V>>⟧.laws N K.encoding V.encoding replica.now.rows replica.now.tree
+        question.now) }
+    ensures read { IfErr result (λ error. ¬ IsUnread error) }
+    ensures others { IfErr result (λ error. IsOfOthers error → TellsOthers ⟦<H as Lawful<N, K, V>>⟧.laws N replica.now.tree question.now) }
 {
     match question {
         Question::Root(settings) => {
@@ -182,8 +191,7 @@ fn root_reply<K: Key + Encode, V: Join + Encode, H: Hasher<N, K> + Hasher<N, V>,
     replica: &Replica<K, V, H, N>,
 ) -> Result<Vec<u8>, AllocError>
     requires hashed { IsSome replica.now.tree.root_hash }
-    ensures { IfOk result (λ bytes. bytes.items ≡ (front root_kind ++ count_bytes (length replica.now.rows))
-        ++ option_bytes (λ d. d) (whole_digest (whole_item replica.now.tree.format K.bytes_of replica.now.tree.root))) }
+    ensures { IfOk result (λ bytes. bytes.items ≡ root_bytes K.bytes_of replica.now.rows replica.now.tree) }
 {
     let mut bytes = begin(alloc, Kind::Root)?;
     encode_count(replica.rows().len() as u64, &mut bytes)?;

@@ -1,6 +1,5 @@
 //! The asking side: what to ask next, and the rows that came in the end.
-ghost use Rattle.std.specs.Prelude.{◌≡◌, ◌++◌, ◌≤◌, ℕ, List, Option, IfOk, OnOk};
-ghost use Rattle.key_order.specs.Map.{IsMap};
+ghost use Rattle.std.specs.Prelude.{◌≡◌, ◌++◌, ◌≤◌, IfOk, OnOk};
 ghost use Rattle.merkle_bytes.specs.Counts.{count_bytes};
 ghost use Rattle.merkle_bytes.specs.Options.{option_bytes};
 ghost use Rattle.merkle_replica.specs.Contents.{side};
@@ -8,14 +7,10 @@ ghost use Rattle.merkle_tree_theory.specs.State.{SameSettings};
 ghost use Rattle.merkle_wire.specs.Found.{nothing};
 ghost use Rattle.merkle_wire.specs.Messages.{front};
 ghost use Rattle.merkle_wire.specs.Next.{AsksFew, GoesOn, IsAsked, IsCame, IsNext, OnlyAskedFor, rounds_with};
-ghost use Rattle.merkle_wire.specs.Questions.{question_bytes};
-ghost use Rattle.merkle_wire.specs.Settings.{AreSettingsOf};
-ghost use Rattle.merkle_wire.specs.Taking.{IsRootTaken};
+ghost use Rattle.merkle_wire.specs.Questions.{AsksForRoot, question_bytes};
+ghost use Rattle.merkle_wire.specs.Steps.{TakesRoot};
 ghost use Rattle.merkle_wire.specs.Underway.{HasTaken};
 ghost use Rattle.merkle_wire.specs.declared.message.Kind.TheVariants.{Root as root_kind};
-ghost use Rattle.merkle_wire.specs.declared.question.Question.{Question as QuestionOf};
-ghost use Rattle.merkle_wire.specs.declared.question.Question.TheVariants.{Root};
-ghost use Rattle.merkle_wire.specs.declared.settings.Settings.{Settings as SettingsOf};
 
 use crate::gaps::OwnedGap;
 use crate::message::Kind;
@@ -81,8 +76,8 @@ impl<K: Key + Decode, V: Join + Decode> CatchingUp<K, V> {
         alloc: Global,
         replica: &Replica<K, V, H, N>,
     ) -> Result<(Self, Vec<u8>), AllocError>
-        ensures settings { IfOk result (λ begun. (settings : SettingsOf K) × (begun.0.asked ≡ Root settings)
-            × AreSettingsOf (⟦<H as Hasher<N, K>>⟧.digest_of replica.now.tree.hasher) N replica.now.tree settings) }
+        ensures settings { IfOk result (λ begun. AsksForRoot (⟦<H as Hasher<N, K>>⟧.digest_of replica.now.tree.hasher) N replica.now.tree
+            begun.0.asked) }
         ensures asks { IfOk result (λ begun. begun.1.items ≡ question_bytes K.encoding begun.0.asked) }
         ensures nothing { IfOk result (λ begun. (begun.0.found ≡ nothing) × (begun.0.rounds ≡ 0)) }
     {
@@ -148,7 +143,8 @@ fn take_reply<K: Key + Decode, V: Join + Decode, H: Hasher<N, K> + Hasher<N, V>,
     reply: &[u8],
     work: &mut Work<K, V>,
 ) -> Result<Option<Question<K>>, SessionError>
-    ensures { IfOk result (HasTaken ⟦<H as Lawful<N, K, V>>⟧.laws N K.encoding V.encoding (side replica.now) asked reply.now work.old work.new) }
+    ensures { IfOk result (HasTaken ⟦<H as Lawful<N, K, V>>⟧.laws N K.encoding V.encoding (side replica.now) asked
+        reply.now work.old work.new) }
 {
     match asked {
         Question::Root(_) => {
@@ -193,9 +189,7 @@ fn take_root<K: Key + Decode, V: Join + Decode, H: Hasher<N, K> + Hasher<N, V>, 
     reply: &[u8],
     work: &mut Work<K, V>,
 ) -> Result<(), SessionError>
-    ensures { OnOk result ((count : ℕ) × (digest : Option (List ℕ))
-        × (reply.now ≡ (front root_kind ++ count_bytes count) ++ option_bytes (λ d. d) digest)
-        × IsRootTaken ⟦<H as Lawful<N, K, V>>⟧.laws (side replica.now) digest work.old work.new) }
+    ensures { OnOk result (TakesRoot ⟦<H as Lawful<N, K, V>>⟧.laws replica.now reply.now work.old work.new) }
 {
     let (rows, digest) = decode_root(alloc, reply)?;
     let Some(digest) = digest else {

@@ -1,13 +1,6 @@
 //! Laws over the definitions alone: that a session of messages is a catch-up, whatever carries the messages, and when digests are faithful in
 //! one. Each function has no effect and takes no memory.
-ghost use Rattle.std.specs.Prelude.{◌≡◌, List, map};
-ghost use Rattle.key_order.specs.Map.{IsMap};
-ghost use Rattle.key_order.specs.Join.{IsJoin};
-ghost use Rattle.merkle_replica.specs.CatchUp.{IsCatchUp};
-ghost use Rattle.merkle_replica.specs.Contents.{Side};
-ghost use Rattle.merkle_replica.specs.Faithful.{AreSetAlike, HasSmallMap, IsCollisionFree};
-ghost use Rattle.merkle_tree_theory.specs.declared.page_format.PageFormat.TheVariants.{V2};
-ghost use Rattle.merkle_wire.specs.Sessions.{IsSession, AreBrought, IsFaithfulSession, GiveOneDigest, NoNodesCollide};
+ghost use Rattle.merkle_wire.specs.Sessions.{BroughtRowsCatchUp, BroughtRowsJoin, NoCollisionIsFaithful, SessionsBring};
 
 use merkle_bytes::Decode;
 use merkle_digest::{Hasher, Key, KeyBytesExact};
@@ -26,12 +19,9 @@ pub fn a_session_is_a_catch_up<
     H: Hasher<N, K> + Hasher<N, V>,
     const N: usize,
 >()
-    ensures brings { let laws = ⟦<H as Lawful<N, K, V>>⟧.laws in (local peer : Side K V H) (rows : List (K × V)) → IsMap K.cmp local.rows → IsMap K.cmp peer.rows
-        → HasSmallMap laws N peer → IsSession laws N K.encoding V.encoding local peer rows → AreBrought laws local peer rows }
-    ensures catch_up { let laws = ⟦<H as Lawful<N, K, V>>⟧.laws in (local peer : Side K V H) (rows after : List (K × V)) → IsMap K.cmp peer.rows → AreBrought laws local peer rows
-        → IsJoin K.cmp V.eq V.join_of local.rows rows after → IsFaithfulSession laws local peer → IsCatchUp laws local peer (map (λ r. r.0) rows) after }
-    ensures joins { let laws = ⟦<H as Lawful<N, K, V>>⟧.laws in (local peer : Side K V H) (rows after : List (K × V)) → IsMap K.cmp peer.rows → AreBrought laws local peer rows
-        → IsJoin K.cmp V.eq V.join_of local.rows rows after → IsFaithfulSession laws local peer → IsJoin K.cmp V.eq V.join_of local.rows peer.rows after }
+    ensures brings { SessionsBring ⟦<H as Lawful<N, K, V>>⟧.laws N K.encoding V.encoding }
+    ensures catch_up { BroughtRowsCatchUp ⟦<H as Lawful<N, K, V>>⟧.laws }
+    ensures joins { BroughtRowsJoin ⟦<H as Lawful<N, K, V>>⟧.laws }
 {
     a_map_has_one_tree::<K, H, N>();
 }
@@ -44,8 +34,7 @@ pub fn no_collision_makes_a_session_faithful<
     H: Hasher<N, K> + Hasher<N, V>,
     const N: usize,
 >()
-    ensures { let laws = ⟦<H as Lawful<N, K, V>>⟧.laws in (a b : Side K V H) → AreSetAlike laws a b → GiveOneDigest laws a b → a.format ≡ V2
-        → IsCollisionFree laws N a b → NoNodesCollide laws a b → IsFaithfulSession laws a b }
+    ensures { NoCollisionIsFaithful ⟦<H as Lawful<N, K, V>>⟧.laws N }
 {
     no_collision_is_enough::<K, V, H, N>();
 }

@@ -111,6 +111,8 @@ pub(crate) fn decode_kind(reader: &mut Reader<'_>) -> Result<Kind, ReadError>
 /// # Errors
 ///
 /// Want of memory.
-pub fn refusal(alloc: Global) -> Result<Vec<u8>, AllocError> {
+pub fn refusal(alloc: Global) -> Result<Vec<u8>, AllocError>
+    ensures { IfOk result (λ message. message.items ≡ front Kind.Refusal) }
+{
     begin(alloc, Kind::Refusal)
 }

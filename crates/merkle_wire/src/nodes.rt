@@ -1,9 +1,10 @@
 //! The nodes of a page in messages.
-ghost use Rattle.std.specs.Prelude.{◌≡◌, ◌++◌, ◌∷◌, IfOk, OnOk, List, map, flat_map};
+ghost use Rattle.std.specs.Prelude.{◌≡◌, ◌++◌, IfOk, OnOk, map, flat_map};
 ghost use Rattle.merkle_search_tree.specs.Items.{items};
 ghost use Rattle.merkle_wire.specs.Nodes.{node_pairs};
-ghost use Rattle.merkle_wire.specs.Outlines.{Outline, rows_told, AreNodes, outline_bytes, keys_told, keys_among, nodes_among, nodes_digest};
+ghost use Rattle.merkle_wire.specs.Outlines.{rows_told, outline_bytes, keys_told, keys_among, nodes_among, nodes_digest};
 ghost use Rattle.merkle_wire.specs.RowsAt.{AreRowsAt, HasRowAt};
+ghost use Rattle.merkle_wire.specs.Told.{TellsNodes, digests_bytes};
 
 use merkle_bytes::{Encode, KeyRun, encode_count, encode_run};
 use merkle_digest::{Hasher, Key, Sip24, ValueDigest};
@@ -69,8 +70,8 @@ pub(crate) fn write_nodes<
     run: &mut KeyRun,
     bytes: &mut Vec<u8>,
 ) -> Result<(), AllocError>
-    ensures { OnOk result ((told : Outline K V) × AreNodes K.cmp replica.now.rows (node_pairs nodes.now) told
-        × (bytes.new.items ≡ bytes.old.items ++ outline_bytes K.encoding V.encoding run.old told)) }
+    ensures { OnOk result (TellsNodes K.cmp K.encoding V.encoding replica.now.rows (node_pairs nodes.now) run.old
+        bytes.old.items bytes.new.items) }
 {
     let found = rows_of(replica, nodes)?;
     if values_fit(replica.alloc(), &found, most)? {
@@ -101,8 +102,7 @@ fn write_digests<K: Encode, const N: usize>(
     run: &mut KeyRun,
     bytes: &mut Vec<u8>,
 ) -> Result<(), AllocError>
-    ensures { OnOk result (bytes.new.items ≡ bytes.old.items
-        ++ 1 ∷ (keys_told K.encoding run.old (keys_among (node_pairs nodes.now)) ++ flat_map (λ p. p.1) (node_pairs nodes.now))) }
+    ensures { OnOk result (bytes.new.items ≡ bytes.old.items ++ digests_bytes K.encoding run.old (node_pairs nodes.now)) }
 {
     bytes.extend_from_slice(&[1])?;
     encode_keys(nodes, run, bytes)?;

@@ -1,12 +1,11 @@
 //! What the answering side tells of pages.
-ghost use Rattle.std.specs.Prelude.{◌≡◌, ◌++◌, ◌<◌, ◌∷◌, [], true, false, List, IfOk, OnOk, IsSome, IsTrue, length, None};
-ghost use Rattle.merkle_bytes.specs.Runs.{bound_key};
+ghost use Rattle.std.specs.Prelude.{◌≡◌, ◌++◌, ◌<◌, true, false, IfOk, OnOk, IsSome, IsTrue, length, None};
 ghost use Rattle.merkle_search_tree.specs.Items.{items};
 ghost use Rattle.merkle_wire.specs.Messages.{front};
 ghost use Rattle.merkle_wire.specs.Nodes.{node_pairs};
-ghost use Rattle.merkle_wire.specs.Outlines.{Outline, IsTold, HasNoPage, outline_bytes, keys_told, keys_among, nodes_digest, pages_beside, pages_bytes};
-ghost use Rattle.merkle_wire.specs.Replies.{Answers, items_over, outlines_bytes};
-ghost use Rattle.merkle_wire.specs.declared.gaps.OwnedGap.{OwnedGap as OwnedGapOf};
+ghost use Rattle.merkle_wire.specs.Outlines.{HasNoPage, nodes_digest, pages_beside, pages_bytes};
+ghost use Rattle.merkle_wire.specs.Replies.{items_over};
+ghost use Rattle.merkle_wire.specs.Told.{TellsItems, TellsPage, TellsPages, page_bytes};
 
 use crate::gaps::OwnedGap;
 use crate::nodes::{NodeRef, encode_keys, nodes_digest, nodes_of, write_nodes};
@@ -45,8 +44,8 @@ pub(crate) fn tell_pages<
 ) -> Result<Vec<u8>, AllocError>
     requires hashed { IsSome replica.now.tree.root_hash }
     requires front { length begun.items ≡ 2 }
-    ensures { IfOk result (λ bytes. (told : List (OwnedGapOf K × Outline K V)) × (bytes.items ≡ begun.items ++ outlines_bytes K.encoding V.encoding told)
-        × Answers (λ g. IsTold K.cmp replica.now.rows telling.with_pages (items_over K.cmp K.bytes_of replica.now.tree g)) gaps.now told) }
+    ensures { IfOk result (λ bytes. TellsPages K.cmp K.bytes_of K.encoding V.encoding replica.now telling.with_pages gaps.now
+        begun.items bytes.items) }
 {
     let mut bytes = begun;
     'gaps: for gap in gaps {
@@ -78,8 +77,8 @@ fn tell_page<
     bytes: &mut Vec<u8>,
 ) -> Result<(), AllocError>
     requires { IsSome replica.now.tree.root_hash }
-    ensures { OnOk result ((told : Outline K V) × IsTold K.cmp replica.now.rows telling.with_pages (items_over K.cmp K.bytes_of replica.now.tree gap.now) told
-        × (bytes.new.items ≡ bytes.old.items ++ outline_bytes K.encoding V.encoding (bound_key K.encoding [] gap.now.after) told)) }
+    ensures { OnOk result (TellsPage K.cmp K.bytes_of K.encoding V.encoding replica.now telling.with_pages gap.now
+        bytes.old.items bytes.new.items) }
 {
     let list = outline_over(replica, gap)?;
     let mut run = KeyRun::behind(replica.alloc(), gap.after.as_ref())?;
@@ -114,8 +113,8 @@ fn tell_items<
     run: &mut KeyRun,
     bytes: &mut Vec<u8>,
 ) -> Result<(), AllocError>
-    ensures { OnOk result ((told : Outline K V) × IsTold K.cmp replica.now.rows telling.with_pages (items list.now) told
-        × (bytes.new.items ≡ bytes.old.items ++ outline_bytes K.encoding V.encoding run.old told)) }
+    ensures { OnOk result (TellsItems K.cmp K.encoding V.encoding replica.now.rows telling.with_pages (items list.now) run.old
+        bytes.old.items bytes.new.items) }
 {
     let nodes = nodes_of(replica.alloc(), list)?;
     if are_told(telling.with_pages, list) {
@@ -157,8 +156,7 @@ fn write_page<K: Encode, const N: usize>(
     run: &mut KeyRun,
     bytes: &mut Vec<u8>,
 ) -> Result<(), AllocError>
-    ensures { OnOk result (bytes.new.items ≡ bytes.old.items ++ 2 ∷ (nodes_digest (node_pairs nodes.now)
-        ++ (keys_told K.encoding run.old (keys_among (node_pairs nodes.now)) ++ pages_bytes (pages_beside None (items list.now))))) }
+    ensures { OnOk result (bytes.new.items ≡ bytes.old.items ++ page_bytes K.encoding run.old (node_pairs nodes.now) (items list.now)) }
 {
     bytes.extend_from_slice(&[2])?;
     bytes.extend_from_slice(&nodes_digest(nodes))?;

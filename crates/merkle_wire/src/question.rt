@@ -1,9 +1,11 @@
 //! What the asking side asks for, as messages.
-ghost use Rattle.std.specs.Prelude.{◌≡◌, ◌++◌, IfOk, []};
+ghost use Rattle.std.specs.Prelude.{◌≡◌, ◌++◌, IfOk, IfErr, [], length};
+ghost use Rattle.std.specs.List.{AllByRecursion};
 ghost use Rattle.merkle_bytes.specs.Counts.{count_bytes};
+ghost use Rattle.merkle_bytes.specs.Refusals.{IsMalformed, IsRefusal};
 ghost use Rattle.merkle_bytes.specs.Runs.{run_bytes};
 ghost use Rattle.merkle_wire.specs.Messages.{front};
-ghost use Rattle.merkle_wire.specs.Questions.{question_bytes, gaps_bytes};
+ghost use Rattle.merkle_wire.specs.Questions.{AsksNothing, IsQuestion, question_bytes, gaps_bytes, IsNoRun};
 
 use crate::gaps::OwnedGap;
 use crate::message::{Kind, begin, decode_kind};
@@ -89,7 +91,12 @@ fn with_run<T: EncodeInRun>(
 ///
 /// [`ReadError`]
 pub fn decode_question<K: Decode>(alloc: Global, message: &[u8]) -> Result<Question<K>, ReadError>
-    ensures { IfOk result (λ question. message.now ≡ question_bytes K.encoding question) }
+    ensures asks { IfOk result (λ question. message.now ≡ question_bytes K.encoding question) }
+    ensures question { IfOk result (IsQuestion K.is_value) }
+
+    // So a message is read if and only if it asks, but for want of memory; and else the error says where it can't be read on.
+    ensures malformed { IfErr result (λ error. IsMalformed error → AsksNothing K.encoding K.is_value message.now) }
+    ensures refused { IfErr result (IsRefusal (length message.now) message.now) }
 {
     let mut reader = Reader::new(alloc, message);
     match decode_kind(&mut reader)? {
@@ -114,7 +121,10 @@ pub fn decode_question<K: Decode>(alloc: Global, message: &[u8]) -> Result<Quest
 
 /// The list that the rest of a message is.
 fn last_run<T: DecodeInRun>(reader: Reader<'_>) -> Result<Vec<T>, ReadError>
-    ensures { IfOk result (λ list. reader.entry.left.now ≡ run_bytes T.bytes_behind T.last_key [] list.items) }
+    ensures read { IfOk result (λ list. reader.entry.left.now ≡ run_bytes T.bytes_behind T.last_key [] list.items) }
+    ensures entries { IfOk result (λ list. AllByRecursion T.is_entry list.items) }
+    ensures refused { IfErr result (IsRefusal reader.entry.total reader.entry.left.now) }
+    ensures malformed { IfErr result (λ error. IsMalformed error → IsNoRun T.bytes_behind T.last_key T.is_entry [] reader.entry.left.now) }
 {
     let mut reader = reader;
     let mut run = KeyRun::new(reader.alloc());

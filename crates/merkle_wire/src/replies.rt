@@ -1,15 +1,7 @@
 //! Replies that came, read entry by entry: each answers the first of what was asked for, or all of it.
-ghost use Rattle.std.specs.Prelude.{◌≡◌, ◌≢◌, ◌++◌, ◌≤◌, [], List, IfOk, OnOk, length, map, flat_map, take};
-ghost use Rattle.std.specs.List.{AllByRecursion};
-ghost use Rattle.merkle_replica.specs.Contents.{side};
-ghost use Rattle.merkle_wire.specs.Coming.{AscendIn, LiesIn};
-ghost use Rattle.merkle_wire.specs.Gaps.{owned_gap};
+ghost use Rattle.std.specs.Prelude.{◌≡◌, ◌≢◌, ◌++◌, [], IfOk, OnOk};
 ghost use Rattle.merkle_wire.specs.Messages.{front};
-ghost use Rattle.merkle_wire.specs.Outlines.{Outline};
-ghost use Rattle.merkle_wire.specs.Replies.{Part, outlines_bytes, parts_bytes};
-ghost use Rattle.merkle_wire.specs.Taking.{AddsRows, AreBehind, AreTaken};
-ghost use Rattle.merkle_wire.specs.Underway.{HasOutlines, HasParts, HasValues};
-ghost use Rattle.merkle_wire.specs.declared.gaps.OwnedGap.{OwnedGap as OwnedGapOf};
+ghost use Rattle.merkle_wire.specs.Steps.{TakesFirstOutlines, TakesFirstParts, TakesOutlines, TakesParts, TakesValues};
 
 use crate::gaps::OwnedGap;
 use crate::message::{Kind, decode_kind};
@@ -63,8 +55,8 @@ pub(crate) fn take_outlines<
     reply: &[u8],
     work: &mut Work<K, V>,
 ) -> Result<Vec<OwnedGap<K>>, SessionError>
-    ensures { IfOk result (λ left. HasOutlines ⟦<H as Lawful<N, K, V>>⟧.laws N K.encoding V.encoding (side replica.now)
-        (front kind) gaps.items reply.now work.old work.new left.items) }
+    ensures { IfOk result (TakesOutlines ⟦<H as Lawful<N, K, V>>⟧.laws N K.encoding V.encoding replica.now kind gaps
+        reply.now work.old work.new) }
 {
     let mut gaps = gaps;
     let mut reader = reader_of(alloc, reply, kind)?;
@@ -86,11 +78,8 @@ fn take_first_outlines<
     gaps: &[OwnedGap<K>],
     work: &mut Work<K, V>,
 ) -> Result<usize, SessionError>
-    ensures { IfOk result (λ count. (count ≤ length gaps.now)
-        × ((told : List (OwnedGapOf K × Outline K V)) × (map (λ t. t.0) told ≡ take count gaps.now)
-        × (reader.old.left.now ≡ outlines_bytes K.encoding V.encoding told ++ reader.new.left.now)
-        × AllByRecursion (λ t. LiesIn K.cmp N (owned_gap t.0) t.1) told
-        × AreTaken ⟦<H as Lawful<N, K, V>>⟧.laws (side replica.now) told work.old work.new)) }
+    ensures { IfOk result (TakesFirstOutlines ⟦<H as Lawful<N, K, V>>⟧.laws N K.encoding V.encoding replica.now gaps.now
+        reader.old reader.new work.old work.new) }
 {
     let mut count = 0;
     'gaps: for gap in gaps {
@@ -116,8 +105,7 @@ pub(crate) fn take_values<
     reply: &[u8],
     work: &mut Work<K, V>,
 ) -> Result<Vec<Wanted<K>>, SessionError>
-    ensures { IfOk result (λ left. HasValues ⟦<H as Lawful<N, K, V>>⟧.laws N K.encoding V.encoding (side replica.now)
-        keys.items reply.now work.old work.new left.items) }
+    ensures { IfOk result (TakesValues ⟦<H as Lawful<N, K, V>>⟧.laws N K.encoding V.encoding replica.now keys reply.now work.old work.new) }
 {
     let mut reader = reader_of(alloc, reply, Kind::RowsAt)?;
     let mut left = Vec::new(alloc);
@@ -145,8 +133,7 @@ pub(crate) fn take_parts<
     reply: &[u8],
     work: &mut Work<K, V>,
 ) -> Result<Vec<OwnedGap<K>>, SessionError>
-    ensures { IfOk result (λ left. HasParts ⟦<H as Lawful<N, K, V>>⟧.laws N K.encoding V.encoding (side replica.now)
-        gaps.items reply.now work.old work.new left.items) }
+    ensures { IfOk result (TakesParts ⟦<H as Lawful<N, K, V>>⟧.laws N K.encoding V.encoding replica.now gaps reply.now work.old work.new) }
 {
     let mut gaps = gaps;
     let mut left = Vec::new(alloc);
@@ -172,12 +159,8 @@ fn take_first_parts<
     left: &mut Vec<OwnedGap<K>>,
     work: &mut Work<K, V>,
 ) -> Result<usize, SessionError>
-    ensures { IfOk result (λ count. (count ≤ length gaps.now)
-        × ((told : List (OwnedGapOf K × Part K V)) × (behind : List (OwnedGapOf K)) × (map (λ t. t.0) told ≡ take count gaps.now)
-        × (reader.old.left.now ≡ parts_bytes K.encoding V.encoding told ++ reader.new.left.now)
-        × AllByRecursion (λ t. AscendIn K.cmp (owned_gap t.0) (map (λ r. r.0) t.1.rows)) told
-        × AreBehind ⟦<H as Lawful<N, K, V>>⟧.laws (side replica.now) told behind × (left.new.items ≡ left.old.items ++ behind)
-        × AddsRows ⟦<H as Lawful<N, K, V>>⟧.laws (side replica.now) (flat_map (λ t. t.1.rows) told) work.old work.new)) }
+    ensures { IfOk result (TakesFirstParts ⟦<H as Lawful<N, K, V>>⟧.laws N K.encoding V.encoding replica.now gaps.now reader.old reader.new
+        left.old left.new work.old work.new) }
 {
     let mut count = 0;
     'gaps: for gap in gaps {

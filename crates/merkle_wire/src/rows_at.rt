@@ -1,9 +1,8 @@
 //! The values of a replica at keys.
-ghost use Rattle.std.specs.Prelude.{◌≡◌, ◌++◌, IfOk, OnOk, List, Option, length};
+ghost use Rattle.std.specs.Prelude.{◌≡◌, ◌++◌, IfOk, OnOk, length};
 ghost use Rattle.key_order.specs.Map.{get};
 ghost use Rattle.merkle_bytes.specs.Options.{option_bytes};
-ghost use Rattle.merkle_wire.specs.Replies.{Answers, values_bytes};
-ghost use Rattle.merkle_wire.specs.declared.wanted.Wanted.{Wanted as WantedOf};
+ghost use Rattle.merkle_wire.specs.Told.{TellsValues};
 
 use crate::outlines::is_full;
 use crate::wanted::Wanted;
@@ -25,8 +24,7 @@ pub(crate) fn tell_values<
     begun: Vec<u8>,
 ) -> Result<Vec<u8>, AllocError>
     requires { length begun.items ≡ 2 }
-    ensures { IfOk result (λ bytes. (told : List (WantedOf K × Option V)) × (bytes.items ≡ begun.items ++ values_bytes V.encoding told)
-        × Answers (λ wanted value. value ≡ get K.cmp replica.now.rows wanted.key) keys.now told) }
+    ensures { IfOk result (λ bytes. TellsValues K.cmp V.encoding replica.now.rows keys.now begun.items bytes.items) }
 {
     let mut bytes = begun;
     'keys: for wanted in keys {

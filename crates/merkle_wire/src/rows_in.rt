@@ -1,12 +1,10 @@
 //! The rows of a map in gaps.
-ghost use Rattle.std.specs.Prelude.{◌≡◌, ◌≢◌, ◌≤◌, ◌++◌, true, false, cond, not, length, take, drop, List, [], IfOk, OnOk};
+ghost use Rattle.std.specs.Prelude.{◌≡◌, ◌≢◌, ◌≤◌, ◌++◌, true, false, cond, not, length, take, drop, [], IfOk, OnOk};
 ghost use Rattle.std.specs.List.{AllByRecursion};
 ghost use Rattle.key_order.specs.Map.{IsMap};
-ghost use Rattle.merkle_bytes.specs.Runs.{bound_key, entries_bytes, row_behind, row_key};
 ghost use Rattle.merkle_tree_theory.specs.Gap.{is_after, is_before, pairs_within};
 ghost use Rattle.merkle_wire.specs.Gaps.{owned_gap};
-ghost use Rattle.merkle_wire.specs.Replies.{Answers, Part, IsPartOf, part_bytes, parts_bytes};
-ghost use Rattle.merkle_wire.specs.declared.gaps.OwnedGap.{OwnedGap as OwnedGapOf};
+ghost use Rattle.merkle_wire.specs.Told.{TellsPart, TellsParts, rows_bytes};
 
 use crate::gaps::OwnedGap;
 use crate::outlines::is_full;
@@ -23,8 +21,7 @@ pub(crate) fn tell_rows<K: Ord + Encode, V: Encode>(
 ) -> Result<Vec<u8>, AllocError>
     requires ascending { IsMap K.cmp rows.now }
     requires front { length begun.items ≡ 2 }
-    ensures { IfOk result (λ bytes. (told : List (OwnedGapOf K × Part K V)) × (bytes.items ≡ begun.items ++ parts_bytes K.encoding V.encoding told)
-        × Answers (IsPartOf K.cmp rows.now) gaps.now told) }
+    ensures { IfOk result (λ bytes. TellsParts K.cmp K.encoding V.encoding rows.now gaps.now begun.items bytes.items) }
 {
     let mut bytes = begun;
     'gaps: for gap in gaps {
@@ -45,8 +42,7 @@ fn tell_part<K: Ord + Encode, V: Encode>(
     bytes: &mut Vec<u8>,
 ) -> Result<(), AllocError>
     requires { IsMap K.cmp rows.now }
-    ensures { OnOk result ((part : Part K V) × IsPartOf K.cmp rows.now gap.now part
-        × (bytes.new.items ≡ bytes.old.items ++ part_bytes K.encoding V.encoding (bound_key K.encoding [] gap.now.after) part)) }
+    ensures { OnOk result (TellsPart K.cmp K.encoding V.encoding rows.now gap.now bytes.old.items bytes.new.items) }
 {
     let found = rows_in(rows, gap);
     let mut run = KeyRun::behind(alloc, gap.after.as_ref())?;
@@ -76,8 +72,7 @@ fn encode_first<K: Encode, V: Encode>(
 ) -> Result<usize, AllocError>
     ensures inside { IfOk result (λ count. count ≤ length rows.now) }
     ensures some { IfOk result (λ count. rows.now ≢ [] → count ≢ 0) }
-    ensures written { IfOk result (λ count. bytes.new.items ≡ bytes.old.items
-        ++ entries_bytes (row_behind K.encoding V.encoding) (row_key K.encoding) run.old (take count rows.now)) }
+    ensures written { IfOk result (λ count. bytes.new.items ≡ bytes.old.items ++ rows_bytes K.encoding V.encoding run.old (take count rows.now)) }
 {
     let mut count = 0;
     'rows: for row in rows {

@@ -1,15 +1,10 @@
 //! A whole catch-up between two replicas, through messages.
-ghost use Rattle.std.specs.Prelude.{◌≡◌, ℕ, List, length, IfOk, IfErr};
-ghost use Rattle.key_order.specs.Join.{IsJoin};
-ghost use Rattle.merkle_replica.specs.CatchUp.{IsCatchUpOf};
-ghost use Rattle.merkle_replica.specs.Contents.{side, tree_map, with_rows};
-ghost use Rattle.merkle_replica.specs.Faithful.{HasSmallMap};
-ghost use Rattle.merkle_replica.specs.Pulls.{HoldTheJoin};
-ghost use Rattle.merkle_tree_theory.specs.Canonical.{IsTreeOf};
+ghost use Rattle.std.specs.Prelude.{◌≡◌, IfOk, IfErr, OnOk};
+ghost use Rattle.merkle_replica.specs.Contents.{side};
 ghost use Rattle.merkle_tree_theory.specs.State.{SameSettings};
-ghost use Rattle.merkle_tree_theory.specs.Tree.{Tree};
 ghost use Rattle.merkle_wire.specs.Questions.{question_bytes};
-ghost use Rattle.merkle_wire.specs.Sessions.{IsFaithfulSession, AreBrought, HasJoined, HaveJoined, AreBothRefused, Covers, CoversNext, IsMessagesRefused, IsEarly};
+ghost use Rattle.merkle_wire.specs.Sessions.{AreBrought, CatchesUpWhileFaithful, HasJoined, HaveJoined, HoldTheJoinWhileFaithful, JoinsWhileFaithful};
+ghost use Rattle.merkle_wire.specs.Sessions.{AreBothRefused, GoesOnCovering, IsMessagesRefused, IsEarly};
 
 use crate::answering::{AnswerError, answer};
 use crate::catching_up::{CatchingUp, Next};
@@ -51,10 +46,9 @@ pub fn catch_up_by_messages<
     ensures joined { IfOk result (λ joined. HasJoined ⟦<H as Lawful<N, K, V>>⟧.laws (side replica.old) (side peer.old) joined replica.new.rows) }
 
     // So it is a catch-up then, and leaves the join of both sides' rows.
-    ensures catch_up { let laws = ⟦<H as Lawful<N, K, V>>⟧.laws in IfOk result (λ joined. IsFaithfulSession laws (side replica.old) (side peer.old)
-        → IsCatchUpOf laws (side replica.old) (side peer.old) joined replica.new.rows) }
-    ensures join { let laws = ⟦<H as Lawful<N, K, V>>⟧.laws in IfOk result (λ joined. IsFaithfulSession laws (side replica.old) (side peer.old)
-        → IsJoin K.cmp V.eq V.join_of replica.old.rows peer.old.rows replica.new.rows) }
+    ensures catch_up { IfOk result (λ joined. CatchesUpWhileFaithful ⟦<H as Lawful<N, K, V>>⟧.laws (side replica.old) (side peer.old)
+        joined replica.new.rows) }
+    ensures join { OnOk result (JoinsWhileFaithful ⟦<H as Lawful<N, K, V>>⟧.laws (side replica.old) (side peer.old) replica.new.rows) }
 
     // Refused, it has joined no row, or the first ones.
     ensures refused { IfErr result (λ fault. IsMessagesRefused ⟦<H as Lawful<N, K, V>>⟧.laws (side replica.old) (side peer.old) fault replica.new.rows) }
@@ -105,8 +99,7 @@ pub fn catch_up_both_by_messages<
     ensures joined { IfOk result (λ joined. HaveJoined ⟦<H as Lawful<N, K, V>>⟧.laws (side a.old) (side b.old) joined.0 joined.1 a.new.rows b.new.rows) }
 
     // While digests are faithful before each of them, both then hold the join.
-    ensures join { let laws = ⟦<H as Lawful<N, K, V>>⟧.laws in IfOk result (λ joined. IsFaithfulSession laws (side a.old) (side b.old)
-        → IsFaithfulSession laws (side b.old) (with_rows (side a.old) a.new.rows) → HoldTheJoin laws (side a.old) (side b.old) a.new.rows b.new.rows) }
+    ensures join { OnOk result (HoldTheJoinWhileFaithful ⟦<H as Lawful<N, K, V>>⟧.laws (side a.old) (side b.old) a.new.rows b.new.rows) }
 
     ensures refused { IfErr result (λ error. AreBothRefused ⟦<H as Lawful<N, K, V>>⟧.laws (side a.old) (side b.old) error a.new.rows b.new.rows) }
     ensures a_settings { SameSettings a.old.tree a.new.tree }
@@ -167,9 +160,7 @@ fn exchange<K: Key + Decode, V: Join + Decode, H: Hasher<N, K> + Hasher<N, V>, c
     message: Vec<u8>,
 ) -> Result<Next<K, V>, MessagesError>
     requires { message.items ≡ question_bytes K.encoding session.asked }
-    ensures covers { let laws = ⟦<H as Lawful<N, K, V>>⟧.laws in IfOk result (λ next. (root : Tree K (List ℕ))
-        → IsTreeOf K.cmp (laws.key_digest peer.old.tree.hasher) peer.old.tree.base root (tree_map laws (side peer.old)) → HasSmallMap laws N (side peer.old)
-        → Covers laws (side replica.old) (side peer.old) root session → CoversNext laws (side replica.old) (side peer.old) root K.encoding next) }
+    ensures covers { IfOk result (GoesOnCovering ⟦<H as Lawful<N, K, V>>⟧.laws N K.encoding (side replica.old) (side peer.old) session) }
     ensures early { IfErr result IsEarly }
     ensures rows { replica.new.rows ≡ replica.old.rows }
     ensures settings { SameSettings replica.old.tree replica.new.tree }

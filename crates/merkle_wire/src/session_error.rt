@@ -1,5 +1,6 @@
 //! Why a catch-up over a wire ended early.
-ghost use Rattle.std.specs.Prelude.{◌≡◌};
+ghost use Rattle.std.specs.Prelude.{◌≡◌, Some};
+ghost use Rattle.merkle_wire.specs.Faults.{session_error_text};
 
 use merkle_bytes::ReadError;
 use std::alloc::{AllocError, AllocFailed};
@@ -49,16 +50,21 @@ impl<T: Drop> From<AllocFailed<T>> for SessionError {
 }
 
 impl From<ReadError> for SessionError {
-    ghost use Rattle.merkle_wire.specs.declared.session_error.SessionError.TheVariants.{Malformed};
+    ghost use Rattle.merkle_wire.specs.Faults.{unread_reply};
 
-    ghost from_gives = { λ error fault. fault ≡ Malformed error };
+    ghost from_gives = { λ error fault. fault ≡ unread_reply error };
 
     fn from(error: ReadError) -> Self {
-        SessionError::Malformed(error)
+        match error {
+            ReadError::Memory => SessionError::Memory,
+            ReadError::Unexpected { .. } => SessionError::Malformed(error),
+        }
     }
 }
 
 impl fmt::Display for SessionError {
+    ghost output = { λ error. Some (session_error_text error) };
+
     fn fmt<W: fmt::Write>(&self, f: &mut fmt::Formatter<W>) -> fmt::Result {
         match self {
             SessionError::Memory => f.write_str("out of memory"),

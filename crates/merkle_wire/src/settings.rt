@@ -1,7 +1,8 @@
 //! What the digests of two sides rest on, which the first message tells: sides whose settings differ have no digest in common.
-ghost use Rattle.std.specs.Prelude.{◌≡◌, ◌≢◌, ◌++◌, ℕ, OnOk, IfOk, MatchOption, IsTrue};
+ghost use Rattle.std.specs.Prelude.{◌≡◌, ◌≢◌, ◌++◌, OnOk, IfOk, IfErr, MatchOption, IsTrue, ◌↔◌};
+ghost use Rattle.merkle_bytes.specs.Refusals.{IsMalformed, IsRefusal};
 ghost use Rattle.merkle_tree_theory.specs.declared.page_format.PageFormat.{PageFormat as PageFormatOf};
-ghost use Rattle.merkle_wire.specs.Settings.{format_byte, settings_bytes, AreSettingsOf, IsDigested};
+ghost use Rattle.merkle_wire.specs.Settings.{format_byte, settings_bytes, AreSettings, AreSettingsOf, IsDigested, NoSettings};
 
 use merkle_bytes::{Decode, Encode, Expected, ReadError, Reader, encode_count};
 use merkle_digest::{Hasher, Key};
@@ -60,6 +61,10 @@ pub(crate) fn encode_settings<K: Encode>(
 /// Reads settings.
 pub(crate) fn decode_settings<K: Decode>(reader: &mut Reader<'_>) -> Result<Settings<K>, ReadError>
     ensures read { IfOk result (λ settings. reader.old.left.now ≡ settings_bytes K.encoding settings ++ reader.new.left.now) }
+    ensures settings { IfOk result (AreSettings K.is_value) }
+    ensures total { reader.new.total ≡ reader.old.total }
+    ensures refused { IfErr result (IsRefusal reader.old.total reader.old.left.now) }
+    ensures malformed { IfErr result (λ error. IsMalformed error → NoSettings K.encoding K.is_value reader.old.left.now) }
 {
     let [level_base] = reader.array::<1>()?;
     let [byte] = reader.array::<1>()?;
@@ -115,7 +120,7 @@ pub(crate) fn agree<K: Key, V: Join, H: Hasher<N, K> + Hasher<N, V>, const N: us
     replica: &Replica<K, V, H, N>,
     settings: &Settings<K>,
 ) -> bool
-    ensures { IsTrue result → AreSettingsOf (⟦<H as Hasher<N, K>>⟧.digest_of replica.now.tree.hasher) N replica.now.tree settings.now }
+    ensures { IsTrue result ↔ AreSettingsOf (⟦<H as Hasher<N, K>>⟧.digest_of replica.now.tree.hasher) N replica.now.tree settings.now }
 {
     let tree = replica.tree();
     if settings.level_base != tree.level_base().get() {
@@ -135,7 +140,7 @@ fn has_digest<K: Key, V: Join, H: Hasher<N, K> + Hasher<N, V>, const N: usize>(
     replica: &Replica<K, V, H, N>,
     sample: &Option<(K, Vec<u8>)>,
 ) -> bool
-    ensures { IsTrue result → IsDigested (⟦<H as Hasher<N, K>>⟧.digest_of replica.now.tree.hasher) sample.now }
+    ensures { IsTrue result ↔ IsDigested (⟦<H as Hasher<N, K>>⟧.digest_of replica.now.tree.hasher) sample.now }
 {
     match sample {
         None => true,

@@ -1,18 +1,9 @@
 //! What came of pages, rows and values, read and compared with what this side has.
-ghost use Rattle.std.specs.Prelude.{◌≡◌, ◌++◌, ◌∷◌, [], ℕ, List, Option, OnOk, length, map, flat_map};
-ghost use Rattle.std.specs.List.{AllByRecursion};
-ghost use Rattle.key_order.specs.Map.{last_key};
-ghost use Rattle.merkle_bytes.specs.Options.{option_bytes};
-ghost use Rattle.merkle_bytes.specs.Runs.{bound_key, run_bytes, row_behind, row_key};
+ghost use Rattle.std.specs.Prelude.{OnOk};
 ghost use Rattle.merkle_replica.specs.Contents.{side};
-ghost use Rattle.merkle_search_tree.specs.Items.{bound_of};
-ghost use Rattle.merkle_tree_theory.specs.Gap.{Gap as GapOf, SameGap, part_behind};
-ghost use Rattle.merkle_wire.specs.Coming.{AscendIn, IsPageDigest, LiesIn};
-ghost use Rattle.merkle_wire.specs.Gaps.{owned_gap};
-ghost use Rattle.merkle_wire.specs.Outlines.{Outline, page_told, outline_bytes, keys_told, keys_among, pages_bytes};
-ghost use Rattle.merkle_wire.specs.Replies.{Part, part_bytes};
-ghost use Rattle.merkle_wire.specs.Taking.{AddsGaps, AddsKeys, AddsRows, AreNewGaps, IsBehind, IsNewGap, IsTaken, value_row};
-ghost use Rattle.merkle_wire.specs.declared.gaps.OwnedGap.{OwnedGap as OwnedGapOf};
+ghost use Rattle.merkle_wire.specs.Steps.{AddsBehind, TakesDigests, TakesNodes, TakesOutline, TakesPart, TakesRows, TakesValue};
+ghost use Rattle.merkle_wire.specs.Steps.{TakesBelow, TakesPage, TakesPages, between};
+ghost use Rattle.merkle_wire.specs.Taking.{AddsRows};
 
 use crate::gaps::OwnedGap;
 use crate::pages::decode_page;
@@ -40,9 +31,8 @@ pub(crate) fn take_outline<
     gap: &OwnedGap<K>,
     work: &mut Work<K, V>,
 ) -> Result<(), SessionError>
-    ensures { OnOk result ((told : Outline K V)
-        × (reader.old.left.now ≡ outline_bytes K.encoding V.encoding (bound_key K.encoding [] gap.now.after) told ++ reader.new.left.now)
-        × LiesIn K.cmp N (owned_gap gap.now) told × IsTaken ⟦<H as Lawful<N, K, V>>⟧.laws (side replica.now) (owned_gap gap.now) told work.old work.new) }
+    ensures { OnOk result (TakesOutline ⟦<H as Lawful<N, K, V>>⟧.laws N K.encoding V.encoding replica.now gap.now
+        reader.old reader.new work.old work.new) }
 {
     let mut run = KeyRun::behind(reader.alloc(), gap.after.as_ref())?;
     let [kind] = reader.array::<1>()?;
@@ -69,9 +59,8 @@ fn take_rows<K: Key + Decode, V: Join + Decode, H: Hasher<N, K> + Hasher<N, V>, 
     run: &mut KeyRun,
     work: &mut Work<K, V>,
 ) -> Result<(), SessionError>
-    ensures { OnOk result ((rows : List (K × V))
-        × (reader.old.left.now ≡ run_bytes (row_behind K.encoding V.encoding) (row_key K.encoding) run.old rows ++ reader.new.left.now)
-        × AscendIn K.cmp (owned_gap gap.now) (map (λ r. r.0) rows) × AddsRows ⟦<H as Lawful<N, K, V>>⟧.laws (side replica.now) rows work.old work.new) }
+    ensures { OnOk result (TakesRows ⟦<H as Lawful<N, K, V>>⟧.laws K.encoding V.encoding replica.now run.old gap.now
+        reader.old reader.new work.old work.new) }
 {
     let before = reader.left().len();
     let rows = decode_run::<(K, V)>(run, reader)?;
@@ -106,10 +95,8 @@ fn take_digests<K: Key + Decode, V: Join + Drop, H: Hasher<N, K> + Hasher<N, V>,
     run: &mut KeyRun,
     work: &mut Work<K, V>,
 ) -> Result<(), SessionError>
-    ensures { OnOk result ((nodes : List (K × List ℕ))
-        × (reader.old.left.now ≡ (keys_told K.encoding run.old (keys_among nodes) ++ flat_map (λ n. n.1) nodes) ++ reader.new.left.now)
-        × AscendIn K.cmp (owned_gap gap.now) (keys_among nodes) × AllByRecursion (λ n. length n.1 ≡ N) nodes
-        × AddsKeys ⟦<H as Lawful<N, K, V>>⟧.laws (side replica.now) nodes work.old work.new) }
+    ensures { OnOk result (TakesDigests ⟦<H as Lawful<N, K, V>>⟧.laws N K.encoding replica.now run.old gap.now
+        reader.old reader.new work.old work.new) }
 {
     let keys = decode_run::<Wanted<K>>(run, reader)?;
     if !keys_lie_in(&keys, gap) {
@@ -126,9 +113,7 @@ fn take_nodes<K: Key + Drop, V: Join + Drop, H: Hasher<N, K> + Hasher<N, V>, con
     keys: Vec<Wanted<K>>,
     work: &mut Work<K, V>,
 ) -> Result<(), SessionError>
-    ensures { OnOk result ((nodes : List (K × List ℕ)) × (keys_among nodes ≡ map (λ w. w.key) keys.items)
-        × (reader.old.left.now ≡ flat_map (λ n. n.1) nodes ++ reader.new.left.now)
-        × AllByRecursion (λ n. length n.1 ≡ N) nodes × AddsKeys ⟦<H as Lawful<N, K, V>>⟧.laws (side replica.now) nodes work.old work.new) }
+    ensures { OnOk result (TakesNodes ⟦<H as Lawful<N, K, V>>⟧.laws replica.now N keys.items reader.old reader.new work.old work.new) }
 {
     'keys: for wanted in keys {
         let digest = reader.slice(N)?;
@@ -146,10 +131,8 @@ fn take_page<K: Key + Decode, V: Join + Drop, H: Hasher<N, K> + Hasher<N, V>, co
     run: &mut KeyRun,
     work: &mut Work<K, V>,
 ) -> Result<(), SessionError>
-    ensures { OnOk result ((digest : List ℕ) × (keys : List K) × (pages : List (Option (List ℕ)))
-        × (reader.old.left.now ≡ (digest ++ (keys_told K.encoding run.old keys ++ pages_bytes pages)) ++ reader.new.left.now)
-        × LiesIn K.cmp {V = V} N (owned_gap gap.now) (page_told digest keys pages)
-        × IsTaken ⟦<H as Lawful<N, K, V>>⟧.laws (side replica.now) (owned_gap gap.now) (page_told digest keys pages) work.old work.new) }
+    ensures { OnOk result (TakesPage ⟦<H as Lawful<N, K, V>>⟧.laws N K.encoding replica.now run.old gap.now
+        reader.old reader.new work.old work.new) }
 {
     let digest = reader.array::<16>()?;
     let before = reader.left().len();
@@ -179,10 +162,7 @@ fn take_pages<K: Key + Decode, V: Join + Drop, H: Hasher<N, K> + Hasher<N, V>, c
     keys: &[Wanted<K>],
     work: &mut Work<K, V>,
 ) -> Result<(), SessionError>
-    ensures { OnOk result ((pages : List (Option (List ℕ))) × (gaps : List (GapOf K))
-        × (reader.old.left.now ≡ pages_bytes pages ++ reader.new.left.now) × AllByRecursion IsPageDigest pages
-        × AreNewGaps ⟦<H as Lawful<N, K, V>>⟧.laws (side replica.now) (owned_gap gap.now) (map (λ w. w.key) keys.now) pages gaps
-        × AddsGaps ⟦<H as Lawful<N, K, V>>⟧.laws (side replica.now) gaps work.old work.new) }
+    ensures { OnOk result (TakesPages ⟦<H as Lawful<N, K, V>>⟧.laws replica.now gap.now keys.now reader.old reader.new work.old work.new) }
 {
     let mut after = gap.after.as_ref();
     'keys: for wanted in keys {
@@ -201,10 +181,8 @@ fn take_below<K: Key + Drop, V: Join + Drop, H: Hasher<N, K> + Hasher<N, V>, con
     before: Option<&K>,
     work: &mut Work<K, V>,
 ) -> Result<(), SessionError>
-    ensures { OnOk result ((page : Option (List ℕ)) × (new : List (GapOf K))
-        × (reader.old.left.now ≡ option_bytes (λ d. d) page ++ reader.new.left.now) × IsPageDigest page
-        × IsNewGap ⟦<H as Lawful<N, K, V>>⟧.laws (side replica.now) (record { after = bound_of after.entry; before = bound_of before.entry }) page new
-        × AddsGaps ⟦<H as Lawful<N, K, V>>⟧.laws (side replica.now) new work.old work.new) }
+    ensures { OnOk result (TakesBelow ⟦<H as Lawful<N, K, V>>⟧.laws replica.now (between after.entry before.entry)
+        reader.old reader.new work.old work.new) }
 {
     let Some(digest) = decode_page(reader)? else {
         return Ok(());
@@ -230,8 +208,7 @@ pub(crate) fn take_value<
     wanted: Wanted<K>,
     work: &mut Work<K, V>,
 ) -> Result<(), SessionError>
-    ensures { OnOk result ((value : Option V) × (reader.old.left.now ≡ option_bytes V.encoding value ++ reader.new.left.now)
-        × AddsRows ⟦<H as Lawful<N, K, V>>⟧.laws (side replica.now) (value_row (wanted, value)) work.old work.new) }
+    ensures { OnOk result (TakesValue ⟦<H as Lawful<N, K, V>>⟧.laws replica.now V.encoding wanted reader.old reader.new work.old work.new) }
 {
     let Some(value) = Option::<V>::decode(reader)? else {
         return Ok(());
@@ -254,11 +231,8 @@ pub(crate) fn take_part<
     left: &mut Vec<OwnedGap<K>>,
     work: &mut Work<K, V>,
 ) -> Result<(), SessionError>
-    ensures { OnOk result ((part : Part K V) × (behind : List (OwnedGapOf K))
-        × (reader.old.left.now ≡ part_bytes K.encoding V.encoding (bound_key K.encoding [] gap.now.after) part ++ reader.new.left.now)
-        × AscendIn K.cmp (owned_gap gap.now) (map (λ r. r.0) part.rows)
-        × IsBehind ⟦<H as Lawful<N, K, V>>⟧.laws (side replica.now) (owned_gap gap.now) part behind
-        × (left.new.items ≡ left.old.items ++ behind) × AddsRows ⟦<H as Lawful<N, K, V>>⟧.laws (side replica.now) part.rows work.old work.new) }
+    ensures { OnOk result (TakesPart ⟦<H as Lawful<N, K, V>>⟧.laws N K.encoding V.encoding replica.now gap.now reader.old reader.new
+        left.old left.new work.old work.new) }
 {
     let mut run = KeyRun::behind(reader.alloc(), gap.after.as_ref())?;
     let rows = decode_run::<(K, V)>(&mut run, reader)?;
@@ -280,8 +254,7 @@ fn add_behind<K: Key, V>(
     gap: &OwnedGap<K>,
     left: &mut Vec<OwnedGap<K>>,
 ) -> Result<(), SessionError>
-    ensures { OnOk result ((row : K × V) × (behind : List (K × V)) × (own : OwnedGapOf K) × (rows.now ≡ row ∷ behind)
-        × SameGap K.cmp (part_behind (owned_gap gap.now) (last_key row.0 behind)) (owned_gap own) × (left.new.items ≡ left.old.items ++ own ∷ [])) }
+    ensures { OnOk result (AddsBehind K.cmp rows.now gap.now left.old.items left.new.items) }
 {
     let Some(last) = rows.last() else {
         return Err(SessionError::NothingCame);

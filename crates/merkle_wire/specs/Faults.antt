@@ -1,0 +1,49 @@
+-- Why bytes that came are not taken, and what the errors say.
+use Rattle.std.specs.Prelude.{ℕ, List, ◌++◌, codes, ⊤}
+use Rattle.merkle_bytes.specs.Texts.{read_error_text}
+use Rattle.merkle_bytes.specs.declared.error.ReadError.{ReadError}
+use Rattle.merkle_bytes.specs.declared.error.ReadError.TheVariants as read
+use Rattle.merkle_wire.specs.declared.answering.AnswerError.{AnswerError}
+use Rattle.merkle_wire.specs.declared.answering.AnswerError.TheVariants as answer
+use Rattle.merkle_wire.specs.declared.session_error.SessionError.{SessionError}
+use Rattle.merkle_wire.specs.declared.session_error.SessionError.TheVariants as session
+
+-- why a message that was not read has no reply: want of memory, or where it is no message
+abbrev pub unread_message : ReadError → AnswerError
+unread_message read.Memory = answer.Memory
+unread_message (read.Unexpected offset expected) = answer.Malformed (read.Unexpected offset expected)
+
+-- why a reply that was not read ends a catch-up: want of memory, or where it is no reply
+abbrev pub unread_reply : ReadError → SessionError
+unread_reply read.Memory = session.Memory
+unread_reply (read.Unexpected offset expected) = session.Malformed (read.Unexpected offset expected)
+
+-- the bytes are no message: memory was not the reason, nor were settings
+abbrev pub IsUnread : AnswerError → Type 0
+IsUnread answer.Memory = ⊥
+IsUnread (answer.Malformed error) = ⊤
+IsUnread answer.OtherSettings = ⊥
+
+-- the asking side has other settings
+abbrev pub IsOfOthers : AnswerError → Type 0
+IsOfOthers answer.Memory = ⊥
+IsOfOthers (answer.Malformed error) = ⊥
+IsOfOthers answer.OtherSettings = ⊤
+
+-- why a message has no reply
+abbrev pub answer_error_text : AnswerError → List ℕ
+answer_error_text answer.Memory = codes "out of memory"
+answer_error_text (answer.Malformed error) = codes "the message is malformed: " ++ read_error_text error
+answer_error_text answer.OtherSettings = codes "the asking side has other settings"
+
+-- why a catch-up over a wire ended early
+abbrev pub session_error_text : SessionError → List ℕ
+session_error_text session.Memory = codes "out of memory"
+session_error_text (session.Malformed error) = codes "the reply is malformed: " ++ read_error_text error
+session_error_text session.OtherKind = codes "the reply is not what was asked for"
+session_error_text session.Refused = codes "the peer refused what was asked"
+session_error_text session.NothingCame = codes "the peer sent nothing of what was asked for"
+session_error_text session.NotInGap = codes "the peer sent keys that don't ascend or leave the gap that was asked for"
+session_error_text session.NoNode = codes "the peer sent a page without a node"
+session_error_text session.TooManyRounds = codes "the peer's tree has no end"
+session_error_text session.Twice = codes "the peer sent a row twice"
