@@ -113,3 +113,11 @@ module _ (o : IsTotalOrder register_order) (eq : Register → Register → Bool)
       by : (x : Option Register) → that.time ≡ time_after x clock → Eq eq e (ord_max register_order) j (joined (ord_max register_order) x (Some reg)) (Some that)
       by None u = is
       by (Some r) u = subst (λ y. eq y that ≡ true) (sym (second r reg (earlier r reg (omega (arith, t, u))))) is
+
+  -- and each other key has what it had
+  pub others_stay : (rows now : List (Key × Register)) (key other : Key) (reg : Register) → IsJoin text_order eq (ord_max register_order) rows ((key, reg) ∷ []) now → is_eq (text_order key other) ≡ false
+      → Eq eq e (ord_max register_order) j (get text_order now other) (get text_order rows other)
+  others_stay rows now key other reg joins apart =
+      on eq e (ord_max register_order) j (get text_order now other) (joined (ord_max register_order) (get text_order rows other) None) (get text_order rows other)
+      (subst (λ b. Eq eq e (ord_max register_order) j (get text_order now other) (joined (ord_max register_order) (get text_order rows other) (cond b (Some reg) None))) apart (joins.values other))
+      (to_none eq e (ord_max register_order) j (get text_order rows other))

@@ -1,13 +1,21 @@
 -- When the rows in memory are those of the file.
-use Rattle.std.specs.Prelude.{◌≡◌, ℕ, Bool, true, List, []}
+use Rattle.std.specs.Prelude.{◌≡◌, ℕ, Bool, true, false, List, [], Option, Some, Result, OnOk, string_bytes}
+use Rattle.std.specs.Ordering.{is_eq}
 use Rattle.key_order.specs.Text.{Text as Key, text_order}
 use Rattle.key_order.specs.Map.{SameValue, get}
 use Rattle.key_order.specs.Join.{joined}
 use Rattle.sqlite.specs.Effect.{Database}
+use Rattle.sqlite.specs.Held.{Held}
+use Rattle.sqlite.specs.Store.{Ghosts}
 use Rattle.merkle_replica.specs.Puts.{gathered, HasGathered}
 use Rattle.store_table.specs.Entries.{store_schema, HoldsEntries, IsNoted}
+use Rattle.store_table.specs.Connections.{database, IsClean, IsCommitted}
+use Rattle.store_table.specs.Latest.{IsLatestAt}
 use Rattle.store_table.specs.declared.register.Register.{Register}
 use Rattle.store_table.specs.declared.table.TheConstants.{FORMAT}
+use Rattle.store_table.specs.contracts.register.RegisterPartialEq.TheImpl as register_eq
+use Rattle.store_table.specs.contracts.registers.RegisterJoin.TheImpl as register_join
+use Rattle.merkle_store.specs.declared.store.Store.{Store}
 
 module _ (eq : Register → Register → Bool) (join : Register → Register → Register) where
   -- The database has the tables of a store by this writer, and the rows in memory are the map that has, for each key of an entry of its
@@ -23,3 +31,57 @@ module _ (eq : Register → Register → Bool) (join : Register → Register →
   abbrev pub JoinTheSame : List (Key × Register) → List (Key × Register) → List (Key × Register) → Type 0
   JoinTheSame rows these those = (k : Key) → SameValue (λ x y. eq x y ≡ true)
       (joined join (get text_order rows k) (gathered text_order eq join these k)) (joined join (get text_order rows k) (gathered text_order eq join those k))
+
+-- whether two registers are equal
+abbrev pub same_register : Register → Register → Bool
+same_register = (register_eq.ghosts).eq
+
+-- the later of two registers, which is their join
+abbrev pub later_register : Register → Register → Register
+later_register = (register_join.ghosts).join_of
+
+-- equal registers, or none on both sides
+abbrev pub SameRegister : Option Register → Option Register → Type 0
+SameRegister = SameValue (λ x y. same_register x y ≡ true)
+
+-- both have for each key the same register
+abbrev pub SameRows : List (Key × Register) → List (Key × Register) → Type 0
+SameRows these those = (key : Key) → SameRegister (get text_order these key) (get text_order those key)
+
+-- but for this key both have for each key the same register
+abbrev pub SameButFor : Key → List (Key × Register) → List (Key × Register) → Type 0
+SameButFor key these those = (other : Key) → is_eq (text_order key other) ≡ false → SameRegister (get text_order these other) (get text_order those other)
+
+-- the rows have a register equal to this for the key
+abbrev pub HasRegister : List (Key × Register) → Key → Register → Type 0
+HasRegister rows key register = SameRegister (get text_order rows key) (Some register)
+
+-- the new rows are the join of the old ones with all these entries
+abbrev pub HasJoined : List (Key × Register) → List (Key × Register) → List (Key × Register) → Type 0
+HasJoined = HasGathered text_order same_register later_register
+
+-- the rows in memory are those of the database, which is a store of this writer
+abbrev pub AreInStep : List ℕ → Database → List (Key × Register) → Type 0
+AreInStep = IsKept same_register later_register
+
+-- the rows in memory are those of the database, by the writer that it notes
+abbrev pub AreRowsOf : Database → List (Key × Register) → Type 0
+AreRowsOf db rows = (writer : List ℕ) → IsNoted db.trees FORMAT writer → AreInStep writer db rows
+
+-- what is found in the table for a key is what the rows have for it
+abbrev pub TellFound : Database → List (Key × Register) → Type 0
+TellFound db rows = (key : Key) (found : Option Register) → IsLatestAt db.trees (string_bytes key) found → SameRegister found (get text_order rows key)
+
+module _ {S : Type 0} (g : Ghosts S) where
+  -- the rows of the store in memory are those of its file
+  abbrev pub IsInStep : Store S → Type 0
+  IsInStep store = AreInStep (string_bytes store.writer) (database g store.conn) store.replica.rows
+
+  -- over a clean disk, a store opened again has the rows of the one that was closed, if that was in step with what was committed
+  abbrev pub Reopens : Store S → Store S → Type 0
+  Reopens store again = IsClean g again.conn → IsCommitted g store.conn → IsInStep store → SameRows again.replica.rows store.replica.rows
+
+  -- over a clean disk, what was in step is so after a call that is `Ok`
+  abbrev pub StayInStep : {A E : Type 0} → Held S → Held S → List (Key × Register) → List (Key × Register) → Result A E → Type 0
+  StayInStep old new rows now result =
+      IsClean g new → (writer : List ℕ) → AreInStep writer (database g old) rows → OnOk result (AreInStep writer (database g new) now)

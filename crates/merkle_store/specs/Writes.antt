@@ -1,10 +1,19 @@
 -- What a write and a join add to the table of a store.
-use Rattle.std.specs.Prelude.{ℕ, List, Option}
+use Rattle.std.specs.Prelude.{◌≡◌, ◌≢◌, ◌≤◌, ℕ, List, [], ◌∷◌, map, All, Option, Result, IfErr, IsTrue}
 use Rattle.std.specs.List.{filter}
 use Rattle.key_order.specs.Text.{Text, text_order}
 use Rattle.key_order.specs.Map.{get}
+use Rattle.sqlite.specs.Effect.{Database}
+use Rattle.sqlite.specs.Held.{Held, state}
+use Rattle.sqlite.specs.Store.{Ghosts}
+use Rattle.store_table.specs.Changes.{HasMore}
+use Rattle.store_table.specs.Connections.{database, IsClean}
+use Rattle.store_table.specs.Entries.{entry_row}
 use Rattle.store_table.specs.Registers.{time_after, is_later}
+use Rattle.store_table.specs.declared.fault.StoreFault.{StoreFault}
+use Rattle.store_table.specs.declared.fault.StoreFault.TheVariants.{Behind}
 use Rattle.store_table.specs.declared.register.Register.{Register}
+use Rattle.merkle_store.specs.declared.store.Store.{Store}
 
 -- the register that a write makes under a key: at the clock's time, or one above that of the key's
 abbrev pub register_of : List (Text × Register) → ℕ → Text → Text → Option Text → Register
@@ -13,3 +22,20 @@ register_of rows now writer key value = record { time = time_after (get text_ord
 -- those of a peer's entries that are later than what the rows have for their keys
 abbrev pub later_entries : List (Text × Register) → List (Text × Register) → List (Text × Register)
 later_entries rows entries = filter (λ entry. is_later (get text_order rows entry.0) entry.1) entries
+
+-- no entry has a time above the latest that is allowed
+abbrev pub AreTimely : ℕ → List (Text × Register) → Type 0
+AreTimely latest entries = All (λ entry. entry.1.time ≤ latest) entries
+
+module _ {S : Type 0} (store : Store S) where
+  -- the file has the row of a write more
+  abbrev pub HasWrite : ℕ → Text → Option Text → Database → Database → Type 0
+  HasWrite now key value = HasMore (entry_row (key, register_of store.replica.rows now store.writer key value) ∷ [])
+
+  -- the file has a row more for each of these entries that is later than what the store has for its key
+  abbrev pub HasNews : List (Text × Register) → Database → Database → Type 0
+  HasNews entries = HasMore (map entry_row (later_entries store.replica.rows entries))
+
+-- over a clean disk, while the connection is open, the database is as it was in each error but `Behind`
+abbrev pub StaysUnlessBehind : {S A : Type 0} → Ghosts S → Held S → Held S → Result A StoreFault → Type 0
+StaysUnlessBehind g old new result = IsClean g new → IsTrue (state g new).is_open → IfErr result (λ why. why ≢ Behind → database g new ≡ database g old)

@@ -1,5 +1,6 @@
 //! The register of a key among ascending rows.
-ghost use Rattle.std.specs.Prelude.{◌≡◌, IfOk, IfErr, MatchOption};
+ghost use Rattle.std.specs.Prelude.{◌≡◌, IfOk, IfErr};
+ghost use Rattle.std.specs.Option.{option_copied};
 ghost use Rattle.key_order.specs.Text.{text_order};
 ghost use Rattle.key_order.specs.Map.{IsMap, get};
 ghost use Rattle.merkle_replica.specs.Places.{IsPlaceOf, IsGapFor};
@@ -23,7 +24,7 @@ fn place(rows: &[(String, Register)], key: &String) -> Result<usize, usize>
 /// The register of a key, which is found by halving.
 pub fn register_at<'a>(rows: &'a [(String, Register)], key: &String) -> Option<&'a Register>
     requires { IsMap text_order rows.now }
-    ensures { MatchOption result (get text_order rows.now key.now ≡ None) (λ register. get text_order rows.now key.now ≡ Some register.now) }
+    ensures { get text_order rows.now key.now ≡ option_copied result }
 {
     match place(rows, key) {
         Ok(at) => Some(&rows[at].1),

@@ -1,21 +1,21 @@
 //! A store: its table in the database, and the replica of its entries in memory.
-ghost use Rattle.std.specs.Prelude.{◌≡◌, ◌≢◌, ◌≤◌, ◌↔◌, [], ◌∷◌, map, All, Some, true, string_bytes, IfOk, IfErr, OnOk, OnErr, IsTrue, MatchOption};
+ghost use Rattle.std.specs.Prelude.{◌≡◌, ◌≢◌, ◌≤◌, ◌^◌, ◌↔◌, [], map, string_bytes, IfOk, IfErr, OnOk, OnErr, IsErrOf, IsTrue};
 ghost use Rattle.std.specs.Option.{option_copied};
 ghost use Rattle.key_order.specs.Text.{text_order};
-ghost use Rattle.key_order.specs.Map.{IsMap, SameValue, get};
-ghost use Rattle.merkle_replica.specs.Puts.{HasGathered};
-ghost use Rattle.sqlite.specs.State.{HasCleanDisk, IsUnchanged, Survives};
+ghost use Rattle.key_order.specs.Map.{IsMap, get};
+ghost use Rattle.sqlite.specs.State.{IsUnchanged};
 ghost use Rattle.sqlite.specs.Held.{state};
-ghost use Rattle.store_table.specs.Entries.{store_schema, entry_row};
-ghost use Rattle.store_table.specs.Changes.{IsNewStore, HasMore, HasInstead, AreOf};
-ghost use Rattle.store_table.specs.Registers.{time_after, text_at};
-ghost use Rattle.merkle_store.specs.Kept.{IsKept};
-ghost use Rattle.merkle_store.specs.Writes.{register_of, later_entries};
+ghost use Rattle.store_table.specs.Entries.{entry_row};
+ghost use Rattle.store_table.specs.Changes.{IsBlank, IsNewStore, HasInstead};
+ghost use Rattle.store_table.specs.Connections.{database, HasStore, IsClean, IsCommitted, Makes, StaysInOk, StaysInErr, Leaves, LeavesNoMore};
+ghost use Rattle.store_table.specs.Faults.{IsForeign};
+ghost use Rattle.store_table.specs.Registers.{time_after, text_at, HasLastTime};
+ghost use Rattle.merkle_store.specs.Kept.{AreInStep, IsInStep, HasRegister, SameButFor, HasJoined};
+ghost use Rattle.merkle_store.specs.Writes.{register_of, later_entries, AreTimely, HasWrite, HasNews, StaysUnlessBehind};
 
 use crate::lookup::register_at;
 use crate::news::news_of;
 use crate::upkeep::{EntryReplica, add_entries, add_entry, read_replica, rewrite};
-use merkle_replica::Join;
 use sqlite::{Alter, Connection};
 use std::alloc::{AllocError, Global};
 use store_table::table::{self, Entries, FORMAT, recognise};
@@ -42,11 +42,12 @@ pub struct Store<S: Alter + Drop> {
 ///
 /// [`StoreFault::Foreign`] where the database has tables already.
 pub fn create<S: Alter>(conn: &mut Connection<S>, writer: &str) -> Result<(), StoreFault>
-    ensures kept { HasCleanDisk (state S.Store conn.new) → OnOk result (IsKept ⟦<Register as PartialEq>⟧.eq ⟦<Register as Join>⟧.join_of writer.now (state S.Store conn.new).now []) }
-    ensures refused { HasCleanDisk (state S.Store conn.new) → IsTrue (state S.Store conn.new).is_open → OnErr result ((state S.Store conn.new).now ≡ (state S.Store conn.old).now) }
+    ensures kept { IsClean S.Store conn.new → OnOk result (AreInStep writer.now (database S.Store conn.new) []) }
+    ensures foreign { IsErrOf result StoreFault.Foreign ↔ ¬ IsBlank (database S.Store conn.old) }
+    ensures refused { StaysInErr S.Store conn.old conn.new result }
 
     // A crash leaves what it could leave before, or a store without entries.
-    ensures crash { Survives (state S.Store conn.old) (state S.Store conn.new) (AreOf (IsNewStore FORMAT writer.now)) }
+    ensures crash { Leaves S.Store conn.old conn.new (λ _. IsNewStore FORMAT writer.now) }
 {
     table::create(conn, writer)
 }
@@ -57,12 +58,13 @@ pub fn read_store<S: Alter>(
     conn: &mut Connection<S>,
 ) -> Result<(String, EntryReplica, usize), StoreFault>
     // A database of something else is refused, and not read.
-    ensures foreign { (state S.Store conn.old).now.schema ≢ store_schema → (result ≡ Err StoreFault.Foreign) × (conn.new ≡ conn.old) }
+    ensures foreign { ¬ HasStore S.Store conn.old → IsErrOf result StoreFault.Foreign × (conn.new ≡ conn.old) }
+    ensures only_foreign { IsClean S.Store conn.new → IsErrOf result StoreFault.Foreign → IsForeign (database S.Store conn.old) }
 
     // Its rows are read, and nothing is written.
-    ensures kept { HasCleanDisk (state S.Store conn.new) → IfOk result (λ read. IsKept ⟦<Register as PartialEq>⟧.eq ⟦<Register as Join>⟧.join_of (string_bytes read.0) (state S.Store conn.new).now read.1.rows) }
-    ensures unchanged { HasCleanDisk (state S.Store conn.new) → OnOk result (IsUnchanged (state S.Store conn.old) (state S.Store conn.new)) }
-    ensures crash { Survives (state S.Store conn.old) (state S.Store conn.new) (λ _. ⊥) }
+    ensures kept { IsClean S.Store conn.new → IfOk result (λ read. AreInStep (string_bytes read.0) (database S.Store conn.new) read.1.rows) }
+    ensures unchanged { StaysInOk S.Store conn.old conn.new result }
+    ensures crash { LeavesNoMore S.Store conn.old conn.new }
 {
     let writer = recognise(conn)?;
     let (replica, count) = read_replica(alloc, conn)?;
@@ -80,11 +82,10 @@ pub fn open<S: Alter + Drop>(
     conn: Connection<S>,
     now: u64,
 ) -> Result<Store<S>, StoreFault>
-    ensures foreign { (state S.Store conn).now.schema ≢ store_schema → result ≡ Err StoreFault.Foreign }
-    ensures kept { IfOk result (λ store. HasCleanDisk (state S.Store store.conn)
-        → IsKept ⟦<Register as PartialEq>⟧.eq ⟦<Register as Join>⟧.join_of (string_bytes store.writer) (state S.Store store.conn).now store.replica.rows) }
-    ensures unchanged { IfOk result (λ store. HasCleanDisk (state S.Store store.conn) → IsUnchanged (state S.Store conn) (state S.Store store.conn)) }
-    ensures crash { IfOk result (λ store. Survives (state S.Store conn) (state S.Store store.conn) (λ _. ⊥)) }
+    ensures foreign { ¬ HasStore S.Store conn → IsErrOf result StoreFault.Foreign }
+    ensures kept { IfOk result (λ store. IsClean S.Store store.conn → IsInStep S.Store store) }
+    ensures unchanged { IfOk result (λ store. IsClean S.Store store.conn → IsUnchanged (state S.Store conn) (state S.Store store.conn)) }
+    ensures crash { IfOk result (λ store. LeavesNoMore S.Store conn store.conn) }
 {
     let mut conn = conn;
     let (writer, replica, rows) = read_store(alloc, &mut conn)?;
@@ -100,7 +101,7 @@ pub fn open<S: Alter + Drop>(
 
 /// Whether no entry has a time above `latest`.
 fn are_timely(entries: &[(String, Register)], latest: u64) -> bool
-    ensures { IsTrue result ↔ All (λ entry. entry.1.time ≤ latest) entries.now }
+    ensures { IsTrue result ↔ AreTimely latest entries.now }
 {
     entries
         .iter()
@@ -109,7 +110,9 @@ fn are_timely(entries: &[(String, Register)], latest: u64) -> bool
 
 impl<S: Alter + Drop> Store<S> {
     /// The name by which this store writes.
-    pub fn writer(&self) -> &str {
+    pub fn writer(&self) -> &str
+        ensures { result.now ≡ string_bytes self.now.writer }
+    {
         self.writer.as_str()
     }
 
@@ -119,7 +122,9 @@ impl<S: Alter + Drop> Store<S> {
     }
 
     /// The entries, ascending by key, removals too.
-    pub fn entries(&self) -> &[(String, Register)] {
+    pub fn entries(&self) -> &[(String, Register)]
+        ensures { result.now ≡ self.now.replica.rows }
+    {
         self.replica.rows()
     }
 
@@ -135,7 +140,7 @@ impl<S: Alter + Drop> Store<S> {
 
     /// The register of a key.
     pub fn register(&self, key: &String) -> Option<&Register>
-        ensures { MatchOption result (get text_order self.now.replica.rows key.now ≡ None) (λ register. get text_order self.now.replica.rows key.now ≡ Some register.now) }
+        ensures { get text_order self.now.replica.rows key.now ≡ option_copied result }
     {
         register_at(self.replica.rows(), key)
     }
@@ -155,7 +160,8 @@ impl<S: Alter + Drop> Store<S> {
 
     /// The time of a write at this time of the clock: so that it is above that of the key's register.
     pub fn later_time(&self, key: &String, now: u64) -> Result<u64, StoreFault>
-        ensures { IfOk result (λ time. time ≡ time_after (get text_order self.now.replica.rows key.now) now) }
+        ensures time { IfOk result (λ time. time ≡ time_after (get text_order self.now.replica.rows key.now) now) }
+        ensures last { IfErr result (λ why. (why ≡ StoreFault.Time) × HasLastTime (get text_order self.now.replica.rows key.now)) }
     {
         let Some(register) = self.register(key) else {
             return Ok(now);
@@ -173,22 +179,21 @@ impl<S: Alter + Drop> Store<S> {
     /// [`StoreFault::Time`] where the key's register has the greatest time of all, [`StoreFault::Behind`] where the file has the write and
     /// memory was refused for the row in memory, and faults of the file; but for `Behind` all is as it was.
     pub fn write(&mut self, now: u64, key: String, value: Option<String>) -> Result<(), StoreFault>
-        ensures kept { HasCleanDisk (state S.Store self.new.conn) → IsKept ⟦<Register as PartialEq>⟧.eq ⟦<Register as Join>⟧.join_of (string_bytes self.old.writer) (state S.Store self.old.conn).now self.old.replica.rows
-            → OnOk result (IsKept ⟦<Register as PartialEq>⟧.eq ⟦<Register as Join>⟧.join_of (string_bytes self.new.writer) (state S.Store self.new.conn).now self.new.replica.rows) }
+        ensures kept { IsClean S.Store self.new.conn → IsInStep S.Store self.old → OnOk result (IsInStep S.Store self.new) }
 
         // The key then has what was written, and each other key what it had.
-        ensures written { OnOk result (SameValue (λ x y. ⟦<Register as PartialEq>⟧.eq x y ≡ true) (get text_order self.new.replica.rows key)
-            (Some (register_of self.old.replica.rows now self.old.writer key value))) }
+        ensures written { OnOk result (HasRegister self.new.replica.rows key (register_of self.old.replica.rows now self.old.writer key value)) }
+        ensures others { OnOk result (SameButFor key self.new.replica.rows self.old.replica.rows) }
+        ensures added { Makes S.Store self.old.conn self.new.conn result (HasWrite self.old now key value) }
+        ensures late { IsErrOf result StoreFault.Time → 2 ^ 63 ≤ time_after (get text_order self.old.replica.rows key) now }
+        ensures never { result ≢ Err StoreFault.Foreign }
 
         // Refused, the rows in memory stay, and the file's too, but for `Behind`.
         ensures memory { OnErr result (self.new.replica ≡ self.old.replica) }
-        ensures refused { HasCleanDisk (state S.Store self.new.conn) → IsTrue (state S.Store self.new.conn).is_open
-            → (state S.Store self.old.conn).now ≡ (state S.Store self.old.conn).committed
-            → IfErr result (λ why. why ≢ StoreFault.Behind → (state S.Store self.new.conn).now ≡ (state S.Store self.old.conn).now) }
+        ensures refused { IsCommitted S.Store self.old.conn → StaysUnlessBehind S.Store self.old.conn self.new.conn result }
 
         // A crash leaves what it could leave before, or a database with the one row more.
-        ensures crash { (state S.Store self.old.conn).now.schema ≡ store_schema → Survives (state S.Store self.old.conn) (state S.Store self.new.conn)
-            (AreOf (HasMore (entry_row (key, register_of self.old.replica.rows now self.old.writer key value) ∷ []) (state S.Store self.old.conn).now)) }
+        ensures crash { HasStore S.Store self.old.conn → Leaves S.Store self.old.conn self.new.conn (HasWrite self.old now key value) }
     {
         let time = self.later_time(&key, now)?;
         let writer = self.writer.clone()?;
@@ -210,8 +215,8 @@ impl<S: Alter + Drop> Store<S> {
     pub fn news(&self, entries: Entries) -> Result<Entries, StoreFault>
         ensures ascending { OnOk result (IsMap text_order self.now.replica.rows) }
         ensures news { IfOk result (λ news. news.items ≡ later_entries self.now.replica.rows entries.items) }
-        ensures timely { OnOk result (All (λ entry. entry.1.time ≤ self.now.latest) entries.items) }
-        ensures future { (All (λ entry. entry.1.time ≤ self.now.latest) entries.items → ⊥) → result ≡ Err StoreFault.Future }
+        ensures timely { OnOk result (AreTimely self.now.latest entries.items) }
+        ensures future { IfErr result (λ why. (why ≡ StoreFault.Future) × ¬ AreTimely self.now.latest entries.items) }
     {
         if !are_timely(&entries, self.latest) {
             return Err(StoreFault::Future);
@@ -226,20 +231,19 @@ impl<S: Alter + Drop> Store<S> {
     /// [`StoreFault::Future`] where an entry has a time that is more than a day ahead of the clock; [`StoreFault::Behind`] where the file
     /// has the entries and memory was refused for the rows in memory; and faults of the file. But for `Behind` all is as it was.
     pub fn join(&mut self, entries: Entries) -> Result<usize, StoreFault>
-        ensures kept { HasCleanDisk (state S.Store self.new.conn) → IsKept ⟦<Register as PartialEq>⟧.eq ⟦<Register as Join>⟧.join_of (string_bytes self.old.writer) (state S.Store self.old.conn).now self.old.replica.rows
-            → OnOk result (IsKept ⟦<Register as PartialEq>⟧.eq ⟦<Register as Join>⟧.join_of (string_bytes self.new.writer) (state S.Store self.new.conn).now self.new.replica.rows) }
-        ensures joined { OnOk result (HasGathered text_order ⟦<Register as PartialEq>⟧.eq ⟦<Register as Join>⟧.join_of self.old.replica.rows entries.items self.new.replica.rows) }
-        ensures timely { OnOk result (All (λ entry. entry.1.time ≤ self.old.latest) entries.items) }
-        ensures future { (All (λ entry. entry.1.time ≤ self.old.latest) entries.items → ⊥) → (result ≡ Err StoreFault.Future) × (self.new ≡ self.old) }
+        ensures kept { IsClean S.Store self.new.conn → IsInStep S.Store self.old → OnOk result (IsInStep S.Store self.new) }
+        ensures joined { OnOk result (HasJoined self.old.replica.rows entries.items self.new.replica.rows) }
+        ensures added { Makes S.Store self.old.conn self.new.conn result (HasNews self.old entries.items) }
+        ensures timely { OnOk result (AreTimely self.old.latest entries.items) }
+        ensures future { IsErrOf result StoreFault.Future ↔ ¬ AreTimely self.old.latest entries.items }
+        ensures untouched { IsErrOf result StoreFault.Future → self.new ≡ self.old }
 
         // Refused, the rows in memory stay, and the file's too, but for `Behind`.
         ensures memory { IfErr result (λ why. why ≢ StoreFault.Behind → self.new.replica ≡ self.old.replica) }
-        ensures refused { (state S.Store self.old.conn).now.schema ≡ store_schema → HasCleanDisk (state S.Store self.new.conn) → IsTrue (state S.Store self.new.conn).is_open
-            → IfErr result (λ why. why ≢ StoreFault.Behind → (state S.Store self.new.conn).now ≡ (state S.Store self.old.conn).now) }
+        ensures refused { HasStore S.Store self.old.conn → StaysUnlessBehind S.Store self.old.conn self.new.conn result }
 
         // A crash leaves what it could leave before, or a database with a row more for each entry that is later, and no other.
-        ensures crash { (state S.Store self.old.conn).now.schema ≡ store_schema → Survives (state S.Store self.old.conn) (state S.Store self.new.conn)
-            (AreOf (HasMore (map entry_row (later_entries self.old.replica.rows entries.items)) (state S.Store self.old.conn).now)) }
+        ensures crash { HasStore S.Store self.old.conn → Leaves S.Store self.old.conn self.new.conn (HasNews self.old entries.items) }
     {
         let news = self.news(entries)?;
         let count = news.len();
@@ -257,15 +261,13 @@ impl<S: Alter + Drop> Store<S> {
     ///
     /// Faults of the file, by which all is as it was.
     pub fn compact(&mut self) -> Result<(), StoreFault>
-        ensures kept { HasCleanDisk (state S.Store self.new.conn) → IsKept ⟦<Register as PartialEq>⟧.eq ⟦<Register as Join>⟧.join_of (string_bytes self.old.writer) (state S.Store self.old.conn).now self.old.replica.rows
-            → OnOk result (IsKept ⟦<Register as PartialEq>⟧.eq ⟦<Register as Join>⟧.join_of (string_bytes self.new.writer) (state S.Store self.new.conn).now self.new.replica.rows) }
+        ensures kept { IsClean S.Store self.new.conn → IsInStep S.Store self.old → OnOk result (IsInStep S.Store self.new) }
         ensures same { self.new.replica ≡ self.old.replica }
-        ensures refused { (state S.Store self.old.conn).now.schema ≡ store_schema → HasCleanDisk (state S.Store self.new.conn) → IsTrue (state S.Store self.new.conn).is_open
-            → OnErr result ((state S.Store self.new.conn).now ≡ (state S.Store self.old.conn).now) }
+        ensures compacted { Makes S.Store self.old.conn self.new.conn result (HasInstead (map entry_row self.old.replica.rows)) }
+        ensures refused { HasStore S.Store self.old.conn → StaysInErr S.Store self.old.conn self.new.conn result }
 
         // A crash leaves what it could leave before, or a database with one row for each key, the one in memory.
-        ensures crash { (state S.Store self.old.conn).now.schema ≡ store_schema → Survives (state S.Store self.old.conn) (state S.Store self.new.conn)
-            (AreOf (HasInstead (map entry_row self.old.replica.rows) (state S.Store self.old.conn).now)) }
+        ensures crash { HasStore S.Store self.old.conn → Leaves S.Store self.old.conn self.new.conn (HasInstead (map entry_row self.old.replica.rows)) }
     {
         rewrite(&mut self.conn, &self.replica)?;
         self.rows = self.replica.rows().len();

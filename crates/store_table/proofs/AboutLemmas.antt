@@ -1,7 +1,8 @@
 -- What the statements that make the tables, and those on the table that says the format, do.
 use Rattle.std.proofs.Common.{◌≡◌, ℕ, ℤ, pos, negsuc, List, [], ◌∷◌, map, codes, false, None, Ok, Err, Result, OnOk, IsTrue, length, get_or, arith, refl, sym, ap, subst, ◌∙◌}
 use Rattle.std.specs.List.Sorted.{IsPermutation}
-use Rattle.std.proofs.lemmas.List.Sorted.{IsPermutation-map, IsPermutation-sym}
+use Rattle.std.proofs.lemmas.List.{length-map}
+use Rattle.std.proofs.lemmas.List.Sorted.{IsPermutation-map, IsPermutation-sym, length_permutation}
 use Rattle.sqlite.specs.declared.types.Value.TheVariants.{Null, Int, Text}
 use Rattle.sqlite.specs.Order.{Row}
 use Rattle.sqlite.specs.Term.{Term, lit, col}
@@ -184,6 +185,10 @@ reads_about old new rows has h =
     let all : map (λ (o : Output). o.1) a.kept ≡ map noted (old.now.trees 1) = ap (map (λ (o : Output). o.1)) kept ∙ all_noted [] (old.now.trees 1) in
     let moved = IsPermutation-map (λ (o : Output). o.1) a.kept a.ordered a.same in
     subst (λ l. IsPermutation l rows) all (subst (IsPermutation (map (λ (o : Output). o.1) a.kept)) (sym a.shown) moved)
+
+-- as many rows are read as there are
+pub as_many : (xs rows : List Row) → IsPermutation (map noted xs) rows → length rows ≡ length xs
+as_many xs rows same = length_permutation (map noted xs) rows same ∙ length-map xs noted
 
 pub about_unchanged : (old new : State) (rows : List Row) → old.now.schema ≡ store_schema → Shown noted_text [] old new rows → IsUnchanged old new
 about_unchanged old new rows has h = shown_unchanged noted_text old new rows has noted_plain h

@@ -5,7 +5,15 @@ use Rattle.sqlite.specs.Order.{Row}
 use Rattle.sqlite.specs.Tree.{Trees}
 use Rattle.sqlite.specs.Effect.{Database}
 use Rattle.sqlite.specs.State.{State, Survives, HasCleanDisk, KeepsCommit}
-use Rattle.store_table.specs.Entries.{entry_schema, store_schema, shown, IsNoted}
+use Rattle.store_table.specs.Entries.{no_schema, entry_schema, store_schema, shown, IsNoted}
+
+-- it has no table
+abbrev pub IsBlank : Database → Type 0
+IsBlank db = db.schema ≡ no_schema
+
+-- it has the tables of a store
+abbrev pub IsStore : Database → Type 0
+IsStore db = db.schema ≡ store_schema
 
 -- it has the table of entries alone, which is empty
 pub record HasEntryTable (db : Database) : Type 0 where

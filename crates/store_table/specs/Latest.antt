@@ -1,5 +1,5 @@
 -- The latest register that the table has for a key.
-use Rattle.std.specs.Prelude.{◌≡◌, ℕ, cond, List, [], ◌∷◌, map, fold, Option, Some, None, option_and_then}
+use Rattle.std.specs.Prelude.{◌≡◌, ℕ, Bool, cond, List, [], ◌∷◌, map, fold, Option, Some, None, is_some, option_and_then}
 use Rattle.std.specs.List.{filter}
 use Rattle.std.specs.List.Sorted.{IsPermutation}
 use Rattle.std.specs.Ordering.{is_eq, is_lt}
@@ -33,6 +33,10 @@ IsLatestAt trees key found = (entries : List (Key × Register)) × IsPermutation
 -- what a register says: a text, or none where there is no register or a removal
 abbrev pub text_of : Option Register → Option Key
 text_of found = option_and_then (λ r. r.value) found
+
+-- whether the latest register of the key says a text
+abbrev pub IsThere : Trees → List ℕ → Bool → Type 0
+IsThere trees key there = (found : Option Register) × IsLatestAt trees key found × (there ≡ is_some (text_of found))
 
 -- the row that a write over `found` adds: at the clock's time, or one above that of the register that was found
 abbrev pub written_row : List ℕ → Option Register → Key → ℕ → Option Key → Row

@@ -1,5 +1,7 @@
 pub mod Changes
+pub mod Connections
 pub mod Entries
+pub mod Faults
 pub mod Latest
 pub mod Registers
 pub mod RegisterBytes

@@ -1,4 +1,6 @@
 //! Why a call on a store failed.
+ghost use Rattle.std.specs.Prelude.{◌≡◌};
+
 use sqlite::Error;
 use std::alloc::AllocError;
 use std::fmt;
@@ -25,12 +27,20 @@ pub enum StoreFault {
 }
 
 impl From<Error> for StoreFault {
+    ghost use Rattle.store_table.specs.declared.fault.StoreFault.TheVariants.{Database};
+
+    ghost from_gives = { λ error fault. fault ≡ Database error };
+
     fn from(error: Error) -> Self {
         StoreFault::Database(error)
     }
 }
 
 impl From<AllocError> for StoreFault {
+    ghost use Rattle.store_table.specs.declared.fault.StoreFault.TheVariants.{Memory};
+
+    ghost from_gives = { λ _ fault. fault ≡ Memory };
+
     fn from(_error: AllocError) -> Self {
         StoreFault::Memory
     }

@@ -1,13 +1,14 @@
 //! The latest register of a key, found in the table without a tree, and writes over it.
-ghost use Rattle.std.specs.Prelude.{◌≡◌, ◌≤◌, [], ◌∷◌, map, Option, Some, None, is_some, false, IfOk, OnOk, OnErr, IsTrue};
+ghost use Rattle.std.specs.Prelude.{◌≡◌, ◌≤◌, [], ◌∷◌, map, is_some, false, IfOk, IfErr, IsTrue};
 ghost use Rattle.std.specs.List.Sorted.{IsPermutation};
-ghost use Rattle.sqlite.specs.State.{HasCleanDisk, IsUnchanged, Survives};
+ghost use Rattle.sqlite.specs.State.{IsUnchanged};
 ghost use Rattle.sqlite.specs.Held.{state};
 ghost use Rattle.sqlite.specs.View.{doubt};
-ghost use Rattle.store_table.specs.Entries.{store_schema, shown};
-ghost use Rattle.store_table.specs.Changes.{HasMore, AreOf};
-ghost use Rattle.store_table.specs.Registers.{time_after};
-ghost use Rattle.store_table.specs.Latest.{rows_of, later, latest, text_of, written_row, IsLatestAt, WritesOver};
+ghost use Rattle.store_table.specs.Entries.{shown};
+ghost use Rattle.store_table.specs.Changes.{HasMore};
+ghost use Rattle.store_table.specs.Connections.{database, HasStore, IsClean, IsCommitted, Finds, Makes, StaysInOk, StaysInErr, Leaves, LeavesNoMore};
+ghost use Rattle.store_table.specs.Registers.{time_after, HasLastTime};
+ghost use Rattle.store_table.specs.Latest.{rows_of, later, latest, text_of, written_row, IsLatestAt, IsThere, WritesOver};
 
 use crate::fault::StoreFault;
 use crate::register::Register;
@@ -17,9 +18,9 @@ use std::alloc::Global;
 
 /// The rows of a key.
 fn read_rows_of<S: Alter>(conn: &mut Connection<S>, key: &str) -> Result<Vec<Row>, Error>
-    ensures rows { (state S.Store conn.old).now.schema ≡ store_schema → HasCleanDisk (state S.Store conn.new) → IfOk result (λ rows. IsPermutation (rows_of key.now (map shown ((state S.Store conn.old).now.trees 0))) rows.items) }
-    ensures unchanged { (state S.Store conn.old).now.schema ≡ store_schema → HasCleanDisk (state S.Store conn.new) → OnOk result (IsUnchanged (state S.Store conn.old) (state S.Store conn.new)) }
-    ensures crash { (state S.Store conn.old).now.schema ≡ store_schema → Survives (state S.Store conn.old) (state S.Store conn.new) (λ _. ⊥) }
+    ensures rows { Finds S.Store conn.old conn.new result (λ db rows. IsPermutation (rows_of key.now (map shown (db.trees 0))) rows.items) }
+    ensures unchanged { HasStore S.Store conn.old → StaysInOk S.Store conn.old conn.new result }
+    ensures crash { HasStore S.Store conn.old → LeavesNoMore S.Store conn.old conn.new }
 {
     conn.query_all(
         "SELECT key, time, writer, value FROM entry WHERE key = ?1",
@@ -64,9 +65,9 @@ pub fn find<S: Alter>(
     conn: &mut Connection<S>,
     key: &str,
 ) -> Result<Option<Register>, StoreFault>
-    ensures latest { (state S.Store conn.old).now.schema ≡ store_schema → HasCleanDisk (state S.Store conn.new) → IfOk result (λ found. IsLatestAt (state S.Store conn.old).now.trees key.now found) }
-    ensures unchanged { (state S.Store conn.old).now.schema ≡ store_schema → HasCleanDisk (state S.Store conn.new) → OnOk result (IsUnchanged (state S.Store conn.old) (state S.Store conn.new)) }
-    ensures crash { (state S.Store conn.old).now.schema ≡ store_schema → Survives (state S.Store conn.old) (state S.Store conn.new) (λ _. ⊥) }
+    ensures latest { Finds S.Store conn.old conn.new result (λ db found. IsLatestAt db.trees key.now found) }
+    ensures unchanged { HasStore S.Store conn.old → StaysInOk S.Store conn.old conn.new result }
+    ensures crash { HasStore S.Store conn.old → LeavesNoMore S.Store conn.old conn.new }
 {
     let rows = read_rows_of(conn, key)?;
     let entries = entries_of(alloc, &rows)?;
@@ -79,7 +80,8 @@ pub fn find<S: Alter>(
 ///
 /// [`StoreFault::Time`] where what is there has the last time that there is.
 pub fn later_time(found: &Option<Register>, now: u64) -> Result<u64, StoreFault>
-    ensures { IfOk result (λ time. time ≡ time_after found.now now) }
+    ensures time { IfOk result (λ time. time ≡ time_after found.now now) }
+    ensures last { IfErr result (λ why. (why ≡ StoreFault.Time) × HasLastTime found.now) }
 {
     let Some(register) = found else {
         return Ok(now);
@@ -100,12 +102,9 @@ fn write_over<S: Alter>(
     value: Option<String>,
 ) -> Result<(), StoreFault>
     ensures clean { doubt (state S.Store conn.old).is_clean ≤ doubt (state S.Store conn.new).is_clean }
-    ensures written { (state S.Store conn.old).now.schema ≡ store_schema → HasCleanDisk (state S.Store conn.new)
-        → OnOk result (HasMore (written_row key.now found.now writer now value ∷ []) (state S.Store conn.old).now (state S.Store conn.new).now) }
-    ensures refused { HasCleanDisk (state S.Store conn.new) → IsTrue (state S.Store conn.new).is_open → (state S.Store conn.old).now ≡ (state S.Store conn.old).committed
-        → OnErr result ((state S.Store conn.new).now ≡ (state S.Store conn.old).now) }
-    ensures crash { (HasCleanDisk (state S.Store conn.new) → (state S.Store conn.old).now.schema ≡ store_schema) → Survives (state S.Store conn.old) (state S.Store conn.new)
-        (AreOf (HasMore (written_row key.now found.now writer now value ∷ []) (state S.Store conn.old).now)) }
+    ensures written { Makes S.Store conn.old conn.new result (HasMore (written_row key.now found.now writer now value ∷ [])) }
+    ensures refused { IsCommitted S.Store conn.old → StaysInErr S.Store conn.old conn.new result }
+    ensures crash { (IsClean S.Store conn.new → HasStore S.Store conn.old) → Leaves S.Store conn.old conn.new (HasMore (written_row key.now found.now writer now value ∷ [])) }
 {
     let time = later_time(found, now)?;
     let register = Register {
@@ -129,11 +128,9 @@ pub fn put<S: Alter>(
     key: &str,
     text: String,
 ) -> Result<(), StoreFault>
-    ensures written { (state S.Store conn.old).now.schema ≡ store_schema → HasCleanDisk (state S.Store conn.new)
-        → OnOk result (WritesOver key.now writer now (Some text) (state S.Store conn.old).now (state S.Store conn.new).now) }
+    ensures written { Makes S.Store conn.old conn.new result (WritesOver key.now writer now (Some text)) }
     // A crash leaves what it could leave before, or a database with the write.
-    ensures crash { (state S.Store conn.old).now.schema ≡ store_schema
-        → Survives (state S.Store conn.old) (state S.Store conn.new) (AreOf (WritesOver key.now writer now (Some text) (state S.Store conn.old).now)) }
+    ensures crash { HasStore S.Store conn.old → Leaves S.Store conn.old conn.new (WritesOver key.now writer now (Some text)) }
 {
     let found = find(alloc, conn, key)?;
     write_over(conn, writer, now, key, &found, Some(text))
@@ -161,15 +158,11 @@ pub fn remove<S: Alter>(
     now: u64,
     key: &str,
 ) -> Result<bool, StoreFault>
-    ensures written { (state S.Store conn.old).now.schema ≡ store_schema → HasCleanDisk (state S.Store conn.new)
-        → IfOk result (λ was. IsTrue was → WritesOver key.now writer now None (state S.Store conn.old).now (state S.Store conn.new).now) }
-    ensures absent { (state S.Store conn.old).now.schema ≡ store_schema → HasCleanDisk (state S.Store conn.new)
-        → IfOk result (λ was. was ≡ false → IsUnchanged (state S.Store conn.old) (state S.Store conn.new)) }
+    ensures written { Finds S.Store conn.old conn.new result (λ db was. IsTrue was → WritesOver key.now writer now None db (database S.Store conn.new)) }
+    ensures absent { Finds S.Store conn.old conn.new result (λ db was. was ≡ false → IsUnchanged (state S.Store conn.old) (state S.Store conn.new)) }
     // A crash leaves what it could leave before, or a database with the removal.
-    ensures crash { (state S.Store conn.old).now.schema ≡ store_schema
-        → Survives (state S.Store conn.old) (state S.Store conn.new) (AreOf (WritesOver key.now writer now None (state S.Store conn.old).now)) }
-    ensures was { (state S.Store conn.old).now.schema ≡ store_schema → HasCleanDisk (state S.Store conn.new)
-        → IfOk result (λ was. (found : Option Register) × IsLatestAt (state S.Store conn.old).now.trees key.now found × (was ≡ is_some (text_of found))) }
+    ensures crash { HasStore S.Store conn.old → Leaves S.Store conn.old conn.new (WritesOver key.now writer now None) }
+    ensures was { Finds S.Store conn.old conn.new result (λ db was. IsThere db.trees key.now was) }
 {
     let found = find(alloc, conn, key)?;
     if !has_text(&found) {

@@ -1,14 +1,16 @@
 //! The table of a store: each write that the store has seen, as a row. No row is changed or taken out but by a compaction, so a key has
 //! the latest register of its rows.
-ghost use Rattle.std.specs.Prelude.{◌≡◌, ◌≢◌, ◌≤◌, [], ◌∷◌, map, pos, string_bytes, IfOk, OnOk, OnErr, IsTrue};
+ghost use Rattle.std.specs.Prelude.{◌≡◌, ◌≢◌, ◌≤◌, ◌^◌, ◌↔◌, [], ◌∷◌, map, pos, string_bytes, IfOk, IfErr, OnOk, IsErrOf, IsTrue};
 ghost use Rattle.std.specs.List.Sorted.{IsPermutation};
-ghost use Rattle.sqlite.specs.State.{HasCleanDisk, IsUnchanged, KeepsCommit, Survives};
+ghost use Rattle.sqlite.specs.State.{KeepsCommit};
 ghost use Rattle.sqlite.specs.View.{doubt};
 ghost use Rattle.sqlite.specs.Held.{state};
 ghost use Rattle.sqlite.specs.Values.{bound};
 ghost use Rattle.sqlite.specs.declared.types.Value.TheVariants.{Int, Text};
-ghost use Rattle.store_table.specs.Entries.{store_schema, no_schema, shown, noted, two, four, entry_row, entry_row_of, IsNoted};
-ghost use Rattle.store_table.specs.Changes.{HasEntryTable, HasBothTables, IsNewStore, KeepsAbout, HasMore, HasInstead, AreOf, CommitsNothing};
+ghost use Rattle.store_table.specs.Entries.{shown, noted, two, four, entry_row, entry_row_of, IsNoted};
+ghost use Rattle.store_table.specs.Changes.{IsBlank, IsStore, HasEntryTable, HasBothTables, IsNewStore, KeepsAbout, HasMore, HasInstead, CommitsNothing};
+ghost use Rattle.store_table.specs.Connections.{database, HasStore, IsClean, IsCommitted, Finds, Makes, MakesInside, StaysInOk, StaysInErr, Leaves, LeavesNoMore};
+ghost use Rattle.store_table.specs.Faults.{IsFailure, IsForeign};
 
 use crate::fault::StoreFault;
 use crate::layout::{is_blank, is_of_store};
@@ -27,8 +29,7 @@ pub const FORMAT: i64 = 1;
 fn make_entries<S: Alter>(transaction: &mut Transaction<'_, S>) -> Result<(), Error>
     ensures same_reference { transaction.new.conn.ghost_name ≡ transaction.old.conn.ghost_name }
     ensures within { CommitsNothing (state S.Store transaction.old.conn.now) (state S.Store transaction.new.conn.now) }
-    ensures made { HasCleanDisk (state S.Store transaction.new.conn.now) → IsTrue (state S.Store transaction.old.conn.now).in_transaction → (state S.Store transaction.old.conn.now).now.schema ≡ no_schema
-        → OnOk result (IsTrue (state S.Store transaction.new.conn.now).in_transaction × HasEntryTable (state S.Store transaction.new.conn.now).now) }
+    ensures made { MakesInside S.Store transaction.old.conn.now transaction.new.conn.now result IsBlank (λ _. HasEntryTable) }
 {
     transaction.execute(
         "CREATE TABLE entry (id INTEGER PRIMARY KEY, key TEXT NOT NULL, time INTEGER NOT NULL, writer TEXT NOT NULL, value TEXT) STRICT",
@@ -41,8 +42,7 @@ fn make_entries<S: Alter>(transaction: &mut Transaction<'_, S>) -> Result<(), Er
 fn make_about<S: Alter>(transaction: &mut Transaction<'_, S>) -> Result<(), Error>
     ensures same_reference { transaction.new.conn.ghost_name ≡ transaction.old.conn.ghost_name }
     ensures within { CommitsNothing (state S.Store transaction.old.conn.now) (state S.Store transaction.new.conn.now) }
-    ensures made { HasCleanDisk (state S.Store transaction.new.conn.now) → IsTrue (state S.Store transaction.old.conn.now).in_transaction → HasEntryTable (state S.Store transaction.old.conn.now).now
-        → OnOk result (IsTrue (state S.Store transaction.new.conn.now).in_transaction × HasBothTables (state S.Store transaction.new.conn.now).now) }
+    ensures made { MakesInside S.Store transaction.old.conn.now transaction.new.conn.now result HasEntryTable (λ _. HasBothTables) }
 {
     transaction.execute(
         "CREATE TABLE about (id INTEGER PRIMARY KEY, format INTEGER NOT NULL, writer TEXT NOT NULL) STRICT",
@@ -55,8 +55,7 @@ fn make_about<S: Alter>(transaction: &mut Transaction<'_, S>) -> Result<(), Erro
 fn note_about<S: Alter>(transaction: &mut Transaction<'_, S>, writer: &str) -> Result<(), Error>
     ensures same_reference { transaction.new.conn.ghost_name ≡ transaction.old.conn.ghost_name }
     ensures within { CommitsNothing (state S.Store transaction.old.conn.now) (state S.Store transaction.new.conn.now) }
-    ensures noted { HasCleanDisk (state S.Store transaction.new.conn.now) → IsTrue (state S.Store transaction.old.conn.now).in_transaction → HasBothTables (state S.Store transaction.old.conn.now).now
-        → OnOk result (IsTrue (state S.Store transaction.new.conn.now).in_transaction × IsNewStore FORMAT writer.now (state S.Store transaction.new.conn.now).now) }
+    ensures noted { MakesInside S.Store transaction.old.conn.now transaction.new.conn.now result HasBothTables (λ _. IsNewStore FORMAT writer.now) }
 {
     transaction.execute(
         "INSERT INTO about (format, writer) VALUES (?1, ?2)",
@@ -69,8 +68,7 @@ fn note_about<S: Alter>(transaction: &mut Transaction<'_, S>, writer: &str) -> R
 fn make<S: Alter>(transaction: &mut Transaction<'_, S>, writer: &str) -> Result<(), Error>
     ensures same_reference { transaction.new.conn.ghost_name ≡ transaction.old.conn.ghost_name }
     ensures within { CommitsNothing (state S.Store transaction.old.conn.now) (state S.Store transaction.new.conn.now) }
-    ensures made { HasCleanDisk (state S.Store transaction.new.conn.now) → IsTrue (state S.Store transaction.old.conn.now).in_transaction → (state S.Store transaction.old.conn.now).now.schema ≡ no_schema
-        → OnOk result (IsTrue (state S.Store transaction.new.conn.now).in_transaction × IsNewStore FORMAT writer.now (state S.Store transaction.new.conn.now).now) }
+    ensures made { MakesInside S.Store transaction.old.conn.now transaction.new.conn.now result IsBlank (λ _. IsNewStore FORMAT writer.now) }
 {
     make_entries(transaction)?;
     make_about(transaction)?;
@@ -78,10 +76,15 @@ fn make<S: Alter>(transaction: &mut Transaction<'_, S>, writer: &str) -> Result<
 }
 
 /// Makes a store in a database without tables, or nothing.
+///
+/// # Errors
+///
+/// [`StoreFault::Foreign`] where the database has tables already, [`StoreFault::Underway`], and faults of the file.
 pub fn create<S: Alter>(conn: &mut Connection<S>, writer: &str) -> Result<(), StoreFault>
-    ensures created { HasCleanDisk (state S.Store conn.new) → OnOk result (IsNewStore FORMAT writer.now (state S.Store conn.new).now) }
-    ensures refused { HasCleanDisk (state S.Store conn.new) → IsTrue (state S.Store conn.new).is_open → OnErr result ((state S.Store conn.new).now ≡ (state S.Store conn.old).now) }
-    ensures crash { Survives (state S.Store conn.old) (state S.Store conn.new) (AreOf (IsNewStore FORMAT writer.now)) }
+    ensures created { IsClean S.Store conn.new → OnOk result (IsNewStore FORMAT writer.now (database S.Store conn.new)) }
+    ensures foreign { IsErrOf result StoreFault.Foreign ↔ ¬ IsBlank (database S.Store conn.old) }
+    ensures refused { StaysInErr S.Store conn.old conn.new result }
+    ensures crash { Leaves S.Store conn.old conn.new (λ _. IsNewStore FORMAT writer.now) }
 {
     if !is_blank(conn.schema()) {
         return Err(StoreFault::Foreign);
@@ -106,24 +109,29 @@ fn note_of(row: &Row) -> Result<(i64, String), Error>
 
 /// The rows of the table that says which format the file has.
 fn read_about<S: Alter>(conn: &mut Connection<S>) -> Result<Vec<Row>, Error>
-    ensures rows { (state S.Store conn.old).now.schema ≡ store_schema → HasCleanDisk (state S.Store conn.new) → IfOk result (λ rows. IsPermutation (map noted ((state S.Store conn.old).now.trees 1)) rows.items) }
-    ensures unchanged { (state S.Store conn.old).now.schema ≡ store_schema → HasCleanDisk (state S.Store conn.new) → OnOk result (IsUnchanged (state S.Store conn.old) (state S.Store conn.new)) }
-    ensures crash { (state S.Store conn.old).now.schema ≡ store_schema → Survives (state S.Store conn.old) (state S.Store conn.new) (λ _. ⊥) }
+    ensures rows { Finds S.Store conn.old conn.new result (λ db rows. IsPermutation (map noted (db.trees 1)) rows.items) }
+    ensures unchanged { HasStore S.Store conn.old → StaysInOk S.Store conn.old conn.new result }
+    ensures crash { HasStore S.Store conn.old → LeavesNoMore S.Store conn.old conn.new }
 {
     conn.query_all("SELECT format, writer FROM about", &[])
 }
 
 /// The format of the file, and the name by which the store writes.
+///
+/// # Errors
+///
+/// [`StoreFault::Foreign`] where the table doesn't have one row, [`StoreFault::Database`]; nothing is written.
 pub fn about<S: Alter>(conn: &mut Connection<S>) -> Result<(i64, String), StoreFault>
-    ensures noted { (state S.Store conn.old).now.schema ≡ store_schema → HasCleanDisk (state S.Store conn.new) → IfOk result (λ about. IsNoted (state S.Store conn.old).now.trees about.0 (string_bytes about.1)) }
-    ensures unchanged { (state S.Store conn.old).now.schema ≡ store_schema → HasCleanDisk (state S.Store conn.new) → OnOk result (IsUnchanged (state S.Store conn.old) (state S.Store conn.new)) }
-    ensures crash { (state S.Store conn.old).now.schema ≡ store_schema → Survives (state S.Store conn.old) (state S.Store conn.new) (λ _. ⊥) }
+    ensures noted { Finds S.Store conn.old conn.new result (λ db about. IsNoted db.trees about.0 (string_bytes about.1)) }
+    ensures foreign { IsClean S.Store conn.new → IsErrOf result StoreFault.Foreign → IsForeign (database S.Store conn.old) }
+    ensures unchanged { HasStore S.Store conn.old → StaysInOk S.Store conn.old conn.new result }
+    ensures crash { HasStore S.Store conn.old → LeavesNoMore S.Store conn.old conn.new }
 {
     let rows = read_about(conn)?;
-    match rows.as_slice() {
-        [row] => Ok(note_of(row)?),
-        _ => Err(StoreFault::Foreign),
+    if rows.len() != 1 {
+        return Err(StoreFault::Foreign);
     }
+    Ok(note_of(&rows[0])?)
 }
 
 /// The key and the register of a row.
@@ -147,16 +155,17 @@ fn entry_of(row: &Row) -> Result<(String, Register), Error>
 /// All rows of the table.
 pub fn read_rows<S: Alter>(conn: &mut Connection<S>) -> Result<Vec<Row>, Error>
     ensures clean { doubt (state S.Store conn.old).is_clean ≤ doubt (state S.Store conn.new).is_clean }
-    ensures rows { (state S.Store conn.old).now.schema ≡ store_schema → HasCleanDisk (state S.Store conn.new) → IfOk result (λ rows. IsPermutation (map shown ((state S.Store conn.old).now.trees 0)) rows.items) }
-    ensures unchanged { (state S.Store conn.old).now.schema ≡ store_schema → HasCleanDisk (state S.Store conn.new) → OnOk result (IsUnchanged (state S.Store conn.old) (state S.Store conn.new)) }
-    ensures crash { (HasCleanDisk (state S.Store conn.new) → (state S.Store conn.old).now.schema ≡ store_schema) → Survives (state S.Store conn.old) (state S.Store conn.new) (λ _. ⊥) }
+    ensures rows { Finds S.Store conn.old conn.new result (λ db rows. IsPermutation (map shown (db.trees 0)) rows.items) }
+    ensures unchanged { HasStore S.Store conn.old → StaysInOk S.Store conn.old conn.new result }
+    ensures crash { (IsClean S.Store conn.new → HasStore S.Store conn.old) → LeavesNoMore S.Store conn.old conn.new }
 {
     conn.query_all("SELECT key, time, writer, value FROM entry", &[])
 }
 
 /// The entries of rows.
 pub fn entries_of(alloc: Global, rows: &[Row]) -> Result<Entries, StoreFault>
-    ensures { IfOk result (λ entries. map four rows.now ≡ map entry_row entries.items) }
+    ensures entries { IfOk result (λ entries. map four rows.now ≡ map entry_row entries.items) }
+    ensures failed { IfErr result IsFailure }
 {
     let mut entries = Vec::new(alloc);
     'rows: for row in rows {
@@ -170,7 +179,8 @@ pub fn entries_of(alloc: Global, rows: &[Row]) -> Result<Entries, StoreFault>
 
 /// The time as the database keeps it.
 fn stored_time(register: &Register) -> Result<i64, StoreFault>
-    ensures { IfOk result (λ time. time ≡ pos register.now.time) }
+    ensures same { IfOk result (λ time. time ≡ pos register.now.time) }
+    ensures late { IfErr result (λ why. (why ≡ StoreFault.Time) × 2 ^ 63 ≤ register.now.time) }
 {
     match i64::try_from(register.time) {
         Ok(time) => Ok(time),
@@ -191,18 +201,21 @@ fn values_of<'a>(key: &'a str, time: i64, register: &'a Register) -> [ValueRef<'
 }
 
 /// Adds an entry.
+///
+/// # Errors
+///
+/// [`StoreFault::Time`] where the database can't hold its time, and faults of the file.
 pub fn add<S: Alter>(
     conn: &mut Connection<S>,
     key: &str,
     register: &Register,
 ) -> Result<(), StoreFault>
     ensures clean { doubt (state S.Store conn.old).is_clean ≤ doubt (state S.Store conn.new).is_clean }
-    ensures added { (state S.Store conn.old).now.schema ≡ store_schema → HasCleanDisk (state S.Store conn.new)
-        → OnOk result (HasMore (entry_row_of key.now register.now ∷ []) (state S.Store conn.old).now (state S.Store conn.new).now) }
-    ensures refused { HasCleanDisk (state S.Store conn.new) → IsTrue (state S.Store conn.new).is_open → (state S.Store conn.old).now ≡ (state S.Store conn.old).committed
-        → OnErr result ((state S.Store conn.new).now ≡ (state S.Store conn.old).now) }
-    ensures crash { (HasCleanDisk (state S.Store conn.new) → (state S.Store conn.old).now.schema ≡ store_schema) → Survives (state S.Store conn.old) (state S.Store conn.new)
-        (AreOf (HasMore (entry_row_of key.now register.now ∷ []) (state S.Store conn.old).now)) }
+    ensures added { Makes S.Store conn.old conn.new result (HasMore (entry_row_of key.now register.now ∷ [])) }
+    ensures late { IsErrOf result StoreFault.Time → 2 ^ 63 ≤ register.now.time }
+    ensures never { result ≢ Err StoreFault.Foreign }
+    ensures refused { IsCommitted S.Store conn.old → StaysInErr S.Store conn.old conn.new result }
+    ensures crash { (IsClean S.Store conn.new → HasStore S.Store conn.old) → Leaves S.Store conn.old conn.new (HasMore (entry_row_of key.now register.now ∷ [])) }
 {
     let time = stored_time(register)?;
     let values = values_of(key, time, register);
@@ -221,8 +234,8 @@ fn add_within<S: Alter>(
 ) -> Result<(), StoreFault>
     ensures same_reference { transaction.new.conn.ghost_name ≡ transaction.old.conn.ghost_name }
     ensures within { CommitsNothing (state S.Store transaction.old.conn.now) (state S.Store transaction.new.conn.now) }
-    ensures added { HasCleanDisk (state S.Store transaction.new.conn.now) → IsTrue (state S.Store transaction.old.conn.now).in_transaction → (state S.Store transaction.old.conn.now).now.schema ≡ store_schema
-        → OnOk result (IsTrue (state S.Store transaction.new.conn.now).in_transaction × HasMore (entry_row_of key.now register.now ∷ []) (state S.Store transaction.old.conn.now).now (state S.Store transaction.new.conn.now).now) }
+    ensures added { MakesInside S.Store transaction.old.conn.now transaction.new.conn.now result IsStore (HasMore (entry_row_of key.now register.now ∷ [])) }
+    ensures never { result ≢ Err StoreFault.Future }
 {
     let time = stored_time(register)?;
     let values = values_of(key, time, register);
@@ -240,8 +253,8 @@ fn add_each<S: Alter>(
 ) -> Result<(), StoreFault>
     ensures same_reference { transaction.new.conn.ghost_name ≡ transaction.old.conn.ghost_name }
     ensures within { CommitsNothing (state S.Store transaction.old.conn.now) (state S.Store transaction.new.conn.now) }
-    ensures added { HasCleanDisk (state S.Store transaction.new.conn.now) → IsTrue (state S.Store transaction.old.conn.now).in_transaction → (state S.Store transaction.old.conn.now).now.schema ≡ store_schema
-        → OnOk result (IsTrue (state S.Store transaction.new.conn.now).in_transaction × HasMore (map entry_row entries.now) (state S.Store transaction.old.conn.now).now (state S.Store transaction.new.conn.now).now) }
+    ensures added { MakesInside S.Store transaction.old.conn.now transaction.new.conn.now result IsStore (HasMore (map entry_row entries.now)) }
+    ensures never { result ≢ Err StoreFault.Future }
 {
     'entries: for entry in entries {
         add_within(transaction, entry.0.as_str(), &entry.1)?;
@@ -254,12 +267,10 @@ pub fn add_all<S: Alter>(
     conn: &mut Connection<S>,
     entries: &[(String, Register)],
 ) -> Result<(), StoreFault>
-    ensures added { (state S.Store conn.old).now.schema ≡ store_schema → HasCleanDisk (state S.Store conn.new)
-        → OnOk result (HasMore (map entry_row entries.now) (state S.Store conn.old).now (state S.Store conn.new).now) }
-    ensures refused { (state S.Store conn.old).now.schema ≡ store_schema → HasCleanDisk (state S.Store conn.new) → IsTrue (state S.Store conn.new).is_open
-        → OnErr result ((state S.Store conn.new).now ≡ (state S.Store conn.old).now) }
-    ensures crash { (state S.Store conn.old).now.schema ≡ store_schema → Survives (state S.Store conn.old) (state S.Store conn.new)
-        (AreOf (HasMore (map entry_row entries.now) (state S.Store conn.old).now)) }
+    ensures added { Makes S.Store conn.old conn.new result (HasMore (map entry_row entries.now)) }
+    ensures never { result ≢ Err StoreFault.Future }
+    ensures refused { HasStore S.Store conn.old → StaysInErr S.Store conn.old conn.new result }
+    ensures crash { HasStore S.Store conn.old → Leaves S.Store conn.old conn.new (HasMore (map entry_row entries.now)) }
 {
     if !conn.is_autocommit() {
         return Err(StoreFault::Underway);
@@ -274,8 +285,7 @@ pub fn add_all<S: Alter>(
 fn delete_entries<S: Alter>(transaction: &mut Transaction<'_, S>) -> Result<(), Error>
     ensures same_reference { transaction.new.conn.ghost_name ≡ transaction.old.conn.ghost_name }
     ensures within { CommitsNothing (state S.Store transaction.old.conn.now) (state S.Store transaction.new.conn.now) }
-    ensures deleted { HasCleanDisk (state S.Store transaction.new.conn.now) → IsTrue (state S.Store transaction.old.conn.now).in_transaction → (state S.Store transaction.old.conn.now).now.schema ≡ store_schema
-        → OnOk result (IsTrue (state S.Store transaction.new.conn.now).in_transaction × KeepsAbout (state S.Store transaction.old.conn.now).now (state S.Store transaction.new.conn.now).now) }
+    ensures deleted { MakesInside S.Store transaction.old.conn.now transaction.new.conn.now result IsStore KeepsAbout }
 {
     transaction.execute("DELETE FROM entry", &[])?;
     Ok(())
@@ -284,13 +294,11 @@ fn delete_entries<S: Alter>(transaction: &mut Transaction<'_, S>) -> Result<(), 
 /// Whether no entry is left within a transaction.
 fn is_cleared<S: Alter>(transaction: &mut Transaction<'_, S>) -> Result<bool, Error>
     ensures same_reference { transaction.new.conn.ghost_name ≡ transaction.old.conn.ghost_name }
-    ensures survives { Survives (state S.Store transaction.old.conn.now) (state S.Store transaction.new.conn.now) (λ _. ⊥) }
-    ensures kept { (state S.Store transaction.old.conn.now).now.schema ≡ store_schema → HasCleanDisk (state S.Store transaction.new.conn.now)
+    ensures survives { LeavesNoMore S.Store transaction.old.conn.now transaction.new.conn.now }
+    ensures kept { HasStore S.Store transaction.old.conn.now → IsClean S.Store transaction.new.conn.now
         → KeepsCommit (state S.Store transaction.old.conn.now) (state S.Store transaction.new.conn.now) }
-    ensures unchanged { (state S.Store transaction.old.conn.now).now.schema ≡ store_schema → HasCleanDisk (state S.Store transaction.new.conn.now)
-        → OnOk result (IsUnchanged (state S.Store transaction.old.conn.now) (state S.Store transaction.new.conn.now)) }
-    ensures cleared { (state S.Store transaction.old.conn.now).now.schema ≡ store_schema → HasCleanDisk (state S.Store transaction.new.conn.now)
-        → IfOk result (λ cleared. IsTrue cleared → (state S.Store transaction.old.conn.now).now.trees 0 ≡ []) }
+    ensures unchanged { HasStore S.Store transaction.old.conn.now → StaysInOk S.Store transaction.old.conn.now transaction.new.conn.now result }
+    ensures cleared { Finds S.Store transaction.old.conn.now transaction.new.conn.now result (λ db cleared. IsTrue cleared → db.trees 0 ≡ []) }
 {
     let left = transaction.query_all("SELECT key, time, writer, value FROM entry", &[])?;
     Ok(left.is_empty())
@@ -299,10 +307,9 @@ fn is_cleared<S: Alter>(transaction: &mut Transaction<'_, S>) -> Result<bool, Er
 /// Takes out all entries within a transaction. That none is left is tested, which takes no time.
 fn clear<S: Alter>(transaction: &mut Transaction<'_, S>) -> Result<(), StoreFault>
     ensures same_reference { transaction.new.conn.ghost_name ≡ transaction.old.conn.ghost_name }
-    ensures within { IsTrue (state S.Store transaction.old.conn.now).in_transaction → (state S.Store transaction.old.conn.now).now.schema ≡ store_schema
+    ensures within { IsTrue (state S.Store transaction.old.conn.now).in_transaction → HasStore S.Store transaction.old.conn.now
         → CommitsNothing (state S.Store transaction.old.conn.now) (state S.Store transaction.new.conn.now) }
-    ensures cleared { HasCleanDisk (state S.Store transaction.new.conn.now) → IsTrue (state S.Store transaction.old.conn.now).in_transaction → (state S.Store transaction.old.conn.now).now.schema ≡ store_schema
-        → OnOk result (IsTrue (state S.Store transaction.new.conn.now).in_transaction × HasInstead [] (state S.Store transaction.old.conn.now).now (state S.Store transaction.new.conn.now).now) }
+    ensures cleared { MakesInside S.Store transaction.old.conn.now transaction.new.conn.now result IsStore (HasInstead []) }
 {
     delete_entries(transaction)?;
     if !is_cleared(transaction)? {
@@ -317,10 +324,9 @@ fn replace<S: Alter>(
     entries: &[(String, Register)],
 ) -> Result<(), StoreFault>
     ensures same_reference { transaction.new.conn.ghost_name ≡ transaction.old.conn.ghost_name }
-    ensures within { IsTrue (state S.Store transaction.old.conn.now).in_transaction → (state S.Store transaction.old.conn.now).now.schema ≡ store_schema
+    ensures within { IsTrue (state S.Store transaction.old.conn.now).in_transaction → HasStore S.Store transaction.old.conn.now
         → CommitsNothing (state S.Store transaction.old.conn.now) (state S.Store transaction.new.conn.now) }
-    ensures replaced { HasCleanDisk (state S.Store transaction.new.conn.now) → IsTrue (state S.Store transaction.old.conn.now).in_transaction → (state S.Store transaction.old.conn.now).now.schema ≡ store_schema
-        → OnOk result (IsTrue (state S.Store transaction.new.conn.now).in_transaction × HasInstead (map entry_row entries.now) (state S.Store transaction.old.conn.now).now (state S.Store transaction.new.conn.now).now) }
+    ensures replaced { MakesInside S.Store transaction.old.conn.now transaction.new.conn.now result IsStore (HasInstead (map entry_row entries.now)) }
 {
     clear(transaction)?;
     add_each(transaction, entries)
@@ -331,12 +337,9 @@ pub fn replace_all<S: Alter>(
     conn: &mut Connection<S>,
     entries: &[(String, Register)],
 ) -> Result<(), StoreFault>
-    ensures replaced { (state S.Store conn.old).now.schema ≡ store_schema → HasCleanDisk (state S.Store conn.new)
-        → OnOk result (HasInstead (map entry_row entries.now) (state S.Store conn.old).now (state S.Store conn.new).now) }
-    ensures refused { (state S.Store conn.old).now.schema ≡ store_schema → HasCleanDisk (state S.Store conn.new) → IsTrue (state S.Store conn.new).is_open
-        → OnErr result ((state S.Store conn.new).now ≡ (state S.Store conn.old).now) }
-    ensures crash { (state S.Store conn.old).now.schema ≡ store_schema → Survives (state S.Store conn.old) (state S.Store conn.new)
-        (AreOf (HasInstead (map entry_row entries.now) (state S.Store conn.old).now)) }
+    ensures replaced { Makes S.Store conn.old conn.new result (HasInstead (map entry_row entries.now)) }
+    ensures refused { HasStore S.Store conn.old → StaysInErr S.Store conn.old conn.new result }
+    ensures crash { HasStore S.Store conn.old → Leaves S.Store conn.old conn.new (HasInstead (map entry_row entries.now)) }
 {
     if !conn.is_autocommit() {
         return Err(StoreFault::Underway);
@@ -355,13 +358,14 @@ pub fn replace_all<S: Alter>(
 /// another version of this program; nothing is written.
 pub fn recognise<S: Alter>(conn: &mut Connection<S>) -> Result<String, StoreFault>
     // A database of something else is refused, and not read.
-    ensures foreign { (state S.Store conn.old).now.schema ≢ store_schema → (result ≡ Err StoreFault.Foreign) × (conn.new ≡ conn.old) }
+    ensures foreign { ¬ HasStore S.Store conn.old → IsErrOf result StoreFault.Foreign × (conn.new ≡ conn.old) }
+    ensures only_foreign { IsClean S.Store conn.new → IsErrOf result StoreFault.Foreign → IsForeign (database S.Store conn.old) }
 
     // Its format and its writer are read, and nothing is written.
-    ensures schema { IfOk result (λ _. (state S.Store conn.old).now.schema ≡ store_schema) }
-    ensures noted { HasCleanDisk (state S.Store conn.new) → IfOk result (λ writer. IsNoted (state S.Store conn.old).now.trees FORMAT (string_bytes writer)) }
-    ensures unchanged { HasCleanDisk (state S.Store conn.new) → OnOk result (IsUnchanged (state S.Store conn.old) (state S.Store conn.new)) }
-    ensures crash { Survives (state S.Store conn.old) (state S.Store conn.new) (λ _. ⊥) }
+    ensures schema { OnOk result (HasStore S.Store conn.old) }
+    ensures noted { IsClean S.Store conn.new → IfOk result (λ writer. IsNoted (database S.Store conn.old).trees FORMAT (string_bytes writer)) }
+    ensures unchanged { StaysInOk S.Store conn.old conn.new result }
+    ensures crash { LeavesNoMore S.Store conn.old conn.new }
 {
     if !is_of_store(conn.schema()) {
         return Err(StoreFault::Foreign);

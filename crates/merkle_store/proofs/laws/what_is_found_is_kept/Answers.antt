@@ -8,5 +8,5 @@ use Rattle.merkle_store.proofs.Found.{found_kept}
 use Rattle.merkle_store.proofs.laws.what_is_found_is_kept.Goals as goal
 
 pub returns : goal.returns
-returns c = λ writer db rows key found kept latest.
+returns c = λ writer db rows kept key found latest.
     found_kept _ laws-law joining-law string_cmp_total (rows_tell_entries _ matches_eq-law nat_cmp_total) key writer db rows found kept latest

@@ -6,6 +6,7 @@ use Rattle.sqlite.proofs.StateLemmas.{survives_then}
 use Rattle.sqlite.proofs.Callers.{unchanged_then}
 use Rattle.store_table.specs.Entries.{IsNoted}
 use Rattle.store_table.specs.declared.table.TheConstants.{FORMAT}
+use Rattle.merkle_store.specs.Kept.{AreInStep}
 use Rattle.merkle_store.proofs.store.read_store.Goals as goal
 
 pub returns-in_err-replica-clause-crash : goal.returns-in_err-replica-clause-crash
@@ -39,4 +40,6 @@ returns-clause-kept g c clean =
     let writer = string_bytes c.in_ok-writer.writer in
     let early : HasCleanDisk mid = omega (arith, c.read_replica.ensures.clean, clean) in
     let same = (c.in_ok-writer.ensures.unchanged early).0.now_is in
-    c.in_ok-replica.ensures.kept clean writer (ap (λ (d : Database). d.schema) same ∙ c.in_ok-writer.ensures.schema) (subst (λ (d : Database). IsNoted d.trees FORMAT writer) (sym same) (c.in_ok-writer.ensures.noted early))
+    let has = ap (λ (d : Database). d.schema) same ∙ c.in_ok-writer.ensures.schema in
+    let kept = c.in_ok-replica.ensures.kept has clean writer (subst (λ (d : Database). IsNoted d.trees FORMAT writer) (sym same) (c.in_ok-writer.ensures.noted early)) in
+    subst (λ (d : Database). AreInStep writer d c.in_ok-replica.replica.rows) (sym (c.in_ok-replica.ensures.unchanged has clean).0.now_is) kept

@@ -1,3 +1,4 @@
+use Rattle.std.proofs.Common.{refl}
 use Rattle.std.specs.String.{string_cmp_total}
 use Rattle.sqlite.specs.Held.{state}
 use Rattle.store_table.specs.contracts.register.RegisterEq.TheImpl.Laws.{laws-law}
@@ -6,10 +7,8 @@ use Rattle.merkle_store.proofs.Keeping.{kept_read}
 use Rattle.merkle_store.proofs.upkeep.read_replica.Goals as goal
 
 pub returns-clause-kept : goal.returns-clause-kept
-returns-clause-kept g c clean writer has about =
+returns-clause-kept g c has clean writer about =
     let old = state g.S.Store c.args.conn.now in
-    let new = state g.S.Store c.read_rows.new.conn in
-    let same = (c.in_ok-rows.ensures.unchanged has clean).0.now_is in
     let rows = c.in_ok-rows.ensures.rows has clean in
-    let read = rw c.deref.ensures.value at c.in_ok-entries.ensures in
-    kept_read _ laws-law _ joining-law string_cmp_total writer old.now new.now c.in_ok-rows.rows.items c.in_ok-entries.entries.items c.in_ok-replica.replica.rows same has about rows read c.in_ok-replica.ensures
+    let read = rw c.deref.ensures.value at c.in_ok-entries.ensures.entries in
+    kept_read _ laws-law _ joining-law string_cmp_total writer old.now old.now c.in_ok-rows.rows.items c.in_ok-entries.entries.items c.in_ok-replica.replica.rows refl has about rows read c.in_ok-replica.ensures.puts

@@ -27,7 +27,7 @@ returns-in_err-execute-clause-crash g c has =
     survives_weaker old new _ _ (λ clean trees may. commits old c.args.key.now c.args.register.now trees (has clean) may) (rw c.values_of-values.ensures at c.execute.ensures.survives)
 
 pub returns-in_err-execute-clause-refused : goal.returns-in_err-execute-clause-refused
-returns-in_err-execute-clause-refused g c clean stays same =
+returns-in_err-execute-clause-refused g c same clean stays =
     let old = state g.S.Store c.args.conn.now in
     let new = state g.S.Store c.execute.new.self in
     let ran = rw c.values_of-values.ensures at (c.execute.ensures.runs clean) in
