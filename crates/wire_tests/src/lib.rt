@@ -22,6 +22,8 @@ mod random_sessions;
 #[cfg(test)]
 mod refusals;
 #[cfg(test)]
+mod refused_values;
+#[cfg(test)]
 mod sessions;
 #[cfg(test)]
 mod values;

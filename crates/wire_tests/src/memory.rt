@@ -2,7 +2,6 @@
 //! `tests/refusals` each request for memory of the test is refused.
 
 use crate::playing::Rows;
-use merkle_bytes::ReadError;
 use merkle_search_tree::builder::Builder;
 use merkle_wire::{AnswerError, MessagesError, SessionError, catch_up_by_messages};
 use std::alloc::{AllocError, Global};
@@ -82,15 +81,12 @@ fn are(rows: &[(String, u64)], values: &Values) -> bool {
     rows.next().is_none()
 }
 
-/// How many of the rows that were lacked a catch-up says that it joined; none where it says it wrongly, or refuses more than memory. Where
-/// memory is refused as a message is read, the reader's error says so.
+/// How many of the rows that were lacked a catch-up says that it joined; none where it says it wrongly, or refuses more than memory.
 fn count_of(answer: Result<usize, MessagesError>) -> Option<usize> {
     match answer {
         Ok(LACKED) => Some(LACKED),
         Err(MessagesError::Answer(AnswerError::Memory)) => Some(0),
-        Err(MessagesError::Answer(AnswerError::Malformed(ReadError::Memory))) => Some(0),
         Err(MessagesError::Session(SessionError::Memory)) => Some(0),
-        Err(MessagesError::Session(SessionError::Malformed(ReadError::Memory))) => Some(0),
         Err(MessagesError::Join(done)) if done < LACKED => Some(done),
         _ => None,
     }

@@ -171,10 +171,10 @@ fn pair_meets<K: Sample, V: Worth>(
     Ok(a_meets && b_meets && a.replica.root_hash() == b.replica.root_hash())
 }
 
-/// The first of 200 pairs in each page format that doesn't come to hold the join.
+/// The first of 500 pairs in each page format that doesn't come to hold the join.
 fn first_apart<K: Sample, V: Worth>(alloc: Global, seed: u64) -> Result<Option<u64>, Fail> {
     let mut random = Random { state: seed };
-    for pair in 0..200u64 {
+    for pair in 0..500u64 {
         for format in [PageFormat::V1, PageFormat::V2] {
             if !pair_meets::<K, V>(alloc, format, &mut random)? {
                 return Ok(Some(pair));

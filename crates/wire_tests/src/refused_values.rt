@@ -1,0 +1,109 @@
+//! Values of each kind, written and read back, or want of memory. Under `tests/refusals` each request for memory of the test is refused.
+use merkle_bytes::{
+    Decode, DecodeInRun, Encode, KeyRun, ReadError, Reader, decode_list, decode_run, encode_list,
+    encode_run,
+};
+use merkle_diff::OwnedPageRange;
+use merkle_digest::PageDigest;
+use std::alloc::{AllocError, Global};
+
+/// Whether a value is read back from its bytes.
+fn comes_back<T: Decode>(alloc: Global, value: &T) -> Result<bool, ReadError> {
+    let mut bytes = Vec::new(alloc);
+    value.encode(&mut bytes)?;
+    let mut reader = Reader::new(alloc, &bytes);
+    let read = T::decode(&mut reader)?;
+    reader.end()?;
+    Ok(read == *value)
+}
+
+/// Whether a list is read back from its bytes.
+fn list_comes_back<T: Decode>(alloc: Global, list: &[T]) -> Result<bool, ReadError> {
+    let mut bytes = Vec::new(alloc);
+    encode_list(list, &mut bytes)?;
+    let mut reader = Reader::new(alloc, &bytes);
+    let read = decode_list::<T>(&mut reader)?;
+    reader.end()?;
+    Ok(read.as_slice() == list)
+}
+
+/// Whether a list whose keys stand behind a key is read back from its bytes.
+fn run_comes_back<T: DecodeInRun>(
+    alloc: Global,
+    bound: &String,
+    list: &[T],
+) -> Result<bool, ReadError> {
+    let mut bytes = Vec::new(alloc);
+    let mut run = KeyRun::behind(alloc, Some(bound))?;
+    encode_run(list, &mut run, &mut bytes)?;
+    let mut behind = KeyRun::behind(alloc, Some(bound))?;
+    let mut reader = Reader::new(alloc, &bytes);
+    let read = decode_run::<T>(&mut behind, &mut reader)?;
+    reader.end()?;
+    Ok(read.as_slice() == list)
+}
+
+fn text(alloc: Global, text: &str) -> Result<String, AllocError> {
+    String::from_str(alloc, text)
+}
+
+/// Whether numbers, texts, byte strings, arrays, pairs and options come back.
+fn values_come_back(alloc: Global) -> Result<bool, ReadError> {
+    let bytes = Vec::from_slice(alloc, &[0u8, 255, 7])?;
+    let row = (text(alloc, "kiwi")?, 300u64);
+    Ok(
+        comes_back(alloc, &9u8)?
+            && comes_back(alloc, &300u16)?
+            && comes_back(alloc, &70_000u32)?
+            && comes_back(alloc, &u64::MAX)?
+            && comes_back(alloc, &())?
+            && comes_back(alloc, &[1u8, 2, 3])?
+            && comes_back(alloc, &bytes)?
+            && comes_back(alloc, &text(alloc, "")?)?
+            && comes_back(alloc, &row)?
+            && comes_back(alloc, &Some(text(alloc, "fig")?))?
+            && comes_back(alloc, &None::<String>)?,
+    )
+}
+
+/// Whether page ranges, lists, and lists of keys come back.
+fn lists_come_back(alloc: Global) -> Result<bool, ReadError> {
+    let (first, last) = (text(alloc, "apple")?, text(alloc, "apricot")?);
+    let Some(range) = OwnedPageRange::try_new(first, last, PageDigest::new([7; 16])) else {
+        return Ok(false);
+    };
+    let texts = [
+        text(alloc, "apple")?,
+        text(alloc, "apricot")?,
+        text(alloc, "fig")?,
+    ];
+    let rows = [(text(alloc, "apple")?, 1u64), (text(alloc, "apricot")?, 2)];
+    let bounds = [None, Some(text(alloc, "apricot")?)];
+    Ok(
+        comes_back(alloc, &range)?
+            && list_comes_back(alloc, &texts)?
+            && run_comes_back(alloc, &texts[0], &rows)?
+            && run_comes_back(alloc, &texts[0], &bounds)?,
+    )
+}
+
+/// Whether a round trip came back, or wanted memory.
+fn came_back_or_wanted_memory(answer: Result<bool, ReadError>) -> bool {
+    matches!(answer, Ok(true) | Err(ReadError::Memory))
+}
+
+#[test]
+fn values_are_read_back_or_want_memory(rt: HostRuntime) {
+    assert!(rt; came_back_or_wanted_memory(values_come_back(rt.alloc())));
+}
+
+#[test]
+fn lists_are_read_back_or_want_memory(rt: HostRuntime) {
+    assert!(rt; came_back_or_wanted_memory(lists_come_back(rt.alloc())));
+}
+
+#[test]
+fn all_are_read_back_where_memory_is_at_hand(rt: HostRuntime) {
+    assert_eq!(rt; values_come_back(rt.alloc()), Ok(true));
+    assert_eq!(rt; lists_come_back(rt.alloc()), Ok(true));
+}
