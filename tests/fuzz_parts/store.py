@@ -2,11 +2,14 @@
 
 A run must end with status 0, or with 1 and one line that says why. What is refused leaves the log as it was; what is taken adds to it
 and loses none of its entries; a file that is no store any more is left byte by byte.
+
+Of the inputs but those of files the least that is answered by each line of standard error may be kept, in store_corpus.txt.
 """
 import csv
 import io
 import os
 import random
+import re
 import shutil
 import struct
 import subprocess
@@ -16,9 +19,18 @@ import threading
 from soak_parts.hostile import break_once
 
 SECONDS = 60
+CORPUS = f"{os.path.dirname(os.path.realpath(__file__))}/store_corpus.txt"
+# Bytes of an input that may be kept.
+SMALL = 600
 csv.field_size_limit(1 << 30)
 KINDS = {"questions": ["serve"], "replies": ["pull"], "differences": ["diff"], "rows": ["import"], "log": ["import", "--log"], "lines": ["shell"],
          "file": None}
+
+
+def corpus():
+    """The inputs that are kept, each with its kind."""
+    with open(CORPUS) as kept:
+        return [(kind, bytes.fromhex(given)) for kind, given in (line.rstrip("\n").split(" ") for line in kept if not line.startswith("#"))]
 
 
 def framed(messages):
@@ -42,6 +54,7 @@ class Driver:
         self.rows = self.run(["export", self.peer])[1]
         self.log = self.run(["export", self.peer, "--log"])[1]
         self.entries = self.entries_of(self.own)
+        self.least = {}
 
     def run(self, words, put=b""):
         done = subprocess.run([self.path, *words], input=put, capture_output=True, timeout=SECONDS)
@@ -81,9 +94,10 @@ class Driver:
         return bytes(given)
 
     def input_of(self, chosen, kind):
-        """Broken bytes of this kind: of messages one message, whole in its frame, or the stream."""
+        """Broken bytes of this kind: some lines or all; of messages one message, whole in its frame, or the stream."""
         if kind not in ("questions", "replies", "differences"):
-            return self.broken(chosen, {"rows": self.rows, "log": self.log, "lines": self.lines}[kind])
+            lines = {"rows": self.rows, "log": self.log, "lines": self.lines}[kind].splitlines(keepends=True)
+            return self.broken(chosen, b"".join(lines[: chosen.choice([2, 4, len(lines)])]))
         messages = list(self.questions if kind == "questions" else self.replies)
         if not chosen.randrange(4):
             return self.broken(chosen, framed(messages))
@@ -93,6 +107,7 @@ class Driver:
 
     def fault_of_file(self, chosen):
         """Runs a command on a broken file: how many bytes it has, and what is wrong."""
+        self.fresh()
         with open(self.own, "rb") as file:
             given = self.broken(chosen, file.read())
         with open(self.tried, "wb") as file:
@@ -105,12 +120,33 @@ class Driver:
             return len(given), f"{words}: status {status}, {said}, and the file is {'as it was' if left == given else 'another'}"
         return len(given), None
 
-    def fault_of_input(self, chosen, kind):
+    def note(self, kind, given, said):
+        """Notes an input that is less than those which were answered so before."""
+        for way in {(kind, re.sub(rb"\d+", b"N", line)) for line in said.splitlines() or [b""]}:
+            if len(given) <= SMALL and (way not in self.least or (len(given), given) < (len(self.least[way]), self.least[way])):
+                self.least[way] = given
+
+    def keep(self):
+        """Writes down the noted inputs, and says how many they are."""
+        kept = sorted({(kind, given.hex()) for (kind, _), given in self.least.items()})
+        with open(CORPUS, "w") as file:
+            file.write("# Inputs of `mst` from which tests/fuzz begins: the kind, and hexadecimal digits. Made by tests/fuzz --keep.\n")
+            file.writelines(f"{kind} {given}\n" for kind, given in kept)
+        return len(kept)
+
+    def fresh(self):
+        """Takes away what the run before has left."""
+        for left in (self.tried, f"{self.tried}-wal", f"{self.tried}-shm"):
+            if os.path.exists(left):
+                os.remove(left)
+
+    def fault_of_input(self, kind, given):
         """Runs a command on broken input: how many bytes it has, and what is wrong."""
-        given = self.input_of(chosen, kind)
+        self.fresh()
         shutil.copyfile(self.own, self.tried)
         words = [KINDS[kind][0], self.tried, *KINDS[kind][1:]]
         status, _, said = self.run(words, given)
+        self.note(kind, given, said)
         after = self.entries_of(self.tried)
         keeps = after is not None and not set(self.entries) - set(after)
         may_add = kind == "lines" or status == 0 and kind in ("replies", "rows", "log")
@@ -118,14 +154,17 @@ class Driver:
             return len(given), f"{words}: status {status}, {said[-300:]}, {'no entry is lost' if keeps else 'entries are lost'}; input {given[:2000].hex()}"
         return len(given), None
 
+    def in_time(self, fault_of, *given):
+        """What this finds, or that a run took too long."""
+        try:
+            return fault_of(*given)
+        except subprocess.TimeoutExpired as late:
+            return 0, f"{late.cmd[1:]}: it has not ended in {SECONDS} seconds"
+
     def soak(self, seed):
         """Runs the input of a seed: how many bytes it has, and, if it fails, what is to be shown."""
         chosen = random.Random(f"store {seed}")
         kind = chosen.choice(list(KINDS))
-        for left in (self.tried, f"{self.tried}-wal", f"{self.tried}-shm"):
-            if os.path.exists(left):
-                os.remove(left)
-        try:
-            return self.fault_of_file(chosen) if kind == "file" else self.fault_of_input(chosen, kind)
-        except subprocess.TimeoutExpired as late:
-            return 0, f"{late.cmd[1:]}: it has not ended in {SECONDS} seconds"
+        if kind == "file":
+            return self.in_time(self.fault_of_file, chosen)
+        return self.in_time(self.fault_of_input, kind, self.input_of(chosen, kind))

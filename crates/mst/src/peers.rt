@@ -38,7 +38,7 @@ fn lines_of(rt: &HostRuntime) -> Lines<'_> {
 }
 
 /// Says on standard error what a pull brought.
-fn tell(rt: &HostRuntime, brought: &Brought) -> Result<(), Failure> {
+pub fn tell(rt: &HostRuntime, brought: &Brought) -> Result<(), Failure> {
     eprintln!(rt;
         "mst: {} entries were news, of {} that came, in {} rounds, {} bytes sent, {} came",
         brought.news,
@@ -63,17 +63,16 @@ pub fn serve<S: Alter + Drop>(rt: &HostRuntime, store: &mut Store<S>) -> Result<
     Ok(())
 }
 
-/// Brings what a peer has, and says on standard error what that was.
-pub fn pull<S: Alter + Drop>(rt: &HostRuntime, store: &mut Store<S>) -> Result<(), Failure> {
+/// Brings what a peer has.
+pub fn pull<S: Alter + Drop>(rt: &HostRuntime, store: &mut Store<S>) -> Result<Brought, Failure> {
     let mut lines = lines_of(rt);
-    let brought = pulling::pull(
+    Ok(pulling::pull(
         store,
         &mut rt.stdin(),
         &mut rt.stdout(),
         MOST_BYTES,
         &mut lines,
-    )?;
-    tell(rt, &brought)
+    )?)
 }
 
 /// Tells on standard error which keys a pull would bring, a line each.

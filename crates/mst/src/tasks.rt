@@ -2,11 +2,12 @@
 use crate::fault::Failure;
 use crate::files::{FileConnection, make_store, open_file};
 use crate::{peers, shell};
+use merkle_store::Store;
 use merkle_store::upkeep::read_replica;
 use mst_commands::clock::now;
 use mst_commands::run;
 use mst_words::{Given, Verb};
-use sqlite::{Alter, Connection};
+use sqlite::{Alter, Connection, File, FileStore};
 use std::fs;
 use store_table::table::recognise;
 
@@ -53,10 +54,18 @@ fn run_peer(
     let done = match verb {
         Verb::Serve => peers::serve(rt, &mut store),
         Verb::Diff => peers::diff(rt, &mut store),
-        _ => peers::pull(rt, &mut store),
+        _ => return run_pull(rt, store),
     };
     store.into_connection().close()?;
     done
+}
+
+/// Brings what a peer has, and says what that was once the file is closed.
+fn run_pull(rt: &HostRuntime, store: Store<FileStore<File>>) -> Result<(), Failure> {
+    let mut store = store;
+    let pulled = peers::pull(rt, &mut store);
+    store.into_connection().close()?;
+    peers::tell(rt, &pulled?)
 }
 
 /// Prints how many bytes a file has.
