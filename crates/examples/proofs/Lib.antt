@@ -3,3 +3,4 @@ pub mod Told
 pub mod Trees
 pub mod GossipSessions
 pub mod ThroughHub
+mod EqualRows

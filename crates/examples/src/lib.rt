@@ -2,6 +2,7 @@
 #![tactic(auto)]
 
 pub mod accounts;
+pub mod agreeing;
 pub mod asking;
 pub mod gossip;
 pub mod hashing;

@@ -1,0 +1,50 @@
+//! Tests of whether replicas agree by their root hashes.
+
+use examples::agreeing::agree;
+use merkle_digest::SipHasher;
+use merkle_replica::Replica;
+use merkle_search_tree::builder::Builder;
+use std::alloc::Global;
+use std::test::Fail;
+
+type Counts = Replica<String, u64, SipHasher, 16>;
+
+/// A replica of these rows, put in their order.
+fn counts(alloc: Global, rows: &[(&str, u64)]) -> Result<Counts, Fail> {
+    let mut replica: Counts = Replica::new(alloc, Builder::default());
+    for row in rows {
+        let key = String::from_str(alloc, row.0)?;
+        replica.put(key, row.1)?;
+    }
+    Ok(replica)
+}
+
+#[test]
+fn rows_put_in_another_order_agree(rt: HostRuntime) -> Result<(), Fail> {
+    let alloc = rt.alloc();
+    let mut a = counts(alloc, &[("apples", 3), ("bananas", 5), ("cherries", 1)])?;
+    let mut b = counts(alloc, &[("cherries", 1), ("apples", 3), ("bananas", 5)])?;
+    assert!(rt; agree(&mut a, &mut b));
+    Ok(())
+}
+
+#[test]
+fn another_value_disagrees(rt: HostRuntime) -> Result<(), Fail> {
+    let alloc = rt.alloc();
+    let mut a = counts(alloc, &[("apples", 3), ("bananas", 5), ("cherries", 1)])?;
+    let mut b = counts(alloc, &[("apples", 3), ("bananas", 6), ("cherries", 1)])?;
+    assert!(rt; !agree(&mut a, &mut b));
+    Ok(())
+}
+
+#[test]
+fn the_empty_replica_agrees_with_the_empty_one_alone(rt: HostRuntime) -> Result<(), Fail> {
+    let alloc = rt.alloc();
+    let mut a = counts(alloc, &[])?;
+    let mut b = counts(alloc, &[])?;
+    let mut c = counts(alloc, &[("apples", 3)])?;
+    assert!(rt; agree(&mut a, &mut b));
+    assert!(rt; !agree(&mut a, &mut c));
+    assert!(rt; !agree(&mut c, &mut a));
+    Ok(())
+}

@@ -1,0 +1,39 @@
+//! Agreeing: one root hash tells whether two replicas have equal rows.
+ghost use Rattle.std.specs.Prelude.{◌≡◌, IsTrue};
+ghost use Rattle.merkle_tree_theory.specs.State.{SameSettings};
+ghost use Rattle.merkle_replica.specs.Contents.{side};
+ghost use Rattle.merkle_replica.specs.Faithful.{AreSetAlike, IsFaithful};
+ghost use Rattle.merkle_wire.specs.Sessions.{GiveOneDigest};
+ghost use Rattle.examples.specs.Agreeing.{HaveEqualRows};
+
+use merkle_digest::{Hasher, Key};
+use merkle_replica::{Join, Lawful, Replica};
+use merkle_search_tree::laws::{a_map_has_one_tree, every_tree_is_sound};
+
+/// Whether two replicas have one root hash: both are hashed for it, and their rows stay. True means that their rows are equal, as long as
+/// pages and values that differ have digests that differ. False means that their rows differ, where both digest alike: by one hasher, level
+/// base and page format. It costs what [`Replica::root_hash`] costs of both.
+pub fn agree<K: Key + Drop, V: Join + Drop, H: Hasher<N, K> + Hasher<N, V>, const N: usize>(
+    a: &mut Replica<K, V, H, N>,
+    b: &mut Replica<K, V, H, N>,
+) -> bool
+    // While digests are faithful, replicas with one root hash have equal rows.
+    ensures told { let laws = ⟦<H as Lawful<N, K, V>>⟧.laws in IsTrue result
+        → IsFaithful laws (side a.old) (side b.old) → HaveEqualRows laws (side a.old) (side b.old) }
+
+    // Replicas that digest alike and have equal rows have one root hash.
+    ensures alike { let laws = ⟦<H as Lawful<N, K, V>>⟧.laws in AreSetAlike laws (side a.old) (side b.old)
+        → GiveOneDigest laws (side a.old) (side b.old) → HaveEqualRows laws (side a.old) (side b.old) → IsTrue result }
+
+    ensures a_rows { a.new.rows ≡ a.old.rows }
+    ensures b_rows { b.new.rows ≡ b.old.rows }
+    ensures a_settings { SameSettings a.old.tree a.new.tree }
+    ensures b_settings { SameSettings b.old.tree b.new.tree }
+{
+    a_map_has_one_tree::<K, H, N>();
+    every_tree_is_sound(a.tree());
+    every_tree_is_sound(b.tree());
+    let _ = a.rows();
+    let _ = b.rows();
+    a.root_hash() == b.root_hash()
+}
