@@ -21,7 +21,7 @@ from soak_parts.hostile import break_once
 SECONDS = 60
 CORPUS = f"{os.path.dirname(os.path.realpath(__file__))}/store_corpus.txt"
 # Bytes of an input that may be kept.
-SMALL = 600
+SMALL = 2000
 csv.field_size_limit(1 << 30)
 KINDS = {"questions": ["serve"], "replies": ["pull"], "differences": ["diff"], "rows": ["import"], "log": ["import", "--log"], "lines": ["shell"],
          "file": None}
