@@ -19,7 +19,7 @@ use std::alloc::{AllocError, Global};
 /// The ranges of keys that `local` may ask of `peer`, so that its keys become the peer's too: ascending, each with its least and its
 /// greatest key, no two of which meet. The page ranges may be any, nested, equal, crossing or unordered.
 ///
-/// ```rust
+/// ```rust crates/diff_tests/src/shown.rt
 /// let local = [
 ///     PageRange::new(&1, &4, digest(1)),
 ///     PageRange::new(&1, &2, digest(2)),
@@ -31,6 +31,7 @@ use std::alloc::{AllocError, Global};
 ///     PageRange::new(&5, &5, digest(5)),
 /// ];
 /// let found = diff(alloc, local, peer)?;
+/// assert_eq!(rt; found.len(), 1);
 /// assert_eq!(rt; (*found[0].start(), *found[0].end()), (2, 5));
 /// ```
 ///

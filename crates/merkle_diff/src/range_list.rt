@@ -9,12 +9,13 @@ use std::alloc::{AllocError, Global};
 
 /// Ranges in any order, which become one list of ranges that don't meet.
 ///
-/// ```rust
+/// ```rust crates/diff_tests/src/shown.rt
 /// let mut list = RangeList::new(alloc);
 /// list.insert(&12, &15)?;
 /// list.insert(&2, &8)?;
 /// list.insert(&7, &9)?;
 /// let merged = list.into_vec()?;
+/// assert_eq!(rt; merged.len(), 2);
 /// assert_eq!(rt; (*merged[0].start(), *merged[0].end()), (2, 9));
 /// assert_eq!(rt; (*merged[1].start(), *merged[1].end()), (12, 15));
 /// ```

@@ -169,10 +169,16 @@ impl fmt::Display for PageDigest {
 
 /// The digest of a value that a tree holds under a key: `N` bytes. It prints as a [`Digest`] does.
 ///
-/// ```rust
-/// let hasher = SipHasher::new(&[0, 1, 2, 3, 4, 5, 6, 7, 8, 9, 10, 11, 12, 13, 14, 15]);
+/// ```rust crates/digest_tests/src/shown.rt
 /// let digest = ValueDigest::new(hasher.hash(&[0u8, 1, 2]));
-/// assert_eq!(rt; digest.to_string(alloc)?.as_str(), "nHC2DFJnqU5fM7awKYXtUQ==");
+/// assert_eq!(rt;
+///     *digest.as_bytes(),
+///     0x9c70b60c5267a94e5f33b6b02985ed51u128.to_be_bytes()
+/// );
+/// assert_eq!(rt;
+///     digest.to_string(alloc)?.as_str(),
+///     "nHC2DFJnqU5fM7awKYXtUQ=="
+/// );
 /// ```
 #[derive(Debug, Drop, Eq)]
 pub struct ValueDigest<const N: usize> {

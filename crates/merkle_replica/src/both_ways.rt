@@ -25,6 +25,11 @@ pub enum CatchUpsError {
 /// before each of the two. It costs what the two cost ([`Replica::catch_up`]). That holds of any two hashers, level bases and page
 /// formats; but only replicas that digest alike spare each other what they share.
 ///
+/// ```rust crates/examples/src/meeting.rt
+/// catch_up_both(a, b)?;
+/// Ok(())
+/// ```
+///
 /// # Errors
 ///
 /// [`CatchUpsError`] where memory is refused: then stands what the fault says.

@@ -37,6 +37,11 @@ impl<K: Key + Drop, V: Join + Drop, H: Hasher<N, K> + Hasher<N, V>, const N: usi
     ///
     /// It goes down one path of the tree for each gap, and takes memory for the items alone.
     ///
+    /// ```rust crates/replica_tests/src/catch_ups.rt
+    /// items = peer.outlines(&asked.gaps)?.ok_or("not hashed")?;
+    /// gaps = asked.gaps;
+    /// ```
+    ///
     /// # Errors
     ///
     /// `AllocError` where memory is refused for the items.
@@ -66,6 +71,13 @@ impl<K: Key + Drop, V: Join + Drop, H: Hasher<N, K> + Hasher<N, V>, const N: usi
     ///
     /// Who takes items over a wire calls [`lie_within`](crate::lie_within) first: of items that a peer made up, what is to be asked next
     /// can be any gaps and keys.
+    ///
+    /// ```rust crates/replica_tests/src/catch_ups.rt
+    /// let asked = local.sort_out(&items)?;
+    /// for key in &asked.keys {
+    ///     keys.push(**key)?;
+    /// }
+    /// ```
     ///
     /// # Errors
     ///
@@ -111,6 +123,13 @@ impl<K: Key + Drop, V: Join + Drop, H: Hasher<N, K> + Hasher<N, V>, const N: usi
     }
 
     /// The digest of the value at a key, where the key is there. It goes down one path of the tree, and takes no memory.
+    ///
+    /// ```rust crates/merkle_wire/src/sifting.rt
+    /// match replica.value_hash(key) {
+    ///     Some(own) => own.as_bytes().as_slice() == digest,
+    ///     None => false,
+    /// }
+    /// ```
     pub fn value_hash(&self, key: &K) -> Option<&ValueDigest<N>>
         ensures { option_map (λ digest. digest.now) result ≡ get K.cmp (tree_map ⟦<H as Lawful<N, K, V>>⟧.laws (side self.now)) key.now }
     {
@@ -129,6 +148,12 @@ impl<K: Key + Drop, V: Join + Drop, H: Hasher<N, K> + Hasher<N, V>, const N: usi
 
     /// Whether the page over the gap has this digest, so that the tree has a page with it. It goes down one path of the tree, and takes no
     /// memory.
+    ///
+    /// ```rust crates/merkle_wire/src/catching_up.rt
+    /// if replica.has_page(&Gap::everywhere(), &digest) {
+    ///     return Ok(());
+    /// }
+    /// ```
     pub fn has_page(&self, gap: &Gap<'_, K>, digest: &PageDigest) -> bool
         ensures { IsTrue result → HasPage ⟦<H as Lawful<N, K, V>>⟧.laws (side self.now) digest.now }
     {

@@ -39,6 +39,10 @@ pub enum CatchUpAllError {
 /// Other orders of catch-ups serve too, as long as the news of each can come to each
 /// ([`gossip_joins_what_came`](crate::laws::gossip_joins_what_came)).
 ///
+/// ```rust crates/replica_tests/src/hubs.rt
+/// catch_up_all(hub, others).is_ok()
+/// ```
+///
 /// # Errors
 ///
 /// [`CatchUpAllError`] where memory is refused: the catch-ups that were made until then stay.

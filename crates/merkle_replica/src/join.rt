@@ -9,8 +9,10 @@ use std::alloc::{AllocError, Global};
 ///
 /// A number joins to the greater one, and `()` to itself; a [`Replica`](crate::Replica) of the latter is a set of keys:
 ///
-/// ```rust
-/// let both = 3u64.join(alloc, &5)?; // 5
+/// ```rust crates/replica_tests/src/joins.rt
+/// assert_eq!(rt; Join::join(&3, rt.alloc(), &9)?, 9);
+/// assert_eq!(rt; Join::join(&9, rt.alloc(), &3)?, 9);
+/// assert_eq!(rt; Join::join(&(), rt.alloc(), &())?, ());
 /// ```
 ///
 /// A replica joins two values wherever a row comes whose key it has, by a [`put`](crate::Replica::put), as one of several, or in a pull,

@@ -54,6 +54,10 @@ impl<K: Key + Drop, V: Join + Drop, H: Hasher<N, K> + Hasher<N, V>, const N: usi
     /// differ. It hashes the pages of both trees that lack a digest, walks over the pages of both once, and copies the bounds of the
     /// ranges.
     ///
+    /// ```rust crates/examples/src/gossip.rt
+    /// local.ranges_to_ask(peer)
+    /// ```
+    ///
     /// # Errors
     ///
     /// `AllocError` where memory is refused; the rows are then as they were, and both trees hashed.

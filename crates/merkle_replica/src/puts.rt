@@ -25,6 +25,13 @@ impl<K: Key + Drop, V: Join + Drop, H: Hasher<N, K> + Hasher<N, V>, const N: usi
     /// of them is made first, and own rows from the first of them on are moved out of the way and back. A put of each moves the rows
     /// behind it instead, so this is for many rows.
     ///
+    /// ```rust crates/merkle_store/src/upkeep.rt
+    /// match replica.put_all(entries) {
+    ///     Ok(()) => Ok(replica),
+    ///     Err(_) => Err(StoreFault::Memory),
+    /// }
+    /// ```
+    ///
     /// # Errors
     ///
     /// [`PutsCut`] where memory is refused: the first rows in key order are joined, those of equal keys in the order in which they came,

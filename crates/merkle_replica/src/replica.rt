@@ -23,12 +23,10 @@ use std::marker::Model;
 /// A map from keys to values that can be joined, kept as rows in ascending key order, and the Merkle search tree of the digests of
 /// the values. Rows and tree never part, also where memory is refused.
 ///
-/// ```rust
+/// ```rust crates/examples/src/readme.rt
 /// let mut a: Replica<String, u64, SipHasher, 16> = Replica::new(alloc, Builder::default());
 /// a.put(key, 42)?;
-/// // a joins what b has in the ranges of keys in which they differ
-/// let _pulled = a.pull(b)?;
-/// // both come to hold the join of their maps
+/// // each pulls from the other, by turns, what is in the ranges of keys in which they differ: both come to hold the join
 /// pull_by_turns(alloc, &mut a, b, 4)?;
 /// ```
 ///
@@ -119,6 +117,10 @@ impl<K: Key, V: Join, H: Hasher<N, K> + ValueHasher<N, V>, const N: usize> Repli
     /// The digest of the root page of the tree. It fills in the digests that pages lack, so the tree is hashed then, and takes no
     /// memory. Replicas whose rows have equal keys and equal digests have equal root hashes, under one hasher, level base and page format; the
     /// converse holds only as far as no digests collide.
+    ///
+    /// ```rust crates/examples/src/agreeing.rt
+    /// a.root_hash() == b.root_hash()
+    /// ```
     pub fn root_hash(&mut self) -> &RootHash
         ensures* hashed { let row = the_row K.row V.row H.row (number N) K.Ord.own K.PartialEq K.PartialOrd.own K.Clone K.KeyBytes.own V.Join.own V.PartialEq H.Hasher H.ValueHasher in
             sem 𝓛 (follows_so row row self.entry.ghost_name none (λ _ _. ⊤) (λ t. (t.rows ≡ self.old.rows) × (t.tree ≡ hashed_tree K.bytes_of self.old.tree))) }
@@ -141,6 +143,12 @@ impl<K: Key + Drop, V: Join + Drop, H: Hasher<N, K> + Hasher<N, V>, const N: usi
     /// Joins a row: a new key is added, and a key that is there holds the join of both values. It finds the key's place by
     /// halving, and moves the rows behind a new one up by one: at a random place half of them. [`put_all`](Self::put_all) is for many
     /// rows. The tree then takes the value's digest, as [`MerkleSearchTree::upsert`] says.
+    ///
+    /// ```rust crates/examples/src/store.rt
+    /// let mut store = open_rows(alloc, rows)?;
+    /// store.put(name, number)?;
+    /// let digest = root_hash(&mut store)?;
+    /// ```
     ///
     /// # Errors
     ///
@@ -194,6 +202,10 @@ impl<K: Key + Drop, V: Join + Drop, H: Hasher<N, K> + ValueHasher<N, V>, const N
     /// [`MerkleSearchTree::remove`] says. No memory is taken where there is no such row, or where in the tree the gap before its key or
     /// the gap after it is empty.
     ///
+    /// ```rust crates/replica_tests/src/kinds.rt
+    /// map.del(&K::of(alloc, number)?)
+    /// ```
+    ///
     /// # Errors
     ///
     /// `AllocError` where memory is refused; rows and tree are then as they were.
@@ -243,6 +255,13 @@ impl<K: Key + Drop, V: Join, H: Hasher<N, K> + Hasher<N, V> + Drop, const N: usi
     /// over as they are: no row is moved, and each key is cloned once, for the tree.
     ///
     /// The tree is built in one pass, as [`MerkleSearchTree::from_ascending_slice`] says.
+    ///
+    /// ```rust crates/examples/src/store.rt
+    /// match Replica::from_rows(alloc, Builder::default(), rows) {
+    ///     Ok(store) => Ok(store),
+    ///     Err(refused) => Err(refused.why),
+    /// }
+    /// ```
     ///
     /// # Errors
     ///
@@ -299,6 +318,16 @@ impl<K: Key + Drop, V: Join + Drop, H: Hasher<N, K> + Hasher<N, V>, const N: usi
     }
 
     /// The row at a key, where there is one. It finds it by halving, and takes no memory.
+    ///
+    /// ```rust crates/merkle_wire/src/nodes.rt
+    /// match replica.row_at(key) {
+    ///     None => Ok(()),
+    ///     Some(row) => {
+    ///         found.push(row)?;
+    ///         Ok(())
+    ///     }
+    /// }
+    /// ```
     pub fn row_at(&self, key: &K) -> Option<&(K, V)>
         ensures { MatchOption result (get K.cmp self.now.rows key.now ≡ None) (λ row. Same K.cmp row.now.0 key.now × (get K.cmp self.now.rows key.now ≡ Some row.now.1)) }
     {

@@ -39,6 +39,12 @@ impl<K: Key + Drop, V: Join + Drop, H: Hasher<N, K> + Hasher<N, V>, const N: usi
     ///
     /// It hashes the pages of the tree that lack a digest, walks over its pages and the list once, and copies the bounds of the ranges.
     ///
+    /// ```rust crates/examples/src/wire.rt
+    /// let theirs = read_page_ranges(alloc, page_ranges)?;
+    /// let asked = store.ranges_to_ask_of(&theirs)?;
+    /// let bytes = write_ranges(alloc, &asked)?;
+    /// ```
+    ///
     /// # Errors
     ///
     /// `AllocError` where memory is refused; the rows are then as they were, and the tree hashed.
@@ -60,6 +66,13 @@ impl<K: Key + Drop, V: Join + Drop, H: Hasher<N, K> + Hasher<N, V>, const N: usi
     /// The second step of a pull, on the peer's side: its rows in these ranges, in ascending key order, without memory. `None` where a
     /// range ends before it starts, or doesn't start behind the end of the one before it. It looks at the bounds of each range once, and the
     /// iterator then walks over rows and ranges once.
+    ///
+    /// ```rust crates/examples/src/wire.rt
+    /// let Some(found) = store.rows_within(&ranges) else {
+    ///     return Err(WireFault::Malformed);
+    /// };
+    /// let rows: Vec<&(String, u64)> = found.collect(alloc)?;
+    /// ```
     pub fn rows_within<'a>(&'a self, ranges: &'a [(K, K)]) -> Option<RowsWithin<'a, K, V>>
         ensures some { IsSome result ↔ AreRanges K.cmp (spans_of ranges.now) }
         ensures rows { IfSome result (λ rows. rows ≡ rows_in K.cmp (spans_of ranges.now) self.now.rows) }
@@ -75,6 +88,14 @@ impl<K: Key + Drop, V: Join + Drop, H: Hasher<N, K> + Hasher<N, V>, const N: usi
     ///
     /// Room for all of them is made before the first is joined. Own rows below the first of them stay where they are; those from it on
     /// are moved out of the way and back.
+    ///
+    /// ```rust crates/examples/src/wire.rt
+    /// match store.join_rows(came) {
+    ///     Ok(()) => Ok(()),
+    ///     Err(JoinRefused::NotAscending(_)) => Err(WireFault::Malformed),
+    ///     Err(JoinRefused::Memory(_)) => Err(WireFault::Memory),
+    /// }
+    /// ```
     ///
     /// # Errors
     ///

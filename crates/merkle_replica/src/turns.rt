@@ -49,6 +49,11 @@ fn turn<K: Key + Drop, V: Join + Drop, H: Hasher<N, K> + Hasher<N, V>, const N: 
 /// can be missing in the other. That holds of any two hashers, level bases and page formats; but only replicas that digest alike spare
 /// each other what they share.
 ///
+/// ```rust crates/examples/src/sync.rt
+/// pull_by_turns(alloc, a, b, 4)?;
+/// Ok(())
+/// ```
+///
 /// # Errors
 ///
 /// [`TurnsError`] where memory is refused: the pulls that were made, and what came in place of the next one. Where the list of answers

@@ -22,6 +22,13 @@ use merkle_search_tree::{Gap, OutlineItem, OutlineItemOf};
 /// ([`steps_are_a_catch_up`](crate::laws::steps_are_a_catch_up)).
 ///
 /// It walks over the gaps and the items once, compares at most four pairs of keys for each of them, and takes no memory.
+///
+/// ```rust crates/replica_tests/src/catch_ups.rt
+/// if !lie_within(&gaps, &items) {
+///     return Err(Fail::from("items outside the gaps"));
+/// }
+/// let asked = local.sort_out(&items)?;
+/// ```
 pub fn lie_within<K: Ord, const N: usize>(
     gaps: &[Gap<'_, K>],
     came: &[OutlineItem<'_, N, K>],

@@ -158,6 +158,12 @@ impl<K: Ord + KeyBytes, V, H: Hasher<N, K>, const N: usize> MerkleSearchTree<K, 
     /// one hasher, level base and page format; the converse holds only as far as no digests collide, and in format 1 streams can be equal, too.
     ///
     /// Of the pages that lack a digest it hashes the nodes, one page after the other; below a page that has one it doesn't look.
+    ///
+    /// ```rust crates/kind_tests/src/doc_lines.rt
+    /// let mut tree: Tree = MerkleSearchTree::with_defaults(alloc);
+    /// tree.upsert(key, &42)?;
+    /// let digest = tree.root_hash().clone()?;
+    /// ```
     pub fn root_hash(&mut self) -> &RootHash
         ensures* tree { let row = the_row K.row V.row H.row (number N) K.Ord.own K.PartialEq K.PartialOrd.own K.KeyBytes.own H.Hasher in
             sem 𝓛 (follows_so row row self.entry.ghost_name none (λ _ _. ⊤) (IsHashed K.bytes_of self.old)) }

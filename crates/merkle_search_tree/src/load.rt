@@ -121,6 +121,17 @@ impl<
     ///
     /// The rows have to end, and are taken to their end unless they are refused.
     ///
+    /// ```rust crates/mst_c/src/byte_tree.rt
+    /// match MerkleSearchTree::from_ascending(alloc, builder, pairs) {
+    ///     Ok(tree) => {
+    ///         self.tree = tree;
+    ///         Ok(())
+    ///     }
+    ///     Err(LoadRefused::Memory) => Err(ReadError::Memory),
+    ///     Err(LoadRefused::NotAscending(_)) => Err(ReadError::Malformed),
+    /// }
+    /// ```
+    ///
     /// # Errors
     ///
     /// [`LoadRefused::NotAscending`] at the first row whose key isn't above that of the row before it, with its place, and

@@ -35,11 +35,10 @@ use std::num::NonZeroU8;
 /// which keys came. Its root hash depends on the page format too.
 ///
 /// `K` is the type of the keys, `V` that of the values, of which only digests are kept, and `H` the hasher, whose digests have `N`
-/// bytes. A tree is made by a [`Builder`], or from rows that ascend:
+/// bytes. A tree is made by a [`Builder`], or from rows that ascend. Where `Tree` is
+/// `MerkleSearchTree<String, u64, SipHasher, 16>`:
 ///
-/// ```rust
-/// type Tree = MerkleSearchTree<String, u64, SipHasher, 16>;
-///
+/// ```rust crates/kind_tests/src/doc_lines.rt
 /// let mut tree: Tree = MerkleSearchTree::with_defaults(alloc);
 /// tree.upsert(key, &42)?;
 /// let digest = tree.root_hash().clone()?;
@@ -188,6 +187,13 @@ impl<K: Ord + KeyBytes, V, H: Hasher<N, K>, const N: usize> MerkleSearchTree<K, 
     /// The nodes of all pages, in ascending key order: as many items as the tree has keys. It looks at each page once, and compares
     /// no keys.
     ///
+    /// ```rust crates/mst_c/src/byte_tree.rt
+    /// 'nodes: for node in self.tree.node_iter()? {
+    ///     put_digest(node, &mut out)?;
+    /// }
+    /// Ok(out)
+    /// ```
+    ///
     /// # Errors
     ///
     /// `AllocError` where memory is refused for room for the pages on the way down, one more than the level of the root. The iteration
@@ -213,6 +219,12 @@ impl<K: Ord + KeyBytes, V, H: Hasher<N, K>, const N: usize> MerkleSearchTree<K, 
     ///
     /// It makes at most three calls for each node and two for each page, compares no keys, and takes no memory of its own. Its recursion
     /// is as deep as the tree, at most 256 pages.
+    ///
+    /// ```rust crates/mst_c/src/byte_tree.rt
+    /// let mut pages = Pages::new(alloc);
+    /// self.tree.in_order_traversal(&mut pages);
+    /// pages.list(alloc)
+    /// ```
     pub fn in_order_traversal<T: Visitor<N, K>>(&self, visitor: &mut T)
         ensures visited { (all : Bool) × Visits T.step visitor.old (events_of false self.now.root) all visitor.new }
     {
@@ -284,6 +296,12 @@ impl<
     /// of the page's nodes has binary digits. Where the key is new, it moves the nodes behind it in the page of its level, and parts at
     /// most one page of each lower level.
     ///
+    /// ```rust crates/examples/src/hashing.rt
+    /// tree.upsert(name, &number)?;
+    /// let (digest, _) = tree.root_hash_counted();
+    /// Ok(digest)
+    /// ```
+    ///
     /// # Errors
     ///
     /// [`UpsertRefused`] where memory is refused, and nowhere else: it holds the key, and the pages, all cached digests and the cached root
@@ -333,6 +351,13 @@ impl<K: Ord + KeyBytes + Drop, V, H: Hasher<N, K>, const N: usize> MerkleSearchT
     /// the page's nodes has binary digits, and it compares no other keys. It moves the nodes behind the key's, and of each two pages
     /// of one level that are joined the nodes of the upper one; no page is copied. The depth of its recursion is the number of pages
     /// above the key and along the joint.
+    ///
+    /// ```rust crates/mst_c/src/byte_tree.rt
+    /// match self.tree.remove(&own_key)? {
+    ///     None => Ok(false),
+    ///     Some(_) => Ok(true),
+    /// }
+    /// ```
     ///
     /// # Errors
     ///

@@ -21,6 +21,13 @@ use std::alloc::AllocError;
 impl<K: Ord + KeyBytes, V, H: Hasher<N, K>, const N: usize> MerkleSearchTree<K, V, H, N> {
     /// The digest of the value at a key, where the key is there. On each page of the key's path it compares the key with at most as
     /// many keys as the number of the page's nodes has binary digits. It takes no memory.
+    ///
+    /// ```rust crates/mst_c/src/byte_tree.rt
+    /// match self.tree.value_hash(&own_key) {
+    ///     None => Ok(None),
+    ///     Some(digest) => Ok(Some(*digest.as_bytes())),
+    /// }
+    /// ```
     pub fn value_hash(&self, key: &K) -> Option<&ValueDigest<N>>
         ensures { option_map (λ digest. digest.now) result ≡ get K.cmp (map_of self.now) key.now }
     {
@@ -40,6 +47,11 @@ impl<K: Ord + KeyBytes, V, H: Hasher<N, K>, const N: usize> MerkleSearchTree<K, 
     /// Whether the page over the gap, as [`outline`](Self::outline) opens it, has the digest. Where a page of the hashed tree fills the gap,
     /// that is the page that is looked at. It compares keys as [`value_hash`](Self::value_hash) does, and one digest. It takes no
     /// memory.
+    ///
+    /// ```rust crates/merkle_replica/src/descent.rt
+    /// every_tree_is_sound(self.tree());
+    /// self.tree().has_page(gap, digest)
+    /// ```
     pub fn has_page(&self, gap: &Gap<'_, K>, digest: &PageDigest) -> bool
         ensures only { IsTrue result → (page : Tree K (List ℕ)) × IsPageIn page self.now.root × (page_digest self.now.format K.bytes_of page ≡ digest.now) }
         ensures all { self.now.root_hash ≢ None → (page : Tree K (List ℕ)) → Fills K.cmp (gap_of gap.now) page self.now.root
@@ -58,6 +70,13 @@ impl<K: Ord + KeyBytes, V, H: Hasher<N, K>, const N: usize> MerkleSearchTree<K, 
     ///
     /// It goes down the path to the gap, and compares keys as [`value_hash`](Self::value_hash) does, and takes memory for as many items as
     /// the page has nodes and pages right below it.
+    ///
+    /// ```rust crates/merkle_wire/src/outlines.rt
+    /// match replica.tree().outline(gap.as_gap())? {
+    ///     Some(list) => Ok(list),
+    ///     None => unreachable!(),
+    /// }
+    /// ```
     ///
     /// # Errors
     ///

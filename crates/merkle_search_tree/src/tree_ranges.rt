@@ -16,7 +16,7 @@ impl<K: Ord + KeyBytes, V, H: Hasher<N, K>, const N: usize> MerkleSearchTree<K, 
     /// of the pages below it, and that of the root first, so that peers can compare what they hold by
     /// [`diff`](merkle_diff::diff):
     ///
-    /// ```rust
+    /// ```rust crates/kind_tests/src/doc_lines.rt
     /// local.root_hash();
     /// peer.root_hash();
     /// let ours = local.serialise_page_ranges()?;
@@ -52,6 +52,14 @@ impl<K: Ord + KeyBytes, V, H: Hasher<N, K>, const N: usize> MerkleSearchTree<K, 
 
     /// The ranges of all pages, as [`serialise_page_ranges`](Self::serialise_page_ranges) lists them, one at a time; `None` where the
     /// tree isn't hashed. It compares no keys, and goes to each page once, and for its first and last key down to the pages that have them.
+    ///
+    /// ```rust crates/mst_c/src/byte_tree.rt
+    /// let _ = self.root_hash();
+    /// match self.tree.page_range_iter()? {
+    ///     Some(ranges) => encoded_len(ranges),
+    ///     None => Err(AllocError),
+    /// }
+    /// ```
     ///
     /// # Errors
     ///

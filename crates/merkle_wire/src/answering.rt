@@ -82,6 +82,13 @@ impl fmt::Display for AnswerError {
 
 /// The reply to a message, as [`answer_within`] gives it with [`MOST_BYTES`]. The replica keeps its rows; pages that lack a digest get it.
 ///
+/// ```rust crates/merkle_wire/src/session.rt
+/// let reply = match answer(alloc, peer, &message) {
+///     Ok(reply) => reply,
+///     Err(error) => return Err(MessagesError::Answer(error)),
+/// };
+/// ```
+///
 /// # Errors
 ///
 /// [`AnswerError`]

@@ -38,6 +38,18 @@ const FEWEST: u64 = 4;
 /// A catch-up that is under way: it waits for a reply.
 ///
 /// A contract sees what was asked, what has been found, and how many rounds of outlines were asked for.
+///
+/// ```rust crates/merkle_wire/src/session.rt
+/// 'exchanges: for _ in 0..u64::MAX {
+///     match exchange(alloc, replica, peer, session, message)? {
+///         Next::Came(rows) => return Ok(rows),
+///         Next::Ask(next, question) => {
+///             session = next;
+///             message = question;
+///         }
+///     }
+/// }
+/// ```
 #[derive(Drop)]
 pub struct CatchingUp<K, V> {
     alloc: Global,

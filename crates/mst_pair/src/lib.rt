@@ -3,10 +3,10 @@
 //!
 //! [`run::run`] reads lines from a [`source::Source`] and writes the reply to each line to a [`sink::Sink`]:
 //!
-//! ```rust
-//! let mut source = FromRead::new(rt.stdin());
-//! let mut sink = ToWrite::new(rt.stdout());
-//! run(rt.alloc(), &mut source, &mut sink)?;
+//! ```rust crates/mst_pair_cli/src/main.rt
+//! let mut reader = FromRead::new(rt.stdin());
+//! let mut writer = ToWrite::new(rt.stdout());
+//! match run(rt.alloc(), &mut reader, &mut writer) {
 //! ```
 //!
 //! `specs/` says what the lines of an input are (`Lines`), what each line asks for (`Requests`), what it is

@@ -53,13 +53,13 @@ const CHUNK: usize = 8192;
 /// Beside the rows and the pages of their trees a run holds 12 KiB: 8192 bytes that were read and 4096 that are to be written. A line
 /// takes the time of the calls of replicas that answer it, and time in proportion to its own length and its reply's.
 ///
-/// A run over text in memory:
+/// A run over text in memory, whose replies stand in `output` then:
 ///
-/// ```rust
-/// let mut source = FromRead::new(b"put a k 1\nkeys a\n".as_slice());
-/// let mut sink = ToWrite::new(Vec::new(alloc));
-/// run(alloc, &mut source, &mut sink)?;
-/// let replies = sink.into_inner(); // ok, k 1 and end, each in its line
+/// ```rust crates/program_tests/src/runs.rt
+/// let mut output = Vec::new(rt.alloc());
+/// let mut reader = FromRead::new(input.as_bytes());
+/// let mut writer = ToWrite::new(&mut output);
+/// assert_eq!(rt; run(rt.alloc(), &mut reader, &mut writer), Ok(()));
 /// ```
 ///
 /// # Errors

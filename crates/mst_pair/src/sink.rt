@@ -54,9 +54,9 @@ pub trait Sink {
 /// It tells the bytes that the writer tells. Where the writer takes none of some bytes, that is a failure. Once a call has failed, so
 /// does each later one.
 ///
-/// ```rust
-/// let mut sink = ToWrite::new(&mut replies); // a Vec<u8>
-/// run(alloc, &mut source, &mut sink)?;
+/// ```rust crates/program_tests/src/roots.rt
+/// let mut writer = ToWrite::new(&mut output);
+/// match run(alloc, &mut reader, &mut writer) {
 /// ```
 #[derive(Drop)]
 pub struct ToWrite<W> {
