@@ -3,4 +3,3 @@ pub mod Told
 pub mod Trees
 pub mod GossipSessions
 pub mod ThroughHub
-mod EqualRows

@@ -10,4 +10,3 @@ pub mod GossipMessages
 pub mod Wire
 pub mod StoreLaws
 pub mod PullMessages
-pub mod Agreeing

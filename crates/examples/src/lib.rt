@@ -2,7 +2,6 @@
 #![tactic(auto)]
 
 pub mod accounts;
-pub mod agreeing;
 pub mod asking;
 pub mod gossip;
 pub mod hashing;

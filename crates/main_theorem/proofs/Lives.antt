@@ -14,7 +14,8 @@ use Rattle.merkle_tree_theory.specs.Settings.{Settings}
 use Rattle.merkle_replica.specs.Laws.{Laws}
 use Rattle.merkle_search_tree.specs.declared.updates.Update.{Update}
 use Rattle.merkle_search_tree.specs.declared.updates.Update.TheVariants.{Upsert, Remove}
-use Rattle.main_theorem.specs.After.{AreEqual, FreeAreAccepted, IsAcceptedIfFree, join_to, rows_after_one, rows_after_all}
+use Rattle.main_theorem.specs.After.{FreeAreAccepted, IsAcceptedIfFree, join_to, rows_after_one, rows_after_all}
+use Rattle.merkle_replica.specs.Agreeing.{AreEqual}
 
 module _ {K V : Type 0} (cmp : K → K → Ordering) (join : V → V → V) where
   -- one update more at the end

@@ -17,7 +17,8 @@ use Rattle.merkle_tree_theory.specs.Tree.{Tree}
 use Rattle.merkle_tree_theory.specs.TreeOf.{defined_tree}
 use Rattle.merkle_tree_theory.specs.declared.page_format.PageFormat.{PageFormat}
 use Rattle.merkle_replica.specs.Laws.{Laws}
-use Rattle.main_theorem.specs.After.{AreEqual, tree_under, page_ranges_under, root_hash_under, IsDefinedBy}
+use Rattle.main_theorem.specs.After.{tree_under, page_ranges_under, root_hash_under, IsDefinedBy}
+use Rattle.merkle_replica.specs.Agreeing.{AreEqual}
 
 module _ {K X : Type 0} (cmp : K → K → Ordering) (o : IsTotalOrder cmp) where
   pub followed : (a b c : List (K × X)) → SameMap cmp (λ d e. d ≡ e) a b → SameMap cmp (λ d e. d ≡ e) b c → SameMap cmp (λ d e. d ≡ e) a c

@@ -1,7 +1,7 @@
 -- What a list of updates of a replica leads to, each of which was accepted or not.
 use Rattle.std.specs.Prelude.{◌≡◌, ⊤, ◌⊎◌, ℕ, Bool, true, false, List, [], ◌∷◌, Option, Some, None}
 use Rattle.std.specs.declared.cmp.Ordering.{Ordering}
-use Rattle.key_order.specs.Map.{get, set, has_key, del, SameMap}
+use Rattle.key_order.specs.Map.{get, set, has_key, del}
 use Rattle.merkle_diff.specs.Entry.{Entry}
 use Rattle.merkle_diff.specs.SameEntries.{SameEntries}
 use Rattle.merkle_tree_theory.specs.Canonical.{SamePages}
@@ -15,6 +15,7 @@ use Rattle.merkle_tree_theory.specs.Tree.{Tree}
 use Rattle.merkle_tree_theory.specs.TreeOf.{defined_tree}
 use Rattle.merkle_search_tree.specs.declared.updates.Update.{Update}
 use Rattle.merkle_search_tree.specs.declared.updates.Update.TheVariants.{Upsert, Remove, RootHash}
+use Rattle.merkle_replica.specs.Agreeing.{AreEqual}
 use Rattle.merkle_replica.specs.Contents.{Contents}
 use Rattle.merkle_replica.specs.Laws.{Laws}
 
@@ -46,10 +47,6 @@ module _ {K V : Type 0} (cmp : K → K → Ordering) (join : V → V → V) wher
 -- the settings of a tree
 abbrev pub settings_of : {K H : Type 0} → State K H → Settings H
 settings_of tree = record { hasher = tree.hasher; base = tree.base; format = tree.format }
-
--- equal keys, and equal values
-abbrev pub AreEqual : {K V : Type 0} → (K → K → Ordering) → (V → V → Bool) → List (K × V) → List (K × V) → Type 0
-AreEqual cmp eq = SameMap cmp (λ x y. eq x y ≡ true)
 
 module _ {K V H : Type 0} (laws : Laws K V H) where
   -- the tree that a map defines under the settings of a builder, its page ranges, and its root hash

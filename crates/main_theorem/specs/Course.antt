@@ -8,7 +8,7 @@ use Rattle.merkle_replica.specs.Contents.{Contents, Side, with_rows}
 use Rattle.merkle_replica.specs.Faithful.{AllFaithful}
 use Rattle.merkle_replica.specs.Laws.{Laws}
 use Rattle.merkle_replica.specs.Pulls.{IsByTurns, HoldTheJoin}
-use Rattle.main_theorem.specs.After.{AreEqual}
+use Rattle.merkle_replica.specs.Agreeing.{AreEqual}
 use Rattle.main_theorem.specs.declared.course.Exchange.{Exchange}
 use Rattle.main_theorem.specs.declared.course.Exchange.TheVariants.{Apart, ByTurns, ByCatchUps}
 use Rattle.main_theorem.specs.declared.course.Exchanged.{Exchanged}

@@ -5,7 +5,8 @@ use Rattle.merkle_tree_theory.specs.Settings.{Settings}
 use Rattle.merkle_replica.specs.Contents.{Side}
 use Rattle.merkle_replica.specs.Faithful.{AllFaithful}
 use Rattle.merkle_replica.specs.Laws.{Laws}
-use Rattle.main_theorem.specs.After.{AreEqual, FreeAreAccepted, IsDefinedBy, rows_after}
+use Rattle.main_theorem.specs.After.{FreeAreAccepted, IsDefinedBy, rows_after}
+use Rattle.merkle_replica.specs.Agreeing.{AreEqual}
 use Rattle.main_theorem.specs.Course.{IsCourse, IsEnough, AreOne}
 use Rattle.main_theorem.specs.declared.course.Exchange.{Exchange}
 use Rattle.main_theorem.specs.declared.theorem.Outcome.{Outcome}

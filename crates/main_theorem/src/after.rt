@@ -2,7 +2,8 @@
 ghost use Rattle.std.specs.Prelude.{◌≡◌, [], IfOk, Some, length};
 ghost use Rattle.key_order.specs.Order.{Same};
 ghost use Rattle.merkle_tree_theory.specs.State.{HasSettings, SameSettings};
-ghost use Rattle.main_theorem.specs.After.{AreEqual, FreeAreAccepted, IsAcceptedBy, IsCarriedOut, root_hash_under, rows_after, settings_of};
+ghost use Rattle.main_theorem.specs.After.{FreeAreAccepted, IsAcceptedBy, IsCarriedOut, root_hash_under, rows_after, settings_of};
+ghost use Rattle.merkle_replica.specs.Agreeing.{AreEqual};
 
 use merkle_digest::{Hasher, Key};
 use merkle_replica::{Join, Lawful, Replica};

@@ -29,3 +29,4 @@ pub mod SameDescents
 pub mod Copying
 pub mod Gossips
 pub mod Hubs
+mod EqualRows

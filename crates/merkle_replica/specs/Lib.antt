@@ -2,6 +2,7 @@ pub mod Laws
 pub mod Contents
 pub mod Pulls
 pub mod Faithful
+pub mod Agreeing
 pub mod Answers
 pub mod ByTurns
 pub mod Places

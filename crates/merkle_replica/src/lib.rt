@@ -6,6 +6,7 @@
 //! Such replicas are those of Auvolat and Taïani, "Merkle Search Trees: Efficient State-Based CRDTs in Open Networks".
 #![tactic(auto)]
 
+mod agreeing;
 mod both_ways;
 mod catch_up;
 mod descent;
@@ -28,6 +29,7 @@ mod value_hasher;
 mod wanted;
 mod within_gaps;
 
+pub use agreeing::agree;
 pub use both_ways::{CatchUpsError, catch_up_both};
 pub use catch_up::{CatchUpError, CaughtUp};
 pub use descent::ToAsk;

@@ -118,7 +118,7 @@ impl<K: Key, V: Join, H: Hasher<N, K> + ValueHasher<N, V>, const N: usize> Repli
     /// memory. Replicas whose rows have equal keys and equal digests have equal root hashes, under one hasher, level base and page format; the
     /// converse holds only as far as no digests collide.
     ///
-    /// ```rust crates/examples/src/agreeing.rt
+    /// ```rust crates/merkle_replica/src/agreeing.rt
     /// a.root_hash() == b.root_hash()
     /// ```
     pub fn root_hash(&mut self) -> &RootHash

@@ -5,6 +5,7 @@ use Rattle.std.specs.List.{AllByRecursion}
 use Rattle.key_order.specs.Join.{IsJoin}
 use Rattle.key_order.specs.Order.{AnyByRecursion, Same}
 use Rattle.key_order.specs.Map.{IsMap, get}
+use Rattle.merkle_replica.specs.Agreeing.{GiveOneDigest}
 use Rattle.merkle_replica.specs.CatchUp.{IsCatchUp, IsCatchUpOf, IsLacked}
 use Rattle.merkle_replica.specs.Contents.{Side, with_rows, tree_map}
 use Rattle.merkle_replica.specs.Faithful.{AreSetAlike, HasSmallMap, IsCollisionFree, IsFaithful}
@@ -46,15 +47,11 @@ module _ {K V H : Type 0} (laws : Laws K V H) (local peer : Side K V H) where
   HaveFaithfulNodes = (keys : List K) (ds es : List (List ℕ)) → map (get laws.cmp (tree_map laws local)) keys ≡ map Some ds → map (get laws.cmp (tree_map laws peer)) keys ≡ map Some es
       → digest_of_all ds ≡ digest_of_all es → ds ≡ es
 
-  -- both sides give each value one digest
-  abbrev pub GiveOneDigest : Type 0
-  GiveOneDigest = (v : V) → laws.value_digest local.hasher v ≡ laws.value_digest peer.hasher v
-
   -- digests are faithful: those of pages and of values, those of the nodes of a page, and both sides give each value one digest
   pub record IsFaithfulSession : Type 0 where
     pub faithful : IsFaithful laws local peer
     pub nodes : HaveFaithfulNodes
-    pub values : GiveOneDigest
+    pub values : GiveOneDigest laws local peer
 
   -- no two lists of the digests of values collide: where both sides have all of some keys, and the digest of the digests of their values is equal on
   -- both, these digests, one behind the other, are the same bytes

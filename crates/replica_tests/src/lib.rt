@@ -2,6 +2,8 @@
 #![tactic(auto)]
 
 #[cfg(test)]
+mod agreeing;
+#[cfg(test)]
 mod catch_ups;
 #[cfg(test)]
 mod faults;

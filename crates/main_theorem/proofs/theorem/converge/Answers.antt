@@ -4,7 +4,8 @@ use Rattle.key_order.proofs.Joins.{same_joins}
 use Rattle.merkle_tree_theory.specs.Sound.{IsSound}
 use Rattle.merkle_tree_theory.specs.State.{State, HasSettings}
 use Rattle.merkle_replica.specs.Contents.{side}
-use Rattle.main_theorem.specs.After.{AreEqual, FreeAreAccepted, rows_after, root_hash_under}
+use Rattle.main_theorem.specs.After.{FreeAreAccepted, rows_after, root_hash_under}
+use Rattle.merkle_replica.specs.Agreeing.{AreEqual}
 use Rattle.main_theorem.specs.Course.{AreExchanged}
 use Rattle.merkle_replica.specs.Laws.{Laws}
 use Rattle.main_theorem.proofs.Courses.{apart_stay}

@@ -1,8 +1,7 @@
 //! Tests of whether replicas agree by their root hashes.
 
-use examples::agreeing::agree;
 use merkle_digest::SipHasher;
-use merkle_replica::Replica;
+use merkle_replica::{Replica, agree};
 use merkle_search_tree::builder::Builder;
 use std::alloc::Global;
 use std::test::Fail;

@@ -14,8 +14,7 @@ use Rattle.merkle_tree_theory.specs.TreeOf.{defined_tree}
 use Rattle.merkle_replica.specs.Contents.{Side, tree_map}
 use Rattle.merkle_replica.specs.Faithful.{AreSetAlike, HaveFaithfulValues, IsFaithful}
 use Rattle.merkle_replica.specs.Laws.{Laws}
-use Rattle.merkle_wire.specs.Sessions.{GiveOneDigest}
-use Rattle.examples.specs.Agreeing.{HaveEqualRows}
+use Rattle.merkle_replica.specs.Agreeing.{GiveOneDigest, HaveEqualRows}
 
 -- the root page is a page of its tree
 root_in : {K D : Type 0} (t : Tree K D) → IsPageIn t t

@@ -3,11 +3,12 @@ ghost use Rattle.std.specs.Prelude.{◌≡◌, IsTrue};
 ghost use Rattle.merkle_tree_theory.specs.State.{SameSettings};
 ghost use Rattle.merkle_replica.specs.Contents.{side};
 ghost use Rattle.merkle_replica.specs.Faithful.{AreSetAlike, IsFaithful};
-ghost use Rattle.merkle_wire.specs.Sessions.{GiveOneDigest};
-ghost use Rattle.examples.specs.Agreeing.{HaveEqualRows};
+ghost use Rattle.merkle_replica.specs.Agreeing.{GiveOneDigest, HaveEqualRows};
 
+use crate::join::Join;
+use crate::lawful::Lawful;
+use crate::replica::Replica;
 use merkle_digest::{Hasher, Key};
-use merkle_replica::{Join, Lawful, Replica};
 use merkle_search_tree::laws::{a_map_has_one_tree, every_tree_is_sound};
 
 /// Whether two replicas have one root hash: both are hashed for it, and their rows stay. True means that their rows are equal, as long as

@@ -4,8 +4,8 @@ use Rattle.std.specs.Cmp.Lexicographic.{pointwise, same_text}
 use Rattle.key_order.proofs.SameMaps.{same_map-own}
 use Rattle.merkle_replica.specs.Contents.{side, tree_map}
 use Rattle.merkle_replica.proofs.Sides.{laws_of}
-use Rattle.examples.proofs.EqualRows.{equal_by_root, equal_digests, one_root}
-use Rattle.examples.proofs.agreeing.agree.Goals as goal
+use Rattle.merkle_replica.proofs.EqualRows.{equal_by_root, equal_digests, one_root}
+use Rattle.merkle_replica.proofs.agreeing.agree.Goals as goal
 
 -- the root pages are pages of the trees of both maps
 pub returns-clause-told : goal.returns-clause-told
