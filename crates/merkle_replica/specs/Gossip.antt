@@ -1,10 +1,13 @@
 -- Catch-ups among any number of replicas, which are named by numbers, and whose rows came to whom.
 use Rattle.std.specs.Prelude.{◌≡◌, ℕ, zero, suc, ◌+◌, ◌==◌, Bool, true, List, [], ◌∷◌, ◌++◌, map, Option, None, if◌then◌else◌, slice_index_or}
+use Rattle.std.specs.List.{AllByRecursion}
+use Rattle.key_order.specs.Order.{AnyByRecursion}
 use Rattle.std.specs.declared.cmp.Ordering.{Ordering}
 use Rattle.key_order.specs.Map.{SameValue, IsMap, get}
 use Rattle.key_order.specs.Join.{joined}
 use Rattle.merkle_replica.specs.CatchUp.{IsCatchUpOf, IsCatchUpRefused}
 use Rattle.merkle_replica.specs.Contents.{Side, with_rows}
+use Rattle.merkle_replica.specs.Faithful.{AllFaithful}
 use Rattle.merkle_replica.specs.Laws.{Laws}
 use Rattle.merkle_replica.specs.declared.catch_up.CatchUpError.{CatchUpError}
 use Rattle.merkle_replica.specs.declared.gossip.CatchUpAllError.{CatchUpAllError}
@@ -53,6 +56,15 @@ module _ {K V : Type 0} (cmp : K → K → Ordering) (eq : V → V → Bool) (jo
     pub ascending : IsMap cmp rows
     pub values : (k : K) → SameValue (λ x y. eq x y ≡ true) (get cmp rows k) (joined_at maps k)
 
+  -- each of the first maps is one of the second
+  abbrev pub AreAmong : List (List (K × V)) → List (List (K × V)) → Type 0
+  AreAmong ms ns = AllByRecursion (λ m. AnyByRecursion (λ n. n ≡ m) ns) ms
+
+  -- the order in which maps are joined doesn't matter, nor how often each is
+  abbrev pub OrderIsIndifferent : Type 0
+  OrderIsIndifferent = (ms ns : List (List (K × V))) (rows : List (K × V)) → AreAmong ms ns → AreAmong ns ms
+      → IsJoinOf ms rows → IsJoinOf ns rows
+
 module _ {K V H : Type 0} (laws : Laws K V H) where
   -- the catch-ups of these steps, one after the other; `met` are the two sides before each
   abbrev pub IsGossip : List (ℕ × ℕ) → (ℕ → Side K V H) → (ℕ → Side K V H) → List (Side K V H × Side K V H) → Type 0
@@ -69,6 +81,13 @@ module _ {K V H : Type 0} (laws : Laws K V H) where
   StopsGossip (suc done) fault (s ∷ steps) sides sides' =
       (joined : ℕ) × (after : List (K × V)) × IsCatchUpOf laws (sides s.0) (sides s.1) joined after
       × StopsGossip done fault steps (changed sides s.0 (with_rows (sides s.0) after)) sides'
+
+  -- by whatever catch-ups, the rows of each are the join of those whose news came to it, while digests are faithful in what is met
+  abbrev pub GossipJoins : Type 0
+  GossipJoins =
+      (steps : List (ℕ × ℕ)) (before after : ℕ → Side K V H) (met : List (Side K V H × Side K V H))
+      → ((n : ℕ) → IsMap laws.cmp (before n).rows) → IsGossip steps before after met → AllFaithful laws met
+      → (n : ℕ) → IsJoinOf laws.cmp laws.eq laws.join (map (λ m. (before m).rows) (heard steps n)) (after n).rows
 
   -- the same of the steps through a hub
   abbrev pub StopsAtHub : CatchUpAllError → ℕ → (ℕ → Side K V H) → (ℕ → Side K V H) → Type 0

@@ -4,6 +4,7 @@ pub mod Pulls
 pub mod Faithful
 pub mod Agreeing
 pub mod Answers
+pub mod Faithfully
 pub mod ByTurns
 pub mod Places
 pub mod Puts

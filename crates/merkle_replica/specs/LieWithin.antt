@@ -1,9 +1,18 @@
 -- Items that lie within gaps that were asked for, by their keys.
-use Rattle.std.specs.Prelude.{List, [], ◌∷◌, Option, Some, None, ◌⊎◌, ⊤}
+use Rattle.std.specs.Prelude.{ℕ, List, [], ◌∷◌, flat_map, Option, Some, None, ◌⊎◌, ⊤}
+use Rattle.std.specs.List.{AllByRecursion}
 use Rattle.std.specs.declared.cmp.Ordering.{Ordering}
 use Rattle.key_order.specs.Order.{Below, Upto}
 use Rattle.merkle_tree_theory.specs.Gap.{Gap, IsInGap}
-use Rattle.merkle_tree_theory.specs.Outline.{Item, of_node, of_page}
+use Rattle.key_order.specs.Map.{IsMap}
+use Rattle.merkle_tree_theory.specs.Lookup.{Fills}
+use Rattle.merkle_tree_theory.specs.Outline.{Item, of_node, of_page, outline_over}
+use Rattle.merkle_tree_theory.specs.Page.{pairs}
+use Rattle.merkle_tree_theory.specs.Tree.{Tree}
+use Rattle.merkle_tree_theory.specs.declared.page_format.PageFormat.{PageFormat}
+use Rattle.merkle_replica.specs.Contents.{Side}
+use Rattle.merkle_replica.specs.Descent.{AreSortedOut}
+use Rattle.merkle_replica.specs.Laws.{Laws}
 
 module _ {K : Type 0} (cmp : K → K → Ordering) where
   -- what starts at the second bound starts within what starts at the first
@@ -68,3 +77,18 @@ module _ {K D : Type 0} (cmp : K → K → Ordering) where
   -- the items ascend, and lie in the gaps one after the other
   abbrev pub LieWithin : List (Gap K) → List (Item K D) → Type 0
   LieWithin gs xs = Rise xs × AreWithin gs xs
+
+module _ {K : Type 0} (cmp : K → K → Ordering) (bytes_of : K → List ℕ) where
+  -- a page of the tree fills each of the gaps
+  abbrev pub AreFilled : Tree K (List ℕ) → List (Gap K) → Type 0
+  AreFilled t = AllByRecursion (λ gap. (page : Tree K (List ℕ)) × Fills cmp gap page t)
+
+  -- outlines over ascending gaps that pages fill lie within these
+  abbrev pub OutlinesLieWithin : Type 0
+  OutlinesLieWithin = (format : PageFormat) (t : Tree K (List ℕ)) (gaps : List (Gap K)) → IsMap cmp (pairs t) → GapsAscend cmp gaps → AreFilled t gaps
+      → LieWithin cmp gaps (flat_map (outline_over format bytes_of cmp t) gaps)
+
+-- items that lie within any gaps leave ascending gaps when they are sorted out
+abbrev pub SortedOutGapsAscend : {K V H : Type 0} → Laws K V H → Type 0
+SortedOutGapsAscend {K} {V} {H} laws = (local : Side K V H) (asked gaps : List (Gap K)) (came : List (Item K (List ℕ))) (keys : List K)
+    → LieWithin laws.cmp asked came → AreSortedOut laws local came gaps keys → GapsAscend laws.cmp gaps

@@ -1,10 +1,9 @@
 //! Catch-ups in both directions, by which two replicas come to hold the join of their maps.
-ghost use Rattle.std.specs.Prelude.{◌≡◌, IfOk, IfErr};
+ghost use Rattle.std.specs.Prelude.{◌≡◌, IfOk, IfErr, OnOk};
 ghost use Rattle.merkle_tree_theory.specs.State.{SameSettings};
 ghost use Rattle.merkle_replica.specs.CatchUp.{AreCatchUps, AreCatchUpsRefused};
-ghost use Rattle.merkle_replica.specs.Contents.{side, with_rows};
-ghost use Rattle.merkle_replica.specs.Faithful.{IsFaithful};
-ghost use Rattle.merkle_replica.specs.Pulls.{HoldTheJoin};
+ghost use Rattle.merkle_replica.specs.Contents.{side};
+ghost use Rattle.merkle_replica.specs.Faithfully.{HoldTheJoinWhileFaithful};
 
 use crate::catch_up::{CatchUpError, CaughtUp};
 use crate::join::Join;
@@ -40,8 +39,7 @@ pub fn catch_up_both<K: Key + Drop, V: Join + Drop, H: Hasher<N, K> + Hasher<N, 
     ensures done { IfOk result (λ caught. AreCatchUps ⟦<H as Lawful<N, K, V>>⟧.laws (side a.old) (side b.old) caught.0.joined caught.1.joined a.new.rows b.new.rows) }
 
     // While digests are faithful before each of them, both then hold the join.
-    ensures join { let laws = ⟦<H as Lawful<N, K, V>>⟧.laws in IfOk result (λ caught. IsFaithful laws (side a.old) (side b.old)
-        → IsFaithful laws (side b.old) (with_rows (side a.old) a.new.rows) → HoldTheJoin laws (side a.old) (side b.old) a.new.rows b.new.rows) }
+    ensures join { OnOk result (HoldTheJoinWhileFaithful ⟦<H as Lawful<N, K, V>>⟧.laws (side a.old) (side b.old) a.new.rows b.new.rows) }
 
     ensures refused { IfErr result (λ error. AreCatchUpsRefused ⟦<H as Lawful<N, K, V>>⟧.laws (side a.old) (side b.old) error a.new.rows b.new.rows) }
 

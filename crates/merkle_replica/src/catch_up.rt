@@ -1,7 +1,6 @@
 //! Catch-ups: a replica joins exactly the rows of a peer that it lacks.
-ghost use Rattle.std.specs.Prelude.{◌≡◌, ◌+◌, ◌≤◌, List, IfOk, IfErr, IsSome};
+ghost use Rattle.std.specs.Prelude.{◌≡◌, ◌+◌, ◌≤◌, List, IfOk, IfErr, OnOk, IsSome};
 ghost use Rattle.key_order.specs.Order.{IsAscending};
-ghost use Rattle.key_order.specs.Join.{IsJoin};
 ghost use Rattle.merkle_search_tree.specs.Items.{items};
 ghost use Rattle.merkle_tree_theory.specs.Outline.{whole_item};
 ghost use Rattle.merkle_tree_theory.specs.Page.{level};
@@ -9,7 +8,7 @@ ghost use Rattle.merkle_tree_theory.specs.State.{SameSettings};
 ghost use Rattle.merkle_replica.specs.CatchUp.{HasFound, IsCatchUpOf, IsCatchUpRefused, AreCopies};
 ghost use Rattle.merkle_replica.specs.Contents.{side};
 ghost use Rattle.merkle_replica.specs.Descent.{keys_of};
-ghost use Rattle.merkle_replica.specs.Faithful.{IsFaithful};
+ghost use Rattle.merkle_replica.specs.Faithfully.{JoinsWhileFaithful};
 
 use crate::join::Join;
 use crate::lawful::Lawful;
@@ -81,8 +80,7 @@ impl<K: Key + Drop, V: Join + Drop, H: Hasher<N, K> + Hasher<N, V>, const N: usi
         ensures done { IfOk result (λ caught. IsCatchUpOf ⟦<H as Lawful<N, K, V>>⟧.laws (side self.old) (side peer.old) caught.joined self.new.rows) }
 
         // While digests are faithful, that is the join of both sides' rows.
-        ensures join { let laws = ⟦<H as Lawful<N, K, V>>⟧.laws in IfOk result (λ caught. IsFaithful laws (side self.old) (side peer.old)
-            → IsJoin K.cmp V.eq V.join_of self.old.rows peer.old.rows self.new.rows) }
+        ensures join { OnOk result (JoinsWhileFaithful ⟦<H as Lawful<N, K, V>>⟧.laws (side self.old) (side peer.old) self.new.rows) }
 
         ensures few { IfOk result (λ caught. caught.rounds ≤ level peer.old.tree.root + 1) }
 

@@ -2,33 +2,18 @@
 //! pull, that the steps of a catch-up are one, that outlines lie within gaps, and what gossip joins. Each function has no effect and takes
 //! no memory.
 
-ghost use Rattle.std.specs.Prelude.{◌≡◌, ℕ, ◌+◌, ◌≤◌, List, [], ◌∷◌, length, map, flat_map, true};
-ghost use Rattle.std.specs.List.{AllByRecursion};
-ghost use Rattle.key_order.specs.Order.{AnyByRecursion};
-ghost use Rattle.key_order.specs.Interval.{Span};
-ghost use Rattle.key_order.specs.Map.{IsMap, SameMap, rows_in};
-ghost use Rattle.key_order.specs.Join.{IsJoin};
-ghost use Rattle.merkle_diff.specs.Entry.{Entry};
-ghost use Rattle.merkle_diff.specs.Merge.{SameSpans};
-ghost use Rattle.merkle_diff.specs.SameEntries.{SameEntries};
-ghost use Rattle.merkle_tree_theory.specs.Canonical.{IsTreeOf};
-ghost use Rattle.merkle_tree_theory.specs.Gap.{Gap, everywhere};
-ghost use Rattle.merkle_tree_theory.specs.Lookup.{Fills};
-ghost use Rattle.merkle_tree_theory.specs.Outline.{Item, outline_over, whole_item};
-ghost use Rattle.merkle_tree_theory.specs.Page.{level, pairs};
+ghost use Rattle.std.specs.Prelude.{ℕ, List, [], ◌∷◌};
+ghost use Rattle.merkle_tree_theory.specs.Gap.{everywhere};
+ghost use Rattle.merkle_tree_theory.specs.Outline.{whole_item};
 ghost use Rattle.merkle_tree_theory.specs.Tree.{Tree};
 ghost use Rattle.merkle_tree_theory.specs.declared.page_format.PageFormat.{PageFormat};
-ghost use Rattle.merkle_tree_theory.specs.declared.page_format.PageFormat.TheVariants.{V2};
-ghost use Rattle.merkle_replica.specs.CatchUp.{IsCatchUp};
-ghost use Rattle.merkle_replica.specs.CatchUpSteps.{IsWholeTree, AreCatchUpSteps};
-ghost use Rattle.merkle_replica.specs.Descent.{AreSortedOut, IsDescent};
-ghost use Rattle.merkle_replica.specs.Gossip.{IsGossip, IsJoinOf, heard};
-ghost use Rattle.merkle_replica.specs.Contents.{Side, side, tree_map};
-ghost use Rattle.merkle_replica.specs.Faithful.{SpanHolds, IsFaithful, AllFaithful, MissesNone, AreSetAlike, HasSmallMap, NoStreamsCollide, IsCollisionFree, AllCollisionFree};
-ghost use Rattle.merkle_replica.specs.LieWithin.{GapsAscend, LieWithin};
-ghost use Rattle.merkle_replica.specs.Pulls.{Answer, IsAnswerFor, IsPull, IsByTurns, HoldTheJoin, HasRanges};
-ghost use Rattle.merkle_replica.specs.PullSteps.{ArePullSteps};
-ghost use Rattle.merkle_replica.specs.Steps.{IsAnswerTo};
+ghost use Rattle.merkle_replica.specs.CatchUpSteps.{CatchUpsJoin, RoundsAreFew, StepsAreACatchUp};
+ghost use Rattle.merkle_replica.specs.Contents.{side};
+ghost use Rattle.merkle_replica.specs.Faithful.{HasSmallMap};
+ghost use Rattle.merkle_replica.specs.Faithfully.{CollisionFreeIsFaithful, CollisionFreePullsCover, CollisionFreeTurnsAreFaithful, CollisionFreeTurnsConverge};
+ghost use Rattle.merkle_replica.specs.Gossip.{GossipJoins, OrderIsIndifferent};
+ghost use Rattle.merkle_replica.specs.LieWithin.{LieWithin, OutlinesLieWithin, SortedOutGapsAscend};
+ghost use Rattle.merkle_replica.specs.PullSteps.{AnswersAreThoseOfAPull, PullsHaveOneAnswer, PullsLeaveOneMap, StepsAreAPull};
 
 use crate::join::Join;
 use crate::lawful::Lawful;
@@ -49,24 +34,16 @@ pub fn no_collision_is_enough<
     const N: usize,
 >()
     // Two sides without collision have faithful digests.
-    ensures faithful { let laws = ⟦<H as Lawful<N, K, V>>⟧.laws in (a b : Side K V H)
-        → AreSetAlike laws a b → a.format ≡ V2 → IsCollisionFree laws N a b → IsFaithful laws a b }
+    ensures faithful { CollisionFreeIsFaithful ⟦<H as Lawful<N, K, V>>⟧.laws N }
 
     // So have all that pulls by turns meet.
-    ensures all_faithful { let laws = ⟦<H as Lawful<N, K, V>>⟧.laws in (answers : List (Answer K)) (a b : Side K V H) (a' b' : List (K × V)) (met : List (Side K V H × Side K V H))
-        → AreSetAlike laws a b → a.format ≡ V2 → IsByTurns laws answers a b a' b' met
-        → AllCollisionFree laws N met → AllFaithful laws met }
+    ensures all_faithful { CollisionFreeTurnsAreFaithful ⟦<H as Lawful<N, K, V>>⟧.laws N }
 
     // Coverage: where no streams collide and the peer's keys span the local ones, the ranges to ask the peer for miss no key.
-    ensures covers { let laws = ⟦<H as Lawful<N, K, V>>⟧.laws in (local peer : Side K V H) (found : List (Span K))
-        → AreSetAlike laws local peer → local.format ≡ V2 → IsMap K.cmp local.rows → IsMap K.cmp peer.rows → IsAnswerFor laws local peer found
-        → HasSmallMap laws N local → HasSmallMap laws N peer → NoStreamsCollide laws local peer
-        → SpanHolds K.cmp peer.rows local.rows → MissesNone laws local peer found }
+    ensures covers { CollisionFreePullsCover ⟦<H as Lawful<N, K, V>>⟧.laws N }
 
     // Convergence: four pulls by turns or more, without collision in the sides met, leave both with the join of their maps.
-    ensures converges { let laws = ⟦<H as Lawful<N, K, V>>⟧.laws in (answers : List (Answer K)) (a b : Side K V H) (a' b' : List (K × V)) (met : List (Side K V H × Side K V H))
-        → AreSetAlike laws a b → a.format ≡ V2 → IsMap K.cmp a.rows → IsMap K.cmp b.rows → IsByTurns laws answers a b a' b' met
-        → AllCollisionFree laws N met → 4 ≤ length answers → HoldTheJoin laws a b a' b' }
+    ensures converges { CollisionFreeTurnsConverge ⟦<H as Lawful<N, K, V>>⟧.laws N }
 {
     exact_keys_make_pages_faithful::<K, H, N>();
     page_ranges_of_a_map::<K, H, N>();
@@ -97,11 +74,9 @@ pub fn steps_are_a_pull<
     const N: usize,
 >()
     // Ranges that answer the list of the peer's tree, up to equal keys, are those of a pull.
-    ensures answer { let laws = ⟦<H as Lawful<N, K, V>>⟧.laws in (local peer : Side K V H) (theirs came : List (Entry K (List ℕ))) (found : List (Span K)) → IsMap K.cmp peer.rows
-        → HasRanges laws peer theirs → SameEntries K.cmp theirs came → IsAnswerTo laws local came found → IsAnswerFor laws local peer found }
+    ensures answer { AnswersAreThoseOfAPull ⟦<H as Lawful<N, K, V>>⟧.laws }
 
-    ensures pull { let laws = ⟦<H as Lawful<N, K, V>>⟧.laws in (local peer : Side K V H) (found : List (Span K)) (after : List (K × V)) → IsMap K.cmp peer.rows
-        → ArePullSteps laws local peer found after → IsPull laws local peer (record { ranges = found; joined = length (rows_in K.cmp found peer.rows) }) after }
+    ensures pull { StepsAreAPull ⟦<H as Lawful<N, K, V>>⟧.laws }
 {
     page_ranges_of_a_map::<K, H, N>();
 }
@@ -115,10 +90,8 @@ pub fn a_pull_has_one_answer<
     H: Hasher<N, K> + Hasher<N, V>,
     const N: usize,
 >()
-    ensures ranges { let laws = ⟦<H as Lawful<N, K, V>>⟧.laws in (local peer : Side K V H) (xs ys : List (Span K))
-        → IsAnswerFor laws local peer xs → IsAnswerFor laws local peer ys → SameSpans K.cmp xs ys }
-    ensures pulls { let laws = ⟦<H as Lawful<N, K, V>>⟧.laws in (local peer : Side K V H) (x y : Answer K) (after then : List (K × V))
-        → IsPull laws local peer x after → IsPull laws local peer y then → (x.joined ≡ y.joined) × SameMap K.cmp (λ v w. V.eq v w ≡ true) after then }
+    ensures ranges { PullsHaveOneAnswer ⟦<H as Lawful<N, K, V>>⟧.laws }
+    ensures pulls { PullsLeaveOneMap ⟦<H as Lawful<N, K, V>>⟧.laws }
 {
     a_map_has_one_tree::<K, H, N>();
 }
@@ -133,14 +106,9 @@ pub fn steps_are_a_catch_up<
     H: Hasher<N, K> + Hasher<N, V>,
     const N: usize,
 >()
-    ensures catch_up { let laws = ⟦<H as Lawful<N, K, V>>⟧.laws in (local peer : Side K V H) (root : Tree K (List ℕ)) (keys : List K) (after : List (K × V))
-        → IsMap K.cmp local.rows → IsMap K.cmp peer.rows → IsTreeOf K.cmp (laws.key_digest peer.hasher) peer.base root (tree_map laws peer)
-        → AreCatchUpSteps laws local peer root keys after → IsCatchUp laws local peer keys after }
-    ensures few { let laws = ⟦<H as Lawful<N, K, V>>⟧.laws in (local peer : Side K V H) (root : Tree K (List ℕ)) (first : List (Item K (List ℕ))) (rounds : List (List (Item K (List ℕ)))) (left : List K)
-        → IsMap K.cmp local.rows → IsMap K.cmp peer.rows → IsTreeOf K.cmp (laws.key_digest peer.hasher) peer.base root (tree_map laws peer)
-        → IsWholeTree laws peer root first → IsDescent laws local peer root first rounds left → length rounds ≤ level root + 1 }
-    ensures joins { let laws = ⟦<H as Lawful<N, K, V>>⟧.laws in (local peer : Side K V H) (keys : List K) (after : List (K × V))
-        → IsFaithful laws local peer → IsCatchUp laws local peer keys after → IsJoin K.cmp V.eq V.join_of local.rows peer.rows after }
+    ensures catch_up { StepsAreACatchUp ⟦<H as Lawful<N, K, V>>⟧.laws }
+    ensures few { RoundsAreFew ⟦<H as Lawful<N, K, V>>⟧.laws }
+    ensures joins { CatchUpsJoin ⟦<H as Lawful<N, K, V>>⟧.laws }
 {
     outlines_lead_down::<K, H, N>();
 }
@@ -156,10 +124,8 @@ pub fn outlines_lie_within<
     const N: usize,
 >()
     ensures whole { (format : PageFormat) (t : Tree K (List ℕ)) → LieWithin K.cmp (everywhere ∷ []) (whole_item format K.bytes_of t) }
-    ensures outlines { (format : PageFormat) (t : Tree K (List ℕ)) (gaps : List (Gap K)) → IsMap K.cmp (pairs t) → GapsAscend K.cmp gaps
-        → AllByRecursion (λ gap. (page : Tree K (List ℕ)) × Fills K.cmp gap page t) gaps → LieWithin K.cmp gaps (flat_map (outline_over format K.bytes_of K.cmp t) gaps) }
-    ensures left { let laws = ⟦<H as Lawful<N, K, V>>⟧.laws in (local : Side K V H) (asked gaps : List (Gap K)) (came : List (Item K (List ℕ))) (keys : List K)
-        → LieWithin K.cmp asked came → AreSortedOut laws local came gaps keys → GapsAscend K.cmp gaps }
+    ensures outlines { OutlinesLieWithin K.cmp K.bytes_of }
+    ensures left { SortedOutGapsAscend ⟦<H as Lawful<N, K, V>>⟧.laws }
 {
     outlines_lead_down::<K, H, N>();
 }
@@ -174,11 +140,8 @@ pub fn gossip_joins_what_came<
     H: Hasher<N, K> + Hasher<N, V>,
     const N: usize,
 >()
-    ensures joins { let laws = ⟦<H as Lawful<N, K, V>>⟧.laws in (steps : List (ℕ × ℕ)) (before after : ℕ → Side K V H) (met : List (Side K V H × Side K V H))
-        → ((n : ℕ) → IsMap K.cmp (before n).rows) → IsGossip laws steps before after met → AllFaithful laws met
-        → (n : ℕ) → IsJoinOf K.cmp V.eq V.join_of (map (λ m. (before m).rows) (heard steps n)) (after n).rows }
+    ensures joins { GossipJoins ⟦<H as Lawful<N, K, V>>⟧.laws }
 
     // The order in which maps are joined doesn't matter, nor how often each is.
-    ensures same { (ms ns : List (List (K × V))) (rows : List (K × V)) → AllByRecursion (λ m. AnyByRecursion (λ n. n ≡ m) ns) ms → AllByRecursion (λ n. AnyByRecursion (λ m. m ≡ n) ms) ns
-        → IsJoinOf K.cmp V.eq V.join_of ms rows → IsJoinOf K.cmp V.eq V.join_of ns rows }
+    ensures same { OrderIsIndifferent K.cmp V.eq V.join_of }
 {}

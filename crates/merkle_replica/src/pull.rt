@@ -7,8 +7,8 @@ ghost use Rattle.merkle_tree_theory.specs.Hashed.{hashed_tree};
 ghost use Rattle.merkle_tree_theory.specs.State.{SameSettings};
 ghost use Rattle.merkle_replica.specs.Contents.{side};
 ghost use Rattle.merkle_replica.specs.Pulls.{IsAnswerFor, IsPull};
-ghost use Rattle.merkle_replica.specs.Faithful.{SpanHolds, HaveFaithfulPages, MissesNone};
-ghost use Rattle.merkle_replica.specs.Answers.{spans_of, answer_of, IsRefused, PartMissesNone};
+ghost use Rattle.merkle_replica.specs.Faithfully.{CoverInPartWhileFaithful, CoverWhileFaithful};
+ghost use Rattle.merkle_replica.specs.Answers.{spans_of, answer_of, IsRefused};
 ghost use Rattle.merkle_replica.specs.Steps.{IsAnswerTo};
 
 use crate::join::Join;
@@ -103,10 +103,8 @@ impl<K: Key + Drop, V: Join + Drop, H: Hasher<N, K> + Hasher<N, V>, const N: usi
 
         // Coverage: where pages with equal digests have equal maps, and the peer's keys span the replica's, the ranges miss no key, also
         // where the pull stopped behind the first rows.
-        ensures covers { let laws = ⟦<H as Lawful<N, K, V>>⟧.laws in IfOk result (λ pulled. HaveFaithfulPages laws (side self.old) (side peer.old)
-            → SpanHolds K.cmp peer.old.rows self.old.rows → MissesNone laws (side self.old) (side peer.old) (spans_of pulled.ranges.items)) }
-        ensures part_covers { let laws = ⟦<H as Lawful<N, K, V>>⟧.laws in IfErr result (λ fault. HaveFaithfulPages laws (side self.old) (side peer.old)
-            → SpanHolds K.cmp peer.old.rows self.old.rows → PartMissesNone laws (side self.old) (side peer.old) fault) }
+        ensures covers { IfOk result (λ pulled. CoverWhileFaithful ⟦<H as Lawful<N, K, V>>⟧.laws (side self.old) (side peer.old) (spans_of pulled.ranges.items)) }
+        ensures part_covers { IfErr result (CoverInPartWhileFaithful ⟦<H as Lawful<N, K, V>>⟧.laws (side self.old) (side peer.old)) }
 
         ensures peer_rows { peer.new.rows ≡ peer.old.rows }
         ensures peer_tree { peer.new.tree ≡ hashed_tree K.bytes_of peer.old.tree }
