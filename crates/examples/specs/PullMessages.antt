@@ -3,12 +3,12 @@ use Rattle.std.specs.Prelude.{◌≡◌, ℕ, ◌<◌, ◌≤◌, List, length, 
 use Rattle.std.specs.List.{AllByRecursion}
 use Rattle.key_order.specs.Interval.{Span}
 use Rattle.key_order.specs.Join.{IsJoin}
-use Rattle.key_order.specs.Map.{rows_in}
+use Rattle.key_order.specs.Map.{IsMap, rows_in}
 use Rattle.key_order.specs.Text.{Text, text_order}
 use Rattle.merkle_bytes.specs.Encodings.{list_bytes}
 use Rattle.merkle_diff.specs.Entry.{Entry}
 use Rattle.merkle_replica.specs.Contents.{Side}
-use Rattle.merkle_replica.specs.Pulls.{HasRanges}
+use Rattle.merkle_replica.specs.Pulls.{Answer, HasRanges, IsPartOfPull, IsPull}
 use Rattle.merkle_replica.specs.Steps.{IsAnswerTo}
 use Rattle.examples.specs.StoreLaws.{store_laws}
 use Rattle.examples.specs.Wire.{IsPageRange, IsRow, page_range_bytes, range_bytes, row_bytes}
@@ -40,3 +40,25 @@ abbrev pub JoinsFirstRows : Side Text ℕ (List ℕ) → List ℕ → List (Text
 JoinsFirstRows local came after =
     (rows : List (Text × ℕ)) × (done : ℕ) × AllByRecursion IsRow rows × (came ≡ list_bytes row_bytes rows)
     × (1 ≤ done) × (done < length rows) × IsJoin text_order nat_eq max local.rows (take done rows) after
+
+-- local has pulled from the peer, and has these rows after
+abbrev pub HasPulled : Side Text ℕ (List ℕ) → Side Text ℕ (List ℕ) → List (Text × ℕ) → Type 0
+HasPulled local peer after = (answer : Answer Text) × IsPull store_laws local peer answer after
+
+-- local has made a part of a pull from the peer, and has these rows after
+abbrev pub HasPulledInPart : Side Text ℕ (List ℕ) → Side Text ℕ (List ℕ) → List (Text × ℕ) → Type 0
+HasPulledInPart local peer after = (answer : Answer Text) × (done : ℕ) × IsPartOfPull store_laws local peer answer done after
+
+-- the four messages are a pull
+abbrev pub MessagesAreAPull : Type 0
+MessagesAreAPull =
+    (local peer : Side Text ℕ (List ℕ)) (ranges asked rows : List ℕ) (after : List (Text × ℕ))
+    → IsMap text_order peer.rows → SendsPageRanges peer ranges → Asks local ranges asked → SendsRows peer asked rows → JoinsRows local rows after
+    → HasPulled local peer after
+
+-- and a part of one, where the first rows were joined
+abbrev pub MessagesArePartOfAPull : Type 0
+MessagesArePartOfAPull =
+    (local peer : Side Text ℕ (List ℕ)) (ranges asked rows : List ℕ) (after : List (Text × ℕ))
+    → IsMap text_order peer.rows → SendsPageRanges peer ranges → Asks local ranges asked → SendsRows peer asked rows → JoinsFirstRows local rows after
+    → HasPulledInPart local peer after

@@ -1,13 +1,16 @@
 -- Page ranges, ranges of names, and rows, as bytes.
-use Rattle.std.specs.Prelude.{ℕ, ◌<◌, ◌^◌, List, ◌++◌, string_bytes, ⊤}
+use Rattle.std.specs.Prelude.{◌≡◌, ◌≢◌, ℕ, ◌<◌, ◌^◌, List, ◌++◌, string_bytes, ⊤}
+use Rattle.std.specs.List.{AllByRecursion}
 use Rattle.key_order.specs.Interval.{Span}
+use Rattle.key_order.specs.Map.{IsMap}
 use Rattle.key_order.specs.Text.{Text, text_order}
 use Rattle.merkle_bytes.specs.Counts.{count_bytes}
-use Rattle.merkle_bytes.specs.Encodings.{string_encoding}
+use Rattle.merkle_bytes.specs.Encodings.{list_bytes, string_encoding}
 use Rattle.merkle_bytes.specs.PageRanges.{entry_bytes, IsEntry}
 use Rattle.merkle_bytes.specs.declared.error.ReadError.{ReadError}
 use Rattle.merkle_bytes.specs.declared.error.ReadError.TheVariants as read
 use Rattle.merkle_diff.specs.Entry.{Entry}
+use Rattle.merkle_replica.specs.Steps.{AreRanges}
 use Rattle.examples.specs.declared.wire.WireFault.{WireFault}
 use Rattle.examples.specs.declared.wire.WireFault.TheVariants.{Memory, Malformed}
 
@@ -34,6 +37,26 @@ IsPageRange = IsEntry (λ _. ⊤) text_order
 -- what a row keeps to: its number is one of 64 bits
 abbrev pub IsRow : Text × ℕ → Type 0
 IsRow r = r.1 < 2 ^ 64
+
+-- the bytes spell no page ranges
+abbrev pub AreNoPageRanges : List ℕ → Type 0
+AreNoPageRanges bytes = (theirs : List (Entry Text (List ℕ))) → AllByRecursion IsPageRange theirs → bytes ≢ list_bytes page_range_bytes theirs
+
+-- the bytes spell no ranges of names
+abbrev pub AreNoRanges : List ℕ → Type 0
+AreNoRanges bytes = (ranges : List (Span Text)) → bytes ≢ list_bytes range_bytes ranges
+
+-- the bytes spell no rows
+abbrev pub AreNoRows : List ℕ → Type 0
+AreNoRows bytes = (rows : List (Text × ℕ)) → AllByRecursion IsRow rows → bytes ≢ list_bytes row_bytes rows
+
+-- the bytes spell ranges that don't ascend
+abbrev pub AreUnorderedRanges : List ℕ → Type 0
+AreUnorderedRanges bytes = (ranges : List (Span Text)) × (bytes ≡ list_bytes range_bytes ranges) × ¬ (AreRanges text_order ranges)
+
+-- the bytes spell rows that don't ascend
+abbrev pub AreUnorderedRows : List ℕ → Type 0
+AreUnorderedRows bytes = (rows : List (Text × ℕ)) × (bytes ≡ list_bytes row_bytes rows) × ¬ (IsMap text_order rows)
 
 -- why bytes were not taken that were not read
 abbrev pub fault_of : ReadError → WireFault

@@ -1,14 +1,11 @@
 //! What is sent and what came in a pull: lists, by the encodings of `merkle_bytes`.
-ghost use Rattle.std.specs.Prelude.{◌≡◌, ◌≢◌, ◌<◌, ◌^◌, ℕ, List, IfOk, OnOk, Err, length, map};
+ghost use Rattle.std.specs.Prelude.{◌≡◌, ◌≢◌, ◌<◌, ◌^◌, List, IfOk, OnOk, Err, length, map};
 ghost use Rattle.std.specs.List.{AllByRecursion};
-ghost use Rattle.key_order.specs.Interval.{Span};
-ghost use Rattle.key_order.specs.Text.{Text};
 ghost use Rattle.merkle_bytes.specs.Encodings.{list_bytes};
-ghost use Rattle.merkle_diff.specs.Entry.{Entry};
 ghost use Rattle.merkle_diff.specs.PageRange.{entries};
 ghost use Rattle.merkle_diff.specs.PageRangeSnapshot.{snapshot_entries};
 ghost use Rattle.merkle_replica.specs.Answers.{spans_of};
-ghost use Rattle.examples.specs.Wire.{IsPageRange, IsRow, page_range_bytes, range_bytes, row_bytes};
+ghost use Rattle.examples.specs.Wire.{AreNoPageRanges, AreNoRanges, AreNoRows, IsPageRange, IsRow, page_range_bytes, range_bytes, row_bytes};
 ghost use Rattle.examples.specs.declared.wire.WireFault.TheVariants.{Malformed};
 
 use crate::wire::WireFault;
@@ -63,7 +60,7 @@ pub fn write_page_ranges(
 pub fn read_page_ranges(alloc: Global, bytes: &[u8]) -> Result<PageRangeSnapshot<String>, WireFault>
     ensures read { IfOk result (λ theirs. bytes.now ≡ list_bytes page_range_bytes (snapshot_entries theirs)) }
     ensures each { IfOk result (λ theirs. AllByRecursion IsPageRange (snapshot_entries theirs)) }
-    ensures malformed { result ≡ Err Malformed → (theirs : List (Entry Text (List ℕ))) → AllByRecursion IsPageRange theirs → bytes.now ≢ list_bytes page_range_bytes theirs }
+    ensures malformed { result ≡ Err Malformed → AreNoPageRanges bytes.now }
 {
     let theirs = PageRangeSnapshot::from_owned(alloc, read_list(alloc, bytes)?)?;
     Ok(theirs)
@@ -80,7 +77,7 @@ pub fn write_ranges(alloc: Global, ranges: &[(String, String)]) -> Result<Vec<u8
 /// The ranges of names whose bytes came.
 pub fn read_ranges(alloc: Global, bytes: &[u8]) -> Result<Vec<(String, String)>, WireFault>
     ensures read { IfOk result (λ ranges. bytes.now ≡ list_bytes range_bytes (spans_of ranges.items)) }
-    ensures malformed { result ≡ Err Malformed → (ranges : List (Span Text)) → bytes.now ≢ list_bytes range_bytes ranges }
+    ensures malformed { result ≡ Err Malformed → AreNoRanges bytes.now }
 {
     let ranges = read_list(alloc, bytes)?;
     Ok(ranges)
@@ -107,7 +104,7 @@ pub fn write_rows(alloc: Global, rows: &[&(String, u64)]) -> Result<Vec<u8>, All
 pub fn read_rows(alloc: Global, bytes: &[u8]) -> Result<Vec<(String, u64)>, WireFault>
     ensures read { IfOk result (λ rows. bytes.now ≡ list_bytes row_bytes rows.items) }
     ensures each { IfOk result (λ rows. AllByRecursion IsRow rows.items) }
-    ensures malformed { result ≡ Err Malformed → (rows : List (Text × ℕ)) → AllByRecursion IsRow rows → bytes.now ≢ list_bytes row_bytes rows }
+    ensures malformed { result ≡ Err Malformed → AreNoRows bytes.now }
 {
     read_list(alloc, bytes)
 }

@@ -7,8 +7,7 @@ ghost use Rattle.merkle_tree_theory.specs.State.{HasSettings};
 ghost use Rattle.merkle_tree_theory.specs.declared.page_format.PageFormat.TheVariants.{V1};
 ghost use Rattle.merkle_replica.specs.CatchUp.{AreCatchUpsRefused};
 ghost use Rattle.merkle_replica.specs.Contents.{side, with_rows};
-ghost use Rattle.merkle_replica.specs.Faithful.{IsFaithful};
-ghost use Rattle.merkle_replica.specs.Pulls.{HoldTheJoin};
+ghost use Rattle.merkle_replica.specs.Faithfully.{HoldTheJoinWhileFaithful};
 
 use merkle_digest::SipHasher;
 use merkle_replica::{CatchUpsError, Lawful, Replica, catch_up_both};
@@ -45,9 +44,8 @@ pub fn raise(numbers: &mut Numbers, name: String, number: u64) -> Result<(), All
 ///
 /// Want of memory: what was joined until then stays.
 pub fn meet(a: &mut Numbers, b: &mut Numbers) -> Result<(), CatchUpsError>
-    ensures join { let laws = ⟦<SipHasher as Lawful<16, String, u64>>⟧.laws in OnOk result (IsFaithful laws (side a.old) (side b.old)
-        → IsFaithful laws (side b.old) (with_rows (side a.old) a.new.rows) → HoldTheJoin laws (side a.old) (side b.old) a.new.rows b.new.rows) }
-    ensures refused { IfErr result (λ error. AreCatchUpsRefused ⟦<SipHasher as Lawful<16, String, u64>>⟧.laws (side a.old) (side b.old) error a.new.rows b.new.rows) }
+    ensures join { OnOk result (HoldTheJoinWhileFaithful ⟦<SipHasher as Lawful<16, String, u64>>⟧.laws (side a.old) (side b.old) a.new.rows b.new.rows) }
+    ensures refused { IfErr result (λ why. AreCatchUpsRefused ⟦<SipHasher as Lawful<16, String, u64>>⟧.laws (side a.old) (side b.old) why a.new.rows b.new.rows) }
 {
     catch_up_both(a, b)?;
     Ok(())

@@ -1,14 +1,10 @@
 //! What the README of the repository shows.
 
-ghost use Rattle.std.specs.Prelude.{◌≡◌, ◌⊎◌, ℕ, List, [], ◌∷◌, IfOk, OnErr, max, nat_eq};
-ghost use Rattle.key_order.specs.Join.{IsJoin};
-ghost use Rattle.key_order.specs.Text.{Text, text_order};
+ghost use Rattle.std.specs.Prelude.{◌≡◌, ◌⊎◌, IfOk, OnErr};
 ghost use Rattle.merkle_tree_theory.specs.Settings.{default_settings};
 ghost use Rattle.merkle_tree_theory.specs.State.{HasSettings, SameSettings};
 ghost use Rattle.merkle_tree_theory.specs.declared.page_format.PageFormat.TheVariants.{V1};
-ghost use Rattle.merkle_replica.specs.Contents.{Contents, side};
-ghost use Rattle.merkle_replica.specs.Pulls.{HoldTheJoin};
-ghost use Rattle.examples.specs.Sync.{IsFaithfulSync, StopsSync};
+ghost use Rattle.examples.specs.Sync.{StopsWithOneRow, SyncsOneRow};
 
 use anyhow::Result;
 use merkle_digest::SipHasher;
@@ -27,11 +23,8 @@ pub fn two_replicas(
     key: String,
     b: &mut Replica<String, u64, SipHasher, 16>,
 ) -> Result<Replica<String, u64, SipHasher, 16>>
-    ensures join { let laws = ⟦<SipHasher as Lawful<16, String, u64>>⟧.laws in IfOk result (λ a. (one : Contents Text ℕ (List ℕ))
-        × IsJoin text_order nat_eq max [] ((key, 42) ∷ []) one.rows
-        × IsFaithfulSync laws (HoldTheJoin laws (side one) (side b.old) a.rows b.new.rows) one b.old a b.new) }
-    ensures stopped { OnErr result ((b.new.rows ≡ b.old.rows) ⊎ ((one : Contents Text ℕ (List ℕ))
-        × IsJoin text_order nat_eq max [] ((key, 42) ∷ []) one.rows × StopsSync ⟦<SipHasher as Lawful<16, String, u64>>⟧.laws one b.old b.new.rows)) }
+    ensures join { IfOk result (λ a. SyncsOneRow ⟦<SipHasher as Lawful<16, String, u64>>⟧.laws key 42 b.old a b.new) }
+    ensures stopped { OnErr result ((b.new.rows ≡ b.old.rows) ⊎ StopsWithOneRow ⟦<SipHasher as Lawful<16, String, u64>>⟧.laws key 42 b.old b.new.rows) }
     ensures defaults { IfOk result (λ a. HasSettings (default_settings V1) a.tree) }
     ensures settings { SameSettings b.old.tree b.new.tree }
 {

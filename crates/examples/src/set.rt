@@ -1,10 +1,8 @@
 //! A set of names that only grows: a replica with `()` for values.
 ghost use Rattle.std.specs.Prelude.{◌≡◌, [], ◌∷◌, OnOk, OnErr, IfErr};
 ghost use Rattle.merkle_tree_theory.specs.State.{SameSettings};
-ghost use Rattle.merkle_replica.specs.Answers.{StopsByTurns};
-ghost use Rattle.merkle_replica.specs.Contents.{side};
-ghost use Rattle.examples.specs.Set.{IsUnion};
-ghost use Rattle.examples.specs.Sync.{IsFaithfulSync};
+ghost use Rattle.examples.specs.Set.{IsUnion, SyncsToTheUnion};
+ghost use Rattle.examples.specs.Sync.{Stops};
 
 use crate::store::Store;
 use crate::sync::sync;
@@ -34,9 +32,8 @@ pub fn add(names: &mut Names, name: String) -> Result<(), AllocError>
 ///
 /// Want of memory: no name is lost.
 pub fn unite(alloc: Global, a: &mut Names, b: &mut Names) -> Result<(), TurnsError<String>>
-    ensures union { OnOk result (IsFaithfulSync ⟦<SipHasher as Lawful<16, String, ()>>⟧.laws
-        (IsUnion a.old.rows b.old.rows a.new.rows × IsUnion a.old.rows b.old.rows b.new.rows) a.old b.old a.new b.new) }
-    ensures stopped { IfErr result (λ error. StopsByTurns ⟦<SipHasher as Lawful<16, String, ()>>⟧.laws error.finished.items error.fault (side a.old) (side b.old) a.new.rows b.new.rows) }
+    ensures union { OnOk result (SyncsToTheUnion ⟦<SipHasher as Lawful<16, String, ()>>⟧.laws a.old b.old a.new b.new) }
+    ensures stopped { IfErr result (λ error. Stops ⟦<SipHasher as Lawful<16, String, ()>>⟧.laws error a.old b.old a.new.rows b.new.rows) }
     ensures a_settings { SameSettings a.old.tree a.new.tree }
     ensures b_settings { SameSettings b.old.tree b.new.tree }
 {

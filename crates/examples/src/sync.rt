@@ -1,11 +1,10 @@
 //! A sync: four pulls by turns, after which two replicas hold the same map.
 ghost use Rattle.std.specs.Prelude.{◌≡◌, OnOk, IfErr};
 ghost use Rattle.merkle_tree_theory.specs.State.{SameSettings};
-ghost use Rattle.merkle_replica.specs.Answers.{StopsByTurns};
 ghost use Rattle.merkle_tree_theory.specs.declared.page_format.PageFormat.TheVariants.{V2};
 ghost use Rattle.merkle_replica.specs.Contents.{side};
 ghost use Rattle.merkle_replica.specs.Faithful.{AreSetAlike};
-ghost use Rattle.examples.specs.Sync.{IsFaithfulSync, IsExactSync, AreJoined};
+ghost use Rattle.examples.specs.Sync.{ExactlySyncsToTheJoin, Stops, SyncsToTheJoin};
 
 use merkle_digest::{Hasher, Key, KeyBytesExact};
 use merkle_replica::laws::no_collision_is_enough;
@@ -22,9 +21,8 @@ pub fn sync<K: Key + Drop, V: Join + Drop, H: Hasher<N, K> + Hasher<N, V>, const
     a: &mut Replica<K, V, H, N>,
     b: &mut Replica<K, V, H, N>,
 ) -> Result<(), TurnsError<K>>
-    ensures same { OnOk result (IsFaithfulSync ⟦<H as Lawful<N, K, V>>⟧.laws
-        (AreJoined K.cmp V.eq V.join_of a.old.rows b.old.rows a.new.rows b.new.rows) a.old b.old a.new b.new) }
-    ensures stopped { IfErr result (λ error. StopsByTurns ⟦<H as Lawful<N, K, V>>⟧.laws error.finished.items error.fault (side a.old) (side b.old) a.new.rows b.new.rows) }
+    ensures same { OnOk result (SyncsToTheJoin ⟦<H as Lawful<N, K, V>>⟧.laws a.old b.old a.new b.new) }
+    ensures stopped { IfErr result (λ error. Stops ⟦<H as Lawful<N, K, V>>⟧.laws error a.old b.old a.new.rows b.new.rows) }
     ensures a_settings { SameSettings a.old.tree a.new.tree }
     ensures b_settings { SameSettings b.old.tree b.new.tree }
 {
@@ -51,9 +49,8 @@ pub fn sync_exact<
 ) -> Result<(), TurnsError<K>>
     requires alike { AreSetAlike ⟦<H as Lawful<N, K, V>>⟧.laws (side a.old) (side b.old) }
     requires format_2 { a.old.tree.format ≡ V2 }
-    ensures same { OnOk result (IsExactSync ⟦<H as Lawful<N, K, V>>⟧.laws N
-        (AreJoined K.cmp V.eq V.join_of a.old.rows b.old.rows a.new.rows b.new.rows) a.old b.old a.new b.new) }
-    ensures stopped { IfErr result (λ error. StopsByTurns ⟦<H as Lawful<N, K, V>>⟧.laws error.finished.items error.fault (side a.old) (side b.old) a.new.rows b.new.rows) }
+    ensures same { OnOk result (ExactlySyncsToTheJoin ⟦<H as Lawful<N, K, V>>⟧.laws N a.old b.old a.new b.new) }
+    ensures stopped { IfErr result (λ error. Stops ⟦<H as Lawful<N, K, V>>⟧.laws error a.old b.old a.new.rows b.new.rows) }
     ensures a_settings { SameSettings a.old.tree a.new.tree }
     ensures b_settings { SameSettings b.old.tree b.new.tree }
 {

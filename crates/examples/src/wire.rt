@@ -3,22 +3,13 @@
 //!
 //! What is sent is a list, by the encodings of `merkle_bytes`: of page ranges, of ranges of names, or of rows. Nothing that came is
 //! trusted.
-ghost use Rattle.std.specs.Prelude.{◌≡◌, ◌≢◌, ◌⊎◌, ℕ, List, IfOk, OnOk, OnErr, Err, max, nat_eq, string_bytes};
-ghost use Rattle.std.specs.List.{AllByRecursion};
-ghost use Rattle.key_order.specs.Interval.{Span};
-ghost use Rattle.key_order.specs.Join.{IsJoin};
-ghost use Rattle.key_order.specs.Map.{IsMap};
-ghost use Rattle.key_order.specs.Text.{Text, text_order};
+ghost use Rattle.std.specs.Prelude.{◌≡◌, ◌⊎◌, IfOk, OnOk, OnErr, Err, string_bytes};
 ghost use Rattle.merkle_bytes.specs.Encodings.{list_bytes};
-ghost use Rattle.merkle_diff.specs.Entry.{Entry};
 ghost use Rattle.merkle_tree_theory.specs.Ranges.{ranges_of};
 ghost use Rattle.merkle_tree_theory.specs.State.{SameSettings};
-ghost use Rattle.merkle_replica.specs.Contents.{Side, side};
-ghost use Rattle.merkle_replica.specs.Steps.{AreRanges};
-ghost use Rattle.merkle_replica.specs.Pulls.{Answer, IsPull, IsPartOfPull};
-ghost use Rattle.examples.specs.StoreLaws.{store_laws};
-ghost use Rattle.examples.specs.PullMessages.{SendsPageRanges, Asks, SendsRows, JoinsRows, JoinsFirstRows};
-ghost use Rattle.examples.specs.Wire.{IsPageRange, IsRow, page_range_bytes, range_bytes, row_bytes};
+ghost use Rattle.merkle_replica.specs.Contents.{side};
+ghost use Rattle.examples.specs.PullMessages.{SendsPageRanges, Asks, SendsRows, JoinsRows, JoinsFirstRows, HasPulled, HasPulledInPart, MessagesAreAPull, MessagesArePartOfAPull};
+ghost use Rattle.examples.specs.Wire.{AreNoPageRanges, AreNoRanges, AreNoRows, AreUnorderedRanges, AreUnorderedRows, page_range_bytes};
 ghost use Rattle.examples.specs.declared.wire.WireFault.TheVariants.{Malformed};
 
 use crate::lists::{
@@ -90,7 +81,7 @@ pub fn send_page_ranges(alloc: Global, store: &mut Store<u64>) -> Result<Vec<u8>
 /// Bytes that are no page ranges, and want of memory. The rows stay.
 pub fn ask(alloc: Global, store: &mut Store<u64>, page_ranges: &[u8]) -> Result<Vec<u8>, WireFault>
     ensures asked { IfOk result (λ bytes. Asks (side store.old) page_ranges.now bytes.items) }
-    ensures malformed { result ≡ Err Malformed → (theirs : List (Entry Text (List ℕ))) → AllByRecursion IsPageRange theirs → page_ranges.now ≢ list_bytes page_range_bytes theirs }
+    ensures malformed { result ≡ Err Malformed → AreNoPageRanges page_ranges.now }
     ensures rows { store.new.rows ≡ store.old.rows }
     ensures settings { SameSettings store.old.tree store.new.tree }
 {
@@ -109,8 +100,7 @@ pub fn send_rows(alloc: Global, store: &Store<u64>, asked: &[u8]) -> Result<Vec<
     ensures sent { IfOk result (λ bytes. SendsRows (side store.now) asked.now bytes.items) }
 
     // The bytes spell no ranges, or some that don't ascend.
-    ensures malformed { result ≡ Err Malformed → ((ranges : List (Span Text)) → asked.now ≢ list_bytes range_bytes ranges)
-        ⊎ ((ranges : List (Span Text)) × (asked.now ≡ list_bytes range_bytes ranges) × ¬ (AreRanges text_order ranges)) }
+    ensures malformed { result ≡ Err Malformed → AreNoRanges asked.now ⊎ AreUnorderedRanges asked.now }
 {
     let ranges = read_ranges(alloc, asked)?;
     let Some(found) = store.rows_within(&ranges) else {
@@ -132,8 +122,7 @@ pub fn join(alloc: Global, store: &mut Store<u64>, rows: &[u8]) -> Result<(), Wi
     ensures joined { OnOk result (JoinsRows (side store.old) rows.now store.new.rows) }
 
     // The bytes spell no rows, or some that don't ascend.
-    ensures malformed { result ≡ Err Malformed → ((came : List (Text × ℕ)) → AllByRecursion IsRow came → rows.now ≢ list_bytes row_bytes came)
-        ⊎ ((came : List (Text × ℕ)) × (rows.now ≡ list_bytes row_bytes came) × ¬ (IsMap text_order came)) }
+    ensures malformed { result ≡ Err Malformed → AreNoRows rows.now ⊎ AreUnorderedRows rows.now }
 
     ensures unchanged { result ≡ Err Malformed → store.new ≡ store.old }
     ensures refused { OnErr result ((store.new.rows ≡ store.old.rows) ⊎ JoinsFirstRows (side store.old) rows.now store.new.rows) }
@@ -150,14 +139,10 @@ pub fn join(alloc: Global, store: &mut Store<u64>, rows: &[u8]) -> Result<(), Wi
 /// The four messages are a pull, on whatever machines they are sent and read: where one side's are of the peer as it was, and the other's of
 /// the local side as it was. So coverage and convergence hold of syncs over bytes as of pulls.
 pub fn messages_are_a_pull()
-    ensures pull { (local peer : Side Text ℕ (List ℕ)) (ranges asked rows : List ℕ) (after : List (Text × ℕ))
-        → IsMap text_order peer.rows → SendsPageRanges peer ranges → Asks local ranges asked
-        → SendsRows peer asked rows → JoinsRows local rows after → (answer : Answer Text) × IsPull store_laws local peer answer after }
+    ensures pull { MessagesAreAPull }
 
     // Where the first rows were joined, they are a part of one.
-    ensures part { (local peer : Side Text ℕ (List ℕ)) (ranges asked rows : List ℕ) (after : List (Text × ℕ))
-        → IsMap text_order peer.rows → SendsPageRanges peer ranges → Asks local ranges asked
-        → SendsRows peer asked rows → JoinsFirstRows local rows after → (answer : Answer Text) × (done : ℕ) × IsPartOfPull store_laws local peer answer done after }
+    ensures part { MessagesArePartOfAPull }
 {
     steps_are_a_pull::<String, u64, SipHasher, 16>();
 }
@@ -172,9 +157,8 @@ pub fn pull_over_bytes(
     local: &mut Store<u64>,
     peer: &mut Store<u64>,
 ) -> Result<(), WireFault>
-    ensures pulled { OnOk result ((answer : Answer Text) × IsPull store_laws (side local.old) (side peer.old) answer local.new.rows) }
-    ensures refused { OnErr result ((local.new.rows ≡ local.old.rows)
-        ⊎ ((answer : Answer Text) × (done : ℕ) × IsPartOfPull store_laws (side local.old) (side peer.old) answer done local.new.rows)) }
+    ensures pulled { OnOk result (HasPulled (side local.old) (side peer.old) local.new.rows) }
+    ensures refused { OnErr result ((local.new.rows ≡ local.old.rows) ⊎ HasPulledInPart (side local.old) (side peer.old) local.new.rows) }
     ensures peer_rows { peer.new.rows ≡ peer.old.rows }
     ensures settings { SameSettings local.old.tree local.new.tree }
     ensures peer_settings { SameSettings peer.old.tree peer.new.tree }
