@@ -13,7 +13,7 @@ use Rattle.merkle_wire.specs.Replies.{AsksWithOthers, IsAnsweredBy}
 use Rattle.merkle_wire.specs.Underway.{Underway}
 use Rattle.merkle_wire.specs.declared.catching_up.Next.{Next}
 use Rattle.merkle_wire.specs.declared.catching_up.Next.TheVariants.{Ask, Came}
-use Rattle.mst_replica_c.specs.Values.{byte_laws, key_bytes, key_encoding, key_of, value_at, value_bytes, value_encoding, value_of}
+use Rattle.mst_replica_c.specs.Values.{by_bytes, byte_laws, key_bytes, key_encoding, value_at, value_encoding}
 use Rattle.mst_replica_c.specs.declared.byte_replica.ByteReplica.{ByteReplica}
 use Rattle.mst_replica_c.specs.declared.byte_replica.Taken.{Taken}
 use Rattle.mst_replica_c.specs.declared.byte_replica.Taken.TheVariants.{Asks, Joined, Cut, Failed}
@@ -42,16 +42,19 @@ SameTalk old new = SameSession old new × SameMessage old new
 
 -- there is a value at the key, of whose bytes this holds
 abbrev pub HasValue : List ℕ → (List ℕ → Type 0) → ByteReplica → Type 0
-HasValue key P held = (value : ByteValue) × (value_at held.replica key ≡ Some value) × P (value_bytes value)
+HasValue key P held = (value : List ℕ) × (value_at held.replica key ≡ Some value) × P value
 
--- the rows are the join of the old ones with these: at each key the greater value; and the settings stay
-pub record JoinsRows (rows : List (Vec ℕ × ByteValue)) (old new : ByteReplica) : Type 0 where
-  pub rows : IsJoin byte_laws.cmp byte_laws.eq byte_laws.join old.replica.rows rows new.replica.rows
+-- the rows are the join of the old ones with those that come: at each key the greater value; and the settings stay
+pub record JoinsRows (coming : List (Vec ℕ × ByteValue)) (old new : ByteReplica) : Type 0 where
+  pub rows : IsJoin byte_laws.cmp byte_laws.eq byte_laws.join old.replica.rows coming new.replica.rows
   pub settings : SameSettings old.replica.tree new.replica.tree
 
--- the value is joined at the key, and the catch-up and the message stay
-abbrev pub IsPut : List ℕ → List ℕ → ByteReplica → ByteReplica → Type 0
-IsPut key value old new = JoinsRows ((key_of key, value_of value) ∷ []) old new × SameTalk old new
+-- a value is joined at a key, by their bytes, and the catch-up and the message stay
+pub record IsPut (key value : List ℕ) (old new : ByteReplica) : Type 0 where
+  pub row : Vec ℕ × ByteValue
+  pub bytes : by_bytes row ≡ (key, value)
+  pub joins : JoinsRows (row ∷ []) old new
+  pub talk : SameTalk old new
 
 -- the digests that pages lacked are filled in, and nothing else changes
 abbrev pub OnlyHashes : ByteReplica → ByteReplica → Type 0
@@ -70,18 +73,26 @@ abbrev pub IsOfOthers : List ℕ → ByteReplica → Type 0
 IsOfOthers question new = AsksWithOthers byte_laws 16 key_encoding new.replica.tree question
 
 -- a catch-up began that asks for the root with the settings of the replica, and the message asks that; the replica stays
-abbrev pub HasBegun : ByteReplica → ByteReplica → Type 0
-HasBegun old new = (begun : Underway (Vec ℕ) ByteValue) × (new.session ≡ Some begun) × AsksForRoot (byte_laws.key_digest old.replica.tree.hasher) 16 old.replica.tree begun.asked
-    × (begun.found ≡ nothing) × (begun.rounds ≡ 0) × (new.message.items ≡ question_bytes key_encoding begun.asked) × (new.replica ≡ old.replica)
+pub record HasBegun (old new : ByteReplica) : Type 0 where
+  pub begun : Underway (Vec ℕ) ByteValue
+  pub under_way : new.session ≡ Some begun
+  pub settings : AsksForRoot (byte_laws.key_digest old.replica.tree.hasher) 16 old.replica.tree begun.asked
+  pub nothing_found : (begun.found ≡ nothing) × (begun.rounds ≡ 0)
+  pub asks : new.message.items ≡ question_bytes key_encoding begun.asked
+  pub replica : new.replica ≡ old.replica
 
 -- the catch-up took the reply, and this comes next
-abbrev pub HasTaken : List ℕ → Next (Vec ℕ) ByteValue → ByteReplica → Type 0
-HasTaken reply next old = (before : Underway (Vec ℕ) ByteValue) × (old.session ≡ Some before)
-    × IsNext byte_laws 16 key_encoding value_encoding (side old.replica) before reply next
+pub record HasTaken (reply : List ℕ) (next : Next (Vec ℕ) ByteValue) (old : ByteReplica) : Type 0 where
+  pub before : Underway (Vec ℕ) ByteValue
+  pub under_way : old.session ≡ Some before
+  pub comes : IsNext byte_laws 16 key_encoding value_encoding (side old.replica) before reply next
 
 -- the catch-up took the reply and asks on by the message; rows and settings stay
-abbrev pub AsksOn : List ℕ → ByteReplica → ByteReplica → Type 0
-AsksOn reply old new = (asking : Underway (Vec ℕ) ByteValue) × HasTaken reply (Ask asking new.message) old × (new.session ≡ Some asking) × SameRows old new
+pub record AsksOn (reply : List ℕ) (old new : ByteReplica) : Type 0 where
+  pub asking : Underway (Vec ℕ) ByteValue
+  pub taken : HasTaken reply (Ask asking new.message) old
+  pub asks : new.session ≡ Some asking
+  pub same : SameRows old new
 
 -- no catch-up is under way
 abbrev pub IsIdle : ByteReplica → Type 0
@@ -92,17 +103,25 @@ abbrev pub IsOver : ByteReplica → Type 0
 IsOver new = (new.session ≡ None) × (new.message.items ≡ [])
 
 -- the catch-up took the reply, so many rows came, and they are joined
-abbrev pub HasJoined : List ℕ → ℕ → ByteReplica → ByteReplica → Type 0
-HasJoined reply joined old new = (rows : Vec (Vec ℕ × ByteValue)) × HasTaken reply (Came rows) old × (joined ≡ length rows.items) × JoinsRows rows.items old new × IsOver new
+pub record HasJoined (reply : List ℕ) (joined : ℕ) (old new : ByteReplica) : Type 0 where
+  pub rows : Vec (Vec ℕ × ByteValue)
+  pub taken : HasTaken reply (Came rows) old
+  pub counted : joined ≡ length rows.items
+  pub joins : JoinsRows rows.items old new
+  pub over : IsOver new
 
 -- the catch-up is over, and rows and settings stay
 abbrev pub IsDropped : ByteReplica → ByteReplica → Type 0
 IsDropped old new = SameRows old new × IsOver new
 
 -- rows came, of which the first so many are joined, and not all
-abbrev pub IsCutShort : List ℕ → ℕ → ByteReplica → ByteReplica → Type 0
-IsCutShort reply joined old new = (rows : Vec (Vec ℕ × ByteValue)) × HasTaken reply (Came rows) old × (joined < length rows.items)
-    × JoinsRows (take joined rows.items) old new × (joined ≡ 0 → new.replica.rows ≡ old.replica.rows) × IsOver new
+pub record IsCutShort (reply : List ℕ) (joined : ℕ) (old new : ByteReplica) : Type 0 where
+  pub rows : Vec (Vec ℕ × ByteValue)
+  pub taken : HasTaken reply (Came rows) old
+  pub part : joined < length rows.items
+  pub joins : JoinsRows (take joined rows.items) old new
+  pub none : joined ≡ 0 → new.replica.rows ≡ old.replica.rows
+  pub over : IsOver new
 
 -- the catch-up is over for want of memory: no row is joined, or the first so many of those that came
 abbrev pub IsCut : List ℕ → ℕ → ByteReplica → ByteReplica → Type 0

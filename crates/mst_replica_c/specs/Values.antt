@@ -15,14 +15,6 @@ use Rattle.mst_replica_c.specs.declared.value.ByteValue.{ByteValue}
 abbrev pub ByteContents : Type 0
 ByteContents = Contents (Vec ℕ) ByteValue (List ℕ)
 
--- the key of these bytes
-abbrev pub key_of : List ℕ → Vec ℕ
-key_of bytes = record { items = bytes }
-
--- the value of these bytes
-abbrev pub value_of : List ℕ → ByteValue
-value_of bytes = record { bytes = record { items = bytes } }
-
 -- the bytes of a key
 abbrev pub key_bytes : Vec ℕ → List ℕ
 key_bytes key = key.items
@@ -31,13 +23,17 @@ key_bytes key = key.items
 abbrev pub value_bytes : ByteValue → List ℕ
 value_bytes value = value.bytes.items
 
+-- byte strings in the order of their bytes
+abbrev pub bytes_cmp : List ℕ → List ℕ → Ordering
+bytes_cmp = slice_cmp nat_cmp
+
 -- keys in the order of their bytes
 abbrev pub key_cmp : Vec ℕ → Vec ℕ → Ordering
-key_cmp a b = slice_cmp nat_cmp a.items b.items
+key_cmp a b = bytes_cmp (key_bytes a) (key_bytes b)
 
 -- values in the order of their bytes
 abbrev pub value_cmp : ByteValue → ByteValue → Ordering
-value_cmp a b = slice_cmp nat_cmp (value_bytes a) (value_bytes b)
+value_cmp a b = bytes_cmp (value_bytes a) (value_bytes b)
 
 -- values are equal where their bytes are
 abbrev pub value_eq : ByteValue → ByteValue → Bool
@@ -73,6 +69,6 @@ by_bytes_all = map by_bytes
 abbrev pub rows_of : ByteContents → List (List ℕ × List ℕ)
 rows_of contents = by_bytes_all contents.rows
 
--- the value at a key, if any
-abbrev pub value_at : ByteContents → List ℕ → Option ByteValue
-value_at contents key = get key_cmp contents.rows (key_of key)
+-- the bytes of the value at a key, if any
+abbrev pub value_at : ByteContents → List ℕ → Option (List ℕ)
+value_at contents key = get bytes_cmp (rows_of contents) key

@@ -5,7 +5,7 @@ ghost use Rattle.key_order.specs.Map.{IsMap};
 ghost use Rattle.merkle_tree_theory.specs.Stream.{page_digest};
 ghost use Rattle.merkle_wire.specs.Messages.{front};
 ghost use Rattle.merkle_wire.specs.declared.message.Kind.TheVariants.{Refusal};
-ghost use Rattle.mst_replica_c.specs.Calls.{HasBegun, HasValue, IsAnswered, IsFresh, IsNoQuestion, IsOfOthers, IsJoinOf, IsPut, IsTaken, OnlyHashes, SameRows};
+ghost use Rattle.mst_replica_c.specs.Calls.{HasBegun, IsAnswered, IsFresh, IsNoQuestion, IsOfOthers, IsJoinOf, IsPut, IsTaken, OnlyHashes, SameRows};
 ghost use Rattle.mst_replica_c.specs.Values.{key_bytes, key_cmp, rows_of, value_at};
 ghost use Rattle.mst_replica_c.specs.Wire.{rows_bytes};
 
@@ -74,7 +74,7 @@ impl ByteReplica {
 
     /// The bytes of the value at a key, where the key is there.
     pub fn get(&self, alloc: Global, key: &[u8]) -> Result<Option<&[u8]>, AllocError>
-        ensures { IfOk result (λ found. MatchOption found (value_at self.now.replica key.now ≡ None) (λ bytes. HasValue key.now (λ value. bytes.now ≡ value) self.now)) }
+        ensures { IfOk result (λ found. MatchOption found (value_at self.now.replica key.now ≡ None) (λ value. value_at self.now.replica key.now ≡ Some value.now)) }
     {
         let own_key = Vec::from_slice(alloc, key)?;
         match self.replica.row_at(&own_key) {

@@ -13,6 +13,4 @@ mod output;
 mod parts;
 mod replicas;
 mod status;
-#[cfg(test)]
-mod trial;
 mod value;

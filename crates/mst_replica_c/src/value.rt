@@ -1,5 +1,5 @@
 //! Values: byte strings, of which the greatest stays.
-ghost use Rattle.std.specs.Prelude.{◌≡◌, ⊤};
+ghost use Rattle.std.specs.Prelude.{◌≡◌, ⊤, IfOk, true};
 ghost use Rattle.mst_replica_c.specs.Values.{value_encoding};
 
 use merkle_bytes::{Decode, Encode, ReadError, Reader};
@@ -11,6 +11,16 @@ use std::alloc::{AllocError, Global};
 #[derive(Debug, PartialEq, Eq, PartialOrd, Ord, Drop)]
 pub struct ByteValue {
     pub bytes: Vec<u8>,
+}
+
+impl ByteValue {
+    /// A value that is equal.
+    fn copy(&self, alloc: Global) -> Result<ByteValue, AllocError>
+        ensures { IfOk result (λ copy. ⟦<ByteValue as PartialEq>⟧.eq copy self.now ≡ true) }
+    {
+        let bytes = Vec::from_slice(alloc, self.bytes.as_slice())?;
+        Ok(ByteValue { bytes })
+    }
 }
 
 /// The bytes themselves.
@@ -38,9 +48,11 @@ impl Join for ByteValue {
     ghost joining = { greater_joining ⟦<ByteValue as Ord>⟧.cmp total-law ⟦<ByteValue as PartialEq>⟧.eq matches_eq-law };
 
     fn join(&self, alloc: Global, other: &Self) -> Result<Self, AllocError> {
-        let greater = if *other < *self { self } else { other };
-        let bytes = Vec::from_slice(alloc, greater.bytes.as_slice())?;
-        Ok(ByteValue { bytes })
+        if other.cmp(self).is_lt() {
+            self.copy(alloc)
+        } else {
+            other.copy(alloc)
+        }
     }
 }
 
