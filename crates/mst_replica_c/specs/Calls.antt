@@ -1,5 +1,5 @@
 -- What the calls do to a replica, to the catch-up that it is in, and to the message that is kept.
-use Rattle.std.specs.Prelude.{◌≡◌, ◌⊎◌, ℕ, ◌<◌, List, [], ◌∷◌, length, take, None, Some, ⊤}
+use Rattle.std.specs.Prelude.{◌≡◌, ◌≢◌, ◌⊎◌, ℕ, ◌<◌, List, [], ◌∷◌, length, take, None, Some, ⊤}
 use Rattle.std.specs.Global.{Vec}
 use Rattle.key_order.specs.Join.{IsJoin}
 use Rattle.merkle_replica.specs.Contents.{IsEmpty, side}
@@ -110,9 +110,9 @@ pub record HasJoined (reply : List ℕ) (joined : ℕ) (old new : ByteReplica) :
   pub joins : JoinsRows rows.items old new
   pub over : IsOver new
 
--- the catch-up is over, and rows and settings stay
+-- a catch-up was under way and is over, and rows and settings stay
 abbrev pub IsDropped : ByteReplica → ByteReplica → Type 0
-IsDropped old new = SameRows old new × IsOver new
+IsDropped old new = (old.session ≢ None) × SameRows old new × IsOver new
 
 -- rows came, of which the first so many are joined, and not all
 pub record IsCutShort (reply : List ℕ) (joined : ℕ) (old new : ByteReplica) : Type 0 where

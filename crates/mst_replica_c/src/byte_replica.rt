@@ -188,10 +188,11 @@ impl ByteReplica {
     {
         let count = rows.len();
         match self.replica.join_rows(rows) {
-            Ok(()) => Taken::Joined(count),
-            Err(JoinRefused::Memory(done)) => Taken::Cut(done),
+            Ok(()) => {}
+            Err(JoinRefused::Memory(done)) => return Taken::Cut(done),
             Err(JoinRefused::NotAscending(_)) => unreachable!(),
         }
+        Taken::Joined(count)
     }
 }
 
