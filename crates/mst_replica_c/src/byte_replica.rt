@@ -74,7 +74,8 @@ impl ByteReplica {
 
     /// The bytes of the value at a key, where the key is there.
     pub fn get(&self, alloc: Global, key: &[u8]) -> Result<Option<&[u8]>, AllocError>
-        ensures { IfOk result (λ found. MatchOption found (value_at self.now.replica key.now ≡ None) (λ value. value_at self.now.replica key.now ≡ Some value.now)) }
+        ensures { IfOk result (λ found. MatchOption found (value_at self.now.replica key.now ≡ None)
+            (λ value. value_at self.now.replica key.now ≡ Some value.now)) }
     {
         let own_key = Vec::from_slice(alloc, key)?;
         match self.replica.row_at(&own_key) {
