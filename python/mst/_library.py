@@ -1,4 +1,4 @@
-"""The calls of mst.h, by ctypes. Nothing outside of the package needs it."""
+"""The calls of mst.h and mst_replica.h, by ctypes. Nothing outside of the package needs it."""
 import ctypes
 import functools
 import os
@@ -6,7 +6,7 @@ import sys
 import threading
 from typing import Any, Callable, ContextManager
 
-DONE, NO_MEMORY, MALFORMED, TOO_SHORT, BAD_ARGUMENT, ABSENT = range(6)
+DONE, NO_MEMORY, MALFORMED, TOO_SHORT, BAD_ARGUMENT, ABSENT, OTHER_SETTINGS, REFUSED = range(8)
 
 _HANDLE, _BYTES, _SIZE, _OUT = ctypes.c_void_p, ctypes.c_char_p, ctypes.c_size_t, ctypes.c_void_p
 _CALLS = {
@@ -29,7 +29,19 @@ _CALLS = {
     "mst_ranges_next": [_BYTES, _SIZE, _OUT, _OUT],
     "mst_rows_next": [_BYTES, _SIZE, _OUT, _OUT],
     "mst_version": [],
+    "mst_replica_new_with": [_HANDLE, _BYTES, ctypes.c_uint8, ctypes.c_uint8],
+    "mst_replica_free": [_HANDLE],
+    "mst_replica_put": [_HANDLE, _BYTES, _SIZE, _BYTES, _SIZE],
+    "mst_replica_get": [_HANDLE, _BYTES, _SIZE, _OUT, _SIZE, _OUT],
+    "mst_replica_len": [_HANDLE, _OUT],
+    "mst_replica_root_hash": [_HANDLE, _OUT],
+    "mst_replica_rows": [_HANDLE, _OUT, _SIZE, _OUT],
+    "mst_replica_message": [_HANDLE, _OUT, _SIZE, _OUT],
+    "mst_replica_answer": [_HANDLE, _BYTES, _SIZE, _OUT],
+    "mst_replica_ask": [_HANDLE, _OUT],
+    "mst_replica_take": [_HANDLE, _BYTES, _SIZE, _OUT, _OUT],
 }
+_RESULTS = {"mst_tree_free": None, "mst_replica_free": None, "mst_version": ctypes.c_char_p}
 
 
 class MalformedError(ValueError):
@@ -81,7 +93,7 @@ class _Library:
         for name, takes in _CALLS.items():
             call = getattr(loaded, name)
             call.argtypes = takes
-            call.restype = {"mst_tree_free": None, "mst_version": ctypes.c_char_p}.get(name, ctypes.c_int)
+            call.restype = _RESULTS.get(name, ctypes.c_int)
             setattr(self, name, call if locked else _one_at_a_time(call, lock))
 
     def __getattr__(self, name: str) -> "Callable[..., int]":
@@ -101,7 +113,7 @@ def check(status: int) -> None:
         raise MalformedError("the bytes are no such list, or its rows don't ascend")
     if status == ABSENT:
         raise KeyError
-    raise ValueError("the tree is closed")
+    raise ValueError("the tree or the replica is closed")
 
 
 def written(guess: int, call: "Callable[[Any, int, Any], int]") -> bytes:

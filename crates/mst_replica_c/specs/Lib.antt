@@ -1,0 +1,5 @@
+pub mod Calls
+pub mod Handles
+pub mod Owned
+pub mod Values
+pub mod Wire
