@@ -1,5 +1,5 @@
 //! Calls by which two replicas talk: the answering side, and the asking side.
-ghost use Rattle.std.specs.Prelude.{◌≡◌, ◌≢◌, ◌<◌, ◌↔◌, ◌⊎◌, None, length};
+ghost use Rattle.std.specs.Prelude.{◌≡◌, ◌≢◌, ◌↔◌, ◌⊎◌, None, length};
 ghost use Rattle.merkle_wire.specs.Messages.{front};
 ghost use Rattle.merkle_wire.specs.declared.message.Kind.TheVariants.{Refusal};
 ghost use Rattle.mst_replica_c.specs.Calls.{AsksOn, HasBegun, HasJoined, IsAnswered, IsCut, IsDropped, IsIdle, IsNoQuestion, IsOfOthers, SameMessage, SameRows, SameSession};
