@@ -7,8 +7,8 @@ ghost use Rattle.sqlite.specs.State.{IsUnchanged};
 ghost use Rattle.sqlite.specs.Held.{state};
 ghost use Rattle.store_table.specs.Entries.{entry_row};
 ghost use Rattle.store_table.specs.Changes.{IsBlank, IsNewStore, HasInstead};
-ghost use Rattle.store_table.specs.Connections.{database, HasStore, IsClean, IsCommitted, Makes, StaysInOk, StaysInErr, Leaves, LeavesNoMore};
-ghost use Rattle.store_table.specs.Faults.{IsForeign};
+ghost use Rattle.store_table.specs.Connections.{database, HasStore, IsClean, IsCommitted, IsUnderway, Makes, StaysInOk, StaysInErr, Leaves, LeavesNoMore};
+ghost use Rattle.store_table.specs.Faults.{IsForeign, IsUnwritten};
 ghost use Rattle.store_table.specs.Registers.{time_after, text_at, HasLastTime};
 ghost use Rattle.merkle_store.specs.Kept.{AreInStep, IsInStep, HasRegister, SameButFor, HasJoined};
 ghost use Rattle.merkle_store.specs.Writes.{register_of, later_entries, AreTimely, HasWrite, HasNews, StaysUnlessBehind};
@@ -44,6 +44,7 @@ pub struct Store<S: Alter + Drop> {
 pub fn create<S: Alter>(conn: &mut Connection<S>, writer: &str) -> Result<(), StoreFault>
     ensures kept { IsClean S.Store conn.new → OnOk result (AreInStep writer.now (database S.Store conn.new) []) }
     ensures foreign { IsErrOf result StoreFault.Foreign ↔ ¬ IsBlank (database S.Store conn.old) }
+    ensures underway { IsErrOf result StoreFault.Underway → IsUnderway S.Store conn.old }
     ensures refused { StaysInErr S.Store conn.old conn.new result }
 
     // A crash leaves what it could leave before, or a store without entries.
@@ -186,7 +187,7 @@ impl<S: Alter + Drop> Store<S> {
         ensures others { OnOk result (SameButFor key self.new.replica.rows self.old.replica.rows) }
         ensures added { Makes S.Store self.old.conn self.new.conn result (HasWrite self.old now key value) }
         ensures late { IsErrOf result StoreFault.Time → 2 ^ 63 ≤ time_after (get text_order self.old.replica.rows key) now }
-        ensures never { result ≢ Err StoreFault.Foreign }
+        ensures faults { IfErr result (λ why. why ≢ StoreFault.Behind → IsUnwritten why) }
 
         // Refused, the rows in memory stay, and the file's too, but for `Behind`.
         ensures memory { OnErr result (self.new.replica ≡ self.old.replica) }
@@ -236,6 +237,7 @@ impl<S: Alter + Drop> Store<S> {
         ensures added { Makes S.Store self.old.conn self.new.conn result (HasNews self.old entries.items) }
         ensures timely { OnOk result (AreTimely self.old.latest entries.items) }
         ensures future { IsErrOf result StoreFault.Future ↔ ¬ AreTimely self.old.latest entries.items }
+        ensures underway { IsErrOf result StoreFault.Underway → IsUnderway S.Store self.old.conn }
         ensures untouched { IsErrOf result StoreFault.Future → self.new ≡ self.old }
 
         // Refused, the rows in memory stay, and the file's too, but for `Behind`.
@@ -264,6 +266,7 @@ impl<S: Alter + Drop> Store<S> {
         ensures kept { IsClean S.Store self.new.conn → IsInStep S.Store self.old → OnOk result (IsInStep S.Store self.new) }
         ensures same { self.new.replica ≡ self.old.replica }
         ensures compacted { Makes S.Store self.old.conn self.new.conn result (HasInstead (map entry_row self.old.replica.rows)) }
+        ensures underway { IsErrOf result StoreFault.Underway → IsUnderway S.Store self.old.conn }
         ensures refused { HasStore S.Store self.old.conn → StaysInErr S.Store self.old.conn self.new.conn result }
 
         // A crash leaves what it could leave before, or a database with one row for each key, the one in memory.

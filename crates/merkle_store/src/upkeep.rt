@@ -7,8 +7,8 @@ ghost use Rattle.sqlite.specs.View.{doubt};
 ghost use Rattle.sqlite.specs.Held.{state};
 ghost use Rattle.store_table.specs.Entries.{entry_row};
 ghost use Rattle.store_table.specs.Changes.{HasMore, HasInstead};
-ghost use Rattle.store_table.specs.Connections.{HasStore, IsClean, IsCommitted, Finds, Makes, StaysInOk, StaysInErr, Leaves, LeavesNoMore};
-ghost use Rattle.store_table.specs.Faults.{IsFailure};
+ghost use Rattle.store_table.specs.Connections.{HasStore, IsClean, IsCommitted, IsUnderway, Finds, Makes, StaysInOk, StaysInErr, Leaves, LeavesNoMore};
+ghost use Rattle.store_table.specs.Faults.{IsFailure, IsUnwritten};
 ghost use Rattle.store_table.specs.declared.fault.StoreFault.TheVariants.{Behind};
 ghost use Rattle.merkle_store.specs.Kept.{same_register, later_register, AreRowsOf, HasJoined, StayInStep};
 ghost use Rattle.merkle_store.specs.Writes.{StaysUnlessBehind};
@@ -99,7 +99,7 @@ pub fn add_entry<S: Alter>(
     ensures joined { OnOk result (IsJoin text_order same_register later_register replica.old.rows ((key, register) ∷ []) replica.new.rows) }
     ensures added { Makes S.Store conn.old conn.new result (HasMore (entry_row (key, register) ∷ [])) }
     ensures late { IsErrOf result StoreFault.Time → 2 ^ 63 ≤ register.time }
-    ensures never { result ≢ Err StoreFault.Foreign }
+    ensures faults { IfErr result (λ why. why ≢ Behind → IsUnwritten why) }
 
     // Refused, the rows in memory stay, and the file's too, but for `Behind`.
     ensures memory { OnErr result (replica.new ≡ replica.old) }
@@ -127,7 +127,8 @@ pub fn add_entries<S: Alter>(
     ensures kept { StayInStep S.Store conn.old conn.new replica.old.rows replica.new.rows result }
     ensures joined { OnOk result (HasJoined replica.old.rows entries.items replica.new.rows) }
     ensures added { Makes S.Store conn.old conn.new result (HasMore (map entry_row entries.items)) }
-    ensures never { result ≢ Err StoreFault.Future }
+    ensures faults { IfErr result (λ why. why ≢ Behind → why ≢ StoreFault.Underway → IsUnwritten why) }
+    ensures underway { IsErrOf result StoreFault.Underway → IsUnderway S.Store conn.old }
 
     // Refused, the rows in memory stay, and the file's too, but for `Behind`.
     ensures memory { IfErr result (λ why. why ≢ Behind → replica.new ≡ replica.old) }
@@ -145,6 +146,8 @@ pub fn rewrite<S: Alter>(conn: &mut Connection<S>, replica: &EntryReplica) -> Re
     // The rows in memory are still those of the file.
     ensures kept { StayInStep S.Store conn.old conn.new replica.now.rows replica.now.rows result }
     ensures compacted { Makes S.Store conn.old conn.new result (HasInstead (map entry_row replica.now.rows)) }
+    ensures faults { IfErr result (λ why. why ≢ StoreFault.Underway → why ≢ StoreFault.Foreign → IsUnwritten why) }
+    ensures underway { IsErrOf result StoreFault.Underway → IsUnderway S.Store conn.old }
     ensures refused { HasStore S.Store conn.old → StaysInErr S.Store conn.old conn.new result }
 
     // A crash leaves what it could leave before, or a database with the rows in memory.

@@ -85,7 +85,7 @@ fn with_run<T: EncodeInRun>(
     Ok(message)
 }
 
-/// What a message asks for.
+/// What a message asks for. It reads the bytes once, in one pass, and takes memory for keys of at most 64 times as many.
 ///
 /// # Errors
 ///

@@ -59,7 +59,7 @@ pub struct Form {
     pub help: &'static str,
 }
 
-/// The command of this name.
+/// The command of this name. It compares the name with those of the fifteen commands, and takes no memory.
 pub fn verb_of(name: &str) -> Option<Verb>
     ensures { MatchOption result ((verb : VerbOf) → name.now ≢ verb_name verb) (λ verb. name.now ≡ verb_name verb) }
 {

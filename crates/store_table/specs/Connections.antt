@@ -23,6 +23,10 @@ module _ {S : Type 0} (g : Ghosts S) where
   abbrev pub IsCommitted : Held S → Type 0
   IsCommitted conn = database conn ≡ (state g conn).committed
 
+  -- a transaction is open on it
+  abbrev pub IsUnderway : Held S → Type 0
+  IsUnderway conn = IsTrue (state g conn).in_transaction
+
   -- a crash may leave no more than before
   abbrev pub LeavesNoMore : Held S → Held S → Type 0
   LeavesNoMore old new = Survives (state g old) (state g new) (λ _. ⊥)

@@ -11,6 +11,11 @@ IsFailure (fault.Database error) = ⊤
 IsFailure fault.Memory = ⊤
 IsFailure _ = ⊥
 
+-- so it is, or the database can't hold a time
+abbrev pub IsUnwritten : StoreFault → Type 0
+IsUnwritten fault.Time = ⊤
+IsUnwritten other = IsFailure other
+
 -- the database is no store: it has other tables, or the one that says the format has not just one row
 abbrev pub IsForeign : Database → Type 0
 IsForeign db = IsStore db → length (db.trees 1) ≢ 1

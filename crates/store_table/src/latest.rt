@@ -7,6 +7,7 @@ ghost use Rattle.sqlite.specs.View.{doubt};
 ghost use Rattle.store_table.specs.Entries.{shown};
 ghost use Rattle.store_table.specs.Changes.{HasMore};
 ghost use Rattle.store_table.specs.Connections.{database, HasStore, IsClean, IsCommitted, Finds, Makes, StaysInOk, StaysInErr, Leaves, LeavesNoMore};
+ghost use Rattle.store_table.specs.Faults.{IsFailure, IsUnwritten};
 ghost use Rattle.store_table.specs.Registers.{time_after, HasLastTime};
 ghost use Rattle.store_table.specs.Latest.{rows_of, later, latest, text_of, written_row, IsLatestAt, IsThere, WritesOver};
 
@@ -66,6 +67,7 @@ pub fn find<S: Alter>(
     key: &str,
 ) -> Result<Option<Register>, StoreFault>
     ensures latest { Finds S.Store conn.old conn.new result (λ db found. IsLatestAt db.trees key.now found) }
+    ensures failed { IfErr result IsFailure }
     ensures unchanged { HasStore S.Store conn.old → StaysInOk S.Store conn.old conn.new result }
     ensures crash { HasStore S.Store conn.old → LeavesNoMore S.Store conn.old conn.new }
 {
@@ -103,6 +105,7 @@ fn write_over<S: Alter>(
 ) -> Result<(), StoreFault>
     ensures clean { doubt (state S.Store conn.old).is_clean ≤ doubt (state S.Store conn.new).is_clean }
     ensures written { Makes S.Store conn.old conn.new result (HasMore (written_row key.now found.now writer now value ∷ [])) }
+    ensures faults { IfErr result IsUnwritten }
     ensures refused { IsCommitted S.Store conn.old → StaysInErr S.Store conn.old conn.new result }
     ensures crash { (IsClean S.Store conn.new → HasStore S.Store conn.old) → Leaves S.Store conn.old conn.new (HasMore (written_row key.now found.now writer now value ∷ [])) }
 {
@@ -129,6 +132,7 @@ pub fn put<S: Alter>(
     text: String,
 ) -> Result<(), StoreFault>
     ensures written { Makes S.Store conn.old conn.new result (WritesOver key.now writer now (Some text)) }
+    ensures faults { IfErr result IsUnwritten }
     // A crash leaves what it could leave before, or a database with the write.
     ensures crash { HasStore S.Store conn.old → Leaves S.Store conn.old conn.new (WritesOver key.now writer now (Some text)) }
 {
@@ -159,6 +163,7 @@ pub fn remove<S: Alter>(
     key: &str,
 ) -> Result<bool, StoreFault>
     ensures written { Finds S.Store conn.old conn.new result (λ db was. IsTrue was → WritesOver key.now writer now None db (database S.Store conn.new)) }
+    ensures faults { IfErr result IsUnwritten }
     ensures absent { Finds S.Store conn.old conn.new result (λ db was. was ≡ false → IsUnchanged (state S.Store conn.old) (state S.Store conn.new)) }
     // A crash leaves what it could leave before, or a database with the removal.
     ensures crash { HasStore S.Store conn.old → Leaves S.Store conn.old conn.new (WritesOver key.now writer now None) }

@@ -9,8 +9,8 @@ ghost use Rattle.sqlite.specs.Values.{bound};
 ghost use Rattle.sqlite.specs.declared.types.Value.TheVariants.{Int, Text};
 ghost use Rattle.store_table.specs.Entries.{shown, noted, two, four, entry_row, entry_row_of, IsNoted};
 ghost use Rattle.store_table.specs.Changes.{IsBlank, IsStore, HasEntryTable, HasBothTables, IsNewStore, KeepsAbout, HasMore, HasInstead, CommitsNothing};
-ghost use Rattle.store_table.specs.Connections.{database, HasStore, IsClean, IsCommitted, Finds, Makes, MakesInside, StaysInOk, StaysInErr, Leaves, LeavesNoMore};
-ghost use Rattle.store_table.specs.Faults.{IsFailure, IsForeign};
+ghost use Rattle.store_table.specs.Connections.{database, HasStore, IsClean, IsCommitted, IsUnderway, Finds, Makes, MakesInside, StaysInOk, StaysInErr, Leaves, LeavesNoMore};
+ghost use Rattle.store_table.specs.Faults.{IsFailure, IsForeign, IsUnwritten};
 
 use crate::fault::StoreFault;
 use crate::layout::{is_blank, is_of_store};
@@ -83,6 +83,7 @@ fn make<S: Alter>(transaction: &mut Transaction<'_, S>, writer: &str) -> Result<
 pub fn create<S: Alter>(conn: &mut Connection<S>, writer: &str) -> Result<(), StoreFault>
     ensures created { IsClean S.Store conn.new → OnOk result (IsNewStore FORMAT writer.now (database S.Store conn.new)) }
     ensures foreign { IsErrOf result StoreFault.Foreign ↔ ¬ IsBlank (database S.Store conn.old) }
+    ensures underway { IsErrOf result StoreFault.Underway → IsUnderway S.Store conn.old }
     ensures refused { StaysInErr S.Store conn.old conn.new result }
     ensures crash { Leaves S.Store conn.old conn.new (λ _. IsNewStore FORMAT writer.now) }
 {
@@ -213,7 +214,7 @@ pub fn add<S: Alter>(
     ensures clean { doubt (state S.Store conn.old).is_clean ≤ doubt (state S.Store conn.new).is_clean }
     ensures added { Makes S.Store conn.old conn.new result (HasMore (entry_row_of key.now register.now ∷ [])) }
     ensures late { IsErrOf result StoreFault.Time → 2 ^ 63 ≤ register.now.time }
-    ensures never { result ≢ Err StoreFault.Foreign }
+    ensures faults { IfErr result IsUnwritten }
     ensures refused { IsCommitted S.Store conn.old → StaysInErr S.Store conn.old conn.new result }
     ensures crash { (IsClean S.Store conn.new → HasStore S.Store conn.old) → Leaves S.Store conn.old conn.new (HasMore (entry_row_of key.now register.now ∷ [])) }
 {
@@ -235,7 +236,7 @@ fn add_within<S: Alter>(
     ensures same_reference { transaction.new.conn.ghost_name ≡ transaction.old.conn.ghost_name }
     ensures within { CommitsNothing (state S.Store transaction.old.conn.now) (state S.Store transaction.new.conn.now) }
     ensures added { MakesInside S.Store transaction.old.conn.now transaction.new.conn.now result IsStore (HasMore (entry_row_of key.now register.now ∷ [])) }
-    ensures never { result ≢ Err StoreFault.Future }
+    ensures faults { IfErr result IsUnwritten }
 {
     let time = stored_time(register)?;
     let values = values_of(key, time, register);
@@ -254,7 +255,7 @@ fn add_each<S: Alter>(
     ensures same_reference { transaction.new.conn.ghost_name ≡ transaction.old.conn.ghost_name }
     ensures within { CommitsNothing (state S.Store transaction.old.conn.now) (state S.Store transaction.new.conn.now) }
     ensures added { MakesInside S.Store transaction.old.conn.now transaction.new.conn.now result IsStore (HasMore (map entry_row entries.now)) }
-    ensures never { result ≢ Err StoreFault.Future }
+    ensures faults { IfErr result IsUnwritten }
 {
     'entries: for entry in entries {
         add_within(transaction, entry.0.as_str(), &entry.1)?;
@@ -268,7 +269,8 @@ pub fn add_all<S: Alter>(
     entries: &[(String, Register)],
 ) -> Result<(), StoreFault>
     ensures added { Makes S.Store conn.old conn.new result (HasMore (map entry_row entries.now)) }
-    ensures never { result ≢ Err StoreFault.Future }
+    ensures faults { IfErr result (λ why. why ≢ StoreFault.Underway → IsUnwritten why) }
+    ensures underway { IsErrOf result StoreFault.Underway → IsUnderway S.Store conn.old }
     ensures refused { HasStore S.Store conn.old → StaysInErr S.Store conn.old conn.new result }
     ensures crash { HasStore S.Store conn.old → Leaves S.Store conn.old conn.new (HasMore (map entry_row entries.now)) }
 {
@@ -310,6 +312,7 @@ fn clear<S: Alter>(transaction: &mut Transaction<'_, S>) -> Result<(), StoreFaul
     ensures within { IsTrue (state S.Store transaction.old.conn.now).in_transaction → HasStore S.Store transaction.old.conn.now
         → CommitsNothing (state S.Store transaction.old.conn.now) (state S.Store transaction.new.conn.now) }
     ensures cleared { MakesInside S.Store transaction.old.conn.now transaction.new.conn.now result IsStore (HasInstead []) }
+    ensures faults { IfErr result (λ why. why ≢ StoreFault.Foreign → IsUnwritten why) }
 {
     delete_entries(transaction)?;
     if !is_cleared(transaction)? {
@@ -327,6 +330,7 @@ fn replace<S: Alter>(
     ensures within { IsTrue (state S.Store transaction.old.conn.now).in_transaction → HasStore S.Store transaction.old.conn.now
         → CommitsNothing (state S.Store transaction.old.conn.now) (state S.Store transaction.new.conn.now) }
     ensures replaced { MakesInside S.Store transaction.old.conn.now transaction.new.conn.now result IsStore (HasInstead (map entry_row entries.now)) }
+    ensures faults { IfErr result (λ why. why ≢ StoreFault.Foreign → IsUnwritten why) }
 {
     clear(transaction)?;
     add_each(transaction, entries)
@@ -338,6 +342,8 @@ pub fn replace_all<S: Alter>(
     entries: &[(String, Register)],
 ) -> Result<(), StoreFault>
     ensures replaced { Makes S.Store conn.old conn.new result (HasInstead (map entry_row entries.now)) }
+    ensures faults { IfErr result (λ why. why ≢ StoreFault.Underway → why ≢ StoreFault.Foreign → IsUnwritten why) }
+    ensures underway { IsErrOf result StoreFault.Underway → IsUnderway S.Store conn.old }
     ensures refused { HasStore S.Store conn.old → StaysInErr S.Store conn.old conn.new result }
     ensures crash { HasStore S.Store conn.old → Leaves S.Store conn.old conn.new (HasInstead (map entry_row entries.now)) }
 {
