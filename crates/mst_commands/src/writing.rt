@@ -75,7 +75,7 @@ fn dated(
     now: u64,
     entry: (String, Register),
 ) -> Result<(String, Register), Fault> {
-    let time = match register_in(rows, entry.0.as_str()) {
+    let time = match register_in(rows, &entry.0) {
         Some(register) => register.time.checked_add(1),
         None => Some(now),
     };
@@ -110,7 +110,7 @@ fn all_dated(
 
 /// Whether an entry is later than what the rows have at its key.
 fn is_news(rows: &[(String, Register)], entry: &(String, Register)) -> bool {
-    match register_in(rows, entry.0.as_str()) {
+    match register_in(rows, &entry.0) {
         Some(own) => *own < entry.1,
         None => true,
     }
