@@ -1,4 +1,6 @@
 //! The time of writes.
+ghost use Rattle.std.specs.Prelude.{◌≡◌, ◌+◌, min, if◌then◌else◌};
+
 use crate::fault::Fault;
 use std::time::{SystemTime, UNIX_EPOCH};
 
@@ -20,7 +22,9 @@ pub fn now(rt: &HostRuntime) -> Result<u64, Fault> {
 }
 
 /// The latest time that an entry of another copy may have: a day ahead of the clock, unless any is taken.
-pub fn latest(now: u64, any: bool) -> u64 {
+pub fn latest(now: u64, any: bool) -> u64
+    ensures { result ≡ (if any then u64.MAX else min (now + AHEAD) u64.MAX) }
+{
     if any {
         u64::MAX
     } else {

@@ -1,8 +1,14 @@
 //! Texts of any characters in one line.
+ghost use Rattle.std.specs.Prelude.{◌≡◌, ◌<◌, ◌++◌, [], ◌∷◌, IfOk, OnOk, MatchOption, string_bytes, encode_utf8_all};
+ghost use Rattle.std.specs.Char.{digit_char};
+ghost use Rattle.mst_commands.specs.Escapes.{escaped, line_of, code_of, json_char, json_of};
+
 use std::alloc::{AllocError, Global};
 
 /// The letter that stands for a character behind a backslash in a list.
-fn letter_of(character: char) -> Option<char> {
+fn letter_of(character: char) -> Option<char>
+    ensures { MatchOption result (escaped character ≡ character ∷ []) (λ letter. escaped character ≡ 92 ∷ letter ∷ []) }
+{
     match character {
         '\t' => Some('t'),
         '\n' => Some('n'),
@@ -12,23 +18,54 @@ fn letter_of(character: char) -> Option<char> {
     }
 }
 
-/// A text in one line: a tab, a newline, a carriage return and a backslash are a backslash and a letter there.
-pub fn escape(alloc: Global, text: &str) -> Result<String, AllocError> {
-    let mut line = String::new(alloc);
-    for character in text.chars() {
-        match letter_of(character) {
-            Some(letter) => {
-                line.push('\\')?;
-                line.push(letter)?;
-            }
-            None => line.push(character)?,
+/// Appends a character as it stands in a line.
+fn push_escaped(line: &mut String, character: char) -> Result<(), AllocError>
+    ensures { OnOk result (string_bytes line.new ≡ string_bytes line.old ++ encode_utf8_all (escaped character)) }
+{
+    match letter_of(character) {
+        Some(letter) => {
+            line.push('\\')?;
+            line.push(letter)
         }
+        None => line.push(character),
+    }
+}
+
+/// A text in one line: a tab, a newline, a carriage return and a backslash are a backslash and a letter there.
+pub fn escape(alloc: Global, text: &str) -> Result<String, AllocError>
+    ensures { IfOk result (λ line. string_bytes line ≡ line_of text.now) }
+{
+    let mut line = String::new(alloc);
+    'characters: for character in text.chars() {
+        push_escaped(&mut line, character)?;
     }
     Ok(line)
 }
 
+/// The digit of a number below 16, in base 16.
+fn digit_of(number: u32) -> char
+    ensures { number < 16 → result ≡ digit_char number }
+{
+    match char::from_digit(number, 16) {
+        Some(digit) => digit,
+        None => '0',
+    }
+}
+
+/// Appends a character below a space as its number: four digits in base 16.
+fn push_code(line: &mut String, code: u32) -> Result<(), AllocError>
+    requires { code < 32 }
+    ensures { OnOk result (string_bytes line.new ≡ string_bytes line.old ++ encode_utf8_all (code_of code)) }
+{
+    line.push_str("\\u00")?;
+    line.push(digit_of(code / 16))?;
+    line.push(digit_of(code % 16))
+}
+
 /// Appends a character as it stands in a string of JSON.
-fn push_json(line: &mut String, character: char) -> Result<(), AllocError> {
+fn push_json(line: &mut String, character: char) -> Result<(), AllocError>
+    ensures { OnOk result (string_bytes line.new ≡ string_bytes line.old ++ encode_utf8_all (json_char character)) }
+{
     match character {
         '"' => line.push_str("\\\""),
         '\\' => line.push_str("\\\\"),
@@ -37,16 +74,7 @@ fn push_json(line: &mut String, character: char) -> Result<(), AllocError> {
         '\r' => line.push_str("\\r"),
         _ => {
             if character < ' ' {
-                let code = character as u32;
-                let digits = "0123456789abcdef".as_bytes();
-                let high = if code < 16 { '0' } else { '1' };
-                let low = match digits.get((code % 16) as usize) {
-                    Some(digit) => *digit as char,
-                    None => '0',
-                };
-                line.push_str("\\u00")?;
-                line.push(high)?;
-                line.push(low)
+                push_code(line, character as u32)
             } else {
                 line.push(character)
             }
@@ -55,10 +83,12 @@ fn push_json(line: &mut String, character: char) -> Result<(), AllocError> {
 }
 
 /// A text as a string of JSON, with its quotes.
-pub fn json_string(alloc: Global, text: &str) -> Result<String, AllocError> {
+pub fn json_string(alloc: Global, text: &str) -> Result<String, AllocError>
+    ensures { IfOk result (λ line. string_bytes line ≡ json_of text.now) }
+{
     let mut line = String::new(alloc);
     line.push('"')?;
-    for character in text.chars() {
+    'characters: for character in text.chars() {
         push_json(&mut line, character)?;
     }
     line.push('"')?;

@@ -1,4 +1,6 @@
 //! Why a command ends early.
+ghost use Rattle.std.specs.Prelude.{◌≡◌};
+
 use csv::ErrorKind;
 use sqlite::{Error, ErrorCode};
 use std::alloc::{AllocError, AllocFailed};
@@ -31,30 +33,53 @@ pub enum Fault {
 }
 
 impl From<StoreFault> for Fault {
+    ghost use Rattle.mst_commands.specs.declared.fault.Fault.TheVariants.{Store};
+
+    ghost from_gives = { λ fault made. made ≡ Store fault };
+
     fn from(fault: StoreFault) -> Self {
         Fault::Store(fault)
     }
 }
 
 impl From<Error> for Fault {
+    ghost use Rattle.store_table.specs.declared.fault.StoreFault.TheVariants.{Database};
+    ghost use Rattle.mst_commands.specs.declared.fault.Fault.TheVariants.{Store};
+
+    ghost from_gives = { λ error made. made ≡ Store (Database error) };
+
     fn from(error: Error) -> Self {
         Fault::Store(StoreFault::Database(error))
     }
 }
 
 impl From<AllocError> for Fault {
+    ghost use Rattle.store_table.specs.declared.fault.StoreFault.TheVariants.{Memory};
+    ghost use Rattle.mst_commands.specs.declared.fault.Fault.TheVariants.{Store};
+
+    ghost from_gives = { λ _ made. made ≡ Store Memory };
+
     fn from(_error: AllocError) -> Self {
         Fault::Store(StoreFault::Memory)
     }
 }
 
 impl<T: Drop> From<AllocFailed<T>> for Fault {
+    ghost use Rattle.store_table.specs.declared.fault.StoreFault.TheVariants.{Memory};
+    ghost use Rattle.mst_commands.specs.declared.fault.Fault.TheVariants.{Store};
+
+    ghost from_gives = { λ _ made. made ≡ Store Memory };
+
     fn from(_error: AllocFailed<T>) -> Self {
         Fault::Store(StoreFault::Memory)
     }
 }
 
 impl From<io::Error> for Fault {
+    ghost use Rattle.mst_commands.specs.declared.fault.Fault.TheVariants.{Device};
+
+    ghost from_gives = { λ _ made. made ≡ Device };
+
     fn from(_error: io::Error) -> Self {
         Fault::Device
     }

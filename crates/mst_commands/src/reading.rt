@@ -1,4 +1,10 @@
 //! The commands that read.
+ghost use Rattle.std.specs.Prelude.{◌≡◌, ◌≢◌, ◌++◌, [], ◌∷◌, OnOk, IsErrOf};
+ghost use Rattle.std.specs.Io.KnownBytes.{Appends};
+ghost use Rattle.store_table.specs.Connections.{database, HasStore, IsClean, Finds, StaysInOk, LeavesNoMore};
+ghost use Rattle.store_table.specs.Latest.{text_of as text_said};
+ghost use Rattle.mst_commands.specs.Reads.{IsTextAt, WritesText};
+
 use crate::bounds::Bounds;
 use crate::escape::{escape, json_string};
 use crate::fault::Fault;
@@ -9,16 +15,39 @@ use store_table::Register;
 use store_table::latest::find;
 use store_table::rows::{Summary, read_latest, read_log, summary_of};
 
+/// What a register says: a text, or none where there is no register or a removal.
+fn said_by(found: Option<Register>) -> Option<String>
+    ensures { result ≡ text_said found }
+{
+    match found {
+        Some(register) => register.value,
+        None => None,
+    }
+}
+
 /// The text of a key.
 fn text_of<S: Alter>(
     alloc: Global,
     conn: &mut Connection<S>,
     key: &str,
-) -> Result<Option<String>, Fault> {
-    match find(alloc, conn, key)? {
-        Some(register) => Ok(register.value),
-        None => Ok(None),
-    }
+) -> Result<Option<String>, Fault>
+    ensures text { Finds S.Store conn.old conn.new result (λ db text. IsTextAt db.trees key.now text) }
+    ensures never { result ≢ Err Fault.NoKey }
+    ensures unchanged { HasStore S.Store conn.old → StaysInOk S.Store conn.old conn.new result }
+    ensures crash { HasStore S.Store conn.old → LeavesNoMore S.Store conn.old conn.new }
+{
+    let found = find(alloc, conn, key)?;
+    Ok(said_by(found))
+}
+
+/// Writes a text, and a newline.
+fn write_text<W: Write>(out: &mut W, text: &str) -> Result<(), Fault>
+    ensures bytes { OnOk result (Appends (W.contents out.old) (W.contents out.new) (text.now ++ 10 ∷ [])) }
+    ensures never { result ≢ Err Fault.NoKey }
+{
+    out.write_all(text.as_bytes())?;
+    out.write_all(b"\n")?;
+    Ok(())
 }
 
 /// Writes the value of a key, and a newline.
@@ -31,13 +60,17 @@ pub fn get<S: Alter, W: Write>(
     conn: &mut Connection<S>,
     out: &mut W,
     key: &str,
-) -> Result<(), Fault> {
-    match text_of(alloc, conn, key)? {
-        Some(text) => {
-            out.write_all(text.as_bytes())?;
-            out.write_all(b"\n")?;
-            Ok(())
-        }
+) -> Result<(), Fault>
+    ensures written { HasStore S.Store conn.old → IsClean S.Store conn.new
+        → OnOk result (WritesText (database S.Store conn.old).trees key.now (W.contents out.old) (W.contents out.new)) }
+    ensures absent { HasStore S.Store conn.old → IsClean S.Store conn.new → IsErrOf result Fault.NoKey
+        → IsTextAt (database S.Store conn.old).trees key.now None }
+    ensures unchanged { HasStore S.Store conn.old → StaysInOk S.Store conn.old conn.new result }
+    ensures crash { HasStore S.Store conn.old → LeavesNoMore S.Store conn.old conn.new }
+{
+    let said = text_of(alloc, conn, key)?;
+    match said {
+        Some(text) => write_text(out, text.as_str()),
         None => Err(Fault::NoKey),
     }
 }

@@ -1,4 +1,17 @@
 //! The commands that write.
+ghost use Rattle.std.specs.Prelude.{◌≡◌, ◌≤◌, ◌<◌, ◌⊎◌, length, string_len, All, Any, IfOk, IfErr, OnOk, IsErrOf, true, false};
+ghost use Rattle.key_order.specs.Text.{text_order};
+ghost use Rattle.key_order.specs.Map.{IsMap, get};
+ghost use Rattle.sqlite.specs.State.{IsUnchanged};
+ghost use Rattle.sqlite.specs.Held.{state};
+ghost use Rattle.sqlite.specs.View.{doubt};
+ghost use Rattle.store_table.specs.Connections.{database, HasStore, IsClean, IsCommitted, Makes, StaysInOk, StaysInErr, Leaves, LeavesNoMore};
+ghost use Rattle.store_table.specs.Latest.{IsThere};
+ghost use Rattle.store_table.specs.Registers.{is_later};
+ghost use Rattle.mst_commands.specs.Faults.{IsTooLong};
+ghost use Rattle.mst_commands.specs.Writes.{WritesBy, HasEntriesMore};
+ghost use Rattle.mst_commands.specs.Imports.{IsDated};
+
 use crate::fault::Fault;
 use crate::records::{MOST, read_entries};
 use sqlite::{Alter, Connection};
@@ -10,7 +23,10 @@ use store_table::table::{Entries, add_all};
 use store_table::{Register, StoreFault};
 
 /// Refuses a key or a value of more than 1 MiB.
-pub fn within(text: &str, what: &'static str) -> Result<(), Fault> {
+pub fn within(text: &str, what: &'static str) -> Result<(), Fault>
+    ensures fits { OnOk result (length text.now ≤ MOST) }
+    ensures long { IfErr result (λ why. IsTooLong why × MOST < length text.now) }
+{
     if text.len() > MOST {
         return Err(Fault::TooLong(what));
     }
@@ -39,7 +55,15 @@ pub fn put_text<S: Alter>(
     now: u64,
     key: &str,
     text: String,
-) -> Result<(), Fault> {
+) -> Result<(), Fault>
+    ensures written { Makes S.Store conn.old conn.new result (WritesBy key.now writer.now now (Some text)) }
+    // A key or a value that is too long is refused, and nothing is written.
+    ensures fits { OnOk result (length key.now ≤ MOST × string_len text ≤ MOST) }
+    ensures long { IfErr result (λ why. IsTooLong why → MOST < length key.now ⊎ MOST < string_len text) }
+    ensures untouched { IfErr result (λ why. IsTooLong why → conn.new ≡ conn.old) }
+    // A crash leaves what it could leave before, or a database with the write.
+    ensures crash { HasStore S.Store conn.old → Leaves S.Store conn.old conn.new (WritesBy key.now writer.now now (Some text)) }
+{
     within(key, "the key")?;
     within(text.as_str(), "the value")?;
     let writer = String::from_str(alloc, writer)?;
@@ -58,13 +82,20 @@ pub fn del<S: Alter>(
     writer: &str,
     now: u64,
     key: &str,
-) -> Result<(), Fault> {
+) -> Result<(), Fault>
+    ensures written { Makes S.Store conn.old conn.new result (WritesBy key.now writer.now now None) }
+    ensures there { HasStore S.Store conn.old → IsClean S.Store conn.new → OnOk result (IsThere (database S.Store conn.old).trees key.now true) }
+    // Where the key isn't there, nothing is written.
+    ensures absent { HasStore S.Store conn.old → IsClean S.Store conn.new → IsErrOf result Fault.NoKey
+        → IsThere (database S.Store conn.old).trees key.now false }
+    ensures untouched { HasStore S.Store conn.old → IsClean S.Store conn.new → IsErrOf result Fault.NoKey
+        → IsUnchanged (state S.Store conn.old) (state S.Store conn.new) }
+    // A crash leaves what it could leave before, or a database with the removal.
+    ensures crash { HasStore S.Store conn.old → Leaves S.Store conn.old conn.new (WritesBy key.now writer.now now None) }
+{
     let writer = String::from_str(alloc, writer)?;
-    if remove(alloc, conn, writer, now, key)? {
-        Ok(())
-    } else {
-        Err(Fault::NoKey)
-    }
+    let there = remove(alloc, conn, writer, now, key)?;
+    if there { Ok(()) } else { Err(Fault::NoKey) }
 }
 
 /// An entry that is written now over what the rows have at its key.
@@ -74,8 +105,10 @@ fn dated(
     writer: &str,
     now: u64,
     entry: (String, Register),
-) -> Result<(String, Register), Fault> {
-    let time = match register_in(rows, entry.0.as_str()) {
+) -> Result<(String, Register), Fault>
+    ensures { IsMap text_order rows.now → IfOk result (λ dated. IsDated rows.now writer.now now entry dated) }
+{
+    let time = match register_in(rows, &entry.0) {
         Some(register) => register.time.checked_add(1),
         None => Some(now),
     };
@@ -109,16 +142,21 @@ fn all_dated(
 }
 
 /// Whether an entry is later than what the rows have at its key.
-fn is_news(rows: &[(String, Register)], entry: &(String, Register)) -> bool {
-    match register_in(rows, entry.0.as_str()) {
+fn is_news(rows: &[(String, Register)], entry: &(String, Register)) -> bool
+    ensures { IsMap text_order rows.now → result ≡ is_later (get text_order rows.now entry.now.0) entry.now.1 }
+{
+    match register_in(rows, &entry.0) {
         Some(own) => *own < entry.1,
         None => true,
     }
 }
 
 /// Refuses entries whose time is above the latest that is taken.
-fn not_above(entries: &[(String, Register)], latest: u64) -> Result<(), Fault> {
-    for entry in entries {
+fn not_above(entries: &[(String, Register)], latest: u64) -> Result<(), Fault>
+    ensures timely { OnOk result (All (λ entry. entry.1.time ≤ latest) entries.now) }
+    ensures future { IfErr result (λ why. (why ≡ Fault.Store StoreFault.Future) × Any (λ entry. latest < entry.1.time) entries.now) }
+{
+    'entries: for entry in entries {
         if entry.1.time > latest {
             return Err(Fault::Store(StoreFault::Future));
         }
@@ -134,7 +172,12 @@ fn entries_to_add<S: Alter>(
     now: u64,
     entries: Entries,
     log: Option<u64>,
-) -> Result<Entries, Fault> {
+) -> Result<Entries, Fault>
+    ensures unchanged { HasStore S.Store conn.old → StaysInOk S.Store conn.old conn.new result }
+    ensures refused { HasStore S.Store conn.old → IsCommitted S.Store conn.old → StaysInErr S.Store conn.old conn.new result }
+    ensures clean { doubt (state S.Store conn.old).is_clean ≤ doubt (state S.Store conn.new).is_clean }
+    ensures crash { HasStore S.Store conn.old → LeavesNoMore S.Store conn.old conn.new }
+{
     let rows = read_latest(alloc, conn)?;
     let mut news = latest_rows(entries);
     let Some(latest) = log else {
@@ -158,9 +201,14 @@ pub fn import<S: Alter, R: Read + Drop>(
     now: u64,
     from: R,
     log: Option<u64>,
-) -> Result<(), Fault> {
-    let entries = read_entries(alloc, from, log.is_some())?;
-    let entries = entries_to_add(alloc, conn, writer, now, entries, log)?;
-    add_all(conn, &entries)?;
+) -> Result<(), Fault>
+    ensures written { Makes S.Store conn.old conn.new result HasEntriesMore }
+    ensures refused { HasStore S.Store conn.old → IsCommitted S.Store conn.old → StaysInErr S.Store conn.old conn.new result }
+    // A crash leaves what it could leave before, or a database with all that is imported.
+    ensures crash { HasStore S.Store conn.old → Leaves S.Store conn.old conn.new HasEntriesMore }
+{
+    let came = read_entries(alloc, from, log.is_some())?;
+    let added = entries_to_add(alloc, conn, writer, now, came, log)?;
+    add_all(conn, &added)?;
     Ok(())
 }

@@ -75,7 +75,7 @@ insert_plain : IsPlain (understood store_schema insert_text)
 unfolding understood everything
 insert_plain = (refl, refl)
 
-select_plain : IsPlain (understood store_schema select_text)
+pub select_plain : IsPlain (understood store_schema select_text)
 unfolding understood everything
 select_plain = (refl, refl)
 

@@ -4,3 +4,5 @@ pub mod EntryLemmas
 pub mod AboutLemmas
 pub mod LatestLemmas
 pub mod Outcomes
+pub mod RowLemmas
+pub mod ReadLemmas

@@ -1,5 +1,5 @@
 -- What follows from a call that succeeds.
-use Rattle.std.proofs.Common.{◌≡◌, OnOk, OnErr, IfOk, Result, Ok, Err}
+use Rattle.std.proofs.Common.{◌≡◌, OnOk, OnErr, IfOk, IfErr, Result, Ok, Err}
 
 pub on_ok : {A E : Type 0} (r : Result A E) (P Q : Type 0) → (P → Q) → OnOk r P → OnOk r Q
 on_ok (Ok x) P Q f h = f h
@@ -20,3 +20,7 @@ of_ok (Err e) P x is h = absurd (let k = is in cc)
 pub on_err : {A E : Type 0} (r : Result A E) (P : Type 0) → P → OnErr r P
 on_err (Ok x) P h = tt
 on_err (Err e) P h = h
+
+pub to_on_err : {A E : Type 0} (r : Result A E) (P : E → Type 0) (Q : Type 0) → ((e : E) → P e → Q) → IfErr r P → OnErr r Q
+to_on_err (Ok x) P Q f h = tt
+to_on_err (Err e) P Q f h = f e h

@@ -7,3 +7,4 @@ pub mod Registers
 pub mod RegisterBytes
 pub mod RegisterLaws
 pub mod WireRegisters
+pub mod Rows

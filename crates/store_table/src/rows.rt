@@ -1,9 +1,22 @@
 //! What the table holds, without a tree: each key with its latest register.
+ghost use Rattle.std.specs.Prelude.{◌≡◌, ◌≤◌, length, filter, count_by, IfOk, IfErr};
+ghost use Rattle.std.specs.Option.{option_copied};
+ghost use Rattle.key_order.specs.Text.{text_order};
+ghost use Rattle.key_order.specs.Map.{IsMap, get};
+ghost use Rattle.merkle_replica.specs.Places.{IsPlaceOf, IsGapFor};
+ghost use Rattle.sqlite.specs.Held.{state};
+ghost use Rattle.sqlite.specs.View.{doubt};
+ghost use Rattle.store_table.specs.Entries.{HoldsEntries};
+ghost use Rattle.store_table.specs.Connections.{database, HasStore, IsClean, IsCommitted, Finds, Makes, StaysInOk, StaysInErr, Leaves, LeavesNoMore};
+ghost use Rattle.store_table.specs.Faults.{IsFailure};
+ghost use Rattle.store_table.specs.Rows.{AreLatest, HasLatestRows, IsCompacted, stays, says_text, is_removal, last_time};
+
 use crate::fault::StoreFault;
 use crate::register::Register;
 use crate::table::{Entries, entries_of, read_rows, replace_all};
 use sqlite::{Alter, Connection};
 use std::alloc::Global;
+use std::cmp::Ordering;
 
 /// What the file holds, in numbers.
 #[derive(Clone, Copy, Debug, PartialEq, Eq, Drop)]
@@ -21,13 +34,22 @@ pub struct Summary {
 /// # Errors
 ///
 /// [`StoreFault::Database`] and [`StoreFault::Memory`].
-pub fn read_log<S: Alter>(alloc: Global, conn: &mut Connection<S>) -> Result<Entries, StoreFault> {
+pub fn read_log<S: Alter>(alloc: Global, conn: &mut Connection<S>) -> Result<Entries, StoreFault>
+    ensures held { Finds S.Store conn.old conn.new result (λ db entries. HoldsEntries db.trees entries.items) }
+    ensures failed { IfErr result IsFailure }
+    ensures unchanged { HasStore S.Store conn.old → StaysInOk S.Store conn.old conn.new result }
+    ensures refused { HasStore S.Store conn.old → IsCommitted S.Store conn.old → StaysInErr S.Store conn.old conn.new result }
+    ensures clean { doubt (state S.Store conn.old).is_clean ≤ doubt (state S.Store conn.new).is_clean }
+    ensures crash { HasStore S.Store conn.old → LeavesNoMore S.Store conn.old conn.new }
+{
     let rows = read_rows(conn)?;
     entries_of(alloc, &rows)
 }
 
 /// Of each key the latest entry, ascending by key.
-pub fn latest_rows(entries: Entries) -> Entries {
+pub fn latest_rows(entries: Entries) -> Entries
+    ensures { AreLatest entries.items result.items }
+{
     let mut rows = entries;
     rows.sort_unstable();
     rows.reverse();
@@ -41,16 +63,34 @@ pub fn latest_rows(entries: Entries) -> Entries {
 /// # Errors
 ///
 /// [`StoreFault::Database`] and [`StoreFault::Memory`].
-pub fn read_latest<S: Alter>(
-    alloc: Global,
-    conn: &mut Connection<S>,
-) -> Result<Entries, StoreFault> {
+pub fn read_latest<S: Alter>(alloc: Global, conn: &mut Connection<S>) -> Result<Entries, StoreFault>
+    ensures latest { Finds S.Store conn.old conn.new result (λ db rows. HasLatestRows db.trees rows.items) }
+    ensures failed { IfErr result IsFailure }
+    ensures unchanged { HasStore S.Store conn.old → StaysInOk S.Store conn.old conn.new result }
+    ensures refused { HasStore S.Store conn.old → IsCommitted S.Store conn.old → StaysInErr S.Store conn.old conn.new result }
+    ensures clean { doubt (state S.Store conn.old).is_clean ≤ doubt (state S.Store conn.new).is_clean }
+    ensures crash { HasStore S.Store conn.old → LeavesNoMore S.Store conn.old conn.new }
+{
     Ok(latest_rows(read_log(alloc, conn)?))
 }
 
-/// The register of a key among ascending rows.
-pub fn register_in<'a>(rows: &'a [(String, Register)], key: &str) -> Option<&'a Register> {
-    match rows.binary_search_by(|row| row.0.as_str().cmp(key)) {
+/// Where the key is among ascending rows, or where it would go.
+fn place(rows: &[(String, Register)], key: &String) -> Result<usize, usize>
+    ensures found { IsMap text_order rows.now → IfOk result (λ at. IsPlaceOf text_order key.now rows.now at) }
+    ensures absent { IsMap text_order rows.now → IfErr result (λ at. IsGapFor text_order key.now rows.now at) }
+{
+    rows.binary_search_by(
+        |row: &(String, Register)| -> Ordering
+            ensures { result ≡ text_order row.now.0 key.entry.now }
+        { row.0.cmp(key) },
+    )
+}
+
+/// The register of a key among ascending rows, which is found by halving.
+pub fn register_in<'a>(rows: &'a [(String, Register)], key: &String) -> Option<&'a Register>
+    ensures { IsMap text_order rows.now → option_copied result ≡ get text_order rows.now key.now }
+{
+    match place(rows, key) {
         Ok(at) => match rows.get(at) {
             Some(row) => Some(&row.1),
             None => None,
@@ -60,37 +100,52 @@ pub fn register_in<'a>(rows: &'a [(String, Register)], key: &str) -> Option<&'a 
 }
 
 /// What rows hold, in numbers.
-pub fn summary_of(rows: &[(String, Register)]) -> Summary {
-    let mut keys = 0usize;
-    let mut removed = 0usize;
+pub fn summary_of(rows: &[(String, Register)]) -> Summary
+    ensures keys { result.keys ≡ count_by says_text rows.now }
+    ensures removed { result.removed ≡ count_by is_removal rows.now }
+    ensures last { result.last ≡ last_time rows.now }
+{
     let mut last = 0u64;
     for row in rows {
-        if row.1.value.is_some() {
-            keys = keys.saturating_add(1);
-        } else {
-            removed = removed.saturating_add(1);
-        }
         last = last.max(row.1.time);
     }
     Summary {
-        keys,
-        removed,
+        keys: rows.iter().filter(|row| row.1.value.is_some()).count(),
+        removed: rows.iter().filter(|row| row.1.value.is_none()).count(),
         last,
     }
+}
+
+/// Takes out the rows of removals that are older than `before`.
+fn forget(rows: &mut Entries, before: u64)
+    ensures { rows.new.items ≡ filter (stays before) rows.old.items }
+{
+    rows.retain(
+        |row: &(String, Register)| -> bool
+            ensures { result ≡ stays before row.now }
+        { row.1.value.is_some() || row.1.time >= before },
+    );
 }
 
 /// Leaves one row in the table for each key, and none for a removal that is older than `before`, and answers how many are left.
 ///
 /// # Errors
 ///
-/// [`StoreFault::Database`] and [`StoreFault::Memory`]: the file is then as it was.
+/// [`StoreFault::Underway`] where a transaction is open already, [`StoreFault::Database`] and [`StoreFault::Memory`]: the file is then as
+/// it was.
 pub fn compact<S: Alter>(
     alloc: Global,
     conn: &mut Connection<S>,
     before: u64,
-) -> Result<usize, StoreFault> {
+) -> Result<usize, StoreFault>
+    ensures compacted { Makes S.Store conn.old conn.new result (IsCompacted before) }
+    ensures left { Finds S.Store conn.old conn.new result (λ db left. left ≡ length ((database S.Store conn.new).trees 0)) }
+    ensures refused { HasStore S.Store conn.old → IsCommitted S.Store conn.old → StaysInErr S.Store conn.old conn.new result }
+    // A crash leaves what it could leave before, or the compacted database.
+    ensures crash { HasStore S.Store conn.old → Leaves S.Store conn.old conn.new (IsCompacted before) }
+{
     let mut rows = read_latest(alloc, conn)?;
-    rows.retain(|row| row.1.value.is_some() || row.1.time >= before);
+    forget(&mut rows, before);
     replace_all(conn, &rows)?;
     Ok(rows.len())
 }

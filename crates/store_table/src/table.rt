@@ -156,6 +156,7 @@ fn entry_of(row: &Row) -> Result<(String, Register), Error>
 /// All rows of the table.
 pub fn read_rows<S: Alter>(conn: &mut Connection<S>) -> Result<Vec<Row>, Error>
     ensures clean { doubt (state S.Store conn.old).is_clean ≤ doubt (state S.Store conn.new).is_clean }
+    ensures refused { HasStore S.Store conn.old → IsCommitted S.Store conn.old → StaysInErr S.Store conn.old conn.new result }
     ensures rows { Finds S.Store conn.old conn.new result (λ db rows. IsPermutation (map shown (db.trees 0)) rows.items) }
     ensures unchanged { HasStore S.Store conn.old → StaysInOk S.Store conn.old conn.new result }
     ensures crash { (IsClean S.Store conn.new → HasStore S.Store conn.old) → LeavesNoMore S.Store conn.old conn.new }
@@ -268,11 +269,12 @@ pub fn add_all<S: Alter>(
     conn: &mut Connection<S>,
     entries: &[(String, Register)],
 ) -> Result<(), StoreFault>
+    ensures clean { doubt (state S.Store conn.old).is_clean ≤ doubt (state S.Store conn.new).is_clean }
     ensures added { Makes S.Store conn.old conn.new result (HasMore (map entry_row entries.now)) }
     ensures faults { IfErr result (λ why. why ≢ StoreFault.Underway → IsUnwritten why) }
     ensures underway { IsErrOf result StoreFault.Underway → IsUnderway S.Store conn.old }
     ensures refused { HasStore S.Store conn.old → StaysInErr S.Store conn.old conn.new result }
-    ensures crash { HasStore S.Store conn.old → Leaves S.Store conn.old conn.new (HasMore (map entry_row entries.now)) }
+    ensures crash { (IsClean S.Store conn.new → HasStore S.Store conn.old) → Leaves S.Store conn.old conn.new (HasMore (map entry_row entries.now)) }
 {
     if !conn.is_autocommit() {
         return Err(StoreFault::Underway);
@@ -309,8 +311,9 @@ fn is_cleared<S: Alter>(transaction: &mut Transaction<'_, S>) -> Result<bool, Er
 /// Takes out all entries within a transaction. That none is left is tested, which takes no time.
 fn clear<S: Alter>(transaction: &mut Transaction<'_, S>) -> Result<(), StoreFault>
     ensures same_reference { transaction.new.conn.ghost_name ≡ transaction.old.conn.ghost_name }
-    ensures within { IsTrue (state S.Store transaction.old.conn.now).in_transaction → HasStore S.Store transaction.old.conn.now
-        → CommitsNothing (state S.Store transaction.old.conn.now) (state S.Store transaction.new.conn.now) }
+    ensures survives { LeavesNoMore S.Store transaction.old.conn.now transaction.new.conn.now }
+    ensures kept { IsTrue (state S.Store transaction.old.conn.now).in_transaction → HasStore S.Store transaction.old.conn.now
+        → IsClean S.Store transaction.new.conn.now → KeepsCommit (state S.Store transaction.old.conn.now) (state S.Store transaction.new.conn.now) }
     ensures cleared { MakesInside S.Store transaction.old.conn.now transaction.new.conn.now result IsStore (HasInstead []) }
     ensures faults { IfErr result (λ why. why ≢ StoreFault.Foreign → IsUnwritten why) }
 {
@@ -327,8 +330,9 @@ fn replace<S: Alter>(
     entries: &[(String, Register)],
 ) -> Result<(), StoreFault>
     ensures same_reference { transaction.new.conn.ghost_name ≡ transaction.old.conn.ghost_name }
-    ensures within { IsTrue (state S.Store transaction.old.conn.now).in_transaction → HasStore S.Store transaction.old.conn.now
-        → CommitsNothing (state S.Store transaction.old.conn.now) (state S.Store transaction.new.conn.now) }
+    ensures survives { LeavesNoMore S.Store transaction.old.conn.now transaction.new.conn.now }
+    ensures kept { IsTrue (state S.Store transaction.old.conn.now).in_transaction → HasStore S.Store transaction.old.conn.now
+        → IsClean S.Store transaction.new.conn.now → KeepsCommit (state S.Store transaction.old.conn.now) (state S.Store transaction.new.conn.now) }
     ensures replaced { MakesInside S.Store transaction.old.conn.now transaction.new.conn.now result IsStore (HasInstead (map entry_row entries.now)) }
     ensures faults { IfErr result (λ why. why ≢ StoreFault.Foreign → IsUnwritten why) }
 {
@@ -341,11 +345,12 @@ pub fn replace_all<S: Alter>(
     conn: &mut Connection<S>,
     entries: &[(String, Register)],
 ) -> Result<(), StoreFault>
+    ensures clean { doubt (state S.Store conn.old).is_clean ≤ doubt (state S.Store conn.new).is_clean }
     ensures replaced { Makes S.Store conn.old conn.new result (HasInstead (map entry_row entries.now)) }
     ensures faults { IfErr result (λ why. why ≢ StoreFault.Underway → why ≢ StoreFault.Foreign → IsUnwritten why) }
     ensures underway { IsErrOf result StoreFault.Underway → IsUnderway S.Store conn.old }
     ensures refused { HasStore S.Store conn.old → StaysInErr S.Store conn.old conn.new result }
-    ensures crash { HasStore S.Store conn.old → Leaves S.Store conn.old conn.new (HasInstead (map entry_row entries.now)) }
+    ensures crash { (IsClean S.Store conn.new → HasStore S.Store conn.old) → Leaves S.Store conn.old conn.new (HasInstead (map entry_row entries.now)) }
 {
     if !conn.is_autocommit() {
         return Err(StoreFault::Underway);

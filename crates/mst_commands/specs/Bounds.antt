@@ -1,0 +1,15 @@
+-- Which keys a list shows.
+use Rattle.std.specs.Prelude.{ℕ, nat_eq, Bool, true, ◌&&◌, List, Option}
+use Rattle.std.specs.Cmp.Lexicographic.{slice_cmp}
+use Rattle.std.specs.List.{starts_with}
+use Rattle.std.specs.Option.{option_map_or}
+use Rattle.std.specs.Ordering.{is_le, nat_cmp}
+
+-- whether a text is at most another, by the order of bytes
+abbrev pub upto : List ℕ → List ℕ → Bool
+upto a b = is_le (slice_cmp nat_cmp a b)
+
+-- whether a key is at least the first, at most the last, and begins with the bytes of the prefix, where these are given
+abbrev pub are_around : Option (List ℕ) → Option (List ℕ) → Option (List ℕ) → List ℕ → Bool
+are_around first last prefix key =
+    option_map_or (λ from. upto from key) first true && (option_map_or (λ to. upto key to) last true && option_map_or (λ front. starts_with nat_eq key front) prefix true)

@@ -1,0 +1,27 @@
+-- Characters in one line, and in a string of JSON.
+use Rattle.std.specs.Prelude.{ℕ, ◌/◌, ◌%◌, List, [], ◌∷◌, ◌++◌, ◌==◌, nat_lt, cond, encode_utf8_all, codes}
+use Rattle.std.specs.Char.{digit_char}
+use Rattle.std.specs.List.{flat_map}
+use Rattle.std.specs.Str.{chars}
+
+-- a tab, a newline, a carriage return and a backslash are a backslash and a letter
+abbrev pub escaped : ℕ → List ℕ
+escaped c = cond (c == 9) (codes "\\t") (cond (c == 10) (codes "\\n") (cond (c == 13) (codes "\\r") (cond (c == 92) (codes "\\\\") (c ∷ []))))
+
+-- a text in one line
+abbrev pub line_of : List ℕ → List ℕ
+line_of text = encode_utf8_all (flat_map escaped (chars text))
+
+-- a number below 32 as a backslash, the letter u and four digits in base 16
+abbrev pub code_of : ℕ → List ℕ
+code_of c = codes "\\u00" ++ digit_char (c / 16) ∷ digit_char (c % 16) ∷ []
+
+-- in JSON a quote is a backslash and a quote too, and each other character below a space is its number
+abbrev pub json_char : ℕ → List ℕ
+json_char c =
+    cond (c == 34) (codes "\\\"") (cond (c == 92) (codes "\\\\") (cond (c == 9) (codes "\\t") (cond (c == 10) (codes "\\n") (cond (c == 13) (codes "\\r")
+    (cond (nat_lt c 32) (code_of c) (c ∷ []))))))
+
+-- a text as a string of JSON
+abbrev pub json_of : List ℕ → List ℕ
+json_of text = codes "\"" ++ (encode_utf8_all (flat_map json_char (chars text)) ++ codes "\"")

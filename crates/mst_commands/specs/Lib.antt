@@ -1,0 +1,6 @@
+pub mod Bounds
+pub mod Escapes
+pub mod Faults
+pub mod Imports
+pub mod Reads
+pub mod Writes
