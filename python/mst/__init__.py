@@ -9,11 +9,11 @@
 """
 from ._library import MalformedError, version
 from ._ranges import KeyRange, KeyRanges, PageRange, PageRanges, diff, unshared
-from ._replica import HeldReplica, RefusedError
+from ._replica import MESSAGES, REFUSAL, HeldReplica, RefusedError
 from ._store import Store
 from ._sync import LIMIT, Replica, Synced, sync, sync_steps, sync_streams
 from ._tree import Page, Tree
 
 __version__ = version()
-__all__ = ["HeldReplica", "LIMIT", "KeyRange", "KeyRanges", "MalformedError", "Page", "PageRange", "PageRanges", "RefusedError", "Replica", "Store", "Synced",
-           "Tree", "diff", "sync", "sync_steps", "sync_streams", "unshared", "version"]
+__all__ = ["HeldReplica", "LIMIT", "KeyRange", "KeyRanges", "MESSAGES", "MalformedError", "Page", "PageRange", "PageRanges", "REFUSAL",
+           "RefusedError", "Replica", "Store", "Synced", "Tree", "diff", "sync", "sync_steps", "sync_streams", "unshared", "version"]

@@ -1,15 +1,23 @@
-"""Replicas: rows held in memory, and a sync of two of them whose cost is what differs.
+"""Replicas: rows in memory with their tree, and catch-ups with others by messages, whose cost is what differs.
 
-The calls are those of mst_replica.h, and the messages those of docs/WIRE.md, of keys and values that are byte strings.
+The calls are those of mst_replica.h. The messages are those of docs/WIRE.md, where keys and values are byte strings.
 """
+import contextlib
 import ctypes
 import struct
-from typing import Callable, Dict, Iterable, Iterator, Mapping, Optional, Tuple, Union
+import threading
+from typing import Callable, Dict, Generator, ItemsView, Iterator, KeysView, Mapping, NoReturn, Optional, Tuple, ValuesView
 
-from ._library import ABSENT, MALFORMED, OTHER_SETTINGS, REFUSED, MalformedError, check, library, written
+from ._library import ABSENT, DONE, MALFORMED, OTHER_SETTINGS, REFUSED, TOO_SHORT, MalformedError, check, library, written
+from ._sync import LIMIT
+from ._tree import Rows
 
-LIMIT = 1 << 28
-"""How many bytes a message of the peer may have, where no other limit is given. A reply ends by 64 MiB, with the entry that reaches them."""
+MESSAGES = 1 << 16
+"""How many questions one catch-up asks or is answered, where no other number is given. A peer that keeps to the messages needs far fewer
+than a thousand, and one for each further 64 MiB."""
+
+REFUSAL = b"\x01\xff"
+"""The message that says that a question was refused."""
 
 _PIECE = 1 << 16
 _pack = struct.Struct("<Q").pack
@@ -17,34 +25,47 @@ _number = struct.Struct("<Q").unpack_from
 
 Read = Callable[[int], bytes]
 Write = Callable[[bytes], object]
+Steps = Generator[bytes, bytes, int]
 
 
 class RefusedError(ValueError):
-    """The peer refused what was asked, as where its settings are others."""
+    """A catch-up was refused by the side that was asked: mostly since the other side has another key of SipHash, level base or page format."""
 
 
-class HeldReplica:
-    """A map from byte strings to byte strings with its Merkle search tree, which catches up with others by messages.
+class HeldReplica(Mapping[bytes, bytes]):
+    """Rows in memory with the tree over them, which catch up with those of other replicas. It is read as a dict whose keys are in their order.
 
-    Of two values under one key the greater stays, as Python orders bytes. So put in front what is to decide, such as eight bytes of time, the
-    highest first, and the last writer wins; a removal is a value that says so.
+    Of two values under one key the greater stays, as Python orders bytes: so replicas that have caught up with each other hold the same rows,
+    whatever the order. This is why nothing is set and nothing deleted: `put` joins a value with the one that is there. Begin each value by
+    what is to decide, such as eight bytes of time, the highest first, and the last writer wins; for a removal put a value that says so.
 
     >>> office, laptop = HeldReplica({b"kiwi": b"1130 one"}), HeldReplica({b"kiwi": b"1207 two", b"melon": b"1208 six"})
-    >>> office.catch_up(laptop.answer)
-    2
-    >>> office[b"kiwi"], len(office)
-    (b'1207 two', 2)
+    >>> office.put(b"apple", b"1131 ten")
+    >>> office.put(b"apple", b"1055 two")
+    >>> office[b"apple"], office.get(b"melon"), b"kiwi" in office, len(office), list(office)
+    (b'1131 ten', None, True, 2, [b'apple', b'kiwi'])
+    >>> steps = office.catch_up_steps()
+    >>> try:
+    ...     question = next(steps)
+    ...     while True:
+    ...         question = steps.send(laptop.answer(question))
+    ... except StopIteration as end:
+    ...     print(end.value, "rows came")
+    2 rows came
+    >>> dict(office)
+    {b'apple': b'1131 ten', b'kiwi': b'1207 two', b'melon': b'1208 six'}
 
-    ValueError where it is closed, in every call but `close`; MemoryError where memory is refused; TypeError where a key or a value is none of
-    bytes. One thread at a time may use a replica.
+    Any thread may use a replica, to answer many peers too. But it is in one catch-up at a time: where another begins, the one before raises
+    ValueError. It holds memory outside of Python, which `close`, a `with` statement or the collector gives back. ValueError where it is
+    closed, in every call but `close`; MemoryError where memory is refused, and then the rows are as before but for a catch-up; TypeError
+    where a key, a value or a message is none of bytes.
     """
 
-    __slots__ = ("_handle", "_address", "_guess", "__weakref__")
+    __slots__ = ("_handle", "_address", "_guess", "_lock", "_under_way", "__weakref__")
 
-    def __init__(self, rows: "Union[Mapping[bytes, bytes], Iterable[Tuple[bytes, bytes]]]" = (), *, key: bytes = bytes(16),
-                 level_base: int = 16, page_format: int = 1) -> None:
-        """The replica of these rows; of values under one key the greatest stays. Key, level base and page format are those of a `Tree`, and
-        replicas that catch up have all three in common."""
+    def __init__(self, rows: Rows = (), *, key: bytes = bytes(16), level_base: int = 16, page_format: int = 1) -> None:
+        """The replica of these rows; of values under one key the greatest stays. The settings are those of `Tree`. Replicas that catch up with
+        each other have all three in common, and refuse others."""
         if len(key) != 16:
             raise ValueError("the key of SipHash is of 16 bytes")
         if not 1 <= level_base <= 255:
@@ -54,26 +75,25 @@ class HeldReplica:
         self._handle = ctypes.c_void_p()
         self._address = ctypes.addressof(self._handle)
         self._guess = 1024
-        check(library.mst_replica_new_with(self._address, key, level_base, page_format))
+        # Held from a call that keeps a message until the message is read, and from one step of a catch-up to its end.
+        self._lock = threading.RLock()
+        self._under_way: "Optional[object]" = None
+        _check(library.mst_replica_new_with(self._address, key, level_base, page_format))
         for row in sorted(rows.items() if isinstance(rows, Mapping) else rows):
             self.put(*row)
 
     def put(self, key: bytes, value: bytes) -> None:
-        """Joins a value at a key: the greater one of it and the one that is there stays."""
+        """Joins a value at a key: where there is one, the greater of both stays. A new key takes time in proportion to the rows behind it, at a
+        few nanoseconds each."""
         try:
             status = library.mst_replica_put(self._address, key, len(key), value, len(value))
         except ctypes.ArgumentError:
             raise TypeError("keys and values are bytes") from None
-        _check(status)
-
-    def get(self, key: bytes) -> "Optional[bytes]":
-        """The value at a key, or None."""
-        try:
-            return self[key]
-        except KeyError:
-            return None
+        if status:
+            _check(status)
 
     def __getitem__(self, key: bytes) -> bytes:
+        """The value at a key; KeyError where it isn't there."""
         try:
             return written(256, lambda out, size, needed: library.mst_replica_get(self._address, key, len(key), out, size, needed))
         except ctypes.ArgumentError:
@@ -81,18 +101,39 @@ class HeldReplica:
         except KeyError:
             raise KeyError(key) from None
 
+    def __contains__(self, key: object) -> bool:
+        """Whether a key is there."""
+        if not isinstance(key, bytes):
+            raise TypeError("keys are bytes")
+        status = library.mst_replica_get(self._address, key, len(key), None, 0, ctypes.byref(ctypes.c_size_t()))
+        if status not in (ABSENT, TOO_SHORT):
+            _check(status)
+        return status != ABSENT
+
     def __len__(self) -> int:
-        size = ctypes.c_size_t()
-        _check(library.mst_replica_len(self._address, ctypes.byref(size)))
-        return size.value
+        count = ctypes.c_size_t()
+        _check(library.mst_replica_len(self._address, ctypes.byref(count)))
+        return count.value
 
     def __iter__(self) -> "Iterator[bytes]":
-        return iter(self.rows())
+        """The keys in their order, as they are now: rows that come later aren't seen. So it is of `items`, `keys` and `values`."""
+        return iter(self._rows())
 
-    def rows(self) -> "Dict[bytes, bytes]":
-        """All rows, in the order of their keys."""
+    def items(self) -> "ItemsView[bytes, bytes]":
+        """The rows in the order of their keys."""
+        return self._rows().items()
+
+    def keys(self) -> "KeysView[bytes]":
+        """The keys in their order."""
+        return self._rows().keys()
+
+    def values(self) -> "ValuesView[bytes]":
+        """The values in the order of their keys."""
+        return self._rows().values()
+
+    def _rows(self) -> "Dict[bytes, bytes]":
         data = written(self._guess, lambda out, size, needed: library.mst_replica_rows(self._address, out, size, needed))
-        self._guess = len(data) + 1024
+        self._guess = len(data) + len(data) // 8
         rows, at = {}, 12
         while at < len(data):
             end = at + 8 + _number(data, at)[0]
@@ -102,114 +143,187 @@ class HeldReplica:
         return rows
 
     def root_hash(self) -> bytes:
-        """The root hash, of 16 bytes: that of a `Tree` of the same rows and settings."""
-        out = ctypes.create_string_buffer(16)
-        _check(library.mst_replica_root_hash(self._address, out))
-        return out.raw
+        """The root hash, 16 bytes: that of a `Tree` of the same rows and settings. Replicas with the same settings and equal root hashes have
+        the same rows, while digests don't collide. It hashes the pages that changed since the last call."""
+        root = ctypes.create_string_buffer(16)
+        _check(library.mst_replica_root_hash(self._address, root))
+        return root.raw
 
     def answer(self, question: bytes) -> bytes:
-        """The reply to a question of a peer; or the refusal, which is to be sent too, where it is none or the peer has other settings."""
-        size = ctypes.c_size_t()
-        status = library.mst_replica_answer(self._address, question, len(question), ctypes.byref(size))
-        if status not in (MALFORMED, OTHER_SETTINGS):
-            _check(status)
-        return self._message(size.value)
+        """The reply to a question of a peer that catches up. Any bytes may be given. Where they are no question, or the peer has other
+        settings, the reply is `REFUSAL`, which is to be sent too: a caller that wants to know compares it, and `serve` says which of both it
+        was. The rows are as before, and nothing is kept between questions.
 
-    def ask(self) -> bytes:
-        """Begins a catch-up, in place of one that is under way, and returns its first question."""
-        size = ctypes.c_size_t()
-        _check(library.mst_replica_ask(self._address, ctypes.byref(size)))
-        return self._message(size.value)
+        >>> HeldReplica().answer(b"no question") == REFUSAL
+        True
+        """
+        return self._answer(question)[1]
 
-    def take(self, reply: bytes) -> "Union[bytes, int]":
-        """Takes the reply to the question that was asked last, and returns the next question; or, where all that was lacked came, joins it, and
-        returns how many rows it is.
+    def catch_up_steps(self, *, messages: int = MESSAGES) -> Steps:
+        """A catch-up step by step, for a transport of one's own and for asyncio: it yields each question, whole, is sent the reply to it, and
+        returns how many rows came. These are joined at the end, all at once; those of which this side has the greater value count too.
+        It asks that many questions at most.
 
-        MalformedError where it is no reply to what was asked, RefusedError where the peer refused, ValueError where no catch-up is under way:
-        the rows stay. MemoryError where memory is refused, and then the first rows that came may be joined."""
-        size, joined = ctypes.c_size_t(), ctypes.c_size_t()
-        status = library.mst_replica_take(self._address, reply, len(reply), ctypes.byref(size), ctypes.byref(joined))
-        if status == ABSENT:
-            raise ValueError("no catch-up is under way")
-        _check(status)
-        return self._message(size.value) if size.value else joined.value
+        MalformedError where a reply is none to what was asked, or the peer goes on for too long, and RefusedError where it refuses: the rows
+        are as before. MalformedError comes too where rows were put into the peer's in between, so that a key came twice: then begin again.
+        MemoryError where memory is refused: it says how many of the rows that came are joined."""
+        mine = object()
+        question = self._ask(mine)
+        try:
+            for _ in range(messages):
+                reply = yield question
+                question, joined = self._take(mine, reply)
+                if not question:
+                    return joined
+            raise MalformedError(f"the peer isn't done after {messages} questions")
+        finally:
+            self._leave(mine)
 
-    def catch_up(self, answer: "Callable[[bytes], bytes]", *, most: int = 10_000) -> int:
-        """Brings what a peer has and this replica lacks, by a call that hands it each question and returns its reply, and returns how many rows that
-        is. It asks that many questions at most, and else raises MalformedError."""
-        step: "Union[bytes, int]" = self.ask()
-        for _ in range(most):
-            if isinstance(step, int):
-                return step
-            step = self.take(answer(step))
-        if isinstance(step, int):
-            return step
-        raise MalformedError("the peer makes the session too long")
+    def catch_up(self, read: Read, write: Write, *, limit: int = LIMIT, messages: int = MESSAGES) -> int:
+        """Brings the rows of a peer that runs `serve` over a connection, and returns how many came. At the end the peer is told so: then it may
+        catch up, and this side serve, over the same connection. `read` and `write` are those of `sync`. A message goes behind how many bytes
+        it has, in eight bytes, the lowest first; a reply of more than `limit` bytes is refused, and the peer is asked that many questions at
+        most. The keys that a message spells may have 64 times its bytes together.
 
-    def sync(self, read: Read, write: Write, *, first: bool, limit: int = LIMIT) -> int:
-        """Brings this replica and a peer's to the same rows, over a connection that carries bytes in order, and returns how many rows came. The
-        peer runs the same, and one of both is first. `read` gives at most so many bytes, at least one, and none at the end; `write` sends all
-        that it is given, and flushes it where it is buffered.
+        EOFError where the peer ends before; what `catch_up_steps`, `read` and `write` raise. The rows are then as before, but for a
+        MemoryError, and where it is the end that can't be told."""
+        with contextlib.closing(self.catch_up_steps(messages=messages)) as steps:
+            question = next(steps)
+            while True:
+                _send(write, question)
+                reply = _receive(read, limit)
+                try:
+                    question = steps.send(reply)
+                except StopIteration as end:
+                    _send(write, b"")
+                    came: int = end.value
+                    return came
 
-        EOFError where the peer ends before; what `catch_up`, `read` and `write` raise. What came before stays."""
-        came = 0
-        for asks in (first, not first):
-            if asks:
-                came = self.catch_up(lambda question: _ask(read, write, question, limit))
-                write(_pack(0))
-            else:
-                while question := _take(read, limit):
-                    reply = self.answer(question)
-                    write(_pack(len(reply)) + reply)
-        return came
+    def serve(self, read: Read, write: Write, *, limit: int = LIMIT, messages: int = MESSAGES) -> int:
+        """Answers a peer that runs `catch_up`, until it says that it is done or ends, and returns how many questions it was answered. The
+        rest is as for `catch_up`, from the other side.
+
+        RefusedError where the peer has other settings, and MalformedError where it sends what is no question, one of more bytes than the
+        limit or more questions than `messages`: it is sent the refusal first. EOFError where it ends within a message; what `read` and
+        `write` raise."""
+        count = 0
+        while True:
+            try:
+                question = _receive(read, limit, may_end=True)
+                if question and count == messages:
+                    raise MalformedError(f"the peer isn't done after {messages} questions")
+            except MalformedError:
+                _send(write, REFUSAL)
+                raise
+            if not question:
+                return count
+            status, reply = self._answer(question)
+            _send(write, reply)
+            if status == OTHER_SETTINGS:
+                raise RefusedError("the peer has other settings")
+            if status == MALFORMED:
+                raise MalformedError("the peer sent what is no question")
+            count += 1
 
     def close(self) -> None:
-        """Gives the memory back."""
+        """Gives the memory back. To close a replica twice does no harm."""
         library.mst_replica_free(self._address)
 
-    def __del__(self) -> None:
-        if hasattr(self, "_address"):
-            self.close()
+    def _answer(self, question: bytes) -> "Tuple[int, bytes]":
+        """The status of an answer, and the message that it kept."""
+        size = ctypes.c_size_t()
+        with self._lock:
+            try:
+                status = library.mst_replica_answer(self._address, question, len(question), ctypes.byref(size))
+            except ctypes.ArgumentError:
+                raise TypeError("messages are bytes") from None
+            if status not in (MALFORMED, OTHER_SETTINGS):
+                _check(status)
+            return status, self._message(size.value)
 
-    def __enter__(self) -> "HeldReplica":
-        return self
+    def _ask(self, mine: object) -> bytes:
+        """Begins a catch-up, and returns its first question."""
+        size = ctypes.c_size_t()
+        with self._lock:
+            _check(library.mst_replica_ask(self._address, ctypes.byref(size)))
+            self._under_way = mine
+            return self._message(size.value)
 
-    def __exit__(self, *_: object) -> None:
-        self.close()
+    def _take(self, mine: object, reply: bytes) -> "Tuple[bytes, int]":
+        """Takes a reply, and returns the next question, or none and how many rows came."""
+        size, joined = ctypes.c_size_t(), ctypes.c_size_t()
+        with self._lock:
+            if self._under_way is not mine:
+                raise ValueError("another catch-up of this replica began in the place of this one")
+            try:
+                status = library.mst_replica_take(self._address, reply, len(reply), ctypes.byref(size), ctypes.byref(joined))
+            except ctypes.ArgumentError:
+                raise TypeError("messages are bytes") from None
+            _check(status, joined.value)
+            return self._message(size.value) if size.value else b"", joined.value
+
+    def _leave(self, mine: object) -> None:
+        """Ends a catch-up that was left, so that what came of it is let go: no bytes are a reply to no question."""
+        with self._lock:
+            if self._under_way is mine:
+                self._under_way = None
+                library.mst_replica_take(self._address, b"", 0, ctypes.byref(ctypes.c_size_t()), ctypes.byref(ctypes.c_size_t()))
 
     def _message(self, size: int) -> bytes:
         return written(size, lambda out, room, needed: library.mst_replica_message(self._address, out, room, needed))
 
+    def __reduce__(self) -> "NoReturn":
+        raise TypeError("a replica isn't copied or pickled; it is made anew of its rows")
 
-def _check(status: int) -> None:
-    """Raises what a status means, but for DONE."""
+    def __enter__(self) -> "HeldReplica":
+        return self
+
+    def __exit__(self, *_error: object) -> None:
+        self.close()
+
+    def __del__(self) -> None:
+        if hasattr(self, "_address"):
+            library.mst_replica_free(self._address)
+
+    def __repr__(self) -> str:
+        return f"<HeldReplica at {self._handle.value:#x}>" if self._handle.value else "<HeldReplica, closed>"
+
+
+def _check(status: int, joined: int = 0) -> None:
+    """Raises what a status of a call on replicas means, but for DONE."""
+    if status == DONE:
+        return
     if status == REFUSED:
         raise RefusedError("the peer refused what was asked: its settings may be others")
     if status == MALFORMED:
-        raise MalformedError("the reply isn't one to what was asked")
+        raise MalformedError("the peer's reply isn't one to what was asked")
+    if joined:
+        raise MemoryError(f"{joined} of the rows that came are joined")
     check(status)
 
 
-def _ask(read: Read, write: Write, question: bytes, limit: int) -> bytes:
-    """The reply to a question."""
-    write(_pack(len(question)) + question)
-    return _take(read, limit)
+def _send(write: Write, message: bytes) -> None:
+    """Sends a message behind how many bytes it has. One of no bytes ends a catch-up."""
+    write(_pack(len(message)) + message)
 
 
-def _take(read: Read, limit: int) -> bytes:
-    """The message that the peer sends, behind its length in eight bytes, the lowest first."""
-    size = _number(_exactly(read, 8))[0]
+def _receive(read: Read, limit: int, *, may_end: bool = False) -> bytes:
+    """The message that the peer sends; none where it ends instead of one and may."""
+    front = _exactly(read, 8, may_end)
+    size = _number(front)[0] if front else 0
     if size > limit:
         raise MalformedError(f"a message of {size} bytes came, and the limit is {limit}")
     return _exactly(read, size)
 
 
-def _exactly(read: Read, size: int) -> bytes:
-    """So many bytes. Memory is taken as they come."""
+def _exactly(read: Read, size: int, may_end: bool = False) -> bytes:
+    """So many bytes; or none, where the peer ends before the first of them and may. Memory is taken as they come."""
     came = bytearray()
     while len(came) < size:
         piece = read(min(size - len(came), _PIECE))
         if not piece:
-            raise EOFError("the peer ended within a sync")
+            if may_end and not came:
+                return b""
+            raise EOFError("the peer ended within a catch-up")
         came += piece
     return bytes(came)

@@ -11,18 +11,19 @@ import mst
 
 HERE = os.path.dirname(os.path.abspath(__file__))
 TOP = os.path.join(HERE, "..", "..")
-# as `python -c`: an interpreter that says it has no lock, whose threads fill one tree
+# as `python -c`: an interpreter that says it has no lock, whose threads fill one tree and one replica
 WITHOUT_A_LOCK = """
 import sys, threading
 sys._is_gil_enabled = lambda: False
-from mst import Tree
+from mst import HeldReplica, Tree
 from mst._library import library
-assert hasattr(library.mst_tree_upsert, "__wrapped__")
-tree = Tree()
+assert hasattr(library.mst_tree_upsert, "__wrapped__") and hasattr(library.mst_replica_put, "__wrapped__")
+tree, replica = Tree(), HeldReplica()
 threads = [threading.Thread(target=tree.update, args=([(b"%d" % i, b"") for i in range(5000)],)) for _ in range(4)]
+threads += [threading.Thread(target=lambda: [replica.put(b"%d" % i, b"") for i in range(2000)]) for _ in range(4)]
 [thread.start() for thread in threads]
 [thread.join() for thread in threads]
-print(len(tree))
+print(len(tree), len(replica))
 """
 
 
@@ -44,14 +45,16 @@ class Package(unittest.TestCase):
         self.assertEqual(python(os.path.join(HERE, "..", "examples", "sqlite_store.py")), "{'apple': 'red', 'melon': 'ripe'}\n")
         written = python(os.path.join(HERE, "..", "examples", "asyncio_peers.py")).splitlines()
         self.assertEqual([line.split(",")[0] for line in written], ["agreed: True", "agreed: True", "1010 1010 True"])
-        self.assertEqual(len(glob.glob(os.path.join(HERE, "..", "examples", "*.py"))), 3)
+        written = python(os.path.join(HERE, "..", "examples", "asyncio_replicas.py")).splitlines()
+        self.assertEqual(written, ["0 rows came", "1000 rows came", "20 rows came", "1010 1010 True"])
+        self.assertEqual(len(glob.glob(os.path.join(HERE, "..", "examples", "*.py"))), 4)
 
     def test_an_interpreter_without_a_lock(self):
-        self.assertEqual(python("-c", WITHOUT_A_LOCK), "5000\n")
+        self.assertEqual(python("-c", WITHOUT_A_LOCK), "5000 2000\n")
 
 
 def load_tests(_loader, tests, _pattern):
-    for name in ["mst", "mst._tree", "mst._ranges", "mst._store", "mst._sync"]:
+    for name in ["mst", "mst._tree", "mst._ranges", "mst._store", "mst._sync", "mst._replica"]:
         tests.addTests(doctest.DocTestSuite(importlib.import_module(name)))
     tests.addTests(doctest.DocFileSuite(os.path.join(HERE, "..", "README.md"), module_relative=False))
     return tests
