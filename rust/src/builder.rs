@@ -12,6 +12,15 @@ pub enum PageFormat {
     V2,
 }
 
+impl PageFormat {
+    pub(crate) fn number(self) -> u8 {
+        match self {
+            Self::V1 => 1,
+            Self::V2 => 2,
+        }
+    }
+}
+
 /// What of a key is fed to SipHash, whose digest tells the level of the key. What is fed of a value is [`HashBytes`](crate::HashBytes).
 #[derive(Debug, Clone, Copy, PartialEq, Eq, Default)]
 pub enum KeyFeed {
@@ -92,15 +101,11 @@ impl Builder {
 
     /// The same; refused where memory is.
     pub fn try_build<K, V>(self) -> Result<MerkleSearchTree<K, V>, OutOfMemory> {
-        let format = match self.page_format {
-            PageFormat::V1 => 1,
-            PageFormat::V2 => 2,
-        };
         let key_feed = match self.key_feed {
             KeyFeed::Bytes => 0,
             KeyFeed::Text => 1,
             KeyFeed::Vector => 2,
         };
-        MerkleSearchTree::with_settings(self.hasher.key(), self.level_base.get(), format, key_feed)
+        MerkleSearchTree::with_settings(self.hasher.key(), self.level_base.get(), self.page_format.number(), key_feed)
     }
 }

@@ -7,9 +7,11 @@ pub mod diff;
 pub mod digest;
 mod list;
 mod node;
+pub mod replica;
 pub mod sync;
 mod sys;
 mod tree;
+mod wire;
 
 pub use bytes::{ByHash, HashBytes, Key};
 pub use node::{Node, NodeIter, Nodes};

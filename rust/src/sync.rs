@@ -7,7 +7,9 @@
 use crate::{
     bytes::Key,
     diff::{unshared, DiffRange, KeyRangeIter, KeyRanges, PageRangeSnapshot},
-    list, sys, MerkleSearchTree,
+    list, sys,
+    wire::{self, unexpected},
+    MerkleSearchTree,
 };
 use std::io::{self, Read, Write};
 
@@ -149,26 +151,12 @@ impl<C: Read + Write> Talk<'_, C> {
         Ok(false)
     }
 
-    /// Sends a message: how many bytes it has, in eight bytes, and these.
     fn send(&mut self, message: &[u8]) -> io::Result<()> {
-        self.connection.write_all(&[&(message.len() as u64).to_le_bytes(), message].concat())?;
-        self.connection.flush()
+        wire::send(self.connection, message)
     }
 
-    /// The next message of the peer. Memory is taken as its bytes come.
     fn take(&mut self) -> io::Result<Vec<u8>> {
-        let mut len = [0; 8];
-        self.connection.read_exact(&mut len)?;
-        let len = u64::from_le_bytes(len);
-        if len > self.limit {
-            return Err(unexpected("a message of the peer is above the limit"));
-        }
-        let mut message = Vec::new();
-        Read::by_ref(self.connection).take(len).read_to_end(&mut message)?;
-        if (message.len() as u64) < len {
-            return Err(io::ErrorKind::UnexpectedEof.into());
-        }
-        Ok(message)
+        wire::take(self.connection, self.limit)
     }
 }
 
@@ -194,7 +182,3 @@ impl<K: Key> Expected<'_, K> {
 }
 
 const NO_ROWS: &str = "the peer sent no list of rows";
-
-fn unexpected(reason: impl Into<Box<dyn std::error::Error + Send + Sync>>) -> io::Error {
-    io::Error::new(io::ErrorKind::InvalidData, reason)
-}

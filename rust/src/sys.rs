@@ -1,7 +1,7 @@
-//! The calls of `mst.h`, and a safe way to each. No other module has unsafe code.
+//! The calls of `mst.h` and `mst_replica.h`, and a safe way to each. No other module has unsafe code.
 #![allow(unsafe_code)]
 
-use crate::OutOfMemory;
+use crate::{replica::Step, OutOfMemory};
 use std::{
     cell::UnsafeCell,
     ffi::CStr,
@@ -14,8 +14,10 @@ const NO_MEMORY: c_int = 1;
 const MALFORMED: c_int = 2;
 const TOO_SHORT: c_int = 3;
 const ABSENT: c_int = 5;
+const OTHER_SETTINGS: c_int = 6;
+const REFUSED: c_int = 7;
 
-/// `struct mst_tree`.
+/// `struct mst_tree`, and `struct mst_replica`.
 #[repr(C)]
 struct Handle {
     at: *mut u8,
@@ -60,6 +62,19 @@ extern "C" {
                 needed: *mut usize) -> c_int;
     fn mst_ranges_next(list: *const u8, list_len: usize, at: *mut usize, out: *mut Range) -> c_int;
     fn mst_rows_next(list: *const u8, list_len: usize, at: *mut usize, out: *mut Row) -> c_int;
+    fn mst_replica_new_with(out: *mut Handle, key: *const u8, level_base: u8, page_format: u8) -> c_int;
+    fn mst_replica_free(replica: *mut Handle);
+    fn mst_replica_put(replica: *mut Handle, key: *const u8, key_len: usize, value: *const u8, value_len: usize) -> c_int;
+    fn mst_replica_get(replica: *mut Handle, key: *const u8, key_len: usize, out: *mut u8, out_len: usize,
+                       needed: *mut usize) -> c_int;
+    fn mst_replica_len(replica: *mut Handle, out: *mut usize) -> c_int;
+    fn mst_replica_root_hash(replica: *mut Handle, out: *mut u8) -> c_int;
+    fn mst_replica_rows(replica: *mut Handle, out: *mut u8, out_len: usize, needed: *mut usize) -> c_int;
+    fn mst_replica_message(replica: *mut Handle, out: *mut u8, out_len: usize, needed: *mut usize) -> c_int;
+    fn mst_replica_answer(replica: *mut Handle, question: *const u8, question_len: usize, message_len: *mut usize) -> c_int;
+    fn mst_replica_ask(replica: *mut Handle, message_len: *mut usize) -> c_int;
+    fn mst_replica_take(replica: *mut Handle, reply: *const u8, reply_len: usize, message_len: *mut usize,
+                        joined: *mut usize) -> c_int;
 }
 
 /// What a call refuses.
@@ -67,10 +82,14 @@ extern "C" {
 pub(crate) enum Refused {
     /// It asked for memory and got none.
     Memory,
-    /// Bytes aren't a list of the kind that it takes, or rows don't ascend.
+    /// Bytes aren't a list or a message of the kind that it takes, or rows don't ascend.
     Malformed,
-    /// There is no such key.
+    /// There is no such key, or no catch-up is under way.
     Absent,
+    /// The peer that asks has other settings.
+    OtherSettings,
+    /// The peer that was asked refused.
+    ByPeer,
 }
 
 impl From<OutOfMemory> for Refused {
@@ -86,6 +105,8 @@ fn done(status: c_int) -> Result<(), Refused> {
         NO_MEMORY => Err(Refused::Memory),
         MALFORMED => Err(Refused::Malformed),
         ABSENT => Err(Refused::Absent),
+        OTHER_SETTINGS => Err(Refused::OtherSettings),
+        REFUSED => Err(Refused::ByPeer),
         _ => unreachable!("a call of mst.h answered status {status}"),
     }
 }
@@ -206,6 +227,116 @@ impl Drop for Tree {
     fn drop(&mut self) {
         // SAFETY: the handle is one that a call made, and isn't used again.
         unsafe { mst_tree_free(self.0.get_mut()) }
+    }
+}
+
+/// A handle that has a replica, in a cell as that of a tree.
+pub(crate) struct Replica(UnsafeCell<Handle>);
+
+// SAFETY: as of `Tree`, whose rules are those of `mst_replica.h` too.
+unsafe impl Send for Replica {}
+
+impl Replica {
+    /// The replica without rows with these settings; the page format is 1 or 2.
+    pub(crate) fn new(key: &[u8; 16], level_base: u8, page_format: u8) -> Result<Self, OutOfMemory> {
+        let mut handle = Handle { at: ptr::null_mut() };
+        // SAFETY: the handle has no replica, and the key is of 16 bytes.
+        done_or_no_memory(unsafe { mst_replica_new_with(&mut handle, key.as_ptr(), level_base, page_format) })?;
+        Ok(Self(UnsafeCell::new(handle)))
+    }
+
+    /// Joins a value at a key.
+    pub(crate) fn put(&mut self, key: &[u8], value: &[u8]) -> Result<(), OutOfMemory> {
+        // SAFETY: key and value are slices.
+        done_or_no_memory(unsafe {
+            mst_replica_put(self.0.get_mut(), key.as_ptr(), key.len(), value.as_ptr(), value.len())
+        })
+    }
+
+    /// The value at a key, of about `guess` bytes.
+    pub(crate) fn get(&self, key: &[u8], guess: usize) -> Result<Vec<u8>, Refused> {
+        // SAFETY: the key is a slice, no other call has the handle, and `out` is memory of `len` bytes that nothing else has.
+        written(guess, |out, len, needed| unsafe {
+            mst_replica_get(self.0.get(), key.as_ptr(), key.len(), out, len, needed)
+        })
+    }
+
+    /// Whether a key is there.
+    pub(crate) fn has(&self, key: &[u8]) -> Result<bool, OutOfMemory> {
+        let mut needed = 0;
+        // SAFETY: the key is a slice, no other call has the handle, and `out` is of no bytes.
+        match unsafe { mst_replica_get(self.0.get(), key.as_ptr(), key.len(), ptr::null_mut(), 0, &mut needed) } {
+            ABSENT => Ok(false),
+            TOO_SHORT => Ok(true),
+            status => done_or_no_memory(status).map(|()| true),
+        }
+    }
+
+    /// How many rows there are.
+    pub(crate) fn len(&self) -> usize {
+        let mut len = 0;
+        // SAFETY: `len` is written to, and no other call has the handle.
+        let status = unsafe { mst_replica_len(self.0.get(), &mut len) };
+        assert_eq!(status, DONE, "mst_replica_len refuses nothing of a replica");
+        len
+    }
+
+    /// The root hash.
+    pub(crate) fn root_hash(&mut self) -> [u8; 16] {
+        let mut root = [0; 16];
+        // SAFETY: `root` is of 16 bytes.
+        let status = unsafe { mst_replica_root_hash(self.0.get_mut(), root.as_mut_ptr()) };
+        assert_eq!(status, DONE, "mst_replica_root_hash refuses nothing of a replica");
+        root
+    }
+
+    /// The list of rows, of about `guess` bytes.
+    pub(crate) fn rows(&self, guess: usize) -> Result<Vec<u8>, OutOfMemory> {
+        // SAFETY: no other call has the handle, and `out` is memory of `len` bytes that nothing else has.
+        let list = written(guess, |out, len, needed| unsafe { mst_replica_rows(self.0.get(), out, len, needed) });
+        list.map_err(|_| OutOfMemory)
+    }
+
+    /// The reply to a question.
+    pub(crate) fn answer(&mut self, question: &[u8]) -> Result<Vec<u8>, Refused> {
+        let mut len = 0;
+        // SAFETY: the question is a slice, and `len` is written to.
+        done(unsafe { mst_replica_answer(self.0.get_mut(), question.as_ptr(), question.len(), &mut len) })?;
+        Ok(self.message(len)?)
+    }
+
+    /// The first question of a catch-up, which begins.
+    pub(crate) fn ask(&mut self) -> Result<Vec<u8>, OutOfMemory> {
+        let mut len = 0;
+        // SAFETY: `len` is written to.
+        done_or_no_memory(unsafe { mst_replica_ask(self.0.get_mut(), &mut len) })?;
+        self.message(len)
+    }
+
+    /// Takes a reply, and answers the next question, or how many rows came. Refused, it answers how many of them are joined, too.
+    pub(crate) fn take(&mut self, reply: &[u8]) -> Result<Step, (Refused, usize)> {
+        let (mut len, mut joined) = (0, 0);
+        // SAFETY: the reply is a slice, and `len` and `joined` are written to.
+        let status = unsafe { mst_replica_take(self.0.get_mut(), reply.as_ptr(), reply.len(), &mut len, &mut joined) };
+        done(status).map_err(|refused| (refused, joined))?;
+        if len == 0 {
+            return Ok(Step::Joined(joined));
+        }
+        self.message(len).map(Step::Ask).map_err(|OutOfMemory| (Refused::Memory, 0))
+    }
+
+    /// The message that is kept, of `len` bytes.
+    fn message(&self, len: usize) -> Result<Vec<u8>, OutOfMemory> {
+        // SAFETY: no other call has the handle, and `out` is memory of `len` bytes that nothing else has.
+        let message = written(len, |out, len, needed| unsafe { mst_replica_message(self.0.get(), out, len, needed) });
+        message.map_err(|_| OutOfMemory)
+    }
+}
+
+impl Drop for Replica {
+    fn drop(&mut self) {
+        // SAFETY: the handle is one that a call made, and isn't used again.
+        unsafe { mst_replica_free(self.0.get_mut()) }
     }
 }
 
