@@ -284,7 +284,7 @@ class Peers(unittest.TestCase):
     def test_replies_that_are_altered(self):
         theirs = HeldReplica((b"%d" % i, b"1") for i in range(0, 300, 3))
         draw, ends = random.Random(11), set()
-        for _ in range(1000):
+        for _ in range(300):
             ours = HeldReplica((b"%d" % i, b"1") for i in range(0, 300, 2))
             before, at = dict(ours), draw.randrange(3)
 
@@ -379,11 +379,12 @@ class Threads(unittest.TestCase):
 
         def begun_again(asking, answer):
             # a peer whose rows change in between may tell a key twice
-            while True:
+            for _ in range(100):
                 try:
                     return by_steps(asking, answer)[0]
                 except MalformedError:
                     pass
+            raise AssertionError("the rows always change in between")
 
         def asked(peer):
             return sum(begun_again(peer, replica.answer) for _ in range(20))
