@@ -15,5 +15,5 @@ from ._sync import LIMIT, Replica, Synced, sync, sync_steps, sync_streams
 from ._tree import Page, Tree
 
 __version__ = version()
-__all__ = ["HeldReplica", "LIMIT", "KeyRange", "KeyRanges", "MESSAGES", "MalformedError", "Page", "PageRange", "PageRanges", "REFUSAL", "RefusedError",
-           "Replica", "Store", "Synced", "Tree", "diff", "sync", "sync_steps", "sync_streams", "unshared", "version"]
+__all__ = ["HeldReplica", "LIMIT", "KeyRange", "KeyRanges", "MESSAGES", "MalformedError", "Page", "PageRange", "PageRanges", "REFUSAL",
+           "RefusedError", "Replica", "Store", "Synced", "Tree", "diff", "sync", "sync_steps", "sync_streams", "unshared", "version"]

@@ -1,13 +1,16 @@
 """Replicas that hold their rows: catch-ups step by step, over sockets and by threads, and with peers that don't keep to the messages."""
 import copy
+import ctypes
 import pickle
 import random
 import socket
 import struct
+import sys
 import threading
 import unittest
 
 from mst import REFUSAL, HeldReplica, MalformedError, RefusedError, Tree
+from mst._library import ABSENT, library
 
 number = struct.Struct("<Q").pack
 
@@ -63,6 +66,7 @@ def both_ways(left, right, **words):
 
     def side(replica, connection, calls):
         with connection:
+            connection.settimeout(10)
             return [getattr(replica, call)(connection.recv, connection.sendall, **words) for call in calls]
 
     return in_threads(lambda: side(left, pair[0], ["catch_up", "serve"]), lambda: side(right, pair[1], ["serve", "catch_up"]))
@@ -230,10 +234,15 @@ class CatchUps(unittest.TestCase):
             while True:
                 question = second.send(theirs.answer(question))
         self.assertEqual((end.exception.value, dict(ours)), (1, {b"a": b"1", b"b": b"2"}))
+    def test_one_that_is_left_is_let_go(self):
+        ours = HeldReplica({b"a": b"1"})
         left = ours.catch_up_steps()
         next(left)
         left.close()
-        self.assertEqual(by_steps(ours, theirs.answer)[0], 0)
+        size, joined = ctypes.c_size_t(), ctypes.c_size_t()
+        status = library.mst_replica_take(ours._address, b"", 0, ctypes.byref(size), ctypes.byref(joined))
+        self.assertEqual(status, ABSENT)
+        self.assertEqual(by_steps(ours, HeldReplica({b"b": b"2"}).answer)[0], 1)
 
 
 class Peers(unittest.TestCase):
@@ -350,11 +359,14 @@ class Peers(unittest.TestCase):
 
     def test_lengths_above_the_limit(self):
         replica, written, taken = HeldReplica({b"a": b"1"}), [], []
-        for call in (replica.catch_up, replica.serve):
-            self.assertRaises(MalformedError, call, said_by(bytes(1001)), written.append, limit=1000)
+        question = next(HeldReplica({b"b": b"2"}).catch_up_steps())
+        reply = replica.answer(question)
+        self.assertRaisesRegex(MalformedError, "the limit is", replica.catch_up, said_by(reply), written.append, limit=len(reply) - 1)
+        self.assertRaisesRegex(MalformedError, "the limit is", replica.serve, said_by(question), written.append, limit=len(question) - 1)
         self.assertEqual(written[1:], [number(2) + REFUSAL])
+        self.assertEqual(replica.serve(said_by(question), written.append, limit=len(question)), 1)
         self.assertRaises(MalformedError, replica.serve, said_by(b"no question"), written.append)
-        self.assertEqual(written[2:], [number(2) + REFUSAL])
+        self.assertEqual(written[2:], [number(len(reply)) + reply, number(2) + REFUSAL])
 
         def read(size):
             taken.append(size)
@@ -365,6 +377,11 @@ class Peers(unittest.TestCase):
 
 
 class Threads(unittest.TestCase):
+    def setUp(self):
+        # threads take turns as often as they can
+        self.addCleanup(sys.setswitchinterval, sys.getswitchinterval())
+        sys.setswitchinterval(1e-6)
+
     def test_threads_on_one_replica(self):
         replica, peers = HeldReplica(), [HeldReplica((b"%d" % i, b"%d" % seed) for i in range(seed, 3000, 7)) for seed in range(4)]
         wanted = {}

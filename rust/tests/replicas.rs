@@ -309,9 +309,13 @@ fn what_is_no_message() {
         assert!(peer.was_refused() && model(&ours) == model(&of(2)), "{at}");
     }
     assert_eq!(of(2).answer(b""), Err(Fault::Malformed));
-    let (mut peer, limits) = (Peer::saying(&[&[0; 1001]]), Limits { bytes: 1000, ..Limits::default() });
-    assert_eq!(of(2).serve_within(limits, &mut peer).unwrap_err().kind(), ErrorKind::InvalidData);
+    let within = |bytes: usize| Limits { bytes: bytes as u64, ..Limits::default() };
+    let mut peer = Peer::saying(&[&question]);
+    assert_eq!(of(2).serve_within(within(question.len() - 1), &mut peer).unwrap_err().kind(), ErrorKind::InvalidData);
     assert!(peer.was_refused());
+    assert_eq!(of(2).serve_within(within(question.len()), &mut Peer::saying(&[&question])).unwrap(), 1);
+    let refused = of(2).catch_up_within(within(first.len() - 1), &mut Peer::saying(&[first])).unwrap_err();
+    assert_eq!(refused.kind(), ErrorKind::InvalidData);
 }
 
 #[test]
