@@ -39,12 +39,13 @@ use crate::{
     OutOfMemory,
 };
 use std::{
-    cell::Cell,
+    cell::{Cell, RefCell, RefMut},
     error::Error,
     fmt,
     io::{self, ErrorKind, Read, Write},
     iter::FusedIterator,
     num::NonZeroU8,
+    ops::DerefMut,
 };
 
 /// The message that says that a question was refused.
@@ -78,7 +79,7 @@ pub enum Fault {
     OtherSettings,
     /// The peer refused what it was asked, mostly since its settings are others.
     Refused,
-    /// No catch-up is under way.
+    /// No catch-up is under way, or another began in the place of this one.
     NotAsking,
     /// Memory was refused, when so many of the rows that came were joined, the first in the order of their keys.
     OutOfMemory {
@@ -105,7 +106,7 @@ impl fmt::Display for Fault {
             Self::Malformed => f.write_str("the peer's message is no question, or no reply to what was asked"),
             Self::OtherSettings => f.write_str("the peer that asks has other settings"),
             Self::Refused => f.write_str("the peer refused what it was asked: its settings may be others"),
-            Self::NotAsking => f.write_str("no catch-up is under way"),
+            Self::NotAsking => f.write_str("no catch-up is under way, or another began in the place of this one"),
             Self::OutOfMemory { joined } => write!(f, "memory was refused; {joined} of the rows that came are joined"),
         }
     }
@@ -168,8 +169,8 @@ pub enum Step {
 ///
 /// A call that neither is `try_..` nor answers a [`Fault`] ends the program where memory is refused, as Rust's collections do.
 ///
-/// A replica goes from thread to thread, and one thread at a time uses it: it is `Send`, and not `Sync`. A `Mutex` shares it, and
-/// [`serve_by`] then locks it for one question at a time.
+/// A replica goes from thread to thread, and one thread at a time uses it: it is `Send`, and not `Sync`. A `Mutex` shares it: [`serve_by`]
+/// then locks it for one question at a time, and [`catch_up_by`] for one reply.
 ///
 /// ```compile_fail,E0277
 /// let replica = merkle_search_tree::replica::Replica::default();
@@ -181,6 +182,8 @@ pub struct Replica {
     replica: sys::Replica,
     /// A little more than the bytes of the last list of rows.
     guess: Cell<usize>,
+    /// How many catch-ups began.
+    begun: u64,
 }
 
 impl Default for Replica {
@@ -205,11 +208,11 @@ impl Replica {
         page_format: PageFormat,
     ) -> Result<Self, OutOfMemory> {
         let replica = sys::Replica::new(hasher.key(), level_base.get(), page_format.number())?;
-        Ok(Self { replica, guess: Cell::new(1024) })
+        Ok(Self { replica, guess: Cell::new(1024), begun: 0 })
     }
 
     /// Joins a value at a key: where there is one, the greater of both stays. A new key takes time in proportion to the rows behind it, at a
-    /// few nanoseconds each.
+    /// few nanoseconds each: put many rows in the order of their keys, as `extend` and `collect` do.
     pub fn put(&mut self, key: impl AsRef<[u8]>, value: impl AsRef<[u8]>) {
         granted(self.try_put(key, value));
     }
@@ -266,7 +269,9 @@ impl Replica {
 
     /// Begins a catch-up, in place of one that is under way, and answers its first question. The rows are as before.
     pub fn ask(&mut self) -> Result<Vec<u8>, Fault> {
-        Ok(self.replica.ask()?)
+        let question = self.replica.ask()?;
+        self.begun += 1;
+        Ok(question)
     }
 
     /// Takes the reply to the question that was asked last: any bytes may be given. The rows that come are joined at the end, all at once;
@@ -281,40 +286,22 @@ impl Replica {
     ///
     /// An error of the connection is answered as it is; `UnexpectedEof` where the peer ends before, and as an `InvalidData` what
     /// [`Replica::take`] refuses and what is above the limits. The rows are then as before, but for [`Fault::OutOfMemory`], and where it is
-    /// the end that can't be told.
+    /// the end that can't be told. An honest peer into whose replica rows are put meanwhile may be refused, too: then begin again, over a
+    /// connection of its own.
     pub fn catch_up(&mut self, connection: &mut (impl Read + Write)) -> io::Result<usize> {
         self.catch_up_within(Limits::default(), connection)
     }
 
     /// The same with other limits.
     pub fn catch_up_within(&mut self, limits: Limits, connection: &mut (impl Read + Write)) -> io::Result<usize> {
-        let caught_up = self.asking(limits, connection);
-        if caught_up.is_err() {
-            // No bytes are a reply to no question: what came of a catch-up that is still under way is let go.
-            let _ = self.take(&[]);
-        }
-        caught_up
-    }
-
-    fn asking(&mut self, limits: Limits, connection: &mut (impl Read + Write)) -> io::Result<usize> {
-        let mut question = self.ask()?;
-        for _ in 0..limits.messages {
-            wire::send(connection, &question)?;
-            match self.take(&wire::take(connection, limits.bytes)?)? {
-                Step::Ask(next) => question = next,
-                Step::Joined(came) => {
-                    wire::send(connection, &[])?;
-                    return Ok(came);
-                }
-            }
-        }
-        Err(unexpected(TOO_MANY))
+        let only = RefCell::new(self);
+        catch_up_by(limits, connection, || RefMut::map(only.borrow_mut(), |replica| &mut **replica))
     }
 
     /// Answers a peer that catches up, until it says that it is done or ends, and answers how many questions it was answered.
     ///
     /// An error of the connection is answered as it is; `UnexpectedEof` where the peer ends within a message, and as an `InvalidData` what
-    /// [`Replica::answer`] refuses and what is above the limits: the peer is sent the refusal first.
+    /// [`Replica::answer`] refuses and what is above the limits: the peer is sent the refusal first, if it is still there.
     pub fn serve(&mut self, connection: &mut (impl Read + Write)) -> io::Result<usize> {
         self.serve_within(Limits::default(), connection)
     }
@@ -323,6 +310,71 @@ impl Replica {
     pub fn serve_within(&mut self, limits: Limits, connection: &mut (impl Read + Write)) -> io::Result<usize> {
         serve_by(limits, connection, |question| self.answer(question))
     }
+}
+
+/// Brings the rows of a peer into a replica that others use meanwhile, and answers how many came: [`Replica::catch_up_within`] of a replica
+/// behind a `Mutex`, which `lock` locks for each question and for each reply, and not while the peer is waited for. So two that hold one
+/// replica each may catch up with each other at the same time, while other threads of both answer by [`serve_by`].
+///
+/// A replica is in one catch-up at a time. Where another begins, this one ends with [`Fault::NotAsking`]: hold another lock round each
+/// catch-up, and none round what answers.
+///
+/// ```
+/// use merkle_search_tree::replica::{catch_up_by, serve_by, Limits, Replica};
+/// use std::{io, os::unix::net::UnixStream, sync::Mutex, thread};
+///
+/// let [office, laptop] = ["kiwi", "melon"].map(|key| Mutex::new(Replica::from_iter([(key, "1130 one")])));
+/// thread::scope(|scope| {
+///     for (asks, answers) in [(&office, &laptop), (&laptop, &office)] {
+///         let (mut ours, mut theirs) = UnixStream::pair().unwrap();
+///         scope.spawn(move || serve_by(Limits::default(), &mut theirs, |question| answers.lock().unwrap().answer(question)));
+///         scope.spawn(move || catch_up_by(Limits::default(), &mut ours, || asks.lock().unwrap()).unwrap());
+///     }
+/// });
+/// assert_eq!(office.lock().unwrap().root_hash(), laptop.lock().unwrap().root_hash());
+/// ```
+pub fn catch_up_by<L: DerefMut<Target = Replica>>(
+    limits: Limits,
+    connection: &mut (impl Read + Write),
+    mut lock: impl FnMut() -> L,
+) -> io::Result<usize> {
+    let (question, mine) = {
+        let mut replica = lock();
+        (replica.ask()?, replica.begun)
+    };
+    let mut take = |reply: &[u8]| {
+        let mut replica = lock();
+        if replica.begun == mine {
+            replica.take(reply)
+        } else {
+            Err(Fault::NotAsking)
+        }
+    };
+    let caught_up = asking(limits, connection, question, &mut take);
+    if caught_up.is_err() {
+        // No bytes are a reply to no question: what came of a catch-up that is still under way is let go.
+        let _ = take(&[]);
+    }
+    caught_up
+}
+
+fn asking(
+    limits: Limits,
+    connection: &mut (impl Read + Write),
+    mut question: Vec<u8>,
+    mut take: impl FnMut(&[u8]) -> Result<Step, Fault>,
+) -> io::Result<usize> {
+    for _ in 0..limits.messages {
+        wire::send(connection, &question)?;
+        match take(&wire::take(connection, limits.bytes)?)? {
+            Step::Ask(next) => question = next,
+            Step::Joined(came) => {
+                wire::send(connection, &[])?;
+                return Ok(came);
+            }
+        }
+    }
+    Err(unexpected(TOO_MANY))
 }
 
 /// Serves a peer by a call that answers each question, as [`Replica::answer`] of a replica behind a `Mutex`, which is locked for that alone.
@@ -358,7 +410,8 @@ pub fn serve_by(
             Ok(reply) => wire::send(connection, &reply)?,
             Err(error) => {
                 if error.kind() == ErrorKind::InvalidData {
-                    wire::send(connection, &REFUSAL)?;
+                    // The peer may be gone, which says less than why it is refused.
+                    let _ = wire::send(connection, &REFUSAL);
                 }
                 return Err(error);
             }
@@ -369,8 +422,11 @@ pub fn serve_by(
 
 const TOO_MANY: &str = "the peer isn't done after so many questions as the limit allows";
 
+/// All rows are taken first, and put in the order of their keys, which is the fast one.
 impl<K: AsRef<[u8]>, V: AsRef<[u8]>> Extend<(K, V)> for Replica {
     fn extend<T: IntoIterator<Item = (K, V)>>(&mut self, rows: T) {
+        let mut rows = Vec::from_iter(rows);
+        rows.sort_by(|(one, _), (other, _)| one.as_ref().cmp(other.as_ref()));
         rows.into_iter().for_each(|(key, value)| self.put(key, value));
     }
 }

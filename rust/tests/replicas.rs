@@ -2,7 +2,7 @@
 use merkle_search_tree::{
     builder::{Builder, PageFormat},
     digest::siphash::SipHasher,
-    replica::{serve_by, Fault, Limits, Replica, Rows, Step, REFUSAL},
+    replica::{catch_up_by, serve_by, Fault, Limits, Replica, Rows, Step, REFUSAL},
     MerkleSearchTree,
 };
 use std::{
@@ -11,8 +11,9 @@ use std::{
     io::{self, Cursor, ErrorKind, Read, Write},
     num::NonZeroU8,
     os::unix::net::UnixStream,
-    sync::Mutex,
+    sync::{Barrier, Mutex},
     thread,
+    time::{Duration, Instant},
 };
 
 type Model = BTreeMap<Vec<u8>, Vec<u8>>;
@@ -106,6 +107,25 @@ fn the_greater_value_stays() {
     let long = vec![7; 300_000];
     replica.extend([("long", &long)]);
     assert_eq!((replica.get("long"), replica.get("")), (Some(long), held.get(&b""[..]).cloned()));
+}
+
+#[test]
+fn rows_in_any_order_are_put_in_that_of_their_keys() {
+    let (mut draw, mut held) = (draws(4), Model::new());
+    let rows: Vec<(Vec<u8>, Vec<u8>)> = (0..3000)
+        .map(|_| [400, 30].map(|below| draw(below).to_string().into_bytes()))
+        .map(|[key, value]| (key, value))
+        .collect();
+    rows.iter().for_each(|(key, value)| join(&mut held, key, value));
+    let (some, others) = rows.split_at(1000);
+    let mut replica: Replica = some.iter().map(|(key, value)| (key, value)).collect();
+    replica.extend(others.iter().map(|(key, value)| (key, value)));
+    assert_eq!(model(&replica), held);
+    let most = 300_000;
+    let begun = Instant::now();
+    let replica: Replica = (0..most).rev().map(|i| (format!("key{i:06}"), "")).collect();
+    // Each put in front of all others, they would take minutes.
+    assert!(replica.len() == most && begun.elapsed() < Duration::from_secs(20), "{:?}", begun.elapsed());
 }
 
 #[test]
@@ -387,6 +407,102 @@ fn threads_share_a_replica() {
         by_steps(&mut hub, |question| peer.answer(question)).unwrap();
     }
     assert_eq!(model(&hub), wanted);
+}
+
+/// A connection that waits for another catch-up to have begun before its first bytes go.
+struct Begun<'a>(UnixStream, Option<&'a Barrier>);
+
+impl Read for Begun<'_> {
+    fn read(&mut self, out: &mut [u8]) -> io::Result<usize> {
+        self.0.read(out)
+    }
+}
+
+impl Write for Begun<'_> {
+    fn write(&mut self, bytes: &[u8]) -> io::Result<usize> {
+        self.1.take().map(Barrier::wait);
+        self.0.write(bytes)
+    }
+
+    fn flush(&mut self) -> io::Result<()> {
+        self.0.flush()
+    }
+}
+
+/// One catch-up of a hub with another that is served by a thread of its own.
+fn with_a_hub(asks: &Mutex<Replica>, answers: &Mutex<Replica>, begun: Option<&Barrier>) -> io::Result<usize> {
+    let (ours, mut theirs) = UnixStream::pair()?;
+    ours.set_read_timeout(Some(Duration::from_secs(20)))?;
+    thread::scope(|scope| {
+        scope.spawn(move || {
+            serve_by(Limits::default(), &mut theirs, |question| answers.lock().unwrap().answer(question)).unwrap()
+        });
+        catch_up_by(Limits::default(), &mut Begun(ours, begun), || asks.lock().unwrap())
+    })
+}
+
+#[test]
+fn hubs_catch_up_with_each_other_at_the_same_time() {
+    for steps in [[2, 3], [3, 7], [1, 300]] {
+        let hubs = steps.map(|step| Mutex::new(of(step)));
+        let begun = Barrier::new(2);
+        thread::scope(|scope| {
+            for [asks, answers] in [[&hubs[0], &hubs[1]], [&hubs[1], &hubs[0]]] {
+                let begun = &begun;
+                scope.spawn(move || {
+                    let mut ended = with_a_hub(asks, answers, Some(begun));
+                    // The rows that came to the other may have been put between two replies.
+                    while ended.as_ref().is_err_and(|error| error.kind() == ErrorKind::InvalidData) {
+                        ended = with_a_hub(asks, answers, None);
+                    }
+                    ended.unwrap()
+                });
+            }
+        });
+        let wanted = joined(&model(&of(steps[0])), &model(&of(steps[1])));
+        assert_eq!(hubs.map(|hub| model(&hub.into_inner().unwrap())), [wanted.clone(), wanted]);
+    }
+}
+
+#[test]
+fn another_catch_up_takes_the_place_of_one() {
+    let (hub, mut theirs) = (Mutex::new(of(2)), of(3));
+    let said = said(&mut of(2), &mut of(3));
+    let whole: Vec<&[u8]> = said.iter().map(Vec::as_slice).collect();
+    let (mut locked, mut question) = (0, Vec::new());
+    let ended = catch_up_by(Limits::default(), &mut Peer::saying(&whole), || {
+        locked += 1;
+        let mut hub = hub.lock().unwrap();
+        if locked == 2 {
+            question = hub.ask().unwrap();
+        }
+        hub
+    });
+    let ended = ended.unwrap_err();
+    assert_eq!(ended.get_ref().unwrap().downcast_ref(), Some(&Fault::NotAsking));
+    let mut hub = hub.into_inner().unwrap();
+    while let Step::Ask(next) = hub.take(&theirs.answer(&question).unwrap()).unwrap() {
+        question = next;
+    }
+    assert_eq!(model(&hub), joined(&model(&of(2)), &model(&of(3))));
+}
+
+#[test]
+fn a_peer_that_is_gone_is_told_by_what_it_sent() {
+    let mut served = of(3);
+    let other = Replica::with_settings(&SipHasher::new(b"a key of SipHash"), NonZeroU8::MIN, PageFormat::V1).ask();
+    for message in [&b"no question"[..], &other.unwrap(), &[0; 2000]] {
+        let (mut ours, mut theirs) = UnixStream::pair().unwrap();
+        theirs.write_all(&Peer::saying(&[message]).says.into_inner()).unwrap();
+        drop(theirs);
+        let limits = Limits { bytes: 1000, ..Limits::default() };
+        let refused = served.serve_within(limits, &mut ours).unwrap_err();
+        assert_eq!(refused.kind(), ErrorKind::InvalidData, "{refused}");
+    }
+    let (mut ours, mut theirs) = UnixStream::pair().unwrap();
+    theirs.write_all(&Peer::saying(&[&of(2).ask().unwrap()]).says.into_inner()).unwrap();
+    drop(theirs);
+    assert_eq!(served.serve(&mut ours).unwrap_err().kind(), ErrorKind::BrokenPipe);
 }
 
 #[test]
