@@ -21,7 +21,8 @@ fn main() {
     println!("cargo:rerun-if-changed={}", library.display());
     if !library.is_file() {
         stop(&format!(
-            "{} isn't there: run c/build, or set MST_LIBRARY_FOLDER to the folder that has libmst.a",
+            "{} isn't there: take the package of a release, which has it; or run c/build in a checkout; or set MST_LIBRARY_FOLDER to the \
+             folder that has libmst.a",
             library.display()
         ));
     }
