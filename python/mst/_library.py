@@ -65,7 +65,8 @@ def _find() -> str:
     for path in [os.environ.get("MST_LIBRARY"), os.path.join(here, "libmst.so"), os.path.join(here, "..", "..", "c", "libmst.so")]:
         if path and os.path.isfile(path):
             return path
-    raise ImportError("libmst.so isn't there: run c/build, or set MST_LIBRARY to the file")
+    raise ImportError("libmst.so isn't there: install the wheel of a release, which has it; or run c/build in a checkout; or set MST_LIBRARY to "
+                      "the file")
 
 
 def _one_at_a_time(call: "Callable[..., Any]", lock: "ContextManager[object]") -> "Callable[..., Any]":

@@ -56,7 +56,7 @@ class HeldReplica(Mapping[bytes, bytes]):
     {b'apple': b'1131 ten', b'kiwi': b'1207 two', b'melon': b'1208 six'}
 
     Any thread may use a replica, to answer many peers too. But it is in one catch-up at a time: where another begins, the one before raises
-    ValueError. It holds memory outside of Python, which `close`, a `with` statement or the collector gives back. ValueError where it is
+    ValueError. So hold a lock round each `catch_up`, and none round `serve`, where threads catch up. It holds memory outside of Python, which `close`, a `with` statement or the collector gives back. ValueError where it is
     closed, in every call but `close`; MemoryError where memory is refused, and then the rows are as before but for a catch-up; TypeError
     where a key, a value or a message is none of bytes.
     """
@@ -84,7 +84,7 @@ class HeldReplica(Mapping[bytes, bytes]):
 
     def put(self, key: bytes, value: bytes) -> None:
         """Joins a value at a key: where there is one, the greater of both stays. A new key takes time in proportion to the rows behind it, at a
-        few nanoseconds each."""
+        few nanoseconds each: put many rows in the order of their keys, as `HeldReplica(rows)` does."""
         try:
             status = library.mst_replica_put(self._address, key, len(key), value, len(value))
         except ctypes.ArgumentError:
@@ -204,8 +204,8 @@ class HeldReplica(Mapping[bytes, bytes]):
         rest is as for `catch_up`, from the other side.
 
         RefusedError where the peer has other settings, and MalformedError where it sends what is no question, one of more bytes than the
-        limit or more questions than `messages`: it is sent the refusal first. EOFError where it ends within a message; what `read` and
-        `write` raise."""
+        limit or more questions than `messages`: it is sent the refusal first, if it is still there. EOFError where it ends within a message;
+        what `read` and `write` raise."""
         count = 0
         while True:
             try:
@@ -213,16 +213,18 @@ class HeldReplica(Mapping[bytes, bytes]):
                 if question and count == messages:
                     raise MalformedError(f"the peer isn't done after {messages} questions")
             except MalformedError:
-                _send(write, REFUSAL)
+                _refuse(write)
                 raise
             if not question:
                 return count
             status, reply = self._answer(question)
-            _send(write, reply)
             if status == OTHER_SETTINGS:
+                _refuse(write)
                 raise RefusedError("the peer has other settings")
             if status == MALFORMED:
+                _refuse(write)
                 raise MalformedError("the peer sent what is no question")
+            _send(write, reply)
             count += 1
 
     def close(self) -> None:
@@ -305,6 +307,12 @@ def _check(status: int, joined: int = 0) -> None:
 def _send(write: Write, message: bytes) -> None:
     """Sends a message behind how many bytes it has. One of no bytes ends a catch-up."""
     write(_pack(len(message)) + message)
+
+
+def _refuse(write: Write) -> None:
+    """Tells the peer that it is refused. It may be gone, which says less than why."""
+    with contextlib.suppress(Exception):
+        _send(write, REFUSAL)
 
 
 def _receive(read: Read, limit: int, *, may_end: bool = False) -> bytes:

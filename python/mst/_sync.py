@@ -106,7 +106,9 @@ class _Wire:
 
     def take(self) -> "Generator[Union[int, bytes], bytes, bytes]":
         size = _number((yield from self._exactly(8)))[0]
-        if not 4 <= size <= self.limit:
+        if size < 4:
+            raise MalformedError(f"a message of {size} bytes came, and a sync has none so short: does the peer run `sync`, and not `serve`?")
+        if size > self.limit:
             raise MalformedError(f"a message of {size} bytes came, and the limit is {self.limit}")
         message: bytes = yield from self._exactly(size)
         return message

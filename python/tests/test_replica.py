@@ -234,6 +234,7 @@ class CatchUps(unittest.TestCase):
             while True:
                 question = second.send(theirs.answer(question))
         self.assertEqual((end.exception.value, dict(ours)), (1, {b"a": b"1", b"b": b"2"}))
+
     def test_one_that_is_left_is_let_go(self):
         ours = HeldReplica({b"a": b"1"})
         left = ours.catch_up_steps()
@@ -356,6 +357,21 @@ class Peers(unittest.TestCase):
         self.assertRaises(OSError, replica.serve, breaks, lambda message: None)
         self.assertRaises(OSError, replica.serve, said_by(next(HeldReplica().catch_up_steps())), breaks)
         self.assertEqual(by_steps(replica, HeldReplica({b"b": b"2"}).answer)[0], 1)
+
+    def test_a_peer_that_is_gone_is_told_by_what_it_sent(self):
+        other = next(HeldReplica({b"b": b"2"}, key=bytes(range(16))).catch_up_steps())
+        for message, error in [(b"no question", MalformedError), (other, RefusedError), (bytes(2000), MalformedError)]:
+            replica, (ours, theirs) = HeldReplica({b"a": b"1"}), socket.socketpair()
+            with ours:
+                theirs.sendall(number(len(message)) + message)
+                theirs.close()
+                self.assertRaises(error, replica.serve, ours.recv, ours.sendall, limit=1000)
+        ours, theirs = socket.socketpair()
+        with ours:
+            question = next(HeldReplica({b"b": b"2"}).catch_up_steps())
+            theirs.sendall(number(len(question)) + question)
+            theirs.close()
+            self.assertRaises(BrokenPipeError, HeldReplica({b"a": b"1"}).serve, ours.recv, ours.sendall)
 
     def test_lengths_above_the_limit(self):
         replica, written, taken = HeldReplica({b"a": b"1"}), [], []

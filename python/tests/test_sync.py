@@ -7,7 +7,7 @@ import struct
 import threading
 import unittest
 
-from mst import MalformedError, Store, Synced, sync, sync_steps, sync_streams
+from mst import HeldReplica, MalformedError, Store, Synced, sync, sync_steps, sync_streams
 
 number = struct.Struct("<Q").pack
 
@@ -145,6 +145,28 @@ class Peers(unittest.TestCase):
         for messages in [[b"MSTh"], [b"MSTh" + bytes(17)], [b"MST="], [b"MSTh" + bytes(16), pages],
                          [b"MSTh" + bytes(16), b"MSTk" + number(1)]]:
             self.assertRaises(MalformedError, self.after, Store(), *messages, first=False)
+
+    def test_lengths_that_no_message_has(self):
+        for size, reason in [(0, "none so short"), (2, "none so short"), (3, "none so short"), (101, "the limit is 100")]:
+            self.assertRaisesRegex(MalformedError, f"^a message of {size} bytes came, and .*{reason}", self.after, Store(), bytes(size), limit=100)
+
+    def test_a_peer_that_serves(self):
+        ours, theirs = socket.socketpair()
+        served = []
+
+        def serve():
+            try:
+                HeldReplica().serve(theirs.recv, theirs.sendall)
+            except MalformedError as error:
+                served.append(error)
+
+        with ours, theirs:
+            peer = threading.Thread(target=serve)
+            peer.start()
+            with self.assertRaisesRegex(MalformedError, "does the peer run `sync`"):
+                sync(Store({b"a": b"1"}), ours.recv, ours.sendall, first=True)
+            peer.join()
+        self.assertEqual(len(served), 1)
 
     def test_a_length_costs_no_memory(self):
         taken = []
