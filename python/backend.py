@@ -2,6 +2,7 @@
 import base64
 import hashlib
 import os
+import re
 import zipfile
 
 HERE = os.path.dirname(os.path.abspath(__file__))
@@ -23,14 +24,19 @@ def library():
     """The library's file: that of the variable MST_LIBRARY, else the one of the folder c."""
     path = os.environ.get("MST_LIBRARY") or os.path.join(TOP, "c", "libmst.so")
     if not os.path.isfile(path):
-        raise SystemExit(f"{path} isn't there: run c/build, or set MST_LIBRARY to the file")
+        raise SystemExit(f"{path} isn't there: run c/build in a checkout, or set MST_LIBRARY to the file; the wheel of a release has it")
     return path
+
+
+def readme():
+    """The page of the package, in which links to what the wheel hasn't are plain text."""
+    return re.sub(r"\[([^][]*)\]\((?![a-z]+:)[^()]*\)", r"\1", read(HERE, "README.md").decode()).encode()
 
 
 def metadata():
     head = (f"Metadata-Version: 2.1\nName: mst\nVersion: {version()}\nSummary: {SUMMARY}\nLicense: Apache-2.0\nRequires-Python: >=3.8\n"
             "Description-Content-Type: text/markdown\n\n")
-    return head.encode() + read(HERE, "README.md")
+    return head.encode() + readme()
 
 
 def contents(info):

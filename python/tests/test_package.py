@@ -5,7 +5,9 @@ import importlib
 import os
 import subprocess
 import sys
+import tempfile
 import unittest
+import zipfile
 
 import mst
 
@@ -48,6 +50,17 @@ class Package(unittest.TestCase):
         written = python(os.path.join(HERE, "..", "examples", "asyncio_replicas.py")).splitlines()
         self.assertEqual(written, ["0 rows came", "1000 rows came", "20 rows came", "1010 1010 True"])
         self.assertEqual(len(glob.glob(os.path.join(HERE, "..", "examples", "*.py"))), 4)
+
+    def test_the_wheel_has_no_link_out_of_it(self):
+        with tempfile.TemporaryDirectory() as folder:
+            sys.path.insert(0, os.path.join(HERE, ".."))
+            self.addCleanup(sys.path.remove, sys.path[0])
+            wheel = importlib.import_module("backend").build_wheel(folder)
+            with zipfile.ZipFile(os.path.join(folder, wheel)) as files:
+                metadata = [files.read(name).decode() for name in files.namelist() if name.endswith("METADATA")]
+        self.assertEqual(len(metadata), 1)
+        self.assertIn("examples/sqlite_store.py has one in thirty lines", metadata[0])
+        self.assertNotIn("](", metadata[0])
 
     def test_an_interpreter_without_a_lock(self):
         self.assertEqual(python("-c", WITHOUT_A_LOCK), "5000 2000\n")
