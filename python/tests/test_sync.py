@@ -77,6 +77,11 @@ class Syncs(unittest.TestCase):
         self.assertEqual([end.agreed for end in ends], [False, False])
         self.assertEqual(dict(left), dict(right))
 
+    def test_under_two_keys_every_row_goes_each_time(self):
+        left, right = Store((b"%d" % i, b"") for i in range(1000)), Store(((b"%d" % i, b"") for i in range(1000)), key=bytes(range(16)))
+        for _ in range(2):
+            self.assertEqual(run(left, right), [Synced(False, 1000, 1000)] * 2)
+
     def test_rows_that_are_long(self):
         left = Store({b"long": b"x" * 300000, b"k" * 70000: b"", b"short": b""})
         right = Store()

@@ -233,6 +233,16 @@ fn other_settings_are_refused() {
     }
 }
 
+#[test]
+fn one_without_rows_tells_no_key() {
+    let sixteen = NonZeroU8::new(16).unwrap();
+    let (mut ours, mut theirs) =
+        (Replica::with_settings(&SipHasher::new(b"a key of SipHash"), sixteen, PageFormat::V1), of(3));
+    assert_eq!(by_steps(&mut ours, |question| theirs.answer(question)).unwrap().0, 100);
+    assert_eq!(model(&ours), model(&theirs));
+    assert_eq!(by_steps(&mut ours, |question| theirs.answer(question)), Err(Fault::Refused));
+}
+
 /// A peer that sends these bytes and keeps what it is sent.
 struct Peer {
     says: Cursor<Vec<u8>>,
