@@ -56,16 +56,17 @@ class HeldReplica(Mapping[bytes, bytes]):
     {b'apple': b'1131 ten', b'kiwi': b'1207 two', b'melon': b'1208 six'}
 
     Any thread may use a replica, to answer many peers too. But it is in one catch-up at a time: where another begins, the one before raises
-    ValueError. So hold a lock round each `catch_up`, and none round `serve`, where threads catch up. It holds memory outside of Python, which `close`, a `with` statement or the collector gives back. ValueError where it is
-    closed, in every call but `close`; MemoryError where memory is refused, and then the rows are as before but for a catch-up; TypeError
-    where a key, a value or a message is none of bytes.
+    ValueError. So hold a lock round each `catch_up`, and none round `serve`, where threads catch up. It holds memory outside of Python,
+    which `close`, a `with` statement or the collector gives back. ValueError where it is closed, in every call but `close`; MemoryError
+    where memory is refused, and then the rows are as before but for a catch-up; TypeError where a key, a value or a message is none of
+    bytes.
     """
 
     __slots__ = ("_handle", "_address", "_guess", "_lock", "_under_way", "__weakref__")
 
     def __init__(self, rows: Rows = (), *, key: bytes = bytes(16), level_base: int = 16, page_format: int = 1) -> None:
         """The replica of these rows; of values under one key the greatest stays. The settings are those of `Tree`. Replicas that catch up with
-        each other have all three in common, and refuse others."""
+        each other have all three in common, and refuse others; but one without rows tells no key, and is served under any."""
         if len(key) != 16:
             raise ValueError("the key of SipHash is of 16 bytes")
         if not 1 <= level_base <= 255:

@@ -35,7 +35,8 @@ class Replica(Protocol):
 
 
 class Synced(NamedTuple):
-    """What a sync came to: whether the root hashes are equal at its end, and how many rows came and went."""
+    """What a sync came to: whether the root hashes are equal at its end, and how many rows came and went. The root hashes never are equal where
+    the settings of the trees are others, which a sync can't tell: it has no error then, and sends nearly all rows each time."""
     agreed: bool
     came: int
     went: int

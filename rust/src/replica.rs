@@ -196,7 +196,7 @@ impl Default for Replica {
 
 impl Replica {
     /// A replica without rows, with these settings, which are those of a tree ([`Builder`](crate::builder::Builder)). Replicas that catch up
-    /// with each other have all three in common, and refuse others.
+    /// with each other have all three in common, and refuse others; but one without rows tells no key, and is served under any.
     pub fn with_settings(hasher: &SipHasher, level_base: NonZeroU8, page_format: PageFormat) -> Self {
         granted(Self::try_with_settings(hasher, level_base, page_format))
     }

@@ -44,7 +44,8 @@ pub trait Replica {
 /// What a sync came to.
 #[derive(Debug, Clone, Copy, PartialEq, Eq)]
 pub struct Synced {
-    /// Whether the root hashes are equal at its end.
+    /// Whether the root hashes are equal at its end. They never are where the settings of the trees are others, which a sync can't tell: it
+    /// has no error then, and sends nearly all rows each time.
     pub agreed: bool,
     /// How many rows the peer sent.
     pub came: usize,
