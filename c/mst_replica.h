@@ -54,8 +54,8 @@ struct mst_replica { void *at; };
 int mst_replica_new(struct mst_replica *out);
 
 /* The same with a key of SipHash, a level base from 1 to 255 and a page format of 1 or 2, as of mst_tree_new_with. Replicas that catch up
- * have all three in common, and say so in their first message, as far as it tells: a replica without rows tells no key, so that one with
- * another key is served all rows, and refused once it has any. MST_BAD_ARGUMENT for any other base or format, too; MST_NO_MEMORY. One
+ * have all three in common, and say so in their first message, as far as it tells: a replica without rows tells no key, so it is served
+ * by one with another key too, and refused only once it has rows. MST_BAD_ARGUMENT for any other base or format, too; MST_NO_MEMORY. One
  * request for memory. */
 int mst_replica_new_with(struct mst_replica *out, const uint8_t key[16], uint8_t level_base, uint8_t page_format);
 
