@@ -219,12 +219,6 @@ impl<K: Ord + KeyBytes, V, H: Hasher<N, K>, const N: usize> MerkleSearchTree<K, 
     ///
     /// It makes at most three calls for each node and two for each page, compares no keys, and takes no memory of its own. Its recursion
     /// is as deep as the tree, at most 256 pages.
-    ///
-    /// ```rust crates/mst_c/src/byte_tree.rt
-    /// let mut pages = Pages::new(alloc);
-    /// self.tree.in_order_traversal(&mut pages);
-    /// pages.list(alloc)
-    /// ```
     pub fn in_order_traversal<T: Visitor<N, K>>(&self, visitor: &mut T)
         ensures visited { (all : Bool) × Visits T.step visitor.old (events_of false self.now.root) all visitor.new }
     {
