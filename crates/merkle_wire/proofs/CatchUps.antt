@@ -79,8 +79,8 @@ module _ {K V H : Type 0} (laws : Laws K V H) (o : IsTotalOrder laws.cmp) (eqv :
   joined_joins joined after (rows, count, b, joins) faith = brought_joins rows after b joins faith
 
 -- where the catch-up ended before it joined, the rows are as before
-pub early_refused : {K V H : Type 0} (laws : Laws K V H) (local peer : Side K V H) (fault : MessagesError) (after : List (K × V)) → IsEarly fault → after ≡ local.rows → IsMessagesRefused laws local peer fault after
-early_refused laws local peer (Answer error) after early same = same
+pub early_refused : {K V H : Type 0} (laws : Laws K V H) (local peer : Side K V H) (fault : MessagesError) (after : List (K × V)) → IsEarly laws local peer fault → after ≡ local.rows → IsMessagesRefused laws local peer fault after
+early_refused laws local peer (Answer error) after early same = (same, early)
 early_refused laws local peer (Session error) after early same = same
 early_refused laws local peer (Join done) after early same = absurd early
 

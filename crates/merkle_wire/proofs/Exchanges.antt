@@ -5,6 +5,7 @@ use Rattle.std.specs.Global.{Vec}
 use Rattle.std.specs.List.{AllByRecursion, flat_map}
 use Rattle.std.specs.Cmp.{IsTotalOrder, IsEquivalence}
 use Rattle.std.specs.Ordering.{is_eq}
+use Rattle.std.specs.declared.cmp.Ordering.{Ordering}
 use Rattle.key_order.specs.Map.{get}
 use Rattle.key_order.specs.Order.{AnyByRecursion, Same}
 use Rattle.key_order.proofs.ListParts.{each-append, join_tells}
@@ -46,10 +47,14 @@ pub record Tell {K V H : Type 0} (laws : Laws K V H) (encoding : K → List ℕ)
   pub keys : (x y : K) → encoding x ≡ encoding y → Same laws.cmp x y
   pub value : (x y : V) (r s : List ℕ) → values x ++ r ≡ values y ++ s → (laws.eq x y ≡ true) × (r ≡ s)
 
--- so do those of keys whose equality is that of their order
+-- bytes tell keys whose equality is that of their order
+pub key_tells : {K : Type 0} (cmp : K → K → Ordering) (encoding : K → List ℕ) (eq : K → K → Bool) → ((a b : K) → eq a b ≡ is_eq (cmp a b))
+    → ((x y : K) (r s : List ℕ) → encoding x ++ r ≡ encoding y ++ s → (eq x y ≡ true) × (r ≡ s)) → (x y : K) → encoding x ≡ encoding y → Same cmp x y
+key_tells cmp encoding eq matches told x y e = eq_same cmp eq matches x y (told x y [] [] (ap (λ t. t ++ []) e)).0
+
 pub tells : {K V H : Type 0} (laws : Laws K V H) (encoding : K → List ℕ) (values : V → List ℕ) (eq : K → K → Bool) → ((a b : K) → eq a b ≡ is_eq (laws.cmp a b))
     → ((x y : K) (r s : List ℕ) → encoding x ++ r ≡ encoding y ++ s → (eq x y ≡ true) × (r ≡ s)) → ((x y : V) (r s : List ℕ) → values x ++ r ≡ values y ++ s → (laws.eq x y ≡ true) × (r ≡ s)) → Tell laws encoding values
-tells laws encoding values eq matches told told_value = record { keys = λ x y e. eq_same laws.cmp eq matches x y (told x y [] [] (ap (λ t. t ++ []) e)).0; value = told_value }
+tells laws encoding values eq matches told told_value = record { keys = key_tells laws.cmp encoding eq matches told; value = told_value }
 
 -- what is asked again has what is left
 again_asks : {K X : Type 0} (P : X → Type 0) (ask : Vec X → Question K) (left : List X) (again : Option (Question K)) → AsksAgain ask left again → AnyByRecursion P left → (rest : Vec X) × (again ≡ Some (ask rest)) × AnyByRecursion P rest.items

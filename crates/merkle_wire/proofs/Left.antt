@@ -15,6 +15,9 @@ no_items (x ∷ xs) n = absurd (omega (arith, n))
 pub no_bytes : (bytes : List ℕ) → (length bytes == 0) ≡ true → bytes ≡ []
 no_bytes bytes e = no_items bytes (eqb-true (length bytes) 0 e)
 
+pub some_bytes : (bytes : List ℕ) → (length bytes == 0) ≡ false → bytes ≢ []
+some_bytes bytes e n = let l : length bytes ≡ 0 = ap length n in absurd (grind (arith, nat_tests, e, l))
+
 module _ {X : Type 0} where
   pub none_left : (v : Vec X) → (vec_len v == 0) ≡ true → v.items ≡ []
   none_left v e = let n = eqb-true (vec_len v) 0 e in no_items v.items (omega (arith, v.ok.0, n))

@@ -31,3 +31,9 @@ pub mod AskedFor
 pub mod WholeSessions
 pub mod NoSettings
 pub mod NoQuestion
+pub mod Fronts
+pub mod Outside
+pub mod Unfit
+pub mod Others
+pub mod Twins
+pub mod SettingsTold

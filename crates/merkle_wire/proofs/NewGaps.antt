@@ -1,6 +1,7 @@
 -- The gaps between the keys of a page, one key after the other.
-use Rattle.std.proofs.Common.{◌≡◌, ℕ, List, [], ◌∷◌, ◌++◌, Option, Some, refl, ap, sym, subst, ◌∙◌, append_assoc, append-nil}
+use Rattle.std.proofs.Common.{◌≡◌, ℕ, List, [], ◌∷◌, ◌++◌, length, Option, Some, refl, ap, sym, subst, ◌∙◌, append_assoc, append-nil, arith}
 use Rattle.std.proofs.lemmas.Grind.{flat_map-append}
+use Rattle.std.proofs.lemmas.List.{length-append}
 use Rattle.std.specs.List.{AllByRecursion}
 use Rattle.key_order.proofs.ListParts.{each-append}
 use Rattle.merkle_bytes.specs.Options.{option_bytes}
@@ -26,11 +27,12 @@ module _ {K V H : Type 0} (laws : Laws K V H) (local : Side K V H) (gap : Gap K)
     pub read : begun ≡ pages_bytes pages ++ left
     pub go_on : (ks : List K) (ps : List (Option (List ℕ))) (gs : List (Gap K)) → AreNewGaps laws local (record { after = after; before = gap.before }) ks ps gs
         → AreNewGaps laws local gap (first ++ ks) (pages ++ ps) (gaps ++ gs)
+    pub count : length pages ≡ length first
     pub lengths : AllByRecursion IsPageDigest pages
     pub taken : now ≡ record before { below = before.below ++ gaps }
 
   pub pages_none : (begun : List ℕ) (before : Found K V) → ArePagesSoFar gap.after [] begun begun before before
-  pages_none begun before = record { pages = []; gaps = []; read = refl; go_on = λ ks ps gs h. h; lengths = tt; taken = λ i. record before { below = sym (append-nil before.below) i } }
+  pages_none begun before = record { pages = []; gaps = []; read = refl; go_on = λ ks ps gs h. h; count = refl; lengths = tt; taken = λ i. record before { below = sym (append-nil before.below) i } }
 
   -- what one more page adds
   pub below_more : (before mid now : Found K V) (gaps new : List (Gap K)) → mid ≡ record before { below = before.below ++ gaps } → now ≡ record mid { below = mid.below ++ new }
@@ -50,6 +52,7 @@ module _ {K V H : Type 0} (laws : Laws K V H) (local : Side K V H) (gap : Gap K)
         (subst (λ t. AreNewGaps laws local gap (first ++ k ∷ ks) t ((so.gaps ++ found) ++ gs)) (sym (append_assoc so.pages (page ∷ []) ps))
         (subst (λ t. AreNewGaps laws local gap (first ++ k ∷ ks) (so.pages ++ page ∷ ps) t) (sym (append_assoc so.gaps found gs))
         (so.go_on (k ∷ ks) (page ∷ ps) (found ++ gs) (found, gs, is, h, refl))));
+    count = omega (arith, so.count, length-append so.pages (page ∷ []), length-append first (k ∷ []));
     lengths = each-append IsPageDigest so.pages (page ∷ []) so.lengths (of, tt);
     taken = below_more before mid now so.gaps found so.taken n;
   }

@@ -1,13 +1,21 @@
 -- What comes after a reply that was taken.
-use Rattle.std.proofs.Common.{◌≡◌, ℕ, List, Option, subst}
+use Rattle.std.proofs.Common.{◌≡◌, ℕ, List, Option, Some, None, sym, ap, subst, ◌∙◌}
+use Rattle.std.specs.declared.cmp.Ordering.{Ordering}
 use Rattle.merkle_replica.specs.Contents.{Contents, Side, side}
 use Rattle.merkle_replica.specs.Laws.{Laws}
 use Rattle.merkle_tree_theory.specs.Hashed.{hashed_tree}
+use Rattle.merkle_wire.specs.Asking.{IsAskedOf, IsDone}
+use Rattle.merkle_wire.specs.Faults.{IsRefusedFor}
+use Rattle.merkle_wire.specs.Fit.{IsFit}
 use Rattle.merkle_wire.specs.Found.{Found}
-use Rattle.merkle_wire.specs.Next.{IsNext, AsksOrGoesOn}
+use Rattle.merkle_wire.specs.Next.{AsksOrGoesOn, GoesOn, HaveTwins, IsAsked, IsEnded, IsNext, IsStopped, IsTwice, rounds_with}
+use Rattle.merkle_wire.specs.Questions.{question_bytes}
 use Rattle.merkle_wire.specs.Underway.{Underway, HasTaken}
 use Rattle.merkle_wire.specs.declared.catching_up.Next.{Next}
+use Rattle.merkle_wire.specs.declared.catching_up.Next.TheVariants.{Ask, Came}
 use Rattle.merkle_wire.specs.declared.question.Question.{Question}
+use Rattle.merkle_wire.specs.declared.session_error.SessionError.{SessionError}
+use Rattle.merkle_wire.specs.declared.session_error.SessionError.TheVariants.{Malformed, Memory, NoNode, NotInGap, NothingCame, OtherKind, Refused, TooManyRounds, Twice}
 
 module _ {K V H : Type 0} where
   -- a replica whose tree is hashed is the side that it was
@@ -20,3 +28,54 @@ module _ {K V H : Type 0} where
   is_next laws n encoding values local was before inside reply found again answered next l s a taken goes =
       subst (λ u. IsNext laws n encoding values local u reply next) s
       (subst (λ t. IsNext laws n encoding values t inside reply next) l (found, again, subst (HasTaken laws n encoding values was inside.asked reply inside.found found) a taken, goes))
+
+module _ {K V : Type 0} (cmp : K → K → Ordering) where
+  -- what is asked of what is found goes on with it
+  pub asked_goes_on : (encoding : K → List ℕ) (question : Question K) (before after : Found K V) (rounds more : ℕ) (next : Next K V) → IsAsked encoding question after more next
+      → IsAskedOf (Some question) before after → more ≡ rounds_with rounds question → GoesOn cmp encoding rounds before next
+  asked_goes_on encoding question before after rounds more (Ask session message) asked of r = (
+    subst (λ s. IsAskedOf (Some s.asked) before s.found) (sym asked.1) of,
+    asked.0 ∙ ap (λ s. question_bytes encoding s.asked) (sym asked.1),
+    ap (λ s. s.rounds) asked.1 ∙ r ∙ ap (λ s. rounds_with rounds s.asked) (sym asked.1),
+  )
+  asked_goes_on encoding question before after rounds more (Came rows) asked of r = absurd asked
+
+  -- rows that don't come end the catch-up
+  pub twice_ends : (rounds : ℕ) (before after : Found K V) (rows : List (K × V)) (error : SessionError) → IsAskedOf None before after → rows ≡ after.rows → IsTwice cmp rows error → IsEnded cmp rounds before error
+  twice_ends rounds before after rows Memory done is twice = tt
+  twice_ends rounds before after rows Twice done is twice = (subst IsDone done.1 done.0, subst (HaveTwins cmp) (is ∙ ap (λ f. f.rows) done.1) twice)
+  twice_ends rounds before after rows (Malformed e) done is twice = absurd twice
+  twice_ends rounds before after rows OtherKind done is twice = absurd twice
+  twice_ends rounds before after rows Refused done is twice = absurd twice
+  twice_ends rounds before after rows NothingCame done is twice = absurd twice
+  twice_ends rounds before after rows NotInGap done is twice = absurd twice
+  twice_ends rounds before after rows NoNode done is twice = absurd twice
+  twice_ends rounds before after rows TooManyRounds done is twice = absurd twice
+
+module _ {K V H : Type 0} (laws : Laws K V H) (n : ℕ) (encoding : K → List ℕ) (values : V → List ℕ) (is_key : K → Type 0) (is_value : V → Type 0) (local : Side K V H) (before : Underway K V) (reply : List ℕ) where
+  abbrev Stopped : SessionError → Type 0
+  Stopped = IsStopped laws n encoding values is_key is_value local before reply
+
+  -- a reply that is refused stops the catch-up
+  pub refused_stops : (error : SessionError) → IsRefusedFor (¬ IsFit laws.cmp is_key is_value encoding values n before.asked reply) error → Stopped error
+  refused_stops Memory not = tt
+  refused_stops (Malformed e) not = not
+  refused_stops OtherKind not = not
+  refused_stops Refused not = not
+  refused_stops NothingCame not = not
+  refused_stops NotInGap not = not
+  refused_stops NoNode not = not
+  refused_stops TooManyRounds not = absurd not
+  refused_stops Twice not = absurd not
+
+  -- so does one after which it doesn't go on
+  pub ended_stops : (found : Found K V) (error : SessionError) → HasTaken laws n encoding values local before.asked reply before.found found None → IsEnded laws.cmp before.rounds found error → Stopped error
+  ended_stops found Memory taken ended = tt
+  ended_stops found TooManyRounds taken ended = ended
+  ended_stops found Twice taken ended = (found, taken, ended.0, ended.1)
+  ended_stops found (Malformed e) taken ended = absurd ended
+  ended_stops found OtherKind taken ended = absurd ended
+  ended_stops found Refused taken ended = absurd ended
+  ended_stops found NothingCame taken ended = absurd ended
+  ended_stops found NotInGap taken ended = absurd ended
+  ended_stops found NoNode taken ended = absurd ended

@@ -39,7 +39,7 @@ module _ {K : Type 0} (encoding : K → List ℕ) where
   sample_bytes = option_bytes pair_bytes
 
   -- the bytes of settings behind their first two
-  settings_behind : (s t : Settings K) (a b : ℕ) (l r : List ℕ) → a ∷ b ∷ l ≡ settings_bytes encoding t ++ r
+  pub settings_behind : (s t : Settings K) (a b : ℕ) (l r : List ℕ) → a ∷ b ∷ l ≡ settings_bytes encoding t ++ r
       → (b ≡ format_byte t.page_format) × (l ≡ count_bytes t.digest_bytes ++ (sample_bytes t.sample ++ r))
   settings_behind s t a b l r e =
       let sample = sample_bytes t.sample in

@@ -1,10 +1,14 @@
 -- What is told of a page, as it is read.
-use Rattle.std.proofs.Common.{◌≡◌, ℕ, List, [], ◌∷◌, ◌++◌, length, get_or, ap, ap₂, sym, ◌∙◌, append_assoc, arith}
+use Rattle.std.proofs.Common.{◌≡◌, ℕ, List, [], ◌∷◌, ◌++◌, length, get_or, refl, ap, ap₂, sym, ◌∙◌, append_assoc, arith}
 
 one_byte : (bytes : List ℕ) (b : ℕ) → length bytes ≡ 1 → get_or bytes 0 0 ≡ b → bytes ≡ b ∷ []
 one_byte [] b n e = absurd (omega (arith, n))
 one_byte (x ∷ []) b n e = ap (λ y. y ∷ []) e
 one_byte (x ∷ y ∷ ys) b n e = absurd (omega (arith, n))
+
+-- one byte was read
+pub kind_read : (kind begun mid : List ℕ) → begun ≡ kind ++ mid → length kind ≡ 1 → begun ≡ get_or kind 0 0 ∷ mid
+kind_read kind begun mid b n = b ∙ ap (λ front. front ++ mid) (one_byte kind (get_or kind 0 0) n refl)
 
 -- a byte, and what is written behind a key
 pub outline_read : (kind : List ℕ) (byte : ℕ) (bytes : List ℕ → List ℕ) (last run begun mid left : List ℕ) → begun ≡ kind ++ mid → length kind ≡ 1 → get_or kind 0 0 ≡ byte → mid ≡ bytes run ++ left

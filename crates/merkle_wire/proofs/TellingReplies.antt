@@ -1,6 +1,6 @@
 -- Bytes tell a reply, up to equal keys and equal values.
 use Rattle.std.specs.Prelude.{⊤, cond, false}
-use Rattle.std.proofs.Common.{◌≡◌, ℕ, suc, ◌≤◌, Bool, true, List, [], ◌∷◌, ◌++◌, append_assoc, length, map, Option, Some, None, refl, sym, ap, ◌∙◌, arith}
+use Rattle.std.proofs.Common.{◌≡◌, ℕ, suc, ◌<◌, ◌≤◌, Bool, true, List, [], ◌∷◌, ◌++◌, append_assoc, length, map, Option, Some, None, refl, sym, ap, ◌∙◌, arith}
 use Rattle.std.proofs.lemmas.List.{length-append}
 use Rattle.std.specs.List.{AllByRecursion, flat_map}
 use Rattle.std.specs.declared.cmp.Ordering.{Ordering}
@@ -38,22 +38,42 @@ Fits n (rows_told rows) = ⊤
 Fits n (digests_told nodes) = AllByRecursion (λ d. length d.1 ≡ n) nodes
 Fits n (page_told digest keys pages) = (length digest ≡ 16) × (length pages ≡ suc (length keys)) × AllByRecursion IsPageDigest pages
 
+-- bytes tell the digest of a page that they begin with
+pub page_tells : (p q : Option (List ℕ)) (r s : List ℕ) → IsPageDigest p → IsPageDigest q → option_bytes (λ d. d) p ++ r ≡ option_bytes (λ d. d) q ++ s → (p ≡ q) × (r ≡ s)
+page_tells None None r s a b e = let flat : 0 ∷ r ≡ 0 ∷ s = e in (refl, cc)
+page_tells None (Some d) r s a b e = absurd (let flat : 0 ∷ r ≡ 1 ∷ (d ++ s) = e in cc)
+page_tells (Some c) None r s a b e = absurd (let flat : 1 ∷ (c ++ r) ≡ 0 ∷ s = e in cc)
+page_tells (Some c) (Some d) r s a b e =
+    let flat : 1 ∷ (c ++ r) ≡ 1 ∷ (d ++ s) = e in
+    let both = join_tells c d r s (a ∙ sym b) (let f : c ++ r ≡ d ++ s = cc in f) in
+    (ap (λ x. Some x) both.0, both.1)
+
 pages_tell : (ps qs : List (Option (List ℕ))) (r s : List ℕ) → length ps ≡ length qs → AllByRecursion IsPageDigest ps → AllByRecursion IsPageDigest qs → pages_bytes ps ++ r ≡ pages_bytes qs ++ s → (ps ≡ qs) × (r ≡ s)
 pages_tell [] [] r s n a b e = (refl, e)
 pages_tell [] (q ∷ qs) r s n a b e = absurd (omega (arith, n))
 pages_tell (p ∷ ps) [] r s n a b e = absurd (omega (arith, n))
-pages_tell (None ∷ ps) (None ∷ qs) r s n a b e =
-    let flat : 0 ∷ (pages_bytes ps ++ r) ≡ 0 ∷ (pages_bytes qs ++ s) = e in
-    let (rest, f) = pages_tell ps qs r s (omega (arith, n)) a.1 b.1 (let g : pages_bytes ps ++ r ≡ pages_bytes qs ++ s = cc in g) in
-    (ap (λ xs. None ∷ xs) rest, f)
-pages_tell (None ∷ ps) (Some d ∷ qs) r s n a b e = absurd (let flat : 0 ∷ (pages_bytes ps ++ r) ≡ 1 ∷ ((d ++ pages_bytes qs) ++ s) = e in cc)
-pages_tell (Some c ∷ ps) (None ∷ qs) r s n a b e = absurd (let flat : 1 ∷ ((c ++ pages_bytes ps) ++ r) ≡ 0 ∷ (pages_bytes qs ++ s) = e in cc)
-pages_tell (Some c ∷ ps) (Some d ∷ qs) r s n a b e =
-    let flat : 1 ∷ ((c ++ pages_bytes ps) ++ r) ≡ 1 ∷ ((d ++ pages_bytes qs) ++ s) = e in
-    let behind : (c ++ pages_bytes ps) ++ r ≡ (d ++ pages_bytes qs) ++ s = cc in
-    let (first, more) = join_tells c d (pages_bytes ps ++ r) (pages_bytes qs ++ s) (a.0 ∙ sym b.0) (sym (append_assoc c (pages_bytes ps) r) ∙ behind ∙ append_assoc d (pages_bytes qs) s) in
+pages_tell (p ∷ ps) (q ∷ qs) r s n a b e =
+    let (first, more) = page_tells p q (pages_bytes ps ++ r) (pages_bytes qs ++ s) a.0 b.0 (sym (append_assoc (option_bytes (λ d. d) p) (pages_bytes ps) r) ∙ e ∙ append_assoc (option_bytes (λ d. d) q) (pages_bytes qs) s) in
     let (rest, f) = pages_tell ps qs r s (omega (arith, n)) a.1 b.1 more in
-    (λ i. Some (first i) ∷ rest i, f)
+    (λ i. first i ∷ rest i, f)
+
+-- behind digests of pages there is another where others have more
+pub pages_begin : (ps qs : List (Option (List ℕ))) (r s : List ℕ) → AllByRecursion IsPageDigest ps → AllByRecursion IsPageDigest qs → length ps < length qs → pages_bytes ps ++ r ≡ pages_bytes qs ++ s
+    → (page : Option (List ℕ)) × (behind : List ℕ) × IsPageDigest page × (r ≡ option_bytes (λ d. d) page ++ behind)
+pages_begin ps [] r s a b n e = absurd (omega (arith, n))
+pages_begin [] (q ∷ qs) r s a b n e = (q, pages_bytes qs ++ s, b.0, e ∙ append_assoc (option_bytes (λ d. d) q) (pages_bytes qs) s)
+pages_begin (p ∷ ps) (q ∷ qs) r s a b n e =
+    pages_begin ps qs r s a.1 b.1 (omega (arith, n))
+    (page_tells p q (pages_bytes ps ++ r) (pages_bytes qs ++ s) a.0 b.0 (sym (append_assoc (option_bytes (λ d. d) p) (pages_bytes ps) r) ∙ e ∙ append_assoc (option_bytes (λ d. d) q) (pages_bytes qs) s)).1
+
+-- behind digests of n bytes there are as many where others have more
+pub digests_begin : (n : ℕ) (cs ds : List (List ℕ)) (r s : List ℕ) → AllByRecursion (λ d. length d ≡ n) cs → AllByRecursion (λ d. length d ≡ n) ds → length cs < length ds
+    → flat_map (λ d. d) cs ++ r ≡ flat_map (λ d. d) ds ++ s → n ≤ length r
+digests_begin n cs [] r s a b l e = absurd (omega (arith, l))
+digests_begin n [] (d ∷ ds) r s a b l e = omega (arith, b.0, ap length e, length-append (d ++ flat_map (λ d. d) ds) s, length-append d (flat_map (λ d. d) ds))
+digests_begin n (c ∷ cs) (d ∷ ds) r s a b l e =
+    digests_begin n cs ds r s a.1 b.1 (omega (arith, l))
+    (join_tells c d (flat_map (λ d. d) cs ++ r) (flat_map (λ d. d) ds ++ s) (a.0 ∙ sym b.0) (sym (append_assoc c (flat_map (λ d. d) cs) r) ∙ e ∙ append_assoc d (flat_map (λ d. d) ds) s)).1
 
 module _ {K V : Type 0} (cmp : K → K → Ordering) (eq : V → V → Bool) where
   -- equal rows
@@ -78,6 +98,26 @@ module _ {K V : Type 0} (cmp : K → K → Ordering) (eq : V → V → Bool) whe
   SameFound (Some a) None = ⊥
   SameFound (Some a) (Some b) = eq a b ≡ true
 
+module _ {K : Type 0} (cmp : K → K → Ordering) where
+  same_keys : (js bs : List K) → SameLists (Same cmp) js bs → SameKeys cmp js bs
+  same_keys [] [] s = tt
+  same_keys [] (b ∷ bs) s = absurd s
+  same_keys (a ∷ js) [] s = absurd s
+  same_keys (a ∷ js) (b ∷ bs) s = (s.0, same_keys js bs s.1)
+
+  pub same_length : (js bs : List K) → SameLists (Same cmp) js bs → length js ≡ length bs
+  same_length [] [] s = refl
+  same_length [] (b ∷ bs) s = absurd s
+  same_length (a ∷ js) [] s = absurd s
+  same_length (a ∷ js) (b ∷ bs) s = ap suc (same_length js bs s.1)
+
+  module _ (encoding : K → List ℕ) (tells : (x y : K) → encoding x ≡ encoding y → Same cmp x y) where
+    key_tells : (last : List ℕ) (a b : K) (r s : List ℕ) → key_behind last (encoding a) ++ r ≡ key_behind last (encoding b) ++ s → Same cmp a b × (encoding a ≡ encoding b) × (r ≡ s)
+    key_tells last a b r s e = let both = behind_told last (encoding a) (encoding b) r s e in (tells a b both.0, both.0, both.1)
+
+    pub keys_tell : (last : List ℕ) (js bs : List K) (r s : List ℕ) → keys_told encoding last js ++ r ≡ keys_told encoding last bs ++ s → SameLists (Same cmp) js bs × (r ≡ s)
+    keys_tell last js bs r s e = let told = run_told (λ l k. key_behind l (encoding k)) (λ l k. encoding k) (Same cmp) key_tells last js bs r s e in (told.0, told.2)
+
 module _ {K V : Type 0} (cmp : K → K → Ordering) (eq : V → V → Bool) (encoding : K → List ℕ) (values : V → List ℕ)
     (tells : (x y : K) → encoding x ≡ encoding y → Same cmp x y) (tell_value : (x y : V) (r s : List ℕ) → values x ++ r ≡ values y ++ s → (eq x y ≡ true) × (r ≡ s)) where
   row_tells : (last : List ℕ) (a b : K × V) (r s : List ℕ) → row_behind encoding values last a ++ r ≡ row_behind encoding values last b ++ s → (SameRow cmp eq) a b × (encoding a.0 ≡ encoding b.0) × (r ≡ s)
@@ -87,27 +127,9 @@ module _ {K V : Type 0} (cmp : K → K → Ordering) (eq : V → V → Bool) (en
       let rest = tell_value a.1 b.1 r s keys.1 in
       ((tells a.0 b.0 keys.0, rest.0), keys.0, rest.1)
 
-  rows_tell : (last : List ℕ) (js bs : List (K × V)) (r s : List ℕ) → run_bytes (row_behind encoding values) (row_key encoding) last js ++ r ≡ run_bytes (row_behind encoding values) (row_key encoding) last bs ++ s
+  pub rows_tell : (last : List ℕ) (js bs : List (K × V)) (r s : List ℕ) → run_bytes (row_behind encoding values) (row_key encoding) last js ++ r ≡ run_bytes (row_behind encoding values) (row_key encoding) last bs ++ s
       → SameLists (SameRow cmp eq) js bs × (r ≡ s)
   rows_tell last js bs r s e = let told = run_told (row_behind encoding values) (row_key encoding) (SameRow cmp eq) row_tells last js bs r s e in (told.0, told.2)
-
-  key_tells : (last : List ℕ) (a b : K) (r s : List ℕ) → key_behind last (encoding a) ++ r ≡ key_behind last (encoding b) ++ s → Same cmp a b × (encoding a ≡ encoding b) × (r ≡ s)
-  key_tells last a b r s e = let both = behind_told last (encoding a) (encoding b) r s e in (tells a b both.0, both.0, both.1)
-
-  keys_tell : (last : List ℕ) (js bs : List K) (r s : List ℕ) → keys_told encoding last js ++ r ≡ keys_told encoding last bs ++ s → SameLists (Same cmp) js bs × (r ≡ s)
-  keys_tell last js bs r s e = let told = run_told (λ l k. key_behind l (encoding k)) (λ l k. encoding k) (Same cmp) key_tells last js bs r s e in (told.0, told.2)
-
-  same_keys : (js bs : List K) → SameLists (Same cmp) js bs → SameKeys cmp js bs
-  same_keys [] [] s = tt
-  same_keys [] (b ∷ bs) s = absurd s
-  same_keys (a ∷ js) [] s = absurd s
-  same_keys (a ∷ js) (b ∷ bs) s = (s.0, same_keys js bs s.1)
-
-  same_length : (js bs : List K) → SameLists (Same cmp) js bs → length js ≡ length bs
-  same_length [] [] s = refl
-  same_length [] (b ∷ bs) s = absurd s
-  same_length (a ∷ js) [] s = absurd s
-  same_length (a ∷ js) (b ∷ bs) s = ap suc (same_length js bs s.1)
 
   -- nodes with equal keys and digests of n bytes
   digests_tell : (n : ℕ) (js bs : List (K × List ℕ)) (r s : List ℕ) → SameLists (Same cmp) (keys_among js) (keys_among bs) → AllByRecursion (λ d. length d.1 ≡ n) js → AllByRecursion (λ d. length d.1 ≡ n) bs
@@ -124,7 +146,7 @@ module _ {K V : Type 0} (cmp : K → K → Ordering) (eq : V → V → Bool) (en
   first_byte : (a b : ℕ) (r s : List ℕ) → a ∷ r ≡ b ∷ s → (a ≡ b) × (r ≡ s)
   first_byte a b r s e = (cc, cc)
 
-  outline_tells : (n : ℕ) (last : List ℕ) (x y : Outline K V) (r s : List ℕ) → Fits n x → Fits n y → outline_bytes encoding values last x ++ r ≡ outline_bytes encoding values last y ++ s → (SameOutline cmp eq) x y × (r ≡ s)
+  pub outline_tells : (n : ℕ) (last : List ℕ) (x y : Outline K V) (r s : List ℕ) → Fits n x → Fits n y → outline_bytes encoding values last x ++ r ≡ outline_bytes encoding values last y ++ s → (SameOutline cmp eq) x y × (r ≡ s)
   outline_tells n last (rows_told js) (rows_told bs) r s f g e =
       let run = run_bytes (row_behind encoding values) (row_key encoding) last in
       rows_tell last js bs r s (first_byte 0 0 (run js ++ r) (run bs ++ s) e).1
@@ -132,16 +154,16 @@ module _ {K V : Type 0} (cmp : K → K → Ordering) (eq : V → V → Bool) (en
       let digests : List (K × List ℕ) → List ℕ = flat_map (λ p. p.1) in
       let keys = keys_told encoding last in
       let flat = (first_byte 1 1 ((keys (keys_among js) ++ digests js) ++ r) ((keys (keys_among bs) ++ digests bs) ++ s) e).1 in
-      let (same, rest) = keys_tell last (keys_among js) (keys_among bs) (digests js ++ r) (digests bs ++ s) (sym (append_assoc (keys (keys_among js)) (digests js) r) ∙ flat ∙ append_assoc (keys (keys_among bs)) (digests bs) s) in
+      let (same, rest) = keys_tell cmp encoding tells last (keys_among js) (keys_among bs) (digests js ++ r) (digests bs ++ s) (sym (append_assoc (keys (keys_among js)) (digests js) r) ∙ flat ∙ append_assoc (keys (keys_among bs)) (digests bs) s) in
       digests_tell n js bs r s same f g rest
   outline_tells n last (page_told c js ps) (page_told d bs qs) r s f g e =
       let keys = keys_told encoding last in
       let flat = (first_byte 2 2 ((c ++ (keys js ++ pages_bytes ps)) ++ r) ((d ++ (keys bs ++ pages_bytes qs)) ++ s) e).1 in
       let (first, more) = join_tells c d ((keys js ++ pages_bytes ps) ++ r) ((keys bs ++ pages_bytes qs) ++ s) (f.0 ∙ sym g.0)
       (sym (append_assoc c (keys js ++ pages_bytes ps) r) ∙ flat ∙ append_assoc d (keys bs ++ pages_bytes qs) s) in
-      let (same, rest) = keys_tell last js bs (pages_bytes ps ++ r) (pages_bytes qs ++ s) (sym (append_assoc (keys js) (pages_bytes ps) r) ∙ more ∙ append_assoc (keys bs) (pages_bytes qs) s) in
-      let (pages, end) = pages_tell ps qs r s (f.1 ∙ ap suc (same_length js bs same) ∙ sym g.1) f.2 g.2 rest in
-      ((first, same_keys js bs same, pages), end)
+      let (same, rest) = keys_tell cmp encoding tells last js bs (pages_bytes ps ++ r) (pages_bytes qs ++ s) (sym (append_assoc (keys js) (pages_bytes ps) r) ∙ more ∙ append_assoc (keys bs) (pages_bytes qs) s) in
+      let (pages, end) = pages_tell ps qs r s (f.1 ∙ ap suc (same_length cmp js bs same) ∙ sym g.1) f.2 g.2 rest in
+      ((first, same_keys cmp js bs same, pages), end)
   outline_tells n last (rows_told js) (digests_told bs) r s f g e = absurd (omega (arith, (first_byte 0 1 _ _ e).0))
   outline_tells n last (rows_told js) (page_told d bs qs) r s f g e = absurd (omega (arith, (first_byte 0 2 _ _ e).0))
   outline_tells n last (digests_told js) (rows_told bs) r s f g e = absurd (omega (arith, (first_byte 1 0 _ _ e).0))
@@ -149,7 +171,7 @@ module _ {K V : Type 0} (cmp : K → K → Ordering) (eq : V → V → Bool) (en
   outline_tells n last (page_told c js ps) (rows_told bs) r s f g e = absurd (omega (arith, (first_byte 2 0 _ _ e).0))
   outline_tells n last (page_told c js ps) (digests_told bs) r s f g e = absurd (omega (arith, (first_byte 2 1 _ _ e).0))
 
-  outline_some : (last : List ℕ) (x : Outline K V) → 1 ≤ length (outline_bytes encoding values last x)
+  pub outline_some : (last : List ℕ) (x : Outline K V) → 1 ≤ length (outline_bytes encoding values last x)
   outline_some last (rows_told js) = omega arith
   outline_some last (digests_told js) = omega arith
   outline_some last (page_told c js ps) = omega arith
@@ -157,7 +179,7 @@ module _ {K V : Type 0} (cmp : K → K → Ordering) (eq : V → V → Bool) (en
   abbrev flag_byte : Bool → ℕ
   flag_byte b = cond b 1 0
 
-  part_tells : (last : List ℕ) (a b : Part K V) (r s : List ℕ) → part_bytes encoding values last a ++ r ≡ part_bytes encoding values last b ++ s → (SamePart cmp eq) a b × (r ≡ s)
+  pub part_tells : (last : List ℕ) (a b : Part K V) (r s : List ℕ) → part_bytes encoding values last a ++ r ≡ part_bytes encoding values last b ++ s → (SamePart cmp eq) a b × (r ≡ s)
   part_tells last a b r s e =
       let run = run_bytes (row_behind encoding values) (row_key encoding) last in
       let (rows, rest) = rows_tell last a.rows b.rows (cond a.whole 1 0 ∷ r) (cond b.whole 1 0 ∷ s) (sym (append_assoc (run a.rows) (cond a.whole 1 0 ∷ []) r) ∙ e ∙ append_assoc (run b.rows) (cond b.whole 1 0 ∷ []) s) in
@@ -170,16 +192,16 @@ module _ {K V : Type 0} (cmp : K → K → Ordering) (eq : V → V → Bool) (en
       flag false true f = absurd (omega (arith, f))
       flag false false f = refl
 
-  part_some : (last : List ℕ) (a : Part K V) → 1 ≤ length (part_bytes encoding values last a)
+  pub part_some : (last : List ℕ) (a : Part K V) → 1 ≤ length (part_bytes encoding values last a)
   part_some last a = omega (arith, length-append (run_bytes (row_behind encoding values) (row_key encoding) last a.rows) (cond a.whole 1 0 ∷ []))
 
-  value_tells : (a b : Option V) (r s : List ℕ) → option_bytes values a ++ r ≡ option_bytes values b ++ s → (SameFound cmp eq) a b × (r ≡ s)
+  pub value_tells : (a b : Option V) (r s : List ℕ) → option_bytes values a ++ r ≡ option_bytes values b ++ s → (SameFound cmp eq) a b × (r ≡ s)
   value_tells None None r s e = (tt, (first_byte 0 0 r s e).1)
   value_tells None (Some b) r s e = absurd (omega (arith, (first_byte 0 1 r (values b ++ s) e).0))
   value_tells (Some a) None r s e = absurd (omega (arith, (first_byte 1 0 (values a ++ r) s e).0))
   value_tells (Some a) (Some b) r s e = tell_value a b r s (first_byte 1 1 (values a ++ r) (values b ++ s) e).1
 
-  value_some : (a : Option V) → 1 ≤ length (option_bytes values a)
+  pub value_some : (a : Option V) → 1 ≤ length (option_bytes values a)
   value_some None = omega arith
   value_some (Some a) = omega arith
 

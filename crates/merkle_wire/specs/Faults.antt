@@ -30,6 +30,18 @@ IsOfOthers answer.Memory = ⊥
 IsOfOthers (answer.Malformed error) = ⊥
 IsOfOthers answer.OtherSettings = ⊤
 
+-- a reply is refused for want of memory, or for this reason
+abbrev pub IsRefusedFor : Type 0 → SessionError → Type 0
+IsRefusedFor reason session.Memory = ⊤
+IsRefusedFor reason (session.Malformed error) = reason
+IsRefusedFor reason session.OtherKind = reason
+IsRefusedFor reason session.Refused = reason
+IsRefusedFor reason session.NothingCame = reason
+IsRefusedFor reason session.NotInGap = reason
+IsRefusedFor reason session.NoNode = reason
+IsRefusedFor reason session.TooManyRounds = ⊥
+IsRefusedFor reason session.Twice = ⊥
+
 -- why a message has no reply
 abbrev pub answer_error_text : AnswerError → List ℕ
 answer_error_text answer.Memory = codes "out of memory"

@@ -8,6 +8,8 @@ pub mod Outlines
 pub mod Replies
 pub mod Found
 pub mod Coming
+pub mod Fit
+pub mod Unfit
 pub mod Taking
 pub mod Asking
 pub mod Underway

@@ -1,13 +1,15 @@
 -- What comes after a reply.
-use Rattle.std.specs.Prelude.{◌≡◌, ℕ, ◌+◌, ◌≤◌, ◌++◌, List, Option, Some, None, ⊤}
+use Rattle.std.specs.Prelude.{◌≡◌, ℕ, ◌+◌, ◌≤◌, ◌∷◌, ◌++◌, List, Option, Some, None, ⊤}
 use Rattle.std.specs.List.{AllByRecursion}
 use Rattle.std.specs.List.Sorted.{IsPermutation}
 use Rattle.std.specs.declared.cmp.Ordering.{Ordering}
 use Rattle.key_order.specs.Map.{IsMap}
+use Rattle.key_order.specs.Order.{Same}
 use Rattle.merkle_replica.specs.Contents.{Side}
 use Rattle.merkle_replica.specs.Laws.{Laws}
 use Rattle.merkle_wire.specs.Asking.{IsAskedOf, IsDone}
 use Rattle.merkle_wire.specs.Coming.{IsAskedFor}
+use Rattle.merkle_wire.specs.Fit.{IsFit}
 use Rattle.merkle_wire.specs.Found.{Found}
 use Rattle.merkle_wire.specs.Questions.{question_bytes}
 use Rattle.merkle_wire.specs.Underway.{Underway, HasTaken}
@@ -15,6 +17,8 @@ use Rattle.merkle_wire.specs.declared.catching_up.Next.{Next}
 use Rattle.merkle_wire.specs.declared.catching_up.Next.TheVariants.{Ask, Came}
 use Rattle.merkle_wire.specs.declared.question.Question.{Question}
 use Rattle.merkle_wire.specs.declared.question.Question.TheVariants.{Root, Outlines, Nodes, RowsAt, RowsIn}
+use Rattle.merkle_wire.specs.declared.session_error.SessionError.{SessionError}
+use Rattle.merkle_wire.specs.declared.session_error.SessionError.TheVariants.{Memory, TooManyRounds, Twice}
 
 -- how many rounds of outlines there are with a question
 abbrev pub rounds_with : {K : Type 0} → ℕ → Question K → ℕ
@@ -23,6 +27,24 @@ rounds_with rounds (Outlines most gaps) = rounds + 1
 rounds_with rounds (Nodes most gaps) = rounds
 rounds_with rounds (RowsAt keys) = rounds
 rounds_with rounds (RowsIn gaps) = rounds
+
+module _ {K V : Type 0} (cmp : K → K → Ordering) where
+  -- two of the rows have equal keys
+  abbrev pub HaveTwins : List (K × V) → Type 0
+  HaveTwins rows = (first : K × V) × (next : K × V) × (others : List (K × V)) × IsPermutation rows (first ∷ next ∷ others) × Same cmp first.0 next.0
+
+  -- the rows don't come: memory was refused, or two of them have equal keys
+  abbrev pub IsTwice : List (K × V) → SessionError → Type 0
+  IsTwice rows Memory = ⊤
+  IsTwice rows Twice = HaveTwins rows
+  IsTwice rows _ = ⊥
+
+  -- a catch-up doesn't go on: memory was refused, there were 256 rounds of outlines, or nothing is to be asked for and of the rows two have equal keys
+  abbrev pub IsEnded : ℕ → Found K V → SessionError → Type 0
+  IsEnded rounds found Memory = ⊤
+  IsEnded rounds found TooManyRounds = rounds ≡ 256
+  IsEnded rounds found Twice = IsDone found × HaveTwins found.rows
+  IsEnded rounds found _ = ⊥
 
 -- a catch-up that asks on has asked in 256 rounds at most
 abbrev pub AsksFew : {K V : Type 0} → Next K V → Type 0
@@ -59,6 +81,15 @@ module _ {K V H : Type 0} (laws : Laws K V H) (n : ℕ) (encoding : K → List �
   abbrev pub IsNext : Side K V H → Underway K V → List ℕ → Next K V → Type 0
   IsNext local before reply next = (found : Found K V) × (again : Option (Question K))
       × HasTaken laws n encoding values local before.asked reply before.found found again × AsksOrGoesOn laws.cmp encoding again before.rounds found next
+
+  -- it is not taken, where bytes of keys and values are those of which these hold: memory was refused, or it is no reply to what was asked; else
+  -- it could be taken, but the catch-up doesn't go on
+  abbrev pub IsStopped : (K → Type 0) → (V → Type 0) → Side K V H → Underway K V → List ℕ → SessionError → Type 0
+  IsStopped is_key is_value local before reply Memory = ⊤
+  IsStopped is_key is_value local before reply TooManyRounds = before.rounds ≡ 256
+  IsStopped is_key is_value local before reply Twice = (found : Found K V) × HasTaken laws n encoding values local before.asked reply before.found found None
+      × IsDone found × HaveTwins laws.cmp found.rows
+  IsStopped is_key is_value local before reply _ = ¬ IsFit laws.cmp is_key is_value encoding values n before.asked reply
 
 module _ {K V : Type 0} (cmp : K → K → Ordering) where
   -- the rows that are found besides those that were found before are at keys that were asked for

@@ -17,14 +17,17 @@ use Rattle.merkle_tree_theory.specs.Outline.{outline_over}
 use Rattle.merkle_tree_theory.specs.State.{State}
 use Rattle.merkle_tree_theory.specs.Tree.{Tree}
 use Rattle.merkle_tree_theory.specs.declared.page_format.PageFormat.TheVariants.{V2}
+use Rattle.merkle_wire.specs.Faults.{IsOfOthers}
 use Rattle.merkle_wire.specs.Found.{Found, nothing}
 use Rattle.merkle_wire.specs.Gaps.{owned_gap}
 use Rattle.merkle_wire.specs.Next.{IsNext}
 use Rattle.merkle_wire.specs.Outlines.{nodes_among, keys_among, digest_of_all}
 use Rattle.merkle_wire.specs.Questions.{question_bytes}
 use Rattle.merkle_wire.specs.Replies.{IsReply}
+use Rattle.merkle_wire.specs.Settings.{IsDigested}
 use Rattle.merkle_wire.specs.Taking.{has_row}
 use Rattle.merkle_wire.specs.Underway.{Underway}
+use Rattle.merkle_wire.specs.declared.answering.AnswerError.{AnswerError}
 use Rattle.merkle_wire.specs.declared.catching_up.Next.{Next}
 use Rattle.merkle_wire.specs.declared.catching_up.Next.TheVariants.{Ask, Came}
 use Rattle.merkle_wire.specs.declared.settings.Settings.{Settings}
@@ -35,13 +38,31 @@ use Rattle.merkle_wire.specs.declared.session.MessagesError.TheVariants.{Answer,
 use Rattle.merkle_wire.specs.declared.question.Question.{Question}
 use Rattle.merkle_wire.specs.declared.question.Question.TheVariants.{Root, Outlines, Nodes, RowsAt, RowsIn}
 
--- the catch-up ended before it joined
-abbrev pub IsEarly : MessagesError → Type 0
-IsEarly (Answer error) = ⊤
-IsEarly (Session error) = ⊤
-IsEarly (Join done) = ⊥
+module _ {K V H : Type 0} (laws : Laws K V H) (n : ℕ) (side : Side K V H) where
+  -- a question for the root tells the settings of the side, whose digests of values have n bytes
+  abbrev pub TellsOwn : Question K → Type 0
+  TellsOwn (Root s) = (s.level_base ≡ side.base) × (s.page_format ≡ side.format) × (s.digest_bytes ≡ n) × IsDigested (laws.key_digest side.hasher) s.sample
+  TellsOwn (Outlines most gaps) = ⊤
+  TellsOwn (Nodes most gaps) = ⊤
+  TellsOwn (RowsAt keys) = ⊤
+  TellsOwn (RowsIn gaps) = ⊤
+
+  -- so does what is asked next
+  abbrev pub TellsOwnNext : Next K V → Type 0
+  TellsOwnNext (Ask session message) = TellsOwn session.asked
+  TellsOwnNext (Came rows) = ⊤
 
 module _ {K V H : Type 0} (laws : Laws K V H) (local peer : Side K V H) where
+  -- a message has no reply: for its settings only where the sides are not set alike
+  abbrev pub HasNoReply : AnswerError → Type 0
+  HasNoReply error = IsOfOthers error → ¬ AreSetAlike laws local peer
+
+  -- the catch-up ended before it joined
+  abbrev pub IsEarly : MessagesError → Type 0
+  IsEarly (Answer error) = HasNoReply error
+  IsEarly (Session error) = ⊤
+  IsEarly (Join done) = ⊥
+
   -- where both sides have all of some keys, and the digest of the digests of their values is equal on both, these digests are equal
   abbrev pub HaveFaithfulNodes : Type 0
   HaveFaithfulNodes = (keys : List K) (ds es : List (List ℕ)) → map (get laws.cmp (tree_map laws local)) keys ≡ map Some ds → map (get laws.cmp (tree_map laws peer)) keys ≡ map Some es
@@ -87,7 +108,7 @@ module _ {K V H : Type 0} (laws : Laws K V H) (local peer : Side K V H) where
 
   -- nothing is joined; or the first `done` of such rows, and not all
   abbrev pub IsMessagesRefused : MessagesError → List (K × V) → Type 0
-  IsMessagesRefused (Answer error) after = after ≡ local.rows
+  IsMessagesRefused (Answer error) after = (after ≡ local.rows) × HasNoReply error
   IsMessagesRefused (Session error) after = after ≡ local.rows
   IsMessagesRefused (Join done) after = (rows : List (K × V)) × AreBrought rows × (done < length rows) × IsJoin laws.cmp laws.eq laws.join local.rows (take done rows) after × (done ≡ 0 → after ≡ local.rows)
 

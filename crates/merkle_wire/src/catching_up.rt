@@ -1,16 +1,20 @@
 //! The asking side: what to ask next, and the rows that came in the end.
-ghost use Rattle.std.specs.Prelude.{◌≡◌, ◌++◌, ◌≤◌, IfOk, OnOk};
+ghost use Rattle.std.specs.Prelude.{◌≡◌, ◌++◌, ◌≤◌, IfOk, IfErr, OnOk};
 ghost use Rattle.merkle_bytes.specs.Counts.{count_bytes};
 ghost use Rattle.merkle_bytes.specs.Options.{option_bytes};
 ghost use Rattle.merkle_replica.specs.Contents.{side};
 ghost use Rattle.merkle_tree_theory.specs.State.{SameSettings};
+ghost use Rattle.merkle_wire.specs.Faults.{IsRefusedFor};
+ghost use Rattle.merkle_wire.specs.Fit.{IsFit, SaysRoot};
 ghost use Rattle.merkle_wire.specs.Found.{nothing};
 ghost use Rattle.merkle_wire.specs.Messages.{front};
-ghost use Rattle.merkle_wire.specs.Next.{AsksFew, GoesOn, IsAsked, IsCame, IsNext, OnlyAskedFor, rounds_with};
+ghost use Rattle.merkle_wire.specs.Next.{AsksFew, GoesOn, IsAsked, IsCame, IsEnded, IsNext, IsStopped, IsTwice, OnlyAskedFor, rounds_with};
 ghost use Rattle.merkle_wire.specs.Questions.{AsksForRoot, question_bytes};
 ghost use Rattle.merkle_wire.specs.Steps.{TakesRoot};
 ghost use Rattle.merkle_wire.specs.Underway.{HasTaken};
+ghost use Rattle.merkle_wire.specs.Unfit.{SaysNot};
 ghost use Rattle.merkle_wire.specs.declared.message.Kind.TheVariants.{Root as root_kind};
+ghost use Rattle.merkle_wire.specs.declared.session_error.SessionError.TheVariants.{Memory, TooManyRounds};
 
 use crate::gaps::OwnedGap;
 use crate::message::Kind;
@@ -129,6 +133,12 @@ impl<K: Key + Decode, V: Join + Decode> CatchingUp<K, V> {
 
         // What is added to the rows that were found lies in the gaps, or at the keys, that were asked for.
         ensures asked_for { IfOk result (OnlyAskedFor K.cmp self) }
+
+        // A reply to what was asked is taken, but for want of memory, or where the catch-up doesn't go on behind it: after 256 rounds of
+        // outlines, or where two of the rows that were found have equal keys.
+        ensures ended { IfErr result (IsStopped ⟦<H as Lawful<N, K, V>>⟧.laws N K.encoding V.encoding K.is_value V.is_value
+            (side replica.old) self reply.now) }
+
         ensures rows { replica.new.rows ≡ replica.old.rows }
         ensures settings { SameSettings replica.old.tree replica.new.tree }
     {
@@ -155,8 +165,9 @@ fn take_reply<K: Key + Decode, V: Join + Decode, H: Hasher<N, K> + Hasher<N, V>,
     reply: &[u8],
     work: &mut Work<K, V>,
 ) -> Result<Option<Question<K>>, SessionError>
-    ensures { IfOk result (HasTaken ⟦<H as Lawful<N, K, V>>⟧.laws N K.encoding V.encoding (side replica.now) asked
+    ensures taken { IfOk result (HasTaken ⟦<H as Lawful<N, K, V>>⟧.laws N K.encoding V.encoding (side replica.now) asked
         reply.now work.old work.new) }
+    ensures refused { IfErr result (IsRefusedFor (¬ IsFit K.cmp K.is_value V.is_value K.encoding V.encoding N asked reply.now)) }
 {
     match asked {
         Question::Root(_) => {
@@ -164,14 +175,14 @@ fn take_reply<K: Key + Decode, V: Join + Decode, H: Hasher<N, K> + Hasher<N, V>,
             Ok(None)
         }
         Question::Outlines(most, gaps) => {
-            let left = take_outlines(alloc, replica, Kind::Outlines, gaps, reply, work)?;
+            let left = take_outlines(alloc, replica, Kind::Outlines, true, gaps, reply, work)?;
             if left.is_empty() {
                 return Ok(None);
             }
             Ok(Some(Question::Outlines(most, left)))
         }
         Question::Nodes(most, gaps) => {
-            let left = take_outlines(alloc, replica, Kind::Nodes, gaps, reply, work)?;
+            let left = take_outlines(alloc, replica, Kind::Nodes, false, gaps, reply, work)?;
             if left.is_empty() {
                 return Ok(None);
             }
@@ -201,7 +212,8 @@ fn take_root<K: Key + Decode, V: Join + Decode, H: Hasher<N, K> + Hasher<N, V>, 
     reply: &[u8],
     work: &mut Work<K, V>,
 ) -> Result<(), SessionError>
-    ensures { OnOk result (TakesRoot ⟦<H as Lawful<N, K, V>>⟧.laws replica.now reply.now work.old work.new) }
+    ensures taken { OnOk result (TakesRoot ⟦<H as Lawful<N, K, V>>⟧.laws replica.now reply.now work.old work.new) }
+    ensures refused { IfErr result (IsRefusedFor (SaysNot root_kind SaysRoot reply.now)) }
 {
     let (rows, digest) = decode_root(alloc, reply)?;
     let Some(digest) = digest else {
@@ -220,7 +232,8 @@ fn take_root<K: Key + Decode, V: Join + Decode, H: Hasher<N, K> + Hasher<N, V>, 
 
 /// How many rows the peer has, and the digest of its root page, or none.
 fn decode_root(alloc: Global, reply: &[u8]) -> Result<(u64, Option<PageDigest>), SessionError>
-    ensures { IfOk result (λ root. reply.now ≡ (front root_kind ++ count_bytes root.0) ++ option_bytes (λ d. d) root.1) }
+    ensures read { IfOk result (λ root. reply.now ≡ (front root_kind ++ count_bytes root.0) ++ option_bytes (λ d. d) root.1) }
+    ensures refused { IfErr result (IsRefusedFor (SaysNot root_kind SaysRoot reply.now)) }
 {
     let mut reader = Reader::new(alloc, reply);
     expect(&mut reader, Kind::Root)?;
@@ -245,6 +258,7 @@ fn go_on<K: Key + Decode, V: Join + Decode>(
     requires { rounds ≤ 256 }
     ensures goes_on { IfOk result (GoesOn K.cmp K.encoding rounds work) }
     ensures few { IfOk result AsksFew }
+    ensures ended { IfErr result (IsEnded K.cmp rounds work) }
 {
     let mut work = work;
     match work.next_question(digest_bytes)? {
@@ -261,6 +275,7 @@ fn rounds_with<K>(rounds: u32, question: &Question<K>) -> Result<u32, SessionErr
     requires { rounds ≤ 256 }
     ensures with { IfOk result (λ more. more ≡ rounds_with rounds question.now) }
     ensures few { IfOk result (λ more. more ≤ 256) }
+    ensures many { IfErr result (λ error. (error ≡ TooManyRounds) × (rounds ≡ 256)) }
 {
     match question {
         Question::Outlines(_, _) => {
@@ -283,6 +298,7 @@ fn ask<K: Key + Decode, V: Join + Decode>(
     requires { rounds ≤ 256 }
     ensures asked { IfOk result (IsAsked K.encoding question work rounds) }
     ensures few { IfOk result AsksFew }
+    ensures memory { IfErr result (λ error. error ≡ Memory) }
 {
     let message = encode_question(alloc, &question)?;
     let session = CatchingUp {
@@ -296,7 +312,8 @@ fn ask<K: Key + Decode, V: Join + Decode>(
 
 /// The rows in ascending key order.
 fn came<K: Key + Decode, V: Join + Decode>(rows: Vec<(K, V)>) -> Result<Next<K, V>, SessionError>
-    ensures { IfOk result (IsCame K.cmp rows.items) }
+    ensures came { IfOk result (IsCame K.cmp rows.items) }
+    ensures ended { IfErr result (IsTwice K.cmp rows.items) }
 {
     let mut rows = rows;
     rows.sort_by(

@@ -1,8 +1,10 @@
 //! The digests of pages in messages: each as a byte 0 where there is no page, or a byte 1 and its 16 bytes.
-ghost use Rattle.std.specs.Prelude.{◌≡◌, ◌++◌, OnOk, IfOk};
+ghost use Rattle.std.specs.Prelude.{◌≡◌, ◌++◌, OnOk, IfOk, IfErr};
 ghost use Rattle.std.specs.Option.{option_map};
 ghost use Rattle.merkle_bytes.specs.Options.{option_bytes};
+ghost use Rattle.merkle_bytes.specs.Refusals.{IsMalformed};
 ghost use Rattle.merkle_wire.specs.Coming.{IsPageDigest};
+ghost use Rattle.merkle_wire.specs.Unfit.{NoPageDigest};
 
 use merkle_bytes::{ReadError, Reader};
 use merkle_digest::PageDigest;
@@ -28,6 +30,7 @@ pub(crate) fn encode_page(
 pub(crate) fn decode_page(reader: &mut Reader<'_>) -> Result<Option<PageDigest>, ReadError>
     ensures len { IfOk result IsPageDigest }
     ensures read { IfOk result (λ digest. reader.old.left.now ≡ option_bytes (λ d. d) digest ++ reader.new.left.now) }
+    ensures malformed { IfErr result (λ error. IsMalformed error → NoPageDigest reader.old.left.now) }
 {
     if reader.flag()? {
         Ok(Some(PageDigest::new(reader.array::<16>()?)))

@@ -1,7 +1,11 @@
 //! Replies that came, read entry by entry: each answers the first of what was asked for, or all of it.
-ghost use Rattle.std.specs.Prelude.{◌≡◌, ◌≢◌, ◌++◌, [], IfOk, OnOk};
+ghost use Rattle.std.specs.Prelude.{◌≡◌, ◌≢◌, ◌++◌, [], length, IfOk, IfErr, OnOk};
+ghost use Rattle.merkle_wire.specs.Faults.{IsRefusedFor};
+ghost use Rattle.merkle_wire.specs.Fit.{SaysOutlines, SaysParts, SaysValues};
 ghost use Rattle.merkle_wire.specs.Messages.{front};
 ghost use Rattle.merkle_wire.specs.Steps.{TakesFirstOutlines, TakesFirstParts, TakesOutlines, TakesParts, TakesValues};
+ghost use Rattle.merkle_wire.specs.Unfit.{NoEntry, NoFront, NoOutlines, NoParts, SaysNot};
+ghost use Rattle.merkle_wire.specs.declared.message.Kind.TheVariants.{RowsAt as rows_at_kind, RowsIn as rows_in_kind};
 
 use crate::gaps::OwnedGap;
 use crate::message::{Kind, decode_kind};
@@ -16,7 +20,8 @@ use std::alloc::Global;
 
 /// Reads the front of a reply of this kind.
 pub(crate) fn expect(reader: &mut Reader<'_>, kind: Kind) -> Result<(), SessionError>
-    ensures { OnOk result (reader.old.left.now ≡ front kind ++ reader.new.left.now) }
+    ensures read { OnOk result (reader.old.left.now ≡ front kind ++ reader.new.left.now) }
+    ensures refused { IfErr result (IsRefusedFor (NoFront kind reader.old.left.now)) }
 {
     let came = decode_kind(reader)?;
     if came == kind {
@@ -32,6 +37,7 @@ pub(crate) fn expect(reader: &mut Reader<'_>, kind: Kind) -> Result<(), SessionE
 fn reader_of<'a>(alloc: Global, reply: &'a [u8], kind: Kind) -> Result<Reader<'a>, SessionError>
     ensures read { IfOk result (λ reader. reply.now ≡ front kind ++ reader.left.now) }
     ensures some { IfOk result (λ reader. reader.left.now ≢ []) }
+    ensures refused { IfErr result (IsRefusedFor (NoEntry kind reply.now)) }
 {
     let mut reader = Reader::new(alloc, reply);
     expect(&mut reader, kind)?;
@@ -51,16 +57,19 @@ pub(crate) fn take_outlines<
     alloc: Global,
     replica: &Replica<K, V, H, N>,
     kind: Kind,
+    with_pages: bool,
     gaps: Vec<OwnedGap<K>>,
     reply: &[u8],
     work: &mut Work<K, V>,
 ) -> Result<Vec<OwnedGap<K>>, SessionError>
-    ensures { IfOk result (TakesOutlines ⟦<H as Lawful<N, K, V>>⟧.laws N K.encoding V.encoding replica.now kind gaps
+    ensures taken { IfOk result (TakesOutlines ⟦<H as Lawful<N, K, V>>⟧.laws N K.encoding V.encoding replica.now kind gaps
         reply.now work.old work.new) }
+    ensures refused { IfErr result (IsRefusedFor (SaysNot kind (SaysOutlines K.cmp K.is_value V.is_value K.encoding V.encoding N with_pages
+        gaps.items) reply.now)) }
 {
     let mut gaps = gaps;
     let mut reader = reader_of(alloc, reply, kind)?;
-    let count = take_first_outlines(&mut reader, replica, kind == Kind::Outlines, &gaps, work)?;
+    let count = take_first_outlines(&mut reader, replica, with_pages, &gaps, work)?;
     reader.end()?;
     Ok(gaps.split_off(count)?)
 }
@@ -78,8 +87,11 @@ fn take_first_outlines<
     gaps: &[OwnedGap<K>],
     work: &mut Work<K, V>,
 ) -> Result<usize, SessionError>
-    ensures { IfOk result (TakesFirstOutlines ⟦<H as Lawful<N, K, V>>⟧.laws N K.encoding V.encoding replica.now gaps.now
+    ensures taken { IfOk result (TakesFirstOutlines ⟦<H as Lawful<N, K, V>>⟧.laws N K.encoding V.encoding replica.now gaps.now
         reader.old reader.new work.old work.new) }
+    ensures all { IfOk result (λ count. reader.new.left.now ≢ [] → count ≡ length gaps.now) }
+    ensures refused { IfErr result (IsRefusedFor (NoOutlines K.cmp K.is_value V.is_value K.encoding V.encoding N with_pages gaps.now
+        reader.old.left.now)) }
 {
     let mut count = 0;
     'gaps: for gap in gaps {
@@ -105,7 +117,8 @@ pub(crate) fn take_values<
     reply: &[u8],
     work: &mut Work<K, V>,
 ) -> Result<Vec<Wanted<K>>, SessionError>
-    ensures { IfOk result (TakesValues ⟦<H as Lawful<N, K, V>>⟧.laws N K.encoding V.encoding replica.now keys reply.now work.old work.new) }
+    ensures taken { IfOk result (TakesValues ⟦<H as Lawful<N, K, V>>⟧.laws N K.encoding V.encoding replica.now keys reply.now work.old work.new) }
+    ensures refused { IfErr result (IsRefusedFor (SaysNot rows_at_kind (SaysValues V.is_value V.encoding keys.items) reply.now)) }
 {
     let mut reader = reader_of(alloc, reply, Kind::RowsAt)?;
     let mut left = Vec::new(alloc);
@@ -133,7 +146,9 @@ pub(crate) fn take_parts<
     reply: &[u8],
     work: &mut Work<K, V>,
 ) -> Result<Vec<OwnedGap<K>>, SessionError>
-    ensures { IfOk result (TakesParts ⟦<H as Lawful<N, K, V>>⟧.laws N K.encoding V.encoding replica.now gaps reply.now work.old work.new) }
+    ensures taken { IfOk result (TakesParts ⟦<H as Lawful<N, K, V>>⟧.laws N K.encoding V.encoding replica.now gaps reply.now work.old work.new) }
+    ensures refused { IfErr result (IsRefusedFor (SaysNot rows_in_kind (SaysParts K.cmp K.is_value V.is_value K.encoding V.encoding gaps.items)
+        reply.now)) }
 {
     let mut gaps = gaps;
     let mut left = Vec::new(alloc);
@@ -159,8 +174,10 @@ fn take_first_parts<
     left: &mut Vec<OwnedGap<K>>,
     work: &mut Work<K, V>,
 ) -> Result<usize, SessionError>
-    ensures { IfOk result (TakesFirstParts ⟦<H as Lawful<N, K, V>>⟧.laws N K.encoding V.encoding replica.now gaps.now reader.old reader.new
+    ensures taken { IfOk result (TakesFirstParts ⟦<H as Lawful<N, K, V>>⟧.laws N K.encoding V.encoding replica.now gaps.now reader.old reader.new
         left.old left.new work.old work.new) }
+    ensures all { IfOk result (λ count. reader.new.left.now ≢ [] → count ≡ length gaps.now) }
+    ensures refused { IfErr result (IsRefusedFor (NoParts K.cmp K.is_value V.is_value K.encoding V.encoding gaps.now reader.old.left.now)) }
 {
     let mut count = 0;
     'gaps: for gap in gaps {

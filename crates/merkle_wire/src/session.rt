@@ -4,7 +4,7 @@ ghost use Rattle.merkle_replica.specs.Contents.{side};
 ghost use Rattle.merkle_tree_theory.specs.State.{SameSettings};
 ghost use Rattle.merkle_wire.specs.Questions.{question_bytes};
 ghost use Rattle.merkle_wire.specs.Sessions.{AreBrought, CatchesUpWhileFaithful, HasJoined, HaveJoined, HoldTheJoinWhileFaithful, JoinsWhileFaithful};
-ghost use Rattle.merkle_wire.specs.Sessions.{AreBothRefused, GoesOnCovering, IsMessagesRefused, IsEarly};
+ghost use Rattle.merkle_wire.specs.Sessions.{AreBothRefused, GoesOnCovering, IsMessagesRefused, IsEarly, TellsOwn, TellsOwnNext};
 
 use crate::answering::{AnswerError, answer};
 use crate::catching_up::{CatchingUp, Next};
@@ -50,7 +50,7 @@ pub fn catch_up_by_messages<
         joined replica.new.rows) }
     ensures join { OnOk result (JoinsWhileFaithful ⟦<H as Lawful<N, K, V>>⟧.laws (side replica.old) (side peer.old) replica.new.rows) }
 
-    // Refused, it has joined no row, or the first ones.
+    // Refused, it has joined no row, or the first ones. For its settings it is refused only where the two are not set alike.
     ensures refused { IfErr result (λ fault. IsMessagesRefused ⟦<H as Lawful<N, K, V>>⟧.laws (side replica.old) (side peer.old) fault replica.new.rows) }
 
     ensures peer_rows { peer.new.rows ≡ peer.old.rows }
@@ -127,7 +127,7 @@ fn rows_by_messages<
     peer: &mut Replica<K, V, H, N>,
 ) -> Result<Vec<(K, V)>, MessagesError>
     ensures brought { IfOk result (λ rows. AreBrought ⟦<H as Lawful<N, K, V>>⟧.laws (side replica.old) (side peer.old) rows.items) }
-    ensures early { IfErr result IsEarly }
+    ensures early { IfErr result (IsEarly ⟦<H as Lawful<N, K, V>>⟧.laws (side replica.old) (side peer.old)) }
     ensures rows { replica.new.rows ≡ replica.old.rows }
     ensures settings { SameSettings replica.old.tree replica.new.tree }
     ensures peer_rows { peer.new.rows ≡ peer.old.rows }
@@ -159,9 +159,11 @@ fn exchange<K: Key + Decode, V: Join + Decode, H: Hasher<N, K> + Hasher<N, V>, c
     session: CatchingUp<K, V>,
     message: Vec<u8>,
 ) -> Result<Next<K, V>, MessagesError>
-    requires { message.items ≡ question_bytes K.encoding session.asked }
+    requires asks { message.items ≡ question_bytes K.encoding session.asked }
+    requires own { TellsOwn ⟦<H as Lawful<N, K, V>>⟧.laws N (side replica.now) session.asked }
+    ensures own { IfOk result (TellsOwnNext ⟦<H as Lawful<N, K, V>>⟧.laws N (side replica.old)) }
     ensures covers { IfOk result (GoesOnCovering ⟦<H as Lawful<N, K, V>>⟧.laws N K.encoding (side replica.old) (side peer.old) session) }
-    ensures early { IfErr result IsEarly }
+    ensures early { IfErr result (IsEarly ⟦<H as Lawful<N, K, V>>⟧.laws (side replica.old) (side peer.old)) }
     ensures rows { replica.new.rows ≡ replica.old.rows }
     ensures settings { SameSettings replica.old.tree replica.new.tree }
     ensures peer_rows { peer.new.rows ≡ peer.old.rows }

@@ -1,9 +1,11 @@
 //! What came of pages, rows and values, read and compared with what this side has.
-ghost use Rattle.std.specs.Prelude.{OnOk};
+ghost use Rattle.std.specs.Prelude.{◌≡◌, [], length, ◌+◌, OnOk, IfErr};
 ghost use Rattle.merkle_replica.specs.Contents.{side};
+ghost use Rattle.merkle_wire.specs.Faults.{IsRefusedFor};
 ghost use Rattle.merkle_wire.specs.Steps.{AddsBehind, TakesDigests, TakesNodes, TakesOutline, TakesPart, TakesRows, TakesValue};
 ghost use Rattle.merkle_wire.specs.Steps.{TakesBelow, TakesPage, TakesPages, between};
 ghost use Rattle.merkle_wire.specs.Taking.{AddsRows};
+ghost use Rattle.merkle_wire.specs.Unfit.{NoDigests, NoNodes, NoOutline, NoPage, NoPageDigest, NoPageDigests, NoPart, NoRows, NoValue};
 
 use crate::gaps::OwnedGap;
 use crate::pages::decode_page;
@@ -31,8 +33,10 @@ pub(crate) fn take_outline<
     gap: &OwnedGap<K>,
     work: &mut Work<K, V>,
 ) -> Result<(), SessionError>
-    ensures { OnOk result (TakesOutline ⟦<H as Lawful<N, K, V>>⟧.laws N K.encoding V.encoding replica.now gap.now
+    ensures taken { OnOk result (TakesOutline ⟦<H as Lawful<N, K, V>>⟧.laws N K.encoding V.encoding replica.now gap.now
         reader.old reader.new work.old work.new) }
+    ensures refused { IfErr result (IsRefusedFor (NoOutline K.cmp K.is_value V.is_value K.encoding V.encoding N with_pages gap.now
+        reader.old.left.now)) }
 {
     let mut run = KeyRun::behind(reader.alloc(), gap.after.as_ref())?;
     let [kind] = reader.array::<1>()?;
@@ -59,8 +63,10 @@ fn take_rows<K: Key + Decode, V: Join + Decode, H: Hasher<N, K> + Hasher<N, V>, 
     run: &mut KeyRun,
     work: &mut Work<K, V>,
 ) -> Result<(), SessionError>
-    ensures { OnOk result (TakesRows ⟦<H as Lawful<N, K, V>>⟧.laws K.encoding V.encoding replica.now run.old gap.now
+    ensures taken { OnOk result (TakesRows ⟦<H as Lawful<N, K, V>>⟧.laws K.encoding V.encoding replica.now run.old gap.now
         reader.old reader.new work.old work.new) }
+    ensures refused { IfErr result (IsRefusedFor (NoRows K.cmp K.is_value V.is_value K.encoding V.encoding run.old gap.now
+        reader.old.left.now)) }
 {
     let before = reader.left().len();
     let rows = decode_run::<(K, V)>(run, reader)?;
@@ -95,8 +101,9 @@ fn take_digests<K: Key + Decode, V: Join + Drop, H: Hasher<N, K> + Hasher<N, V>,
     run: &mut KeyRun,
     work: &mut Work<K, V>,
 ) -> Result<(), SessionError>
-    ensures { OnOk result (TakesDigests ⟦<H as Lawful<N, K, V>>⟧.laws N K.encoding replica.now run.old gap.now
+    ensures taken { OnOk result (TakesDigests ⟦<H as Lawful<N, K, V>>⟧.laws N K.encoding replica.now run.old gap.now
         reader.old reader.new work.old work.new) }
+    ensures refused { IfErr result (IsRefusedFor (NoNodes K.cmp K.is_value K.encoding N run.old gap.now reader.old.left.now)) }
 {
     let keys = decode_run::<Wanted<K>>(run, reader)?;
     if !keys_lie_in(&keys, gap) {
@@ -113,7 +120,8 @@ fn take_nodes<K: Key + Drop, V: Join + Drop, H: Hasher<N, K> + Hasher<N, V>, con
     keys: Vec<Wanted<K>>,
     work: &mut Work<K, V>,
 ) -> Result<(), SessionError>
-    ensures { OnOk result (TakesNodes ⟦<H as Lawful<N, K, V>>⟧.laws replica.now N keys.items reader.old reader.new work.old work.new) }
+    ensures taken { OnOk result (TakesNodes ⟦<H as Lawful<N, K, V>>⟧.laws replica.now N keys.items reader.old reader.new work.old work.new) }
+    ensures refused { IfErr result (IsRefusedFor (NoDigests N (length keys.items) reader.old.left.now)) }
 {
     'keys: for wanted in keys {
         let digest = reader.slice(N)?;
@@ -131,8 +139,9 @@ fn take_page<K: Key + Decode, V: Join + Drop, H: Hasher<N, K> + Hasher<N, V>, co
     run: &mut KeyRun,
     work: &mut Work<K, V>,
 ) -> Result<(), SessionError>
-    ensures { OnOk result (TakesPage ⟦<H as Lawful<N, K, V>>⟧.laws N K.encoding replica.now run.old gap.now
+    ensures taken { OnOk result (TakesPage ⟦<H as Lawful<N, K, V>>⟧.laws N K.encoding replica.now run.old gap.now
         reader.old reader.new work.old work.new) }
+    ensures refused { IfErr result (IsRefusedFor (NoPage K.cmp K.is_value K.encoding run.old gap.now reader.old.left.now)) }
 {
     let digest = reader.array::<16>()?;
     let before = reader.left().len();
@@ -162,7 +171,8 @@ fn take_pages<K: Key + Decode, V: Join + Drop, H: Hasher<N, K> + Hasher<N, V>, c
     keys: &[Wanted<K>],
     work: &mut Work<K, V>,
 ) -> Result<(), SessionError>
-    ensures { OnOk result (TakesPages ⟦<H as Lawful<N, K, V>>⟧.laws replica.now gap.now keys.now reader.old reader.new work.old work.new) }
+    ensures taken { OnOk result (TakesPages ⟦<H as Lawful<N, K, V>>⟧.laws replica.now gap.now keys.now reader.old reader.new work.old work.new) }
+    ensures refused { IfErr result (IsRefusedFor (NoPageDigests (length keys.now + 1) reader.old.left.now)) }
 {
     let mut after = gap.after.as_ref();
     'keys: for wanted in keys {
@@ -181,8 +191,9 @@ fn take_below<K: Key + Drop, V: Join + Drop, H: Hasher<N, K> + Hasher<N, V>, con
     before: Option<&K>,
     work: &mut Work<K, V>,
 ) -> Result<(), SessionError>
-    ensures { OnOk result (TakesBelow ⟦<H as Lawful<N, K, V>>⟧.laws replica.now (between after.entry before.entry)
+    ensures taken { OnOk result (TakesBelow ⟦<H as Lawful<N, K, V>>⟧.laws replica.now (between after.entry before.entry)
         reader.old reader.new work.old work.new) }
+    ensures refused { IfErr result (IsRefusedFor (NoPageDigest reader.old.left.now)) }
 {
     let Some(digest) = decode_page(reader)? else {
         return Ok(());
@@ -208,7 +219,8 @@ pub(crate) fn take_value<
     wanted: Wanted<K>,
     work: &mut Work<K, V>,
 ) -> Result<(), SessionError>
-    ensures { OnOk result (TakesValue ⟦<H as Lawful<N, K, V>>⟧.laws replica.now V.encoding wanted reader.old reader.new work.old work.new) }
+    ensures taken { OnOk result (TakesValue ⟦<H as Lawful<N, K, V>>⟧.laws replica.now V.encoding wanted reader.old reader.new work.old work.new) }
+    ensures refused { IfErr result (IsRefusedFor (NoValue V.is_value V.encoding reader.old.left.now)) }
 {
     let Some(value) = Option::<V>::decode(reader)? else {
         return Ok(());
@@ -231,8 +243,9 @@ pub(crate) fn take_part<
     left: &mut Vec<OwnedGap<K>>,
     work: &mut Work<K, V>,
 ) -> Result<(), SessionError>
-    ensures { OnOk result (TakesPart ⟦<H as Lawful<N, K, V>>⟧.laws N K.encoding V.encoding replica.now gap.now reader.old reader.new
+    ensures taken { OnOk result (TakesPart ⟦<H as Lawful<N, K, V>>⟧.laws N K.encoding V.encoding replica.now gap.now reader.old reader.new
         left.old left.new work.old work.new) }
+    ensures refused { IfErr result (IsRefusedFor (NoPart K.cmp K.is_value V.is_value K.encoding V.encoding gap.now reader.old.left.now)) }
 {
     let mut run = KeyRun::behind(reader.alloc(), gap.after.as_ref())?;
     let rows = decode_run::<(K, V)>(&mut run, reader)?;
@@ -254,7 +267,8 @@ fn add_behind<K: Key, V>(
     gap: &OwnedGap<K>,
     left: &mut Vec<OwnedGap<K>>,
 ) -> Result<(), SessionError>
-    ensures { OnOk result (AddsBehind K.cmp rows.now gap.now left.old.items left.new.items) }
+    ensures added { OnOk result (AddsBehind K.cmp rows.now gap.now left.old.items left.new.items) }
+    ensures refused { IfErr result (IsRefusedFor (rows.now ≡ [])) }
 {
     let Some(last) = rows.last() else {
         return Err(SessionError::NothingCame);

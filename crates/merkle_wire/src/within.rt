@@ -1,8 +1,8 @@
 //! Whether keys that came ascend within the gap that was asked for.
-ghost use Rattle.std.specs.Prelude.{◌≡◌, IsTrue, map};
+ghost use Rattle.std.specs.Prelude.{◌≡◌, IsTrue, false, map};
 ghost use Rattle.key_order.specs.Map.{IsMap};
 ghost use Rattle.merkle_search_tree.specs.Items.{bound_of};
-ghost use Rattle.merkle_tree_theory.specs.Gap.{IsAfter, IsBefore};
+ghost use Rattle.merkle_tree_theory.specs.Gap.{IsAfter, IsBefore, everywhere};
 ghost use Rattle.merkle_wire.specs.Coming.{AscendIn};
 ghost use Rattle.merkle_wire.specs.Gaps.{owned_gap};
 
@@ -12,7 +12,8 @@ use crate::wanted::Wanted;
 
 /// Whether each key is above the one before it, and all are in the gap.
 pub(crate) fn keys_lie_in<K: Ord>(keys: &[Wanted<K>], gap: &OwnedGap<K>) -> bool
-    ensures { IsTrue result → AscendIn K.cmp (owned_gap gap.now) (map (λ w. w.key) keys.now) }
+    ensures inside { IsTrue result → AscendIn K.cmp (owned_gap gap.now) (map (λ w. w.key) keys.now) }
+    ensures outside { result ≡ false → ¬ AscendIn K.cmp (owned_gap gap.now) (map (λ w. w.key) keys.now) }
 {
     let mut after = gap.after.as_ref();
     'keys: for wanted in keys {
@@ -26,7 +27,8 @@ pub(crate) fn keys_lie_in<K: Ord>(keys: &[Wanted<K>], gap: &OwnedGap<K>) -> bool
 
 /// Whether each key is above the one before it, and all are in the gap.
 pub(crate) fn rows_lie_in<K: Ord, V>(rows: &[(K, V)], gap: &OwnedGap<K>) -> bool
-    ensures { IsTrue result → AscendIn K.cmp (owned_gap gap.now) (map (λ r. r.0) rows.now) }
+    ensures inside { IsTrue result → AscendIn K.cmp (owned_gap gap.now) (map (λ r. r.0) rows.now) }
+    ensures outside { result ≡ false → ¬ AscendIn K.cmp (owned_gap gap.now) (map (λ r. r.0) rows.now) }
 {
     let mut after = gap.after.as_ref();
     'rows: for row in rows {
@@ -40,14 +42,16 @@ pub(crate) fn rows_lie_in<K: Ord, V>(rows: &[(K, V)], gap: &OwnedGap<K>) -> bool
 
 /// Whether the key of each row is above the one before it.
 pub(crate) fn rows_ascend<K: Ord + Drop, V>(rows: &[(K, V)]) -> bool
-    ensures { IsTrue result → IsMap K.cmp rows.now }
+    ensures ascending { IsTrue result → IsMap K.cmp rows.now }
+    ensures others { result ≡ false → ¬ AscendIn K.cmp everywhere (map (λ r. r.0) rows.now) }
 {
     rows_lie_in(rows, &OwnedGap::everywhere())
 }
 
 /// Whether the key is above one bound and below the other.
 fn is_between<K: Ord>(key: &K, after: Option<&K>, before: &Option<K>) -> bool
-    ensures { IsTrue result → IsAfter K.cmp (bound_of after.entry) key.now × IsBefore K.cmp before.now key.now }
+    ensures inside { IsTrue result → IsAfter K.cmp (bound_of after.entry) key.now × IsBefore K.cmp before.now key.now }
+    ensures outside { result ≡ false → ¬ (IsAfter K.cmp (bound_of after.entry) key.now × IsBefore K.cmp before.now key.now) }
 {
     if let Some(bound) = after {
         if !(*bound < *key) {

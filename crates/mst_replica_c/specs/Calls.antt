@@ -7,12 +7,14 @@ use Rattle.merkle_tree_theory.specs.Hashed.{hashed_tree}
 use Rattle.merkle_tree_theory.specs.State.{SameSettings}
 use Rattle.merkle_tree_theory.specs.declared.page_format.PageFormat.{PageFormat}
 use Rattle.merkle_wire.specs.Found.{nothing}
-use Rattle.merkle_wire.specs.Next.{IsNext}
+use Rattle.merkle_wire.specs.Next.{IsNext, IsStopped}
 use Rattle.merkle_wire.specs.Questions.{AsksForRoot, AsksNothing, question_bytes}
 use Rattle.merkle_wire.specs.Replies.{AsksWithOthers, IsAnsweredBy}
 use Rattle.merkle_wire.specs.Underway.{Underway}
 use Rattle.merkle_wire.specs.declared.catching_up.Next.{Next}
 use Rattle.merkle_wire.specs.declared.catching_up.Next.TheVariants.{Ask, Came}
+use Rattle.merkle_wire.specs.declared.session_error.SessionError.{SessionError}
+use Rattle.merkle_wire.specs.declared.session_error.SessionError.TheVariants.{Memory, Refused}
 use Rattle.mst_replica_c.specs.Values.{by_bytes, byte_laws, key_bytes, key_encoding, value_at, value_encoding}
 use Rattle.mst_replica_c.specs.declared.byte_replica.ByteReplica.{ByteReplica}
 use Rattle.mst_replica_c.specs.declared.byte_replica.Taken.{Taken}
@@ -131,12 +133,27 @@ IsCut reply joined old new = ((joined ≡ 0) × IsDropped old new) ⊎ IsCutShor
 abbrev pub IsEarly : ℕ → Type 0
 IsEarly status = (status ≡ 1) ⊎ (status ≡ 2) ⊎ (status ≡ 7)
 
+-- the status that an error has
+abbrev pub early_status : SessionError → ℕ
+early_status Memory = 1
+early_status Refused = 7
+early_status _ = 2
+
+-- the catch-up could not go on with the reply, for an error of this status: where memory was not the reason, the reply is none to what was asked, or there
+-- were 256 rounds of outlines, or two of the rows that were found have equal keys
+pub record IsStoppedBy (reply : List ℕ) (status : ℕ) (old : ByteReplica) : Type 0 where
+  pub before : Underway (Vec ℕ) ByteValue
+  pub under_way : old.session ≡ Some before
+  pub error : SessionError
+  pub is : status ≡ early_status error
+  pub stopped : IsStopped byte_laws 16 key_encoding value_encoding (λ _. ⊤) (λ _. ⊤) (side old.replica) before reply error
+
 -- what is done with a reply, by what comes after it
 abbrev pub IsTaken : List ℕ → Taken → ByteReplica → ByteReplica → Type 0
 IsTaken reply Asks old new = AsksOn reply old new
 IsTaken reply (Joined count) old new = HasJoined reply count old new
 IsTaken reply (Cut count) old new = IsCutShort reply count old new
-IsTaken reply (Failed status) old new = IsDropped old new × IsEarly status
+IsTaken reply (Failed status) old new = IsDropped old new × IsEarly status × IsStoppedBy reply status old
 
 -- what is done with rows that came
 abbrev pub IsJoinOf : List (Vec ℕ × ByteValue) → Taken → ByteReplica → ByteReplica → Type 0

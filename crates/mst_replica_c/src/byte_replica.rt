@@ -5,7 +5,7 @@ ghost use Rattle.key_order.specs.Map.{IsMap};
 ghost use Rattle.merkle_tree_theory.specs.Stream.{page_digest};
 ghost use Rattle.merkle_wire.specs.Messages.{front};
 ghost use Rattle.merkle_wire.specs.declared.message.Kind.TheVariants.{Refusal};
-ghost use Rattle.mst_replica_c.specs.Calls.{HasBegun, IsAnswered, IsFresh, IsNoQuestion, IsOfOthers, IsJoinOf, IsPut, IsTaken, OnlyHashes, SameRows};
+ghost use Rattle.mst_replica_c.specs.Calls.{HasBegun, IsAnswered, IsFresh, IsNoQuestion, IsOfOthers, IsJoinOf, IsPut, IsTaken, OnlyHashes, SameRows, early_status};
 ghost use Rattle.mst_replica_c.specs.Values.{key_bytes, key_cmp, rows_of, value_at};
 ghost use Rattle.mst_replica_c.specs.Wire.{rows_bytes};
 
@@ -199,7 +199,8 @@ impl ByteReplica {
 
 /// The status of a catch-up that ended early.
 fn status_of(error: &SessionError) -> u32
-    ensures { (result ≡ 1) ⊎ (result ≡ 2) ⊎ (result ≡ 7) }
+    ensures early { (result ≡ 1) ⊎ (result ≡ 2) ⊎ (result ≡ 7) }
+    ensures status { result ≡ early_status error.now }
 {
     match error {
         SessionError::Memory => MEMORY,

@@ -2,7 +2,7 @@
 ghost use Rattle.std.specs.Prelude.{◌≡◌, ◌≢◌, ◌↔◌, ◌⊎◌, None, length};
 ghost use Rattle.merkle_wire.specs.Messages.{front};
 ghost use Rattle.merkle_wire.specs.declared.message.Kind.TheVariants.{Refusal};
-ghost use Rattle.mst_replica_c.specs.Calls.{AsksOn, HasBegun, HasJoined, IsAnswered, IsCut, IsDropped, IsIdle, IsNoQuestion, IsOfOthers, SameMessage, SameRows, SameSession};
+ghost use Rattle.mst_replica_c.specs.Calls.{AsksOn, HasBegun, HasJoined, IsAnswered, IsCut, IsDropped, IsIdle, IsNoQuestion, IsOfOthers, IsStoppedBy, SameMessage, SameRows, SameSession};
 ghost use Rattle.mst_replica_c.specs.Handles.{Has, Changes, IsOutput, IsShort};
 
 use crate::byte_replica::Taken;
@@ -126,6 +126,7 @@ pub extern "C" fn mst_proved_replica_take(
     ensures len { result ≡ 0 → Has handle.new.held (λ h. len.new ≡ length h.message.items) }
     ensures cut { result ≡ 1 → Changes handle.old.held handle.new.held (IsCut reply.now joined.new) }
     ensures dropped { (result ≡ 2) ⊎ (result ≡ 7) → Changes handle.old.held handle.new.held IsDropped }
+    ensures stopped { (result ≡ 2) ⊎ (result ≡ 7) → Has handle.old.held (IsStoppedBy reply.now result) }
     ensures idle { result ≡ 5 → Has handle.old.held IsIdle }
     ensures under_way { Has handle.old.held IsIdle → result ≡ 5 }
     ensures unchanged { (result ≡ 4) ⊎ (result ≡ 5) → handle.new.held ≡ handle.old.held }

@@ -1,7 +1,10 @@
-use Rattle.std.proofs.Common.{◌≡◌, ◌++◌, ◌∷◌, [], Option, length, map, append_assoc, append-nil, arith, ap, sym, ◌∙◌, rules}
+use Rattle.std.specs.Prelude.{⊤}
+use Rattle.std.proofs.Common.{◌≡◌, ◌≢◌, ◌++◌, ◌∷◌, [], Option, length, map, append_assoc, append-nil, arith, refl, ap, sym, ◌∙◌, rules}
 use Rattle.std.proofs.lemmas.List.{map-append}
+use Rattle.std.proofs.lemmas.Result.{err_from_is_err_and}
 use Rattle.std.specs.List.{flat_map}
 use Rattle.std.specs.Vec.Iter.{into_iter_items}
+use Rattle.merkle_bytes.specs.Options.{IsOption, option_bytes}
 use Rattle.merkle_replica.specs.Contents.{side}
 use Rattle.merkle_replica.proofs.Sides.{laws_of}
 use Rattle.merkle_wire.specs.Messages.{front}
@@ -9,8 +12,12 @@ use Rattle.merkle_wire.specs.Replies.{values_bytes}
 use Rattle.merkle_wire.specs.Taking.{new_rows, value_row}
 use Rattle.merkle_wire.specs.declared.message.Kind.TheVariants.{RowsAt as rows_at_kind}
 use Rattle.merkle_wire.specs.declared.wanted.Wanted.{Wanted}
-use Rattle.merkle_wire.proofs.Left.{no_bytes, none_before}
+use Rattle.merkle_wire.proofs.Exchanges.{key_tells}
+use Rattle.merkle_wire.proofs.Fronts.{refused_for, refused_unread}
+use Rattle.merkle_wire.proofs.Left.{no_bytes, none_before, some_bytes}
+use Rattle.merkle_wire.proofs.Others.{all_told, none_left, none_next, says_no_entry, says_nothing}
 use Rattle.merkle_wire.proofs.TakenMore.{rows-more, all_yielded}
+use Rattle.merkle_wire.proofs.TellingReplies.{value_some, value_tells}
 use Rattle.merkle_wire.proofs.ValuesRead.{values_more, rows_of_more}
 use Rattle.merkle_wire.proofs.replies.take_values.Goals as goal
 
@@ -49,7 +56,7 @@ keys-preserved g c =
     let laws = laws_of g.K.Ord.cmp g.K.KeyBytes.bytes_of g.H.Hasher-1.digest_of g.V.PartialEq.eq g.V.Join.join_of g.H.Hasher-2.digest_of in
     let w = c.in-Some.wanted in
     let kept = c.keys.invariant in
-    let came = c.in_ok-take_value.ensures in
+    let came = c.in_ok-take_value.ensures.taken in
     let one : Wanted g.row.K.Denot × Option g.row.V.Denot = (w, came.0) in
     let steps : into_iter_items c.keys.wanted-iterator ≡ w ∷ into_iter_items c.next.new.self = c.in-Some.ensures.steps.0 in
     let none : c.keys.left.items ≡ [] = none_before c.keys.left.items c.keys.reader.left.now kept.once (search rules) in
@@ -69,8 +76,8 @@ keys-preserved g c =
           ∙ ap (λ rs. record c.args.work.now { rows = c.args.work.now.rows ++ new_rows laws (side c.args.replica.now) rs }) (rows_of_more kept.told one);
     }
 
-pub returns : goal.returns
-returns g c =
+pub returns-clause-taken : goal.returns-clause-taken
+returns-clause-taken g c =
     let kept = c.keys.invariant in
     let bytes = values_bytes g.V.Encode.encoding in
     let done = all_yielded c.keys.yielded (into_iter_items c.keys.wanted-iterator) c.args.keys.items kept.left (sym kept.count ∙ c.in-None.ensures.steps.0) in
@@ -81,3 +88,47 @@ returns g c =
       sym done ∙ kept.of,
       kept.taken,
     )
+
+pub returns-in_err-reader-clause-refused : goal.returns-in_err-reader-clause-refused
+returns-in_err-reader-clause-refused g c =
+    let p = err_from_is_err_and c.from_residual.result c.from_residual.ensures.1 in
+    rw (p.1, p.2) (refused_for _ _ c.in_err-reader.field-0.0 (λ none.
+    says_no_entry (λ wanted value. IsOption g.V.Decode.is_value value) rows_at_kind c.args.keys.items c.args.reply.now
+    (λ t. option_bytes g.V.Encode.encoding t.1) (λ t. value_some g.K.Ord.cmp g.V.PartialEq.eq g.K.Encode.encoding g.V.Encode.encoding (key_tells g.K.Ord.cmp g.K.Encode.encoding g.K.PartialEq.eq g.met.K.Ord.matches_eq g.met.K.Decode.told) g.met.V.Decode.told t.1) none) c.in_err-reader.ensures.refused)
+
+pub returns-in_err-take_value-clause-refused : goal.returns-in_err-take_value-clause-refused
+returns-in_err-take_value-clause-refused g c =
+    let p = err_from_is_err_and c.from_residual-in_err-take_value.result c.from_residual-in_err-take_value.ensures.1 in
+    let kept = c.keys.invariant in
+    let w = c.in-Some.wanted in
+    let keys = c.args.keys.items in
+    let left = c.keys.reader.left.now in
+    let steps : into_iter_items c.keys.wanted-iterator ≡ w ∷ into_iter_items c.next.new.self = c.in-Some.ensures.steps.0 in
+    let behind = into_iter_items c.next.new.self in
+    let more : left ≢ [] = λ e. some_bytes c.left.result.now (sym c.is_empty.ensures ∙ c.if-is_empty.false) (c.left.ensures ∙ e) in
+    let none : c.keys.left.items ≡ [] = none_before c.keys.left.items left kept.once more in
+    let firsts = kept.of ∙ ap (λ l. map (λ t. t.0) kept.told ++ l) none ∙ append-nil (map (λ t. t.0) kept.told) in
+    rw (p.1, p.2) (refused_for _ _ c.in_err-take_value.field-0.0 (λ no_value.
+    says_nothing (λ wanted value. IsOption g.V.Decode.is_value value) rows_at_kind keys c.args.reply.now
+    (values_bytes g.V.Encode.encoding) (values_bytes g.V.Encode.encoding kept.told ++ left) kept.read
+    (none_next (λ t. option_bytes g.V.Encode.encoding t.1) (λ t. ⊤) (λ t. IsOption g.V.Decode.is_value t.1)
+    (λ t. value_some g.K.Ord.cmp g.V.PartialEq.eq g.K.Encode.encoding g.V.Encode.encoding (key_tells g.K.Ord.cmp g.K.Encode.encoding g.K.PartialEq.eq g.met.K.Ord.matches_eq g.met.K.Decode.told) g.met.V.Decode.told t.1) (λ wanted y z r s _ _ e. (value_tells g.K.Ord.cmp g.V.PartialEq.eq g.K.Encode.encoding g.V.Encode.encoding (key_tells g.K.Ord.cmp g.K.Encode.encoding g.K.PartialEq.eq g.met.K.Ord.matches_eq g.met.K.Decode.told) g.met.V.Decode.told y z r s e).1)
+    kept.told keys (values_bytes g.V.Encode.encoding kept.told ++ left) left (all_told kept.told) refl more
+    w behind (ap (λ t. t ++ w ∷ behind) (sym firsts) ∙ rw steps at kept.left) (λ value rest is. no_value value rest is))) c.in_err-take_value.ensures.refused)
+
+pub returns-in_err-end-clause-refused : goal.returns-in_err-end-clause-refused
+returns-in_err-end-clause-refused g c =
+    let p = err_from_is_err_and c.from_residual-in_err-end.result c.from_residual-in_err-end.ensures.1 in
+    let kept = c.keys.invariant in
+    let keys = c.args.keys.items in
+    let left = c.keys.reader.left.now in
+    let done = all_yielded c.keys.yielded (into_iter_items c.keys.wanted-iterator) keys kept.left (sym kept.count ∙ c.in-None.ensures.steps.0) in
+    rw (p.1, p.2) (refused_unread _ c.in_err-end.field-0.0 (λ malformed.
+    let more : left ≢ [] = c.in_err-end.ensures.malformed malformed in
+    let none : c.keys.left.items ≡ [] = none_before c.keys.left.items left kept.once more in
+    let firsts = kept.of ∙ ap (λ l. map (λ t. t.0) kept.told ++ l) none ∙ append-nil (map (λ t. t.0) kept.told) in
+    says_nothing (λ wanted value. IsOption g.V.Decode.is_value value) rows_at_kind keys c.args.reply.now
+    (values_bytes g.V.Encode.encoding) (values_bytes g.V.Encode.encoding kept.told ++ left) kept.read
+    (none_left (λ t. option_bytes g.V.Encode.encoding t.1) (λ t. ⊤) (λ t. IsOption g.V.Decode.is_value t.1)
+    (λ t. value_some g.K.Ord.cmp g.V.PartialEq.eq g.K.Encode.encoding g.V.Encode.encoding (key_tells g.K.Ord.cmp g.K.Encode.encoding g.K.PartialEq.eq g.met.K.Ord.matches_eq g.met.K.Decode.told) g.met.V.Decode.told t.1) (λ wanted y z r s _ _ e. (value_tells g.K.Ord.cmp g.V.PartialEq.eq g.K.Encode.encoding g.V.Encode.encoding (key_tells g.K.Ord.cmp g.K.Encode.encoding g.K.PartialEq.eq g.met.K.Ord.matches_eq g.met.K.Decode.told) g.met.V.Decode.told y z r s e).1)
+    kept.told keys (values_bytes g.V.Encode.encoding kept.told ++ left) left (all_told kept.told) refl more (sym firsts ∙ done))))

@@ -7,6 +7,7 @@ use Rattle.merkle_tree_theory.specs.Canonical.{IsCanonicalRoot}
 use Rattle.merkle_wire.specs.Next.{IsNext}
 use Rattle.merkle_wire.proofs.Exchanges.{tells}
 use Rattle.merkle_wire.proofs.NextCovers.{exchanged}
+use Rattle.merkle_wire.proofs.SettingsTold.{next_own, own_are_not_others}
 use Rattle.merkle_wire.proofs.session.exchange.Goals as goal
 
 pub returns-in-Ok-take-clause-covers : goal.returns-in-Ok-take-clause-covers
@@ -20,5 +21,20 @@ returns-in-Ok-take-clause-covers g c root of_peer small covers =
     let canonical = subst (λ t. IsCanonicalRoot (λ k. level_of (laws.key_digest t.hasher k) t.base) t.root) c.tree.ensures.tree c.every_tree_is_sound.ensures.sound.canonical in
     exchanged laws g.met.K.Ord.total g.met.V.Eq.laws g.met.H.Hasher-2.respects_eq c.a_map_has_one_tree.ensures.pages g.K.Encode.encoding g.V.Encode.encoding tell g.row.N
     (side c.args.replica.now) c.rows.ensures.ascending met peer c.answer.ensures.rows c.answer.ensures.settings kept canonical (subst (HasSmallMap laws g.row.N) (sym (same_side met peer c.answer.ensures.rows c.answer.ensures.settings)) small)
-    (g.H.Hasher-1.digest_of peer.tree.hasher) c.args.session question c.args.message.items c.in-Ok.reply.items c.in-Ok-take.next c.requires (sym c.deref.ensures.value ∙ read) is
+    (g.H.Hasher-1.digest_of peer.tree.hasher) c.args.session question c.args.message.items c.in-Ok.reply.items c.in-Ok-take.next c.requires.asks (sym c.deref.ensures.value ∙ read) is
     (subst (λ r. IsNext laws g.row.N g.K.Encode.encoding g.V.Encode.encoding (side c.args.replica.now) c.args.session r c.in-Ok-take.next) c.deref-2.ensures.value c.in-Ok-take.ensures.next) root of_peer covers
+
+pub returns-in-Ok-take-clause-own : goal.returns-in-Ok-take-clause-own
+returns-in-Ok-take-clause-own g c =
+    let laws = laws_of g.K.Ord.cmp g.K.KeyBytes.bytes_of g.H.Hasher-1.digest_of g.V.PartialEq.eq g.V.Join.join_of g.H.Hasher-2.digest_of in
+    let local = side c.args.replica.now in
+    next_own laws g.row.N g.K.Encode.encoding g.V.Encode.encoding local c.args.session c.deref-2.result.now c.in-Ok-take.next c.in-Ok-take.ensures.next
+
+pub returns-in-Err-clause-early : goal.returns-in-Err-clause-early
+returns-in-Err-clause-early g c = λ others alike.
+    let laws = laws_of g.K.Ord.cmp g.K.KeyBytes.bytes_of g.H.Hasher-1.digest_of g.V.PartialEq.eq g.V.Join.join_of g.H.Hasher-2.digest_of in
+    let (question, read, tells) = c.in-Err.ensures.other_settings others in
+    let peer = c.answer.new.replica.tree in
+    let same = c.answer.ensures.settings in
+    own_are_not_others g.K.Encode.encoding g.K.PartialEq.eq g.met.K.Decode.told laws g.met.H.Hasher-1.respects_eq g.row.N (side c.args.replica.now) (side c.args.peer.now) alike peer same.0 same.1 same.2
+    c.args.session.asked question (sym c.requires.asks ∙ sym c.deref.ensures.value ∙ read) c.requires.own tells

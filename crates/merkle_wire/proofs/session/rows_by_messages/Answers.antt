@@ -1,10 +1,10 @@
-use Rattle.std.proofs.Common.{refl, subst, sym, ◌∙◌}
+use Rattle.std.proofs.Common.{refl, rules, subst, sym, ◌∙◌}
 use Rattle.merkle_digest.specs.Level.{level_of}
 use Rattle.merkle_replica.specs.Contents.{side}
 use Rattle.merkle_replica.specs.Faithful.{HasSmallMap}
 use Rattle.merkle_replica.proofs.Sides.{laws_of, same_side}
 use Rattle.merkle_tree_theory.specs.Canonical.{IsCanonicalRoot}
-use Rattle.merkle_wire.specs.Sessions.{CoversNext}
+use Rattle.merkle_wire.specs.Sessions.{CoversNext, TellsOwn, TellsOwnNext}
 use Rattle.merkle_wire.proofs.NextCovers.{begun_covers, covers_since}
 use Rattle.merkle_wire.proofs.session.rows_by_messages.Goals as goal
 
@@ -15,6 +15,7 @@ exchanges-init g c =
     record {
       asks = c.in-Ok.ensures.asks;
       covers = begun_covers laws g.K.Encode.encoding (side c.args.replica.now) (side c.args.peer.now) c.args.peer.now.tree.root c.in-Ok.begun.0 settings asked c.in-Ok.ensures.nothing.0;
+      own = subst (TellsOwn laws g.row.N (side c.args.replica.now)) (sym asked) of_tree;
       rows = refl;
       settings = (refl, refl, refl);
       peer_rows = refl;
@@ -34,6 +35,8 @@ exchanges-preserved g c =
     record {
       asks = next.0;
       covers = next.1;
+      own = subst (λ s. TellsOwn laws g.row.N s c.in-Ask.next.asked) (sym (same_side c.exchanges.replica c.exchange.new.replica new.rows new.settings))
+          (subst (TellsOwnNext laws g.row.N (side c.exchanges.replica)) c.in-Ask.is c.in_ok-rows.ensures.own);
       rows = new.rows ∙ inv.rows;
       settings = (new.settings.0 ∙ inv.settings.0, new.settings.1 ∙ inv.settings.1, new.settings.2 ∙ inv.settings.2);
       peer_rows = new.peer_rows ∙ inv.peer_rows;
@@ -49,3 +52,6 @@ returns-in-Came-clause-brought g c =
     let covers = covers_since laws g.K.Encode.encoding c.args.replica.now c.exchanges.replica c.args.peer.now c.exchanges.peer inv.rows inv.settings inv.peer_rows inv.peer_settings canonical c.tree.ensures.digests
     c.exchanges.session c.in_ok-rows.field-0 (λ root of covers. c.in_ok-rows.ensures.covers root of small covers) inv.covers in
     subst (CoversNext laws (side c.args.replica.now) (side c.args.peer.now) c.args.peer.now.tree.root g.K.Encode.encoding) c.in-Came.is covers
+
+pub exchange-requires : goal.exchange-requires
+exchange-requires g c = (search rules, (c.exchanges.invariant.asks, c.exchanges.invariant.own))

@@ -3,8 +3,8 @@ use Rattle.merkle_tree_theory.specs.Gap.{SameBound}
 use Rattle.merkle_wire.proofs.Lasts.{ends_in}
 use Rattle.merkle_wire.proofs.taking.add_behind.Goals as goal
 
-pub returns : goal.returns
-returns g c =
+pub returns-clause-added : goal.returns-clause-added
+returns-clause-added g c =
     let rows = c.args.rows.now in
     let parts = ends_in rows c.in-Some.last.now (search rules) (search rules) in
     let own = c.in_ok-own.own in

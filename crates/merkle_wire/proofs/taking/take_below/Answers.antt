@@ -1,8 +1,8 @@
 use Rattle.std.proofs.Common.{[], Some, sym, append-nil}
 use Rattle.merkle_wire.proofs.taking.take_below.Goals as goal
 
-pub returns-then-has_page : goal.returns-then-has_page
-returns-then-has_page g c = (
+pub returns-then-has_page-clause-taken : goal.returns-then-has_page-clause-taken
+returns-then-has_page-clause-taken g c = (
   Some c.in-Some.digest,
   [],
   rw c.in-Some.is at c.in_ok-digest.ensures.read,

@@ -1,12 +1,15 @@
 use Rattle.std.proofs.Common.{◌≡◌, ◌++◌, ◌∷◌, [], ℕ, List, length, map, append_assoc, append-nil, arith, refl, ap, sym, subst, ◌∙◌, rules}
 use Rattle.std.proofs.lemmas.Grind.{flat_map-append}
-use Rattle.std.proofs.lemmas.List.{map-append}
+use Rattle.std.proofs.lemmas.List.{map-append, length-append, length-map}
+use Rattle.std.proofs.lemmas.Result.{err_from_is_err_and}
 use Rattle.std.specs.List.{flat_map}
 use Rattle.std.specs.Vec.Iter.{into_iter_items}
 use Rattle.key_order.proofs.ListParts.{each-append}
 use Rattle.merkle_replica.specs.Contents.{side}
 use Rattle.merkle_replica.proofs.Sides.{laws_of}
 use Rattle.merkle_wire.proofs.TakenMore.{new_key, keys-more, all_yielded}
+use Rattle.merkle_wire.proofs.Fronts.{refused_unread}
+use Rattle.merkle_wire.proofs.Unfit.{each_digest, flat_digests, no_digests}
 use Rattle.merkle_wire.proofs.taking.take_nodes.Goals as goal
 
 pub keys-init : goal.keys-init
@@ -45,8 +48,19 @@ keys-preserved g c =
           (subst (λ ks. c.take_key.new.self ≡ record c.keys.work { wanted = c.keys.work.wanted ++ ks }) (sym (new_key laws (side c.args.replica.now) node)) (rw c.has_digest-is_there.ensures at c.in_ok-take_key.ensures));
     }
 
-pub returns : goal.returns
-returns g c =
+pub returns-clause-taken : goal.returns-clause-taken
+returns-clause-taken g c =
     let kept = c.keys.invariant in
     let done = all_yielded c.keys.yielded (into_iter_items c.keys.wanted-iterator) c.args.keys.items kept.left (sym kept.count ∙ c.in-None.ensures.steps.0) in
     (kept.nodes, kept.of ∙ ap (map (λ x. x.key)) done, kept.read, kept.lengths, kept.taken)
+
+pub returns-in_err-digest-clause-refused : goal.returns-in_err-digest-clause-refused
+returns-in_err-digest-clause-refused g c =
+    let p = err_from_is_err_and c.from_residual.result c.from_residual.ensures.1 in
+    let kept = c.keys.invariant in
+    let short = ap length c.in-Some.ensures.steps.0 in
+    rw (p.1, p.2) (refused_unread _ c.in_err-digest.field-0.0 (λ malformed.
+    no_digests g.row.N (length c.args.keys.items) c.args.reader.now.left.now c.keys.reader.left.now (map (λ d. d.1) kept.nodes)
+    (kept.read ∙ ap (λ t. t ++ c.keys.reader.left.now) (flat_digests kept.nodes)) (each_digest g.row.N kept.nodes kept.lengths)
+    (omega (arith, length-map kept.nodes (λ d. d.1), length-map kept.nodes (λ d. d.0), length-map c.keys.yielded (λ w. w.key), ap length kept.of, ap length kept.left, short, length-append c.keys.yielded (into_iter_items c.keys.wanted-iterator)))
+    (c.in_err-digest.ensures.malformed malformed)))

@@ -1,16 +1,22 @@
-use Rattle.std.proofs.Common.{◌++◌, ◌∷◌, [], map, sym, ap, ◌∙◌, append-nil}
+use Rattle.std.proofs.Common.{◌+◌, ◌++◌, ◌∷◌, [], map, sym, ap, subst, ◌∙◌, append-nil}
+use Rattle.std.proofs.lemmas.List.{length-map}
+use Rattle.std.proofs.lemmas.Result.{err_from_is_err_and}
 use Rattle.merkle_wire.specs.Gaps.{owned_gap}
 use Rattle.merkle_wire.specs.Outlines.{keys_told, pages_bytes}
+use Rattle.merkle_wire.specs.Unfit.{NoPageDigests}
+use Rattle.merkle_wire.proofs.Exchanges.{key_tells}
+use Rattle.merkle_wire.proofs.Fronts.{refused_for, refused_unread}
 use Rattle.merkle_wire.proofs.KeysTold.{told_as_keys}
-use Rattle.merkle_wire.proofs.Left.{some_left, some_mapped}
+use Rattle.merkle_wire.proofs.Left.{none_left, some_left, some_mapped}
 use Rattle.merkle_wire.proofs.OutlinesRead.{three_read}
 use Rattle.merkle_wire.proofs.TakenMore.{page_taken}
+use Rattle.merkle_wire.proofs.Unfit.{no_keys, no_page-empty, no_page-keys, no_page-outside, no_page-pages}
 use Rattle.merkle_wire.proofs.taking.take_page.Goals as goal
 
-pub returns-then-has_nodes : goal.returns-then-has_nodes
-returns-then-has_nodes g c =
+pub returns-then-has_nodes-clause-taken : goal.returns-then-has_nodes-clause-taken
+returns-then-has_nodes-clause-taken g c =
     let keys = map (λ w. w.key) c.in_ok-keys.keys.items in
-    let pages = rw c.deref-2.ensures.value at c.in_ok-take_pages.ensures in (
+    let pages = rw c.deref-2.ensures.value at c.in_ok-take_pages.ensures.taken in (
       c.in_ok-digest.digest,
       keys,
       pages.0,
@@ -18,7 +24,7 @@ returns-then-has_nodes g c =
           c.in_ok-digest.ensures.read (c.in_ok-keys.ensures.read ∙ ap (λ t. t ++ c.decode_run.new.reader.left.now) (told_as_keys g.K.Encode.encoding c.args.run.now c.in_ok-keys.keys.items)) pages.2,
       (
         some_mapped (λ w. w.key) c.in_ok-keys.keys.items (some_left c.in_ok-keys.keys (sym c.is_empty.ensures ∙ c.if-is_empty.false)),
-        rw c.deref.ensures.value at (c.keys_lie_in.ensures c.if-not-keys_lie_in.false),
+        rw c.deref.ensures.value at (c.keys_lie_in.ensures.inside c.if-not-keys_lie_in.false),
         c.in_ok-digest.ensures.len,
         pages.3,
       ),
@@ -33,10 +39,10 @@ returns-then-has_nodes g c =
       ),
     )
 
-pub returns : goal.returns
-returns g c =
+pub returns-clause-taken : goal.returns-clause-taken
+returns-clause-taken g c =
     let keys = map (λ w. w.key) c.in_ok-keys.keys.items in
-    let pages = rw c.deref-2.ensures.value at c.in_ok-take_pages.ensures in
+    let pages = rw c.deref-2.ensures.value at c.in_ok-take_pages.ensures.taken in
     let same = rw (c.as_ref.ensures.value, c.as_ref-2.ensures.value) at c.in_ok-own.ensures in (
       c.in_ok-digest.digest,
       keys,
@@ -45,9 +51,42 @@ returns g c =
           c.in_ok-digest.ensures.read (c.in_ok-keys.ensures.read ∙ ap (λ t. t ++ c.decode_run.new.reader.left.now) (told_as_keys g.K.Encode.encoding c.args.run.now c.in_ok-keys.keys.items)) pages.2,
       (
         some_mapped (λ w. w.key) c.in_ok-keys.keys.items (some_left c.in_ok-keys.keys (sym c.is_empty.ensures ∙ c.if-is_empty.false)),
-        rw c.deref.ensures.value at (c.keys_lie_in.ensures c.if-not-keys_lie_in.false),
+        rw c.deref.ensures.value at (c.keys_lie_in.ensures.inside c.if-not-keys_lie_in.false),
         c.in_ok-digest.ensures.len,
         pages.3,
       ),
       (pages.1, owned_gap c.in_ok-own.own ∷ [], pages.4, same, λ e. absurd (cc), page_taken c.args.work.now c.take_pages.new.work c.add_nodes.new.self pages.1 (owned_gap c.in_ok-own.own ∷ []) pages.5 c.in_ok-add_nodes.ensures),
     )
+
+pub returns-in_err-keys-clause-refused : goal.returns-in_err-keys-clause-refused
+returns-in_err-keys-clause-refused g c =
+    let p = err_from_is_err_and c.from_residual-in_err-keys.result c.from_residual-in_err-keys.ensures.1 in
+    rw (p.1, p.2) (refused_unread _ c.in_err-keys.field-0.0 (λ malformed.
+    no_page-keys g.K.Ord.cmp g.met.K.Ord.total g.K.Encode.encoding (key_tells g.K.Ord.cmp g.K.Encode.encoding g.K.PartialEq.eq g.met.K.Ord.matches_eq g.met.K.Decode.told) g.K.Decode.is_value c.args.run.now c.args.gap.now c.args.reader.now.left.now c.in_ok-digest.digest c.array.new.self.left.now c.in_ok-digest.ensures.read c.in_ok-digest.ensures.len
+    (no_keys g.K.Encode.encoding g.K.Decode.is_value c.args.run.now c.array.new.self.left.now (c.in_err-keys.ensures.malformed malformed))))
+
+pub returns-then-is_empty-clause-refused : goal.returns-then-is_empty-clause-refused
+returns-then-is_empty-clause-refused g c =
+    let keys = map (λ w. w.key) c.in_ok-keys.keys.items in
+    let behind = c.decode_run.new.reader.left.now in
+    no_page-empty g.K.Ord.cmp g.met.K.Ord.total g.K.Encode.encoding (key_tells g.K.Ord.cmp g.K.Encode.encoding g.K.PartialEq.eq g.met.K.Ord.matches_eq g.met.K.Decode.told) g.K.Decode.is_value c.args.run.now c.args.gap.now c.args.reader.now.left.now c.in_ok-digest.digest c.array.new.self.left.now c.in_ok-digest.ensures.read c.in_ok-digest.ensures.len
+    keys behind (c.in_ok-keys.ensures.read ∙ ap (λ t. t ++ behind) (told_as_keys g.K.Encode.encoding c.args.run.now c.in_ok-keys.keys.items))
+    (ap (map (λ w. w.key)) (none_left c.in_ok-keys.keys (sym c.is_empty.ensures ∙ c.if-is_empty.true)))
+
+pub returns-then-not-keys_lie_in-clause-refused : goal.returns-then-not-keys_lie_in-clause-refused
+returns-then-not-keys_lie_in-clause-refused g c =
+    let keys = map (λ w. w.key) c.in_ok-keys.keys.items in
+    let behind = c.decode_run.new.reader.left.now in
+    no_page-outside g.K.Ord.cmp g.met.K.Ord.total g.K.Encode.encoding (key_tells g.K.Ord.cmp g.K.Encode.encoding g.K.PartialEq.eq g.met.K.Ord.matches_eq g.met.K.Decode.told) g.K.Decode.is_value c.args.run.now c.args.gap.now c.args.reader.now.left.now c.in_ok-digest.digest c.array.new.self.left.now c.in_ok-digest.ensures.read c.in_ok-digest.ensures.len
+    keys behind (c.in_ok-keys.ensures.read ∙ ap (λ t. t ++ behind) (told_as_keys g.K.Encode.encoding c.args.run.now c.in_ok-keys.keys.items))
+    (rw c.deref.ensures.value at (c.keys_lie_in.ensures.outside c.if-not-keys_lie_in.true))
+
+pub returns-in_err-take_pages-clause-refused : goal.returns-in_err-take_pages-clause-refused
+returns-in_err-take_pages-clause-refused g c =
+    let p = err_from_is_err_and c.from_residual-in_err-take_pages.result c.from_residual-in_err-take_pages.ensures.1 in
+    let keys = map (λ w. w.key) c.in_ok-keys.keys.items in
+    let behind = c.decode_run.new.reader.left.now in
+    rw (p.1, p.2) (refused_for _ _ c.in_err-take_pages.field-0.0 (λ none.
+    no_page-pages g.K.Ord.cmp g.met.K.Ord.total g.K.Encode.encoding (key_tells g.K.Ord.cmp g.K.Encode.encoding g.K.PartialEq.eq g.met.K.Ord.matches_eq g.met.K.Decode.told) g.K.Decode.is_value c.args.run.now c.args.gap.now c.args.reader.now.left.now c.in_ok-digest.digest c.array.new.self.left.now c.in_ok-digest.ensures.read c.in_ok-digest.ensures.len
+    keys behind (c.in_ok-keys.ensures.read ∙ ap (λ t. t ++ behind) (told_as_keys g.K.Encode.encoding c.args.run.now c.in_ok-keys.keys.items))
+    (subst (λ n. NoPageDigests (n + 1) behind) (sym (length-map c.in_ok-keys.keys.items (λ w. w.key))) (rw c.deref-2.ensures.value at none))) c.in_err-take_pages.ensures.refused)

@@ -1,0 +1,48 @@
+-- Keys that don't ascend within a gap.
+use Rattle.std.proofs.Common.{◌≡◌, ℕ, ◌+◌, ◌<◌, List, [], ◌∷◌, length, drop, get_or, map, Option, Some, None, ap, sym, subst, ◌∙◌}
+use Rattle.std.proofs.lemmas.List.{drop_more}
+use Rattle.std.specs.Cmp.{IsTotalOrder, tied_itself}
+use Rattle.std.specs.declared.cmp.Ordering.{Ordering}
+use Rattle.key_order.specs.Order.{Same}
+use Rattle.key_order.proofs.Orders.{below-same}
+use Rattle.merkle_bytes.specs.Encodings.{SameLists}
+use Rattle.merkle_search_tree.proofs.SameItems.{same_gap-own}
+use Rattle.merkle_tree_theory.specs.Gap.{Gap, IsAfter, IsBefore, SameBound}
+use Rattle.merkle_wire.specs.Coming.{AscendBetween, AscendIn}
+
+module _ {X K : Type 0} (cmp : K → K → Ordering) (key : X → K) (g : Gap K) where
+  -- where all keys ascend within the gap, those behind the first ones ascend behind a bound
+  abbrev pub GoOnBehind : Option K → List X → List X → Type 0
+  GoOnBehind after all behind = AscendIn cmp g (map key all) → AscendBetween cmp after g.before (map key behind)
+
+  next_behind : (after : Option K) (xs : List X) (i : ℕ) (x : X) → i < length xs → x ≡ get_or xs i x → GoOnBehind after xs (drop i xs) → AscendIn cmp g (map key xs)
+      → AscendBetween cmp after g.before (map key (x ∷ drop (i + 1) xs))
+  next_behind after xs i x low is so up = subst (λ t. AscendBetween cmp after g.before (map key t)) (drop_more xs i x low ∙ ap (λ z. z ∷ drop (i + 1) xs) (sym is)) (so up)
+
+  pub go_on_behind : (after : Option K) (xs : List X) (i : ℕ) (x : X) → i < length xs → x ≡ get_or xs i x → GoOnBehind after xs (drop i xs) → GoOnBehind (Some (key x)) xs (drop (i + 1) xs)
+  go_on_behind after xs i x low is so up = (next_behind after xs i x low is so up).2
+
+  pub not_between : (after : Option K) (xs : List X) (i : ℕ) (x : X) → i < length xs → x ≡ get_or xs i x → GoOnBehind after xs (drop i xs) → ¬ (IsAfter cmp after (key x) × IsBefore cmp g.before (key x))
+      → ¬ AscendIn cmp g (map key xs)
+  not_between after xs i x low is so not up = let next = next_behind after xs i x low is so up in not (next.0, next.1)
+
+module _ {K : Type 0} (cmp : K → K → Ordering) (o : IsTotalOrder cmp) where
+  after-same : (a b : Option K) (j k : K) → SameBound cmp a b → Same cmp j k → IsAfter cmp a j → IsAfter cmp b k
+  after-same None None j k s e l = tt
+  after-same None (Some b) j k s e l = absurd s
+  after-same (Some a) None j k s e l = absurd s
+  after-same (Some a) (Some b) j k s e l = below-same cmp o a b j k s e l
+
+  before-same : (b : Option K) (j k : K) → Same cmp j k → IsBefore cmp b j → IsBefore cmp b k
+  before-same None j k e l = tt
+  before-same (Some b) j k e l = below-same cmp o j k b b e (tied_itself o b) l
+
+  ascend_between-same : (a b before : Option K) (js ks : List K) → SameBound cmp a b → SameLists (Same cmp) js ks → AscendBetween cmp a before js → AscendBetween cmp b before ks
+  ascend_between-same a b before [] [] s t up = tt
+  ascend_between-same a b before [] (k ∷ ks) s t up = absurd t
+  ascend_between-same a b before (j ∷ js) [] s t up = absurd t
+  ascend_between-same a b before (j ∷ js) (k ∷ ks) s t up = (after-same a b j k s t.0 up.0, before-same before j k t.0 up.1, ascend_between-same (Some j) (Some k) before js ks t.0 t.1 up.2)
+
+  -- keys ascend within a gap where equal keys do
+  pub ascend-same : (g : Gap K) (js ks : List K) → SameLists (Same cmp) js ks → AscendIn cmp g js → AscendIn cmp g ks
+  ascend-same g js ks = ascend_between-same g.after g.after g.before js ks (same_gap-own cmp o g).0

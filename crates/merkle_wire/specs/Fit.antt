@@ -1,0 +1,89 @@
+-- What can be told of what was asked for. A reply that tells it is taken, and no other is.
+use Rattle.std.specs.Prelude.{◌≡◌, ◌≢◌, ℕ, ◌<◌, ◌+◌, ◌^◌, List, [], ◌++◌, length, map, Bool, true, false, Option}
+use Rattle.std.specs.List.{AllByRecursion}
+use Rattle.std.specs.declared.cmp.Ordering.{Ordering}
+use Rattle.merkle_bytes.specs.Counts.{count_bytes}
+use Rattle.merkle_bytes.specs.Options.{IsOption, option_bytes}
+use Rattle.merkle_tree_theory.specs.Gap.{Gap}
+use Rattle.merkle_wire.specs.Coming.{AscendIn, IsPageDigest}
+use Rattle.merkle_wire.specs.Gaps.{owned_gap}
+use Rattle.merkle_wire.specs.Messages.{front}
+use Rattle.merkle_wire.specs.Outlines.{Outline, rows_told, digests_told, page_told}
+use Rattle.merkle_wire.specs.Replies.{Part, outlines_bytes, parts_bytes, values_bytes}
+use Rattle.merkle_wire.specs.declared.gaps.OwnedGap.{OwnedGap}
+use Rattle.merkle_wire.specs.declared.message.Kind.{Kind}
+use Rattle.merkle_wire.specs.declared.message.Kind.TheVariants.{Root as root_kind, Outlines as outlines_kind, Nodes as nodes_kind, RowsAt as rows_at_kind, RowsIn as rows_in_kind}
+use Rattle.merkle_wire.specs.declared.question.Question.{Question}
+use Rattle.merkle_wire.specs.declared.question.Question.TheVariants.{Root, Outlines, Nodes, RowsAt, RowsIn}
+use Rattle.merkle_wire.specs.declared.wanted.Wanted.{Wanted}
+
+-- the bytes say something of the first of what was asked for, of one at least, each where P holds of both
+pub record Says {X Y : Type 0} (P : X → Y → Type 0) (bytes : List (X × Y) → List ℕ) (asked : List X) (all : List ℕ) : Type 0 where
+  pub told : List (X × Y)
+  pub left : List X
+  pub some : told ≢ []
+  pub begins : asked ≡ map (λ t. t.0) told ++ left
+  pub each : AllByRecursion (λ t. P t.0 t.1) told
+  pub is : all ≡ bytes told
+
+module _ {K : Type 0} (cmp : K → K → Ordering) (is_key : K → Type 0) where
+  -- nodes that ascend in the gap, with digests of n bytes
+  abbrev pub AreNodesIn : ℕ → Gap K → List (K × List ℕ) → Type 0
+  AreNodesIn n gap nodes = AscendIn cmp gap (map (λ d. d.0) nodes) × AllByRecursion (λ d. is_key d.0) nodes × AllByRecursion (λ d. length d.1 ≡ n) nodes
+
+  -- a page: its keys ascend in the gap, of which there is one, with a page or none before each of them and behind the last
+  abbrev pub IsPageIn : Gap K → List ℕ → List K → List (Option (List ℕ)) → Type 0
+  IsPageIn gap digest keys pages = (keys ≢ []) × AscendIn cmp gap keys × AllByRecursion is_key keys
+      × (length digest ≡ 16) × (length pages ≡ length keys + 1) × AllByRecursion IsPageDigest pages
+
+module _ {K V : Type 0} (cmp : K → K → Ordering) (is_key : K → Type 0) (is_value : V → Type 0) where
+  -- rows that ascend in the gap
+  abbrev pub AreRowsIn : Gap K → List (K × V) → Type 0
+  AreRowsIn gap rows = AscendIn cmp gap (map (λ r. r.0) rows) × AllByRecursion (λ r. is_key r.0 × is_value r.1) rows
+
+  -- all rows in a gap, or the first of them, of which there is one
+  abbrev pub IsPartIn : Gap K → Part K V → Type 0
+  IsPartIn gap part = AreRowsIn gap part.rows × (part.whole ≡ false → part.rows ≢ [])
+
+  -- what can be told of the page over a gap, with the pages below it or alone
+  abbrev pub IsOutlineIn : ℕ → Bool → Gap K → Outline K V → Type 0
+  IsOutlineIn n with_pages gap (rows_told rows) = AreRowsIn gap rows
+  IsOutlineIn n with_pages gap (digests_told nodes) = AreNodesIn cmp is_key n gap nodes
+  IsOutlineIn n with_pages gap (page_told digest keys pages) = (with_pages ≡ true) × IsPageIn cmp is_key gap digest keys pages
+
+-- the number of rows, and the digest of the root page, or none
+abbrev pub SaysRoot : List ℕ → Type 0
+SaysRoot all = (count : ℕ) × (digest : Option (List ℕ)) × (count < 2 ^ 64) × IsPageDigest digest × (all ≡ count_bytes count ++ option_bytes (λ d. d) digest)
+
+-- the kind of replies to a question
+abbrev pub reply_kind : {K : Type 0} → Question K → Kind
+reply_kind (Root settings) = root_kind
+reply_kind (Outlines most gaps) = outlines_kind
+reply_kind (Nodes most gaps) = nodes_kind
+reply_kind (RowsAt keys) = rows_at_kind
+reply_kind (RowsIn gaps) = rows_in_kind
+
+-- values at the first of the keys, each where there is one
+abbrev pub SaysValues : {K V : Type 0} → (V → Type 0) → (V → List ℕ) → List (Wanted K) → List ℕ → Type 0
+SaysValues is_value values = Says (λ w. IsOption is_value) (values_bytes values)
+
+module _ {K V : Type 0} (cmp : K → K → Ordering) (is_key : K → Type 0) (is_value : V → Type 0) (encoding : K → List ℕ) (values : V → List ℕ) where
+  -- outlines of the pages over the first of the gaps
+  abbrev pub SaysOutlines : ℕ → Bool → List (OwnedGap K) → List ℕ → Type 0
+  SaysOutlines n with_pages = Says (λ g. IsOutlineIn cmp is_key is_value n with_pages (owned_gap g)) (outlines_bytes encoding values)
+
+  -- rows in the first of the gaps
+  abbrev pub SaysParts : List (OwnedGap K) → List ℕ → Type 0
+  SaysParts = Says (λ g. IsPartIn cmp is_key is_value (owned_gap g)) (parts_bytes encoding values)
+
+  -- what can be said to a question, where digests of values have n bytes
+  abbrev pub SaysOf : ℕ → Question K → List ℕ → Type 0
+  SaysOf n (Root settings) = SaysRoot
+  SaysOf n (Outlines most gaps) = SaysOutlines n true gaps.items
+  SaysOf n (Nodes most gaps) = SaysOutlines n false gaps.items
+  SaysOf n (RowsAt keys) = SaysValues is_value values keys.items
+  SaysOf n (RowsIn gaps) = SaysParts gaps.items
+
+  -- the bytes are a reply to the question
+  abbrev pub IsFit : ℕ → Question K → List ℕ → Type 0
+  IsFit n question reply = (all : List ℕ) × SaysOf n question all × (reply ≡ front (reply_kind question) ++ all)
