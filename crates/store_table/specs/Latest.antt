@@ -1,5 +1,5 @@
 -- The latest register that the table has for a key.
-use Rattle.std.specs.Prelude.{◌≡◌, ℕ, Bool, cond, List, [], ◌∷◌, map, fold, Option, Some, None, is_some, option_and_then}
+use Rattle.std.specs.Prelude.{◌≡◌, ◌≤◌, ◌^◌, ℕ, Bool, cond, List, [], ◌∷◌, map, fold, Option, Some, None, is_some, option_and_then}
 use Rattle.std.specs.List.{filter}
 use Rattle.std.specs.List.Sorted.{IsPermutation}
 use Rattle.std.specs.Ordering.{is_eq, is_lt}
@@ -37,6 +37,10 @@ text_of found = option_and_then (λ r. r.value) found
 -- whether the latest register of the key says a text
 abbrev pub IsThere : Trees → List ℕ → Bool → Type 0
 IsThere trees key there = (found : Option Register) × IsLatestAt trees key found × (there ≡ is_some (text_of found))
+
+-- a write over the latest register of the key, at this time of the clock, has a time that the database can't hold
+abbrev pub IsWrittenLate : Trees → List ℕ → ℕ → Type 0
+IsWrittenLate trees key now = (found : Option Register) × IsLatestAt trees key found × (2 ^ 63 ≤ time_after found now)
 
 -- the row that a write over `found` adds: at the clock's time, or one above that of the register that was found
 abbrev pub written_row : List ℕ → Option Register → Key → ℕ → Option Key → Row

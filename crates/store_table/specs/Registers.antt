@@ -1,5 +1,5 @@
 -- Registers that keep what was written last.
-use Rattle.std.specs.Prelude.{ℕ, ◌+◌, ◌^◌, ◌≤◌, max, IsSomeAnd, List, string_bytes, Option, Some, None, option_map, option_and_then, Bool, true}
+use Rattle.std.specs.Prelude.{ℕ, ◌+◌, ◌^◌, ◌≤◌, max, IsSomeAnd, Any, List, string_bytes, Option, Some, None, option_map, option_and_then, Bool, true}
 use Rattle.std.specs.declared.cmp.Ordering.{Ordering}
 use Rattle.std.specs.Option.{option_cmp}
 use Rattle.std.specs.Ordering.{is_lt, nat_cmp, ordering_then}
@@ -15,6 +15,10 @@ time_after (Some r) now = max now (r.time + 1)
 -- there is a register, and no time of 64 bits is above its own
 abbrev pub HasLastTime : Option Register → Type 0
 HasLastTime found = IsSomeAnd found (λ r. 2 ^ 64 ≤ r.time + 1)
+
+-- one of the entries has a time that the database can't hold
+abbrev pub HaveLateTime : List (Text × Register) → Type 0
+HaveLateTime entries = Any (λ entry. 2 ^ 63 ≤ entry.1.time) entries
 
 -- the text of a key, where it is there and not removed
 abbrev pub text_at : List (Text × Register) → Text → Option (List ℕ)

@@ -1,5 +1,5 @@
 //! The latest register of a key, found in the table without a tree, and writes over it.
-ghost use Rattle.std.specs.Prelude.{◌≡◌, ◌≤◌, [], ◌∷◌, map, is_some, false, IfOk, IfErr, IsTrue};
+ghost use Rattle.std.specs.Prelude.{◌≡◌, ◌≤◌, ◌^◌, [], ◌∷◌, map, is_some, false, IfOk, IfErr, IsErrOf, IsTrue};
 ghost use Rattle.std.specs.List.Sorted.{IsPermutation};
 ghost use Rattle.sqlite.specs.State.{IsUnchanged};
 ghost use Rattle.sqlite.specs.Held.{state};
@@ -9,7 +9,7 @@ ghost use Rattle.store_table.specs.Changes.{HasMore};
 ghost use Rattle.store_table.specs.Connections.{database, HasStore, IsClean, IsCommitted, Finds, Makes, StaysInOk, StaysInErr, Leaves, LeavesNoMore};
 ghost use Rattle.store_table.specs.Faults.{IsFailure, IsUnwritten};
 ghost use Rattle.store_table.specs.Registers.{time_after, HasLastTime};
-ghost use Rattle.store_table.specs.Latest.{rows_of, later, latest, text_of, written_row, IsLatestAt, IsThere, WritesOver};
+ghost use Rattle.store_table.specs.Latest.{rows_of, later, latest, text_of, written_row, IsLatestAt, IsThere, IsWrittenLate, WritesOver};
 
 use crate::fault::StoreFault;
 use crate::register::Register;
@@ -105,6 +105,7 @@ fn write_over<S: Alter>(
 ) -> Result<(), StoreFault>
     ensures clean { doubt (state S.Store conn.old).is_clean ≤ doubt (state S.Store conn.new).is_clean }
     ensures written { Makes S.Store conn.old conn.new result (HasMore (written_row key.now found.now writer now value ∷ [])) }
+    ensures late { IsErrOf result StoreFault.Time → 2 ^ 63 ≤ time_after found.now now }
     ensures faults { IfErr result IsUnwritten }
     ensures refused { IsCommitted S.Store conn.old → StaysInErr S.Store conn.old conn.new result }
     ensures crash { (IsClean S.Store conn.new → HasStore S.Store conn.old) → Leaves S.Store conn.old conn.new (HasMore (written_row key.now found.now writer now value ∷ [])) }
@@ -122,7 +123,7 @@ fn write_over<S: Alter>(
 ///
 /// # Errors
 ///
-/// [`StoreFault::Time`] where what is there has the last time that there is, [`StoreFault::Database`] and [`StoreFault::Memory`].
+/// [`StoreFault::Time`] where the database can't hold that time, [`StoreFault::Database`] and [`StoreFault::Memory`].
 pub fn put<S: Alter>(
     alloc: Global,
     conn: &mut Connection<S>,
@@ -132,6 +133,8 @@ pub fn put<S: Alter>(
     text: String,
 ) -> Result<(), StoreFault>
     ensures written { Makes S.Store conn.old conn.new result (WritesOver key.now writer now (Some text)) }
+    ensures late { HasStore S.Store conn.old → IsClean S.Store conn.new → IsErrOf result StoreFault.Time
+        → IsWrittenLate (database S.Store conn.old).trees key.now now }
     ensures faults { IfErr result IsUnwritten }
     // A crash leaves what it could leave before, or a database with the write.
     ensures crash { HasStore S.Store conn.old → Leaves S.Store conn.old conn.new (WritesOver key.now writer now (Some text)) }
@@ -154,7 +157,7 @@ fn has_text(found: &Option<Register>) -> bool
 ///
 /// # Errors
 ///
-/// [`StoreFault::Time`] where what is there has the last time that there is, [`StoreFault::Database`] and [`StoreFault::Memory`].
+/// [`StoreFault::Time`] where the database can't hold the time of the removal, [`StoreFault::Database`] and [`StoreFault::Memory`].
 pub fn remove<S: Alter>(
     alloc: Global,
     conn: &mut Connection<S>,
@@ -163,6 +166,8 @@ pub fn remove<S: Alter>(
     key: &str,
 ) -> Result<bool, StoreFault>
     ensures written { Finds S.Store conn.old conn.new result (λ db was. IsTrue was → WritesOver key.now writer now None db (database S.Store conn.new)) }
+    ensures late { HasStore S.Store conn.old → IsClean S.Store conn.new → IsErrOf result StoreFault.Time
+        → IsWrittenLate (database S.Store conn.old).trees key.now now }
     ensures faults { IfErr result IsUnwritten }
     ensures absent { Finds S.Store conn.old conn.new result (λ db was. was ≡ false → IsUnchanged (state S.Store conn.old) (state S.Store conn.new)) }
     // A crash leaves what it could leave before, or a database with the removal.

@@ -11,6 +11,7 @@ ghost use Rattle.store_table.specs.Entries.{shown, noted, two, four, entry_row, 
 ghost use Rattle.store_table.specs.Changes.{IsBlank, IsStore, HasEntryTable, HasBothTables, IsNewStore, KeepsAbout, HasMore, HasInstead, CommitsNothing};
 ghost use Rattle.store_table.specs.Connections.{database, HasStore, IsClean, IsCommitted, IsUnderway, Finds, Makes, MakesInside, StaysInOk, StaysInErr, Leaves, LeavesNoMore};
 ghost use Rattle.store_table.specs.Faults.{IsFailure, IsForeign, IsUnwritten};
+ghost use Rattle.store_table.specs.Registers.{HaveLateTime};
 
 use crate::fault::StoreFault;
 use crate::layout::{is_blank, is_of_store};
@@ -237,6 +238,7 @@ fn add_within<S: Alter>(
     ensures same_reference { transaction.new.conn.ghost_name ≡ transaction.old.conn.ghost_name }
     ensures within { CommitsNothing (state S.Store transaction.old.conn.now) (state S.Store transaction.new.conn.now) }
     ensures added { MakesInside S.Store transaction.old.conn.now transaction.new.conn.now result IsStore (HasMore (entry_row_of key.now register.now ∷ [])) }
+    ensures late { IsErrOf result StoreFault.Time → 2 ^ 63 ≤ register.now.time }
     ensures faults { IfErr result IsUnwritten }
 {
     let time = stored_time(register)?;
@@ -256,6 +258,7 @@ fn add_each<S: Alter>(
     ensures same_reference { transaction.new.conn.ghost_name ≡ transaction.old.conn.ghost_name }
     ensures within { CommitsNothing (state S.Store transaction.old.conn.now) (state S.Store transaction.new.conn.now) }
     ensures added { MakesInside S.Store transaction.old.conn.now transaction.new.conn.now result IsStore (HasMore (map entry_row entries.now)) }
+    ensures late { IsErrOf result StoreFault.Time → HaveLateTime entries.now }
     ensures faults { IfErr result IsUnwritten }
 {
     'entries: for entry in entries {
@@ -265,12 +268,17 @@ fn add_each<S: Alter>(
 }
 
 /// Adds entries, all or none.
+///
+/// # Errors
+///
+/// [`StoreFault::Time`] where the database can't hold the time of one, [`StoreFault::Underway`], and faults of the file.
 pub fn add_all<S: Alter>(
     conn: &mut Connection<S>,
     entries: &[(String, Register)],
 ) -> Result<(), StoreFault>
     ensures clean { doubt (state S.Store conn.old).is_clean ≤ doubt (state S.Store conn.new).is_clean }
     ensures added { Makes S.Store conn.old conn.new result (HasMore (map entry_row entries.now)) }
+    ensures late { IsErrOf result StoreFault.Time → HaveLateTime entries.now }
     ensures faults { IfErr result (λ why. why ≢ StoreFault.Underway → IsUnwritten why) }
     ensures underway { IsErrOf result StoreFault.Underway → IsUnderway S.Store conn.old }
     ensures refused { HasStore S.Store conn.old → StaysInErr S.Store conn.old conn.new result }
@@ -315,7 +323,7 @@ fn clear<S: Alter>(transaction: &mut Transaction<'_, S>) -> Result<(), StoreFaul
     ensures kept { IsTrue (state S.Store transaction.old.conn.now).in_transaction → HasStore S.Store transaction.old.conn.now
         → IsClean S.Store transaction.new.conn.now → KeepsCommit (state S.Store transaction.old.conn.now) (state S.Store transaction.new.conn.now) }
     ensures cleared { MakesInside S.Store transaction.old.conn.now transaction.new.conn.now result IsStore (HasInstead []) }
-    ensures faults { IfErr result (λ why. why ≢ StoreFault.Foreign → IsUnwritten why) }
+    ensures faults { IfErr result (λ why. why ≢ StoreFault.Foreign → IsFailure why) }
 {
     delete_entries(transaction)?;
     if !is_cleared(transaction)? {
@@ -334,6 +342,7 @@ fn replace<S: Alter>(
     ensures kept { IsTrue (state S.Store transaction.old.conn.now).in_transaction → HasStore S.Store transaction.old.conn.now
         → IsClean S.Store transaction.new.conn.now → KeepsCommit (state S.Store transaction.old.conn.now) (state S.Store transaction.new.conn.now) }
     ensures replaced { MakesInside S.Store transaction.old.conn.now transaction.new.conn.now result IsStore (HasInstead (map entry_row entries.now)) }
+    ensures late { IsErrOf result StoreFault.Time → HaveLateTime entries.now }
     ensures faults { IfErr result (λ why. why ≢ StoreFault.Foreign → IsUnwritten why) }
 {
     clear(transaction)?;
@@ -347,6 +356,7 @@ pub fn replace_all<S: Alter>(
 ) -> Result<(), StoreFault>
     ensures clean { doubt (state S.Store conn.old).is_clean ≤ doubt (state S.Store conn.new).is_clean }
     ensures replaced { Makes S.Store conn.old conn.new result (HasInstead (map entry_row entries.now)) }
+    ensures late { IsErrOf result StoreFault.Time → HaveLateTime entries.now }
     ensures faults { IfErr result (λ why. why ≢ StoreFault.Underway → why ≢ StoreFault.Foreign → IsUnwritten why) }
     ensures underway { IsErrOf result StoreFault.Underway → IsUnderway S.Store conn.old }
     ensures refused { HasStore S.Store conn.old → StaysInErr S.Store conn.old conn.new result }

@@ -25,3 +25,9 @@ returns-clause-crash g c has =
     (λ clean. let early : HasCleanDisk mid = omega (arith, c.write_over.ensures.clean, clean) in ((c.in_ok-found.ensures.unchanged has early).0.now_is, c.in_ok-found.ensures.latest has early))
     (c.find.ensures.crash has)
     (c.write_over.ensures.crash (λ clean. let early : HasCleanDisk mid = omega (arith, c.write_over.ensures.clean, clean) in ap (λ (d : Database). d.schema) (c.in_ok-found.ensures.unchanged has early).0.now_is ∙ has))
+
+pub returns-clause-late : goal.returns-clause-late
+returns-clause-late g c has clean is =
+    let mid = state g.S.Store c.find.new.conn in
+    let early : HasCleanDisk mid = omega (arith, c.write_over.ensures.clean, clean) in
+    (c.in_ok-found.found, c.in_ok-found.ensures.latest has early, c.write_over.ensures.late is)

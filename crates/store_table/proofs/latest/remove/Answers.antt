@@ -1,4 +1,4 @@
-use Rattle.std.proofs.Common.{None, ap, sym, arith, ◌∙◌}
+use Rattle.std.proofs.Common.{None, ap, sym, arith, rules, ◌∙◌}
 use Rattle.sqlite.specs.Effect.{Database}
 use Rattle.sqlite.specs.State.{HasCleanDisk}
 use Rattle.sqlite.specs.Held.{state}
@@ -30,3 +30,9 @@ returns-clause-crash g c has =
     (λ clean. let early : HasCleanDisk mid = omega (arith, c.write_over.ensures.clean, clean) in ((c.in_ok-found.ensures.unchanged has early).0.now_is, c.in_ok-found.ensures.latest has early))
     (c.find.ensures.crash has)
     (c.write_over.ensures.crash (λ clean. let early : HasCleanDisk mid = omega (arith, c.write_over.ensures.clean, clean) in ap (λ (d : Database). d.schema) (c.in_ok-found.ensures.unchanged has early).0.now_is ∙ has))
+
+pub returns-in_err-write_over-clause-late : goal.returns-in_err-write_over-clause-late
+returns-in_err-write_over-clause-late g c has clean is =
+    let mid = state g.S.Store c.find.new.conn in
+    let early : HasCleanDisk mid = omega (arith, c.write_over.ensures.clean, clean) in
+    (c.in_ok-found.found, c.in_ok-found.ensures.latest has early, c.write_over.ensures.late (search rules))

@@ -1,4 +1,4 @@
-use Rattle.std.proofs.Common.{◌∙◌, ap, sym, subst, map, take, arith, ◌≡◌, ◌∷◌, [], length, ◌<◌, ◌+◌, ◌++◌}
+use Rattle.std.proofs.Common.{◌∙◌, ap, sym, subst, map, take, arith, ◌≡◌, ◌∷◌, [], length, ◌<◌, ◌+◌, ◌++◌, rules}
 use Rattle.std.proofs.lemmas.List.{map_more}
 use Rattle.sqlite.specs.State.{HasCleanDisk}
 use Rattle.sqlite.specs.Held.{state}
@@ -26,3 +26,8 @@ entries-preserved g c =
           map_more entry_row c.args.entries.now c.entries.entry-index c.entry-item.result low ∙ ap (λ e. seen ++ entry_row e ∷ []) (sym c.entry-item.is) in
           (after.0, subst (λ rows. HasMore rows old.now new.now) (sym more) (more_then seen one old.now mid.now new.now before.1 after.1));
     }
+
+pub returns-in_err-add_within-clause-late : goal.returns-in_err-add_within-clause-late
+returns-in_err-add_within-clause-late g c is =
+    let low : c.entries.entry-index < length c.args.entries.now = omega arith in
+    (c.entries.entry-index, c.entry-item.result, low, sym c.entry-item.is, c.add_within.ensures.late (search rules))
