@@ -17,7 +17,7 @@ use crate::fault::StoreFault;
 use crate::layout::{is_blank, is_of_store};
 use crate::register::Register;
 use sqlite::types::{ToSql, ValueRef};
-use sqlite::{Alter, Connection, Error, Row, Transaction, params};
+use sqlite::{Alter, Connection, Error, ErrorCode, Row, Transaction, params};
 use std::alloc::Global;
 
 /// The rows of a store, as the replica takes them.
@@ -316,18 +316,17 @@ fn is_cleared<S: Alter>(transaction: &mut Transaction<'_, S>) -> Result<bool, Er
     Ok(left.is_empty())
 }
 
-/// Takes out all entries within a transaction. That none is left is tested, which takes no time.
-fn clear<S: Alter>(transaction: &mut Transaction<'_, S>) -> Result<(), StoreFault>
+/// Takes out all entries within a transaction. That none is left is tested, which takes no time: a database that keeps one is corrupt.
+fn clear<S: Alter>(transaction: &mut Transaction<'_, S>) -> Result<(), Error>
     ensures same_reference { transaction.new.conn.ghost_name ≡ transaction.old.conn.ghost_name }
     ensures survives { LeavesNoMore S.Store transaction.old.conn.now transaction.new.conn.now }
     ensures kept { IsTrue (state S.Store transaction.old.conn.now).in_transaction → HasStore S.Store transaction.old.conn.now
         → IsClean S.Store transaction.new.conn.now → KeepsCommit (state S.Store transaction.old.conn.now) (state S.Store transaction.new.conn.now) }
     ensures cleared { MakesInside S.Store transaction.old.conn.now transaction.new.conn.now result IsStore (HasInstead []) }
-    ensures faults { IfErr result (λ why. why ≢ StoreFault.Foreign → IsFailure why) }
 {
     delete_entries(transaction)?;
     if !is_cleared(transaction)? {
-        return Err(StoreFault::Foreign);
+        return Err(Error::SqliteFailure(ErrorCode::DatabaseCorrupt));
     }
     Ok(())
 }
@@ -343,7 +342,7 @@ fn replace<S: Alter>(
         → IsClean S.Store transaction.new.conn.now → KeepsCommit (state S.Store transaction.old.conn.now) (state S.Store transaction.new.conn.now) }
     ensures replaced { MakesInside S.Store transaction.old.conn.now transaction.new.conn.now result IsStore (HasInstead (map entry_row entries.now)) }
     ensures late { IsErrOf result StoreFault.Time → HaveLateTime entries.now }
-    ensures faults { IfErr result (λ why. why ≢ StoreFault.Foreign → IsUnwritten why) }
+    ensures faults { IfErr result IsUnwritten }
 {
     clear(transaction)?;
     add_each(transaction, entries)
@@ -357,7 +356,7 @@ pub fn replace_all<S: Alter>(
     ensures clean { doubt (state S.Store conn.old).is_clean ≤ doubt (state S.Store conn.new).is_clean }
     ensures replaced { Makes S.Store conn.old conn.new result (HasInstead (map entry_row entries.now)) }
     ensures late { IsErrOf result StoreFault.Time → HaveLateTime entries.now }
-    ensures faults { IfErr result (λ why. why ≢ StoreFault.Underway → why ≢ StoreFault.Foreign → IsUnwritten why) }
+    ensures faults { IfErr result (λ why. why ≢ StoreFault.Underway → IsUnwritten why) }
     ensures underway { IsErrOf result StoreFault.Underway → IsUnderway S.Store conn.old }
     ensures refused { HasStore S.Store conn.old → StaysInErr S.Store conn.old conn.new result }
     ensures crash { (IsClean S.Store conn.new → HasStore S.Store conn.old) → Leaves S.Store conn.old conn.new (HasInstead (map entry_row entries.now)) }
