@@ -2,7 +2,9 @@
 use Rattle.std.proofs.Common.{◌≡◌, List, [], ◌∷◌, map, refl, ap, subst}
 use Rattle.std.proofs.Common.{◌⊎◌, inl, inr, sym, ◌∙◌, IsTrue}
 use Rattle.std.proofs.Common.{ℕ, filter, length}
+use Rattle.std.specs.List.{Contains}
 use Rattle.std.proofs.lemmas.List.{length-map}
+use Rattle.std.proofs.lemmas.List.Elements.{All-filter, All-contains, All-contains_itself}
 use Rattle.sqlite.specs.Effect.{Database}
 use Rattle.sqlite.proofs.StateLemmas.{survives_then}
 use Rattle.store_table.specs.Changes.{HasInstead, AreOf}
@@ -19,6 +21,7 @@ use Rattle.std.proofs.lemmas.List.Sorted.{IsPermutation-map, length_permutation}
 use Rattle.key_order.specs.Text.{Text as Key}
 use Rattle.sqlite.specs.Order.{Row}
 use Rattle.store_table.specs.Entries.{shown, four, entry_row}
+use Rattle.store_table.specs.Registers.{HaveLateTime}
 use Rattle.store_table.specs.declared.register.Register.{Register}
 
 -- the rows that a query shows have four columns
@@ -52,3 +55,10 @@ compacts before rows old mid new told one two =
 -- as many rows are left as were put in place of the table's own
 pub as_many_left : (rows : List (Key × Register)) (old new : Database) → HasInstead (map entry_row rows) old new → length rows ≡ length (new.trees 0)
 as_many_left rows old new has = sym (length-map rows entry_row) ∙ length_permutation (map shown (new.trees 0)) (map entry_row rows) has.entries ∙ length-map (new.trees 0) shown
+
+-- a late row that stays in a compaction is one of the rows
+pub late_before : (before : ℕ) (rows : List (Key × Register)) → HaveLateTime (filter (stays before) rows) → HaveLateTime rows
+late_before before rows h =
+    let all = All-filter (stays before) (Contains rows) rows (All-contains_itself rows) in
+    let there = All-contains (Contains rows) (filter (stays before) rows) h.1 all (h.0, h.2, h.3) in
+    (there.0, h.1, there.1, there.2, h.4)

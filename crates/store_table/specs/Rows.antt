@@ -7,7 +7,7 @@ use Rattle.sqlite.specs.Tree.{Trees}
 use Rattle.sqlite.specs.Effect.{Database}
 use Rattle.store_table.specs.Changes.{HasInstead}
 use Rattle.store_table.specs.Entries.{HoldsEntries, entry_row}
-use Rattle.store_table.specs.Registers.{register_order}
+use Rattle.store_table.specs.Registers.{register_order, HaveLateTime}
 use Rattle.store_table.specs.declared.register.Register.{Register}
 
 module _ (entries rows : List (Key × Register)) where
@@ -20,6 +20,10 @@ module _ (entries rows : List (Key × Register)) where
 -- these are the latest rows of the table's entries
 abbrev pub HasLatestRows : Trees → List (Key × Register) → Type 0
 HasLatestRows trees rows = (entries : List (Key × Register)) × HoldsEntries trees entries × AreLatest entries rows
+
+-- one of the latest rows of the table's entries has a time that the database can't hold
+abbrev pub HasLateRow : Trees → Type 0
+HasLateRow trees = (rows : List (Key × Register)) × HasLatestRows trees rows × HaveLateTime rows
 
 -- whether a row says a text
 abbrev pub says_text : Key × Register → Bool

@@ -1,5 +1,5 @@
 //! What the table holds, without a tree: each key with its latest register.
-ghost use Rattle.std.specs.Prelude.{◌≡◌, ◌≤◌, length, filter, count_by, IfOk, IfErr};
+ghost use Rattle.std.specs.Prelude.{◌≡◌, ◌≢◌, ◌≤◌, length, filter, count_by, IfOk, IfErr, IsErrOf};
 ghost use Rattle.std.specs.Option.{option_copied};
 ghost use Rattle.key_order.specs.Text.{text_order};
 ghost use Rattle.key_order.specs.Map.{IsMap, get};
@@ -7,9 +7,9 @@ ghost use Rattle.merkle_replica.specs.Places.{IsPlaceOf, IsGapFor};
 ghost use Rattle.sqlite.specs.Held.{state};
 ghost use Rattle.sqlite.specs.View.{doubt};
 ghost use Rattle.store_table.specs.Entries.{HoldsEntries};
-ghost use Rattle.store_table.specs.Connections.{database, HasStore, IsClean, IsCommitted, Finds, Makes, StaysInOk, StaysInErr, Leaves, LeavesNoMore};
-ghost use Rattle.store_table.specs.Faults.{IsFailure};
-ghost use Rattle.store_table.specs.Rows.{AreLatest, HasLatestRows, IsCompacted, stays, says_text, is_removal, last_time};
+ghost use Rattle.store_table.specs.Connections.{database, HasStore, IsClean, IsCommitted, IsUnderway, Finds, Makes, StaysInOk, StaysInErr, Leaves, LeavesNoMore};
+ghost use Rattle.store_table.specs.Faults.{IsFailure, IsUnwritten};
+ghost use Rattle.store_table.specs.Rows.{AreLatest, HasLatestRows, HasLateRow, IsCompacted, stays, says_text, is_removal, last_time};
 
 use crate::fault::StoreFault;
 use crate::register::Register;
@@ -140,6 +140,11 @@ pub fn compact<S: Alter>(
 ) -> Result<usize, StoreFault>
     ensures compacted { Makes S.Store conn.old conn.new result (IsCompacted before) }
     ensures left { Finds S.Store conn.old conn.new result (λ db left. left ≡ length ((database S.Store conn.new).trees 0)) }
+    ensures late { HasStore S.Store conn.old → IsClean S.Store conn.new → IsErrOf result StoreFault.Time
+        → HasLateRow (database S.Store conn.old).trees }
+    ensures underway { HasStore S.Store conn.old → IsClean S.Store conn.new → IsErrOf result StoreFault.Underway
+        → IsUnderway S.Store conn.old }
+    ensures faults { IfErr result (λ why. why ≢ StoreFault.Underway → IsUnwritten why) }
     ensures refused { HasStore S.Store conn.old → IsCommitted S.Store conn.old → StaysInErr S.Store conn.old conn.new result }
     // A crash leaves what it could leave before, or the compacted database.
     ensures crash { HasStore S.Store conn.old → Leaves S.Store conn.old conn.new (IsCompacted before) }

@@ -1,11 +1,12 @@
-use Rattle.std.proofs.Common.{map, ap, subst, arith, ◌∙◌}
+use Rattle.std.proofs.Common.{IsTrue, map, ap, subst, arith, rules, ◌∙◌}
 use Rattle.std.proofs.lemmas.Grind.{common_steps}
 use Rattle.sqlite.specs.Effect.{Database}
 use Rattle.sqlite.specs.State.{HasCleanDisk, Survives}
 use Rattle.sqlite.specs.Held.{state}
 use Rattle.store_table.specs.Changes.{HasInstead, AreOf}
 use Rattle.store_table.specs.Entries.{entry_row}
-use Rattle.store_table.proofs.ReadLemmas.{compacts, as_many_left}
+use Rattle.store_table.specs.Registers.{HaveLateTime}
+use Rattle.store_table.proofs.ReadLemmas.{compacts, as_many_left, late_before}
 use Rattle.store_table.proofs.rows.compact.Goals as goal
 
 pub returns-clause-left : goal.returns-clause-left
@@ -39,3 +40,16 @@ returns-in_err-replace_all-clause-crash g c has =
     (c.read_latest.ensures.crash has)
     (subst (λ rows. Survives mid new (AreOf (HasInstead (map entry_row rows) mid.now))) (c.deref.ensures.value ∙ c.forget.ensures)
     (c.replace_all.ensures.crash (λ clean. let early : HasCleanDisk mid = omega (arith, c.replace_all.ensures.clean, clean) in ap (λ (d : Database). d.schema) (c.in_ok-rows.ensures.unchanged has early).0.now_is ∙ has)))
+
+pub returns-in_err-replace_all-clause-late : goal.returns-in_err-replace_all-clause-late
+returns-in_err-replace_all-clause-late g c has clean is =
+    let mid = state g.S.Store c.read_latest.new.conn in
+    let early : HasCleanDisk mid = omega (arith, c.replace_all.ensures.clean, clean) in
+    let late = subst HaveLateTime (c.deref.ensures.value ∙ c.forget.ensures) (c.replace_all.ensures.late (search rules)) in
+    (c.in_ok-rows.rows.items, c.in_ok-rows.ensures.latest has early, late_before c.args.before c.in_ok-rows.rows.items late)
+
+pub returns-in_err-replace_all-clause-underway : goal.returns-in_err-replace_all-clause-underway
+returns-in_err-replace_all-clause-underway g c has clean is =
+    let mid = state g.S.Store c.read_latest.new.conn in
+    let early : HasCleanDisk mid = omega (arith, c.replace_all.ensures.clean, clean) in
+    subst IsTrue (c.in_ok-rows.ensures.unchanged has early).0.mode (c.replace_all.ensures.underway (search rules))
