@@ -9,7 +9,7 @@ ghost use Rattle.store_table.specs.Entries.{entry_row};
 ghost use Rattle.store_table.specs.Changes.{IsBlank, IsNewStore, HasInstead};
 ghost use Rattle.store_table.specs.Connections.{database, HasStore, IsClean, IsCommitted, IsUnderway, Makes, StaysInOk, StaysInErr, Leaves, LeavesNoMore};
 ghost use Rattle.store_table.specs.Faults.{IsForeign, IsUnwritten};
-ghost use Rattle.store_table.specs.Registers.{time_after, text_at, HasLastTime};
+ghost use Rattle.store_table.specs.Registers.{time_after, text_at, HasLastTime, HaveLateTime};
 ghost use Rattle.merkle_store.specs.Kept.{AreInStep, IsInStep, HasRegister, SameButFor, HasJoined};
 ghost use Rattle.merkle_store.specs.Writes.{register_of, later_entries, AreTimely, HasWrite, HasNews, StaysUnlessBehind};
 
@@ -229,12 +229,15 @@ impl<S: Alter + Drop> Store<S> {
     ///
     /// # Errors
     ///
-    /// [`StoreFault::Future`] where an entry has a time that is more than a day ahead of the clock; [`StoreFault::Behind`] where the file
-    /// has the entries and memory was refused for the rows in memory; and faults of the file. But for `Behind` all is as it was.
+    /// [`StoreFault::Future`] where an entry has a time that is more than a day ahead of the clock; [`StoreFault::Time`] where the database
+    /// can't hold the time of one that is later; [`StoreFault::Underway`]; [`StoreFault::Behind`] where the file has the entries and memory
+    /// was refused for the rows in memory; and faults of the file. But for `Behind` all is as it was.
     pub fn join(&mut self, entries: Entries) -> Result<usize, StoreFault>
         ensures kept { IsClean S.Store self.new.conn → IsInStep S.Store self.old → OnOk result (IsInStep S.Store self.new) }
         ensures joined { OnOk result (HasJoined self.old.replica.rows entries.items self.new.replica.rows) }
         ensures added { Makes S.Store self.old.conn self.new.conn result (HasNews self.old entries.items) }
+        ensures late { IsErrOf result StoreFault.Time → HaveLateTime (later_entries self.old.replica.rows entries.items) }
+        ensures faults { IfErr result (λ why. why ≢ StoreFault.Behind → why ≢ StoreFault.Underway → why ≢ StoreFault.Future → IsUnwritten why) }
         ensures timely { OnOk result (AreTimely self.old.latest entries.items) }
         ensures future { IsErrOf result StoreFault.Future ↔ ¬ AreTimely self.old.latest entries.items }
         ensures underway { IsErrOf result StoreFault.Underway → IsUnderway S.Store self.old.conn }
@@ -261,11 +264,13 @@ impl<S: Alter + Drop> Store<S> {
     ///
     /// # Errors
     ///
-    /// Faults of the file, by which all is as it was.
+    /// [`StoreFault::Underway`] where a transaction is open, and faults of the file, by which all is as it was.
     pub fn compact(&mut self) -> Result<(), StoreFault>
         ensures kept { IsClean S.Store self.new.conn → IsInStep S.Store self.old → OnOk result (IsInStep S.Store self.new) }
         ensures same { self.new.replica ≡ self.old.replica }
         ensures compacted { Makes S.Store self.old.conn self.new.conn result (HasInstead (map entry_row self.old.replica.rows)) }
+        ensures late { IsErrOf result StoreFault.Time → HaveLateTime self.old.replica.rows }
+        ensures faults { IfErr result (λ why. why ≢ StoreFault.Underway → IsUnwritten why) }
         ensures underway { IsErrOf result StoreFault.Underway → IsUnderway S.Store self.old.conn }
         ensures refused { HasStore S.Store self.old.conn → StaysInErr S.Store self.old.conn self.new.conn result }
 

@@ -9,6 +9,7 @@ ghost use Rattle.store_table.specs.Entries.{entry_row};
 ghost use Rattle.store_table.specs.Changes.{HasMore, HasInstead};
 ghost use Rattle.store_table.specs.Connections.{HasStore, IsClean, IsCommitted, IsUnderway, Finds, Makes, StaysInOk, StaysInErr, Leaves, LeavesNoMore};
 ghost use Rattle.store_table.specs.Faults.{IsFailure, IsUnwritten};
+ghost use Rattle.store_table.specs.Registers.{HaveLateTime};
 ghost use Rattle.store_table.specs.declared.fault.StoreFault.TheVariants.{Behind};
 ghost use Rattle.merkle_store.specs.Kept.{same_register, later_register, AreRowsOf, HasJoined, StayInStep};
 ghost use Rattle.merkle_store.specs.Writes.{StaysUnlessBehind};
@@ -127,6 +128,7 @@ pub fn add_entries<S: Alter>(
     ensures kept { StayInStep S.Store conn.old conn.new replica.old.rows replica.new.rows result }
     ensures joined { OnOk result (HasJoined replica.old.rows entries.items replica.new.rows) }
     ensures added { Makes S.Store conn.old conn.new result (HasMore (map entry_row entries.items)) }
+    ensures late { IsErrOf result StoreFault.Time → HaveLateTime entries.items }
     ensures faults { IfErr result (λ why. why ≢ Behind → why ≢ StoreFault.Underway → IsUnwritten why) }
     ensures underway { IsErrOf result StoreFault.Underway → IsUnderway S.Store conn.old }
 
@@ -146,7 +148,8 @@ pub fn rewrite<S: Alter>(conn: &mut Connection<S>, replica: &EntryReplica) -> Re
     // The rows in memory are still those of the file.
     ensures kept { StayInStep S.Store conn.old conn.new replica.now.rows replica.now.rows result }
     ensures compacted { Makes S.Store conn.old conn.new result (HasInstead (map entry_row replica.now.rows)) }
-    ensures faults { IfErr result (λ why. why ≢ StoreFault.Underway → why ≢ StoreFault.Foreign → IsUnwritten why) }
+    ensures late { IsErrOf result StoreFault.Time → HaveLateTime replica.now.rows }
+    ensures faults { IfErr result (λ why. why ≢ StoreFault.Underway → IsUnwritten why) }
     ensures underway { IsErrOf result StoreFault.Underway → IsUnderway S.Store conn.old }
     ensures refused { HasStore S.Store conn.old → StaysInErr S.Store conn.old conn.new result }
 

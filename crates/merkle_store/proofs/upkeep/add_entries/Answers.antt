@@ -1,7 +1,9 @@
+use Rattle.std.proofs.Common.{subst, rules}
 use Rattle.std.specs.String.{string_cmp_total}
 use Rattle.sqlite.specs.Held.{state}
 use Rattle.store_table.specs.contracts.register.RegisterEq.TheImpl.Laws.{laws-law}
 use Rattle.store_table.specs.contracts.registers.RegisterJoin.TheImpl.Laws.{joining-law}
+use Rattle.store_table.specs.Registers.{HaveLateTime}
 use Rattle.store_table.proofs.Outcomes.{on_ok}
 use Rattle.merkle_store.proofs.Keeping.{kept_all, gathered_puts}
 use Rattle.merkle_store.proofs.upkeep.add_entries.Goals as goal
@@ -17,3 +19,6 @@ returns-clause-kept g c = λ clean writer kept.
 pub returns-clause-joined : goal.returns-clause-joined
 returns-clause-joined g c =
     on_ok c.join_all_in_memory.result _ _ (gathered_puts _ laws-law _ joining-law string_cmp_total c.args.entries.items c.args.replica.now.rows c.join_all_in_memory.new.replica.rows) c.join_all_in_memory.ensures.joined
+
+pub returns-in_err-add_all-clause-late : goal.returns-in_err-add_all-clause-late
+returns-in_err-add_all-clause-late g c is = subst HaveLateTime c.deref.ensures.value (c.add_all.ensures.late (search rules))

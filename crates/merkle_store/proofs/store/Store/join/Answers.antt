@@ -1,9 +1,10 @@
-use Rattle.std.proofs.Common.{◌≡◌, List, [], ◌∷◌, length, sym, subst, ◌∙◌, arith}
+use Rattle.std.proofs.Common.{◌≡◌, List, [], ◌∷◌, length, sym, subst, ◌∙◌, arith, rules}
 use Rattle.std.specs.String.{string_cmp_total}
 use Rattle.std.proofs.lemmas.Grind.{common_steps}
 use Rattle.key_order.specs.Text.{Text as Key, text_order}
 use Rattle.merkle_replica.proofs.Gathering.{gathers_none}
 use Rattle.merkle_store.specs.Kept.{JoinTheSame}
+use Rattle.store_table.specs.Registers.{HaveLateTime}
 use Rattle.store_table.specs.declared.register.Register.{Register}
 use Rattle.store_table.specs.contracts.register.RegisterEq.TheImpl.Laws.{laws-law}
 use Rattle.store_table.specs.contracts.registers.RegisterJoin.TheImpl.Laws.{joining-law}
@@ -30,3 +31,6 @@ returns-then-count-eq0-clause-joined g c =
     let none : c.in_ok-news.news.items ≡ [] = none_of c.in_ok-news.news.items (grind (arith, common_steps)) in
     let alike = subst (JoinTheSame _ _ rows entries) (sym c.in_ok-news.ensures.news ∙ none) (later_join_the_same total-law _ laws-law joining-law string_cmp_total rows entries) in
     gathers_same _ laws-law _ joining-law string_cmp_total rows entries [] rows alike (gathers_none text_order string_cmp_total _ laws-law _ joining-law rows c.in_ok-news.ensures.ascending)
+
+pub returns-in_err-add_entries-clause-late : goal.returns-in_err-add_entries-clause-late
+returns-in_err-add_entries-clause-late g c is = subst HaveLateTime c.in_ok-news.ensures.news (c.add_entries.ensures.late (search rules))
