@@ -134,8 +134,8 @@ module _ {K V : Type 0} where
   taken_from_keeps (RowsIn gaps) before after t = ap (λ f. f.rows) t.1
 
   asked_of_keeps : (question : Question K) (before after : Found K V) → IsAskedOf (Some question) before after → after.rows ≡ before.rows
-  asked_of_keeps question before after (inl t) = taken_from_keeps question before after t
-  asked_of_keeps question before after (inr t) = taken_from_keeps question (all_whole before) after t
+  asked_of_keeps question before after (some, inl t) = taken_from_keeps question before after t
+  asked_of_keeps question before after (some, inr t) = taken_from_keeps question (all_whole before) after t
 
 module _ {K V H : Type 0} (laws : Laws K V H) (o : IsTotalOrder laws.cmp) where
   -- so does all that comes next

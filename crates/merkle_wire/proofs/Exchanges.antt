@@ -111,7 +111,7 @@ module _ {K V H : Type 0} (laws : Laws K V H) (o : IsTotalOrder laws.cmp) (eqv :
       go k (inr a) = inr a
       go k (inl a) = let (rest, e, b) = again_asks (P k) ask left again asks a in inl (subst (IsAgain k) (sym e) (from k rest b))
 
-  sent_fits : (with_pages : Bool) (us : List (OwnedGap K × Outline K V)) → AllByRecursion (λ u. IsTold laws.cmp peer.rows with_pages (items_over laws.cmp laws.bytes_of peer.tree u.0) u.1) us → AllByRecursion (λ u. Fits n u.1) us
+  pub sent_fits : (with_pages : Bool) (us : List (OwnedGap K × Outline K V)) → AllByRecursion (λ u. IsTold laws.cmp peer.rows with_pages (items_over laws.cmp laws.bytes_of peer.tree u.0) u.1) us → AllByRecursion (λ u. Fits n u.1) us
   sent_fits with_pages [] a = tt
   sent_fits with_pages (u ∷ us) a = (
     fits_sent laws.cmp o peer.tree.format laws.bytes_of n peer.rows with_pages peer.tree.root (owned_gap u.0) u.1
@@ -120,7 +120,7 @@ module _ {K V H : Type 0} (laws : Laws K V H) (o : IsTotalOrder laws.cmp) (eqv :
     sent_fits with_pages us a.1,
   )
 
-  same_begin : {X Y : Type 0} (E : X → X → Type 0) (asked asked' : List X) (ts us : List (X × Y)) (l m : List X) → SameLists E asked asked' → asked ≡ map (λ t. t.0) ts ++ l → asked' ≡ map (λ t. t.0) us ++ m
+  pub same_begin : {X Y : Type 0} (E : X → X → Type 0) (asked asked' : List X) (ts us : List (X × Y)) (l m : List X) → SameLists E asked asked' → asked ≡ map (λ t. t.0) ts ++ l → asked' ≡ map (λ t. t.0) us ++ m
       → SameLists E (map (λ t. t.0) ts ++ l) (map (λ t. t.0) us ++ m)
   same_begin E asked asked' ts us l m s e f = subst (λ xs. SameLists E xs (map (λ t. t.0) us ++ m)) e (subst (SameLists E asked) f s)
 
@@ -207,7 +207,7 @@ module _ {K V H : Type 0} (laws : Laws K V H) (o : IsTotalOrder laws.cmp) (eqv :
           by (inr b) = inl (to_left k (inl b))
 
   -- bytes tell the digest of the root page
-  root_tells : (m m' : ℕ) (d d' : Option (List ℕ)) → (front root_kind ++ count_bytes m) ++ option_bytes (λ x. x) d ≡ (front root_kind ++ count_bytes m') ++ option_bytes (λ x. x) d' → d ≡ d'
+  pub root_tells : (m m' : ℕ) (d d' : Option (List ℕ)) → (front root_kind ++ count_bytes m) ++ option_bytes (λ x. x) d ≡ (front root_kind ++ count_bytes m') ++ option_bytes (λ x. x) d' → d ≡ d'
   root_tells m m' d d' e =
       let behind = (join_tells (front root_kind) (front root_kind) (count_bytes m ++ option_bytes (λ x. x) d) (count_bytes m' ++ option_bytes (λ x. x) d') refl e).1 in
       by d d' (count_told m m' (option_bytes (λ x. x) d) (option_bytes (λ x. x) d') behind).1

@@ -47,7 +47,7 @@ first_of P [] (suc n) ps = tt
 first_of P (x ∷ xs) zero ps = tt
 first_of P (x ∷ xs) (suc n) ps = (ps.0, first_of P xs n ps.1)
 
-all_pass : {K X : Type 0} (test : K → Bool) (ps : List (K × X)) → AllByRecursion (λ p. test p.0 ≡ true) ps → rows_at test ps ≡ ps
+pub all_pass : {K X : Type 0} (test : K → Bool) (ps : List (K × X)) → AllByRecursion (λ p. test p.0 ≡ true) ps → rows_at test ps ≡ ps
 all_pass test [] a = refl
 all_pass test (p ∷ ps) a = rw a.0 (ap (λ qs. p ∷ qs) (all_pass test ps a.1))
 

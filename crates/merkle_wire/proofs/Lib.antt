@@ -37,3 +37,11 @@ pub mod Unfit
 pub mod Others
 pub mod Twins
 pub mod SettingsTold
+pub mod Times
+pub mod Filled
+pub mod Sayable
+pub mod TimesTaken
+pub mod KeysKept
+pub mod KeysNext
+pub mod Steadily
+pub mod SteadySessions

@@ -107,7 +107,7 @@ module _ {K V H : Type 0} (laws : Laws K V H) (o : IsTotalOrder laws.cmp) (local
 
   goes_on : (rounds : ℕ) (found : Found K V) (next : Next K V) → AllByRecursion New found.rows → (IsFaithfulSession laws local peer → (k : K) → Lacked k → Among k found) → GoesOn laws.cmp encoding rounds found next
       → CoversNext laws local peer root encoding next
-  goes_on rounds found (Ask session message) new all (asked, is, same) = (is, by (both asked))
+  goes_on rounds found (Ask session message) new all (asked, is, same) = (is, by (both asked.1))
     where
       both : IsTakenFrom session.asked found session.found ⊎ IsTakenFrom session.asked (all_whole found) session.found → Asks session.asked found session.found
       both (inl t) = taken_from session.asked found session.found t
@@ -153,23 +153,28 @@ module _ {K V H : Type 0} (laws : Laws K V H) (o : IsTotalOrder laws.cmp) (eqv :
     (one_tree : (hasher : H) (base : ℕ) (a b : List (K × List ℕ)) (t u : Tree K (List ℕ)) → SameMap laws.cmp (λ d e. d ≡ e) a b → IsTreeOf laws.cmp (laws.key_digest hasher) base t a → IsTreeOf laws.cmp (laws.key_digest hasher) base u b → SamePages laws.cmp t u)
     (encoding : K → List ℕ) (values : V → List ℕ) (tell : Tell laws encoding values) (n : ℕ) (local : Side K V H) (up : IsMap laws.cmp local.rows) (met peer : Contents K V H) (rows : peer.rows ≡ met.rows) (settings : SameSettings met.tree peer.tree)
     (kept : IsKept laws.cmp laws.value_digest peer) (canonical : IsCanonicalRoot (λ k. level_of (laws.key_digest peer.tree.hasher k) peer.tree.base) peer.tree.root) (small : HasSmallMap laws n (side peer)) where
-  pub exchanged : (digest_of : K → List ℕ) (before : Underway K V) (question : Question K) (message reply : List ℕ) (next : Next K V) → message ≡ question_bytes encoding before.asked → message ≡ question_bytes encoding question
-      → IsReply laws.cmp laws.bytes_of encoding values digest_of n met.rows peer.tree question reply → IsNext laws n encoding values local before reply next
-      → (root : Tree K (List ℕ)) → IsTreeOf laws.cmp (laws.key_digest met.tree.hasher) met.tree.base root (tree_map laws (side met)) → Covers laws local (side met) root before → CoversNext laws local (side met) root encoding next
-  exchanged digest_of before question message reply next asked read is goes root of_peer c =
-      let same = same_side met peer rows settings in
+  -- the sides that met, by any tree of the peer's map
+  pub sides_met : (root : Tree K (List ℕ)) → IsTreeOf laws.cmp (laws.key_digest met.tree.hasher) met.tree.base root (tree_map laws (side met)) → AreSides laws local (side peer) root peer.tree.root
+  sides_met root of_peer =
       let map = tree_map laws (side peer) in
-      let of_map = subst (λ s. IsTreeOf laws.cmp (laws.key_digest s.hasher) s.base root (tree_map laws s)) (sym same) of_peer in
+      let of_map = subst (λ s. IsTreeOf laws.cmp (laws.key_digest s.hasher) s.base root (tree_map laws s)) (sym (same_side met peer rows settings)) of_peer in
       let own = same_map-own laws.cmp o map in
       let tree : IsTreeOf laws.cmp (laws.key_digest peer.tree.hasher) peer.tree.base peer.tree.root map = (canonical, kept.digested) in
-      let sides : AreSides laws local (side peer) root peer.tree.root = record {
+      record {
         up = up;
         up_peer = kept.ascending;
         respects = respects;
         is_tree = tree;
         same = one_tree peer.tree.hasher peer.tree.base map map root peer.tree.root own of_map tree;
         back = one_tree peer.tree.hasher peer.tree.base map map peer.tree.root root own tree of_map;
-      } in
+      }
+
+  pub exchanged : (digest_of : K → List ℕ) (before : Underway K V) (question : Question K) (message reply : List ℕ) (next : Next K V) → message ≡ question_bytes encoding before.asked → message ≡ question_bytes encoding question
+      → IsReply laws.cmp laws.bytes_of encoding values digest_of n met.rows peer.tree question reply → IsNext laws n encoding values local before reply next
+      → (root : Tree K (List ℕ)) → IsTreeOf laws.cmp (laws.key_digest met.tree.hasher) met.tree.base root (tree_map laws (side met)) → Covers laws local (side met) root before → CoversNext laws local (side met) root encoding next
+  exchanged digest_of before question message reply next asked read is goes root of_peer c =
+      let same = same_side met peer rows settings in
+      let sides = sides_met root of_peer in
       subst (λ s. CoversNext laws local s root encoding next) same
       (exchange_covers laws o eqv encoding values tell n local peer root sides small.digests digest_of before question message reply next asked read
       (subst (λ rs. IsReply laws.cmp laws.bytes_of encoding values digest_of n rs peer.tree question reply) (sym rows) is) goes (subst (λ s. Covers laws local s root before) (sym same) c))

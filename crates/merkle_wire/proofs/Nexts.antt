@@ -1,21 +1,24 @@
 -- What comes after a reply that was taken.
-use Rattle.std.proofs.Common.{◌≡◌, ℕ, List, Option, Some, None, sym, ap, subst, ◌∙◌}
+use Rattle.std.proofs.Common.{◌≡◌, ◌≢◌, ℕ, List, [], Option, Some, None, sym, ap, subst, ◌∙◌, inl, inr}
 use Rattle.std.specs.declared.cmp.Ordering.{Ordering}
 use Rattle.merkle_replica.specs.Contents.{Contents, Side, side}
 use Rattle.merkle_replica.specs.Laws.{Laws}
 use Rattle.merkle_tree_theory.specs.Hashed.{hashed_tree}
-use Rattle.merkle_wire.specs.Asking.{IsAskedOf, IsDone}
+use Rattle.merkle_wire.specs.Asking.{AsksForOutlines, IsAskedOf, IsDone}
 use Rattle.merkle_wire.specs.Faults.{IsRefusedFor}
 use Rattle.merkle_wire.specs.Fit.{IsFit}
 use Rattle.merkle_wire.specs.Found.{Found}
-use Rattle.merkle_wire.specs.Next.{AsksOrGoesOn, GoesOn, HaveTwins, IsAsked, IsEnded, IsNext, IsStopped, IsTwice, rounds_with}
+use Rattle.merkle_wire.specs.Next.{AsksFew, AsksOrGoesOn, GoesOn, HaveTwins, IsAsked, IsCame, IsEnded, IsNext, IsStopped, IsTwice, rounds_with}
 use Rattle.merkle_wire.specs.Questions.{question_bytes}
 use Rattle.merkle_wire.specs.Underway.{Underway, HasTaken}
 use Rattle.merkle_wire.specs.declared.catching_up.Next.{Next}
 use Rattle.merkle_wire.specs.declared.catching_up.Next.TheVariants.{Ask, Came}
+use Rattle.merkle_wire.specs.Gaps.{owned_gap}
 use Rattle.merkle_wire.specs.declared.question.Question.{Question}
+use Rattle.merkle_wire.specs.declared.question.Question.TheVariants.{Root, Outlines, Nodes, RowsAt, RowsIn}
 use Rattle.merkle_wire.specs.declared.session_error.SessionError.{SessionError}
 use Rattle.merkle_wire.specs.declared.session_error.SessionError.TheVariants.{Malformed, Memory, NoNode, NotInGap, NothingCame, OtherKind, Refused, TooManyRounds, Twice}
+use Rattle.merkle_wire.proofs.Left.{some_mapped}
 
 module _ {K V H : Type 0} where
   -- a replica whose tree is hashed is the side that it was
@@ -39,6 +42,24 @@ module _ {K V : Type 0} (cmp : K → K → Ordering) where
     ap (λ s. s.rounds) asked.1 ∙ r ∙ ap (λ s. rounds_with rounds s.asked) (sym asked.1),
   )
   asked_goes_on encoding question before after rounds more (Came rows) asked of r = absurd asked
+
+  -- where outlines are asked for, gaps of pages below were found
+  pub outlines_of_some : (question : Question K) (before after : Found K V) → AsksForOutlines question → IsAskedOf (Some question) before after → before.below ≢ []
+  outlines_of_some (Outlines most gaps) before after asks (some, inl (is, e)) none = some_mapped owned_gap gaps.items some.0 (sym is ∙ none)
+  outlines_of_some (Outlines most gaps) before after asks (some, inr (is, e)) none = some_mapped owned_gap gaps.items some.0 (sym is)
+  outlines_of_some (Root settings) before after asks of none = absurd asks
+  outlines_of_some (Nodes most gaps) before after asks of none = absurd asks
+  outlines_of_some (RowsAt keys) before after asks of none = absurd asks
+  outlines_of_some (RowsIn gaps) before after asks of none = absurd asks
+
+  -- where nothing is to be asked for and the rows came, it has gone on
+  pub came_goes_on : (encoding : K → List ℕ) (rounds : ℕ) (before after : Found K V) (rows : List (K × V)) (next : Next K V) → IsAskedOf None before after → rows ≡ after.rows → IsCame cmp rows next → GoesOn cmp encoding rounds before next
+  came_goes_on encoding rounds before after rows (Ask session message) done is came = absurd came
+  came_goes_on encoding rounds before after rows (Came all) done is came = (subst IsDone done.1 done.0, subst (λ rs. IsCame cmp rs (Came all)) (is ∙ ap (λ f. f.rows) done.1) came)
+
+  pub came_few : (rows : List (K × V)) (next : Next K V) → IsCame cmp rows next → AsksFew next
+  came_few rows (Ask session message) came = absurd came
+  came_few rows (Came all) came = tt
 
   -- rows that don't come end the catch-up
   pub twice_ends : (rounds : ℕ) (before after : Found K V) (rows : List (K × V)) (error : SessionError) → IsAskedOf None before after → rows ≡ after.rows → IsTwice cmp rows error → IsEnded cmp rounds before error
@@ -71,7 +92,7 @@ module _ {K V H : Type 0} (laws : Laws K V H) (n : ℕ) (encoding : K → List �
   -- so does one after which it doesn't go on
   pub ended_stops : (found : Found K V) (error : SessionError) → HasTaken laws n encoding values local before.asked reply before.found found None → IsEnded laws.cmp before.rounds found error → Stopped error
   ended_stops found Memory taken ended = tt
-  ended_stops found TooManyRounds taken ended = ended
+  ended_stops found TooManyRounds taken ended = (ended.0, found, taken, ended.1)
   ended_stops found Twice taken ended = (found, taken, ended.0, ended.1)
   ended_stops found (Malformed e) taken ended = absurd ended
   ended_stops found OtherKind taken ended = absurd ended
@@ -79,3 +100,12 @@ module _ {K V H : Type 0} (laws : Laws K V H) (n : ℕ) (encoding : K → List �
   ended_stops found NothingCame taken ended = absurd ended
   ended_stops found NotInGap taken ended = absurd ended
   ended_stops found NoNode taken ended = absurd ended
+
+-- a replica whose tree is hashed ends a catch-up as the side that it was
+module _ {K V H : Type 0} (laws : Laws K V H) (n : ℕ) (encoding : K → List ℕ) (values : V → List ℕ) (is_key : K → Type 0) (is_value : V → Type 0) where
+  pub is_stopped : (local was : Side K V H) (before inside : Underway K V) (reply : List ℕ) (found : Found K V) (answered : Option (Question K)) (error : SessionError) → was ≡ local → inside ≡ before → answered ≡ None
+      → HasTaken laws n encoding values was inside.asked reply inside.found found answered → IsEnded laws.cmp inside.rounds found error → IsStopped laws n encoding values is_key is_value local before reply error
+  is_stopped local was before inside reply found answered error l s a taken ended =
+      subst (λ u. IsStopped laws n encoding values is_key is_value local u reply error) s
+      (subst (λ t. IsStopped laws n encoding values is_key is_value t inside reply error) l
+      (ended_stops laws n encoding values is_key is_value was inside reply found error (subst (HasTaken laws n encoding values was inside.asked reply inside.found found) a taken) ended))

@@ -7,7 +7,7 @@ use Rattle.key_order.specs.Order.{Same}
 use Rattle.key_order.proofs.Orders.{below-same}
 use Rattle.merkle_bytes.specs.Encodings.{SameLists}
 use Rattle.merkle_search_tree.proofs.SameItems.{same_gap-own}
-use Rattle.merkle_tree_theory.specs.Gap.{Gap, IsAfter, IsBefore, SameBound}
+use Rattle.merkle_tree_theory.specs.Gap.{Gap, IsAfter, IsBefore, SameBound, SameGap}
 use Rattle.merkle_wire.specs.Coming.{AscendBetween, AscendIn}
 
 module _ {X K : Type 0} (cmp : K → K → Ordering) (key : X → K) (g : Gap K) where
@@ -33,16 +33,26 @@ module _ {K : Type 0} (cmp : K → K → Ordering) (o : IsTotalOrder cmp) where
   after-same (Some a) None j k s e l = absurd s
   after-same (Some a) (Some b) j k s e l = below-same cmp o a b j k s e l
 
-  before-same : (b : Option K) (j k : K) → Same cmp j k → IsBefore cmp b j → IsBefore cmp b k
-  before-same None j k e l = tt
-  before-same (Some b) j k e l = below-same cmp o j k b b e (tied_itself o b) l
+  before-same : (a b : Option K) (j k : K) → SameBound cmp a b → Same cmp j k → IsBefore cmp a j → IsBefore cmp b k
+  before-same None None j k s e l = tt
+  before-same None (Some b) j k s e l = absurd s
+  before-same (Some a) None j k s e l = absurd s
+  before-same (Some a) (Some b) j k s e l = below-same cmp o j k a b e s l
 
-  ascend_between-same : (a b before : Option K) (js ks : List K) → SameBound cmp a b → SameLists (Same cmp) js ks → AscendBetween cmp a before js → AscendBetween cmp b before ks
-  ascend_between-same a b before [] [] s t up = tt
-  ascend_between-same a b before [] (k ∷ ks) s t up = absurd t
-  ascend_between-same a b before (j ∷ js) [] s t up = absurd t
-  ascend_between-same a b before (j ∷ js) (k ∷ ks) s t up = (after-same a b j k s t.0 up.0, before-same before j k t.0 up.1, ascend_between-same (Some j) (Some k) before js ks t.0 t.1 up.2)
+  pub ascend_between-same : (a b c d : Option K) (js ks : List K) → SameBound cmp a b → SameBound cmp c d → SameLists (Same cmp) js ks → AscendBetween cmp a c js → AscendBetween cmp b d ks
+  ascend_between-same a b c d [] [] s t e up = tt
+  ascend_between-same a b c d [] (k ∷ ks) s t e up = absurd e
+  ascend_between-same a b c d (j ∷ js) [] s t e up = absurd e
+  ascend_between-same a b c d (j ∷ js) (k ∷ ks) s t e up = (after-same a b j k s e.0 up.0, before-same c d j k t e.0 up.1, ascend_between-same (Some j) (Some k) c d js ks e.0 t e.1 up.2)
 
   -- keys ascend within a gap where equal keys do
   pub ascend-same : (g : Gap K) (js ks : List K) → SameLists (Same cmp) js ks → AscendIn cmp g js → AscendIn cmp g ks
-  ascend-same g js ks = ascend_between-same g.after g.after g.before js ks (same_gap-own cmp o g).0
+  ascend-same g js ks = let own = same_gap-own cmp o g in ascend_between-same g.after g.after g.before g.before js ks own.0 own.1
+
+  pub own_keys : (ks : List K) → SameLists (Same cmp) ks ks
+  own_keys [] = tt
+  own_keys (k ∷ ks) = (tied_itself o k, own_keys ks)
+
+  -- and within one with equal bounds
+  pub ascend-alike : (g h : Gap K) (ks : List K) → SameGap cmp g h → AscendIn cmp g ks → AscendIn cmp h ks
+  ascend-alike g h ks s = ascend_between-same g.after h.after g.before h.before ks ks s.0 s.1 (own_keys ks)

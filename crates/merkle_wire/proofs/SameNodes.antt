@@ -19,7 +19,7 @@ use Rattle.merkle_wire.proofs.PagesBelow.{nodes_in}
 
 module _ {K : Type 0} (cmp : K → K → Ordering) (o : IsTotalOrder cmp) where
   -- pages that are both absent, or the same
-  abbrev SameFound : Option (Tree K (List ℕ)) → Option (Tree K (List ℕ)) → Type 0
+  abbrev pub SameFound : Option (Tree K (List ℕ)) → Option (Tree K (List ℕ)) → Type 0
   SameFound None None = ⊤
   SameFound None (Some u) = ⊥
   SameFound (Some t) None = ⊥
@@ -35,7 +35,7 @@ module _ {K : Type 0} (cmp : K → K → Ordering) (o : IsTotalOrder cmp) where
     before-same (Some b) k j s = ap is_lt (o.congr k j b s)
 
     mutual
-      over-same : (t u : Tree K (List ℕ)) → SamePages cmp t u → SameFound (page_over cmp g t) (page_over cmp g u)
+      pub over-same : (t u : Tree K (List ℕ)) → SamePages cmp t u → SameFound (page_over cmp g t) (page_over cmp g u)
       over-same (page l c r) (page m e s) q = row_over-same (page l c r) (page m e s) r s q q.2
 
       row_over-same : (t u : Tree K (List ℕ)) (r s : Row K (List ℕ)) → SamePages cmp t u → SameRow cmp r s → SameFound (row_over cmp g t r) (row_over cmp g u s)
@@ -72,10 +72,10 @@ module _ {K : Type 0} (cmp : K → K → Ordering) (o : IsTotalOrder cmp) where
     nodes-same g h (node (below t) k d r) (node nothing j e s) q = absurd q.0
     nodes-same g h (node (below t) k d r) (node (below u) j e s) q = (q.1, nodes-same (part_behind g k) (part_behind h j) r s q.3)
 
-    abbrev keys_over : Tree K (List ℕ) → Gap K → List K
+    abbrev pub keys_over : Tree K (List ℕ) → Gap K → List K
     keys_over root g = keys_among (nodes_among (outline_over format bytes_of cmp root g))
 
-    keys_over-same : (root tree : Tree K (List ℕ)) (g h : Gap K) → SamePages cmp root tree → SameGap cmp g h → SameKeys cmp (keys_over root g) (keys_over tree h)
+    pub keys_over-same : (root tree : Tree K (List ℕ)) (g h : Gap K) → SamePages cmp root tree → SameGap cmp g h → SameKeys cmp (keys_over root g) (keys_over tree h)
     keys_over-same root tree g h q s =
         by (page_over cmp g root) (page_over cmp h tree) (subst (SameFound (page_over cmp g root)) (page_over-alike cmp o g h s tree) (over-same g root tree q))
       where

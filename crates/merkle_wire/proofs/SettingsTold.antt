@@ -119,8 +119,8 @@ module _ {K V H : Type 0} (laws : Laws K V H) (n : ℕ) (encoding : K → List �
   found_own (RowsIn gaps) before after t = tt
 
   asked_own : (question : Question K) (before after : Found K V) → IsAskedOf (Some question) before after → TellsOwn laws n local question
-  asked_own question before after (inl t) = found_own question before after t
-  asked_own question before after (inr t) = found_own question (all_whole before) after t
+  asked_own question before after (some, inl t) = found_own question before after t
+  asked_own question before after (some, inr t) = found_own question (all_whole before) after t
 
   -- what comes after a reply tells own settings
   pub next_own : (before : Underway K V) (reply : List ℕ) (next : Next K V) → IsNext laws n encoding values local before reply next → TellsOwnNext laws n local next

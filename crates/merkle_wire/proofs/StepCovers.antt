@@ -41,7 +41,7 @@ use Rattle.merkle_wire.proofs.TellingReplies.{SameRow, SameOutline, SamePart, Sa
 
 module _ {K V : Type 0} (cmp : K → K → Ordering) (o : IsTotalOrder cmp) where
   -- a map finds each of its pairs
-  finds_own : (m : List (K × V)) → IsMap cmp m → AllByRecursion (λ r. get cmp m r.0 ≡ Some r.1) m
+  pub finds_own : (m : List (K × V)) → IsMap cmp m → AllByRecursion (λ r. get cmp m r.0 ≡ Some r.1) m
   finds_own [] a = tt
   finds_own (r ∷ rs) a =
       (at_head cmp o r rs r.0 (tied_itself o r.0), each-with (λ p. get cmp rs p.0 ≡ Some p.1) (λ p. get cmp (r ∷ rs) p.0 ≡ Some p.1) rs (λ p e. get_behind cmp o (r ∷ []) rs p.0 p.1 a e) (finds_own rs a.1))

@@ -25,12 +25,13 @@ module _ {K V H : Type 0} (laws : Laws K V H) (o : IsTotalOrder laws.cmp) (eqv :
   one_covers : (before : Underway K V) (next : Next K V) (root : Tree K (List ℕ)) → IsTreeOf laws.cmp (laws.key_digest peer.hasher) peer.base root (tree_map laws peer) → IsExchange laws n encoding values local peer before next
       → Covers laws local peer root before → CoversNext laws local peer root encoding next
   one_covers before next root of_peer e covers =
-      let now : Contents K V H = record { rows = peer.rows; tree = e.tree } in
-      let same : peer ≡ side now = λ i. record { hasher = sym e.settings.0 i; base = sym e.settings.1 i; format = sym e.settings.2 i; rows = peer.rows } in
-      let tree = subst (λ s. IsTreeOf laws.cmp (laws.key_digest s.hasher) s.base e.tree.root (tree_map laws s)) same e.of_peer in
+      let a = e.answer in
+      let now : Contents K V H = record { rows = peer.rows; tree = a.tree } in
+      let same : peer ≡ side now = λ i. record { hasher = sym a.settings.0 i; base = sym a.settings.1 i; format = sym a.settings.2 i; rows = peer.rows } in
+      let tree = subst (λ s. IsTreeOf laws.cmp (laws.key_digest s.hasher) s.base a.tree.root (tree_map laws s)) same a.of_peer in
       let kept : IsKept laws.cmp laws.value_digest now = record { ascending = up_peer; digested = tree.1 } in
-      exchanged laws o eqv respects one_tree encoding values tell n local up (contents_of peer root) now refl e.settings kept tree.0 (subst (HasSmallMap laws n) same small)
-      (laws.key_digest e.tree.hasher) before e.question e.message e.reply next e.asks e.reads e.answers e.takes root of_peer covers
+      exchanged laws o eqv respects one_tree encoding values tell n local up (contents_of peer root) now refl a.settings kept tree.0 (subst (HasSmallMap laws n) same small)
+      (laws.key_digest a.tree.hasher) before a.question a.message e.reply next a.asks a.reads a.answers e.takes root of_peer covers
 
   chain_brings : (before : Underway K V) (more : List (Underway K V)) (rows : List (K × V)) (root : Tree K (List ℕ)) → IsTreeOf laws.cmp (laws.key_digest peer.hasher) peer.base root (tree_map laws peer) → AreExchanges laws n encoding values local peer before more rows
       → Covers laws local peer root before → AreBrought laws local peer rows
@@ -39,8 +40,8 @@ module _ {K V H : Type 0} (laws : Laws K V H) (o : IsTotalOrder laws.cmp) (eqv :
 
   -- a tree of the peer's map, by which it answers first
   first_tree : (before : Underway K V) (more : List (Underway K V)) (rows : List (K × V)) → AreExchanges laws n encoding values local peer before more rows → (root : Tree K (List ℕ)) × IsTreeOf laws.cmp (laws.key_digest peer.hasher) peer.base root (tree_map laws peer)
-  first_tree before [] rows (came, e, is) = (e.tree.root, e.of_peer)
-  first_tree before (next ∷ more) rows (message, e, others) = (e.tree.root, e.of_peer)
+  first_tree before [] rows (came, e, is) = (e.answer.tree.root, e.answer.of_peer)
+  first_tree before (next ∷ more) rows (message, e, others) = (e.answer.tree.root, e.answer.of_peer)
 
   pub session_brings : (rows : List (K × V)) → IsSession laws n encoding values local peer rows → AreBrought laws local peer rows
   session_brings rows s =

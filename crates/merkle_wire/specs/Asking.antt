@@ -1,9 +1,26 @@
 -- What the asking side asks next, of what it has found.
-use Rattle.std.specs.Prelude.{◌≡◌, [], ◌++◌, map, Option, Some, None, ◌⊎◌}
+use Rattle.std.specs.Prelude.{◌≡◌, ◌≢◌, ◌<◌, ◌^◌, [], ◌++◌, map, Option, Some, None, ⊤, ◌⊎◌}
 use Rattle.merkle_wire.specs.Found.{Found}
 use Rattle.merkle_wire.specs.Gaps.{owned_gap}
 use Rattle.merkle_wire.specs.declared.question.Question.{Question}
 use Rattle.merkle_wire.specs.declared.question.Question.TheVariants.{Root, Outlines, Nodes, RowsAt, RowsIn}
+
+module _ {K : Type 0} where
+  -- the question asks for something, and its number fits
+  abbrev pub AsksForSome : Question K → Type 0
+  AsksForSome (Root settings) = ⊤
+  AsksForSome (Outlines most gaps) = (gaps.items ≢ []) × (most < 2 ^ 64)
+  AsksForSome (Nodes most gaps) = (gaps.items ≢ []) × (most < 2 ^ 64)
+  AsksForSome (RowsAt keys) = keys.items ≢ []
+  AsksForSome (RowsIn gaps) = gaps.items ≢ []
+
+  -- it asks for outlines with the pages below
+  abbrev pub AsksForOutlines : Question K → Type 0
+  AsksForOutlines (Root settings) = ⊥
+  AsksForOutlines (Outlines most gaps) = ⊤
+  AsksForOutlines (Nodes most gaps) = ⊥
+  AsksForOutlines (RowsAt keys) = ⊥
+  AsksForOutlines (RowsIn gaps) = ⊥
 
 module _ {K V : Type 0} where
   -- nothing is to be asked for
@@ -22,7 +39,8 @@ module _ {K V : Type 0} where
   abbrev pub all_whole : Found K V → Found K V
   all_whole f = record f { below = []; whole = f.whole ++ f.below }
 
-  -- what is asked next is taken from what is found, or from that with all rows of the pages below; it is nothing where nothing is to be asked for
+  -- what is asked next is something, taken from what is found, or from that with all rows of the pages below; it is nothing where nothing is to be
+  -- asked for
   abbrev pub IsAskedOf : Option (Question K) → Found K V → Found K V → Type 0
   IsAskedOf None before after = IsDone after × (after ≡ before)
-  IsAskedOf (Some question) before after = IsTakenFrom question before after ⊎ IsTakenFrom question (all_whole before) after
+  IsAskedOf (Some question) before after = AsksForSome question × (IsTakenFrom question before after ⊎ IsTakenFrom question (all_whole before) after)

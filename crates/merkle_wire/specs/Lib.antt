@@ -15,6 +15,7 @@ pub mod Asking
 pub mod Underway
 pub mod Next
 pub mod Sessions
+pub mod Steady
 pub mod Faults
 pub mod Steps
 pub mod Told

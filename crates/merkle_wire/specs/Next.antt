@@ -1,5 +1,5 @@
 -- What comes after a reply.
-use Rattle.std.specs.Prelude.{◌≡◌, ℕ, ◌+◌, ◌≤◌, ◌∷◌, ◌++◌, List, Option, Some, None, ⊤}
+use Rattle.std.specs.Prelude.{◌≡◌, ◌≢◌, ℕ, ◌+◌, ◌≤◌, [], ◌∷◌, ◌++◌, List, Option, Some, None, ⊤}
 use Rattle.std.specs.List.{AllByRecursion}
 use Rattle.std.specs.List.Sorted.{IsPermutation}
 use Rattle.std.specs.declared.cmp.Ordering.{Ordering}
@@ -39,10 +39,11 @@ module _ {K V : Type 0} (cmp : K → K → Ordering) where
   IsTwice rows Twice = HaveTwins rows
   IsTwice rows _ = ⊥
 
-  -- a catch-up doesn't go on: memory was refused, there were 256 rounds of outlines, or nothing is to be asked for and of the rows two have equal keys
+  -- a catch-up doesn't go on: memory was refused, outlines are to be asked for after 256 rounds of them, or nothing is and of the rows two have equal
+  -- keys
   abbrev pub IsEnded : ℕ → Found K V → SessionError → Type 0
   IsEnded rounds found Memory = ⊤
-  IsEnded rounds found TooManyRounds = rounds ≡ 256
+  IsEnded rounds found TooManyRounds = (rounds ≡ 256) × (found.below ≢ [])
   IsEnded rounds found Twice = IsDone found × HaveTwins found.rows
   IsEnded rounds found _ = ⊥
 
@@ -86,7 +87,8 @@ module _ {K V H : Type 0} (laws : Laws K V H) (n : ℕ) (encoding : K → List �
   -- it could be taken, but the catch-up doesn't go on
   abbrev pub IsStopped : (K → Type 0) → (V → Type 0) → Side K V H → Underway K V → List ℕ → SessionError → Type 0
   IsStopped is_key is_value local before reply Memory = ⊤
-  IsStopped is_key is_value local before reply TooManyRounds = before.rounds ≡ 256
+  IsStopped is_key is_value local before reply TooManyRounds = (before.rounds ≡ 256) × (found : Found K V)
+      × HasTaken laws n encoding values local before.asked reply before.found found None × (found.below ≢ [])
   IsStopped is_key is_value local before reply Twice = (found : Found K V) × HasTaken laws n encoding values local before.asked reply before.found found None
       × IsDone found × HaveTwins laws.cmp found.rows
   IsStopped is_key is_value local before reply _ = ¬ IsFit laws.cmp is_key is_value encoding values n before.asked reply

@@ -34,7 +34,7 @@ use Rattle.merkle_wire.specs.declared.settings.Settings.{Settings}
 use Rattle.merkle_wire.specs.declared.session.BothMessagesError.{BothMessagesError}
 use Rattle.merkle_wire.specs.declared.session.BothMessagesError.TheVariants.{First, Second}
 use Rattle.merkle_wire.specs.declared.session.MessagesError.{MessagesError}
-use Rattle.merkle_wire.specs.declared.session.MessagesError.TheVariants.{Answer, Session, Join}
+use Rattle.merkle_wire.specs.declared.session.MessagesError.TheVariants.{Answer, Endless, Session, Join}
 use Rattle.merkle_wire.specs.declared.question.Question.{Question}
 use Rattle.merkle_wire.specs.declared.question.Question.TheVariants.{Root, Outlines, Nodes, RowsAt, RowsIn}
 
@@ -62,6 +62,7 @@ module _ {K V H : Type 0} (laws : Laws K V H) (local peer : Side K V H) where
   IsEarly (Answer error) = HasNoReply error
   IsEarly (Session error) = ⊤
   IsEarly (Join done) = ⊥
+  IsEarly Endless = ⊤
 
   -- where both sides have all of some keys, and the digest of the digests of their values is equal on both, these digests are equal
   abbrev pub HaveFaithfulNodes : Type 0
@@ -110,6 +111,7 @@ module _ {K V H : Type 0} (laws : Laws K V H) (local peer : Side K V H) where
   abbrev pub IsMessagesRefused : MessagesError → List (K × V) → Type 0
   IsMessagesRefused (Answer error) after = (after ≡ local.rows) × HasNoReply error
   IsMessagesRefused (Session error) after = after ≡ local.rows
+  IsMessagesRefused Endless after = after ≡ local.rows
   IsMessagesRefused (Join done) after = (rows : List (K × V)) × AreBrought rows × (done < length rows) × IsJoin laws.cmp laws.eq laws.join local.rows (take done rows) after × (done ≡ 0 → after ≡ local.rows)
 
 module _ {K V H : Type 0} (laws : Laws K V H) where
@@ -157,18 +159,22 @@ module _ {K V H : Type 0} (laws : Laws K V H) (local peer : Side K V H) (root : 
   CoversNext encoding (Came rows) = AreBrought laws local peer rows.items
 
 module _ {K V H : Type 0} (laws : Laws K V H) (n : ℕ) (encoding : K → List ℕ) (values : V → List ℕ) (local peer : Side K V H) where
-  -- one exchange of messages, as `answer` and `CatchingUp::take` say of it: the message asks what the catch-up asks, the peer read a question of it and
-  -- answered that by a tree of its map, and the reply was taken, after which this came next
-  pub record IsExchange (before : Underway K V) (next : Next K V) : Type 0 where
+  -- the peer's reply to a catch-up, as `answer` says of it: the message asks what the catch-up asks, and the peer read a question of it and answered
+  -- that by a tree of its map
+  pub record IsAnswer (before : Underway K V) (reply : List ℕ) : Type 0 where
     pub message : List ℕ
     pub question : Question K
     pub tree : State K H
-    pub reply : List ℕ
     pub asks : message ≡ question_bytes encoding before.asked
     pub reads : message ≡ question_bytes encoding question
     pub settings : (tree.hasher ≡ peer.hasher) × (tree.base ≡ peer.base) × (tree.format ≡ peer.format)
     pub of_peer : IsTreeOf laws.cmp (laws.key_digest peer.hasher) peer.base tree.root (tree_map laws peer)
     pub answers : IsReply laws.cmp laws.bytes_of encoding values (laws.key_digest tree.hasher) n peer.rows tree question reply
+
+  -- one exchange of messages: a reply was taken, as `CatchingUp::take` says of it, after which this came next
+  pub record IsExchange (before : Underway K V) (next : Next K V) : Type 0 where
+    pub reply : List ℕ
+    pub answer : IsAnswer before reply
     pub takes : IsNext laws n encoding values local before reply next
 
   -- exchanges, one after the other, after the last of which the rows came

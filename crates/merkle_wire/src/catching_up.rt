@@ -4,12 +4,14 @@ ghost use Rattle.merkle_bytes.specs.Counts.{count_bytes};
 ghost use Rattle.merkle_bytes.specs.Options.{option_bytes};
 ghost use Rattle.merkle_replica.specs.Contents.{side};
 ghost use Rattle.merkle_tree_theory.specs.State.{SameSettings};
+ghost use Rattle.merkle_wire.specs.Asking.{AsksForOutlines};
 ghost use Rattle.merkle_wire.specs.Faults.{IsRefusedFor};
 ghost use Rattle.merkle_wire.specs.Fit.{IsFit, SaysRoot};
 ghost use Rattle.merkle_wire.specs.Found.{nothing};
 ghost use Rattle.merkle_wire.specs.Messages.{front};
 ghost use Rattle.merkle_wire.specs.Next.{AsksFew, GoesOn, IsAsked, IsCame, IsEnded, IsNext, IsStopped, IsTwice, OnlyAskedFor, rounds_with};
-ghost use Rattle.merkle_wire.specs.Questions.{AsksForRoot, question_bytes};
+ghost use Rattle.merkle_wire.specs.Questions.{AsksForRoot, IsQuestion, question_bytes};
+ghost use Rattle.merkle_wire.specs.Steady.{IsKeyOf};
 ghost use Rattle.merkle_wire.specs.Steps.{TakesRoot};
 ghost use Rattle.merkle_wire.specs.Underway.{HasTaken};
 ghost use Rattle.merkle_wire.specs.Unfit.{SaysNot};
@@ -95,6 +97,7 @@ impl<K: Key + Decode, V: Join + Decode> CatchingUp<K, V> {
         ensures settings { IfOk result (λ begun. AsksForRoot (⟦<H as Hasher<N, K>>⟧.digest_of replica.now.tree.hasher) N replica.now.tree
             begun.0.asked) }
         ensures asks { IfOk result (λ begun. begun.1.items ≡ question_bytes K.encoding begun.0.asked) }
+        ensures keys { IfOk result (λ begun. IsQuestion (IsKeyOf K.cmp replica.now.rows) begun.0.asked) }
         ensures nothing { IfOk result (λ begun. (begun.0.found ≡ nothing) × (begun.0.rounds ≡ 0)) }
     {
         let asked = Question::Root(settings_of(alloc, replica)?);
@@ -134,8 +137,8 @@ impl<K: Key + Decode, V: Join + Decode> CatchingUp<K, V> {
         // What is added to the rows that were found lies in the gaps, or at the keys, that were asked for.
         ensures asked_for { IfOk result (OnlyAskedFor K.cmp self) }
 
-        // A reply to what was asked is taken, but for want of memory, or where the catch-up doesn't go on behind it: after 256 rounds of
-        // outlines, or where two of the rows that were found have equal keys.
+        // A reply to what was asked is taken, but for want of memory, or where the catch-up doesn't go on behind it: where outlines are to be asked
+        // for after 256 rounds of them, or two of the rows that were found have equal keys.
         ensures ended { IfErr result (IsStopped ⟦<H as Lawful<N, K, V>>⟧.laws N K.encoding V.encoding K.is_value V.is_value
             (side replica.old) self reply.now) }
 
@@ -275,7 +278,7 @@ fn rounds_with<K>(rounds: u32, question: &Question<K>) -> Result<u32, SessionErr
     requires { rounds ≤ 256 }
     ensures with { IfOk result (λ more. more ≡ rounds_with rounds question.now) }
     ensures few { IfOk result (λ more. more ≤ 256) }
-    ensures many { IfErr result (λ error. (error ≡ TooManyRounds) × (rounds ≡ 256)) }
+    ensures many { IfErr result (λ error. (error ≡ TooManyRounds) × (rounds ≡ 256) × AsksForOutlines question.now) }
 {
     match question {
         Question::Outlines(_, _) => {

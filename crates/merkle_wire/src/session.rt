@@ -1,10 +1,12 @@
 //! A whole catch-up between two replicas, through messages.
 ghost use Rattle.std.specs.Prelude.{◌≡◌, IfOk, IfErr, OnOk};
 ghost use Rattle.merkle_replica.specs.Contents.{side};
+ghost use Rattle.merkle_replica.specs.Faithful.{HasSmallMap};
 ghost use Rattle.merkle_tree_theory.specs.State.{SameSettings};
 ghost use Rattle.merkle_wire.specs.Questions.{question_bytes};
 ghost use Rattle.merkle_wire.specs.Sessions.{AreBrought, CatchesUpWhileFaithful, HasJoined, HaveJoined, HoldTheJoinWhileFaithful, JoinsWhileFaithful};
 ghost use Rattle.merkle_wire.specs.Sessions.{AreBothRefused, GoesOnCovering, IsMessagesRefused, IsEarly, TellsOwn, TellsOwnNext};
+ghost use Rattle.merkle_wire.specs.Steady.{HasKeysNext, HasKeysOfSides, IsForMemory, SteadyNext, WhileSteady};
 
 use crate::answering::{AnswerError, answer};
 use crate::catching_up::{CatchingUp, Next};
@@ -25,6 +27,8 @@ pub enum MessagesError {
     Session(SessionError),
     /// Memory was refused as the rows were joined: the first of them are, this many.
     Join(usize),
+    /// The rows didn't come in 2^64 - 1 messages. Nothing is joined.
+    Endless,
 }
 
 /// Catches up with a peer by the messages of a session, each made to bytes and read again, and answers how many rows of the peer were joined.
@@ -52,6 +56,9 @@ pub fn catch_up_by_messages<
 
     // Refused, it has joined no row, or the first ones. For its settings it is refused only where the two are not set alike.
     ensures refused { IfErr result (λ fault. IsMessagesRefused ⟦<H as Lawful<N, K, V>>⟧.laws (side replica.old) (side peer.old) fault replica.new.rows) }
+
+    // Between sides that are set alike and whose rows can be told it ends early for want of memory alone, or is endless.
+    ensures memory { IfErr result (IsForMemory ⟦<H as Lawful<N, K, V>>⟧.laws (side replica.old) (side peer.old) K.is_value V.is_value) }
 
     ensures peer_rows { peer.new.rows ≡ peer.old.rows }
     ensures settings { SameSettings replica.old.tree replica.new.tree }
@@ -128,6 +135,7 @@ fn rows_by_messages<
 ) -> Result<Vec<(K, V)>, MessagesError>
     ensures brought { IfOk result (λ rows. AreBrought ⟦<H as Lawful<N, K, V>>⟧.laws (side replica.old) (side peer.old) rows.items) }
     ensures early { IfErr result (IsEarly ⟦<H as Lawful<N, K, V>>⟧.laws (side replica.old) (side peer.old)) }
+    ensures memory { IfErr result (IsForMemory ⟦<H as Lawful<N, K, V>>⟧.laws (side replica.old) (side peer.old) K.is_value V.is_value) }
     ensures rows { replica.new.rows ≡ replica.old.rows }
     ensures settings { SameSettings replica.old.tree replica.new.tree }
     ensures peer_rows { peer.new.rows ≡ peer.old.rows }
@@ -148,7 +156,7 @@ fn rows_by_messages<
             }
         }
     }
-    Err(MessagesError::Session(SessionError::TooManyRounds))
+    Err(MessagesError::Endless)
 }
 
 /// One exchange of messages: the peer's reply is taken. What comes next covers what the catch-up covered, by any tree of the peer's map.
@@ -161,9 +169,16 @@ fn exchange<K: Key + Decode, V: Join + Decode, H: Hasher<N, K> + Hasher<N, V>, c
 ) -> Result<Next<K, V>, MessagesError>
     requires asks { message.items ≡ question_bytes K.encoding session.asked }
     requires own { TellsOwn ⟦<H as Lawful<N, K, V>>⟧.laws N (side replica.now) session.asked }
+    requires keys { HasKeysOfSides ⟦<H as Lawful<N, K, V>>⟧.laws (side replica.now) (side peer.now) session }
     ensures own { IfOk result (TellsOwnNext ⟦<H as Lawful<N, K, V>>⟧.laws N (side replica.old)) }
     ensures covers { IfOk result (GoesOnCovering ⟦<H as Lawful<N, K, V>>⟧.laws N K.encoding (side replica.old) (side peer.old) session) }
+    ensures keys { IfOk result (λ next. HasSmallMap ⟦<H as Lawful<N, K, V>>⟧.laws N (side peer.old)
+        → HasKeysNext ⟦<H as Lawful<N, K, V>>⟧.laws (side replica.old) (side peer.old) next) }
+    ensures steady { IfOk result (λ next. WhileSteady ⟦<H as Lawful<N, K, V>>⟧.laws N (side peer.old)
+        (λ root. SteadyNext ⟦<H as Lawful<N, K, V>>⟧.laws (side peer.old) root next) session) }
     ensures early { IfErr result (IsEarly ⟦<H as Lawful<N, K, V>>⟧.laws (side replica.old) (side peer.old)) }
+    ensures memory { IfErr result (λ fault. WhileSteady ⟦<H as Lawful<N, K, V>>⟧.laws N (side peer.old)
+        (λ root. IsForMemory ⟦<H as Lawful<N, K, V>>⟧.laws (side replica.old) (side peer.old) K.is_value V.is_value fault) session) }
     ensures rows { replica.new.rows ≡ replica.old.rows }
     ensures settings { SameSettings replica.old.tree replica.new.tree }
     ensures peer_rows { peer.new.rows ≡ peer.old.rows }

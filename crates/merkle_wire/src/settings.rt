@@ -2,7 +2,9 @@
 ghost use Rattle.std.specs.Prelude.{◌≡◌, ◌≢◌, ◌++◌, OnOk, IfOk, IfErr, MatchOption, IsTrue, ◌↔◌};
 ghost use Rattle.merkle_bytes.specs.Refusals.{IsMalformed, IsRefusal};
 ghost use Rattle.merkle_tree_theory.specs.declared.page_format.PageFormat.{PageFormat as PageFormatOf};
+ghost use Rattle.merkle_bytes.specs.Options.{IsOption};
 ghost use Rattle.merkle_wire.specs.Settings.{format_byte, settings_bytes, AreSettings, AreSettingsOf, IsDigested, NoSettings};
+ghost use Rattle.merkle_wire.specs.Steady.{IsKeyOf};
 
 use merkle_bytes::{Decode, Encode, Expected, ReadError, Reader, encode_count};
 use merkle_digest::{Hasher, Key};
@@ -86,7 +88,8 @@ pub(crate) fn settings_of<K: Key + Drop, V: Join, H: Hasher<N, K> + Hasher<N, V>
     alloc: Global,
     replica: &Replica<K, V, H, N>,
 ) -> Result<Settings<K>, AllocError>
-    ensures { IfOk result (AreSettingsOf (⟦<H as Hasher<N, K>>⟧.digest_of replica.now.tree.hasher) N replica.now.tree) }
+    ensures settings { IfOk result (AreSettingsOf (⟦<H as Hasher<N, K>>⟧.digest_of replica.now.tree.hasher) N replica.now.tree) }
+    ensures keys { IfOk result (AreSettings (IsKeyOf K.cmp replica.now.rows)) }
 {
     let tree = replica.tree();
     Ok(Settings {
@@ -102,7 +105,8 @@ fn sample_of<K: Key + Drop, V: Join, H: Hasher<N, K> + Hasher<N, V>, const N: us
     alloc: Global,
     replica: &Replica<K, V, H, N>,
 ) -> Result<Option<(K, Vec<u8>)>, AllocError>
-    ensures { IfOk result (IsDigested (⟦<H as Hasher<N, K>>⟧.digest_of replica.now.tree.hasher)) }
+    ensures digested { IfOk result (IsDigested (⟦<H as Hasher<N, K>>⟧.digest_of replica.now.tree.hasher)) }
+    ensures own { IfOk result (IsOption (λ sample. IsKeyOf K.cmp replica.now.rows sample.0)) }
 {
     match replica.rows().first() {
         None => Ok(None),

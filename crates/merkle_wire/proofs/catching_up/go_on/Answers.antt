@@ -1,6 +1,7 @@
-use Rattle.std.proofs.lemmas.Result.{IfErr-weaker, IfOk-weaker}
-use Rattle.merkle_wire.specs.Next.{GoesOn, IsAsked, IsEnded, IsTwice}
-use Rattle.merkle_wire.proofs.Nexts.{asked_goes_on, twice_ends}
+use Rattle.std.proofs.Common.{subst, sym}
+use Rattle.std.proofs.lemmas.Result.{IfErr-weaker, IfOk-weaker, err_from_is_err_and}
+use Rattle.merkle_wire.specs.Next.{AsksFew, GoesOn, IsAsked, IsCame, IsEnded, IsTwice}
+use Rattle.merkle_wire.proofs.Nexts.{asked_goes_on, came_few, came_goes_on, outlines_of_some, twice_ends}
 use Rattle.merkle_wire.proofs.catching_up.go_on.Goals as goal
 
 pub returns-in_ok-rounds-in-Some-clause-goes_on : goal.returns-in_ok-rounds-in-Some-clause-goes_on
@@ -15,3 +16,19 @@ returns-in-None-clause-ended g c =
     let done = rw c.in-None.is at c.in_ok-next_question.ensures in
     IfErr-weaker c.came.result (IsTwice g.K.Ord.cmp c.into_rows.result.items) (IsEnded g.K.Ord.cmp c.args.rounds c.args.work)
     (λ error twice. twice_ends g.K.Ord.cmp c.args.rounds c.args.work c.next_question.new.self c.into_rows.result.items error done c.into_rows.ensures twice) c.came.ensures.ended
+
+pub returns-in_err-rounds-in-Some-clause-ended : goal.returns-in_err-rounds-in-Some-clause-ended
+returns-in_err-rounds-in-Some-clause-ended g c =
+    let p = err_from_is_err_and c.from_residual-in_err-rounds-in-Some.result c.from_residual-in_err-rounds-in-Some.ensures.1 in
+    let many = c.in_err-rounds-in-Some.ensures.many in
+    rw (p.1, p.2) (subst (IsEnded g.K.Ord.cmp c.args.rounds c.args.work) (sym many.0)
+    (many.1, outlines_of_some g.K.Ord.cmp c.in-Some.question c.args.work c.next_question.new.self many.2 (rw c.in-Some.is at c.in_ok-next_question.ensures)))
+
+pub returns-in-None-clause-goes_on : goal.returns-in-None-clause-goes_on
+returns-in-None-clause-goes_on g c =
+    let done = rw c.in-None.is at c.in_ok-next_question.ensures in
+    IfOk-weaker c.came.result (IsCame g.K.Ord.cmp c.into_rows.result.items) (GoesOn g.K.Ord.cmp g.K.Encode.encoding c.args.rounds c.args.work)
+    (λ next came. came_goes_on g.K.Ord.cmp g.K.Encode.encoding c.args.rounds c.args.work c.next_question.new.self c.into_rows.result.items next done c.into_rows.ensures came) c.came.ensures.came
+
+pub returns-in-None-clause-few : goal.returns-in-None-clause-few
+returns-in-None-clause-few g c = IfOk-weaker c.came.result (IsCame g.K.Ord.cmp c.into_rows.result.items) AsksFew (λ next. came_few g.K.Ord.cmp c.into_rows.result.items next) c.came.ensures.came

@@ -4,10 +4,12 @@ use Rattle.merkle_replica.specs.Contents.{IsKept, side}
 use Rattle.merkle_replica.specs.Faithful.{HasSmallMap}
 use Rattle.merkle_replica.proofs.Sides.{laws_of, same_side}
 use Rattle.merkle_tree_theory.specs.Canonical.{IsCanonicalRoot}
-use Rattle.merkle_wire.specs.Next.{IsNext}
+use Rattle.merkle_wire.specs.Next.{IsNext, IsStopped}
 use Rattle.merkle_wire.proofs.Exchanges.{tells}
+use Rattle.merkle_wire.proofs.KeysNext.{asks_something}
 use Rattle.merkle_wire.proofs.NextCovers.{exchanged}
 use Rattle.merkle_wire.proofs.SettingsTold.{next_own, own_are_not_others}
+use Rattle.merkle_wire.proofs.Steadily.{stays_at_keys, stays_steady, stops_for_memory, unanswered_for_memory}
 use Rattle.merkle_wire.proofs.session.exchange.Goals as goal
 
 pub returns-in-Ok-take-clause-covers : goal.returns-in-Ok-take-clause-covers
@@ -38,3 +40,52 @@ returns-in-Err-clause-early g c = λ others alike.
     let same = c.answer.ensures.settings in
     own_are_not_others g.K.Encode.encoding g.K.PartialEq.eq g.met.K.Decode.told laws g.met.H.Hasher-1.respects_eq g.row.N (side c.args.replica.now) (side c.args.peer.now) alike peer same.0 same.1 same.2
     c.args.session.asked question (sym c.requires.asks ∙ sym c.deref.ensures.value ∙ read) c.requires.own tells
+
+pub returns-in-Ok-take-clause-steady : goal.returns-in-Ok-take-clause-steady
+returns-in-Ok-take-clause-steady g c =
+    let laws = laws_of g.K.Ord.cmp g.K.KeyBytes.bytes_of g.H.Hasher-1.digest_of g.V.PartialEq.eq g.V.Join.join_of g.H.Hasher-2.digest_of in
+    let met = c.args.peer.now in
+    let peer = c.answer.new.replica in
+    let (question, read, is) = c.in-Ok.ensures.answered in
+    let tell = tells laws g.K.Encode.encoding g.V.Encode.encoding g.K.PartialEq.eq g.met.K.Ord.matches_eq g.met.K.Decode.told g.met.V.Decode.told in
+    let kept : IsKept laws.cmp laws.value_digest peer = record { ascending = c.rows-2.ensures.ascending; digested = c.tree.ensures.digests } in
+    let canonical = subst (λ t. IsCanonicalRoot (λ k. level_of (laws.key_digest t.hasher k) t.base) t.root) c.tree.ensures.tree c.every_tree_is_sound.ensures.sound.canonical in
+    stays_steady laws g.met.K.Ord.total g.met.V.Eq.laws g.met.H.Hasher-2.respects_eq c.a_map_has_one_tree.ensures.pages g.K.Encode.encoding g.V.Encode.encoding tell g.row.N
+    (side c.args.replica.now) c.rows.ensures.ascending met peer c.answer.ensures.rows c.answer.ensures.settings kept canonical (g.H.Hasher-1.digest_of peer.tree.hasher) c.args.session question c.args.message.items
+    c.in-Ok.reply.items c.requires.asks (sym c.deref.ensures.value ∙ read) is c.in-Ok-take.next
+    (subst (λ r. IsNext laws g.row.N g.K.Encode.encoding g.V.Encode.encoding (side c.args.replica.now) c.args.session r c.in-Ok-take.next) c.deref-2.ensures.value c.in-Ok-take.ensures.next)
+
+pub returns-in-Ok-take-clause-keys : goal.returns-in-Ok-take-clause-keys
+returns-in-Ok-take-clause-keys g c small =
+    let laws = laws_of g.K.Ord.cmp g.K.KeyBytes.bytes_of g.H.Hasher-1.digest_of g.V.PartialEq.eq g.V.Join.join_of g.H.Hasher-2.digest_of in
+    let met = c.args.peer.now in
+    let peer = c.answer.new.replica in
+    let (question, read, is) = c.in-Ok.ensures.answered in
+    let tell = tells laws g.K.Encode.encoding g.V.Encode.encoding g.K.PartialEq.eq g.met.K.Ord.matches_eq g.met.K.Decode.told g.met.V.Decode.told in
+    let kept : IsKept laws.cmp laws.value_digest peer = record { ascending = c.rows-2.ensures.ascending; digested = c.tree.ensures.digests } in
+    let canonical = subst (λ t. IsCanonicalRoot (λ k. level_of (laws.key_digest t.hasher k) t.base) t.root) c.tree.ensures.tree c.every_tree_is_sound.ensures.sound.canonical in
+    stays_at_keys laws g.met.K.Ord.total g.met.V.Eq.laws g.met.H.Hasher-2.respects_eq c.a_map_has_one_tree.ensures.pages g.K.Encode.encoding g.V.Encode.encoding tell g.row.N
+    (side c.args.replica.now) c.rows.ensures.ascending met peer c.answer.ensures.rows c.answer.ensures.settings kept canonical (g.H.Hasher-1.digest_of peer.tree.hasher) c.args.session question c.args.message.items
+    c.in-Ok.reply.items c.requires.asks (sym c.deref.ensures.value ∙ read) is c.in-Ok-take.next
+    (subst (λ r. IsNext laws g.row.N g.K.Encode.encoding g.V.Encode.encoding (side c.args.replica.now) c.args.session r c.in-Ok-take.next) c.deref-2.ensures.value c.in-Ok-take.ensures.next) c.requires.keys small
+
+pub returns-clause-memory : goal.returns-clause-memory
+returns-clause-memory g c =
+    let laws = laws_of g.K.Ord.cmp g.K.KeyBytes.bytes_of g.H.Hasher-1.digest_of g.V.PartialEq.eq g.V.Join.join_of g.H.Hasher-2.digest_of in
+    let met = c.args.peer.now in
+    let peer = c.answer.new.replica in
+    let (question, read, is) = c.in-Ok.ensures.answered in
+    let tell = tells laws g.K.Encode.encoding g.V.Encode.encoding g.K.PartialEq.eq g.met.K.Ord.matches_eq g.met.K.Decode.told g.met.V.Decode.told in
+    let kept : IsKept laws.cmp laws.value_digest peer = record { ascending = c.rows-2.ensures.ascending; digested = c.tree.ensures.digests } in
+    let canonical = subst (λ t. IsCanonicalRoot (λ k. level_of (laws.key_digest t.hasher k) t.base) t.root) c.tree.ensures.tree c.every_tree_is_sound.ensures.sound.canonical in
+    stops_for_memory laws g.met.K.Ord.total g.met.V.Eq.laws g.met.H.Hasher-2.respects_eq c.a_map_has_one_tree.ensures.pages g.K.Encode.encoding g.V.Encode.encoding tell g.row.N
+    (side c.args.replica.now) c.rows.ensures.ascending met peer c.answer.ensures.rows c.answer.ensures.settings kept canonical (g.H.Hasher-1.digest_of peer.tree.hasher) c.args.session question c.args.message.items
+    c.in-Ok.reply.items c.requires.asks (sym c.deref.ensures.value ∙ read) is g.K.Decode.is_value g.V.Decode.is_value c.in-Err-take.error
+    (subst (λ r. IsStopped laws g.row.N g.K.Encode.encoding g.V.Encode.encoding g.K.Decode.is_value g.V.Decode.is_value (side c.args.replica.now) c.args.session r c.in-Err-take.error) c.deref-2.ensures.value c.in-Err-take.ensures.ended)
+
+pub returns-in-Err-clause-memory : goal.returns-in-Err-clause-memory
+returns-in-Err-clause-memory g c = λ root of_peer small steady alike own theirs.
+    let laws = laws_of g.K.Ord.cmp g.K.KeyBytes.bytes_of g.H.Hasher-1.digest_of g.V.PartialEq.eq g.V.Join.join_of g.H.Hasher-2.digest_of in
+    unanswered_for_memory c.in-Err.error
+    (λ unread. asks_something laws (side c.args.replica.now) (side c.args.peer.now) g.K.Decode.is_value g.V.Decode.is_value g.K.Encode.encoding c.args.session c.deref.result.now c.requires.keys own theirs (c.deref.ensures.value ∙ c.requires.asks)
+    (c.in-Err.ensures.malformed unread)) (λ others. returns-in-Err-clause-early g c others alike)

@@ -4,13 +4,17 @@ use Rattle.merkle_replica.proofs.Sides.{laws_of}
 use Rattle.merkle_tree_theory.specs.State.{SameSettings}
 use Rattle.merkle_wire.specs.Questions.{question_bytes}
 use Rattle.merkle_wire.specs.Sessions.{Covers, TellsOwn}
+use Rattle.merkle_wire.specs.Steady.{HasKeysOfSides, IsSteady}
 use Rattle.merkle_wire.proofs.session.rows_by_messages.Given as goal
 
--- the message asks what the catch-up asks, by own settings, which covers what is lacked by the tree that the peer had; and rows and settings stay
+-- the message asks what the catch-up asks, by own settings and at keys of the two sides, which covers what is lacked and is steady, by the tree that
+-- the peer had; and rows and settings stay
 abbrev pub invariant-exchanges : goal.invariant-exchanges
 invariant-exchanges g l = record {
   asks : l.message.items ≡ question_bytes g.K.Encode.encoding l.session.asked;
   covers : Covers (laws_of g.K.Ord.cmp g.K.KeyBytes.bytes_of g.H.Hasher-1.digest_of g.V.PartialEq.eq g.V.Join.join_of g.H.Hasher-2.digest_of) (side l.fn.replica) (side l.fn.peer) l.fn.peer.tree.root l.session;
+  steady : IsSteady (laws_of g.K.Ord.cmp g.K.KeyBytes.bytes_of g.H.Hasher-1.digest_of g.V.PartialEq.eq g.V.Join.join_of g.H.Hasher-2.digest_of) (side l.fn.peer) l.fn.peer.tree.root l.session;
+  keys : HasKeysOfSides (laws_of g.K.Ord.cmp g.K.KeyBytes.bytes_of g.H.Hasher-1.digest_of g.V.PartialEq.eq g.V.Join.join_of g.H.Hasher-2.digest_of) (side l.fn.replica) (side l.fn.peer) l.session;
   own : TellsOwn (laws_of g.K.Ord.cmp g.K.KeyBytes.bytes_of g.H.Hasher-1.digest_of g.V.PartialEq.eq g.V.Join.join_of g.H.Hasher-2.digest_of) g.row.N (side l.replica) l.session.asked;
   rows : l.replica.rows ≡ l.fn.replica.rows;
   settings : SameSettings l.fn.replica.tree l.replica.tree;

@@ -1,0 +1,532 @@
+-- A catch-up with a peer that answers by its rows stays steady: each of its replies can be taken, and what comes next is steady.
+use Rattle.std.specs.Prelude.{⊤}
+use Rattle.std.proofs.Common.{◌≡◌, ◌≢◌, ℕ, ◌+◌, ◌<◌, ◌≤◌, Bool, true, false, List, [], ◌∷◌, ◌++◌, append_assoc, length, map, flat_map, Option, Some, None, refl, sym, ap, subst, ◌∙◌, ◌⊎◌, inl, inr, arith}
+use Rattle.std.specs.Global.{Vec}
+use Rattle.std.specs.List.{AllByRecursion}
+use Rattle.std.specs.Cmp.{IsTotalOrder, IsEquivalence, tied_itself}
+use Rattle.key_order.specs.Map.{IsMap, SameMap, get}
+use Rattle.key_order.specs.Order.{Same}
+use Rattle.key_order.specs.SameKeys.{SameKeys}
+use Rattle.key_order.proofs.ListParts.{each-append, each-before, each-behind, join_tells}
+use Rattle.key_order.proofs.SameKeys.{same_keys-back}
+use Rattle.key_order.proofs.SameMaps.{ascends, same_is_map}
+use Rattle.merkle_bytes.specs.Counts.{count_bytes}
+use Rattle.merkle_bytes.specs.Encodings.{SameLists}
+use Rattle.merkle_bytes.specs.Options.{IsOption, option_bytes}
+use Rattle.merkle_bytes.specs.Runs.{bound_key}
+use Rattle.merkle_diff.proofs.Each.{each-all, each-unmapped, each-with}
+use Rattle.merkle_digest.specs.Level.{level_of}
+use Rattle.merkle_replica.specs.Contents.{Contents, IsKept, Side, side, tree_map}
+use Rattle.merkle_replica.specs.Faithful.{HasSmallMap}
+use Rattle.merkle_replica.specs.Laws.{Laws}
+use Rattle.merkle_replica.proofs.Bounds.{ascending_digests}
+use Rattle.merkle_replica.proofs.Sides.{same_side}
+use Rattle.merkle_search_tree.proofs.SameItems.{same_gap-back}
+use Rattle.merkle_tree_theory.specs.Canonical.{IsCanonicalRoot, IsTreeOf, SamePages}
+use Rattle.merkle_tree_theory.specs.Gap.{Gap, SameGap, everywhere}
+use Rattle.merkle_tree_theory.specs.Lookup.{Fills}
+use Rattle.merkle_tree_theory.specs.Outline.{Item, outline_over, whole_item}
+use Rattle.merkle_tree_theory.specs.Page.{level, pairs}
+use Rattle.merkle_tree_theory.specs.State.{SameSettings, map_of}
+use Rattle.merkle_tree_theory.specs.Tree.{Tree, page, high, node}
+use Rattle.merkle_tree_theory.proofs.InGaps.{all_within}
+use Rattle.merkle_tree_theory.proofs.PagesIn.{itself}
+use Rattle.merkle_tree_theory.proofs.SameRanges.{same-pairs}
+use Rattle.merkle_tree_theory.proofs.Sound.{level_low}
+use Rattle.merkle_tree_theory.proofs.Streams.{digest_length}
+use Rattle.merkle_wire.specs.Asking.{AsksForSome, IsTakenFrom, all_whole}
+use Rattle.merkle_wire.specs.Coming.{IsPageDigest}
+use Rattle.merkle_wire.specs.Faults.{IsOfOthers, IsUnread}
+use Rattle.merkle_wire.specs.Fit.{IsFit, IsOutlineIn, IsPartIn}
+use Rattle.merkle_wire.specs.Found.{Found, nothing}
+use Rattle.merkle_wire.specs.Gaps.{owned_gap}
+use Rattle.merkle_wire.specs.Messages.{front}
+use Rattle.merkle_wire.specs.Next.{AsksOrGoesOn, GoesOn, HaveTwins, IsNext, IsStopped, rounds_with}
+use Rattle.merkle_wire.specs.Outlines.{Outline, rows_told, digests_told, page_told, IsTold, keys_among, nodes_among, outline_bytes, pages_beside}
+use Rattle.merkle_wire.specs.Questions.{question_bytes}
+use Rattle.merkle_wire.specs.Replies.{Answers, IsPartOf, IsReply, items_over, outlines_bytes, part_bytes, parts_bytes, values_bytes, whole_digest}
+use Rattle.merkle_wire.specs.Steady.{AsksForPages, CanBeTold, HasKeysNext, HasKeysOfSides, IsFilled, IsSteady, SteadyNext, WhileSteady, times_asked, times_at, times_found, times_in, times_over, total}
+use Rattle.merkle_wire.specs.Taking.{AreNewGaps, AreTaken, IsGapOrNone, IsRootTaken, IsTaken, value_row}
+use Rattle.merkle_wire.specs.Underway.{AsksAgain, HasOutlines, HasParts, HasTaken, HasValues, Underway}
+use Rattle.merkle_wire.specs.declared.answering.AnswerError.{AnswerError}
+use Rattle.merkle_wire.specs.declared.answering.AnswerError.TheVariants as answer
+use Rattle.merkle_wire.specs.declared.catching_up.Next.{Next}
+use Rattle.merkle_wire.specs.declared.catching_up.Next.TheVariants.{Ask, Came}
+use Rattle.merkle_wire.specs.declared.gaps.OwnedGap.{OwnedGap}
+use Rattle.merkle_wire.specs.declared.message.Kind.{Kind}
+use Rattle.merkle_wire.specs.declared.message.Kind.TheVariants.{Root as root_kind, Outlines as outlines_kind, Nodes as nodes_kind}
+use Rattle.merkle_wire.specs.declared.question.Question.{Question}
+use Rattle.merkle_wire.specs.declared.question.Question.TheVariants.{Root, Outlines, Nodes, RowsAt, RowsIn}
+use Rattle.merkle_wire.specs.declared.session_error.SessionError.{SessionError}
+use Rattle.merkle_wire.specs.declared.session_error.SessionError.TheVariants.{Malformed, Memory, NoNode, NotInGap, NothingCame, OtherKind, Refused, TooManyRounds, Twice}
+use Rattle.merkle_wire.specs.declared.settings.Settings.{Settings}
+use Rattle.merkle_wire.specs.declared.wanted.Wanted.{Wanted}
+use Rattle.merkle_wire.proofs.Exchanges.{Tell, root_tells, same_begin, sent_fits}
+use Rattle.merkle_wire.proofs.Filled.{IsBelow, fills-alike, fills-same, parts_filled, same_level}
+use Rattle.merkle_wire.proofs.Fitting.{fits_read}
+use Rattle.merkle_wire.proofs.KeysNext.{next_keys}
+use Rattle.merkle_wire.proofs.NextCovers.{sides_met}
+use Rattle.merkle_wire.proofs.PageCovers.{AreSides, nodes_peers}
+use Rattle.merkle_wire.proofs.Sayable.{answers_say, outline_said, part_said, value_said}
+use Rattle.merkle_wire.proofs.TellingQuestions.{SameGapTold, SameQuestion, SameWanted, question_tells}
+use Rattle.merkle_wire.proofs.TellingReplies.{Fits, SameOutline, outlines_tell}
+use Rattle.merkle_wire.proofs.Times.{total-append, total-mapped, total-permuted}
+use Rattle.merkle_wire.proofs.TimesTaken.{outlines_times, parts_times, root_times, rows_added, times_about, values_times}
+
+-- what is asked of what was found
+module _ {K V H : Type 0} (laws : Laws K V H) (peer : Side K V H) (root : Tree K (List ℕ)) (encoding : K → List ℕ) where
+  -- what was found is steady after so many rounds, with a key that is asked about so often besides
+  pub record AreSteady (rounds : ℕ) (besides : K → ℕ) (f : Found K V) : Type 0 where
+    pub below : AllByRecursion (IsFilled laws peer root 256 rounds) f.below
+    pub nodes : AllByRecursion (IsFilled laws peer root 257 0) f.nodes
+    pub once : (k : K) → besides k + times_found laws peer root k f ≤ 1
+
+  abbrev none_besides : K → ℕ
+  none_besides k = 0
+
+  one_round_more : (rounds : ℕ) (g : Gap K) → IsFilled laws peer root 256 rounds g → IsFilled laws peer root 257 (rounds + 1) g
+  one_round_more rounds g (t, f, low) = (t, f, omega (arith, low))
+
+  taken_steady : (question : Question K) (rounds : ℕ) (f after : Found K V) → AsksForSome question → AreSteady rounds none_besides f → IsTakenFrom question f after
+      → IsSteady laws peer root (record { asked = question; found = after; rounds = rounds_with rounds question })
+  taken_steady (Root settings) rounds f after some s t = absurd t
+  taken_steady (Outlines most gaps) rounds f after some s (is, e) = record {
+    some = some;
+    asked = each-with (λ g. IsFilled laws peer root 256 rounds (owned_gap g)) (λ g. IsFilled laws peer root 257 (rounds + 1) (owned_gap g)) gaps.items (λ g. one_round_more rounds (owned_gap g))
+        (each-unmapped owned_gap (IsFilled laws peer root 256 rounds) gaps.items (subst (AllByRecursion (IsFilled laws peer root 256 rounds)) is s.below));
+    below = subst (λ x. AllByRecursion (IsFilled laws peer root 256 (rounds + 1)) x.below) (sym e) tt;
+    nodes = subst (λ x. AllByRecursion (IsFilled laws peer root 257 0) x.nodes) (sym e) s.nodes;
+    once = λ k. subst (λ x. total (λ g. times_in laws.cmp k (owned_gap g)) gaps.items + times_found laws peer root k x ≤ 1) (sym e)
+        (omega (arith, s.once k, ap (total (times_in laws.cmp k)) is, total-mapped (times_in laws.cmp k) owned_gap gaps.items));
+  }
+  taken_steady (Nodes most gaps) rounds f after some s (is, e) = record {
+    some = some;
+    asked = each-unmapped owned_gap (IsFilled laws peer root 257 0) gaps.items (subst (AllByRecursion (IsFilled laws peer root 257 0)) is s.nodes);
+    below = subst (λ x. AllByRecursion (IsFilled laws peer root 256 rounds) x.below) (sym e) s.below;
+    nodes = subst (λ x. AllByRecursion (IsFilled laws peer root 257 0) x.nodes) (sym e) tt;
+    once = λ k. subst (λ x. total (λ g. times_over laws peer root k (owned_gap g)) gaps.items + times_found laws peer root k x ≤ 1) (sym e)
+        (omega (arith, s.once k, ap (total (times_over laws peer root k)) is, total-mapped (times_over laws peer root k) owned_gap gaps.items));
+  }
+  taken_steady (RowsAt keys) rounds f after some s (is, e) = record {
+    some = some;
+    asked = tt;
+    below = subst (λ x. AllByRecursion (IsFilled laws peer root 256 rounds) x.below) (sym e) s.below;
+    nodes = subst (λ x. AllByRecursion (IsFilled laws peer root 257 0) x.nodes) (sym e) s.nodes;
+    once = λ k. subst (λ x. total (λ w. times_at laws.cmp k w.key) keys.items + times_found laws peer root k x ≤ 1) (sym e)
+        (omega (arith, s.once k, ap (total (times_at laws.cmp k)) is, total-mapped (times_at laws.cmp k) (λ w. w.key) keys.items));
+  }
+  taken_steady (RowsIn gaps) rounds f after some s (is, e) = record {
+    some = some;
+    asked = tt;
+    below = subst (λ x. AllByRecursion (IsFilled laws peer root 256 rounds) x.below) (sym e) s.below;
+    nodes = subst (λ x. AllByRecursion (IsFilled laws peer root 257 0) x.nodes) (sym e) s.nodes;
+    once = λ k. subst (λ x. total (λ g. times_in laws.cmp k (owned_gap g)) gaps.items + times_found laws peer root k x ≤ 1) (sym e)
+        (omega (arith, s.once k, ap (total (times_in laws.cmp k)) is, total-mapped (times_in laws.cmp k) owned_gap gaps.items));
+  }
+
+  whole_steady : (rounds : ℕ) (f : Found K V) → AreSteady rounds none_besides f → AreSteady rounds none_besides (all_whole f)
+  whole_steady rounds f s = record { below = tt; nodes = s.nodes; once = λ k. omega (arith, s.once k, total-append (times_in laws.cmp k) f.whole f.below) }
+
+  goes_on_steady : (rounds : ℕ) (f : Found K V) (next : Next K V) → AreSteady rounds none_besides f → GoesOn laws.cmp encoding rounds f next → SteadyNext laws peer root next
+  goes_on_steady rounds f (Came rows) s goes = tt
+  goes_on_steady rounds f (Ask session message) s (asked, is, same) =
+      subst (IsSteady laws peer root) (λ i. record { asked = session.asked; found = session.found; rounds = sym same i }) (from asked.1)
+    where
+      from : IsTakenFrom session.asked f session.found ⊎ IsTakenFrom session.asked (all_whole f) session.found → IsSteady laws peer root (record { asked = session.asked; found = session.found; rounds = rounds_with rounds session.asked })
+      from (inl t) = taken_steady session.asked rounds f session.found asked.0 s t
+      from (inr t) = taken_steady session.asked rounds (all_whole f) session.found asked.0 (whole_steady rounds f s) t
+
+  -- what is asked again
+  abbrev pub times_again : Option (Question K) → K → ℕ
+  times_again None k = 0
+  times_again (Some question) k = times_asked laws peer root k question
+
+  abbrev pub IsAgainFit : ℕ → Option (Question K) → Type 0
+  IsAgainFit rounds None = ⊤
+  IsAgainFit rounds (Some question) = AsksForSome question × AsksForPages laws peer root rounds question
+
+  pub next_steady : (again : Option (Question K)) (rounds : ℕ) (f : Found K V) (next : Next K V) → IsAgainFit rounds again → AreSteady rounds (times_again again) f → AsksOrGoesOn laws.cmp encoding again rounds f next → SteadyNext laws peer root next
+  next_steady None rounds f next fit s goes = goes_on_steady rounds f next s goes
+  next_steady (Some question) rounds f (Came rows) fit s goes = tt
+  next_steady (Some question) rounds f (Ask session message) fit s (is, same) =
+      subst (IsSteady laws peer root) (sym same) (record { some = fit.0; asked = fit.1; below = s.below; nodes = s.nodes; once = s.once })
+
+  again_fit : {X : Type 0} (ask : Vec X → Question K) (F : X → Type 0) (times : K → X → ℕ) (rounds : ℕ) (left : List X) (again : Option (Question K)) → ((xs : Vec X) → xs.items ≢ [] → AsksForSome (ask xs))
+      → ((xs : Vec X) → AllByRecursion F xs.items → AsksForPages laws peer root rounds (ask xs)) → ((k : K) (xs : Vec X) → times_asked laws peer root k (ask xs) ≡ total (times k) xs.items)
+      → AsksAgain ask left again → AllByRecursion F left → IsAgainFit rounds again × ((k : K) → times_again again k ≡ total (times k) left)
+  again_fit ask F times rounds left again some pages count (inl (none, e)) fits = (subst (IsAgainFit rounds) (sym e) tt, λ k. ap (λ a. times_again a k) e ∙ ap (total (times k)) (sym none))
+  again_fit ask F times rounds left again some pages count (inr (rest, is, more, e)) fits = (
+    subst (IsAgainFit rounds) (sym e) (some rest (λ none. more (sym is ∙ none)), pages rest (subst (AllByRecursion F) (sym is) fits)),
+    λ k. ap (λ a. times_again a k) e ∙ count k rest ∙ ap (total (times k)) is,
+  )
+
+module _ {K V H : Type 0} (laws : Laws K V H) (o : IsTotalOrder laws.cmp) (eqv : IsEquivalence laws.eq) (encoding : K → List ℕ) (values : V → List ℕ) (tell : Tell laws encoding values) (n : ℕ)
+    (local : Side K V H) (peer : Contents K V H) (root : Tree K (List ℕ)) (sides : AreSides laws local (side peer) root peer.tree.root) (small : AllByRecursion (λ p. length p.1 ≡ n) (tree_map laws (side peer))) where
+  abbrev tree : Tree K (List ℕ)
+  tree = peer.tree.root
+
+  up_tree : IsMap laws.cmp (pairs tree)
+  up_tree = ascends laws.cmp o (λ d e. d ≡ e) (pairs tree) (tree_map laws (side peer)) sides.is_tree.1 (ascending_digests laws.cmp o (laws.value_digest peer.tree.hasher) peer.rows sides.up_peer)
+
+  up_root : IsMap laws.cmp (pairs root)
+  up_root = same_is_map laws.cmp o (λ d e. d ≡ e) (pairs tree) (pairs root) (same-pairs laws.cmp tree root sides.back) up_tree
+
+  abbrev Steady : ℕ → (K → ℕ) → Found K V → Type 0
+  Steady = AreSteady laws (side peer) root encoding
+
+  abbrev Filled : ℕ → ℕ → Gap K → Type 0
+  Filled = IsFilled laws (side peer) root
+
+  abbrev items : Gap K → List (Item K (List ℕ))
+  items g = outline_over peer.tree.format laws.bytes_of laws.cmp tree g
+
+  -- the pages below one that was told
+  from_tree : (m r rounds : ℕ) (g : Gap K) → r + rounds < 257 → m ≡ r → IsBelow laws o local peer.tree.format tree m g → Filled 256 rounds g
+  from_tree m r rounds g low e (v, f, less) =
+      let (w, fills, same) = fills-same laws.cmp o g v tree root up_tree sides.back f in
+      (w, fills, omega (arith, low, e, less, same_level laws.cmp o v w same))
+
+  page_steady : (rounds : ℕ) (g h : Gap K) (keys : List K) (pages : List (Option (List ℕ))) (gaps : List (Gap K)) → Filled 257 rounds g → SameGap laws.cmp g h
+      → SameKeys laws.cmp keys (keys_among (nodes_among (items h))) → pages ≡ pages_beside None (items h) → AreNewGaps laws local g keys pages gaps
+      → AllByRecursion (Filled 256 rounds) gaps
+  page_steady rounds g h keys pages gaps (t, f, low) s are beside new =
+      let (u, fu, same) = fills-same laws.cmp o g t root tree up_root sides.same f in
+      let below = parts_filled laws o local peer.tree.format tree up_tree (λ k. level_of (laws.key_digest peer.tree.hasher k) peer.tree.base) sides.is_tree.0 h g u keys gaps (fills-alike laws.cmp o g h u tree s fu) (same_gap-back laws.cmp o g h s)
+      (same_keys-back laws.cmp o keys _ are) (subst (λ ps. AreNewGaps laws local g keys ps gaps) beside new) in
+      each-with (IsBelow laws o local peer.tree.format tree (level u)) (Filled 256 rounds) gaps (λ x. from_tree (level u) (level t) rounds x low (sym (same_level laws.cmp o t u same))) below
+
+  own_steady : (rounds : ℕ) (g : Gap K) (nodes : List (Gap K)) → Filled 257 rounds g → IsGapOrNone laws local g nodes → AllByRecursion (Filled 257 0) nodes
+  own_steady rounds g [] filled one = tt
+  own_steady rounds g (own ∷ []) (t, f, low) one = ((t, fills-alike laws.cmp o g own t root one f, omega (arith, low)), tt)
+  own_steady rounds g (own ∷ other ∷ others) filled one = absurd one
+
+  abbrev Pages : ℕ → Found K V → Type 0
+  Pages rounds f = AllByRecursion (Filled 256 rounds) f.below × AllByRecursion (Filled 257 0) f.nodes
+
+  one_pages : (with_pages : Bool) (rounds : ℕ) (g h : Gap K) (x y : Outline K V) (before after : Found K V) → (with_pages ≡ true → Filled 257 rounds g) → SameGap laws.cmp g h → SameOutline laws.cmp laws.eq x y
+      → IsTold laws.cmp peer.rows with_pages (items h) y → IsTaken laws local g x before after → Pages rounds before → Pages rounds after
+  one_pages with_pages rounds g h (rows_told rs) y before after filled s same told taken p = subst (Pages rounds) (sym taken) p
+  one_pages with_pages rounds g h (digests_told ns) y before after filled s same told taken p = subst (Pages rounds) (sym taken) p
+  one_pages with_pages rounds g h (page_told c js ps) (page_told d ks qs) before after filled s same (with, is, are, beside) (gaps, nodes, new, one, few, taken) p =
+      subst (Pages rounds) (sym taken) (
+        each-append (Filled 256 rounds) before.below gaps p.0 (page_steady rounds g h js ps gaps (filled with) s (subst (SameKeys laws.cmp js) are same.1) (same.2 ∙ beside) new),
+        each-append (Filled 257 0) before.nodes nodes p.1 (own_steady rounds g nodes (filled with) one),
+      )
+  one_pages with_pages rounds g h (page_told c js ps) (rows_told ss) before after filled s same told taken p = absurd same
+  one_pages with_pages rounds g h (page_told c js ps) (digests_told ms) before after filled s same told taken p = absurd same
+
+  abbrev Told : Bool → OwnedGap K × Outline K V → Type 0
+  Told with_pages u = IsTold laws.cmp peer.rows with_pages (items (owned_gap u.0)) u.1
+
+  abbrev SameTold : OwnedGap K × Outline K V → OwnedGap K × Outline K V → Type 0
+  SameTold t u = SameGapTold laws.cmp encoding t.0 u.0 × SameOutline laws.cmp laws.eq t.1 u.1
+
+  all_pages : (with_pages : Bool) (rounds : ℕ) (ts us : List (OwnedGap K × Outline K V)) (before after : Found K V) → (with_pages ≡ true → AllByRecursion (λ g. Filled 257 rounds (owned_gap g)) (map (λ t. t.0) ts))
+      → SameLists SameTold ts us → AllByRecursion (Told with_pages) us → AreTaken laws local ts before after → Pages rounds before → Pages rounds after
+  all_pages with_pages rounds [] us before after filled s told taken p = subst (Pages rounds) (sym taken) p
+  all_pages with_pages rounds (t ∷ ts) [] before after filled s told taken p = absurd s
+  all_pages with_pages rounds (t ∷ ts) (u ∷ us) before after filled s told (mid, one, more) p =
+      all_pages with_pages rounds ts us mid after (λ with. (filled with).1) s.1 told.1 more
+      (one_pages with_pages rounds (owned_gap t.0) (owned_gap u.0) t.1 u.1 before mid (λ with. (filled with).0) s.0.0.0 s.0.1 told.0 one p)
+
+  -- what is taken of a reply is steady with what is asked again
+  pub record StaySteady (rounds : ℕ) (again : Option (Question K)) (after : Found K V) : Type 0 where
+    pub fit : IsAgainFit laws (side peer) root encoding rounds again
+    pub steady : Steady rounds (times_again laws (side peer) root encoding again) after
+
+  outlines_stay : (with_pages : Bool) (kind : Kind) (ask : Vec (OwnedGap K) → Question K) (r rounds : ℕ) (gaps gaps' left : List (OwnedGap K)) (reply : List ℕ) (before after : Found K V) (again : Option (Question K)) (told' : List (OwnedGap K × Outline K V))
+      → ((xs : Vec (OwnedGap K)) → xs.items ≢ [] → AsksForSome (ask xs)) → ((xs : Vec (OwnedGap K)) → AllByRecursion (λ g. Filled 257 r (owned_gap g)) xs.items → AsksForPages laws (side peer) root rounds (ask xs))
+      → ((k : K) (xs : Vec (OwnedGap K)) → times_asked laws (side peer) root k (ask xs) ≡ total (λ g. times_about laws o local (side peer) root tree sides.same n k with_pages (owned_gap g)) xs.items)
+      → (with_pages ≡ true → r ≡ rounds) → AllByRecursion (λ g. Filled 257 r (owned_gap g)) gaps → Steady rounds (λ k. total (λ g. times_about laws o local (side peer) root tree sides.same n k with_pages (owned_gap g)) gaps) before
+      → SameLists (SameGapTold laws.cmp encoding) gaps gaps' → Answers (λ g. IsTold laws.cmp peer.rows with_pages (items_over laws.cmp laws.bytes_of peer.tree g)) gaps' told' → reply ≡ front kind ++ outlines_bytes encoding values told'
+      → HasOutlines laws n encoding values local (front kind) gaps reply before after left → AsksAgain ask left again → StaySteady rounds again after
+  outlines_stay with_pages kind ask r rounds gaps gaps' left reply before after again told' some pages count same_rounds filled s same answers sent (told, read, any, are, lies, taken) asks =
+      let bytes = (join_tells (front kind) (front kind) (outlines_bytes encoding values told) (outlines_bytes encoding values told') refl (sym read ∙ sent)).1 in
+      let alike = outlines_tell laws.cmp laws.eq encoding values tell.keys tell.value (SameGapTold laws.cmp encoding) (λ g h e. e.1) n told told' left answers.left
+      (same_begin laws o eqv encoding values tell n local peer root sides small (SameGapTold laws.cmp encoding) gaps gaps' told told' left answers.left same are answers.begins) (fits_read laws local n told before after lies taken)
+      (sent_fits laws o eqv encoding values tell n local peer root sides small with_pages told' answers.each) bytes in
+      let both = subst (AllByRecursion (λ g. Filled 257 r (owned_gap g))) are filled in
+      let first = each-before (λ g. Filled 257 r (owned_gap g)) (map (λ t. t.0) told) left both in
+      let after_pages = all_pages with_pages rounds told told' before after (λ with. subst (λ q. AllByRecursion (λ g. Filled 257 q (owned_gap g)) (map (λ t. t.0) told)) (same_rounds with) first) alike answers.each taken (s.below, s.nodes) in
+      let (fit, left_times) = again_fit laws (side peer) root encoding ask (λ g. Filled 257 r (owned_gap g)) (λ k g. times_about laws o local (side peer) root tree sides.same n k with_pages (owned_gap g)) rounds left again some pages count asks
+      (each-behind (λ g. Filled 257 r (owned_gap g)) (map (λ t. t.0) told) left both) in
+      record {
+        fit = fit;
+        steady = record {
+          below = after_pages.0;
+          nodes = after_pages.1;
+          once = λ k.
+              let about : OwnedGap K → ℕ = λ g. times_about laws o local (side peer) root tree sides.same n k with_pages (owned_gap g) in
+              omega (
+                arith,
+                s.once k,
+                ap (total about) are,
+                total-append about (map (λ t. t.0) told) left,
+                left_times k,
+                outlines_times laws o local (side peer) root tree sides.same n k (SameGapTold laws.cmp encoding) (λ g h e. e.0) with_pages told told' before after alike answers.each lies taken,
+              );
+        };
+      }
+
+  values_stay : (rounds : ℕ) (keys left : List (Wanted K)) (reply : List ℕ) (before after : Found K V) (again : Option (Question K)) → Steady rounds (λ k. total (λ w. times_at laws.cmp k w.key) keys) before
+      → HasValues laws n encoding values local keys reply before after left → AsksAgain RowsAt left again → StaySteady rounds again after
+  values_stay rounds keys left reply before after again s (told, read, any, are, taken) asks =
+      let (fit, left_times) = again_fit laws (side peer) root encoding RowsAt (λ w. ⊤) (λ k w. times_at laws.cmp k w.key) rounds left again (λ xs e. e) (λ xs a. tt) (λ k xs. refl) asks (each-all (λ w. ⊤) left (λ w. tt)) in
+      record {
+        fit = fit;
+        steady = record {
+          below = subst (λ f. AllByRecursion (Filled 256 rounds) f.below) (sym taken) s.below;
+          nodes = subst (λ f. AllByRecursion (Filled 257 0) f.nodes) (sym taken) s.nodes;
+          once = λ k.
+              let at : Wanted K → ℕ = λ w. times_at laws.cmp k w.key in
+              omega (
+                arith,
+                s.once k,
+                ap (total at) are,
+                total-append at (map (λ t. t.0) told) left,
+                left_times k,
+                rows_added laws o local (side peer) root tree sides.same n k before after (flat_map value_row told) taken,
+                values_times laws o local (side peer) root tree sides.same n k told,
+              );
+        };
+      }
+
+  parts_stay : (rounds : ℕ) (gaps left : List (OwnedGap K)) (reply : List ℕ) (before after : Found K V) (again : Option (Question K)) → Steady rounds (λ k. total (λ g. times_in laws.cmp k (owned_gap g)) gaps) before
+      → HasParts laws n encoding values local gaps reply before after left → AsksAgain RowsIn left again → StaySteady rounds again after
+  parts_stay rounds gaps left reply before after again s (told, behind, rest, read, any, are, up, are_behind, is_left, taken) asks =
+      let (fit, left_times) = again_fit laws (side peer) root encoding RowsIn (λ g. ⊤) (λ k g. times_in laws.cmp k (owned_gap g)) rounds left again (λ xs e. e) (λ xs a. tt) (λ k xs. refl) asks (each-all (λ g. ⊤) left (λ g. tt)) in
+      record {
+        fit = fit;
+        steady = record {
+          below = subst (λ f. AllByRecursion (Filled 256 rounds) f.below) (sym taken) s.below;
+          nodes = subst (λ f. AllByRecursion (Filled 257 0) f.nodes) (sym taken) s.nodes;
+          once = λ k.
+              let inside : OwnedGap K → ℕ = λ g. times_in laws.cmp k (owned_gap g) in
+              omega (
+                arith,
+                s.once k,
+                ap (total inside) are,
+                total-append inside (map (λ t. t.0) told) rest,
+                left_times k,
+                ap (total inside) is_left,
+                total-append inside behind rest,
+                rows_added laws o local (side peer) root tree sides.same n k before after (flat_map (λ t. t.1.rows) told) taken,
+                parts_times laws o local (side peer) root tree sides.same n k told behind up are_behind,
+              );
+        };
+      }
+
+  -- the root page fills the gap of all keys
+  root_filled : (t : Tree K (List ℕ)) (digest : List ℕ) → IsCanonicalRoot (λ k. level_of (laws.key_digest peer.tree.hasher k) peer.tree.base) t → whole_digest (whole_item peer.tree.format laws.bytes_of t) ≡ Some digest
+      → Fills laws.cmp everywhere t t × (level t < 256)
+  root_filled (page l c (high h)) digest canonical e = absurd (cc)
+  root_filled (page l c (node h k d r)) digest canonical e =
+      let t : Tree K (List ℕ) = page l c (node h k d r) in
+      (record { inside = itself t; some = tt; all = all_within laws.cmp (pairs t) }, omega (arith, canonical.1, level_low (laws.key_digest peer.tree.hasher k) peer.tree.base))
+
+  everywhere_filled : (digest : List ℕ) → whole_digest (whole_item peer.tree.format laws.bytes_of tree) ≡ Some digest → Filled 256 0 everywhere
+  everywhere_filled digest e =
+      let (f, low) = root_filled tree digest sides.is_tree.0 e in
+      let (w, fills, same) = fills-same laws.cmp o everywhere tree tree root up_tree sides.back f in
+      (w, fills, omega (arith, low, same_level laws.cmp o tree w same))
+
+  root_stays : (rounds : ℕ) (digest : Option (List ℕ)) (before after : Found K V) → rounds ≡ 0 → Steady rounds (λ k. 1) before → digest ≡ whole_digest (whole_item peer.tree.format laws.bytes_of tree) → IsRootTaken laws local digest before after
+      → Steady rounds (λ k. 0) after
+  root_stays rounds digest before after zero s is taken = record {
+    below = by digest is taken;
+    nodes = keeps digest taken;
+    once = λ k. omega (arith, s.once k, root_times laws o local (side peer) root tree sides.same n k digest before after taken);
+  }
+    where
+      by : (d : Option (List ℕ)) → d ≡ whole_digest (whole_item peer.tree.format laws.bytes_of tree) → IsRootTaken laws local d before after → AllByRecursion (Filled 256 rounds) after.below
+      by None e t = subst (λ f. AllByRecursion (Filled 256 rounds) f.below) (sym t) s.below
+      by (Some d) e (inl (own, t)) = subst (λ f. AllByRecursion (Filled 256 rounds) f.below) (sym t) s.below
+      by (Some d) e (inr (inl t)) = subst (λ f. AllByRecursion (Filled 256 rounds) f.below) (sym t) s.below
+      by (Some d) e (inr (inr t)) =
+          subst (λ f. AllByRecursion (Filled 256 rounds) f.below) (sym t)
+          (each-append (Filled 256 rounds) before.below (everywhere ∷ []) s.below (subst (λ r. Filled 256 r everywhere) (sym zero) (everywhere_filled d (sym e)), tt))
+
+      keeps : (d : Option (List ℕ)) → IsRootTaken laws local d before after → AllByRecursion (Filled 257 0) after.nodes
+      keeps None t = subst (λ f. AllByRecursion (Filled 257 0) f.nodes) (sym t) s.nodes
+      keeps (Some d) (inl (own, t)) = subst (λ f. AllByRecursion (Filled 257 0) f.nodes) (sym t) s.nodes
+      keeps (Some d) (inr (inl t)) = subst (λ f. AllByRecursion (Filled 257 0) f.nodes) (sym t) s.nodes
+      keeps (Some d) (inr (inr t)) = subst (λ f. AllByRecursion (Filled 257 0) f.nodes) (sym t) s.nodes
+
+  pub stay : (digest_of : K → List ℕ) (asked question : Question K) (rounds : ℕ) (reply : List ℕ) (before after : Found K V) (again : Option (Question K)) → IsSteady laws (side peer) root (record { asked = asked; found = before; rounds = rounds })
+      → SameQuestion laws.cmp encoding asked question → IsReply laws.cmp laws.bytes_of encoding values digest_of n peer.rows peer.tree question reply → HasTaken laws n encoding values local asked reply before after again → StaySteady rounds again after
+  stay digest_of (Root a) (Root b) rounds reply before after again s same (settings, sent) (count, digest, read, taken, none) =
+      let is = root_tells laws o eqv encoding values tell n local peer root sides small count (length peer.rows) digest (whole_digest (whole_item peer.tree.format laws.bytes_of tree)) (sym read ∙ sent) in
+      subst (λ x. StaySteady rounds x after) (sym none)
+      (record { fit = tt; steady = root_stays rounds digest before after s.asked (record { below = s.below; nodes = s.nodes; once = s.once }) is taken })
+  stay digest_of (Outlines m gs) (Outlines m' hs) rounds reply before after again s same (told', answers, sent) (left, has, asks) =
+      outlines_stay true outlines_kind (Outlines m) rounds rounds gs.items hs.items left reply before after again told' (λ xs e. (e, s.some.1)) (λ xs a. a) (λ k xs. refl) (λ with. refl) s.asked
+      (record { below = s.below; nodes = s.nodes; once = s.once }) same answers sent has asks
+  stay digest_of (Nodes m gs) (Nodes m' hs) rounds reply before after again s same (told', answers, sent) (left, has, asks) =
+      outlines_stay false nodes_kind (Nodes m) 0 rounds gs.items hs.items left reply before after again told' (λ xs e. (e, s.some.1)) (λ xs a. a) (λ k xs. refl) (λ with. let never : false ≡ true = with in absurd (cc)) s.asked
+      (record { below = s.below; nodes = s.nodes; once = s.once }) same answers sent has asks
+  stay digest_of (RowsAt ws) (RowsAt xs) rounds reply before after again s same (told', answers, sent) (left, has, asks) =
+      values_stay rounds ws.items left reply before after again (record { below = s.below; nodes = s.nodes; once = s.once }) has asks
+  stay digest_of (RowsIn gs) (RowsIn hs) rounds reply before after again s same (told', answers, sent) (left, has, asks) =
+      parts_stay rounds gs.items left reply before after again (record { below = s.below; nodes = s.nodes; once = s.once }) has asks
+  stay digest_of asked question rounds reply before after again s same is taken = absurd same
+
+  -- the reply can be taken
+  module _ (is_key : K → Type 0) (is_value : V → Type 0) (told : CanBeTold laws is_key is_value (side peer)) where
+    abbrev InTree : OwnedGap K → Type 0
+    InTree g = (u : Tree K (List ℕ)) × Fills laws.cmp (owned_gap g) u tree
+
+    in_tree : (m rounds : ℕ) (g : OwnedGap K) → Filled m rounds (owned_gap g) → InTree g
+    in_tree m rounds g (t, f, low) = let (u, fu, same) = fills-same laws.cmp o (owned_gap g) t root tree up_root sides.same f in (u, fu)
+
+    outline_fits : (with_pages : Bool) (h : OwnedGap K) (x : Outline K V) → Told with_pages (h, x) → Fits n x
+    outline_fits with_pages h x t = (sent_fits laws o eqv encoding values tell n local peer root sides small with_pages ((h, x) ∷ []) (t, tt)).0
+
+    says : (with_pages : Bool) (g h : OwnedGap K) (x : Outline K V) → SameGapTold laws.cmp encoding g h → InTree g → Told with_pages (h, x) → IsOutlineIn laws.cmp is_key is_value n with_pages (owned_gap g) x
+    says with_pages g h x same (u, f) t =
+        outline_said laws o is_key is_value (side peer) told n tree up_tree (nodes_peers laws o eqv local (side peer) root tree sides) with_pages (owned_gap g) (owned_gap h) u x (same_gap-back laws.cmp o (owned_gap g) (owned_gap h) same.0)
+        (fills-alike laws.cmp o (owned_gap g) (owned_gap h) u tree same.0 f) t (outline_fits with_pages h x t)
+
+    whole_page : (t : Tree K (List ℕ)) → IsPageDigest (whole_digest (whole_item peer.tree.format laws.bytes_of t))
+    whole_page (page l c (high h)) = tt
+    whole_page (page l c (node h k d r)) = digest_length peer.tree.format laws.bytes_of (page l c (node h k d r))
+
+    pub can_be_taken : (digest_of : K → List ℕ) (asked question : Question K) (rounds : ℕ) (reply : List ℕ) → AsksForSome asked → AsksForPages laws (side peer) root rounds asked → SameQuestion laws.cmp encoding asked question
+        → IsReply laws.cmp laws.bytes_of encoding values digest_of n peer.rows peer.tree question reply → IsFit laws.cmp is_key is_value encoding values n asked reply
+    can_be_taken digest_of (Root a) (Root b) rounds reply some pages same (settings, sent) = (
+      count_bytes (length peer.rows) ++ option_bytes (λ d. d) (whole_digest (whole_item peer.tree.format laws.bytes_of tree)),
+      (length peer.rows, whole_digest (whole_item peer.tree.format laws.bytes_of tree), told.few, whole_page tree, refl),
+      sent ∙ append_assoc (front root_kind) (count_bytes (length peer.rows)) (option_bytes (λ d. d) (whole_digest (whole_item peer.tree.format laws.bytes_of tree))),
+    )
+    can_be_taken digest_of (Outlines m gs) (Outlines m' hs) rounds reply some pages same (told', answers, sent) = (
+      outlines_bytes encoding values told',
+      answers_say (SameGapTold laws.cmp encoding) (λ t. outline_bytes encoding values (bound_key encoding [] t.0.after) t.1) (λ t u e i. outline_bytes encoding values (e.0.1 i) (e.1 i)) InTree
+          (λ g. IsOutlineIn laws.cmp is_key is_value n true (owned_gap g)) (λ h x. Told true (h, x)) (λ g h x. says true g h x) gs.items hs.items told' same some.0
+          (each-with (λ g. Filled 257 rounds (owned_gap g)) InTree gs.items (λ g. in_tree 257 rounds g) pages) answers,
+      sent,
+    )
+    can_be_taken digest_of (Nodes m gs) (Nodes m' hs) rounds reply some pages same (told', answers, sent) = (
+      outlines_bytes encoding values told',
+      answers_say (SameGapTold laws.cmp encoding) (λ t. outline_bytes encoding values (bound_key encoding [] t.0.after) t.1) (λ t u e i. outline_bytes encoding values (e.0.1 i) (e.1 i)) InTree
+          (λ g. IsOutlineIn laws.cmp is_key is_value n false (owned_gap g)) (λ h x. Told false (h, x)) (λ g h x. says false g h x) gs.items hs.items told' same some.0
+          (each-with (λ g. Filled 257 0 (owned_gap g)) InTree gs.items (λ g. in_tree 257 0 g) pages) answers,
+      sent,
+    )
+    can_be_taken digest_of (RowsAt ws) (RowsAt xs) rounds reply some pages same (told', answers, sent) = (
+      values_bytes values told',
+      answers_say (SameWanted laws.cmp encoding) (λ t. option_bytes values t.1) (λ t u e. ap (option_bytes values) e.1) (λ w. ⊤)
+          (λ w. IsOption is_value) (λ w value. value ≡ get laws.cmp peer.rows w.key) (λ w x value e f is. value_said laws o is_key is_value (side peer) told x value is) ws.items xs.items told' same some
+          (each-all (λ w. ⊤) ws.items (λ w. tt)) answers,
+      sent,
+    )
+    can_be_taken digest_of (RowsIn gs) (RowsIn hs) rounds reply some pages same (told', answers, sent) = (
+      parts_bytes encoding values told',
+      answers_say (SameGapTold laws.cmp encoding) (λ t. part_bytes encoding values (bound_key encoding [] t.0.after) t.1) (λ t u e i. part_bytes encoding values (e.0.1 i) (e.1 i)) (λ g. ⊤)
+          (λ g. IsPartIn laws.cmp is_key is_value (owned_gap g)) (IsPartOf laws.cmp peer.rows)
+          (λ g h part e f is. part_said laws o is_key is_value (side peer) told (owned_gap g) h part sides.up_peer (same_gap-back laws.cmp o (owned_gap g) (owned_gap h) e.0) is) gs.items hs.items told' same some
+          (each-all (λ g. ⊤) gs.items (λ g. tt)) answers,
+      sent,
+    )
+    can_be_taken digest_of asked question rounds reply some pages same is = absurd same
+
+    -- of rows with twins a key is found twice
+    twins_twice : (rows : List (K × V)) (k : K) → HaveTwins laws.cmp rows → (j : K) × (2 ≤ total (λ r. times_at laws.cmp j r.0) rows)
+    twins_twice rows k (first, next, others, all, same) =
+        (first.0, omega (arith, total-permuted (λ r. times_at laws.cmp first.0 r.0) rows (first ∷ next ∷ others) all, once first.0 first.0 (tied_itself o first.0), once first.0 next.0 same))
+      where
+        once : (i j : K) → Same laws.cmp i j → times_at laws.cmp i j ≡ 1
+        once i j e = rw e refl
+
+    no_more_rounds : (rounds : ℕ) (gaps : List (Gap K)) → rounds ≡ 256 → gaps ≢ [] → AllByRecursion (Filled 256 rounds) gaps → ⊥
+    no_more_rounds rounds [] many some a = some refl
+    no_more_rounds rounds (g ∷ gaps) many some ((t, f, low), a) = absurd (omega (arith, many, low))
+
+    -- so it is refused for want of memory alone
+    pub memory_alone : (digest_of : K → List ℕ) (before : Underway K V) (question : Question K) (reply : List ℕ) (error : SessionError) → IsSteady laws (side peer) root before → SameQuestion laws.cmp encoding before.asked question
+        → IsReply laws.cmp laws.bytes_of encoding values digest_of n peer.rows peer.tree question reply → IsStopped laws n encoding values is_key is_value local before reply error → error ≡ Memory
+    memory_alone digest_of before question reply error s same is = by error
+      where
+        fit : IsFit laws.cmp is_key is_value encoding values n before.asked reply
+        fit = can_be_taken digest_of before.asked question before.rounds reply s.some s.asked same is
+
+        twice : (found : Found K V) → HasTaken laws n encoding values local before.asked reply before.found found None → HaveTwins laws.cmp found.rows → ⊥
+        twice found taken twins =
+            let (k, many) = twins_twice found.rows twins.0.0 twins in
+            absurd (omega (arith, many, (stay digest_of before.asked question before.rounds reply before.found found None s same is taken).steady.once k))
+
+        by : (e : SessionError) → IsStopped laws n encoding values is_key is_value local before reply e → e ≡ Memory
+        by Memory stopped = refl
+        by TooManyRounds (many, found, taken, some) = absurd (no_more_rounds before.rounds found.below many some (stay digest_of before.asked question before.rounds reply before.found found None s same is taken).steady.below)
+        by Twice (found, taken, done, twins) = absurd (twice found taken twins)
+        by (Malformed e) stopped = absurd (stopped fit)
+        by OtherKind stopped = absurd (stopped fit)
+        by Refused stopped = absurd (stopped fit)
+        by NothingCame stopped = absurd (stopped fit)
+        by NotInGap stopped = absurd (stopped fit)
+        by NoNode stopped = absurd (stopped fit)
+
+-- the same of a peer whose rows and settings stayed as it answered, by any tree of its map
+module _ {K V H : Type 0} (laws : Laws K V H) (o : IsTotalOrder laws.cmp) (eqv : IsEquivalence laws.eq) (respects : (h : H) (a b : V) → laws.eq a b ≡ true → laws.value_digest h a ≡ laws.value_digest h b)
+    (one_tree : (hasher : H) (base : ℕ) (a b : List (K × List ℕ)) (t u : Tree K (List ℕ)) → SameMap laws.cmp (λ d e. d ≡ e) a b → IsTreeOf laws.cmp (laws.key_digest hasher) base t a → IsTreeOf laws.cmp (laws.key_digest hasher) base u b → SamePages laws.cmp t u)
+    (encoding : K → List ℕ) (values : V → List ℕ) (tell : Tell laws encoding values) (n : ℕ) (local : Side K V H) (up : IsMap laws.cmp local.rows) (met peer : Contents K V H) (rows : peer.rows ≡ met.rows) (settings : SameSettings met.tree peer.tree)
+    (kept : IsKept laws.cmp laws.value_digest peer) (canonical : IsCanonicalRoot (λ k. level_of (laws.key_digest peer.tree.hasher k) peer.tree.base) peer.tree.root) where
+  module _ (digest_of : K → List ℕ) (before : Underway K V) (question : Question K) (message reply : List ℕ) (asked : message ≡ question_bytes encoding before.asked) (read : message ≡ question_bytes encoding question)
+      (is : IsReply laws.cmp laws.bytes_of encoding values digest_of n met.rows peer.tree question reply) where
+    same : side peer ≡ side met
+    same = same_side met peer rows settings
+
+    sides : (root : Tree K (List ℕ)) → IsTreeOf laws.cmp (laws.key_digest met.tree.hasher) met.tree.base root (tree_map laws (side met)) → HasSmallMap laws n (side met) → AreSides laws local (side peer) root peer.tree.root
+    sides root of_peer small = sides_met laws o eqv respects one_tree encoding values tell n local up met peer rows settings kept canonical (subst (HasSmallMap laws n) (sym same) small) root of_peer
+
+    lengths : HasSmallMap laws n (side met) → AllByRecursion (λ p. length p.1 ≡ n) (tree_map laws (side peer))
+    lengths small = (subst (HasSmallMap laws n) (sym same) small).digests
+
+    alike : SameQuestion laws.cmp encoding before.asked question
+    alike = question_tells laws.cmp encoding tell.keys before.asked question (sym asked ∙ read)
+
+    replies : IsReply laws.cmp laws.bytes_of encoding values digest_of n peer.rows peer.tree question reply
+    replies = subst (λ rs. IsReply laws.cmp laws.bytes_of encoding values digest_of n rs peer.tree question reply) (sym rows) is
+
+    -- what comes next is steady
+    pub stays_steady : (next : Next K V) → IsNext laws n encoding values local before reply next → WhileSteady laws n (side met) (λ root. SteadyNext laws (side met) root next) before
+    stays_steady next (found, again, taken, goes) root of_peer small steady =
+        let here = subst (λ s. IsSteady laws s root before) (sym same) steady in
+        let t = stay laws o eqv encoding values tell n local peer root (sides root of_peer small) (lengths small) digest_of before.asked question before.rounds reply before.found found again here alike replies taken in
+        subst (λ s. SteadyNext laws s root next) same (next_steady laws (side peer) root encoding again before.rounds found next t.fit t.steady goes)
+
+    -- and has keys of the two sides alone
+    pub stays_at_keys : (next : Next K V) → IsNext laws n encoding values local before reply next → HasKeysOfSides laws local (side met) before → HasSmallMap laws n (side met) → HasKeysNext laws local (side met) next
+    stays_at_keys next comes keys small =
+        let of_met = subst (λ s. IsTreeOf laws.cmp (laws.key_digest s.hasher) s.base peer.tree.root (tree_map laws s)) same (canonical, kept.digested) in
+        subst (λ s. HasKeysNext laws local s next) same
+        (next_keys laws o eqv encoding values tell n local peer peer.tree.root (sides peer.tree.root of_met small) (lengths small) digest_of before question reply next (subst (λ s. HasKeysOfSides laws local s before) (sym same) keys) alike replies comes)
+
+    -- and the reply is refused for want of memory alone
+    pub stops_for_memory : (is_key : K → Type 0) (is_value : V → Type 0) (error : SessionError) → IsStopped laws n encoding values is_key is_value local before reply error
+        → WhileSteady laws n (side met) (λ root. CanBeTold laws is_key is_value (side met) → error ≡ Memory) before
+    stops_for_memory is_key is_value error stopped root of_peer small steady told =
+        memory_alone laws o eqv encoding values tell n local peer root (sides root of_peer small) (lengths small) is_key is_value (subst (CanBeTold laws is_key is_value) (sym same) told) digest_of before question reply error
+        (subst (λ s. IsSteady laws s root before) (sym same) steady) alike replies stopped
+
+-- a message has no reply for want of memory, where it asks something by the peer's settings
+pub unanswered_for_memory : (error : AnswerError) → (IsUnread error → ⊥) → (IsOfOthers error → ⊥) → error ≡ answer.Memory
+unanswered_for_memory answer.Memory unread others = refl
+unanswered_for_memory (answer.Malformed e) unread others = absurd (unread tt)
+unanswered_for_memory answer.OtherSettings unread others = absurd (others tt)
+
+module _ {K V H : Type 0} (laws : Laws K V H) where
+  -- a catch-up that begins is steady
+  pub begun_steady : (peer : Side K V H) (root : Tree K (List ℕ)) (begun : Underway K V) (settings : Settings K) → begun.asked ≡ Root settings → begun.found ≡ nothing → begun.rounds ≡ 0 → IsSteady laws peer root begun
+  begun_steady peer root begun settings asked found zero = record {
+    some = subst AsksForSome (sym asked) tt;
+    asked = subst (AsksForPages laws peer root begun.rounds) (sym asked) zero;
+    below = subst (λ f. AllByRecursion (IsFilled laws peer root 256 begun.rounds) f.below) (sym found) tt;
+    nodes = subst (λ f. AllByRecursion (IsFilled laws peer root 257 0) f.nodes) (sym found) tt;
+    once = λ k. omega (arith, ap (times_asked laws peer root k) asked, ap (times_found laws peer root k) found);
+  }
+
+  -- what holds while a catch-up is steady holds by the tree that the peer had at first, where its rows and settings stayed since then
+  pub while_steady_since : (n : ℕ) (peer b : Contents K V H) → b.rows ≡ peer.rows → SameSettings peer.tree b.tree → IsCanonicalRoot (λ k. level_of (laws.key_digest peer.tree.hasher k) peer.tree.base) peer.tree.root
+      → SameMap laws.cmp (λ d e. d ≡ e) (map_of peer.tree) (tree_map laws (side peer)) → HasSmallMap laws n (side peer) → (before : Underway K V) (P : Side K V H → Tree K (List ℕ) → Type 0)
+      → WhileSteady laws n (side b) (P (side b)) before → IsSteady laws (side peer) peer.tree.root before → P (side peer) peer.tree.root
+  while_steady_since n peer b rows settings canonical digested small before P holds steady =
+      subst (λ s. WhileSteady laws n s (P s) before) (same_side peer b rows settings) holds peer.tree.root (canonical, digested) small steady

@@ -1,0 +1,159 @@
+-- A catch-up with a peer that answers by its rows: each of its replies can be taken, until the rows come.
+use Rattle.std.specs.Prelude.{◌≡◌, ℕ, ◌+◌, ◌<◌, ◌≤◌, ◌^◌, List, [], ◌∷◌, length, cond, Some, ⊤, ◌⊎◌}
+use Rattle.std.specs.Global.{Vec}
+use Rattle.std.specs.List.{AllByRecursion}
+use Rattle.std.specs.Ordering.{is_eq}
+use Rattle.std.specs.declared.cmp.Ordering.{Ordering}
+use Rattle.key_order.specs.Map.{IsMap, get}
+use Rattle.merkle_replica.specs.Contents.{Side, tree_map}
+use Rattle.merkle_replica.specs.Faithful.{AreSetAlike, HasSmallMap}
+use Rattle.merkle_replica.specs.Laws.{Laws}
+use Rattle.merkle_tree_theory.specs.Canonical.{IsTreeOf}
+use Rattle.merkle_tree_theory.specs.Gap.{Gap, is_in_gap}
+use Rattle.merkle_tree_theory.specs.Lookup.{Fills}
+use Rattle.merkle_tree_theory.specs.Outline.{outline_over}
+use Rattle.merkle_tree_theory.specs.Page.{level}
+use Rattle.merkle_tree_theory.specs.Tree.{Tree}
+use Rattle.merkle_wire.specs.Asking.{AsksForSome}
+use Rattle.merkle_wire.specs.Found.{Found, nothing}
+use Rattle.merkle_wire.specs.Gaps.{IsGap, owned_gap}
+use Rattle.merkle_wire.specs.Next.{IsStopped}
+use Rattle.merkle_wire.specs.Outlines.{nodes_among, keys_among}
+use Rattle.merkle_wire.specs.Questions.{IsQuestion}
+use Rattle.merkle_wire.specs.Sessions.{IsAnswer, IsExchange}
+use Rattle.merkle_wire.specs.Underway.{Underway}
+use Rattle.merkle_wire.specs.declared.answering.AnswerError.TheVariants as answer
+use Rattle.merkle_wire.specs.declared.catching_up.Next.{Next}
+use Rattle.merkle_wire.specs.declared.catching_up.Next.TheVariants.{Ask, Came}
+use Rattle.merkle_wire.specs.declared.question.Question.{Question}
+use Rattle.merkle_wire.specs.declared.question.Question.TheVariants.{Root, Outlines, Nodes, RowsAt, RowsIn}
+use Rattle.merkle_wire.specs.declared.session.MessagesError.{MessagesError}
+use Rattle.merkle_wire.specs.declared.session.MessagesError.TheVariants.{Answer, Endless, Join, Session}
+use Rattle.merkle_wire.specs.declared.session_error.SessionError.{SessionError}
+use Rattle.merkle_wire.specs.declared.session_error.SessionError.TheVariants as session
+use Rattle.merkle_wire.specs.declared.settings.Settings.{Settings}
+
+-- the sum of numbers that the elements of a list have
+abbrev pub total : {X : Type 0} → (X → ℕ) → List X → ℕ
+total times [] = 0
+total times (x ∷ xs) = times x + total times xs
+
+module _ {K : Type 0} (cmp : K → K → Ordering) (k : K) where
+  -- how often the key is this one: once, or not
+  abbrev pub times_at : K → ℕ
+  times_at j = cond (is_eq (cmp k j)) 1 0
+
+  -- how often it is in a gap
+  abbrev pub times_in : Gap K → ℕ
+  times_in g = cond (is_in_gap cmp k g) 1 0
+
+-- the rows of a side can be told and read again: there are fewer than 2 ^ 64, and of these hold what holds of keys and values that are read
+pub record CanBeTold {K V H : Type 0} (laws : Laws K V H) (is_key : K → Type 0) (is_value : V → Type 0) (side : Side K V H) : Type 0 where
+  pub few : length side.rows < 2 ^ 64
+  pub read : (k : K) (v : V) → get laws.cmp side.rows k ≡ Some v → is_key k × is_value v
+
+module _ {K V H : Type 0} (laws : Laws K V H) (peer : Side K V H) (root : Tree K (List ℕ)) where
+  -- a page of the peer's tree fills the gap, and its level and the rounds are below n together
+  abbrev pub IsFilled : ℕ → ℕ → Gap K → Type 0
+  IsFilled n rounds g = (t : Tree K (List ℕ)) × Fills laws.cmp g t root × (level t + rounds < n)
+
+  -- what a question asks about is there: the first asks for the root, and others for pages that the peer has
+  abbrev pub AsksForPages : ℕ → Question K → Type 0
+  AsksForPages rounds (Root settings) = rounds ≡ 0
+  AsksForPages rounds (Outlines most gaps) = AllByRecursion (λ g. IsFilled 257 rounds (owned_gap g)) gaps.items
+  AsksForPages rounds (Nodes most gaps) = AllByRecursion (λ g. IsFilled 257 0 (owned_gap g)) gaps.items
+  AsksForPages rounds (RowsAt keys) = ⊤
+  AsksForPages rounds (RowsIn gaps) = ⊤
+
+  module _ (k : K) where
+    -- how often the key is one of the nodes of the peer's page over a gap
+    abbrev pub times_over : Gap K → ℕ
+    times_over g = total (times_at laws.cmp k) (keys_among (nodes_among (outline_over peer.format laws.bytes_of laws.cmp root g)))
+
+    -- how often it is asked about
+    abbrev pub times_asked : Question K → ℕ
+    times_asked (Root settings) = 1
+    times_asked (Outlines most gaps) = total (λ g. times_in laws.cmp k (owned_gap g)) gaps.items
+    times_asked (Nodes most gaps) = total (λ g. times_over (owned_gap g)) gaps.items
+    times_asked (RowsAt keys) = total (λ w. times_at laws.cmp k w.key) keys.items
+    times_asked (RowsIn gaps) = total (λ g. times_in laws.cmp k (owned_gap g)) gaps.items
+
+    -- how often it is among what was found
+    abbrev pub times_found : Found K V → ℕ
+    times_found f =
+        total (times_in laws.cmp k) f.below + (total times_over f.nodes + (total (times_at laws.cmp k) f.wanted
+        + (total (times_in laws.cmp k) f.whole + total (λ r. times_at laws.cmp k r.0) f.rows)))
+
+  -- something is asked for, of the peer's pages; the pages that were found are the peer's, on levels that the rounds suffice for; and no key is
+  -- asked about or found twice
+  pub record IsSteady (u : Underway K V) : Type 0 where
+    pub some : AsksForSome u.asked
+    pub asked : AsksForPages u.rounds u.asked
+    pub below : AllByRecursion (IsFilled 256 u.rounds) u.found.below
+    pub nodes : AllByRecursion (IsFilled 257 0) u.found.nodes
+    pub once : (k : K) → times_asked k u.asked + times_found k u.found ≤ 1
+
+  -- so is the catch-up that comes next, or the rows came
+  abbrev pub SteadyNext : Next K V → Type 0
+  SteadyNext (Ask session message) = IsSteady session
+  SteadyNext (Came rows) = ⊤
+
+-- of the keys among what was found, the bounds of gaps and the keys that are wanted, this holds
+pub record AreKeysOf {K V : Type 0} (is_key : K → Type 0) (f : Found K V) : Type 0 where
+  pub below : AllByRecursion (IsGap is_key) f.below
+  pub nodes : AllByRecursion (IsGap is_key) f.nodes
+  pub wanted : AllByRecursion is_key f.wanted
+  pub whole : AllByRecursion (IsGap is_key) f.whole
+
+-- the key is one of the rows', or equal to one
+abbrev pub IsKeyOf : {K V : Type 0} → (K → K → Ordering) → List (K × V) → K → Type 0
+IsKeyOf {K} {V} cmp rows k = (v : V) × (get cmp rows k ≡ Some v)
+
+module _ {K V H : Type 0} (laws : Laws K V H) (local peer : Side K V H) where
+  -- it is one of either side
+  abbrev pub IsKeyOfSides : K → Type 0
+  IsKeyOfSides k = IsKeyOf laws.cmp local.rows k ⊎ IsKeyOf laws.cmp peer.rows k
+
+  -- a catch-up asks about, and has found, keys of the two sides alone
+  pub record HasKeysOfSides (u : Underway K V) : Type 0 where
+    pub asked : IsQuestion IsKeyOfSides u.asked
+    pub found : AreKeysOf IsKeyOfSides u.found
+
+  -- so has what comes next
+  abbrev pub HasKeysNext : Next K V → Type 0
+  HasKeysNext (Ask session message) = HasKeysOfSides session
+  HasKeysNext (Came rows) = ⊤
+
+  -- between sides that are set alike and whose rows can be told, a message has no reply, and a reply is refused, for want of memory alone
+  module _ (is_key : K → Type 0) (is_value : V → Type 0) where
+    abbrev pub IsForMemory : MessagesError → Type 0
+    IsForMemory (Answer error) = AreSetAlike laws local peer → CanBeTold laws is_key is_value local → CanBeTold laws is_key is_value peer → error ≡ answer.Memory
+    IsForMemory (Session error) = CanBeTold laws is_key is_value peer → error ≡ session.Memory
+    IsForMemory (Join done) = ⊤
+    IsForMemory Endless = ⊤
+
+module _ {K V H : Type 0} (laws : Laws K V H) (n : ℕ) (peer : Side K V H) where
+  -- where the catch-up is steady by a tree of the peer's map, this holds by the tree
+  abbrev pub WhileSteady : (Tree K (List ℕ) → Type 0) → Underway K V → Type 0
+  WhileSteady P before = (root : Tree K (List ℕ)) → IsTreeOf laws.cmp (laws.key_digest peer.hasher) peer.base root (tree_map laws peer) → HasSmallMap laws n peer
+      → IsSteady laws peer root before → P root
+
+-- a catch-up that begins asks for the root, and has found nothing
+pub record IsBegun {K V : Type 0} (begun : Underway K V) : Type 0 where
+  pub settings : Settings K
+  pub asks_root : begun.asked ≡ Root settings
+  pub nothing_found : begun.found ≡ nothing
+  pub no_round : begun.rounds ≡ 0
+
+module _ {K V H : Type 0} (laws : Laws K V H) (n : ℕ) (encoding : K → List ℕ) (values : V → List ℕ) (is_key : K → Type 0) (is_value : V → Type 0) where
+  -- exchanges, one after the other, after which the catch-up waits for a reply
+  abbrev pub AreExchangesTo : Side K V H → Side K V H → Underway K V → List (Underway K V) → Underway K V → Type 0
+  AreExchangesTo local peer before [] last = before ≡ last
+  AreExchangesTo local peer before (next ∷ more) last = (message : Vec ℕ) × IsExchange laws n encoding values local peer before (Ask next message) × AreExchangesTo local peer next more last
+
+  -- behind such exchanges an answer of a peer whose rows can be told is refused for want of memory alone
+  abbrev pub AnswersAreTaken : Type 0
+  AnswersAreTaken = (local peer : Side K V H) → IsMap laws.cmp local.rows → IsMap laws.cmp peer.rows → HasSmallMap laws n peer → CanBeTold laws is_key is_value peer
+      → (begun last : Underway K V) (more : List (Underway K V)) → IsBegun begun → AreExchangesTo local peer begun more last
+      → (reply : List ℕ) (error : SessionError) → IsAnswer laws n encoding values local peer last reply
+      → IsStopped laws n encoding values is_key is_value local last reply error → error ≡ session.Memory
