@@ -322,6 +322,48 @@ static void settings(void) {
     puts("other settings are refused");
 }
 
+/* The reply to the first question is taken exactly where docs/WIRE.md lets it be one: the number of rows, and the digest of the root page or
+   none. A refusal has a status of its own, and behind each other reply the catch-up is over, with the rows as they were. */
+static void first_replies(void) {
+#define DIGEST 0, 1, 2, 3, 4, 5, 6, 7, 8, 9, 10, 11, 12, 13, 14, 15
+    static const struct { uint8_t bytes[32]; size_t len; int status; int asks; } REPLIES[] = {
+        {{1, 129, 5, 1, DIGEST}, 20, MST_DONE, 1},
+        {{1, 129, 0, 0}, 4, MST_DONE, 0},
+        {{1, 129, 133, 1, 0}, 5, MST_DONE, 0},
+        {{1, 255}, 2, MST_REFUSED, 0},
+        {{0}, 0, MST_MALFORMED, 0},
+        {{1}, 1, MST_MALFORMED, 0},
+        {{1, 129}, 2, MST_MALFORMED, 0},
+        {{1, 129, 5}, 3, MST_MALFORMED, 0},
+        {{1, 129, 133, 0, 0}, 5, MST_MALFORMED, 0},
+        {{1, 129, 5, 2}, 4, MST_MALFORMED, 0},
+        {{1, 129, 5, 1, DIGEST}, 19, MST_MALFORMED, 0},
+        {{1, 129, 5, 1, DIGEST}, 21, MST_MALFORMED, 0},
+        {{1, 129, 0, 0, 0}, 5, MST_MALFORMED, 0},
+        {{2, 129, 0, 0}, 4, MST_MALFORMED, 0},
+        {{1, 130, 0, 0}, 4, MST_MALFORMED, 0},
+        {{1, 1, 0, 0}, 4, MST_MALFORMED, 0},
+        {{1, 255, 0}, 3, MST_MALFORMED, 0},
+    };
+#undef DIGEST
+    size_t i;
+    for (i = 0; i < sizeof REPLIES / sizeof *REPLIES; i++) {
+        struct mst_replica a = MST_NO_REPLICA;
+        struct bytes rows;
+        size_t len, joined = 88;
+        WANT(mst_replica_new(&a) == MST_DONE && put(&a, 1, 1) == MST_DONE && put(&a, 2, 2) == MST_DONE);
+        rows = rows_of(&a);
+        WANT(mst_replica_ask(&a, &len) == MST_DONE);
+        WANT(mst_replica_take(&a, REPLIES[i].bytes, REPLIES[i].len, &len, &joined) == REPLIES[i].status);
+        WANT(has_rows(&a, rows) && joined == (REPLIES[i].status == MST_DONE ? 0 : 88));
+        WANT(mst_replica_message(&a, NULL, 0, &len) == (REPLIES[i].asks ? MST_TOO_SHORT : MST_DONE) && !len == !REPLIES[i].asks);
+        WANT(REPLIES[i].asks || mst_replica_take(&a, REPLIES[i].bytes, REPLIES[i].len, &len, &joined) == MST_ABSENT);
+        __real_free(rows.at);
+        mst_replica_free(&a);
+    }
+    puts("first replies are taken where they can be");
+}
+
 /* ---- sessions that are altered or cut */
 /* The bytes where they end right before memory that can't be read, so that a step beyond them ends the program. */
 static const uint8_t *before_a_wall(const uint8_t *bytes, size_t len) {
@@ -522,6 +564,7 @@ int main(void) {
     costs();
     bad_arguments();
     settings();
+    first_replies();
     hostile();
     refusals();
     return 0;

@@ -139,8 +139,8 @@ early_status Memory = 1
 early_status Refused = 7
 early_status _ = 2
 
--- the catch-up could not go on with the reply, for an error of this status: where memory was not the reason, the reply is none to what was asked, or there
--- were 256 rounds of outlines, or two of the rows that were found have equal keys
+-- the catch-up could not go on with the reply, for an error of this status: where memory was not the reason, the reply is none to what was asked, or
+-- outlines were to be asked for after 256 rounds of them, or two of the rows that were found have equal keys
 pub record IsStoppedBy (reply : List ℕ) (status : ℕ) (old : ByteReplica) : Type 0 where
   pub before : Underway (Vec ℕ) ByteValue
   pub under_way : old.session ≡ Some before
