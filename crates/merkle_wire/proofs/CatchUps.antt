@@ -19,7 +19,7 @@ use Rattle.merkle_tree_theory.specs.State.{SameSettings}
 use Rattle.merkle_wire.specs.Sessions.{IsFaithfulSession, IsNewRow, AreBrought, HasJoined, IsEarly, IsMessagesRefused}
 use Rattle.merkle_wire.specs.Taking.{is_digest, has_row}
 use Rattle.merkle_wire.specs.declared.session.MessagesError.{MessagesError}
-use Rattle.merkle_wire.specs.declared.session.MessagesError.TheVariants.{Answer, Endless, Session, Join}
+use Rattle.merkle_wire.specs.declared.session.MessagesError.TheVariants.{Answer, Session, Join}
 use Rattle.merkle_wire.proofs.Covering.{any-map}
 
 module _ {K V H : Type 0} (laws : Laws K V H) (o : IsTotalOrder laws.cmp) (eqv : IsEquivalence laws.eq) (joining : IsJoining laws.eq laws.join) (respects : (h : H) (a b : V) → laws.eq a b ≡ true → laws.value_digest h a ≡ laws.value_digest h b)
@@ -83,7 +83,6 @@ pub early_refused : {K V H : Type 0} (laws : Laws K V H) (local peer : Side K V 
 early_refused laws local peer (Answer error) after early same = (same, early)
 early_refused laws local peer (Session error) after early same = same
 early_refused laws local peer (Join done) after early same = absurd early
-early_refused laws local peer Endless after early same = same
 
 -- what holds of the sides met before the second of two catch-ups, by those before the first
 pub second_sides : {K V H : Type 0} (a mid after b met : Contents K V H) → met.rows ≡ b.rows → SameSettings b.tree met.tree → SameSettings a.tree mid.tree → after.rows ≡ mid.rows

@@ -52,7 +52,7 @@ first_is_key cmp o (r ∷ rs) row key first same = let is : row ≡ r = some_is 
 
 -- a key equal to one of a side's is one of it
 module _ {K V H : Type 0} (laws : Laws K V H) (o : IsTotalOrder laws.cmp) (local peer : Side K V H) where
-  key_alike : (rows : List (K × V)) (j k : K) → Same laws.cmp j k → IsKeyOf laws.cmp rows j → IsKeyOf laws.cmp rows k
+  pub key_alike : (rows : List (K × V)) (j k : K) → Same laws.cmp j k → IsKeyOf laws.cmp rows j → IsKeyOf laws.cmp rows k
   key_alike rows j k s (v, there) = (v, sym (get_same laws.cmp o rows j k s) ∙ there)
 
   sides_alike : (j k : K) → Same laws.cmp j k → IsKeyOfSides laws local peer j → IsKeyOfSides laws local peer k
@@ -60,7 +60,7 @@ module _ {K V H : Type 0} (laws : Laws K V H) (o : IsTotalOrder laws.cmp) (local
   sides_alike j k s (inr theirs) = inr (key_alike peer.rows j k s theirs)
 
   -- a key of the peer's tree is one of its rows'
-  of_tree : (k : K) (d : List ℕ) → get laws.cmp (tree_map laws peer) k ≡ Some d → IsKeyOf laws.cmp peer.rows k
+  pub of_tree : (k : K) (d : List ℕ) → get laws.cmp (tree_map laws peer) k ≡ Some d → IsKeyOf laws.cmp peer.rows k
   of_tree k d e = by (get laws.cmp peer.rows k) refl
     where
       by : (x : Option V) → get laws.cmp peer.rows k ≡ x → IsKeyOf laws.cmp peer.rows k

@@ -44,4 +44,6 @@ pub mod TimesTaken
 pub mod KeysKept
 pub mod KeysNext
 pub mod Steadily
+pub mod Ending
+pub mod SteadyExchanges
 pub mod SteadySessions

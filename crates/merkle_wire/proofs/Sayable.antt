@@ -86,12 +86,12 @@ module _ {K : Type 0} (cmp : K → K → Ordering) (o : IsTotalOrder cmp) where
       abbrev pub keys_in : List K
       keys_in = keys_among (nodes_among (outline_over format bytes_of cmp tree g))
 
-      filled_ascends : (u : Tree K (List ℕ)) → Fills cmp g u tree → AscendIn cmp g keys_in
+      pub filled_ascends : (u : Tree K (List ℕ)) → Fills cmp g u tree → AscendIn cmp g keys_in
       filled_ascends (page l c r) f =
           subst (λ xs. AscendIn cmp g (keys_among (nodes_among xs))) (sym (ap (outline_where format bytes_of g) (filled_opens cmp o g (page l c r) tree up f)))
           (row_ascends g r (map_inside cmp o (page l c r) tree up f.inside) (filling_in_gap cmp o g (page l c r) tree f))
 
-      filled_some : (u : Tree K (List ℕ)) → Fills cmp g u tree → keys_in ≢ []
+      pub filled_some : (u : Tree K (List ℕ)) → Fills cmp g u tree → keys_in ≢ []
       filled_some (page l c (high h)) f e = absurd f.some
       filled_some (page l c (node h k d r)) f e =
           by h (sym (ap (λ p. keys_among (nodes_among (outline_where format bytes_of g p))) (filled_opens cmp o g (page l c (node h k d r)) tree up f)) ∙ e)

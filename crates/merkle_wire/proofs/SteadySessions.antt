@@ -1,5 +1,5 @@
--- A session with an honest peer, whatever carries the messages: each of its answers is taken, but for want of memory.
-use Rattle.std.proofs.Common.{◌≡◌, ℕ, true, List, [], ◌∷◌, refl, sym, subst}
+-- A session with an honest peer, whatever carries the messages: each of its answers is taken, but for want of memory, and they come to an end.
+use Rattle.std.proofs.Common.{◌≡◌, ℕ, ◌+◌, ◌*◌, ◌≤◌, true, List, [], ◌∷◌, length, refl, sym, ap, subst, ◌⊎◌, inl, inr, arith}
 use Rattle.std.specs.Cmp.{IsTotalOrder, IsEquivalence}
 use Rattle.key_order.specs.Map.{IsMap, SameMap}
 use Rattle.merkle_replica.specs.Contents.{Contents, Side, side, tree_map, IsKept}
@@ -10,14 +10,14 @@ use Rattle.merkle_tree_theory.specs.Canonical.{IsTreeOf, SamePages}
 use Rattle.merkle_tree_theory.specs.Tree.{Tree}
 use Rattle.merkle_wire.specs.Next.{IsNext, IsStopped}
 use Rattle.merkle_wire.specs.Sessions.{IsAnswer}
-use Rattle.merkle_wire.specs.Steady.{AreExchangesTo, CanBeTold, IsBegun, IsSteady, SteadyNext}
+use Rattle.merkle_wire.specs.Steady.{AreExchangesTo, CanBeTold, IsBegun, IsSteady, LeavesLess, SteadyNext, left_by, left_for, left_of}
 use Rattle.merkle_wire.specs.Underway.{Underway}
 use Rattle.merkle_wire.specs.declared.catching_up.Next.{Next}
 use Rattle.merkle_wire.specs.declared.catching_up.Next.TheVariants.{Ask}
 use Rattle.merkle_wire.specs.declared.session_error.SessionError.{SessionError}
 use Rattle.merkle_wire.specs.declared.session_error.SessionError.TheVariants.{Memory}
 use Rattle.merkle_wire.proofs.Exchanges.{Tell}
-use Rattle.merkle_wire.proofs.Steadily.{begun_steady, stays_steady, stops_for_memory}
+use Rattle.merkle_wire.proofs.SteadyExchanges.{begun_steady, goes_on_less, stays_steady, stops_for_memory}
 
 module _ {K V H : Type 0} (laws : Laws K V H) (o : IsTotalOrder laws.cmp) (eqv : IsEquivalence laws.eq) (respects : (h : H) (a b : V) → laws.eq a b ≡ true → laws.value_digest h a ≡ laws.value_digest h b)
     (one_tree : (hasher : H) (base : ℕ) (a b : List (K × List ℕ)) (t u : Tree K (List ℕ)) → SameMap laws.cmp (λ d e. d ≡ e) a b → IsTreeOf laws.cmp (laws.key_digest hasher) base t a → IsTreeOf laws.cmp (laws.key_digest hasher) base u b → SamePages laws.cmp t u)
@@ -44,14 +44,46 @@ module _ {K V H : Type 0} (laws : Laws K V H) (o : IsTotalOrder laws.cmp) (eqv :
         stops_for_memory laws o eqv respects one_tree encoding values tell n local up (contents_of peer root) now refl a.settings kept tree.0 (laws.key_digest a.tree.hasher) before a.question a.message reply a.asks a.reads a.answers is_key is_value
         error stopped root of_peer small steady told
 
+    answered_less : (next : Next K V) → IsNext laws n encoding values local before reply next → LeavesLess laws peer root before next
+    answered_less next takes =
+        goes_on_less laws o eqv respects one_tree encoding values tell n local up (contents_of peer root) now refl a.settings kept tree.0 (laws.key_digest a.tree.hasher) before a.question a.message reply a.asks a.reads a.answers next takes
+        root of_peer small steady
+
+  -- so a session has no more exchanges than were to be asked for at first
+  chain_short : (root : Tree K (List ℕ)) → IsTreeOf laws.cmp (laws.key_digest peer.hasher) peer.base root (tree_map laws peer) → (before last : Underway K V) (more : List (Underway K V))
+      → AreExchangesTo laws n encoding values local peer before more last → IsSteady laws peer root before → length more + left_for laws peer root last ≤ left_for laws peer root before
+  chain_short root of_peer before last [] is steady = omega (arith, ap (left_for laws peer root) is)
+  chain_short root of_peer before last (next ∷ more) (message, e, others) steady =
+      let after = answered_steady before e.reply e.answer root of_peer steady (Ask next message) e.takes in
+      omega (arith, answered_less before e.reply e.answer root of_peer steady (Ask next message) e.takes, chain_short root of_peer next last more others after)
+
+  first_answer : (before last : Underway K V) (more : List (Underway K V)) → AreExchangesTo laws n encoding values local peer before more last
+      → (more ≡ []) ⊎ ((root : Tree K (List ℕ)) × IsTreeOf laws.cmp (laws.key_digest peer.hasher) peer.base root (tree_map laws peer))
+  first_answer before last [] is = inl refl
+  first_answer before last (next ∷ more) (message, e, others) = inr (e.answer.tree.root, e.answer.of_peer)
+
+  pub session_short : (begun last : Underway K V) (more : List (Underway K V)) → IsBegun begun → AreExchangesTo laws n encoding values local peer begun more last
+      → length more ≤ 3 * length peer.rows + 2
+  session_short begun last more b exchanges = by (first_answer begun last more exchanges)
+    where
+      by : (more ≡ []) ⊎ ((root : Tree K (List ℕ)) × IsTreeOf laws.cmp (laws.key_digest peer.hasher) peer.base root (tree_map laws peer)) → length more ≤ 3 * length peer.rows + 2
+      by (inl none) = omega (arith, ap length none)
+      by (inr (root, of_peer)) =
+          omega (
+            arith,
+            chain_short root of_peer begun last more exchanges (begun_steady laws peer root begun b.settings b.asks_root b.nothing_found b.no_round),
+            ap (left_by laws peer root) b.asks_root,
+            ap (left_of laws peer root) b.nothing_found,
+          )
+
   module _ (is_key : K → Type 0) (is_value : V → Type 0) (told : CanBeTold laws is_key is_value peer) where
-    chain_steady : (root : Tree K (List ℕ)) → IsTreeOf laws.cmp (laws.key_digest peer.hasher) peer.base root (tree_map laws peer) → (before last : Underway K V) (more : List (Underway K V)) → AreExchangesTo laws n encoding values is_key is_value local peer before more last
+    chain_steady : (root : Tree K (List ℕ)) → IsTreeOf laws.cmp (laws.key_digest peer.hasher) peer.base root (tree_map laws peer) → (before last : Underway K V) (more : List (Underway K V)) → AreExchangesTo laws n encoding values local peer before more last
         → IsSteady laws peer root before → IsSteady laws peer root last
     chain_steady root of_peer before last [] is steady = subst (IsSteady laws peer root) is steady
     chain_steady root of_peer before last (next ∷ more) (message, e, others) steady =
         chain_steady root of_peer next last more others (answered_steady before e.reply e.answer root of_peer steady (Ask next message) e.takes)
 
-    pub answers_taken : (begun last : Underway K V) (more : List (Underway K V)) → IsBegun begun → AreExchangesTo laws n encoding values is_key is_value local peer begun more last
+    pub answers_taken : (begun last : Underway K V) (more : List (Underway K V)) → IsBegun begun → AreExchangesTo laws n encoding values local peer begun more last
         → (reply : List ℕ) (error : SessionError) → IsAnswer laws n encoding values local peer last reply → IsStopped laws n encoding values is_key is_value local last reply error → error ≡ Memory
     answers_taken begun last more b exchanges reply error answer stopped =
         let root = answer.tree.root in

@@ -47,7 +47,7 @@ module _ {K V : Type 0} (cmp : K → K → Ordering) (o : IsTotalOrder cmp) wher
       (at_head cmp o r rs r.0 (tied_itself o r.0), each-with (λ p. get cmp rs p.0 ≡ Some p.1) (λ p. get cmp (r ∷ rs) p.0 ≡ Some p.1) rs (λ p e. get_behind cmp o (r ∷ []) rs p.0 p.1 a e) (finds_own rs a.1))
 
   -- a key that a map has is one of its keys
-  is_key : (m : List (K × V)) (k : K) (v : V) → get cmp m k ≡ Some v → AnyByRecursion (λ r. Same cmp k r.0) m
+  pub is_key : (m : List (K × V)) (k : K) (v : V) → get cmp m k ≡ Some v → AnyByRecursion (λ r. Same cmp k r.0) m
   is_key [] k v e = absurd (cc)
   is_key (r ∷ rs) k v e = go (which (is_eq (cmp r.0 k))) (is_key rs k v)
     where

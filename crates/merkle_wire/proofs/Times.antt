@@ -39,12 +39,30 @@ module _ {X : Type 0} (times : X → ℕ) where
   total-mapped value [] = refl
   total-mapped value (y ∷ ys) = omega (arith, total-mapped value ys)
 
+  pub total-less : (more : X → ℕ) → ((x : X) → times x ≤ more x) → (xs : List X) → total times xs ≤ total more xs
+  total-less more less [] = omega arith
+  total-less more less (x ∷ xs) = omega (arith, less x, total-less more less xs)
+
+  pub total-plus : (others : X → ℕ) (xs : List X) → total (λ x. times x + others x) xs ≡ total times xs + total others xs
+  total-plus others [] = omega arith
+  total-plus others (x ∷ xs) = omega (arith, total-plus others xs)
+
   total_is : (xs : List X) → sum_by times xs ≡ total times xs
   total_is [] = refl
   total_is (x ∷ xs) = sum_by-cons times x xs ∙ omega (arith, total_is xs)
 
   pub total-permuted : (xs ys : List X) → IsPermutation xs ys → total times xs ≡ total times ys
   total-permuted xs ys all = sym (total_is xs) ∙ sym (sum_by-IsPermutation times xs ys all) ∙ total_is ys
+
+-- nothing sums up to nothing
+total-none : {X : Type 0} (xs : List X) → total (λ x. 0) xs ≡ 0
+total-none [] = refl
+total-none (x ∷ xs) = omega (arith, total-none xs)
+
+-- sums over two lists can be taken in either order
+pub total-swap : {X Y : Type 0} (times : X → Y → ℕ) (xs : List X) (ys : List Y) → total (λ x. total (times x) ys) xs ≡ total (λ y. total (λ x. times x y) xs) ys
+total-swap times [] ys = sym (total-none ys)
+total-swap times (x ∷ xs) ys = omega (arith, total-swap times xs ys, total-plus (times x) (λ y. total (λ z. times z y) xs) ys)
 
 module _ {K : Type 0} (cmp : K → K → Ordering) (o : IsTotalOrder cmp) (k : K) where
   -- in gaps with equal bounds a key is as often

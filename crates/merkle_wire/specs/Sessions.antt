@@ -34,7 +34,7 @@ use Rattle.merkle_wire.specs.declared.settings.Settings.{Settings}
 use Rattle.merkle_wire.specs.declared.session.BothMessagesError.{BothMessagesError}
 use Rattle.merkle_wire.specs.declared.session.BothMessagesError.TheVariants.{First, Second}
 use Rattle.merkle_wire.specs.declared.session.MessagesError.{MessagesError}
-use Rattle.merkle_wire.specs.declared.session.MessagesError.TheVariants.{Answer, Endless, Session, Join}
+use Rattle.merkle_wire.specs.declared.session.MessagesError.TheVariants.{Answer, Session, Join}
 use Rattle.merkle_wire.specs.declared.question.Question.{Question}
 use Rattle.merkle_wire.specs.declared.question.Question.TheVariants.{Root, Outlines, Nodes, RowsAt, RowsIn}
 
@@ -62,7 +62,6 @@ module _ {K V H : Type 0} (laws : Laws K V H) (local peer : Side K V H) where
   IsEarly (Answer error) = HasNoReply error
   IsEarly (Session error) = ⊤
   IsEarly (Join done) = ⊥
-  IsEarly Endless = ⊤
 
   -- where both sides have all of some keys, and the digest of the digests of their values is equal on both, these digests are equal
   abbrev pub HaveFaithfulNodes : Type 0
@@ -111,7 +110,6 @@ module _ {K V H : Type 0} (laws : Laws K V H) (local peer : Side K V H) where
   abbrev pub IsMessagesRefused : MessagesError → List (K × V) → Type 0
   IsMessagesRefused (Answer error) after = (after ≡ local.rows) × HasNoReply error
   IsMessagesRefused (Session error) after = after ≡ local.rows
-  IsMessagesRefused Endless after = after ≡ local.rows
   IsMessagesRefused (Join done) after = (rows : List (K × V)) × AreBrought rows × (done < length rows) × IsJoin laws.cmp laws.eq laws.join local.rows (take done rows) after × (done ≡ 0 → after ≡ local.rows)
 
 module _ {K V H : Type 0} (laws : Laws K V H) where

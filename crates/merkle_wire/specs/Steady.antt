@@ -1,5 +1,5 @@
 -- A catch-up with a peer that answers by its rows: each of its replies can be taken, until the rows come.
-use Rattle.std.specs.Prelude.{◌≡◌, ℕ, ◌+◌, ◌<◌, ◌≤◌, ◌^◌, List, [], ◌∷◌, length, cond, Some, ⊤, ◌⊎◌}
+use Rattle.std.specs.Prelude.{◌≡◌, ℕ, ◌+◌, ◌*◌, ◌<◌, ◌≤◌, ◌^◌, List, [], ◌∷◌, length, cond, Some, ⊤, ◌⊎◌}
 use Rattle.std.specs.Global.{Vec}
 use Rattle.std.specs.List.{AllByRecursion}
 use Rattle.std.specs.Ordering.{is_eq}
@@ -28,7 +28,7 @@ use Rattle.merkle_wire.specs.declared.catching_up.Next.TheVariants.{Ask, Came}
 use Rattle.merkle_wire.specs.declared.question.Question.{Question}
 use Rattle.merkle_wire.specs.declared.question.Question.TheVariants.{Root, Outlines, Nodes, RowsAt, RowsIn}
 use Rattle.merkle_wire.specs.declared.session.MessagesError.{MessagesError}
-use Rattle.merkle_wire.specs.declared.session.MessagesError.TheVariants.{Answer, Endless, Join, Session}
+use Rattle.merkle_wire.specs.declared.session.MessagesError.TheVariants.{Answer, Join, Session}
 use Rattle.merkle_wire.specs.declared.session_error.SessionError.{SessionError}
 use Rattle.merkle_wire.specs.declared.session_error.SessionError.TheVariants as session
 use Rattle.merkle_wire.specs.declared.settings.Settings.{Settings}
@@ -98,6 +98,36 @@ module _ {K V H : Type 0} (laws : Laws K V H) (peer : Side K V H) (root : Tree K
   SteadyNext (Ask session message) = IsSteady session
   SteadyNext (Came rows) = ⊤
 
+-- how many of the rows are in a gap
+abbrev pub rows_in : {K V : Type 0} → (K → K → Ordering) → List (K × V) → Gap K → ℕ
+rows_in cmp rows g = total (λ r. times_in cmp r.0 g) rows
+
+module _ {K V H : Type 0} (laws : Laws K V H) (peer : Side K V H) (root : Tree K (List ℕ)) where
+  -- how many nodes the peer's page over a gap has
+  abbrev pub nodes_over : Gap K → ℕ
+  nodes_over g = length (keys_among (nodes_among (outline_over peer.format laws.bytes_of laws.cmp root g)))
+
+  -- what is left to ask for, so that each exchange leaves less: of what was found, by a question, and by both
+  abbrev pub left_of : Found K V → ℕ
+  left_of f =
+      3 * total (rows_in laws.cmp peer.rows) f.below
+      + (2 * total nodes_over f.nodes + (length f.wanted + (total (rows_in laws.cmp peer.rows) f.whole + length f.whole)))
+
+  abbrev pub left_by : Question K → ℕ
+  left_by (Root settings) = 3 * length peer.rows + 2
+  left_by (Outlines most gaps) = 3 * total (λ g. rows_in laws.cmp peer.rows (owned_gap g)) gaps.items
+  left_by (Nodes most gaps) = 2 * total (λ g. nodes_over (owned_gap g)) gaps.items
+  left_by (RowsAt keys) = length keys.items
+  left_by (RowsIn gaps) = total (λ g. rows_in laws.cmp peer.rows (owned_gap g)) gaps.items + length gaps.items
+
+  abbrev pub left_for : Underway K V → ℕ
+  left_for u = left_by u.asked + left_of u.found
+
+  -- what comes next leaves less
+  abbrev pub LeavesLess : Underway K V → Next K V → Type 0
+  LeavesLess before (Ask session message) = left_for session < left_for before
+  LeavesLess before (Came rows) = ⊤
+
 -- of the keys among what was found, the bounds of gaps and the keys that are wanted, this holds
 pub record AreKeysOf {K V : Type 0} (is_key : K → Type 0) (f : Found K V) : Type 0 where
   pub below : AllByRecursion (IsGap is_key) f.below
@@ -130,7 +160,6 @@ module _ {K V H : Type 0} (laws : Laws K V H) (local peer : Side K V H) where
     IsForMemory (Answer error) = AreSetAlike laws local peer → CanBeTold laws is_key is_value local → CanBeTold laws is_key is_value peer → error ≡ answer.Memory
     IsForMemory (Session error) = CanBeTold laws is_key is_value peer → error ≡ session.Memory
     IsForMemory (Join done) = ⊤
-    IsForMemory Endless = ⊤
 
 module _ {K V H : Type 0} (laws : Laws K V H) (n : ℕ) (peer : Side K V H) where
   -- where the catch-up is steady by a tree of the peer's map, this holds by the tree
@@ -145,15 +174,20 @@ pub record IsBegun {K V : Type 0} (begun : Underway K V) : Type 0 where
   pub nothing_found : begun.found ≡ nothing
   pub no_round : begun.rounds ≡ 0
 
-module _ {K V H : Type 0} (laws : Laws K V H) (n : ℕ) (encoding : K → List ℕ) (values : V → List ℕ) (is_key : K → Type 0) (is_value : V → Type 0) where
+module _ {K V H : Type 0} (laws : Laws K V H) (n : ℕ) (encoding : K → List ℕ) (values : V → List ℕ) where
   -- exchanges, one after the other, after which the catch-up waits for a reply
   abbrev pub AreExchangesTo : Side K V H → Side K V H → Underway K V → List (Underway K V) → Underway K V → Type 0
   AreExchangesTo local peer before [] last = before ≡ last
   AreExchangesTo local peer before (next ∷ more) last = (message : Vec ℕ) × IsExchange laws n encoding values local peer before (Ask next message) × AreExchangesTo local peer next more last
 
-  -- behind such exchanges an answer of a peer whose rows can be told is refused for want of memory alone
-  abbrev pub AnswersAreTaken : Type 0
-  AnswersAreTaken = (local peer : Side K V H) → IsMap laws.cmp local.rows → IsMap laws.cmp peer.rows → HasSmallMap laws n peer → CanBeTold laws is_key is_value peer
+  -- from the first one on there are at most three for each row of the peer, and two more
+  abbrev pub SessionsEnd : Type 0
+  SessionsEnd = (local peer : Side K V H) → IsMap laws.cmp local.rows → IsMap laws.cmp peer.rows → HasSmallMap laws n peer
+      → (begun last : Underway K V) (more : List (Underway K V)) → IsBegun begun → AreExchangesTo local peer begun more last → length more ≤ 3 * length peer.rows + 2
+
+  -- and an answer of a peer whose rows can be told is refused then for want of memory alone
+  abbrev pub AnswersAreTaken : (K → Type 0) → (V → Type 0) → Type 0
+  AnswersAreTaken is_key is_value = (local peer : Side K V H) → IsMap laws.cmp local.rows → IsMap laws.cmp peer.rows → HasSmallMap laws n peer → CanBeTold laws is_key is_value peer
       → (begun last : Underway K V) (more : List (Underway K V)) → IsBegun begun → AreExchangesTo local peer begun more last
       → (reply : List ℕ) (error : SessionError) → IsAnswer laws n encoding values local peer last reply
       → IsStopped laws n encoding values is_key is_value local last reply error → error ≡ session.Memory

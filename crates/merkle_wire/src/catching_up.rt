@@ -46,7 +46,7 @@ const FEWEST: u64 = 4;
 /// A contract sees what was asked, what has been found, and how many rounds of outlines were asked for.
 ///
 /// ```rust crates/merkle_wire/src/session.rt
-/// 'exchanges: for _ in 0..u64::MAX {
+/// 'exchanges: loop {
 ///     match exchange(alloc, replica, peer, session, message)? {
 ///         Next::Came(rows) => return Ok(rows),
 ///         Next::Ask(next, question) => {

@@ -1,7 +1,7 @@
-//! Laws over the definitions alone: that a session of messages is a catch-up, whatever carries the messages, that the replies of an honest peer
-//! are taken, and when digests are faithful in one. Each function has no effect and takes no memory.
+//! Laws over the definitions alone: that a session of messages is a catch-up, whatever carries the messages, that one with an honest peer
+//! ends, and when digests are faithful in one. Each function has no effect and takes no memory.
 ghost use Rattle.merkle_wire.specs.Sessions.{BroughtRowsCatchUp, BroughtRowsJoin, NoCollisionIsFaithful, SessionsBring};
-ghost use Rattle.merkle_wire.specs.Steady.{AnswersAreTaken};
+ghost use Rattle.merkle_wire.specs.Steady.{AnswersAreTaken, SessionsEnd};
 
 use merkle_bytes::Decode;
 use merkle_digest::{Hasher, Key, KeyBytesExact};
@@ -27,17 +27,19 @@ pub fn a_session_is_a_catch_up<
     a_map_has_one_tree::<K, H, N>();
 }
 
-/// What an honest peer answers is taken, whatever carries the messages: where the first of them asks for the root, and each so far was answered as
-/// [`answer`](crate::answer) does and each reply taken as [`CatchingUp::take`](crate::CatchingUp::take) does, a reply that is refused then is so for want
-/// of memory alone. The peer's rows stay meanwhile, there are fewer than 2^64, and their keys and values can be read back. So sessions with
-/// honest peers need at most 256 rounds of outlines, and no row comes twice.
-pub fn answers_are_taken<
+/// A session with an honest peer comes to its end, whatever carries the messages: where the first of them asks for the root, each so far was
+/// answered as [`answer`](crate::answer) does and each reply taken as [`CatchingUp::take`](crate::CatchingUp::take) does, a reply that is refused then
+/// is so for want of memory alone (`taken`), and at most three for each row of the peer, and two more, ask on (`ends`). The peer's rows stay
+/// meanwhile, and for `taken` there are fewer than 2^64, and their keys and values can be read back. So 256 rounds of outlines are enough for
+/// honest peers, and no row comes twice.
+pub fn an_honest_session_ends<
     K: Key + Decode,
     V: Join + Decode,
     H: Hasher<N, K> + Hasher<N, V>,
     const N: usize,
 >()
-    ensures { AnswersAreTaken ⟦<H as Lawful<N, K, V>>⟧.laws N K.encoding V.encoding K.is_value V.is_value }
+    ensures taken { AnswersAreTaken ⟦<H as Lawful<N, K, V>>⟧.laws N K.encoding V.encoding K.is_value V.is_value }
+    ensures ends { SessionsEnd ⟦<H as Lawful<N, K, V>>⟧.laws N K.encoding V.encoding }
 {
     a_map_has_one_tree::<K, H, N>();
 }

@@ -6,7 +6,7 @@ ghost use Rattle.merkle_tree_theory.specs.State.{SameSettings};
 ghost use Rattle.merkle_wire.specs.Questions.{question_bytes};
 ghost use Rattle.merkle_wire.specs.Sessions.{AreBrought, CatchesUpWhileFaithful, HasJoined, HaveJoined, HoldTheJoinWhileFaithful, JoinsWhileFaithful};
 ghost use Rattle.merkle_wire.specs.Sessions.{AreBothRefused, GoesOnCovering, IsMessagesRefused, IsEarly, TellsOwn, TellsOwnNext};
-ghost use Rattle.merkle_wire.specs.Steady.{HasKeysNext, HasKeysOfSides, IsForMemory, SteadyNext, WhileSteady};
+ghost use Rattle.merkle_wire.specs.Steady.{HasKeysNext, HasKeysOfSides, IsForMemory, LeavesLess, SteadyNext, WhileSteady};
 
 use crate::answering::{AnswerError, answer};
 use crate::catching_up::{CatchingUp, Next};
@@ -27,8 +27,6 @@ pub enum MessagesError {
     Session(SessionError),
     /// Memory was refused as the rows were joined: the first of them are, this many.
     Join(usize),
-    /// The rows didn't come in 2^64 - 1 messages. Nothing is joined.
-    Endless,
 }
 
 /// Catches up with a peer by the messages of a session, each made to bytes and read again, and answers how many rows of the peer were joined.
@@ -57,7 +55,7 @@ pub fn catch_up_by_messages<
     // Refused, it has joined no row, or the first ones. For its settings it is refused only where the two are not set alike.
     ensures refused { IfErr result (λ fault. IsMessagesRefused ⟦<H as Lawful<N, K, V>>⟧.laws (side replica.old) (side peer.old) fault replica.new.rows) }
 
-    // Between sides that are set alike and whose rows can be told it ends early for want of memory alone, or is endless.
+    // Between sides that are set alike and whose rows can be told it ends early for want of memory alone.
     ensures memory { IfErr result (IsForMemory ⟦<H as Lawful<N, K, V>>⟧.laws (side replica.old) (side peer.old) K.is_value V.is_value) }
 
     ensures peer_rows { peer.new.rows ≡ peer.old.rows }
@@ -147,7 +145,7 @@ fn rows_by_messages<
     };
     every_tree_is_sound(peer.tree());
     a_replica_in_memory_is_small(peer);
-    'exchanges: for _ in 0..u64::MAX {
+    'exchanges: loop {
         match exchange(alloc, replica, peer, session, message)? {
             Next::Came(rows) => return Ok(rows),
             Next::Ask(next, question) => {
@@ -156,7 +154,6 @@ fn rows_by_messages<
             }
         }
     }
-    Err(MessagesError::Endless)
 }
 
 /// One exchange of messages: the peer's reply is taken. What comes next covers what the catch-up covered, by any tree of the peer's map.
@@ -176,6 +173,8 @@ fn exchange<K: Key + Decode, V: Join + Decode, H: Hasher<N, K> + Hasher<N, V>, c
         → HasKeysNext ⟦<H as Lawful<N, K, V>>⟧.laws (side replica.old) (side peer.old) next) }
     ensures steady { IfOk result (λ next. WhileSteady ⟦<H as Lawful<N, K, V>>⟧.laws N (side peer.old)
         (λ root. SteadyNext ⟦<H as Lawful<N, K, V>>⟧.laws (side peer.old) root next) session) }
+    ensures less { IfOk result (λ next. WhileSteady ⟦<H as Lawful<N, K, V>>⟧.laws N (side peer.old)
+        (λ root. LeavesLess ⟦<H as Lawful<N, K, V>>⟧.laws (side peer.old) root session next) session) }
     ensures early { IfErr result (IsEarly ⟦<H as Lawful<N, K, V>>⟧.laws (side replica.old) (side peer.old)) }
     ensures memory { IfErr result (λ fault. WhileSteady ⟦<H as Lawful<N, K, V>>⟧.laws N (side peer.old)
         (λ root. IsForMemory ⟦<H as Lawful<N, K, V>>⟧.laws (side replica.old) (side peer.old) K.is_value V.is_value fault) session) }

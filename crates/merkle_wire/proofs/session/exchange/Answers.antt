@@ -9,7 +9,7 @@ use Rattle.merkle_wire.proofs.Exchanges.{tells}
 use Rattle.merkle_wire.proofs.KeysNext.{asks_something}
 use Rattle.merkle_wire.proofs.NextCovers.{exchanged}
 use Rattle.merkle_wire.proofs.SettingsTold.{next_own, own_are_not_others}
-use Rattle.merkle_wire.proofs.Steadily.{stays_at_keys, stays_steady, stops_for_memory, unanswered_for_memory}
+use Rattle.merkle_wire.proofs.SteadyExchanges.{goes_on_less, stays_at_keys, stays_steady, stops_for_memory, unanswered_for_memory}
 use Rattle.merkle_wire.proofs.session.exchange.Goals as goal
 
 pub returns-in-Ok-take-clause-covers : goal.returns-in-Ok-take-clause-covers
@@ -51,6 +51,20 @@ returns-in-Ok-take-clause-steady g c =
     let kept : IsKept laws.cmp laws.value_digest peer = record { ascending = c.rows-2.ensures.ascending; digested = c.tree.ensures.digests } in
     let canonical = subst (λ t. IsCanonicalRoot (λ k. level_of (laws.key_digest t.hasher k) t.base) t.root) c.tree.ensures.tree c.every_tree_is_sound.ensures.sound.canonical in
     stays_steady laws g.met.K.Ord.total g.met.V.Eq.laws g.met.H.Hasher-2.respects_eq c.a_map_has_one_tree.ensures.pages g.K.Encode.encoding g.V.Encode.encoding tell g.row.N
+    (side c.args.replica.now) c.rows.ensures.ascending met peer c.answer.ensures.rows c.answer.ensures.settings kept canonical (g.H.Hasher-1.digest_of peer.tree.hasher) c.args.session question c.args.message.items
+    c.in-Ok.reply.items c.requires.asks (sym c.deref.ensures.value ∙ read) is c.in-Ok-take.next
+    (subst (λ r. IsNext laws g.row.N g.K.Encode.encoding g.V.Encode.encoding (side c.args.replica.now) c.args.session r c.in-Ok-take.next) c.deref-2.ensures.value c.in-Ok-take.ensures.next)
+
+pub returns-in-Ok-take-clause-less : goal.returns-in-Ok-take-clause-less
+returns-in-Ok-take-clause-less g c =
+    let laws = laws_of g.K.Ord.cmp g.K.KeyBytes.bytes_of g.H.Hasher-1.digest_of g.V.PartialEq.eq g.V.Join.join_of g.H.Hasher-2.digest_of in
+    let met = c.args.peer.now in
+    let peer = c.answer.new.replica in
+    let (question, read, is) = c.in-Ok.ensures.answered in
+    let tell = tells laws g.K.Encode.encoding g.V.Encode.encoding g.K.PartialEq.eq g.met.K.Ord.matches_eq g.met.K.Decode.told g.met.V.Decode.told in
+    let kept : IsKept laws.cmp laws.value_digest peer = record { ascending = c.rows-2.ensures.ascending; digested = c.tree.ensures.digests } in
+    let canonical = subst (λ t. IsCanonicalRoot (λ k. level_of (laws.key_digest t.hasher k) t.base) t.root) c.tree.ensures.tree c.every_tree_is_sound.ensures.sound.canonical in
+    goes_on_less laws g.met.K.Ord.total g.met.V.Eq.laws g.met.H.Hasher-2.respects_eq c.a_map_has_one_tree.ensures.pages g.K.Encode.encoding g.V.Encode.encoding tell g.row.N
     (side c.args.replica.now) c.rows.ensures.ascending met peer c.answer.ensures.rows c.answer.ensures.settings kept canonical (g.H.Hasher-1.digest_of peer.tree.hasher) c.args.session question c.args.message.items
     c.in-Ok.reply.items c.requires.asks (sym c.deref.ensures.value ∙ read) is c.in-Ok-take.next
     (subst (λ r. IsNext laws g.row.N g.K.Encode.encoding g.V.Encode.encoding (side c.args.replica.now) c.args.session r c.in-Ok-take.next) c.deref-2.ensures.value c.in-Ok-take.ensures.next)

@@ -6,10 +6,10 @@ use Rattle.merkle_replica.specs.Faithful.{HasSmallMap}
 use Rattle.merkle_replica.proofs.Sides.{laws_of, same_side}
 use Rattle.merkle_tree_theory.specs.Canonical.{IsCanonicalRoot}
 use Rattle.merkle_wire.specs.Sessions.{CoversNext, TellsOwn, TellsOwnNext}
-use Rattle.merkle_wire.specs.Steady.{HasKeysNext, HasKeysOfSides, IsForMemory, SteadyNext}
+use Rattle.merkle_wire.specs.Steady.{HasKeysNext, HasKeysOfSides, IsForMemory, LeavesLess, SteadyNext}
 use Rattle.merkle_wire.proofs.KeysNext.{begun_at_keys}
 use Rattle.merkle_wire.proofs.NextCovers.{begun_covers, covers_since}
-use Rattle.merkle_wire.proofs.Steadily.{begun_steady, while_steady_since}
+use Rattle.merkle_wire.proofs.SteadyExchanges.{begun_steady, while_steady_since}
 use Rattle.merkle_wire.proofs.session.rows_by_messages.Goals as goal
 
 pub exchanges-init : goal.exchanges-init
@@ -85,3 +85,12 @@ returns-in_err-rows-clause-memory g c =
     rw (p.1, p.2) (subst (λ s. IsForMemory laws s (side c.args.peer.now) g.K.Decode.is_value g.V.Decode.is_value fault) (same_side c.args.replica.now c.exchanges.replica inv.rows inv.settings)
     (while_steady_since laws g.row.N c.args.peer.now c.exchanges.peer inv.peer_rows inv.peer_settings canonical c.tree.ensures.digests c.a_replica_in_memory_is_small.ensures c.exchanges.session
     (λ s root. IsForMemory laws (side c.exchanges.replica) s g.K.Decode.is_value g.V.Decode.is_value fault) c.in_err-rows.ensures.memory inv.steady))
+
+pub exchanges-smaller : goal.exchanges-smaller
+exchanges-smaller g c =
+    let laws = laws_of g.K.Ord.cmp g.K.KeyBytes.bytes_of g.H.Hasher-1.digest_of g.V.PartialEq.eq g.V.Join.join_of g.H.Hasher-2.digest_of in
+    let inv = c.exchanges.invariant in
+    let canonical = subst (λ t. IsCanonicalRoot (λ k. level_of (laws.key_digest t.hasher k) t.base) t.root) c.tree.ensures.tree c.every_tree_is_sound.ensures.sound.canonical in
+    let less = while_steady_since laws g.row.N c.args.peer.now c.exchanges.peer inv.peer_rows inv.peer_settings canonical c.tree.ensures.digests c.a_replica_in_memory_is_small.ensures c.exchanges.session
+    (λ s root. LeavesLess laws s root c.exchanges.session c.in_ok-rows.field-0) c.in_ok-rows.ensures.less inv.steady in
+    subst (LeavesLess laws (side c.args.peer.now) c.args.peer.now.tree.root c.exchanges.session) c.in-Ask.is less

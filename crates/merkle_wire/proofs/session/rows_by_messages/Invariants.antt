@@ -4,7 +4,7 @@ use Rattle.merkle_replica.proofs.Sides.{laws_of}
 use Rattle.merkle_tree_theory.specs.State.{SameSettings}
 use Rattle.merkle_wire.specs.Questions.{question_bytes}
 use Rattle.merkle_wire.specs.Sessions.{Covers, TellsOwn}
-use Rattle.merkle_wire.specs.Steady.{HasKeysOfSides, IsSteady}
+use Rattle.merkle_wire.specs.Steady.{HasKeysOfSides, IsSteady, left_for}
 use Rattle.merkle_wire.proofs.session.rows_by_messages.Given as goal
 
 -- the message asks what the catch-up asks, by own settings and at keys of the two sides, which covers what is lacked and is steady, by the tree that
@@ -21,3 +21,8 @@ invariant-exchanges g l = record {
   peer_rows : l.peer.rows ≡ l.fn.peer.rows;
   peer_settings : SameSettings l.fn.peer.tree l.peer.tree;
 }
+
+-- each exchange leaves less to ask for
+abbrev pub decreases-exchanges : goal.decreases-exchanges
+decreases-exchanges g l =
+    left_for (laws_of g.K.Ord.cmp g.K.KeyBytes.bytes_of g.H.Hasher-1.digest_of g.V.PartialEq.eq g.V.Join.join_of g.H.Hasher-2.digest_of) (side l.fn.peer) l.fn.peer.tree.root l.session

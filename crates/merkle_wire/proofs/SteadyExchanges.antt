@@ -1,0 +1,109 @@
+-- An exchange of messages with an honest peer whose rows and settings stayed as it answered, by any tree of its map: what comes next is steady, leaves less
+-- to ask for, and has keys of the two sides alone; and the reply is refused for want of memory alone.
+use Rattle.std.proofs.Common.{◌≡◌, ℕ, true, List, length, refl, sym, ap, subst, ◌∙◌, arith}
+use Rattle.std.specs.List.{AllByRecursion}
+use Rattle.std.specs.Cmp.{IsTotalOrder, IsEquivalence}
+use Rattle.key_order.specs.Map.{IsMap, SameMap}
+use Rattle.merkle_digest.specs.Level.{level_of}
+use Rattle.merkle_replica.specs.Contents.{Contents, IsKept, Side, side, tree_map}
+use Rattle.merkle_replica.specs.Faithful.{HasSmallMap}
+use Rattle.merkle_replica.specs.Laws.{Laws}
+use Rattle.merkle_replica.proofs.Sides.{same_side}
+use Rattle.merkle_tree_theory.specs.Canonical.{IsCanonicalRoot, IsTreeOf, SamePages}
+use Rattle.merkle_tree_theory.specs.State.{SameSettings, map_of}
+use Rattle.merkle_tree_theory.specs.Tree.{Tree}
+use Rattle.merkle_wire.specs.Asking.{AsksForSome}
+use Rattle.merkle_wire.specs.Faults.{IsOfOthers, IsUnread}
+use Rattle.merkle_wire.specs.Found.{nothing}
+use Rattle.merkle_wire.specs.Next.{IsNext, IsStopped}
+use Rattle.merkle_wire.specs.Questions.{question_bytes}
+use Rattle.merkle_wire.specs.Replies.{IsReply}
+use Rattle.merkle_wire.specs.Steady.{AsksForPages, CanBeTold, HasKeysNext, HasKeysOfSides, IsFilled, IsSteady, LeavesLess, SteadyNext, WhileSteady, times_asked, times_found}
+use Rattle.merkle_wire.specs.Underway.{Underway}
+use Rattle.merkle_wire.specs.declared.answering.AnswerError.{AnswerError}
+use Rattle.merkle_wire.specs.declared.answering.AnswerError.TheVariants as answer
+use Rattle.merkle_wire.specs.declared.catching_up.Next.{Next}
+use Rattle.merkle_wire.specs.declared.question.Question.{Question}
+use Rattle.merkle_wire.specs.declared.question.Question.TheVariants.{Root}
+use Rattle.merkle_wire.specs.declared.session_error.SessionError.{SessionError}
+use Rattle.merkle_wire.specs.declared.session_error.SessionError.TheVariants.{Memory}
+use Rattle.merkle_wire.specs.declared.settings.Settings.{Settings}
+use Rattle.merkle_wire.proofs.Exchanges.{Tell}
+use Rattle.merkle_wire.proofs.KeysNext.{next_keys}
+use Rattle.merkle_wire.proofs.NextCovers.{sides_met}
+use Rattle.merkle_wire.proofs.PageCovers.{AreSides}
+use Rattle.merkle_wire.proofs.TellingQuestions.{SameQuestion, question_tells}
+use Rattle.merkle_wire.proofs.Ending.{leaves_less}
+use Rattle.merkle_wire.proofs.Steadily.{memory_alone, next_steady, stay}
+
+module _ {K V H : Type 0} (laws : Laws K V H) (o : IsTotalOrder laws.cmp) (eqv : IsEquivalence laws.eq) (respects : (h : H) (a b : V) → laws.eq a b ≡ true → laws.value_digest h a ≡ laws.value_digest h b)
+    (one_tree : (hasher : H) (base : ℕ) (a b : List (K × List ℕ)) (t u : Tree K (List ℕ)) → SameMap laws.cmp (λ d e. d ≡ e) a b → IsTreeOf laws.cmp (laws.key_digest hasher) base t a → IsTreeOf laws.cmp (laws.key_digest hasher) base u b → SamePages laws.cmp t u)
+    (encoding : K → List ℕ) (values : V → List ℕ) (tell : Tell laws encoding values) (n : ℕ) (local : Side K V H) (up : IsMap laws.cmp local.rows) (met peer : Contents K V H) (rows : peer.rows ≡ met.rows) (settings : SameSettings met.tree peer.tree)
+    (kept : IsKept laws.cmp laws.value_digest peer) (canonical : IsCanonicalRoot (λ k. level_of (laws.key_digest peer.tree.hasher k) peer.tree.base) peer.tree.root) where
+  module _ (digest_of : K → List ℕ) (before : Underway K V) (question : Question K) (message reply : List ℕ) (asked : message ≡ question_bytes encoding before.asked) (read : message ≡ question_bytes encoding question)
+      (is : IsReply laws.cmp laws.bytes_of encoding values digest_of n met.rows peer.tree question reply) where
+    same : side peer ≡ side met
+    same = same_side met peer rows settings
+
+    sides : (root : Tree K (List ℕ)) → IsTreeOf laws.cmp (laws.key_digest met.tree.hasher) met.tree.base root (tree_map laws (side met)) → HasSmallMap laws n (side met) → AreSides laws local (side peer) root peer.tree.root
+    sides root of_peer small = sides_met laws o eqv respects one_tree encoding values tell n local up met peer rows settings kept canonical (subst (HasSmallMap laws n) (sym same) small) root of_peer
+
+    lengths : HasSmallMap laws n (side met) → AllByRecursion (λ p. length p.1 ≡ n) (tree_map laws (side peer))
+    lengths small = (subst (HasSmallMap laws n) (sym same) small).digests
+
+    alike : SameQuestion laws.cmp encoding before.asked question
+    alike = question_tells laws.cmp encoding tell.keys before.asked question (sym asked ∙ read)
+
+    replies : IsReply laws.cmp laws.bytes_of encoding values digest_of n peer.rows peer.tree question reply
+    replies = subst (λ rs. IsReply laws.cmp laws.bytes_of encoding values digest_of n rs peer.tree question reply) (sym rows) is
+
+    -- what comes next is steady
+    pub stays_steady : (next : Next K V) → IsNext laws n encoding values local before reply next → WhileSteady laws n (side met) (λ root. SteadyNext laws (side met) root next) before
+    stays_steady next (found, again, taken, goes) root of_peer small steady =
+        let here = subst (λ s. IsSteady laws s root before) (sym same) steady in
+        let t = stay laws o eqv encoding values tell n local peer root (sides root of_peer small) (lengths small) digest_of before.asked question before.rounds reply before.found found again here alike replies taken in
+        subst (λ s. SteadyNext laws s root next) same (next_steady laws (side peer) root encoding again before.rounds found next t.fit t.steady goes)
+
+    -- it leaves less to ask for
+    pub goes_on_less : (next : Next K V) → IsNext laws n encoding values local before reply next → WhileSteady laws n (side met) (λ root. LeavesLess laws (side met) root before next) before
+    goes_on_less next comes root of_peer small steady =
+        subst (λ s. LeavesLess laws s root before next) same
+        (leaves_less laws o eqv encoding values tell n local peer root (sides root of_peer small) (lengths small) digest_of before question reply next (subst (λ s. IsSteady laws s root before) (sym same) steady) alike replies comes)
+
+    -- and has keys of the two sides alone
+    pub stays_at_keys : (next : Next K V) → IsNext laws n encoding values local before reply next → HasKeysOfSides laws local (side met) before → HasSmallMap laws n (side met) → HasKeysNext laws local (side met) next
+    stays_at_keys next comes keys small =
+        let of_met = subst (λ s. IsTreeOf laws.cmp (laws.key_digest s.hasher) s.base peer.tree.root (tree_map laws s)) same (canonical, kept.digested) in
+        subst (λ s. HasKeysNext laws local s next) same
+        (next_keys laws o eqv encoding values tell n local peer peer.tree.root (sides peer.tree.root of_met small) (lengths small) digest_of before question reply next (subst (λ s. HasKeysOfSides laws local s before) (sym same) keys) alike replies comes)
+
+    -- and the reply is refused for want of memory alone
+    pub stops_for_memory : (is_key : K → Type 0) (is_value : V → Type 0) (error : SessionError) → IsStopped laws n encoding values is_key is_value local before reply error
+        → WhileSteady laws n (side met) (λ root. CanBeTold laws is_key is_value (side met) → error ≡ Memory) before
+    stops_for_memory is_key is_value error stopped root of_peer small steady told =
+        memory_alone laws o eqv encoding values tell n local peer root (sides root of_peer small) (lengths small) is_key is_value (subst (CanBeTold laws is_key is_value) (sym same) told) digest_of before question reply error
+        (subst (λ s. IsSteady laws s root before) (sym same) steady) alike replies stopped
+
+-- a message has no reply for want of memory, where it asks something by the peer's settings
+pub unanswered_for_memory : (error : AnswerError) → (IsUnread error → ⊥) → (IsOfOthers error → ⊥) → error ≡ answer.Memory
+unanswered_for_memory answer.Memory unread others = refl
+unanswered_for_memory (answer.Malformed e) unread others = absurd (unread tt)
+unanswered_for_memory answer.OtherSettings unread others = absurd (others tt)
+
+module _ {K V H : Type 0} (laws : Laws K V H) where
+  -- a catch-up that begins is steady
+  pub begun_steady : (peer : Side K V H) (root : Tree K (List ℕ)) (begun : Underway K V) (settings : Settings K) → begun.asked ≡ Root settings → begun.found ≡ nothing → begun.rounds ≡ 0 → IsSteady laws peer root begun
+  begun_steady peer root begun settings asked found zero = record {
+    some = subst AsksForSome (sym asked) tt;
+    asked = subst (AsksForPages laws peer root begun.rounds) (sym asked) zero;
+    below = subst (λ f. AllByRecursion (IsFilled laws peer root 256 begun.rounds) f.below) (sym found) tt;
+    nodes = subst (λ f. AllByRecursion (IsFilled laws peer root 257 0) f.nodes) (sym found) tt;
+    once = λ k. omega (arith, ap (times_asked laws peer root k) asked, ap (times_found laws peer root k) found);
+  }
+
+  -- what holds while a catch-up is steady holds by the tree that the peer had at first, where its rows and settings stayed since then
+  pub while_steady_since : (n : ℕ) (peer b : Contents K V H) → b.rows ≡ peer.rows → SameSettings peer.tree b.tree → IsCanonicalRoot (λ k. level_of (laws.key_digest peer.tree.hasher k) peer.tree.base) peer.tree.root
+      → SameMap laws.cmp (λ d e. d ≡ e) (map_of peer.tree) (tree_map laws (side peer)) → HasSmallMap laws n (side peer) → (before : Underway K V) (P : Side K V H → Tree K (List ℕ) → Type 0)
+      → WhileSteady laws n (side b) (P (side b)) before → IsSteady laws (side peer) peer.tree.root before → P (side peer) peer.tree.root
+  while_steady_since n peer b rows settings canonical digested small before P holds steady =
+      subst (λ s. WhileSteady laws n s (P s) before) (same_side peer b rows settings) holds peer.tree.root (canonical, digested) small steady
