@@ -130,9 +130,46 @@ fn has_values(replica: &Numbers, values: &[u64; COUNT]) -> bool {
     at == replica.rows().len()
 }
 
+/// How many rows a catch-up joined, and in how many rounds; none where memory was refused.
+fn joined_by(answer: Result<CaughtUp, CatchUpError>) -> Option<(usize, usize)> {
+    match answer {
+        Ok(caught) => Some((caught.joined, caught.rounds)),
+        Err(_) => None,
+    }
+}
+
+/// Whether catch-ups of `a` with `b`, of `b` with `a`, and of `a` with `b` once more join what is lacked each time.
+fn catch_ups_join(
+    a: &mut Numbers,
+    b: &mut Numbers,
+    ours: &[u64; COUNT],
+    theirs: &[u64; COUNT],
+) -> bool {
+    let (both, lacked) = joined(ours, theirs);
+    let (_, lacked_back) = joined(theirs, &both);
+    let there = joined_by(catch_up(a, b));
+    let is_there = there.is_some_and(|(rows, rounds)| rows == lacked && rounds <= 5);
+    let are_there = has_values(a, &both) && has_values(b, theirs);
+    let back = joined_by(catch_up(b, a));
+    let is_back = back.is_some_and(|(rows, _)| rows == lacked_back) && has_values(b, &both);
+    is_there && are_there && is_back && joined_by(catch_up(a, b)) == Some((0, 0))
+}
+
+/// Whether maps of these values, with keys on these levels, catch up with one another.
+fn values_meet(
+    alloc: Global,
+    format: PageFormat,
+    levels: &[u8; COUNT],
+    ours: &[u64; COUNT],
+    theirs: &[u64; COUNT],
+) -> Result<bool, AllocError> {
+    let mut a = numbers(alloc, format, ours, hasher(alloc, levels)?)?;
+    let mut b = numbers(alloc, format, theirs, hasher(alloc, levels)?)?;
+    Ok(catch_ups_join(&mut a, &mut b, ours, theirs))
+}
+
 #[test]
 fn catch_ups_join_what_is_lacked(rt: HostRuntime) -> Result<(), Fail> {
-    let alloc = rt.alloc();
     let mut random = Random { state: 7 };
     for turn in 0..300u64 {
         let levels = random.levels();
@@ -147,21 +184,10 @@ fn catch_ups_join_what_is_lacked(rt: HostRuntime) -> Result<(), Fail> {
         } else {
             PageFormat::V2
         };
-        let mut a = numbers(alloc, format, &ours, hasher(alloc, &levels)?)?;
-        let mut b = numbers(alloc, format, &theirs, hasher(alloc, &levels)?)?;
-        let (both, lacked) = joined(&ours, &theirs);
-        let caught = catch_up(&mut a, &mut b).ok().ok_or("refused")?;
-        assert_eq!(rt; caught.joined, lacked, "turn {turn}");
-        assert!(rt; caught.rounds <= 5, "turn {turn}");
-        assert!(rt; has_values(&a, &both), "turn {turn}");
-        assert!(rt; has_values(&b, &theirs), "turn {turn}");
-        let back = catch_up(&mut b, &mut a).ok().ok_or("refused")?;
-        let (_, lacked_back) = joined(&theirs, &both);
-        assert_eq!(rt; back.joined, lacked_back, "turn {turn}");
-        assert!(rt; has_values(&b, &both), "turn {turn}");
-        let again = catch_up(&mut a, &mut b).ok().ok_or("refused")?;
-        assert_eq!(rt; again.joined, 0, "turn {turn}");
-        assert_eq!(rt; again.rounds, 0, "turn {turn}");
+        assert!(rt;
+            values_meet(rt.alloc(), format, &levels, &ours, &theirs)?,
+            "turn {turn}"
+        );
     }
     Ok(())
 }
@@ -212,24 +238,46 @@ fn join_rows_at(
     Ok(())
 }
 
+/// Whether the steps of a catch-up of `a` with `b` join what is lacked.
+fn steps_join(
+    alloc: Global,
+    a: &mut Numbers,
+    b: &mut Numbers,
+    ours: &[u64; COUNT],
+    theirs: &[u64; COUNT],
+) -> Result<bool, Fail> {
+    a.hash();
+    b.hash();
+    let (both, lacked) = joined(ours, theirs);
+    let mut keys = keys_to_ask(alloc, a, b)?;
+    keys.sort_unstable();
+    join_rows_at(alloc, a, b, &keys)?;
+    Ok(keys.len() == lacked && has_values(a, &both))
+}
+
+/// The same of maps of these values, with keys on these levels.
+fn steps_meet(
+    alloc: Global,
+    levels: &[u8; COUNT],
+    ours: &[u64; COUNT],
+    theirs: &[u64; COUNT],
+) -> Result<bool, Fail> {
+    let mut a = numbers(alloc, PageFormat::V2, ours, hasher(alloc, levels)?)?;
+    let mut b = numbers(alloc, PageFormat::V2, theirs, hasher(alloc, levels)?)?;
+    steps_join(alloc, &mut a, &mut b, ours, theirs)
+}
+
 #[test]
 fn steps_join_what_is_lacked(rt: HostRuntime) -> Result<(), Fail> {
-    let alloc = rt.alloc();
     let mut random = Random { state: 11 };
     for turn in 0..100u64 {
         let levels = random.levels();
         let ours = random.values();
         let theirs = random.changed(&ours, turn % 16 + 1);
-        let mut a = numbers(alloc, PageFormat::V2, &ours, hasher(alloc, &levels)?)?;
-        let mut b = numbers(alloc, PageFormat::V2, &theirs, hasher(alloc, &levels)?)?;
-        a.hash();
-        b.hash();
-        let (both, lacked) = joined(&ours, &theirs);
-        let mut keys = keys_to_ask(alloc, &a, &b)?;
-        keys.sort_unstable();
-        assert_eq!(rt; keys.len(), lacked, "turn {turn}");
-        join_rows_at(alloc, &mut a, &b, &keys)?;
-        assert!(rt; has_values(&a, &both), "turn {turn}");
+        assert!(rt;
+            steps_meet(rt.alloc(), &levels, &ours, &theirs)?,
+            "turn {turn}"
+        );
     }
     Ok(())
 }

@@ -161,38 +161,55 @@ fn left(
     Ok((asked.gaps.len(), asked.keys.len()))
 }
 
-#[test]
-fn digests_of_other_pages_and_keys_spare_nothing(rt: HostRuntime) -> Result<(), Fail> {
-    let alloc = rt.alloc();
-    let mut local = numbers(alloc, PageFormat::V2, "1 3 5")?;
-    let own = PageDigest::new(*local.root_hash().as_bytes());
-    let (three, four, five) = (number_key(3), number_key(4), number_key(5));
-    let value = local.tree().value_hash(&three).ok_or("no value")?;
-    let whole = OutlineItemOf::Page(Gap::everywhere(), &own);
-    assert_eq!(rt; left(alloc, &local, whole)?, (0, 0));
+/// What a set leaves to ask for of pages over all keys and over the gap between two keys: with its own root page's digest, and with another.
+fn left_of_pages(
+    alloc: Global,
+    local: &Numbers,
+    own: &PageDigest,
+    bounds: &([u8; 2], [u8; 2]),
+) -> Result<[(usize, usize); 3], AllocError> {
     let between = Gap {
-        after: Some(&three),
-        before: Some(&five),
+        after: Some(&bounds.0),
+        before: Some(&bounds.1),
     };
-    assert_eq!(rt;
-        left(alloc, &local, OutlineItemOf::Page(between, &own))?,
-        (1, 0)
-    );
     let other = PageDigest::new([7; 16]);
-    let everywhere = OutlineItemOf::Page(Gap::everywhere(), &other);
-    assert_eq!(rt; left(alloc, &local, everywhere)?, (1, 0));
-    assert_eq!(rt;
-        left(alloc, &local, OutlineItemOf::Node(&three, value))?,
-        (0, 0)
-    );
-    assert_eq!(rt;
-        left(alloc, &local, OutlineItemOf::Node(&four, value))?,
-        (0, 1)
-    );
+    Ok([
+        left(alloc, local, OutlineItemOf::Page(Gap::everywhere(), own))?,
+        left(alloc, local, OutlineItemOf::Page(between, own))?,
+        left(alloc, local, OutlineItemOf::Page(Gap::everywhere(), &other))?,
+    ])
+}
+
+/// What it leaves to ask for of a node at a key that it has, at one that it lacks, and at the first with another digest.
+fn left_of_nodes(
+    alloc: Global,
+    local: &Numbers,
+    value: &ValueDigest<32>,
+    keys: &([u8; 2], [u8; 2]),
+) -> Result<[(usize, usize); 3], AllocError> {
     let changed = ValueDigest::new(Digest::new([7; 32]));
-    assert_eq!(rt;
-        left(alloc, &local, OutlineItemOf::Node(&three, &changed))?,
-        (0, 1)
-    );
+    Ok([
+        left(alloc, local, OutlineItemOf::Node(&keys.0, value))?,
+        left(alloc, local, OutlineItemOf::Node(&keys.1, value))?,
+        left(alloc, local, OutlineItemOf::Node(&keys.0, &changed))?,
+    ])
+}
+
+#[test]
+fn digests_of_other_pages_spare_nothing(rt: HostRuntime) -> Result<(), Fail> {
+    let mut local = numbers(rt.alloc(), PageFormat::V2, "1 3 5")?;
+    let own = PageDigest::new(*local.root_hash().as_bytes());
+    let found = left_of_pages(rt.alloc(), &local, &own, &(number_key(3), number_key(5)))?;
+    assert_eq!(rt; found, [(0, 0), (1, 0), (1, 0)]);
+    Ok(())
+}
+
+#[test]
+fn digests_at_other_keys_spare_nothing(rt: HostRuntime) -> Result<(), Fail> {
+    let mut local = numbers(rt.alloc(), PageFormat::V2, "1 3 5")?;
+    let _ = local.root_hash();
+    let value = local.tree().value_hash(&number_key(3)).ok_or("no value")?;
+    let found = left_of_nodes(rt.alloc(), &local, value, &(number_key(3), number_key(4)))?;
+    assert_eq!(rt; found, [(0, 0), (0, 1), (0, 1)]);
     Ok(())
 }

@@ -32,6 +32,20 @@ pub fn is_set_of(alloc: Global, replica: &Numbers, keys: &str) -> Result<bool, F
     Ok(shown(alloc, replica)?.as_str().trim_start() == keys)
 }
 
+/// Whether a pull asks for the ranges of a text, and joins so many rows.
+fn pulls(
+    alloc: Global,
+    local: &mut Numbers,
+    peer: &mut Numbers,
+    wanted: &str,
+    joined: usize,
+) -> Result<bool, Fail> {
+    let pulled = pull(local, peer).ok().ok_or("no memory")?;
+    let mut ranges = String::new(alloc);
+    add_ranges(alloc, &mut ranges, &pulled.ranges)?;
+    Ok(ranges.as_str() == wanted && pulled.joined == joined)
+}
+
 /// Whether a pull goes as a case says, the peer keeps its rows, and the two don't look the same.
 fn goes_as_said(
     alloc: Global,
@@ -42,13 +56,7 @@ fn goes_as_said(
     let (local_keys, peer_keys, wanted, joined, after) = *case;
     let mut local = numbers(alloc, local_format, local_keys)?;
     let mut peer = numbers(alloc, peer_format, peer_keys)?;
-    let pulled = match pull(&mut local, &mut peer) {
-        Ok(pulled) => pulled,
-        Err(_) => return Err(Fail::from("no memory")),
-    };
-    let mut ranges = String::new(alloc);
-    add_ranges(alloc, &mut ranges, &pulled.ranges)?;
-    let is_pulled = ranges.as_str() == wanted && pulled.joined == joined;
+    let is_pulled = pulls(alloc, &mut local, &mut peer, wanted, joined)?;
     let are_rows = is_set_of(alloc, &local, after)? && is_set_of(alloc, &peer, peer_keys)?;
     Ok(is_pulled && are_rows && local.root_hash() != peer.root_hash())
 }

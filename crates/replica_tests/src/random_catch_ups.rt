@@ -137,6 +137,16 @@ fn meet<K: Kind + Drop>(
     Ok(are_made && a_holds && b_holds && look_the_same(&mut a.map, &mut b.map))
 }
 
+/// Whether two maps come to hold the join after updates of each.
+fn part_and_meet<K: Kind + Drop>(
+    alloc: Global,
+    a: &mut Side<K>,
+    b: &mut Side<K>,
+    random: &mut Random,
+) -> Result<bool, AllocError> {
+    Ok(part(alloc, a, b, random)? && meet(alloc, a, b)?)
+}
+
 /// Whether two maps of as many keys come to hold the join, and again after more updates.
 fn pair_meets<K: Kind + Drop>(
     alloc: Global,
@@ -146,8 +156,8 @@ fn pair_meets<K: Kind + Drop>(
 ) -> Result<bool, AllocError> {
     let mut a: Side<K> = empty(alloc, format, keys)?;
     let mut b: Side<K> = empty(alloc, format, keys)?;
-    let is_met = part(alloc, &mut a, &mut b, random)? && meet(alloc, &mut a, &mut b)?;
-    Ok(is_met && part(alloc, &mut a, &mut b, random)? && meet(alloc, &mut a, &mut b)?)
+    let is_met = part_and_meet(alloc, &mut a, &mut b, random)?;
+    Ok(is_met && part_and_meet(alloc, &mut a, &mut b, random)?)
 }
 
 /// The first of 334 pairs of maps in a page format that doesn't come to hold the join. Maps have up to 300 rows, and those of two pairs

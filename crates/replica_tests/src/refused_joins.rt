@@ -178,14 +178,25 @@ const PULLS: [Case; 12] = [
     ),
 ];
 
+/// Whether a pull joins so many rows of a case, and leaves the peer's.
+fn is_pulled(alloc: Global, case: Case) -> Result<bool, AllocError> {
+    let (before, theirs, done, after) = case;
+    let mut local = map_of(alloc, before)?;
+    let mut peer = map_of(alloc, theirs)?;
+    let count = count_pulled(pull(&mut local, &mut peer));
+    Ok(count == Some(done) && has(&local, after) && has(&peer, theirs))
+}
+
 #[test]
 fn a_pull_stops_at_a_join_that_is_refused(rt: HostRuntime) -> Result<(), Fail> {
-    for (before, theirs, done, after) in PULLS {
-        let mut local = map_of(rt.alloc(), before)?;
-        let mut peer = map_of(rt.alloc(), theirs)?;
-        assert_eq!(rt; count_pulled(pull(&mut local, &mut peer)), Some(done));
-        assert!(rt; has(&local, after), "{done} of {theirs:?} into {before:?}");
-        assert!(rt; has(&peer, theirs));
+    for case in PULLS {
+        assert!(rt;
+            is_pulled(rt.alloc(), case)?,
+            "{} of {:?} into {:?}",
+            case.2,
+            case.1,
+            case.0
+        );
     }
     Ok(())
 }
@@ -225,24 +236,34 @@ const JOINS: [Case; 6] = [
     ),
 ];
 
+/// Whether so many rows of a case are joined at once.
+fn are_joined(alloc: Global, case: Case) -> Result<bool, AllocError> {
+    let (before, rows, done, after) = case;
+    let mut replica = map_of(alloc, before)?;
+    let count = match join_rows(&mut replica, list_of(alloc, rows)?) {
+        Ok(()) => Some(3),
+        Err(JoinRefused::Memory(count)) => Some(count),
+        Err(JoinRefused::NotAscending(_)) => None,
+    };
+    Ok(count == Some(done) && has(&replica, after))
+}
+
+/// Whether so many are put at once.
+fn are_put(alloc: Global, case: Case) -> Result<bool, AllocError> {
+    let (before, rows, done, after) = case;
+    let mut replica = map_of(alloc, before)?;
+    let count = match put_all(&mut replica, list_of(alloc, rows)?) {
+        Ok(()) => 3,
+        Err(PutsCut { done }) => done,
+    };
+    Ok(count == done && has(&replica, after))
+}
+
 #[test]
 fn rows_stop_at_a_join_that_is_refused(rt: HostRuntime) -> Result<(), Fail> {
-    for (before, rows, done, after) in JOINS {
-        let mut joined = map_of(rt.alloc(), before)?;
-        let count = match join_rows(&mut joined, list_of(rt.alloc(), rows)?) {
-            Ok(()) => Some(3),
-            Err(JoinRefused::Memory(count)) => Some(count),
-            Err(JoinRefused::NotAscending(_)) => None,
-        };
-        assert_eq!(rt; count, Some(done));
-        assert!(rt; has(&joined, after), "{done} of {rows:?} into {before:?}");
-        let mut put = map_of(rt.alloc(), before)?;
-        let count = match put_all(&mut put, list_of(rt.alloc(), rows)?) {
-            Ok(()) => 3,
-            Err(PutsCut { done }) => done,
-        };
-        assert_eq!(rt; count, done);
-        assert!(rt; has(&put, after), "{done} of {rows:?} put into {before:?}");
+    for case in JOINS {
+        let is_right = are_joined(rt.alloc(), case)? && are_put(rt.alloc(), case)?;
+        assert!(rt; is_right, "{} of {:?} into {:?}", case.2, case.1, case.0);
     }
     Ok(())
 }
