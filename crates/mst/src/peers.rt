@@ -3,7 +3,7 @@ use crate::fault::Failure;
 use merkle_store::Store;
 use merkle_store::framing::{MOST_BYTES, Unwatched, Watch};
 use merkle_store::pulling::{self, Brought};
-use mst_commands::reading::write_keys;
+use mst_commands::lines::write_keys;
 use sqlite::Alter;
 use std::io::{BufWriter, Write};
 

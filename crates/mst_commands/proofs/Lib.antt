@@ -1,2 +1,5 @@
+pub mod CsvLemmas
 pub mod EscapeLemmas
+pub mod LineLemmas
+pub mod ReadLemmas
 pub mod WriteLemmas

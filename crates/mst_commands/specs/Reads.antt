@@ -1,10 +1,16 @@
 -- What the commands that read find.
-use Rattle.std.specs.Prelude.{◌≡◌, ℕ, List, [], ◌∷◌, ◌++◌, Option, Some, string_bytes}
+use Rattle.std.specs.Prelude.{◌≡◌, ℕ, List, [], ◌∷◌, ◌++◌, Option, Some, codes, length, string_bytes, count_by, decimal}
 use Rattle.std.specs.Io.KnownBytes.{Appends}
 use Rattle.key_order.specs.Text.{Text as Key}
 use Rattle.sqlite.specs.Tree.{Trees}
+use Rattle.store_table.specs.Entries.{HoldsEntries}
 use Rattle.store_table.specs.Latest.{IsLatestAt, text_of}
+use Rattle.store_table.specs.Rows.{HasLatestRows, says_text, is_removal, last_time}
 use Rattle.store_table.specs.declared.register.Register.{Register}
+use Rattle.store_table.specs.declared.rows.Summary.{Summary}
+use Rattle.mst_commands.specs.Lines.{list_of}
+use Rattle.mst_commands.specs.Records.{pairs_text, log_text}
+use Rattle.mst_commands.specs.declared.bounds.Listing.{Listing}
 
 -- this is what the latest register of the key says, where it says a text
 abbrev pub IsTextAt : Trees → List ℕ → Option Key → Type 0
@@ -13,3 +19,39 @@ IsTextAt trees key text = (found : Option Register) × IsLatestAt trees key foun
 -- the text of the key, and a newline, was written
 abbrev pub WritesText : Trees → List ℕ → Option (List ℕ) → Option (List ℕ) → Type 0
 WritesText trees key old new = (text : Key) × IsTextAt trees key (Some text) × Appends old new (string_bytes text ++ 10 ∷ [])
+
+-- the list of the latest rows of the table's entries was written
+abbrev pub WritesList : Listing → Trees → Option (List ℕ) → Option (List ℕ) → Type 0
+WritesList listing trees old new = (rows : List (Key × Register)) × HasLatestRows trees rows × Appends old new (list_of listing rows)
+
+-- how many of the latest rows say a text, and a newline, was written
+abbrev pub WritesCount : Trees → Option (List ℕ) → Option (List ℕ) → Type 0
+WritesCount trees old new = (rows : List (Key × Register)) × HasLatestRows trees rows × Appends old new (decimal (count_by says_text rows) ++ 10 ∷ [])
+
+-- the latest rows of the table's entries were written as CSV
+abbrev pub WritesPairs : Trees → Option (List ℕ) → Option (List ℕ) → Type 0
+WritesPairs trees old new = (rows : List (Key × Register)) × HasLatestRows trees rows × Appends old new (pairs_text rows)
+
+-- the table's entries were written as CSV
+abbrev pub WritesLog : Trees → Option (List ℕ) → Option (List ℕ) → Type 0
+WritesLog trees old new = (entries : List (Key × Register)) × HoldsEntries trees entries × Appends old new (log_text entries)
+
+-- so many of the rows say a text, so many are removals, and this is the greatest time
+pub record HaveNumbers (rows : List (Key × Register)) (summary : Summary) : Type 0 where
+  pub keys : summary.keys ≡ count_by says_text rows
+  pub removed : summary.removed ≡ count_by is_removal rows
+  pub last : summary.last ≡ last_time rows
+
+-- the numbers of the latest rows of the table's entries
+abbrev pub IsSummary : Trees → Summary → Type 0
+IsSummary trees summary = (rows : List (Key × Register)) × HasLatestRows trees rows × HaveNumbers rows summary
+
+-- the numbers in lines, with the number of the table's rows, and a name
+abbrev pub status_text : Summary → ℕ → List ℕ → List ℕ
+status_text summary rows name =
+    codes "keys " ++ (decimal summary.keys ++ (codes "\nremoved " ++ (decimal summary.removed ++ (codes "\nrows " ++ (decimal rows
+    ++ (codes "\nlast write " ++ (decimal summary.last ++ (codes "\nwriter " ++ (name ++ codes "\n")))))))))
+
+-- the table's numbers and a name were written
+abbrev pub WritesStatus : List ℕ → Trees → Option (List ℕ) → Option (List ℕ) → Type 0
+WritesStatus name trees old new = (summary : Summary) × IsSummary trees summary × Appends old new (status_text summary (length (trees 0)) name)

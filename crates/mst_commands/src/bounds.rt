@@ -11,6 +11,17 @@ pub struct Bounds<'a> {
     pub prefix: Option<&'a str>,
 }
 
+/// How a list is written.
+#[derive(Clone, Copy)]
+pub struct Listing<'a> {
+    /// Which keys are listed.
+    pub bounds: Bounds<'a>,
+    /// How many keys are listed at most.
+    pub limit: u64,
+    /// Whether each line is an object of JSON.
+    pub json: bool,
+}
+
 impl Bounds<'_> {
     /// Whether a key is within the bounds.
     pub fn hold(&self, key: &str) -> bool

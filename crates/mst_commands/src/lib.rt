@@ -5,6 +5,7 @@ pub mod bounds;
 pub mod clock;
 pub mod escape;
 pub mod fault;
+pub mod lines;
 pub mod log;
 pub mod reading;
 pub mod records;

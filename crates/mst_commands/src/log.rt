@@ -1,5 +1,11 @@
 //! The log as CSV.
+ghost use Rattle.std.specs.Prelude.{◌≡◌, [], ◌∷◌, IfOk, OnOk};
+ghost use Rattle.std.specs.Io.KnownBytes.{Appends};
+ghost use Rattle.csv.specs.Writing.{row_text, default_writer};
+ghost use Rattle.mst_commands.specs.Records.{entry_text, log_text, WritesRecords};
+
 use crate::fault::{Fault, csv_fault};
+use crate::records::finish;
 use csv::Writer;
 use std::alloc::Global;
 use std::io::Write;
@@ -8,13 +14,22 @@ use store_table::Register;
 /// Writes a record of five fields.
 fn write_five<'a, W: Write + Drop>(
     writer: &mut Writer<W>,
-    key: &'a [u8],
-    time: &'a [u8],
-    name: &'a [u8],
-    change: &'a [u8],
-    value: &'a [u8],
-) -> Result<(), Fault> {
-    match writer.write_fields(&[key, time, name, change, value]) {
+    key: &'a str,
+    time: &'a str,
+    name: &'a str,
+    change: &'a str,
+    value: &'a str,
+) -> Result<(), Fault>
+    ensures { OnOk result (WritesRecords W.contents writer.old writer.new
+        (row_text default_writer (key.now ∷ time.now ∷ name.now ∷ change.now ∷ value.now ∷ []))) }
+{
+    match writer.write_fields(&[
+        key.as_bytes(),
+        time.as_bytes(),
+        name.as_bytes(),
+        change.as_bytes(),
+        value.as_bytes(),
+    ]) {
         Ok(()) => Ok(()),
         Err(error) => Err(csv_fault(&error)),
     }
@@ -25,37 +40,29 @@ fn write_entry<W: Write + Drop>(
     alloc: Global,
     writer: &mut Writer<W>,
     entry: &(String, Register),
-) -> Result<(), Fault> {
-    let time = format!(in alloc; "{}", entry.1.time)?;
-    let (change, value) = match &entry.1.value {
-        Some(text) => ("put", text.as_str()),
-        None => ("del", ""),
-    };
-    write_five(
-        writer,
-        entry.0.as_bytes(),
-        time.as_bytes(),
-        entry.1.writer.as_bytes(),
-        change.as_bytes(),
-        value.as_bytes(),
-    )
+) -> Result<(), Fault>
+    ensures { OnOk result (WritesRecords W.contents writer.old writer.new (entry_text entry.now)) }
+{
+    let time = entry.1.time.to_string(alloc)?;
+    let (key, time, name) = (entry.0.as_str(), time.as_str(), entry.1.writer.as_str());
+    match &entry.1.value {
+        Some(text) => write_five(writer, key, time, name, "put", text.as_str()),
+        None => write_five(writer, key, time, name, "del", ""),
+    }
 }
 
-/// Writes the entries of a log as CSV.
+/// Writes the entries of a log as CSV, and hands back the output.
 pub fn write_log<W: Write + Drop>(
     alloc: Global,
     out: W,
     entries: &[(String, Register)],
-) -> Result<(), Fault> {
+) -> Result<W, Fault>
+    ensures { IfOk result (λ written. Appends (W.contents out) (W.contents written) (log_text entries.now)) }
+{
     let mut writer = Writer::from_writer(out);
-    if let Err(error) = writer.write_fields(&[b"key", b"time", b"writer", b"change", b"value"]) {
-        return Err(csv_fault(&error));
-    }
-    for entry in entries {
+    write_five(&mut writer, "key", "time", "writer", "change", "value")?;
+    'entries: for entry in entries {
         write_entry(alloc, &mut writer, entry)?;
     }
-    match writer.flush() {
-        Ok(()) => Ok(()),
-        Err(error) => Err(csv_fault(&error)),
-    }
+    finish(writer)
 }

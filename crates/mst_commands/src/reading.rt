@@ -1,19 +1,21 @@
 //! The commands that read.
-ghost use Rattle.std.specs.Prelude.{◌≡◌, ◌≢◌, ◌++◌, [], ◌∷◌, OnOk, IsErrOf};
+ghost use Rattle.std.specs.Prelude.{◌≡◌, ◌≢◌, ◌++◌, [], ◌∷◌, length, string_bytes, IfOk, OnOk, IsErrOf};
 ghost use Rattle.std.specs.Io.KnownBytes.{Appends};
 ghost use Rattle.store_table.specs.Connections.{database, HasStore, IsClean, Finds, StaysInOk, LeavesNoMore};
 ghost use Rattle.store_table.specs.Latest.{text_of as text_said};
-ghost use Rattle.mst_commands.specs.Reads.{IsTextAt, WritesText};
+ghost use Rattle.mst_commands.specs.Reads.{IsTextAt, WritesText, WritesList, WritesCount, WritesStatus, WritesPairs, WritesLog, IsSummary, status_text};
 
-use crate::bounds::Bounds;
-use crate::escape::{escape, json_string};
+use crate::bounds::Listing;
 use crate::fault::Fault;
+use crate::lines::write_rows;
+use crate::log::write_log;
+use crate::records;
 use sqlite::{Alter, Connection};
 use std::alloc::Global;
 use std::io::Write;
 use store_table::Register;
 use store_table::latest::find;
-use store_table::rows::{Summary, read_latest, read_log, summary_of};
+use store_table::rows::{Summary, latest_rows, read_latest, read_log, summary_of};
 
 /// What a register says: a text, or none where there is no register or a removal.
 fn said_by(found: Option<Register>) -> Option<String>
@@ -75,94 +77,107 @@ pub fn get<S: Alter, W: Write>(
     }
 }
 
-/// Writes a key and its value as a line.
-fn write_line<W: Write>(alloc: Global, out: &mut W, key: &str, text: &str) -> Result<(), Fault> {
-    out.write_all(escape(alloc, key)?.as_bytes())?;
-    out.write_all(b"\t")?;
-    out.write_all(escape(alloc, text)?.as_bytes())?;
-    out.write_all(b"\n")?;
-    Ok(())
-}
-
-/// Writes a key and its value as an object of JSON.
-fn write_object<W: Write>(alloc: Global, out: &mut W, key: &str, text: &str) -> Result<(), Fault> {
-    out.write_all(b"{\"key\":")?;
-    out.write_all(json_string(alloc, key)?.as_bytes())?;
-    out.write_all(b",\"value\":")?;
-    out.write_all(json_string(alloc, text)?.as_bytes())?;
-    out.write_all(b"}\n")?;
-    Ok(())
-}
-
-/// Writes the keys of entries, a line each, as a list writes them.
-pub fn write_keys<W: Write>(
-    alloc: Global,
-    out: &mut W,
-    entries: &[(String, Register)],
-) -> Result<(), Fault> {
-    for entry in entries {
-        out.write_all(escape(alloc, entry.0.as_str())?.as_bytes())?;
-        out.write_all(b"\n")?;
-    }
-    Ok(())
-}
-
-/// How a list is written.
-#[derive(Clone, Copy)]
-pub struct Listing<'a> {
-    /// Which keys are listed.
-    pub bounds: Bounds<'a>,
-    /// How many keys are listed at most.
-    pub limit: u64,
-    /// Whether each line is an object of JSON.
-    pub json: bool,
-}
-
-/// Writes the lines of rows.
-fn write_rows<W: Write>(
-    alloc: Global,
-    out: &mut W,
-    rows: &[(String, Register)],
-    listing: &Listing<'_>,
-) -> Result<(), Fault> {
-    let mut left = listing.limit;
-    for row in rows {
-        if left == 0 {
-            return Ok(());
-        }
-        let key = row.0.as_str();
-        if let Some(text) = &row.1.value {
-            if listing.bounds.hold(key) {
-                left = left.saturating_sub(1);
-                if listing.json {
-                    write_object(alloc, out, key, text.as_str())?;
-                } else {
-                    write_line(alloc, out, key, text.as_str())?;
-                }
-            }
-        }
-    }
-    Ok(())
-}
-
-/// Writes each key with its value, ascending by key.
+/// Writes each key that the listing shows with its text, ascending by key.
 pub fn list<S: Alter, W: Write>(
     alloc: Global,
     conn: &mut Connection<S>,
     out: &mut W,
     listing: &Listing<'_>,
-) -> Result<(), Fault> {
+) -> Result<(), Fault>
+    ensures written { HasStore S.Store conn.old → IsClean S.Store conn.new
+        → OnOk result (WritesList listing.now (database S.Store conn.old).trees (W.contents out.old) (W.contents out.new)) }
+    ensures unchanged { HasStore S.Store conn.old → StaysInOk S.Store conn.old conn.new result }
+    ensures crash { HasStore S.Store conn.old → LeavesNoMore S.Store conn.old conn.new }
+{
     let rows = read_latest(alloc, conn)?;
     write_rows(alloc, out, &rows, listing)
 }
 
 /// What the file holds, in numbers, and how many rows its table has.
-pub fn sum_up<S: Alter>(
-    alloc: Global,
-    conn: &mut Connection<S>,
-) -> Result<(Summary, usize), Fault> {
+pub fn sum_up<S: Alter>(alloc: Global, conn: &mut Connection<S>) -> Result<(Summary, usize), Fault>
+    ensures numbers { Finds S.Store conn.old conn.new result (λ db sum. IsSummary db.trees sum.0) }
+    ensures rows { Finds S.Store conn.old conn.new result (λ db sum. sum.1 ≡ length (db.trees 0)) }
+    ensures unchanged { HasStore S.Store conn.old → StaysInOk S.Store conn.old conn.new result }
+    ensures crash { HasStore S.Store conn.old → LeavesNoMore S.Store conn.old conn.new }
+{
     let entries = read_log(alloc, conn)?;
     let rows = entries.len();
-    let latest = store_table::rows::latest_rows(entries);
+    let latest = latest_rows(entries);
     Ok((summary_of(&latest), rows))
+}
+
+/// Writes how many keys have a text, and a newline.
+pub fn count<S: Alter, W: Write>(
+    alloc: Global,
+    conn: &mut Connection<S>,
+    out: &mut W,
+) -> Result<(), Fault>
+    ensures written { HasStore S.Store conn.old → IsClean S.Store conn.new
+        → OnOk result (WritesCount (database S.Store conn.old).trees (W.contents out.old) (W.contents out.new)) }
+    ensures unchanged { HasStore S.Store conn.old → StaysInOk S.Store conn.old conn.new result }
+    ensures crash { HasStore S.Store conn.old → LeavesNoMore S.Store conn.old conn.new }
+{
+    let (summary, _rows) = sum_up(alloc, conn)?;
+    let text = summary.keys.to_string(alloc)?;
+    write_text(out, text.as_str())
+}
+
+/// The numbers of the file in lines, and a name.
+fn status_lines(alloc: Global, summary: &Summary, rows: usize, name: &str) -> Result<String, Fault>
+    ensures { IfOk result (λ text. string_bytes text ≡ status_text summary.now rows name.now) }
+{
+    let Summary {
+        keys,
+        removed,
+        last,
+    } = *summary;
+    Ok(format!(in alloc;
+        "keys {keys}\nremoved {removed}\nrows {rows}\nlast write {last}\nwriter {name}\n"
+    )?)
+}
+
+/// Writes the numbers of the file, a line each, and the name by which it writes.
+pub fn status<S: Alter, W: Write>(
+    alloc: Global,
+    conn: &mut Connection<S>,
+    out: &mut W,
+    name: &str,
+) -> Result<(), Fault>
+    ensures written { HasStore S.Store conn.old → IsClean S.Store conn.new
+        → OnOk result (WritesStatus name.now (database S.Store conn.old).trees (W.contents out.old) (W.contents out.new)) }
+    ensures unchanged { HasStore S.Store conn.old → StaysInOk S.Store conn.old conn.new result }
+    ensures crash { HasStore S.Store conn.old → LeavesNoMore S.Store conn.old conn.new }
+{
+    let (summary, rows) = sum_up(alloc, conn)?;
+    let text = status_lines(alloc, &summary, rows, name)?;
+    out.write_all(text.as_bytes())?;
+    Ok(())
+}
+
+/// Writes the keys that have a text, each with its text, as CSV, and hands back the output.
+pub fn export<S: Alter, W: Write + Drop>(
+    alloc: Global,
+    conn: &mut Connection<S>,
+    out: W,
+) -> Result<W, Fault>
+    ensures written { Finds S.Store conn.old conn.new result (λ db written. WritesPairs db.trees (W.contents out) (W.contents written)) }
+    ensures unchanged { HasStore S.Store conn.old → StaysInOk S.Store conn.old conn.new result }
+    ensures crash { HasStore S.Store conn.old → LeavesNoMore S.Store conn.old conn.new }
+{
+    let rows = read_latest(alloc, conn)?;
+    records::write_rows(out, &rows)
+}
+
+/// Writes the log as CSV, a record for each row of the table, and hands back the output.
+pub fn export_log<S: Alter, W: Write + Drop>(
+    alloc: Global,
+    conn: &mut Connection<S>,
+    out: W,
+) -> Result<W, Fault>
+    ensures written { Finds S.Store conn.old conn.new result (λ db written. WritesLog db.trees (W.contents out) (W.contents written)) }
+    ensures unchanged { HasStore S.Store conn.old → StaysInOk S.Store conn.old conn.new result }
+    ensures crash { HasStore S.Store conn.old → LeavesNoMore S.Store conn.old conn.new }
+{
+    let entries = read_log(alloc, conn)?;
+    write_log(alloc, out, &entries)
 }

@@ -1,10 +1,16 @@
 //! Keys and values as CSV.
+ghost use Rattle.std.specs.Prelude.{◌≡◌, [], ◌∷◌, string_bytes, true, false, IfOk, OnOk, IfSome};
+ghost use Rattle.std.specs.Io.KnownBytes.{Appends, Keeps};
+ghost use Rattle.csv.specs.Records.{fields_of};
+ghost use Rattle.csv.specs.Writing.{row_text, default_writer, text_written};
+ghost use Rattle.mst_commands.specs.Records.{header, change_fields, field_or_empty, pair_fields, pair_text, pairs_text, SaysPair, SaysChange, SaysEntry, HasEntries, HasRead, ReadsOne, WritesRecords};
+
 use crate::fault::{Fault, csv_fault};
-use csv::{ReaderBuilder, StringRecord, Writer};
+use csv::{Reader, ReaderBuilder, StringRecord, Writer};
 use std::alloc::Global;
 use std::io::{Read, Write};
-use store_table::Register;
 use store_table::table::Entries;
+use store_table::{Register, StoreFault};
 
 /// How many bytes a key or a value has at most: 1 MiB.
 pub const MOST: usize = 1_048_576;
@@ -16,145 +22,242 @@ pub const HEADER: &str = "key,value";
 pub const LOG_HEADER: &str = "key,time,writer,change,value";
 
 /// A field of a record, or an empty text.
-fn field(record: &StringRecord, at: usize) -> &str {
-    match record.get(at) {
+fn field(row: &StringRecord, at: usize) -> &str
+    ensures { result.now ≡ field_or_empty (fields_of row.now) at }
+{
+    match row.get(at) {
         Some(text) => text,
         None => "",
     }
 }
 
 /// The line that a record begins at.
-fn line_of(record: &StringRecord) -> u64 {
-    match record.position() {
+fn line_of(row: &StringRecord) -> u64 {
+    match row.position() {
         Some(position) => position.line,
         None => 0,
     }
 }
 
 /// A key or a value of a record, in memory of its own.
-fn text_of(alloc: Global, record: &StringRecord, at: usize) -> Result<String, Fault> {
-    let text = field(record, at);
+fn text_of(alloc: Global, row: &StringRecord, at: usize) -> Result<String, Fault>
+    ensures { IfOk result (λ text. string_bytes text ≡ field_or_empty (fields_of row.now) at) }
+{
+    let text = field(row, at);
     if text.len() > MOST {
-        return Err(Fault::BadLine(line_of(record), "a key or a value has more than 1 MiB"));
+        return Err(Fault::BadLine(line_of(row), "a key or a value has more than 1 MiB"));
     }
     Ok(String::from_str(alloc, text)?)
 }
 
-/// Whether a record is the header of keys and values.
-fn is_header(record: &StringRecord) -> bool {
-    record.len() == 2 && field(record, 0) == "key" && field(record, 1) == "value"
+/// Refuses a first record whose field at this place has another name.
+fn expect_name(row: &StringRecord, at: usize, name: &str, names: &'static str) -> Result<(), Fault>
+    ensures { OnOk result (field_or_empty (fields_of row.now) at ≡ name.now) }
+{
+    if field(row, at) == name {
+        Ok(())
+    } else {
+        Err(Fault::NoHeader(names))
+    }
 }
 
-/// Whether a record is the header of a log.
-fn is_log_header(record: &StringRecord) -> bool {
-    record.len() == 5
-        && field(record, 0) == "key"
-        && field(record, 1) == "time"
-        && field(record, 2) == "writer"
-        && field(record, 3) == "change"
-        && field(record, 4) == "value"
+/// Refuses a first record that is not the header of keys and values.
+fn expect_pair_header(row: &StringRecord) -> Result<(), Fault>
+    ensures { OnOk result (fields_of row.now ≡ header false) }
+{
+    if row.len() != 2 {
+        return Err(Fault::NoHeader(HEADER));
+    }
+    expect_name(row, 0, "key", HEADER)?;
+    expect_name(row, 1, "value", HEADER)?;
+    Ok(())
+}
+
+/// Refuses a first record that is not the header of a log.
+fn expect_log_header(row: &StringRecord) -> Result<(), Fault>
+    ensures { OnOk result (fields_of row.now ≡ header true) }
+{
+    if row.len() != 5 {
+        return Err(Fault::NoHeader(LOG_HEADER));
+    }
+    expect_name(row, 0, "key", LOG_HEADER)?;
+    expect_name(row, 1, "time", LOG_HEADER)?;
+    expect_name(row, 2, "writer", LOG_HEADER)?;
+    expect_name(row, 3, "change", LOG_HEADER)?;
+    expect_name(row, 4, "value", LOG_HEADER)?;
+    Ok(())
+}
+
+/// Refuses a first record that is no header.
+fn expect_header(row: &StringRecord, is_log: bool) -> Result<(), Fault>
+    ensures { OnOk result (fields_of row.now ≡ header is_log) }
+{
+    if is_log {
+        expect_log_header(row)
+    } else {
+        expect_pair_header(row)
+    }
 }
 
 /// The entry of a record of keys and values, with the number of the record as its time.
-fn entry_of(
-    alloc: Global,
-    record: &StringRecord,
-    number: u64,
-) -> Result<(String, Register), Fault> {
-    if record.len() != 2 {
-        return Err(Fault::BadLine(line_of(record), "it has another number of fields than two"));
+fn entry_of(alloc: Global, row: &StringRecord, number: u64) -> Result<(String, Register), Fault>
+    ensures { IfOk result (λ entry. SaysPair number (fields_of row.now) entry) }
+{
+    if row.len() != 2 {
+        return Err(Fault::BadLine(line_of(row), "it has another number of fields than two"));
     }
+    let key = text_of(alloc, row, 0)?;
+    let text = text_of(alloc, row, 1)?;
+    let writer = String::new(alloc);
     Ok((
-        text_of(alloc, record, 0)?,
+        key,
         Register {
             time: number,
-            writer: String::new(alloc),
-            value: Some(text_of(alloc, record, 1)?),
+            writer,
+            value: Some(text),
         },
     ))
 }
 
 /// The value that a record of a log says, or that it is a removal.
-fn change_of(alloc: Global, record: &StringRecord) -> Result<Option<String>, Fault> {
-    match field(record, 3) {
-        "put" => Ok(Some(text_of(alloc, record, 4)?)),
+fn change_of(alloc: Global, row: &StringRecord) -> Result<Option<String>, Fault>
+    ensures { IfOk result (λ value. change_fields value ≡ field_or_empty (fields_of row.now) 3 ∷ field_or_empty (fields_of row.now) 4 ∷ []) }
+{
+    match field(row, 3) {
+        "put" => Ok(Some(text_of(alloc, row, 4)?)),
         "del" => {
-            if field(record, 4).is_empty() {
+            if field(row, 4).is_empty() {
                 Ok(None)
             } else {
-                Err(Fault::BadLine(line_of(record), "a removal has no value"))
+                Err(Fault::BadLine(line_of(row), "a removal has no value"))
             }
         }
-        _ => Err(Fault::BadLine(line_of(record), "the change is neither put nor del")),
+        _ => Err(Fault::BadLine(line_of(row), "the change is neither put nor del")),
     }
 }
 
 /// The entry of a record of a log.
-fn log_entry_of(alloc: Global, record: &StringRecord) -> Result<(String, Register), Fault> {
-    if record.len() != 5 {
-        return Err(Fault::BadLine(line_of(record), "it has another number of fields than five"));
+fn log_entry_of(alloc: Global, row: &StringRecord) -> Result<(String, Register), Fault>
+    ensures { IfOk result (λ entry. SaysChange (fields_of row.now) entry) }
+{
+    if row.len() != 5 {
+        return Err(Fault::BadLine(line_of(row), "it has another number of fields than five"));
     }
-    let Ok(time) = field(record, 1).parse::<u64>() else {
-        return Err(Fault::BadLine(line_of(record), "the time is no number"));
+    let Ok(time) = field(row, 1).parse::<u64>() else {
+        return Err(Fault::BadLine(line_of(row), "the time is no number"));
     };
+    let key = text_of(alloc, row, 0)?;
+    let writer = text_of(alloc, row, 2)?;
+    let value = change_of(alloc, row)?;
     Ok((
-        text_of(alloc, record, 0)?,
+        key,
         Register {
             time,
-            writer: text_of(alloc, record, 2)?,
-            value: change_of(alloc, record)?,
+            writer,
+            value,
         },
     ))
 }
 
-/// The entries of a CSV behind its first line: of a log as they are, else with the number of the record as the time.
-pub fn read_entries<R: Read + Drop>(
+/// The entry of a record behind the header.
+fn read_entry(
     alloc: Global,
-    from: R,
+    row: &StringRecord,
+    number: u64,
     is_log: bool,
-) -> Result<Entries, Fault> {
-    let mut entries = Vec::new(alloc);
-    let mut builder = ReaderBuilder::new();
-    builder.has_headers(false).flexible(true);
-    let mut reader = builder.from_reader(alloc, from);
-    let mut record = StringRecord::new(alloc);
-    for number in 0..u64::MAX {
-        match reader.read_record(&mut record) {
-            Ok(true) => {}
-            Ok(false) => break,
-            Err(error) => return Err(csv_fault(&error)),
-        }
-        if number > 0 {
-            let entry = if is_log {
-                log_entry_of(alloc, &record)?
-            } else {
-                entry_of(alloc, &record, number)?
-            };
-            entries.push(entry)?;
-        } else if is_log && !is_log_header(&record) {
-            return Err(Fault::NoHeader(LOG_HEADER));
-        } else if !is_log && !is_header(&record) {
-            return Err(Fault::NoHeader(HEADER));
-        }
+) -> Result<(String, Register), Fault>
+    ensures { IfOk result (λ entry. SaysEntry is_log number (fields_of row.now) entry) }
+{
+    if is_log {
+        log_entry_of(alloc, row)
+    } else {
+        entry_of(alloc, row, number)
     }
-    Ok(entries)
 }
 
-/// Writes keys and values as CSV.
-pub fn write_rows<W: Write + Drop>(out: W, rows: &[(String, Register)]) -> Result<(), Fault> {
-    let mut writer = Writer::from_writer(out);
-    if let Err(error) = writer.write_fields(&[b"key", b"value"]) {
-        return Err(csv_fault(&error));
+/// A reader of CSV whose records may have any number of fields, the first one too.
+fn reader_of<R: Read>(alloc: Global, from: R) -> Reader<R>
+    ensures { HasRead R.remaining (R.remaining from) [] result }
+{
+    ReaderBuilder::new()
+        .has_headers(false)
+        .flexible(true)
+        .from_reader(alloc, from)
+}
+
+/// Reads the next record, and answers whether there was one.
+fn read_next<R: Read>(reader: &mut Reader<R>, row: &mut StringRecord) -> Result<bool, Fault>
+    ensures { IfOk result (λ found. ReadsOne R.remaining reader.old reader.new found (fields_of row.new)) }
+{
+    match reader.read_record(row) {
+        Ok(found) => Ok(found),
+        Err(error) => Err(csv_fault(&error)),
     }
-    for row in rows {
-        if let Some(text) = &row.1.value {
-            if let Err(error) = writer.write_fields(&[row.0.as_bytes(), text.as_bytes()]) {
-                return Err(csv_fault(&error));
-            }
+}
+
+/// The entries of a CSV behind its header: of a log as they are, else with the number of the record as the time.
+pub fn read_entries<R: Read + Drop>(alloc: Global, from: R, is_log: bool) -> Result<Entries, Fault>
+    ensures { IfOk result (λ entries. IfSome (R.remaining from) (λ bytes. HasEntries is_log bytes entries.items)) }
+{
+    let mut entries = Vec::new(alloc);
+    let mut reader = reader_of(alloc, from);
+    let mut record = StringRecord::new(alloc);
+    if !read_next(&mut reader, &mut record)? {
+        return Ok(entries);
+    }
+    expect_header(&record, is_log)?;
+    'records: for number in 1..u64::MAX {
+        if !read_next(&mut reader, &mut record)? {
+            return Ok(entries);
         }
+        let entry = read_entry(alloc, &record, number, is_log)?;
+        entries.push(entry)?;
     }
-    match writer.flush() {
+    Err(Fault::Store(StoreFault::Memory))
+}
+
+/// Writes a record of a key and a text.
+fn write_pair<'a, W: Write + Drop>(
+    writer: &mut Writer<W>,
+    key: &'a str,
+    text: &'a str,
+) -> Result<(), Fault>
+    ensures { OnOk result (WritesRecords W.contents writer.old writer.new (row_text default_writer (pair_fields (key.now, text.now)))) }
+{
+    match writer.write_fields(&[key.as_bytes(), text.as_bytes()]) {
         Ok(()) => Ok(()),
         Err(error) => Err(csv_fault(&error)),
     }
+}
+
+/// Writes the record of a row, unless it is a removal.
+fn write_row<W: Write + Drop>(writer: &mut Writer<W>, row: &(String, Register)) -> Result<(), Fault>
+    ensures { OnOk result (WritesRecords W.contents writer.old writer.new (pair_text row.now)) }
+{
+    match &row.1.value {
+        Some(text) => write_pair(writer, row.0.as_str(), text.as_str()),
+        None => Ok(()),
+    }
+}
+
+/// Hands back the output of a writer that has written all.
+pub fn finish<W: Write + Drop>(writer: Writer<W>) -> Result<W, Fault>
+    ensures { IfOk result (λ out. Keeps (text_written W.contents writer) (W.contents out)) }
+{
+    match writer.into_inner() {
+        Ok(out) => Ok(out),
+        Err(error) => Err(csv_fault(&error.into_error())),
+    }
+}
+
+/// Writes the rows that say a text as CSV, and hands back the output.
+pub fn write_rows<W: Write + Drop>(out: W, rows: &[(String, Register)]) -> Result<W, Fault>
+    ensures { IfOk result (λ written. Appends (W.contents out) (W.contents written) (pairs_text rows.now)) }
+{
+    let mut writer = Writer::from_writer(out);
+    write_pair(&mut writer, "key", "value")?;
+    'rows: for row in rows {
+        write_row(&mut writer, row)?;
+    }
+    finish(writer)
 }

@@ -1,15 +1,13 @@
 //! A command on an open database.
-use crate::bounds::Bounds;
+use crate::bounds::{Bounds, Listing};
 use crate::clock::{latest, now};
 use crate::fault::Fault;
-use crate::log::write_log;
-use crate::reading::{Listing, get, list, sum_up};
-use crate::records::write_rows;
+use crate::reading::{count, export, export_log, get, list, status};
 use crate::writing::{del, import, put_text, read_text};
 use mst_words::{Given, Verb};
 use sqlite::{Alter, Connection};
 use std::io::{self, BufWriter, Write};
-use store_table::rows::{compact, read_latest, read_log};
+use store_table::rows::compact;
 
 /// Writes the value that is given, or that of standard input.
 fn put_given<S: Alter>(
@@ -62,8 +60,9 @@ fn print_list<S: Alter>(
 
 /// Prints how many keys there are.
 fn print_count<S: Alter>(rt: &HostRuntime, conn: &mut Connection<S>) -> Result<(), Fault> {
-    let (summary, _rows) = sum_up(rt.alloc(), conn)?;
-    println!(rt; "{}", summary.keys)?;
+    let mut out = BufWriter::new(rt.alloc(), io::writer(rt))?;
+    count(rt.alloc(), conn, &mut out)?;
+    out.flush()?;
     Ok(())
 }
 
@@ -73,26 +72,26 @@ fn print_status<S: Alter>(
     conn: &mut Connection<S>,
     writer: &str,
 ) -> Result<(), Fault> {
-    let (summary, rows) = sum_up(rt.alloc(), conn)?;
-    println!(rt; "keys {}", summary.keys)?;
-    println!(rt; "removed {}", summary.removed)?;
-    println!(rt; "rows {rows}")?;
-    println!(rt; "last write {}", summary.last)?;
-    println!(rt; "writer {writer}")?;
+    let mut out = BufWriter::new(rt.alloc(), io::writer(rt))?;
+    status(rt.alloc(), conn, &mut out, writer)?;
+    out.flush()?;
     Ok(())
 }
 
 /// Prints the keys and values, or the log, as CSV.
-fn export<S: Alter>(rt: &HostRuntime, conn: &mut Connection<S>, is_log: bool) -> Result<(), Fault> {
+fn print_csv<S: Alter>(
+    rt: &HostRuntime,
+    conn: &mut Connection<S>,
+    is_log: bool,
+) -> Result<(), Fault> {
     let alloc = rt.alloc();
     let out = BufWriter::new(alloc, io::writer(rt))?;
     if is_log {
-        let entries = read_log(alloc, conn)?;
-        write_log(alloc, out, &entries)
+        export_log(alloc, conn, out)?;
     } else {
-        let rows = read_latest(alloc, conn)?;
-        write_rows(out, &rows)
+        export(alloc, conn, out)?;
     }
+    Ok(())
 }
 
 /// Writes the records on standard input.
@@ -142,7 +141,7 @@ pub fn run<S: Alter>(
         Verb::Count => print_count(rt, conn),
         Verb::Status => print_status(rt, conn, writer),
         Verb::Import => import_given(rt, conn, writer, given),
-        Verb::Export => export(rt, conn, given.log),
+        Verb::Export => print_csv(rt, conn, given.log),
         Verb::Compact => compact_given(rt, conn, given.forget),
         _ => Ok(()),
     }

@@ -1,16 +1,16 @@
 //! The commands that write.
-ghost use Rattle.std.specs.Prelude.{◌≡◌, ◌≤◌, ◌<◌, ◌⊎◌, length, string_len, All, Any, IfOk, IfErr, OnOk, IsErrOf, true, false};
+ghost use Rattle.std.specs.Prelude.{◌≡◌, ◌≤◌, ◌<◌, ◌⊎◌, length, string_len, filter, All, Any, IfOk, IfErr, OnOk, IsErrOf, true, false};
+ghost use Rattle.std.specs.List.{AllZip};
 ghost use Rattle.key_order.specs.Text.{text_order};
-ghost use Rattle.key_order.specs.Map.{IsMap, get};
+ghost use Rattle.key_order.specs.Map.{IsMap};
 ghost use Rattle.sqlite.specs.State.{IsUnchanged};
 ghost use Rattle.sqlite.specs.Held.{state};
 ghost use Rattle.sqlite.specs.View.{doubt};
-ghost use Rattle.store_table.specs.Connections.{database, HasStore, IsClean, IsCommitted, Makes, StaysInOk, StaysInErr, Leaves, LeavesNoMore};
+ghost use Rattle.store_table.specs.Connections.{database, HasStore, IsClean, IsCommitted, Finds, Makes, StaysInOk, StaysInErr, Leaves, LeavesNoMore};
 ghost use Rattle.store_table.specs.Latest.{IsThere};
-ghost use Rattle.store_table.specs.Registers.{is_later};
 ghost use Rattle.mst_commands.specs.Faults.{IsTooLong};
-ghost use Rattle.mst_commands.specs.Writes.{WritesBy, HasEntriesMore};
-ghost use Rattle.mst_commands.specs.Imports.{IsDated};
+ghost use Rattle.mst_commands.specs.Writes.{WritesBy};
+ghost use Rattle.mst_commands.specs.Imports.{IsDated, is_newer, AddsOf, Imports};
 
 use crate::fault::Fault;
 use crate::records::{MOST, read_entries};
@@ -133,22 +133,36 @@ fn all_dated(
     writer: &str,
     now: u64,
     entries: Entries,
-) -> Result<Entries, Fault> {
+) -> Result<Entries, Fault>
+    ensures { IsMap text_order rows.now → IfOk result (λ all. AllZip (IsDated rows.now writer.now now) entries.items all.items) }
+{
     let mut all = Vec::new(alloc);
-    for entry in entries {
-        all.push(dated(alloc, rows, writer, now, entry)?)?;
+    'entries: for entry in entries {
+        let entry = dated(alloc, rows, writer, now, entry)?;
+        all.push(entry)?;
     }
     Ok(all)
 }
 
 /// Whether an entry is later than what the rows have at its key.
 fn is_news(rows: &[(String, Register)], entry: &(String, Register)) -> bool
-    ensures { IsMap text_order rows.now → result ≡ is_later (get text_order rows.now entry.now.0) entry.now.1 }
+    ensures { IsMap text_order rows.now → result ≡ is_newer rows.now entry.now }
 {
     match register_in(rows, &entry.0) {
         Some(own) => *own < entry.1,
         None => true,
     }
+}
+
+/// Takes out the entries that are no later than what the rows have at their keys.
+fn retain_news(news: &mut Entries, rows: &[(String, Register)])
+    ensures { IsMap text_order rows.now → news.new.items ≡ filter (is_newer rows.now) news.old.items }
+{
+    news.retain(
+        |entry: &(String, Register)| -> bool
+            ensures { IsMap text_order rows.entry.now → result ≡ is_newer rows.entry.now entry.now }
+        { is_news(rows, entry) },
+    );
 }
 
 /// Refuses entries whose time is above the latest that is taken.
@@ -164,28 +178,29 @@ fn not_above(entries: &[(String, Register)], latest: u64) -> Result<(), Fault>
     Ok(())
 }
 
-/// The entries of an import, as they are to be added.
+/// The entries of an import that are to be added, of those that came.
 fn entries_to_add<S: Alter>(
     alloc: Global,
     conn: &mut Connection<S>,
     writer: &str,
     now: u64,
-    entries: Entries,
+    came: Entries,
     log: Option<u64>,
 ) -> Result<Entries, Fault>
+    ensures added { Finds S.Store conn.old conn.new result (λ db added. AddsOf log writer.now now db.trees came.items added.items) }
     ensures unchanged { HasStore S.Store conn.old → StaysInOk S.Store conn.old conn.new result }
     ensures refused { HasStore S.Store conn.old → IsCommitted S.Store conn.old → StaysInErr S.Store conn.old conn.new result }
     ensures clean { doubt (state S.Store conn.old).is_clean ≤ doubt (state S.Store conn.new).is_clean }
     ensures crash { HasStore S.Store conn.old → LeavesNoMore S.Store conn.old conn.new }
 {
     let rows = read_latest(alloc, conn)?;
-    let mut news = latest_rows(entries);
+    let mut last = latest_rows(came);
     let Some(latest) = log else {
-        return all_dated(alloc, &rows, writer, now, news);
+        return all_dated(alloc, &rows, writer, now, last);
     };
-    not_above(&news, latest)?;
-    news.retain(|entry| is_news(&rows, entry));
-    Ok(news)
+    not_above(&last, latest)?;
+    retain_news(&mut last, &rows);
+    Ok(last)
 }
 
 /// Writes the records of a CSV, all or none: the last of each key; and of a log, where `log` has the latest time that an entry may have,
@@ -202,10 +217,10 @@ pub fn import<S: Alter, R: Read + Drop>(
     from: R,
     log: Option<u64>,
 ) -> Result<(), Fault>
-    ensures written { Makes S.Store conn.old conn.new result HasEntriesMore }
+    ensures written { Makes S.Store conn.old conn.new result (Imports (R.remaining from) log writer.now now) }
     ensures refused { HasStore S.Store conn.old → IsCommitted S.Store conn.old → StaysInErr S.Store conn.old conn.new result }
     // A crash leaves what it could leave before, or a database with all that is imported.
-    ensures crash { HasStore S.Store conn.old → Leaves S.Store conn.old conn.new HasEntriesMore }
+    ensures crash { HasStore S.Store conn.old → Leaves S.Store conn.old conn.new (Imports (R.remaining from) log writer.now now) }
 {
     let came = read_entries(alloc, from, log.is_some())?;
     let added = entries_to_add(alloc, conn, writer, now, came, log)?;

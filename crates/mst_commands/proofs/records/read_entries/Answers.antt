@@ -1,0 +1,51 @@
+use Rattle.std.proofs.Common.{◌≡◌, ℕ, Bool, List, [], ◌∷◌, ◌++◌, Option, Some, None, IfSome, MatchBool, true, false, refl, sym, subst, length-append, arith}
+use Rattle.csv.specs.Records.{fields_of}
+use Rattle.mst_commands.specs.Records.{header, AreAll, HasEntries, HasRead, SayAll, SayEntries, SaysEntry}
+use Rattle.mst_commands.proofs.CsvLemmas.{say_more}
+use Rattle.mst_commands.proofs.records.read_entries.Goals as goal
+
+-- the records of a text that say these entries
+has_entries : (is_log : Bool) (text : Option (List ℕ)) (records : List (List (List ℕ))) (entries : List _) → AreAll text records → SayAll is_log records entries → IfSome text (λ bytes. HasEntries is_log bytes entries)
+has_entries is_log None records entries all say = tt
+has_entries is_log (Some bytes) records entries all say = (records, all, say)
+
+found_one : (found : Bool) (P Q : Type 0) → found ≡ true → MatchBool found P Q → P
+found_one true P Q e h = h
+found_one false P Q e h = absurd (let k = e in cc)
+
+found_none : (found : Bool) (P Q : Type 0) → found ≡ false → MatchBool found P Q → Q
+found_none true P Q e h = absurd (let k = e in cc)
+found_none false P Q e h = h
+
+pub records-init : goal.records-init
+records-init g c =
+    let text = g.R.Read.remaining c.args.from in
+    let one = found_one c.in_ok-read_next.field-0 _ _ c.if-not-branch.false (c.in_ok-read_next.ensures text [] c.reader_of-reader.ensures) in (
+      [],
+      subst (λ (first : List (List ℕ)). HasRead g.R.Read.remaining text (first ∷ []) c.read_next.new.reader) c.in_ok-expect_header.ensures one,
+      subst (SayEntries c.args.is_log 1 []) (sym c.new-entries.ensures.items) tt,
+      refl,
+    )
+
+pub records-preserved : goal.records-preserved
+records-preserved g c =
+    let (records, had, said, count) = c.records.invariant in
+    let fields = fields_of c.read_next-in-records.new.row in
+    let entry = c.in_ok-entry.entry in
+    let is_log = c.args.is_log in
+    let one = found_one c.in_ok-read_next-2.field-0 _ _ c.if-not-branch-2.false (c.in_ok-read_next-2.ensures (g.R.Read.remaining c.args.from) (header is_log ∷ records) had) in
+    let says = subst (λ (n : ℕ). SaysEntry is_log n fields entry) count c.in_ok-entry.ensures in
+    let more = say_more is_log 1 records c.records.entries.items fields entry said says in
+    (records ++ fields ∷ [], one, subst (SayEntries is_log 1 (records ++ fields ∷ [])) (sym c.in_ok-push.ensures.items) more, omega (arith, length-append records (fields ∷ [])))
+
+pub returns-then-not-branch : goal.returns-then-not-branch
+returns-then-not-branch g c =
+    let text = g.R.Read.remaining c.args.from in
+    has_entries c.args.is_log text [] _ (found_none c.in_ok-read_next.field-0 _ _ c.if-not-branch.true (c.in_ok-read_next.ensures text [] c.reader_of-reader.ensures)) c.new-entries.ensures.items
+
+pub returns-then-not-branch-2 : goal.returns-then-not-branch-2
+returns-then-not-branch-2 g c =
+    let (records, had, said, count) = c.records.invariant in
+    let all = header c.args.is_log ∷ records in
+    let text = g.R.Read.remaining c.args.from in
+    has_entries c.args.is_log text all _ (found_none c.in_ok-read_next-2.field-0 _ _ c.if-not-branch-2.true (c.in_ok-read_next-2.ensures text all had)) (refl, said)

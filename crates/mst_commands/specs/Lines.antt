@@ -1,0 +1,49 @@
+-- Keys and texts in lines, as a list writes them.
+use Rattle.std.specs.Prelude.{ℕ, Bool, List, [], ◌++◌, take, codes, string_bytes, Option, None, option_map, if◌then◌else◌, flat_map, filter_map}
+use Rattle.std.specs.Option.{option_copied, option_map_or}
+use Rattle.key_order.specs.Text.{Text as Key}
+use Rattle.store_table.specs.declared.register.Register.{Register}
+use Rattle.mst_commands.specs.Bounds.{are_around}
+use Rattle.mst_commands.specs.Escapes.{line_of, json_of}
+use Rattle.mst_commands.specs.declared.bounds.Bounds.{Bounds}
+use Rattle.mst_commands.specs.declared.bounds.Listing.{Listing}
+
+-- a key and its text, as bytes
+abbrev pub Pair : Type 0
+Pair = List ℕ × List ℕ
+
+-- the key and the text of a row, unless it is a removal
+abbrev pub pair_of : Key × Register → Option Pair
+pair_of row = option_map (λ text. (string_bytes row.0, string_bytes text)) row.1.value
+
+-- a key, a tab and a text in a line
+abbrev pub text_line : List ℕ → List ℕ → List ℕ
+text_line key text = line_of key ++ (codes "\t" ++ (line_of text ++ codes "\n"))
+
+-- a key and a text in a line, as an object of JSON
+abbrev pub json_line : List ℕ → List ℕ → List ℕ
+json_line key text = codes "{\"key\":" ++ (json_of key ++ (codes ",\"value\":" ++ (json_of text ++ codes "}\n")))
+
+-- the line of a key and its text, as JSON or not
+abbrev pub line_as : Bool → Pair → List ℕ
+line_as json pair = if json then json_line pair.0 pair.1 else text_line pair.0 pair.1
+
+-- the key and the text of a row that is listed: no removal, and its key is within the bounds
+abbrev pub listed : Bounds → Key × Register → Option Pair
+listed b row = if are_around (option_copied b.first) (option_copied b.last) (option_copied b.prefix) (string_bytes row.0) then pair_of row else None
+
+-- its line, or nothing where the row isn't listed
+abbrev pub line_where : Bool → Option Pair → List ℕ
+line_where json pair = option_map_or (line_as json) pair []
+
+-- a line for each row that is listed, for so many at most
+abbrev pub lines_of : Bounds → Bool → ℕ → List (Key × Register) → List ℕ
+lines_of bounds json limit rows = flat_map (line_as json) (take limit (filter_map (listed bounds) rows))
+
+-- what a list of rows writes
+abbrev pub list_of : Listing → List (Key × Register) → List ℕ
+list_of listing rows = lines_of listing.bounds listing.json listing.limit rows
+
+-- the key of a row in a line
+abbrev pub key_line : Key × Register → List ℕ
+key_line row = line_of (string_bytes row.0) ++ codes "\n"

@@ -1,0 +1,100 @@
+//! Keys and texts in lines.
+ghost use Rattle.std.specs.Prelude.{◌≡◌, is_some, flat_map, IfOk, OnOk};
+ghost use Rattle.std.specs.Io.KnownBytes.{Appends};
+ghost use Rattle.mst_commands.specs.Lines.{text_line, json_line, line_as, line_where, listed, list_of, key_line};
+
+use crate::bounds::Listing;
+use crate::escape::{escape, json_string};
+use crate::fault::Fault;
+use std::alloc::Global;
+use std::io::Write;
+use store_table::Register;
+
+/// Writes a key and its text as a line.
+fn write_line<W: Write>(alloc: Global, out: &mut W, key: &str, text: &str) -> Result<(), Fault>
+    ensures { OnOk result (Appends (W.contents out.old) (W.contents out.new) (text_line key.now text.now)) }
+{
+    let key = escape(alloc, key)?;
+    let text = escape(alloc, text)?;
+    out.write_all(key.as_bytes())?;
+    out.write_all(b"\t")?;
+    out.write_all(text.as_bytes())?;
+    out.write_all(b"\n")?;
+    Ok(())
+}
+
+/// Writes a key and its text as an object of JSON.
+fn write_object<W: Write>(alloc: Global, out: &mut W, key: &str, text: &str) -> Result<(), Fault>
+    ensures { OnOk result (Appends (W.contents out.old) (W.contents out.new) (json_line key.now text.now)) }
+{
+    let key = json_string(alloc, key)?;
+    let text = json_string(alloc, text)?;
+    out.write_all(b"{\"key\":")?;
+    out.write_all(key.as_bytes())?;
+    out.write_all(b",\"value\":")?;
+    out.write_all(text.as_bytes())?;
+    out.write_all(b"}\n")?;
+    Ok(())
+}
+
+/// Writes the line of a row where it is listed, and answers whether it is.
+fn write_row<W: Write>(
+    alloc: Global,
+    out: &mut W,
+    row: &(String, Register),
+    listing: &Listing<'_>,
+) -> Result<bool, Fault>
+    ensures shown { IfOk result (λ shown. shown ≡ is_some (listed listing.now.bounds row.now)) }
+    ensures bytes { OnOk result (Appends (W.contents out.old) (W.contents out.new) (line_where listing.now.json (listed listing.now.bounds row.now))) }
+{
+    let key = row.0.as_str();
+    if !listing.bounds.hold(key) {
+        return Ok(false);
+    }
+    let Some(text) = &row.1.value else {
+        return Ok(false);
+    };
+    if listing.json {
+        write_object(alloc, out, key, text.as_str())?;
+    } else {
+        write_line(alloc, out, key, text.as_str())?;
+    }
+    Ok(true)
+}
+
+/// Writes the lines of rows.
+pub fn write_rows<W: Write>(
+    alloc: Global,
+    out: &mut W,
+    rows: &[(String, Register)],
+    listing: &Listing<'_>,
+) -> Result<(), Fault>
+    ensures { OnOk result (Appends (W.contents out.old) (W.contents out.new) (list_of listing.now rows.now)) }
+{
+    let mut left = listing.limit;
+    'rows: for row in rows {
+        if left == 0 {
+            return Ok(());
+        }
+        if write_row(alloc, out, row, listing)? {
+            left -= 1;
+        }
+    }
+    Ok(())
+}
+
+/// Writes the keys of entries, a line each, as a list writes them.
+pub fn write_keys<W: Write>(
+    alloc: Global,
+    out: &mut W,
+    entries: &[(String, Register)],
+) -> Result<(), Fault>
+    ensures { OnOk result (Appends (W.contents out.old) (W.contents out.new) (flat_map key_line entries.now)) }
+{
+    'entries: for entry in entries {
+        let key = escape(alloc, entry.0.as_str())?;
+        out.write_all(key.as_bytes())?;
+        out.write_all(b"\n")?;
+    }
+    Ok(())
+}
