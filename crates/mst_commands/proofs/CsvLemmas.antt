@@ -70,14 +70,21 @@ module _ {R : Type 0} (remaining : R → Option (List ℕ)) where
       (reader_state old, was.0, was.2, rows-end remaining old new fields default_config was.0 had.config was.1 r))
 
 -- one record more says one entry more
-pub say_more : (is_log : Bool) (number : ℕ) (records : List (List (List ℕ))) (entries : List (Key × Register)) (fields : List (List ℕ)) (entry : Key × Register)
+say_more_as : (is_log : Bool) (number : ℕ) (records : List (List (List ℕ))) (entries : List (Key × Register)) (fields : List (List ℕ)) (entry : Key × Register)
     → SayEntries is_log number records entries → SaysEntry is_log (number + length records) fields entry → SayEntries is_log number (records ++ fields ∷ []) (entries ++ entry ∷ [])
-say_more is_log number [] [] fields entry said more = (subst (λ n. SaysEntry is_log n fields entry) (add-zero number) more, tt)
-say_more is_log number [] (e ∷ es) fields entry said more = absurd said
-say_more is_log number (r ∷ rs) [] fields entry said more = absurd said
-say_more is_log number (r ∷ rs) (e ∷ es) fields entry said more =
+say_more_as is_log number [] [] fields entry said more = (subst (λ n. SaysEntry is_log n fields entry) (add-zero number) more, tt)
+say_more_as is_log number [] (e ∷ es) fields entry said more = absurd said
+say_more_as is_log number (r ∷ rs) [] fields entry said more = absurd said
+say_more_as is_log number (r ∷ rs) (e ∷ es) fields entry said more =
     let next : number + length (r ∷ rs) ≡ (number + 1) + length rs = omega arith in
-    (said.0, say_more is_log (number + 1) rs es fields entry said.1 (subst (λ n. SaysEntry is_log n fields entry) next more))
+    (said.0, say_more_as is_log (number + 1) rs es fields entry said.1 (subst (λ n. SaysEntry is_log n fields entry) next more))
+
+pub say_more : (is_log : Bool) (number at : ℕ) (records : List (List (List ℕ))) (entries after : List (Key × Register)) (fields : List (List ℕ)) (entry : Key × Register)
+    → SayEntries is_log number records entries → at ≡ number + length records → SaysEntry is_log at fields entry → after ≡ entries ++ entry ∷ []
+    → SayEntries is_log number (records ++ fields ∷ []) after
+say_more is_log number at records entries after fields entry said is says same =
+    subst (SayEntries is_log number (records ++ fields ∷ [])) (sym same)
+    (say_more_as is_log number records entries fields entry said (subst (λ n. SaysEntry is_log n fields entry) is says))
 
 module _ {W : Type 0} (contents : W → Option (List ℕ)) where
   -- records behind records

@@ -1,6 +1,6 @@
 use Rattle.std.proofs.Common.{◌≡◌, ℕ, Bool, List, [], ◌∷◌, ◌++◌, Option, Some, None, IfSome, MatchBool, true, false, refl, sym, subst, length-append, arith}
 use Rattle.csv.specs.Records.{fields_of}
-use Rattle.mst_commands.specs.Records.{header, AreAll, HasEntries, HasRead, SayAll, SayEntries, SaysEntry}
+use Rattle.mst_commands.specs.Records.{header, AreAll, HasEntries, HasRead, SayAll, SayEntries}
 use Rattle.mst_commands.proofs.CsvLemmas.{say_more}
 use Rattle.mst_commands.proofs.records.read_entries.Goals as goal
 
@@ -31,12 +31,10 @@ pub records-preserved : goal.records-preserved
 records-preserved g c =
     let (records, had, said, count) = c.records.invariant in
     let fields = fields_of c.read_next-in-records.new.row in
-    let entry = c.in_ok-entry.entry in
     let is_log = c.args.is_log in
     let one = found_one c.in_ok-read_next-2.field-0 _ _ c.if-not-branch-2.false (c.in_ok-read_next-2.ensures (g.R.Read.remaining c.args.from) (header is_log ∷ records) had) in
-    let says = subst (λ (n : ℕ). SaysEntry is_log n fields entry) count c.in_ok-entry.ensures in
-    let more = say_more is_log 1 records c.records.entries.items fields entry said says in
-    (records ++ fields ∷ [], one, subst (SayEntries is_log 1 (records ++ fields ∷ [])) (sym c.in_ok-push.ensures.items) more, omega (arith, length-append records (fields ∷ [])))
+    let says = say_more is_log 1 c.records.number records c.records.entries.items c.push.new.self.items fields c.in_ok-entry.entry said count c.in_ok-entry.ensures c.in_ok-push.ensures.items in
+    (records ++ fields ∷ [], one, says, omega (arith, length-append records (fields ∷ [])))
 
 pub returns-then-not-branch : goal.returns-then-not-branch
 returns-then-not-branch g c =
