@@ -46,6 +46,7 @@ pub record SaysPair (number : ℕ) (row : List (List ℕ)) (entry : Key × Regis
   pub time : entry.1.time ≡ number
   pub writer : string_bytes entry.1.writer ≡ []
 
+-- a record behind the header, of a log or of keys and texts, says this entry
 abbrev pub SaysEntry : Bool → ℕ → List (List ℕ) → Key × Register → Type 0
 SaysEntry is_log number fields entry = MatchBool is_log (SaysChange fields entry) (SaysPair number fields entry)
 
