@@ -331,6 +331,7 @@ static void first_replies(void) {
         {{1, 129, 0, 0}, 4, MST_DONE, 0},
         {{1, 129, 133, 1, 0}, 5, MST_DONE, 0},
         {{1, 255}, 2, MST_REFUSED, 0},
+        {{1, 255, 0}, 3, MST_REFUSED, 0},
         {{0}, 0, MST_MALFORMED, 0},
         {{1}, 1, MST_MALFORMED, 0},
         {{1, 129}, 2, MST_MALFORMED, 0},
@@ -343,7 +344,6 @@ static void first_replies(void) {
         {{2, 129, 0, 0}, 4, MST_MALFORMED, 0},
         {{1, 130, 0, 0}, 4, MST_MALFORMED, 0},
         {{1, 1, 0, 0}, 4, MST_MALFORMED, 0},
-        {{1, 255, 0}, 3, MST_MALFORMED, 0},
     };
 #undef DIGEST
     size_t i;
