@@ -98,6 +98,43 @@ fn places(alloc: Global, many: usize, bound: usize) -> Result<Vec<usize>, Fault>
     Ok(places)
 }
 
+/// The keys of a line of the table, and at which of their places rows differ in which way.
+#[derive(Clone, Copy)]
+struct Case<'a> {
+    sorted: &'a [String],
+    places: &'a [usize],
+    kind: Kind,
+}
+
+impl<'a> Case<'a> {
+    /// The case of changed values at these places.
+    fn changed(sorted: &'a [String], places: &'a [usize]) -> Self {
+        Case {
+            sorted,
+            places,
+            kind: Kind::Changed,
+        }
+    }
+
+    /// The case of missing rows at the same places.
+    fn missing(self) -> Self {
+        Case {
+            kind: Kind::Missing,
+            ..self
+        }
+    }
+
+    /// The replica with the differences.
+    fn asking(&self, alloc: Global) -> Result<Numbers, Fault> {
+        replica(alloc, self.sorted, self.places, self.kind)
+    }
+
+    /// The replica that it catches up with.
+    fn asked(&self, alloc: Global) -> Result<Numbers, Fault> {
+        replica(alloc, self.sorted, &[], self.kind)
+    }
+}
+
 /// What a catch-up takes over a wire.
 #[derive(Clone, Copy)]
 struct Cost {
@@ -170,7 +207,37 @@ fn bytes_of_pull(peer: &Numbers, pulled: usize) -> Result<usize, Fault> {
     Ok(list.saturating_add(pulled.saturating_mul(KEY + VALUE)))
 }
 
-/// Times a catch-up of the replica with these differences, and answers how many rows it joined.
+/// Times a session by messages, both sides of it, which joins nothing, and answers what it takes over a wire.
+fn time_session<R: Clock>(
+    rt: &R,
+    alloc: Global,
+    local: &mut Numbers,
+    peer: &mut Numbers,
+    best: &mut Best,
+) -> Result<Cost, Fault> {
+    let start = now(rt)?;
+    let cost = cost_of(alloc, local, peer);
+    best.note_since(rt, start)?;
+    cost
+}
+
+/// The best time of four sessions, and what the last took over a wire.
+fn sessions<R: Clock>(
+    rt: &R,
+    alloc: Global,
+    case: Case<'_>,
+    peer: &mut Numbers,
+) -> Result<(Best, Cost), Fault> {
+    let mut local = case.asking(alloc)?;
+    let mut best = Best::new();
+    let mut cost = time_session(rt, alloc, &mut local, peer, &mut best)?;
+    for _ in 0..3 {
+        cost = time_session(rt, alloc, &mut local, peer, &mut best)?;
+    }
+    Ok((best, cost))
+}
+
+/// Times a catch-up, and answers how many rows it joined.
 fn time_catch_up<R: Clock>(
     rt: &R,
     local: Numbers,
@@ -187,21 +254,21 @@ fn time_catch_up<R: Clock>(
     }
 }
 
-/// Times a session by messages, both sides of it, which joins nothing, and answers what it takes over a wire.
-fn time_session<R: Clock>(
+/// The best time of three catch-ups, and how many rows the last joined.
+fn catch_ups<R: Clock>(
     rt: &R,
     alloc: Global,
-    local: &mut Numbers,
+    case: Case<'_>,
     peer: &mut Numbers,
-    best: &mut Best,
-) -> Result<Cost, Fault> {
-    let start = now(rt)?;
-    let cost = cost_of(alloc, local, peer);
-    best.note_since(rt, start)?;
-    cost
+) -> Result<(Best, usize), Fault> {
+    let (mut best, mut joined) = (Best::new(), 0);
+    for _ in 0..3 {
+        joined = time_catch_up(rt, case.asking(alloc)?, peer, &mut best)?;
+    }
+    Ok((best, joined))
 }
 
-/// Times a pull of the replica with these differences, and answers how many rows it joined.
+/// Times a pull, and answers how many rows it joined.
 fn time_pull<R: Clock>(
     rt: &R,
     local: Numbers,
@@ -218,6 +285,20 @@ fn time_pull<R: Clock>(
     }
 }
 
+/// The best time of three pulls, and how many rows the last joined.
+fn pulls<R: Clock>(
+    rt: &R,
+    alloc: Global,
+    case: Case<'_>,
+    peer: &mut Numbers,
+) -> Result<(Best, usize), Fault> {
+    let (mut best, mut joined) = (Best::new(), 0);
+    for _ in 0..3 {
+        joined = time_pull(rt, case.asking(alloc)?, peer, &mut best)?;
+    }
+    Ok((best, joined))
+}
+
 /// The name of what differs at a row.
 fn name_of(kind: Kind) -> &'static str {
     match kind {
@@ -226,28 +307,18 @@ fn name_of(kind: Kind) -> &'static str {
     }
 }
 
-/// Writes the line of so many rows, of which so many differ in this way.
+/// Writes the line of a case.
 fn write_line<R: Clock, W: Write>(
     rt: &R,
     alloc: Global,
-    sorted: &[String],
-    places: &[usize],
-    kind: Kind,
+    case: Case<'_>,
     out: &mut W,
 ) -> Result<(), Fault> {
-    let mut peer = replica(alloc, sorted, &[], kind)?;
-    let mut asking = replica(alloc, sorted, places, kind)?;
-    let (mut session, mut catch_up, mut pull) = (Best::new(), Best::new(), Best::new());
-    let mut cost = time_session(rt, alloc, &mut asking, &mut peer, &mut session)?;
-    let (mut joined, mut pulled) = (0, 0);
-    for _ in 0..3 {
-        cost = time_session(rt, alloc, &mut asking, &mut peer, &mut session)?;
-        let local = replica(alloc, sorted, places, kind)?;
-        joined = time_catch_up(rt, local, &mut peer, &mut catch_up)?;
-        let local = replica(alloc, sorted, places, kind)?;
-        pulled = time_pull(rt, local, &mut peer, &mut pull)?;
-    }
-    let (rows, differing, way) = (sorted.len(), places.len(), name_of(kind));
+    let mut peer = case.asked(alloc)?;
+    let (session, cost) = sessions(rt, alloc, case, &mut peer)?;
+    let (catch_up, joined) = catch_ups(rt, alloc, case, &mut peer)?;
+    let (pull, pulled) = pulls(rt, alloc, case, &mut peer)?;
+    let (rows, differing, way) = (case.sorted.len(), case.places.len(), name_of(case.kind));
     let (session, catch_up, pull) = (session.each(1000), catch_up.each(1000), pull.each(1000));
     let (rounds, fetched) = (cost.rounds, cost.fetched);
     let bytes = cost.sent.saturating_add(cost.came);
@@ -277,25 +348,20 @@ pub fn write_table<R: Clock, W: Write>(
         sorted.sort_unstable();
         for differing in differing_of(alloc, *count)? {
             let places = places(alloc, differing, *count)?;
-            write_line(rt, alloc, &sorted, &places, Kind::Changed, out)?;
-            write_line(rt, alloc, &sorted, &places, Kind::Missing, out)?;
+            let changed = Case::changed(&sorted, &places);
+            write_line(rt, alloc, changed, out)?;
+            write_line(rt, alloc, changed.missing(), out)?;
         }
     }
     Ok(())
 }
 
-/// Writes the line of the session between replicas of so many rows, of which so many differ in this way.
-fn write_session<W: Write>(
-    alloc: Global,
-    sorted: &[String],
-    places: &[usize],
-    kind: Kind,
-    out: &mut W,
-) -> Result<(), Fault> {
-    let mut peer = replica(alloc, sorted, &[], kind)?;
-    let mut local = replica(alloc, sorted, places, kind)?;
+/// Writes the line of the session of a case.
+fn write_session<W: Write>(alloc: Global, case: Case<'_>, out: &mut W) -> Result<(), Fault> {
+    let mut peer = case.asked(alloc)?;
+    let mut local = case.asking(alloc)?;
     let cost = cost_of(alloc, &mut local, &mut peer)?;
-    let (rows, differing, way) = (sorted.len(), places.len(), name_of(kind));
+    let (rows, differing, way) = (case.sorted.len(), case.places.len(), name_of(case.kind));
     let (messages, rounds) = (cost.messages, cost.rounds);
     let (sent, came, fetched) = (cost.sent, cost.came, cost.fetched);
     writeln!(
@@ -315,8 +381,9 @@ pub fn write_sessions<W: Write>(alloc: Global, counts: &[usize], out: &mut W) ->
         sorted.sort_unstable();
         for differing in differing_of(alloc, *count)? {
             let places = places(alloc, differing, *count)?;
-            write_session(alloc, &sorted, &places, Kind::Changed, out)?;
-            write_session(alloc, &sorted, &places, Kind::Missing, out)?;
+            let changed = Case::changed(&sorted, &places);
+            write_session(alloc, changed, out)?;
+            write_session(alloc, changed.missing(), out)?;
         }
     }
     Ok(())
