@@ -103,50 +103,123 @@ fn altered(alloc: Global, bytes: &[u8], at: usize, bit: u8) -> Result<Vec<u8>, F
     Ok(others)
 }
 
-/// Whether each altered reply is refused, then or later, or brings rows in ascending order, and leaves the rows of the asking side.
+/// Whether a reply that comes at a place is refused, then or later, or brings rows in ascending order.
+fn comes_in_order<K: Sample, V: Worth>(
+    alloc: Global,
+    scene: &mut Scene<K, V>,
+    place: usize,
+    reply: &[u8],
+) -> Result<bool, Fail> {
+    match goes_on(alloc, scene, place, reply)? {
+        Some(rows) => Ok(ascend(&rows)),
+        None => Ok(true),
+    }
+}
+
+/// The reply at a place.
+fn reply_at<K: Sample, V: Worth>(
+    alloc: Global,
+    scene: &Scene<K, V>,
+    place: usize,
+) -> Result<Vec<u8>, Fail> {
+    match scene.steps.get(place) {
+        Some((_, reply)) => Ok(Vec::from_slice(alloc, reply)?),
+        None => Err(Fail::new("no reply")),
+    }
+}
+
+/// Whether the reply at a place comes in order with any one of its bytes altered.
+fn reply_may_be_altered<K: Sample, V: Worth>(
+    alloc: Global,
+    scene: &mut Scene<K, V>,
+    place: usize,
+) -> Result<bool, Fail> {
+    let reply = reply_at(alloc, scene, place)?;
+    for at in 0..reply.len() {
+        for bit in [1, 128] {
+            let other = altered(alloc, &reply, at, bit)?;
+            if !comes_in_order(alloc, scene, place, &other)? {
+                return Ok(false);
+            }
+        }
+    }
+    Ok(true)
+}
+
+/// Whether each altered reply comes in order, and leaves the rows of the asking side.
 fn replies_may_be_altered<K: Sample, V: Worth>(
     alloc: Global,
     most_bytes: usize,
 ) -> Result<bool, Fail> {
     let mut scene = played::<K, V>(alloc, most_bytes)?;
-    let before = side::<K, V>(alloc, 5, 100)?;
     for place in 0..scene.steps.len() {
-        let Some((_, reply)) = scene.steps.get(place) else {
+        if !reply_may_be_altered(alloc, &mut scene, place)? {
             return Ok(false);
-        };
-        let reply = Vec::from_slice(alloc, reply)?;
-        for at in 0..reply.len() {
-            for bit in [1, 128] {
-                let other = altered(alloc, &reply, at, bit)?;
-                if let Some(rows) = goes_on(alloc, &mut scene, place, &other)? {
-                    if !ascend(&rows) {
-                        return Ok(false);
-                    }
-                }
+        }
+    }
+    let before = side::<K, V>(alloc, 5, 100)?;
+    Ok(scene.local.rows() == before.rows())
+}
+
+/// Whether a question is refused, or answered in its kind.
+fn is_answered_in_kind<K: Sample, V: Worth>(
+    alloc: Global,
+    peer: &mut Rows<K, V>,
+    question: &[u8],
+) -> bool {
+    let Ok(reply) = answer(alloc, peer, question) else {
+        return true;
+    };
+    let kind = question.get(1).copied().unwrap_or(0).saturating_add(128);
+    reply.first().copied() == Some(1) && reply.get(1).copied() == Some(kind)
+}
+
+/// Whether a question is refused, or answered in its kind, with any one of its bytes altered.
+fn question_may_be_altered<K: Sample, V: Worth>(
+    alloc: Global,
+    peer: &mut Rows<K, V>,
+    question: &[u8],
+) -> Result<bool, Fail> {
+    for at in 0..question.len() {
+        for bit in [1, 128] {
+            let other = altered(alloc, question, at, bit)?;
+            if !is_answered_in_kind(alloc, peer, &other) {
+                return Ok(false);
             }
         }
     }
-    Ok(scene.local.rows() == before.rows())
+    Ok(true)
 }
 
 /// Whether each altered question is refused, or answered in its kind, and leaves the rows of the answering side.
 fn questions_may_be_altered<K: Sample, V: Worth>(alloc: Global) -> Result<bool, Fail> {
     let mut scene = played::<K, V>(alloc, MOST_BYTES)?;
-    let before = side::<K, V>(alloc, 7, 11)?;
     for step in &scene.steps {
-        for at in 0..step.0.len() {
-            for bit in [1, 128] {
-                let other = altered(alloc, &step.0, at, bit)?;
-                if let Ok(reply) = answer(alloc, &mut scene.peer, &other) {
-                    let kind = other.get(1).copied().unwrap_or(0).saturating_add(128);
-                    if reply.first() != Some(&1) || reply.get(1) != Some(&kind) {
-                        return Ok(false);
-                    }
-                }
+        if !question_may_be_altered(alloc, &mut scene.peer, &step.0)? {
+            return Ok(false);
+        }
+    }
+    let before = side::<K, V>(alloc, 7, 11)?;
+    Ok(scene.peer.rows() == before.rows())
+}
+
+/// Whether the reply at a place, wherever it is cut, is refused or brings these rows in the end.
+fn reply_may_be_cut<K: Sample, V: Worth>(
+    alloc: Global,
+    scene: &mut Scene<K, V>,
+    place: usize,
+    whole: &[(K, V)],
+) -> Result<bool, Fail> {
+    let reply = reply_at(alloc, scene, place)?;
+    for len in 0..reply.len() {
+        let (cut, _) = reply.split_at(len);
+        if let Some(rows) = goes_on(alloc, scene, place, cut)? {
+            if rows.as_slice() != whole {
+                return Ok(false);
             }
         }
     }
-    Ok(scene.peer.rows() == before.rows())
+    Ok(true)
 }
 
 /// Whether each reply that is cut is refused, or is one that answers the first of what was asked: then the session asks for the rest and brings the same.
@@ -154,17 +227,8 @@ fn replies_may_be_cut<K: Sample, V: Worth>(alloc: Global, most_bytes: usize) -> 
     let mut scene = played::<K, V>(alloc, most_bytes)?;
     let whole = rows_lacked(alloc, &mut scene.local, &mut scene.peer, MOST_BYTES)?;
     for place in 0..scene.steps.len() {
-        let Some((_, reply)) = scene.steps.get(place) else {
+        if !reply_may_be_cut(alloc, &mut scene, place, &whole)? {
             return Ok(false);
-        };
-        let reply = Vec::from_slice(alloc, reply)?;
-        for len in 0..reply.len() {
-            let (cut, _) = reply.split_at(len);
-            if let Some(rows) = goes_on(alloc, &mut scene, place, cut)? {
-                if rows != whole {
-                    return Ok(false);
-                }
-            }
         }
     }
     Ok(!whole.is_empty())

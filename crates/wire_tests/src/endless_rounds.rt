@@ -15,30 +15,38 @@ fn page_above(alloc: Global, after: Option<[u8; 8]>, node: [u8; 8]) -> Result<Ve
     Ok(reply)
 }
 
+/// The reply to a message: no rows where it asks for rows, and otherwise a page above the last node, which it makes the next.
+fn next_reply(
+    alloc: Global,
+    message: &[u8],
+    rounds: &mut u64,
+    node: &mut Option<[u8; 8]>,
+) -> Result<Vec<u8>, Fail> {
+    if message.get(1) == Some(&3) {
+        return Ok(bytes_of(alloc, NONE)?);
+    }
+    *rounds = (*rounds).saturating_add(1);
+    let next = (*rounds).saturating_add(10).to_be_bytes();
+    let reply = page_above(alloc, *node, next)?;
+    *node = Some(next);
+    Ok(reply)
+}
+
 /// How many rounds a session takes in which the peer has a page below each page, until it is refused.
 fn rounds_until_refused(alloc: Global) -> Result<Option<(u64, SessionError)>, Fail> {
     let mut local = numbers::<[u8; 8]>(alloc, 3, 1, 1)?;
     let (session, _) = CatchingUp::begin(alloc, &local)?;
     let mut session = session;
     let mut reply = bytes_of(alloc, ROOT)?;
-    let mut node = None;
-    let mut rounds = 0u64;
+    let (mut rounds, mut node) = (0, None);
     for _ in 0..1000 {
-        let message = match session.take(&mut local, &reply) {
+        match session.take(&mut local, &reply) {
             Ok(Next::Ask(next, message)) => {
                 session = next;
-                message
+                reply = next_reply(alloc, &message, &mut rounds, &mut node)?;
             }
             Ok(Next::Came(_)) => return Ok(None),
             Err(error) => return Ok(Some((rounds, error))),
-        };
-        if message.get(1) == Some(&3) {
-            reply = bytes_of(alloc, NONE)?;
-        } else {
-            rounds = rounds.saturating_add(1);
-            let next = rounds.saturating_add(10).to_be_bytes();
-            reply = page_above(alloc, node, next)?;
-            node = Some(next);
         }
     }
     Ok(None)

@@ -2,7 +2,7 @@
 //! value by value.
 use crate::keys::Sample;
 use crate::number::Number;
-use crate::playing::{Rows, begun, rows_lacked};
+use crate::playing::{Rows, Waiting, begun, rows_lacked};
 use crate::values::Worth;
 use crate::wide::Wide;
 use merkle_replica::Replica;
@@ -153,19 +153,30 @@ fn holds<K: Sample, V: Worth>(alloc: Global, side: &Side<K, V>) -> Result<bool, 
     Ok(side.replica.rows() == rows.as_slice())
 }
 
+/// Two replicas with the same random updates and others of their own, of up to 20 keys, or seldom of up to 300.
+fn pair<K: Sample, V: Worth>(
+    alloc: Global,
+    format: PageFormat,
+    random: &mut Random,
+) -> Result<(Side<K, V>, Side<K, V>), Fail> {
+    let most = if random.below(50) == 0 { 300 } else { 20 };
+    let keys = random.below(most).saturating_add(1);
+    let base = BASES.get(random.below(3) as usize).copied().unwrap_or(16);
+    let mut a: Side<K, V> = empty(alloc, (base, format), keys)?;
+    let mut b: Side<K, V> = empty(alloc, (base, format), keys)?;
+    part(alloc, (&mut a, &mut b), random)?;
+    Ok((a, b))
+}
+
 /// Whether sessions in both directions leave two random replicas with the join, and with one root hash.
 fn pair_meets<K: Sample, V: Worth>(
     alloc: Global,
     format: PageFormat,
     random: &mut Random,
 ) -> Result<bool, Fail> {
-    let most = if random.below(50) == 0 { 300 } else { 20 };
-    let keys = random.below(most).saturating_add(1);
     let most_bytes = MOST.get(random.below(5) as usize).copied().unwrap_or(64);
-    let base = BASES.get(random.below(3) as usize).copied().unwrap_or(16);
-    let mut a: Side<K, V> = empty(alloc, (base, format), keys)?;
-    let mut b: Side<K, V> = empty(alloc, (base, format), keys)?;
-    part(alloc, (&mut a, &mut b), random)?;
+    let (a, b) = pair::<K, V>(alloc, format, random)?;
+    let (mut a, mut b) = (a, b);
     let a_meets = catches_up(alloc, &mut a, &mut b, most_bytes)?;
     let b_meets = catches_up(alloc, &mut b, &mut a, most_bytes)?;
     Ok(a_meets && b_meets && a.replica.root_hash() == b.replica.root_hash())
@@ -258,21 +269,33 @@ fn five_meet_in_a_ring(rt: HostRuntime) -> Result<(), Fail> {
     Ok(())
 }
 
-/// How a session ends whose peer gets a row before each of its replies, at a key that neither side had: `true` where rows come.
+/// A replica of 40 numbers with 60 random updates.
+fn numbers_of(alloc: Global, random: &mut Random) -> Result<Rows<Number, u64>, Fail> {
+    let mut side: Side<Number, u64> = empty(alloc, (2, PageFormat::V1), 40)?;
+    updates(alloc, &mut side, 60, random)?;
+    Ok(side.replica)
+}
+
+/// The reply of a peer that gets a row before it, at a key that neither side had.
+fn reply_behind_a_put(
+    alloc: Global,
+    peer: &mut Rows<Number, u64>,
+    random: &mut Random,
+    message: &[u8],
+) -> Result<Vec<u8>, Fail> {
+    peer.put(Number::new(random.below(1 << 20)), 9)?;
+    Ok(answer(alloc, peer, message)?)
+}
+
+/// How a session ends whose peer gets a row before each of its replies: `true` where rows come.
 fn ends_with_rows(alloc: Global, random: &mut Random) -> Result<Result<bool, SessionError>, Fail> {
-    let mut local: Side<Number, u64> = empty(alloc, (2, PageFormat::V1), 40)?;
-    let mut peer: Side<Number, u64> = empty(alloc, (2, PageFormat::V1), 40)?;
-    updates(alloc, &mut local, 60, random)?;
-    updates(alloc, &mut peer, 60, random)?;
-    let mut waiting = begun(alloc, &local.replica)?;
+    let mut local = numbers_of(alloc, random)?;
+    let mut peer = numbers_of(alloc, random)?;
+    let mut waiting = begun(alloc, &local)?;
     for _ in 0..100 {
-        peer.replica.put(Number::new(random.below(1 << 20)), 9)?;
-        let reply = answer(alloc, &mut peer.replica, &waiting.message)?;
-        match waiting.session.take(&mut local.replica, &reply) {
-            Ok(Next::Ask(session, message)) => {
-                waiting.session = session;
-                waiting.message = message;
-            }
+        let reply = reply_behind_a_put(alloc, &mut peer, random, &waiting.message)?;
+        match waiting.session.take(&mut local, &reply) {
+            Ok(Next::Ask(session, message)) => waiting = Waiting { session, message },
             Ok(Next::Came(rows)) => return Ok(Ok(!rows.is_empty())),
             Err(error) => return Ok(Err(error)),
         }
