@@ -7,7 +7,6 @@ use Rattle.std.specs.List.{AllByRecursion, filter}
 use Rattle.std.specs.Cmp.{IsTotalOrder, IsEquivalence, tied_back}
 use Rattle.std.specs.declared.cmp.Ordering.{Ordering}
 use Rattle.key_order.specs.Map.{SameMap, get, last_key}
-use Rattle.key_order.specs.Order.{AnyByRecursion, Same}
 use Rattle.key_order.specs.SameKeys.{SameKeys}
 use Rattle.key_order.proofs.Bools.{which}
 use Rattle.key_order.proofs.ListParts.{each-before, each-behind, join_tells}
@@ -28,8 +27,8 @@ use Rattle.merkle_wire.specs.Next.{AsksOrGoesOn, IsNext}
 use Rattle.merkle_wire.specs.Outlines.{Outline, rows_told, digests_told, page_told, IsTold, nodes_among}
 use Rattle.merkle_wire.specs.Replies.{Answers, IsPartOf, IsReply, Part, items_over, outlines_bytes, parts_bytes}
 use Rattle.merkle_wire.specs.Sessions.{IsRowOfPeer}
-use Rattle.merkle_wire.specs.Steady.{AsksForPages, IsFilled, IsKeyOf, IsSteady, LeavesLess, left_by, left_for, left_of, nodes_over, rows_in, times_at, times_in, total}
-use Rattle.merkle_wire.specs.Taking.{AddsKeys, AreBehind, AreNewGaps, AreTaken, IsBehind, IsGapOrNone, IsRootTaken, IsTaken, has_digest, new_keys}
+use Rattle.merkle_wire.specs.Steady.{AsksForPages, IsFilled, IsKeyOf, IsSteady, LeavesLess, left_by, left_for, left_of, nodes_over, rows_in, times_in, total}
+use Rattle.merkle_wire.specs.Taking.{AddsKeys, AreBehind, AreTaken, IsBehind, IsGapOrNone, IsRootTaken, IsTaken, has_digest, new_keys}
 use Rattle.merkle_wire.specs.Underway.{AsksAgain, HasOutlines, HasParts, HasTaken, Underway}
 use Rattle.merkle_wire.specs.declared.catching_up.Next.{Next}
 use Rattle.merkle_wire.specs.declared.catching_up.Next.TheVariants.{Ask, Came}
@@ -47,10 +46,11 @@ use Rattle.merkle_wire.proofs.Sayable.{filled_ascends, filled_some, keys_in}
 use Rattle.merkle_wire.proofs.Outside.{ascend-alike}
 use Rattle.merkle_wire.proofs.SameNodes.{keys_over-same}
 use Rattle.merkle_wire.proofs.Steadily.{stay, up_root, up_tree}
-use Rattle.merkle_wire.proofs.StepCovers.{is_key, parts_theirs}
+use Rattle.merkle_wire.proofs.StepCovers.{parts_theirs}
 use Rattle.merkle_wire.proofs.TellingQuestions.{SameGapTold, SameQuestion}
 use Rattle.merkle_wire.proofs.TellingReplies.{SameOutline, outlines_tell, parts_tell}
-use Rattle.merkle_wire.proofs.Times.{ascend_and_behind, ascend_times, in-alike, new_gaps_times, total-append, total-less, total-mapped, total-plus, total-swap}
+use Rattle.merkle_wire.proofs.Times.{total-append, total-mapped}
+use Rattle.merkle_wire.proofs.RowsCounted.{ascending_counted, behind_counted, parts_counted, rows_alike}
 
 same_keys_length : {K : Type 0} (cmp : K → K → Ordering) (js ks : List K) → SameKeys cmp js ks → length js ≡ length ks
 same_keys_length cmp [] [] s = refl
@@ -69,60 +69,6 @@ filter_length test (x ∷ xs) = go (which (test x)) (filter_length test xs)
     go : (test x ≡ false) ⊎ (test x ≡ true) → length (filter test xs) ≤ length xs → length (filter test (x ∷ xs)) ≤ length (x ∷ xs)
     go (inl n) less = rw n (omega (arith, less))
     go (inr n) less = rw n (omega (arith, less))
-
--- rows of the peer that are in gaps
-module _ {K V H : Type 0} (laws : Laws K V H) (o : IsTotalOrder laws.cmp) (local : Side K V H) (rows : List (K × V)) where
-  abbrev In : Gap K → ℕ
-  In = rows_in laws.cmp rows
-
-  abbrev AreKeys : List K → Type 0
-  AreKeys = AllByRecursion (IsKeyOf laws.cmp rows)
-
-  rows_alike : (g h : Gap K) → SameGap laws.cmp g h → In g ≤ In h
-  rows_alike g h s = total-less (λ (r : K × V). times_in laws.cmp r.0 g) (λ r. times_in laws.cmp r.0 h) (λ r. omega (arith, in-alike laws.cmp o r.0 g h s)) rows
-
-  at_row : (rs : List (K × V)) (j : K) → AnyByRecursion (λ r. Same laws.cmp j r.0) rs → 1 ≤ total (λ r. times_at laws.cmp r.0 j) rs
-  at_row [] j a = absurd a
-  at_row (r ∷ rs) j (inl s) = let e : times_at laws.cmp r.0 j ≡ 1 = rw (tied_back o j r.0 s) refl in omega (arith, e)
-  at_row (r ∷ rs) j (inr a) = omega (arith, at_row rs j a)
-
-  keys_counted : (ks : List K) → AreKeys ks → length ks ≤ total (λ j. total (λ r. times_at laws.cmp r.0 j) rows) ks
-  keys_counted [] a = omega arith
-  keys_counted (k ∷ ks) ((v, there), a) = omega (arith, at_row rows k (is_key laws.cmp o rows k v there), keys_counted ks a)
-
-  -- keys of rows that ascend in a gap are as many as its rows, at most
-  ascending_counted : (g : Gap K) (ks : List K) → AscendIn laws.cmp g ks → AreKeys ks → length ks ≤ In g
-  ascending_counted g ks up a =
-      omega (
-        arith,
-        keys_counted ks a,
-        total-swap (λ (r : K × V) j. times_at laws.cmp r.0 j) rows ks,
-        total-less (λ (r : K × V). total (times_at laws.cmp r.0) ks) (λ r. times_in laws.cmp r.0 g) (λ r. ascend_times laws.cmp o r.0 g ks up) rows,
-      )
-
-  -- with the rows in the gaps between them, or behind the last
-  parts_counted : (g : Gap K) (ks : List K) (pages : List (Option (List ℕ))) (new : List (Gap K)) → AreNewGaps laws local g ks pages new → AscendIn laws.cmp g ks → AreKeys ks → total In new + length ks ≤ In g
-  parts_counted g ks pages new is up a =
-      omega (
-        arith,
-        keys_counted ks a,
-        total-swap (λ (r : K × V) j. times_at laws.cmp r.0 j) rows ks,
-        total-swap (λ (r : K × V) h. times_in laws.cmp r.0 h) rows new,
-        total-plus (λ (r : K × V). total (times_in laws.cmp r.0) new) (λ r. total (times_at laws.cmp r.0) ks) rows,
-        total-less (λ (r : K × V). total (times_in laws.cmp r.0) new + total (times_at laws.cmp r.0) ks) (λ r. times_in laws.cmp r.0 g) (λ r. new_gaps_times laws o local r.0 g ks pages new is up) rows,
-      )
-
-  behind_counted : (g : Gap K) (row : K × V) (more : List (K × V)) → AscendIn laws.cmp g (map (λ r. r.0) (row ∷ more)) → AreKeys (map (λ r. r.0) (row ∷ more)) → 1 + In (part_behind g (last_key row.0 more)) ≤ In g
-  behind_counted g row more up a =
-      let ks = map (λ (r : K × V). r.0) (row ∷ more) in
-      let behind = part_behind g (last_key row.0 more) in
-      omega (
-        arith,
-        keys_counted ks a,
-        total-swap (λ (r : K × V) j. times_at laws.cmp r.0 j) rows ks,
-        total-plus (λ (r : K × V). total (times_at laws.cmp r.0) ks) (λ r. times_in laws.cmp r.0 behind) rows,
-        total-less (λ (r : K × V). total (times_at laws.cmp r.0) ks + times_in laws.cmp r.0 behind) (λ r. times_in laws.cmp r.0 g) (λ r. ascend_and_behind laws.cmp o r.0 g row more up) rows,
-      )
 
 module _ {K V H : Type 0} (laws : Laws K V H) (o : IsTotalOrder laws.cmp) (eqv : IsEquivalence laws.eq) (encoding : K → List ℕ) (values : V → List ℕ) (tell : Tell laws encoding values) (n : ℕ)
     (local : Side K V H) (peer : Contents K V H) (root : Tree K (List ℕ)) (sides : AreSides laws local (side peer) root peer.tree.root) (small : AllByRecursion (λ p. length p.1 ≡ n) (tree_map laws (side peer))) where

@@ -43,7 +43,9 @@ pub mod Sayable
 pub mod TimesTaken
 pub mod KeysKept
 pub mod KeysNext
+pub mod AskedNext
 pub mod Steadily
+pub mod RowsCounted
 pub mod Ending
 pub mod SteadyExchanges
 pub mod SteadySessions

@@ -34,7 +34,8 @@ use Rattle.merkle_wire.proofs.NextCovers.{sides_met}
 use Rattle.merkle_wire.proofs.PageCovers.{AreSides}
 use Rattle.merkle_wire.proofs.TellingQuestions.{SameQuestion, question_tells}
 use Rattle.merkle_wire.proofs.Ending.{leaves_less}
-use Rattle.merkle_wire.proofs.Steadily.{memory_alone, next_steady, stay}
+use Rattle.merkle_wire.proofs.AskedNext.{next_steady}
+use Rattle.merkle_wire.proofs.Steadily.{memory_alone, stay}
 
 module _ {K V H : Type 0} (laws : Laws K V H) (o : IsTotalOrder laws.cmp) (eqv : IsEquivalence laws.eq) (respects : (h : H) (a b : V) → laws.eq a b ≡ true → laws.value_digest h a ≡ laws.value_digest h b)
     (one_tree : (hasher : H) (base : ℕ) (a b : List (K × List ℕ)) (t u : Tree K (List ℕ)) → SameMap laws.cmp (λ d e. d ≡ e) a b → IsTreeOf laws.cmp (laws.key_digest hasher) base t a → IsTreeOf laws.cmp (laws.key_digest hasher) base u b → SamePages laws.cmp t u)
