@@ -1,5 +1,6 @@
 pub mod CsvLemmas
 pub mod EscapeLemmas
 pub mod LineLemmas
+pub mod MalformedLemmas
 pub mod ReadLemmas
 pub mod WriteLemmas

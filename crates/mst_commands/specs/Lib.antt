@@ -3,6 +3,7 @@ pub mod Escapes
 pub mod Faults
 pub mod Imports
 pub mod Lines
+pub mod Malformed
 pub mod Reads
 pub mod Records
 pub mod Writes

@@ -1,5 +1,7 @@
 //! Why a command ends early.
 ghost use Rattle.std.specs.Prelude.{◌≡◌};
+ghost use Rattle.csv.specs.Reading.{error_kind};
+ghost use Rattle.mst_commands.specs.Malformed.{EndsFor, IsNoText};
 
 use csv::ErrorKind;
 use sqlite::{Error, ErrorCode};
@@ -86,7 +88,9 @@ impl From<io::Error> for Fault {
 }
 
 /// Why the CSV of an import or an export ended early.
-pub fn csv_fault(error: &csv::Error) -> Fault {
+pub fn csv_fault(error: &csv::Error) -> Fault
+    ensures { EndsFor ⊥ (IsNoText (error_kind error.now)) result }
+{
     match error.kind() {
         ErrorKind::Utf8 { pos, .. } => match pos {
             Some(position) => Fault::BadLine(position.line, "it is no text in UTF-8"),

@@ -1,9 +1,10 @@
 //! Keys and values as CSV.
-ghost use Rattle.std.specs.Prelude.{◌≡◌, [], ◌∷◌, string_bytes, true, false, IfOk, OnOk, IfSome};
+ghost use Rattle.std.specs.Prelude.{◌≡◌, ◌≢◌, ◌<◌, [], ◌∷◌, length, string_bytes, true, false, IfOk, IfErr, OnOk, IfSome};
 ghost use Rattle.std.specs.Io.KnownBytes.{Appends, Keeps};
 ghost use Rattle.csv.specs.Records.{fields_of};
 ghost use Rattle.csv.specs.Writing.{row_text, default_writer, text_written};
 ghost use Rattle.mst_commands.specs.Records.{header, change_fields, field_or_empty, pair_fields, pair_text, pairs_text, SaysPair, SaysChange, SaysEntry, HasEntries, HasRead, ReadsOne, WritesRecords};
+ghost use Rattle.mst_commands.specs.Malformed.{EndsFor, IsImportRefused, SaysNoChange, SaysNone, StopsReading};
 
 use crate::fault::{Fault, csv_fault};
 use csv::{Reader, ReaderBuilder, StringRecord, Writer};
@@ -41,7 +42,8 @@ fn line_of(row: &StringRecord) -> u64 {
 
 /// A key or a value of a record, in memory of its own.
 fn text_of(alloc: Global, row: &StringRecord, at: usize) -> Result<String, Fault>
-    ensures { IfOk result (λ text. string_bytes text ≡ field_or_empty (fields_of row.now) at) }
+    ensures text { IfOk result (λ text. string_bytes text ≡ field_or_empty (fields_of row.now) at) }
+    ensures long { IfErr result (EndsFor ⊥ (MOST < length (field_or_empty (fields_of row.now) at))) }
 {
     let text = field(row, at);
     if text.len() > MOST {
@@ -52,7 +54,8 @@ fn text_of(alloc: Global, row: &StringRecord, at: usize) -> Result<String, Fault
 
 /// Refuses a first record whose field at this place has another name.
 fn expect_name(row: &StringRecord, at: usize, name: &str, names: &'static str) -> Result<(), Fault>
-    ensures { OnOk result (field_or_empty (fields_of row.now) at ≡ name.now) }
+    ensures same { OnOk result (field_or_empty (fields_of row.now) at ≡ name.now) }
+    ensures other { IfErr result (EndsFor (field_or_empty (fields_of row.now) at ≢ name.now) ⊥) }
 {
     if field(row, at) == name {
         Ok(())
@@ -63,7 +66,8 @@ fn expect_name(row: &StringRecord, at: usize, name: &str, names: &'static str) -
 
 /// Refuses a first record that is not the header of keys and values.
 fn expect_pair_header(row: &StringRecord) -> Result<(), Fault>
-    ensures { OnOk result (fields_of row.now ≡ header false) }
+    ensures same { OnOk result (fields_of row.now ≡ header false) }
+    ensures other { IfErr result (EndsFor (fields_of row.now ≢ header false) ⊥) }
 {
     if row.len() != 2 {
         return Err(Fault::NoHeader(HEADER));
@@ -75,7 +79,8 @@ fn expect_pair_header(row: &StringRecord) -> Result<(), Fault>
 
 /// Refuses a first record that is not the header of a log.
 fn expect_log_header(row: &StringRecord) -> Result<(), Fault>
-    ensures { OnOk result (fields_of row.now ≡ header true) }
+    ensures same { OnOk result (fields_of row.now ≡ header true) }
+    ensures other { IfErr result (EndsFor (fields_of row.now ≢ header true) ⊥) }
 {
     if row.len() != 5 {
         return Err(Fault::NoHeader(LOG_HEADER));
@@ -90,7 +95,8 @@ fn expect_log_header(row: &StringRecord) -> Result<(), Fault>
 
 /// Refuses a first record that is no header.
 fn expect_header(row: &StringRecord, is_log: bool) -> Result<(), Fault>
-    ensures { OnOk result (fields_of row.now ≡ header is_log) }
+    ensures same { OnOk result (fields_of row.now ≡ header is_log) }
+    ensures other { IfErr result (EndsFor (fields_of row.now ≢ header is_log) ⊥) }
 {
     if is_log {
         expect_log_header(row)
@@ -101,7 +107,8 @@ fn expect_header(row: &StringRecord, is_log: bool) -> Result<(), Fault>
 
 /// The entry of a record of keys and values, with the number of the record as its time.
 fn entry_of(alloc: Global, row: &StringRecord, number: u64) -> Result<(String, Register), Fault>
-    ensures { IfOk result (λ entry. SaysPair number (fields_of row.now) entry) }
+    ensures says { IfOk result (λ entry. SaysPair number (fields_of row.now) entry) }
+    ensures none { IfErr result (EndsFor ⊥ (SaysNone false (fields_of row.now))) }
 {
     if row.len() != 2 {
         return Err(Fault::BadLine(line_of(row), "it has another number of fields than two"));
@@ -121,7 +128,8 @@ fn entry_of(alloc: Global, row: &StringRecord, number: u64) -> Result<(String, R
 
 /// The value that a record of a log says, or that it is a removal.
 fn change_of(alloc: Global, row: &StringRecord) -> Result<Option<String>, Fault>
-    ensures { IfOk result (λ value. change_fields value ≡ field_or_empty (fields_of row.now) 3 ∷ field_or_empty (fields_of row.now) 4 ∷ []) }
+    ensures says { IfOk result (λ value. change_fields value ≡ field_or_empty (fields_of row.now) 3 ∷ field_or_empty (fields_of row.now) 4 ∷ []) }
+    ensures none { IfErr result (EndsFor ⊥ (SaysNoChange (fields_of row.now))) }
 {
     match field(row, 3) {
         "put" => Ok(Some(text_of(alloc, row, 4)?)),
@@ -138,7 +146,8 @@ fn change_of(alloc: Global, row: &StringRecord) -> Result<Option<String>, Fault>
 
 /// The entry of a record of a log.
 fn log_entry_of(alloc: Global, row: &StringRecord) -> Result<(String, Register), Fault>
-    ensures { IfOk result (λ entry. SaysChange (fields_of row.now) entry) }
+    ensures says { IfOk result (λ entry. SaysChange (fields_of row.now) entry) }
+    ensures none { IfErr result (EndsFor ⊥ (SaysNone true (fields_of row.now))) }
 {
     if row.len() != 5 {
         return Err(Fault::BadLine(line_of(row), "it has another number of fields than five"));
@@ -166,7 +175,8 @@ fn read_entry(
     number: u64,
     is_log: bool,
 ) -> Result<(String, Register), Fault>
-    ensures { IfOk result (λ entry. SaysEntry is_log number (fields_of row.now) entry) }
+    ensures says { IfOk result (λ entry. SaysEntry is_log number (fields_of row.now) entry) }
+    ensures none { IfErr result (EndsFor ⊥ (SaysNone is_log (fields_of row.now))) }
 {
     if is_log {
         log_entry_of(alloc, row)
@@ -187,7 +197,8 @@ fn reader_of<R: Read>(alloc: Global, from: R) -> Reader<R>
 
 /// Reads the next record, and answers whether there was one.
 fn read_next<R: Read>(reader: &mut Reader<R>, row: &mut StringRecord) -> Result<bool, Fault>
-    ensures { IfOk result (λ found. ReadsOne R.remaining reader.old reader.new found (fields_of row.new)) }
+    ensures read { IfOk result (λ found. ReadsOne R.remaining reader.old reader.new found (fields_of row.new)) }
+    ensures no_text { IfErr result (StopsReading R.remaining reader.old) }
 {
     match reader.read_record(row) {
         Ok(found) => Ok(found),
@@ -197,7 +208,8 @@ fn read_next<R: Read>(reader: &mut Reader<R>, row: &mut StringRecord) -> Result<
 
 /// The entries of a CSV behind its header: of a log as they are, else with the number of the record as the time.
 pub fn read_entries<R: Read + Drop>(alloc: Global, from: R, is_log: bool) -> Result<Entries, Fault>
-    ensures { IfOk result (λ entries. IfSome (R.remaining from) (λ bytes. HasEntries is_log bytes entries.items)) }
+    ensures read { IfOk result (λ entries. IfSome (R.remaining from) (λ bytes. HasEntries is_log bytes entries.items)) }
+    ensures refused { IfErr result (IsImportRefused is_log (R.remaining from)) }
 {
     let mut entries = Vec::new(alloc);
     let mut reader = reader_of(alloc, from);

@@ -1,5 +1,5 @@
 //! The commands that write.
-ghost use Rattle.std.specs.Prelude.{◌≡◌, ◌≤◌, ◌<◌, ◌⊎◌, length, string_len, filter, All, Any, IfOk, IfErr, OnOk, IsErrOf, true, false};
+ghost use Rattle.std.specs.Prelude.{◌≡◌, ◌≤◌, ◌<◌, ◌⊎◌, is_some, length, string_len, filter, All, Any, IfOk, IfErr, OnOk, IsErrOf, true, false};
 ghost use Rattle.std.specs.List.{AllZip};
 ghost use Rattle.key_order.specs.Text.{text_order};
 ghost use Rattle.key_order.specs.Map.{IsMap};
@@ -10,6 +10,7 @@ ghost use Rattle.store_table.specs.Connections.{database, HasStore, IsClean, IsC
 ghost use Rattle.store_table.specs.Latest.{IsThere};
 ghost use Rattle.mst_commands.specs.Faults.{IsTooLong};
 ghost use Rattle.mst_commands.specs.Writes.{WritesBy};
+ghost use Rattle.mst_commands.specs.Malformed.{EndsFor, IsImportRefused};
 ghost use Rattle.mst_commands.specs.Imports.{IsDated, is_newer, AddsOf, Imports};
 
 use crate::fault::Fault;
@@ -106,7 +107,8 @@ fn dated(
     now: u64,
     entry: (String, Register),
 ) -> Result<(String, Register), Fault>
-    ensures { IsMap text_order rows.now → IfOk result (λ dated. IsDated rows.now writer.now now entry dated) }
+    ensures dated { IsMap text_order rows.now → IfOk result (λ dated. IsDated rows.now writer.now now entry dated) }
+    ensures faults { IfErr result (EndsFor ⊥ ⊥) }
 {
     let time = match register_in(rows, &entry.0) {
         Some(register) => register.time.checked_add(1),
@@ -134,7 +136,8 @@ fn all_dated(
     now: u64,
     entries: Entries,
 ) -> Result<Entries, Fault>
-    ensures { IsMap text_order rows.now → IfOk result (λ all. AllZip (IsDated rows.now writer.now now) entries.items all.items) }
+    ensures dated { IsMap text_order rows.now → IfOk result (λ all. AllZip (IsDated rows.now writer.now now) entries.items all.items) }
+    ensures faults { IfErr result (EndsFor ⊥ ⊥) }
 {
     let mut all = Vec::new(alloc);
     'entries: for entry in entries {
@@ -192,6 +195,7 @@ fn entries_to_add<S: Alter>(
     ensures refused { HasStore S.Store conn.old → IsCommitted S.Store conn.old → StaysInErr S.Store conn.old conn.new result }
     ensures clean { doubt (state S.Store conn.old).is_clean ≤ doubt (state S.Store conn.new).is_clean }
     ensures crash { HasStore S.Store conn.old → LeavesNoMore S.Store conn.old conn.new }
+    ensures faults { IfErr result (EndsFor ⊥ ⊥) }
 {
     let rows = read_latest(alloc, conn)?;
     let mut last = latest_rows(came);
@@ -219,6 +223,8 @@ pub fn import<S: Alter, R: Read + Drop>(
 ) -> Result<(), Fault>
     ensures written { Makes S.Store conn.old conn.new result (Imports (R.remaining from) log writer.now now) }
     ensures refused { HasStore S.Store conn.old → IsCommitted S.Store conn.old → StaysInErr S.Store conn.old conn.new result }
+    // It is refused for its header or one of its records only where these are wrong.
+    ensures malformed { IfErr result (IsImportRefused (is_some log) (R.remaining from)) }
     // A crash leaves what it could leave before, or a database with all that is imported.
     ensures crash { HasStore S.Store conn.old → Leaves S.Store conn.old conn.new (Imports (R.remaining from) log writer.now now) }
 {

@@ -1,11 +1,23 @@
 use Rattle.std.proofs.Common.{string_bytes, refl, sym, arith}
+use Rattle.std.proofs.lemmas.Result.{err_from_is_err_and}
 use Rattle.csv.specs.Records.{fields_of}
 use Rattle.mst_commands.proofs.CsvLemmas.{two_fields}
+use Rattle.mst_commands.proofs.MalformedLemmas.{ends-for, long-key, long-text}
 use Rattle.mst_commands.proofs.records.entry_of.Goals as goal
 
-pub returns : goal.returns
-returns c = record {
-  fields = two_fields (fields_of c.args.row.now) (string_bytes c.in_ok-key.key) (string_bytes c.in_ok-text.text) (omega arith) (sym c.in_ok-key.ensures) (sym c.in_ok-text.ensures);
+pub returns-clause-says : goal.returns-clause-says
+returns-clause-says c = record {
+  fields = two_fields (fields_of c.args.row.now) (string_bytes c.in_ok-key.key) (string_bytes c.in_ok-text.text) (omega arith) (sym c.in_ok-key.ensures.text) (sym c.in_ok-text.ensures.text);
   time = refl;
   writer = c.new-writer.ensures.bytes;
 }
+
+pub returns-in_err-key-clause-none : goal.returns-in_err-key-clause-none
+returns-in_err-key-clause-none c =
+    let p = err_from_is_err_and c.from_residual.result c.from_residual.ensures.1 in
+    rw (p.1, p.2) (ends-for c.in_err-key.field-0.0 (λ no. no) (long-key (fields_of c.args.row.now)) c.in_err-key.ensures.long)
+
+pub returns-in_err-text-clause-none : goal.returns-in_err-text-clause-none
+returns-in_err-text-clause-none c =
+    let p = err_from_is_err_and c.from_residual-in_err-text.result c.from_residual-in_err-text.ensures.1 in
+    rw (p.1, p.2) (ends-for c.in_err-text.field-0.0 (λ no. no) (long-text (fields_of c.args.row.now)) c.in_err-text.ensures.long)

@@ -18,7 +18,7 @@ entries-preserved c =
           let short = ap length steps in
           omega arith;
       dated = λ up. subst (AllZip (IsDated c.args.rows.now c.args.writer.now c.args.now) (c.entries.yielded ++ e ∷ [])) (sym c.in_ok-push.ensures.items)
-          (AllZip-push (IsDated c.args.rows.now c.args.writer.now c.args.now) c.entries.yielded c.entries.all.items e c.in_ok-entry.entry (kept.dated up) (c.in_ok-entry.ensures up));
+          (AllZip-push (IsDated c.args.rows.now c.args.writer.now c.args.now) c.entries.yielded c.entries.all.items e c.in_ok-entry.entry (kept.dated up) (c.in_ok-entry.ensures.dated up));
     }
 
 -- at the end all entries were yielded
@@ -26,7 +26,7 @@ all_done : {X : Type 0} (done left all : List X) → done ++ left ≡ all → le
 all_done done [] all e h = sym (append-nil done) ∙ e
 all_done done (x ∷ left) all e h = absurd (omega (arith, h))
 
-pub returns : goal.returns
-returns c up =
+pub returns-clause-dated : goal.returns-clause-dated
+returns-clause-dated c up =
     let kept = c.entries.invariant in
     subst (λ done. AllZip (IsDated c.args.rows.now c.args.writer.now c.args.now) done c.entries.all.items) (all_done _ _ _ kept.left (sym kept.count ∙ c.in-None.ensures.steps.0)) (kept.dated up)

@@ -10,7 +10,7 @@ returns-in_default-clause-added g c has clean =
     let last = c.latest_rows-last.result.items in
     let latest = c.in_ok-rows.ensures.latest has clean in
     if_ok c.all_dated.result _ _ (λ all dated. (rows, last, latest, c.latest_rows-last.ensures, subst (λ log. AreAdded log c.args.writer.now c.args.now rows last all.items) (sym c.in_default.is) dated))
-    ((rw c.deref.ensures.value at c.all_dated.ensures) latest.2.ascending)
+    ((rw c.deref.ensures.value at c.all_dated.ensures.dated) latest.2.ascending)
 
 -- of a log
 pub returns-clause-added : goal.returns-clause-added

@@ -14,7 +14,7 @@ returns-clause-written g c has clean =
     let same = (c.in_ok-added.ensures.unchanged has early).0.now_is in
     let added = c.deref.result.now in
     imported (g.R.Read.remaining c.args.from) c.args.log c.args.writer.now c.args.now c.in_ok-came.came.items added
-    (rw c.is_some.ensures at c.in_ok-came.ensures) old.now mid.now new.now same
+    (rw c.is_some.ensures at c.in_ok-came.ensures.read) old.now mid.now new.now same
     (rw (← c.deref.ensures.value) at (c.in_ok-added.ensures.added has early)) (c.in_ok-add_all.ensures.added (ap (λ (d : Database). d.schema) same ∙ has) clean)
 
 pub returns-clause-crash : goal.returns-clause-crash
@@ -23,7 +23,7 @@ returns-clause-crash g c has =
     let mid = state g.S.Store c.entries_to_add.new.conn in
     let new = state g.S.Store c.add_all.new.conn in
     import_survives (g.R.Read.remaining c.args.from) c.args.log c.args.writer.now c.args.now c.in_ok-came.came.items c.deref.result.now
-    (rw c.is_some.ensures at c.in_ok-came.ensures) old mid new
+    (rw c.is_some.ensures at c.in_ok-came.ensures.read) old mid new
     (λ clean. let early : HasCleanDisk mid = omega (arith, c.add_all.ensures.clean, clean) in
     ((c.in_ok-added.ensures.unchanged has early).0.now_is, rw (← c.deref.ensures.value) at (c.in_ok-added.ensures.added has early)))
     (c.entries_to_add.ensures.crash has)
@@ -35,7 +35,7 @@ returns-in_err-add_all-clause-crash g c has =
     let mid = state g.S.Store c.entries_to_add.new.conn in
     let new = state g.S.Store c.add_all.new.conn in
     import_survives (g.R.Read.remaining c.args.from) c.args.log c.args.writer.now c.args.now c.in_ok-came.came.items c.deref.result.now
-    (rw c.is_some.ensures at c.in_ok-came.ensures) old mid new
+    (rw c.is_some.ensures at c.in_ok-came.ensures.read) old mid new
     (λ clean. let early : HasCleanDisk mid = omega (arith, c.add_all.ensures.clean, clean) in
     ((c.in_ok-added.ensures.unchanged has early).0.now_is, rw (← c.deref.ensures.value) at (c.in_ok-added.ensures.added has early)))
     (c.entries_to_add.ensures.crash has)

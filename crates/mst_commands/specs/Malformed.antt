@@ -1,0 +1,74 @@
+-- Which texts of CSV an import refuses, and what else ends one.
+use Rattle.std.specs.Prelude.{◌≡◌, ◌≢◌, ◌≤◌, ◌<◌, ◌^◌, ℕ, Bool, List, [], ◌∷◌, ◌++◌, length, ⊤, ◌⊎◌, Option, IfSome, IsSomeAnd, string_bytes}
+use Rattle.key_order.specs.Text.{Text as Key}
+use Rattle.csv.specs.Reading.{Reached, default_config, strip_bom}
+use Rattle.csv.specs.Records.{AllText}
+use Rattle.csv.specs.declared.error.ErrorKind.{ErrorKind}
+use Rattle.csv.specs.declared.error.ErrorKind.TheVariants as kind
+use Rattle.csv.specs.declared.parser.State.{State}
+use Rattle.csv.specs.declared.parser.State.TheVariants as st
+use Rattle.csv.specs.declared.reader.Reader.{Reader}
+use Rattle.store_table.specs.declared.register.Register.{Register}
+use Rattle.mst_commands.specs.Records.{change_fields, field_or_empty, header, HasRead, SaysEntry}
+use Rattle.mst_commands.specs.declared.fault.Fault.{Fault}
+use Rattle.mst_commands.specs.declared.fault.Fault.TheVariants as fault
+
+-- a text of CSV begins with these records
+abbrev pub Begins : List ℕ → List (List (List ℕ)) → Type 0
+Begins text records = (state : State) × (left : List ℕ) × Reached default_config st.StartRecord (strip_bom text) records state left
+
+-- key, writer and value have 1 MiB each at most, and the time is a number of 64 bits
+pub record IsWithin (entry : Key × Register) : Type 0 where
+  pub key : length (string_bytes entry.0) ≤ 1048576
+  pub time : entry.1.time < 2 ^ 64
+  pub writer : length (string_bytes entry.1.writer) ≤ 1048576
+  pub value : IfSome entry.1.value (λ text. length (string_bytes text) ≤ 1048576)
+
+-- a record behind the header says no such entry
+abbrev pub SaysNone : Bool → List (List ℕ) → Type 0
+SaysNone is_log fields = (number : ℕ) (entry : Key × Register) → SaysEntry is_log number fields entry → ¬ IsWithin entry
+
+-- the last two fields of a record of a log say no change, or a value of more than 1 MiB
+abbrev pub SaysNoChange : List (List ℕ) → Type 0
+SaysNoChange fields = (value : Option Key) → change_fields value ≡ field_or_empty fields 3 ∷ field_or_empty fields 4 ∷ []
+    → IsSomeAnd value (λ text. 1048576 < length (string_bytes text))
+
+-- the first record of a text is another than the header
+abbrev pub HasOtherHeader : Bool → List ℕ → Type 0
+HasOtherHeader is_log text = (first : List (List ℕ)) × Begins text (first ∷ []) × (first ≢ header is_log)
+
+-- behind these records of a text comes one that is not in UTF-8
+abbrev pub GoesOnInNoText : List ℕ → List (List (List ℕ)) → Type 0
+GoesOnInNoText text records = (fields : List (List ℕ)) × Begins text (records ++ fields ∷ []) × ¬ (AllText fields)
+
+-- behind the header of a text comes a record that says no entry
+abbrev pub GoesOnInNoEntry : Bool → List ℕ → List (List (List ℕ)) → Type 0
+GoesOnInNoEntry is_log text records = (fields : List (List ℕ)) × Begins text (header is_log ∷ records ++ fields ∷ []) × SaysNone is_log fields
+
+-- a text has a record that is not in UTF-8, or behind the header one that says no entry
+abbrev pub HasBadRecord : Bool → List ℕ → Type 0
+HasBadRecord is_log text = (records : List (List (List ℕ))) × (GoesOnInNoText text records ⊎ GoesOnInNoEntry is_log text records)
+
+-- an import ends early for its header, for one of its records, or for want of memory, the store or a device
+abbrev pub EndsFor : Type 0 → Type 0 → Fault → Type 0
+EndsFor first row (fault.NoHeader names) = first
+EndsFor first row (fault.BadLine line why) = row
+EndsFor first row fault.NotText = row
+EndsFor first row (fault.Store why) = ⊤
+EndsFor first row fault.Device = ⊤
+EndsFor first row _ = ⊥
+
+-- for its header or a record it ends only where these are wrong, as far as the text is known
+abbrev pub IsImportRefused : Bool → Option (List ℕ) → Fault → Type 0
+IsImportRefused is_log text = EndsFor (IfSome text (HasOtherHeader is_log)) (IfSome text (HasBadRecord is_log))
+
+-- a read stops at a record that is not in UTF-8, as far as the text is known, or for something else than the text
+abbrev pub StopsReading : {R : Type 0} → (R → Option (List ℕ)) → Reader R → Fault → Type 0
+StopsReading remaining reader why =
+    (text : Option (List ℕ)) (records : List (List (List ℕ))) → HasRead remaining text records reader
+    → EndsFor ⊥ (IfSome text (λ bytes. GoesOnInNoText bytes records)) why
+
+-- an error of CSV says that a record is not in UTF-8
+abbrev pub IsNoText : ErrorKind → Type 0
+IsNoText (kind.Utf8 pos error) = ⊤
+IsNoText _ = ⊥
