@@ -1,6 +1,7 @@
 use crate::rows::{are_rows, numbers};
 use examples::messages::gossip_by_messages;
-use examples::store::open_rows;
+use examples::store::{Store, open_rows};
+use std::alloc::Global;
 use std::test::Fail;
 
 /// The rows of five replicas, the hub's first.
@@ -15,14 +16,20 @@ const ROWS: [&[(&str, u64)]; 5] = [
 /// The greatest number at each name.
 const JOIN: [(&str, u64); 4] = [("a", 4), ("b", 7), ("c", 9), ("d", 2)];
 
-#[test]
-fn five_replicas_come_to_the_join_of_all(rt: HostRuntime) -> Result<(), Fail> {
-    let alloc = rt.alloc();
-    let mut hub = open_rows(alloc, numbers(alloc, ROWS[0])?)?;
+/// The replicas but the hub.
+fn others(alloc: Global) -> Result<Vec<Store<u64>>, Fail> {
     let mut others = Vec::new(alloc);
     for rows in &ROWS[1..] {
         others.push(open_rows(alloc, numbers(alloc, rows)?)?)?;
     }
+    Ok(others)
+}
+
+#[test]
+fn five_replicas_come_to_the_join_of_all(rt: HostRuntime) -> Result<(), Fail> {
+    let alloc = rt.alloc();
+    let mut hub = open_rows(alloc, numbers(alloc, ROWS[0])?)?;
+    let mut others = others(alloc)?;
     assert!(rt; gossip_by_messages(alloc, &mut hub, &mut others).is_ok());
     assert!(rt; are_rows(hub.rows(), &JOIN));
     for other in &others {

@@ -12,33 +12,40 @@ fn pull(alloc: Global, local: &mut Store<u64>, peer: &mut Store<u64>) -> Result<
     join(alloc, local, &rows)
 }
 
+/// Two stores that differ at each name, or lack it.
+fn two_stores(alloc: Global) -> Result<(Store<u64>, Store<u64>), Fail> {
+    let a = open_rows(alloc, numbers(alloc, &[("x", 1), ("y", 5)])?)?;
+    let b = open_rows(alloc, numbers(alloc, &[("w", 4), ("y", 3), ("z", 2)])?)?;
+    Ok((a, b))
+}
+
+/// The greater of both numbers at each name.
+const BOTH: [(&str, u64); 4] = [("w", 4), ("x", 1), ("y", 5), ("z", 2)];
+
+/// Whether both have these.
+fn have_both(a: &Store<u64>, b: &Store<u64>) -> bool {
+    are_rows(a.rows(), &BOTH) && are_rows(b.rows(), &BOTH)
+}
+
 #[test]
 fn four_pulls_over_bytes_leave_both_with_the_greater_numbers(rt: HostRuntime) -> Result<(), Fail> {
-    let alloc = rt.alloc();
-    let mut a = open_rows(alloc, numbers(alloc, &[("x", 1), ("y", 5)])?)?;
-    let mut b = open_rows(alloc, numbers(alloc, &[("w", 4), ("y", 3), ("z", 2)])?)?;
+    let (a, b) = &mut two_stores(rt.alloc())?;
     for _ in 0..2 {
-        pull(alloc, &mut a, &mut b)?;
-        pull(alloc, &mut b, &mut a)?;
+        pull(rt.alloc(), a, b)?;
+        pull(rt.alloc(), b, a)?;
     }
-    let both = [("w", 4), ("x", 1), ("y", 5), ("z", 2)];
-    assert!(rt; are_rows(a.rows(), &both));
-    assert!(rt; are_rows(b.rows(), &both));
+    assert!(rt; have_both(a, b));
     Ok(())
 }
 
 #[test]
 fn pulls_over_bytes_leave_both_with_the_greater_numbers(rt: HostRuntime) -> Result<(), Fail> {
-    let alloc = rt.alloc();
-    let mut a = open_rows(alloc, numbers(alloc, &[("x", 1), ("y", 5)])?)?;
-    let mut b = open_rows(alloc, numbers(alloc, &[("w", 4), ("y", 3), ("z", 2)])?)?;
+    let (a, b) = &mut two_stores(rt.alloc())?;
     for _ in 0..2 {
-        pull_over_bytes(alloc, &mut a, &mut b)?;
-        pull_over_bytes(alloc, &mut b, &mut a)?;
+        pull_over_bytes(rt.alloc(), a, b)?;
+        pull_over_bytes(rt.alloc(), b, a)?;
     }
-    let both = [("w", 4), ("x", 1), ("y", 5), ("z", 2)];
-    assert!(rt; are_rows(a.rows(), &both));
-    assert!(rt; are_rows(b.rows(), &both));
+    assert!(rt; have_both(a, b));
     Ok(())
 }
 
@@ -73,17 +80,30 @@ const SENT_MORE: &[u8] = b"\x01\x01a\xac\x02";
 /// A list of two ranges that don't ascend, from b to b and from a to a.
 const FALLING: &[u8] = b"\x02\x01b\x01b\x01a\x01a";
 
+/// A store with this number at a, and 7 at b.
+fn store_of(alloc: Global, number: u64) -> Result<Store<u64>, Fail> {
+    Ok(open_rows(alloc, numbers(alloc, &[("a", number), ("b", 7)])?)?)
+}
+
 #[test]
 fn ranges_are_answered_with_their_rows(rt: HostRuntime) -> Result<(), Fail> {
-    let alloc = rt.alloc();
-    let store = open_rows(alloc, numbers(alloc, &[("a", 9), ("b", 7)])?)?;
-    assert_eq!(rt; send_rows(alloc, &store, ASKED)?.as_slice(), SENT);
-    for bytes in MALFORMED {
-        assert!(rt; send_rows(alloc, &store, bytes).err() == Some(WireFault::Malformed));
+    for (number, wanted) in [(9, SENT), (300, SENT_MORE)] {
+        let store = store_of(rt.alloc(), number)?;
+        assert!(rt;
+            send_rows(rt.alloc(), &store, ASKED)?.as_slice() == wanted,
+            "{number}"
+        );
     }
-    assert!(rt; send_rows(alloc, &store, FALLING).err() == Some(WireFault::Malformed));
-    let larger = open_rows(alloc, numbers(alloc, &[("a", 300), ("b", 7)])?)?;
-    assert_eq!(rt; send_rows(alloc, &larger, ASKED)?.as_slice(), SENT_MORE);
+    Ok(())
+}
+
+#[test]
+fn bytes_that_are_no_ranges_are_malformed(rt: HostRuntime) -> Result<(), Fail> {
+    let store = store_of(rt.alloc(), 9)?;
+    for bytes in MALFORMED {
+        assert!(rt; send_rows(rt.alloc(), &store, bytes).err() == Some(WireFault::Malformed));
+    }
+    assert!(rt; send_rows(rt.alloc(), &store, FALLING).err() == Some(WireFault::Malformed));
     Ok(())
 }
 
