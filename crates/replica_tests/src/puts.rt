@@ -60,15 +60,22 @@ const CASES: [Case; 6] = [
     (&[], &[("a", 1), ("a", 1)], &[("a", 1)]),
 ];
 
+/// Whether rows are put, after which a map has these.
+fn puts(
+    alloc: Global,
+    replica: &mut Texts,
+    new: &[(&str, u64)],
+    after: &[(&str, u64)],
+) -> Result<bool, AllocError> {
+    Ok(put_all(replica, rows(alloc, new)?).is_ok() && has(replica, after))
+}
+
 #[test]
 fn rows_are_put_in_any_order(rt: HostRuntime) -> Result<(), Fail> {
-    let alloc = rt.alloc();
-    for (before, put, after) in CASES {
-        let mut replica = Texts::new(alloc, Builder::default());
-        assert!(rt; put_all(&mut replica, rows(alloc, before)?).is_ok());
-        assert!(rt; has(&replica, before));
-        assert!(rt; put_all(&mut replica, rows(alloc, put)?).is_ok());
-        assert!(rt; has(&replica, after));
+    for (before, new, after) in CASES {
+        let mut replica = Texts::new(rt.alloc(), Builder::default());
+        assert!(rt; puts(rt.alloc(), &mut replica, before, before)?);
+        assert!(rt; puts(rt.alloc(), &mut replica, new, after)?);
     }
     Ok(())
 }

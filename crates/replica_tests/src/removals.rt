@@ -65,14 +65,19 @@ fn goes_as_said<K: Kind + Drop>(alloc: Global, case: &Case) -> Result<bool, Allo
 
 #[test]
 fn a_removal_leaves_the_other_rows(rt: HostRuntime) -> Result<(), Fail> {
-    for case in &CASES {
-        let (before, number, _, _) = case;
-        let are_right = [
+    for (place, case) in CASES.iter().enumerate() {
+        assert!(rt;
             goes_as_said::<String>(rt.alloc(), case)?,
+            "texts, case {place}"
+        );
+        assert!(rt;
             goes_as_said::<Vec<u8>>(rt.alloc(), case)?,
+            "byte vectors, case {place}"
+        );
+        assert!(rt;
             goes_as_said::<[u8; 2]>(rt.alloc(), case)?,
-        ];
-        assert_eq!(rt; are_right, [true; 3], "{number} out of {before:?}");
+            "arrays, case {place}"
+        );
     }
     Ok(())
 }

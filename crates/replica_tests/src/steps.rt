@@ -98,26 +98,46 @@ const RANGES: [(&[(u8, u8)], Option<&str>); 9] = [
     (&[(4, 5), (1, 2)], None),
 ];
 
+/// The ranges of these pairs.
+fn ranges_of(alloc: Global, pairs: &[(u8, u8)]) -> Result<Vec<([u8; 2], [u8; 2])>, AllocError> {
+    let mut ranges = Vec::with_capacity(alloc, pairs.len())?;
+    for (first, last) in pairs {
+        ranges.push(([0, *first], [0, *last]))?;
+    }
+    Ok(ranges)
+}
+
+/// The keys of rows, a blank before each.
+fn keys_of(alloc: Global, rows: &[([u8; 2], ())]) -> Result<String, AllocError> {
+    let mut keys = String::new(alloc);
+    for (key, ()) in rows {
+        let number = key[1];
+        keys.push_str(format!(in alloc; " {number}")?.as_str())?;
+    }
+    Ok(keys)
+}
+
+/// Whether these keys of a peer are in the ranges of pairs, or the pairs are no ranges.
+fn are_within(
+    alloc: Global,
+    peer: &Numbers,
+    pairs: &[(u8, u8)],
+    wanted: Option<&str>,
+) -> Result<bool, Fail> {
+    match copied(alloc, peer, &ranges_of(alloc, pairs)?)? {
+        None => Ok(wanted.is_none()),
+        Some(rows) => {
+            let keys = keys_of(alloc, &rows)?;
+            Ok(wanted == Some(keys.as_str().trim_start()))
+        }
+    }
+}
+
 #[test]
 fn rows_within_ranges_have_their_bounds(rt: HostRuntime) -> Result<(), Fail> {
     let peer = numbers(rt.alloc(), PageFormat::V2, "1 2 3 4 5 6")?;
     for (pairs, wanted) in RANGES {
-        let mut ranges = Vec::new(rt.alloc());
-        for (first, last) in pairs {
-            ranges.push(([0, *first], [0, *last]))?;
-        }
-        let found = match copied(rt.alloc(), &peer, &ranges)? {
-            None => None,
-            Some(rows) => {
-                let mut keys = String::new(rt.alloc());
-                for (key, ()) in &rows {
-                    let number = key[1];
-                    keys.push_str(format!(in rt.alloc(); " {number}")?.as_str())?;
-                }
-                Some(keys)
-            }
-        };
-        assert!(rt; found.as_ref().map(|keys| keys.as_str().trim_start()) == wanted);
+        assert!(rt; are_within(rt.alloc(), &peer, pairs, wanted)?, "{pairs:?}");
     }
     Ok(())
 }

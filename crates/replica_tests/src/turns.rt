@@ -78,32 +78,47 @@ fn join_as_many(
     }
 }
 
-/// Whether four pulls between sets of these keys in a page format go as the rest of a line says.
-fn go_as_said(
-    alloc: Global,
-    format: PageFormat,
-    a_keys: &str,
-    b_keys: &str,
-    rest: &str,
-) -> Result<bool, Fail> {
-    let (wanted, joined) = rest.split_once('|').ok_or("no join")?;
-    let mut a = numbers(alloc, format, a_keys)?;
-    let mut b = numbers(alloc, format, b_keys)?;
-    let are_counted = join_as_many(alloc, &mut a, &mut b, wanted)?;
-    Ok(are_counted && shown(alloc, &a)?.as_str() == joined && shown(alloc, &b)?.as_str() == joined)
+/// Whether a set has the keys of a text.
+fn is_shown(alloc: Global, replica: &Numbers, wanted: &str) -> Result<bool, AllocError> {
+    Ok(shown(alloc, replica)?.as_str() == wanted)
+}
+
+/// What a line says: the keys of a and of b, the counts, and the keys of both afterwards.
+#[derive(Clone, Copy)]
+struct Line<'t> {
+    a_keys: &'t str,
+    b_keys: &'t str,
+    counts: &'t str,
+    joined: &'t str,
+}
+
+/// The parts of a line.
+fn parts(text: &str) -> Option<Line<'_>> {
+    let (a_keys, rest) = text.split_once('|')?;
+    let (b_keys, rest) = rest.split_once('|')?;
+    let (counts, joined) = rest.split_once('|')?;
+    Some(Line {
+        a_keys,
+        b_keys,
+        counts,
+        joined,
+    })
+}
+
+/// Whether four pulls between sets in a page format go as a line says.
+fn go_as_said(alloc: Global, format: PageFormat, line: &Line<'_>) -> Result<bool, Fail> {
+    let mut a = numbers(alloc, format, line.a_keys)?;
+    let mut b = numbers(alloc, format, line.b_keys)?;
+    let are_counted = join_as_many(alloc, &mut a, &mut b, line.counts)?;
+    Ok(are_counted && is_shown(alloc, &a, line.joined)? && is_shown(alloc, &b, line.joined)?)
 }
 
 #[test]
 fn four_turns_join_both(rt: HostRuntime) -> Result<(), Fail> {
-    for line in TURNS.lines() {
-        let (a_keys, rest) = line.split_once('|').ok_or("no keys of b")?;
-        let (b_keys, rest) = rest.split_once('|').ok_or("no counts")?;
-        for format in [PageFormat::V1, PageFormat::V2] {
-            assert!(rt;
-                go_as_said(rt.alloc(), format, a_keys, b_keys, rest)?,
-                "{format:?}: {line}"
-            );
-        }
+    for text in TURNS.lines() {
+        let line = parts(text).ok_or("a part is missing")?;
+        assert!(rt; go_as_said(rt.alloc(), PageFormat::V1, &line)?, "{text}");
+        assert!(rt; go_as_said(rt.alloc(), PageFormat::V2, &line)?, "{text}");
     }
     Ok(())
 }

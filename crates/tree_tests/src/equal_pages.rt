@@ -52,20 +52,24 @@ fn hashed_root(
     common_root(alloc, left, right)
 }
 
+/// The level of the root page of both trees of so many keys, and how many nodes it has.
+fn common_shape(alloc: Global, count: u16) -> Result<(u8, usize), Fail> {
+    let mixed = built(alloc, 37, count)?;
+    let ascending = built(alloc, 1, count)?;
+    let root = common_root(alloc, &mixed, &ascending)?.ok_or("the pages differ")?;
+    Ok((root.level(), root.nodes().len()))
+}
+
 #[test]
 fn trees_without_keys_have_equal_pages(rt: HostRuntime) -> Result<(), Fail> {
-    let (left, right) = (built(rt.alloc(), 37, 0)?, built(rt.alloc(), 1, 0)?);
-    let root = common_root(rt.alloc(), &left, &right)?.ok_or("the pages differ")?;
-    assert_eq!(rt; (root.level(), root.nodes().len()), (0, 0));
+    assert!(rt; common_shape(rt.alloc(), 0)? == (0, 0));
     Ok(())
 }
 
 #[test]
 fn orders_of_upserts_make_equal_pages(rt: HostRuntime) -> Result<(), Fail> {
-    let (mixed, ascending) = (built(rt.alloc(), 37, 64)?, built(rt.alloc(), 1, 64)?);
-    let root = common_root(rt.alloc(), &mixed, &ascending)?.ok_or("the pages differ")?;
     // The keys 6, 29, 34 and 53 are on level 1, and the others on level 0.
-    assert_eq!(rt; (root.level(), root.nodes().len()), (1, 4));
+    assert!(rt; common_shape(rt.alloc(), 64)? == (1, 4));
     Ok(())
 }
 

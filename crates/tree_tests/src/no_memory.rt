@@ -19,19 +19,36 @@ const OF_NO_ROW: [u8; 16] = [
 ];
 
 #[test]
-fn an_empty_tree_takes_no_memory(rt: HostRuntime) -> Result<(), Fail> {
-    let builder = Builder::default().try_clone()?;
-    let built: Texts = builder.build(rt.alloc());
-    assert_eq!(rt; built.pages_to_hash(), 1);
-    let given: Texts = MerkleSearchTree::new_with_hasher(rt.alloc(), SipHasher::default());
-    assert_eq!(rt; given.pages_to_hash(), 1);
-    let mut tree: Texts = MerkleSearchTree::with_defaults(rt.alloc());
+fn a_built_tree_takes_no_memory(rt: HostRuntime) -> Result<(), Fail> {
+    let tree: Texts = Builder::default().try_clone()?.build(rt.alloc());
+    assert!(rt; tree.pages_to_hash() == 1);
+    Ok(())
+}
+
+#[test]
+fn a_tree_with_a_hasher_takes_no_memory(rt: HostRuntime) {
+    let tree: Texts = MerkleSearchTree::new_with_hasher(rt.alloc(), SipHasher::default());
+    assert!(rt; tree.pages_to_hash() == 1);
+}
+
+/// Asserts what calls answer at a tree without keys.
+fn expect_no_key(rt: &impl Abort, tree: &mut Texts) -> Result<(), Fail> {
     assert!(rt; tree.serialise_page_ranges()?.is_none());
     assert!(rt; *tree.root_hash().as_bytes() == OF_NO_ROW);
-    assert_eq!(rt; tree.serialise_page_ranges()?.ok_or("not hashed")?.len(), 0);
-    assert_eq!(rt; tree.find_counted(&"a"), (0, 0));
+    assert!(rt;
+        tree.serialise_page_ranges()?
+            .ok_or("not hashed")?
+            .is_empty()
+    );
+    assert!(rt; tree.find_counted(&"a") == (0, 0));
     assert!(rt; tree.remove(&"a")?.is_none());
     Ok(())
+}
+
+#[test]
+fn an_empty_tree_takes_no_memory(rt: HostRuntime) -> Result<(), Fail> {
+    let mut tree = MerkleSearchTree::with_defaults(rt.alloc());
+    expect_no_key(&rt, &mut tree)
 }
 
 /// Nine keys on their levels.

@@ -134,14 +134,19 @@ const LEFT: &str = "\
 1:0 -1= ?0()\n\
 ";
 
+/// The pages of the tree of the keys of a text without one of them: a removal as `keys-key`.
+fn pages_left(alloc: Global, removal: &str) -> Result<String, Fail> {
+    let (keys, key) = removal.split_once('-').ok_or("no key")?;
+    let mut tree = hashed_tree(alloc, PageFormat::V1, keys)?;
+    tree.remove(&number_key(key.parse::<u16>()?))?;
+    Ok(pages_of(alloc, &tree, true))
+}
+
 #[test]
 fn leaves_the_pages_of_the_levels(rt: HostRuntime) -> Result<(), Fail> {
     for line in LEFT.lines() {
         let (removal, wanted) = line.split_once('=').ok_or("no pages")?;
-        let (keys, key) = removal.split_once('-').ok_or("no key")?;
-        let mut tree = hashed_tree(rt.alloc(), PageFormat::V1, keys)?;
-        tree.remove(&number_key(key.parse::<u16>()?))?;
-        assert_eq!(rt; pages_of(rt.alloc(), &tree, true).as_str(), wanted);
+        assert_eq!(rt; pages_left(rt.alloc(), removal)?.as_str(), wanted);
     }
     Ok(())
 }
