@@ -81,10 +81,6 @@ pub if-known : {P Q : List ℕ → Type 0} (text : Option (List ℕ)) → ((byte
 if-known None f h = tt
 if-known (Some bytes) f h = f bytes h
 
-pub if-both-known : {P Q R : List ℕ → Type 0} (text : Option (List ℕ)) → ((bytes : List ℕ) → P bytes → Q bytes → R bytes) → IfSome text P → IfSome text Q → IfSome text R
-if-both-known None f h k = tt
-if-both-known (Some bytes) f h k = f bytes h k
-
 -- a record of keys and texts that says an entry has two fields
 of-pair : (row : List (List ℕ)) (key : List ℕ) (value : Option Key) → IsSomeAnd value (λ text. row ≡ pair_fields (key, string_bytes text))
     → (text : Key) × (value ≡ Some text) × (row ≡ key ∷ string_bytes text ∷ [])
