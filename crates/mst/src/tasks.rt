@@ -1,13 +1,14 @@
 //! What each command does.
 use crate::fault::Failure;
-use crate::files::{FileConnection, make_store, open_file};
+use crate::files::{make_store, open_file};
 use crate::{peers, shell};
 use merkle_store::Store;
 use merkle_store::upkeep::read_replica;
 use mst_commands::clock::now;
 use mst_commands::run;
 use mst_words::{Given, Verb};
-use sqlite::{Alter, Connection, File, FileStore};
+use sqlite::{Alter, Connection, FileStore};
+use sqlite_disk::Disk;
 use std::fs;
 use store_table::table::recognise;
 
@@ -43,25 +44,28 @@ fn time_of(rt: &HostRuntime, given: &Given<'_>) -> Result<u64, Failure> {
     }
 }
 
-/// Runs a command of a peer on a file.
-fn run_peer(
+/// Runs a command of a peer on a file that is opened at this time.
+fn run_peer<D: Disk + Drop>(
     rt: &HostRuntime,
-    conn: FileConnection,
+    conn: Connection<FileStore<D>>,
     verb: Verb,
-    given: &Given<'_>,
+    latest: u64,
 ) -> Result<(), Failure> {
-    let mut store = merkle_store::store::open(rt.alloc(), conn, time_of(rt, given)?)?;
-    let done = match verb {
-        Verb::Serve => peers::serve(rt, &mut store),
-        Verb::Diff => peers::diff(rt, &mut store),
-        _ => return run_pull(rt, store),
+    let mut store = merkle_store::store::open(rt.alloc(), conn, latest)?;
+    if verb == Verb::Pull {
+        return run_pull(rt, store);
+    }
+    let done = if verb == Verb::Serve {
+        peers::serve(rt, &mut store)
+    } else {
+        peers::diff(rt, &mut store)
     };
     store.into_connection().close()?;
     done
 }
 
 /// Brings what a peer has, and says what that was once the file is closed.
-fn run_pull(rt: &HostRuntime, store: Store<FileStore<File>>) -> Result<(), Failure> {
+fn run_pull<D: Disk + Drop>(rt: &HostRuntime, store: Store<FileStore<D>>) -> Result<(), Failure> {
     let mut store = store;
     let pulled = peers::pull(rt, &mut store);
     store.into_connection().close()?;
@@ -82,7 +86,7 @@ pub fn run(rt: &HostRuntime, verb: Verb, path: &str, given: &Given<'_>) -> Resul
     }
     let mut conn = open_file(rt, path, given.wait)?;
     if let Verb::Serve | Verb::Pull | Verb::Diff = verb {
-        return run_peer(rt, conn, verb, given);
+        return run_peer(rt, conn, verb, time_of(rt, given)?);
     }
     let done = run_lent(rt, &mut conn, verb, given);
     conn.close()?;

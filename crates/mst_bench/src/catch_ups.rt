@@ -3,16 +3,18 @@
 use crate::clock::{Best, now};
 use crate::fault::Fault;
 use crate::keys::{LOCAL_SEED, keys};
-use merkle_digest::SipHasher;
+use crate::sessions::{Cost, Numbers, Session, cost_of};
 use merkle_replica::Replica;
 use merkle_search_tree::builder::Builder;
-use merkle_wire::{CatchingUp, Next, answer};
 use std::alloc::Global;
 use std::io::Write;
 use std::rt::Clock;
 
-/// A replica of the default settings.
-type Numbers = Replica<String, u64, SipHasher, 16>;
+/// A session of messages alone.
+type Plain = merkle_wire::CatchingUp<String, u64>;
+
+/// A session by deltas.
+type ByDeltas = merkle_delta::CatchingUp<String, u64>;
 
 /// The bytes of a key of 17 bytes behind its length, of a value below 128, and of a digest behind its length.
 const KEY: usize = 18;
@@ -20,10 +22,6 @@ const KEY: usize = 18;
 const VALUE: usize = 1;
 
 const DIGEST: usize = 17;
-
-/// How many messages a session sends here at most: 515 questions, which are one for the root, one for the outlines and one for the nodes of
-/// each of 256 levels, and two for rows; and each once more for each 64 MiB of what it is answered.
-const MOST_MESSAGES: usize = 1_024;
 
 /// How many of so many rows differ in the lines of the table: none, 1, 10, 100, a hundredth, a tenth, and all.
 fn differing_of(alloc: Global, count: usize) -> Result<Vec<usize>, Fault> {
@@ -135,66 +133,6 @@ impl<'a> Case<'a> {
     }
 }
 
-/// What a catch-up takes over a wire.
-#[derive(Clone, Copy)]
-struct Cost {
-    messages: usize,
-    rounds: u32,
-    sent: usize,
-    came: usize,
-    fetched: usize,
-}
-
-/// The peer's reply to a message.
-fn reply_to(alloc: Global, peer: &mut Numbers, message: &[u8]) -> Result<Vec<u8>, Fault> {
-    match answer(alloc, peer, message) {
-        Ok(reply) => Ok(reply),
-        Err(_) => Err(Fault::Memory),
-    }
-}
-
-/// What comes after a reply.
-fn next_of(
-    session: CatchingUp<String, u64>,
-    local: &mut Numbers,
-    reply: &[u8],
-) -> Result<Next<String, u64>, Fault> {
-    match session.take(local, reply) {
-        Ok(next) => Ok(next),
-        Err(_) => Err(Fault::Memory),
-    }
-}
-
-/// The bytes of the messages of a session, of both sides, and what it brings. Nothing is joined.
-fn cost_of(alloc: Global, local: &mut Numbers, peer: &mut Numbers) -> Result<Cost, Fault> {
-    let (session, message) = CatchingUp::begin(alloc, local)?;
-    let mut session = session;
-    let mut message = message;
-    let (mut sent, mut came) = (0usize, 0usize);
-    for before in 0..MOST_MESSAGES {
-        let reply = reply_to(alloc, peer, &message)?;
-        sent = sent.saturating_add(message.len());
-        came = came.saturating_add(reply.len());
-        let rounds = session.rounds();
-        match next_of(session, local, &reply)? {
-            Next::Ask(next, question) => {
-                session = next;
-                message = question;
-            }
-            Next::Came(rows) => {
-                return Ok(Cost {
-                    messages: before.saturating_add(1),
-                    rounds,
-                    sent,
-                    came,
-                    fetched: rows.len(),
-                });
-            }
-        }
-    }
-    Err(Fault::Memory)
-}
-
 /// How many bytes the list of the peer's page ranges has, and the rows in the ranges that a pull asks for.
 fn bytes_of_pull(peer: &Numbers, pulled: usize) -> Result<usize, Fault> {
     let mut pages = 0usize;
@@ -207,8 +145,8 @@ fn bytes_of_pull(peer: &Numbers, pulled: usize) -> Result<usize, Fault> {
     Ok(list.saturating_add(pulled.saturating_mul(KEY + VALUE)))
 }
 
-/// Times a session by messages, both sides of it, which joins nothing, and answers what it takes over a wire.
-fn time_session<R: Clock>(
+/// Times a session, both sides of it, which joins nothing, and answers what it takes over a wire.
+fn time_session<S: Session, R: Clock>(
     rt: &R,
     alloc: Global,
     local: &mut Numbers,
@@ -216,13 +154,13 @@ fn time_session<R: Clock>(
     best: &mut Best,
 ) -> Result<Cost, Fault> {
     let start = now(rt)?;
-    let cost = cost_of(alloc, local, peer);
+    let cost = cost_of::<S>(alloc, local, peer);
     best.note_since(rt, start)?;
     cost
 }
 
 /// The best time of four sessions, and what the last took over a wire.
-fn sessions<R: Clock>(
+fn sessions<S: Session, R: Clock>(
     rt: &R,
     alloc: Global,
     case: Case<'_>,
@@ -230,9 +168,9 @@ fn sessions<R: Clock>(
 ) -> Result<(Best, Cost), Fault> {
     let mut local = case.asking(alloc)?;
     let mut best = Best::new();
-    let mut cost = time_session(rt, alloc, &mut local, peer, &mut best)?;
+    let mut cost = time_session::<S, R>(rt, alloc, &mut local, peer, &mut best)?;
     for _ in 0..3 {
-        cost = time_session(rt, alloc, &mut local, peer, &mut best)?;
+        cost = time_session::<S, R>(rt, alloc, &mut local, peer, &mut best)?;
     }
     Ok((best, cost))
 }
@@ -315,17 +253,20 @@ fn write_line<R: Clock, W: Write>(
     out: &mut W,
 ) -> Result<(), Fault> {
     let mut peer = case.asked(alloc)?;
-    let (session, cost) = sessions(rt, alloc, case, &mut peer)?;
+    let (session, cost) = sessions::<Plain, R>(rt, alloc, case, &mut peer)?;
+    let (by_deltas, less) = sessions::<ByDeltas, R>(rt, alloc, case, &mut peer)?;
     let (catch_up, joined) = catch_ups(rt, alloc, case, &mut peer)?;
     let (pull, pulled) = pulls(rt, alloc, case, &mut peer)?;
     let (rows, differing, way) = (case.sorted.len(), case.places.len(), name_of(case.kind));
-    let (session, catch_up, pull) = (session.each(1000), catch_up.each(1000), pull.each(1000));
+    let (session, by_deltas) = (session.each(1000), by_deltas.each(1000));
+    let (catch_up, pull) = (catch_up.each(1000), pull.each(1000));
     let (rounds, fetched) = (cost.rounds, cost.fetched);
     let bytes = cost.sent.saturating_add(cost.came);
+    let delta_bytes = less.sent.saturating_add(less.came);
     let pull_bytes = bytes_of_pull(&peer, pulled)?;
     writeln!(
         out,
-        "{rows} {differing} {way} {catch_up} {session} {pull} {rounds} {bytes} {fetched} {joined} {pull_bytes} {pulled}"
+        "{rows} {differing} {way} {catch_up} {session} {by_deltas} {pull} {rounds} {bytes} {delta_bytes} {fetched} {joined} {pull_bytes} {pulled}"
     )
     .map_err(|_| Fault::Output)
 }
@@ -340,7 +281,7 @@ pub fn write_table<R: Clock, W: Write>(
 ) -> Result<(), Fault> {
     writeln!(
         out,
-        "rows differing way catch_up_us session_us pull_us rounds bytes fetched joined pull_bytes pulled"
+        "rows differing way catch_up_us session_us delta_us pull_us rounds bytes delta_bytes fetched joined pull_bytes pulled"
     )
     .map_err(|_| Fault::Output)?;
     for count in counts {
@@ -356,26 +297,30 @@ pub fn write_table<R: Clock, W: Write>(
     Ok(())
 }
 
-/// Writes the line of the session of a case.
+/// Writes the line of the sessions of a case.
 fn write_session<W: Write>(alloc: Global, case: Case<'_>, out: &mut W) -> Result<(), Fault> {
     let mut peer = case.asked(alloc)?;
     let mut local = case.asking(alloc)?;
-    let cost = cost_of(alloc, &mut local, &mut peer)?;
+    let plain = cost_of::<Plain>(alloc, &mut local, &mut peer)?;
+    let less = cost_of::<ByDeltas>(alloc, &mut local, &mut peer)?;
     let (rows, differing, way) = (case.sorted.len(), case.places.len(), name_of(case.kind));
-    let (messages, rounds) = (cost.messages, cost.rounds);
-    let (sent, came, fetched) = (cost.sent, cost.came, cost.fetched);
+    let (messages, rounds, fetched) = (plain.messages, plain.rounds, plain.fetched);
+    let (sent, came) = (plain.sent, plain.came);
+    let (delta_messages, delta_sent, delta_came) = (less.messages, less.sent, less.came);
     writeln!(
         out,
-        "{rows} {differing} {way} {messages} {rounds} {sent} {came} {fetched}"
+        "{rows} {differing} {way} {messages} {rounds} {sent} {came} {delta_messages} {delta_sent} {delta_came} {fetched}"
     )
     .map_err(|_| Fault::Output)
 }
 
-/// Writes the table of sessions, without times: how many messages and rounds each takes, and how many bytes are sent and come.
+/// Writes the table of sessions, without times: how many messages and rounds each takes, how many bytes are sent and come, and the same by deltas.
 pub fn write_sessions<W: Write>(alloc: Global, counts: &[usize], out: &mut W) -> Result<(), Fault> {
-    writeln!(out, "rows differing way messages rounds sent came fetched").map_err(
-        |_| Fault::Output,
-    )?;
+    writeln!(
+        out,
+        "rows differing way messages rounds sent came delta_messages delta_sent delta_came fetched"
+    )
+    .map_err(|_| Fault::Output)?;
     for count in counts {
         let mut sorted = keys(alloc, LOCAL_SEED, *count)?;
         sorted.sort_unstable();

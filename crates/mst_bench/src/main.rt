@@ -20,6 +20,7 @@ mod keys;
 mod loads;
 mod pulls;
 mod sample;
+mod sessions;
 mod times;
 
 use arguments::Task;

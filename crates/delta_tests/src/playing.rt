@@ -1,0 +1,76 @@
+//! Sessions between two replicas in memory, by deltas and plainly.
+use crate::rows::Rows;
+use merkle_delta::{CatchingUp, Next, answer_within};
+use std::alloc::Global;
+use std::test::Fail;
+
+/// How many messages a session has here at most.
+const MOST_MESSAGES: usize = 10_000;
+
+/// What a session took.
+#[derive(Debug, Default, PartialEq, Eq, Drop)]
+pub(crate) struct Cost {
+    pub(crate) messages: usize,
+    pub(crate) sent: usize,
+    pub(crate) came: usize,
+}
+
+impl Cost {
+    /// One message more and its reply.
+    fn add(&mut self, message: &[u8], reply: &[u8]) {
+        self.messages = self.messages.saturating_add(1);
+        self.sent = self.sent.saturating_add(message.len());
+        self.came = self.came.saturating_add(reply.len());
+    }
+
+    /// All bytes.
+    pub(crate) fn bytes(&self) -> usize {
+        self.sent.saturating_add(self.came)
+    }
+}
+
+/// The rows that a session by deltas brings from a peer whose plain replies end at so many bytes, and what it took.
+pub(crate) fn by_deltas(
+    alloc: Global,
+    local: &mut Rows,
+    peer: &mut Rows,
+    most_bytes: usize,
+) -> Result<(Vec<(String, u64)>, Cost), Fail> {
+    let mut cost = Cost::default();
+    let (mut session, mut message) = CatchingUp::begin(alloc, local)?;
+    for _message in 0..MOST_MESSAGES {
+        let reply = answer_within(alloc, peer, &message, most_bytes)?;
+        cost.add(&message, &reply);
+        match session.take(local, &reply)? {
+            Next::Ask(next, question) => {
+                session = next;
+                message = question;
+            }
+            Next::Came(rows) => return Ok((rows, cost)),
+        }
+    }
+    Err(Fail::new("no end"))
+}
+
+/// The same of a session without deltas.
+pub(crate) fn plainly(
+    alloc: Global,
+    local: &mut Rows,
+    peer: &mut Rows,
+    most_bytes: usize,
+) -> Result<(Vec<(String, u64)>, Cost), Fail> {
+    let mut cost = Cost::default();
+    let (mut session, mut message) = merkle_wire::CatchingUp::begin(alloc, local)?;
+    for _message in 0..MOST_MESSAGES {
+        let reply = merkle_wire::answer_within(alloc, peer, &message, most_bytes)?;
+        cost.add(&message, &reply);
+        match session.take(local, &reply)? {
+            merkle_wire::Next::Ask(next, question) => {
+                session = next;
+                message = question;
+            }
+            merkle_wire::Next::Came(rows) => return Ok((rows, cost)),
+        }
+    }
+    Err(Fail::new("no end"))
+}

@@ -1,0 +1,107 @@
+-- The steps of a delta are read one after the other, in one way.
+use Rattle.std.proofs.Common.{◌≡◌, ◌≢◌, ℕ, ◌<◌, ◌≤◌, List, [], ◌∷◌, ◌++◌, length, refl, sym, ap, ap₂, subst, ◌∙◌, arith}
+use Rattle.std.specs.List.{flat_map}
+use Rattle.std.proofs.lemmas.List.{append_assoc, append-nil, length-append, flat_map_more}
+use Rattle.key_order.proofs.ListParts.{join_tells}
+use Rattle.merkle_digest.specs.SipHash.{zero_key}
+use Rattle.merkle_tree_theory.proofs.Streams.{hash_length}
+use Rattle.merkle_delta.specs.Chunks.{digest_of}
+use Rattle.merkle_delta.specs.Deltas.{IsDeltaOver, Step, step_bytes, given_by, left_by, left_behind, patched, IsStepOver, AreStepsOver}
+use Rattle.merkle_delta.specs.Steps.{IsStepTaken, BeginNoStep, AreGiven, AreNoSteps}
+use Rattle.merkle_delta.proofs.Stepping.{over-more, patched-more, left-more, step-some, step_told}
+
+-- no bytes are none
+pub no_bytes : (bytes : List ℕ) → length bytes ≡ 0 → bytes ≡ []
+no_bytes [] e = refl
+no_bytes (b ∷ bs) e = absurd (omega (arith, e))
+
+module _ (own : List (List ℕ)) (whole : List ℕ) where
+  -- some steps were read, and any that the whole is are these and others
+  pub record AreTaken (chunks : List (List ℕ)) (left given : List ℕ) : Type 0 where
+    pub steps : List Step
+    pub over : AreStepsOver own steps
+    pub read : whole ≡ flat_map step_bytes steps ++ left
+    pub gives : given ≡ patched own steps
+    pub behind : chunks ≡ left_behind own steps
+    pub rest : (all : List Step) → AreStepsOver own all → whole ≡ flat_map step_bytes all
+        → (others : List Step) × AreStepsOver chunks others × (left ≡ flat_map step_bytes others) × (patched own all ≡ given ++ patched chunks others)
+
+  pub none_taken : AreTaken own whole []
+  none_taken = record {
+    steps = [];
+    over = tt;
+    read = refl;
+    gives = refl;
+    behind = refl;
+    rest = λ all over e. (all, over, e, refl);
+  }
+
+  pub one_taken : (chunks behind : List (List ℕ)) (left left' given given' : List ℕ) → AreTaken chunks left given → IsStepTaken chunks left given behind left' given' → AreTaken behind left' given'
+  one_taken chunks behind left left' given given' so (step, is, now, put, goes) = record {
+    steps = so.steps ++ step ∷ [];
+    over = over-more own so.steps step so.over (subst (λ c. IsStepOver c step) so.behind is);
+    read = so.read ∙ ap (λ t. flat_map step_bytes so.steps ++ t) now ∙ sym (append_assoc (flat_map step_bytes so.steps) (step_bytes step) left')
+        ∙ ap (λ t. t ++ left') (flat_map_more step_bytes [] so.steps step);
+    gives = put ∙ ap₂ (λ t c. t ++ given_by c step) so.gives so.behind ∙ sym (patched-more own so.steps step);
+    behind = goes ∙ ap (λ c. left_by c step) so.behind ∙ sym (left-more own so.steps step);
+    rest = λ all over e. let b = so.rest all over e in after b.0 b.1 b.2 b.3;
+  }
+    where
+      after : {all : List ℕ} (others : List Step) → AreStepsOver chunks others → left ≡ flat_map step_bytes others → all ≡ given ++ patched chunks others
+          → (more : List Step) × AreStepsOver behind more × (left' ≡ flat_map step_bytes more) × (all ≡ given' ++ patched behind more)
+      after [] over e gives = absurd (omega (arith, step-some step, ap length (sym now ∙ e), length-append (step_bytes step) left'))
+      after (s ∷ ss) over e gives =
+          let both = step_told chunks step s left' (flat_map step_bytes ss) is over.0 (sym now ∙ e) in
+          let same = sym both.0 in
+          let place : left_by chunks s ≡ behind = ap (left_by chunks) same ∙ sym goes in (
+            ss,
+            subst (λ c. AreStepsOver c ss) place over.1,
+            both.1,
+            gives ∙ ap₂ (λ t c. given ++ (given_by chunks t ++ patched c ss)) same place
+                ∙ sym (append_assoc given (given_by chunks step) (patched behind ss)) ∙ ap (λ t. t ++ patched behind ss) (sym put),
+          )
+
+  -- where nothing is left, all are taken
+  pub all_taken : (chunks : List (List ℕ)) (left given : List ℕ) → AreTaken chunks left given → left ≡ [] → AreGiven own whole given
+  all_taken chunks left given so none = (
+    (so.steps, so.over, so.read ∙ ap (λ t. flat_map step_bytes so.steps ++ t) none ∙ append-nil (flat_map step_bytes so.steps), so.gives),
+    λ all over e. let b = so.rest all over e in last b.0 b.2 b.3,
+  )
+    where
+      last : {all : List ℕ} (others : List Step) → left ≡ flat_map step_bytes others → all ≡ given ++ patched chunks others → given ≡ all
+      last [] e gives = sym (gives ∙ append-nil given)
+      last (s ∷ ss) e gives = absurd (omega (arith, step-some s, ap length (sym none ∙ e), length-append (step_bytes s) (flat_map step_bytes ss)))
+
+  -- where something is left that is no step, the whole is no steps
+  pub none_left : (chunks : List (List ℕ)) (left given : List ℕ) → AreTaken chunks left given → left ≢ [] → BeginNoStep chunks left → AreNoSteps own whole
+  none_left chunks left given so some none = λ all over e. let b = so.rest all over e in first b.0 b.1 b.2
+    where
+      first : (others : List Step) → AreStepsOver chunks others → left ≡ flat_map step_bytes others → ⊥
+      first [] over e = some e
+      first (s ∷ ss) over e = none s (flat_map step_bytes ss) over.0 e
+
+-- a step leaves fewer bytes
+pub fewer_left : (chunks behind : List (List ℕ)) (left left' given given' : List ℕ) → IsStepTaken chunks left given behind left' given' → length left' < length left
+fewer_left chunks behind left left' given given' (step, is, now, put, goes) = omega (arith, step-some step, ap length now, length-append (step_bytes step) left')
+
+module _ (own : List (List ℕ)) (whole bytes : List ℕ) where
+  -- a delta has as many bytes as its digest
+  pub delta_long : IsDeltaOver own whole bytes → 16 ≤ length whole
+  delta_long (steps, over, gives, is) = omega (arith, ap length is, length-append (digest_of bytes) (flat_map step_bytes steps), hash_length zero_key bytes)
+
+  -- behind the digest stand its steps
+  pub delta_parts : (digest left : List ℕ) → whole ≡ digest ++ left → length digest ≡ 16 → IsDeltaOver own whole bytes
+      → (digest ≡ digest_of bytes) × ((steps : List Step) × AreStepsOver own steps × (bytes ≡ patched own steps) × (left ≡ flat_map step_bytes steps))
+  delta_parts digest left read long (steps, over, gives, is) =
+      let told = join_tells digest (digest_of bytes) left (flat_map step_bytes steps) (long ∙ sym (hash_length zero_key bytes)) (sym read ∙ is) in
+      (told.0, (steps, over, gives, told.1))
+
+  -- where no steps do, it is none
+  pub no_delta : (digest left : List ℕ) → whole ≡ digest ++ left → length digest ≡ 16 → AreNoSteps own left → ¬ IsDeltaOver own whole bytes
+  no_delta digest left read long none over = let (same, (steps, are, gives, is)) = delta_parts digest left read long over in none steps are is
+
+  -- nor is it where they give bytes with another digest
+  pub other_digest : (digest left given : List ℕ) → whole ≡ digest ++ left → length digest ≡ 16 → AreGiven own left given → digest_of given ≢ digest → ¬ IsDeltaOver own whole bytes
+  other_digest digest left given read long all other over =
+      let (same, (steps, are, gives, is)) = delta_parts digest left read long over in
+      other (ap digest_of (all.1 steps are is ∙ sym gives) ∙ sym same)

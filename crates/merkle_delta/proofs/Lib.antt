@@ -1,0 +1,7 @@
+pub mod Cutting
+pub mod Stepping
+pub mod Telling
+pub mod Following
+pub mod Asking
+pub mod Plain
+pub mod Taking

@@ -1,0 +1,43 @@
+use Rattle.std.proofs.Common.{◌≡◌, ◌++◌, ◌∷◌, inr, ap, subst, sym, ◌∙◌}
+use Rattle.std.proofs.lemmas.Result.{err_from_is_err_and}
+use Rattle.merkle_bytes.specs.Counts.{count_bytes}
+use Rattle.merkle_bytes.specs.Encodings.{list_bytes}
+use Rattle.merkle_wire.specs.Questions.{AsksNothing}
+use Rattle.merkle_delta.specs.Deltas.{IsDelta}
+use Rattle.merkle_delta.proofs.Asking.{asked_alone, asks_plainly_nothing, counts_told}
+use Rattle.merkle_delta.proofs.answering.answer_within.Goals as goal
+
+pub returns-in_err-plain-clause-malformed : goal.returns-in_err-plain-clause-malformed
+returns-in_err-plain-clause-malformed g c =
+    let p = err_from_is_err_and c.from_residual-in_err-plain.result c.from_residual-in_err-plain.ensures.1 in
+    let asked = c.in-Some.asked.now in
+    let left = c.left.result.now in
+    let read : asked ≡ list_bytes count_bytes c.in_ok-checksums.checksums.items ++ left =
+    sym c.new-reader.ensures.left ∙ c.in_ok-checksums.ensures.read ∙ ap (λ t. list_bytes count_bytes c.in_ok-checksums.checksums.items ++ t) (sym c.left.ensures) in
+    rw (p.1, p.2) (λ unread. (
+      asks_plainly_nothing g.K.Encode.encoding g.K.Decode.is_value c.args.message.now asked c.in-Some.ensures,
+      λ checksums question each is.
+          let told = counts_told c.in_ok-checksums.checksums.items checksums left question (sym read ∙ asked_alone asked checksums question (sym c.in-Some.ensures ∙ is)) in
+          subst (AsksNothing g.K.Encode.encoding g.K.Decode.is_value) told (c.in_err-plain.ensures.malformed unread),
+    ))
+
+pub returns-in_err-add_delta-clause-malformed : goal.returns-in_err-add_delta-clause-malformed
+returns-in_err-add_delta-clause-malformed g c =
+    let p = err_from_is_err_and c.from_residual-in_err-add_delta.result c.from_residual-in_err-add_delta.ensures.1 in
+    rw (p.1, p.2) (λ unread. absurd unread)
+
+pub returns-clause-answered : goal.returns-clause-answered
+returns-clause-answered g c =
+    let checksums = c.in_ok-checksums.checksums.items in
+    let left = c.left.result.now in
+    let (delta, is, made) = c.in_ok-add_delta.ensures in
+    inr (
+      checksums,
+      left,
+      delta,
+      c.in_ok-plain.plain,
+      c.in-Some.ensures ∙ ap (λ t. 1 ∷ 6 ∷ t) (sym c.new-reader.ensures.left ∙ c.in_ok-checksums.ensures.read ∙ ap (λ t. list_bytes count_bytes checksums ++ t) (sym c.left.ensures)),
+      c.in_ok-plain.ensures.answered,
+      is ∙ ap (λ t. t ++ delta) c.in_ok-reply.ensures.items,
+      subst (λ cs. IsDelta cs c.in_ok-plain.plain.items delta) c.deref.ensures.value made,
+    )

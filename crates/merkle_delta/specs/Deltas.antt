@@ -1,0 +1,70 @@
+-- What bytes are over the chunks of others: which of these they have, and what stands between them.
+use Rattle.std.specs.Prelude.{◌≡◌, ℕ, ◌+◌, ◌≤◌, List, [], ◌∷◌, ◌++◌, length, map, take, drop, ◌⊎◌, ⊤}
+use Rattle.std.proofs.Common.{inl, inr}
+use Rattle.std.specs.List.{AllByRecursion, concat, flat_map}
+use Rattle.merkle_bytes.specs.Counts.{count_bytes}
+use Rattle.merkle_bytes.specs.Encodings.{string_encoding}
+use Rattle.merkle_delta.specs.Chunks.{checksum, chunks_of, digest_of}
+
+-- a step: so many chunks are passed by, and so many taken behind them; or other bytes come
+abbrev pub Step : Type 0
+Step = (ℕ × ℕ) ⊎ List ℕ
+
+-- the bytes of a run: how many chunks are taken, and how many passed by
+abbrev pub run_step : ℕ → ℕ → List ℕ
+run_step passed taken = count_bytes taken ++ count_bytes passed
+
+-- those of other bytes: a count 0, and they behind their number
+abbrev pub bytes_step : List ℕ → List ℕ
+bytes_step bytes = count_bytes 0 ++ string_encoding bytes
+
+-- the bytes of a step
+abbrev pub step_bytes : Step → List ℕ
+step_bytes (inl run) = run_step run.0 run.1
+step_bytes (inr bytes) = bytes_step bytes
+
+-- the chunks that are left behind a step
+abbrev pub left_by : List (List ℕ) → Step → List (List ℕ)
+left_by chunks (inl run) = drop (run.0 + run.1) chunks
+left_by chunks (inr bytes) = chunks
+
+-- what a step gives
+abbrev pub given_by : List (List ℕ) → Step → List ℕ
+given_by chunks (inl run) = concat (take run.1 (drop run.0 chunks))
+given_by chunks (inr bytes) = bytes
+
+-- a step takes some chunks, and there are as many
+abbrev pub IsStepOver : List (List ℕ) → Step → Type 0
+IsStepOver chunks (inl run) = (1 ≤ run.1) × (run.0 + run.1 ≤ length chunks)
+IsStepOver chunks (inr bytes) = ⊤
+
+-- the same of steps one behind the other
+abbrev pub left_behind : List (List ℕ) → List Step → List (List ℕ)
+left_behind chunks [] = chunks
+left_behind chunks (step ∷ steps) = left_behind (left_by chunks step) steps
+
+abbrev pub patched : List (List ℕ) → List Step → List ℕ
+patched chunks [] = []
+patched chunks (step ∷ steps) = given_by chunks step ++ patched (left_by chunks step) steps
+
+abbrev pub AreStepsOver : List (List ℕ) → List Step → Type 0
+AreStepsOver chunks [] = ⊤
+AreStepsOver chunks (step ∷ steps) = IsStepOver chunks step × AreStepsOver (left_by chunks step) steps
+
+-- a delta: the digest of the bytes, and steps
+abbrev pub delta_bytes : List ℕ → List Step → List ℕ
+delta_bytes bytes steps = digest_of bytes ++ flat_map step_bytes steps
+
+-- over the chunks the delta is that of the bytes
+abbrev pub IsDeltaOver : List (List ℕ) → List ℕ → List ℕ → Type 0
+IsDeltaOver chunks delta bytes = (steps : List Step) × AreStepsOver chunks steps × (bytes ≡ patched chunks steps) × (delta ≡ delta_bytes bytes steps)
+
+-- each chunk that has the checksum of one of the others is that one
+abbrev pub AreToldApart : List (List ℕ) → List (List ℕ) → Type 0
+AreToldApart chunks others = AllByRecursion (λ other. AllByRecursion (λ chunk. checksum chunk ≡ checksum other → chunk ≡ other) chunks) others
+
+-- a delta begins with the digest of the bytes, and it is that of the bytes over any chunks that have these checksums and are told apart by them from
+-- the chunks of the bytes
+abbrev pub IsDelta : List ℕ → List ℕ → List ℕ → Type 0
+IsDelta checksums bytes delta = (steps : List Step) × (delta ≡ delta_bytes bytes steps)
+    × ((chunks : List (List ℕ)) → map checksum chunks ≡ checksums → AreToldApart chunks (chunks_of bytes) → AreStepsOver chunks steps × (bytes ≡ patched chunks steps))

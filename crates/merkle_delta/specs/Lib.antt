@@ -1,0 +1,8 @@
+pub mod Chunks
+pub mod Deltas
+pub mod Steps
+pub mod Faults
+pub mod Messages
+pub mod CatchUps
+pub mod Sessions
+pub mod Underway

@@ -1,0 +1,40 @@
+-- Messages that tell checksums, and replies that are deltas.
+use Rattle.std.specs.Prelude.{◌≡◌, ℕ, ◌<◌, ◌^◌, List, ◌∷◌, ◌++◌, ◌⊎◌}
+use Rattle.std.specs.Global.{Vec}
+use Rattle.std.specs.List.{AllByRecursion}
+use Rattle.merkle_bytes.specs.Counts.{count_bytes}
+use Rattle.merkle_bytes.specs.Encodings.{list_bytes}
+use Rattle.merkle_replica.specs.Contents.{Contents}
+use Rattle.merkle_replica.specs.Laws.{Laws}
+use Rattle.merkle_wire.specs.Replies.{IsAnsweredBy}
+use Rattle.merkle_delta.specs.Deltas.{IsDelta, IsDeltaOver}
+
+-- a question behind checksums: version 1, kind 6
+abbrev pub asking_bytes : List ℕ → List ℕ → List ℕ
+asking_bytes checksums question = 1 ∷ 6 ∷ (list_bytes count_bytes checksums ++ question)
+
+-- a reply that is a delta: version 1, kind 134
+abbrev pub telling_bytes : List ℕ → List ℕ
+telling_bytes delta = 1 ∷ 134 ∷ delta
+
+-- the reply is the delta of a plain one over the chunks of this side's own
+abbrev pub IsReplyOver : List (List ℕ) → List ℕ → List ℕ → Type 0
+IsReplyOver own reply plain = (delta : List ℕ) × (reply ≡ telling_bytes delta) × IsDeltaOver own delta plain
+
+module _ {K V H : Type 0} (laws : Laws K V H) (n : ℕ) (encoding : K → List ℕ) (values : V → List ℕ) (old new : Contents K V H) where
+  -- the message asks a question behind checksums, and this is a delta of the plain reply to it for them
+  abbrev pub IsAnsweredByDelta : List ℕ → Vec ℕ → Type 0
+  IsAnsweredByDelta message reply = (checksums question delta : List ℕ) × (plain : Vec ℕ) × (message ≡ asking_bytes checksums question)
+      × IsAnsweredBy laws n encoding values old new question plain × (reply.items ≡ telling_bytes delta) × IsDelta checksums plain.items delta
+
+  -- the reply to a message, plain or by a delta, as it asks
+  abbrev pub IsAnswered : List ℕ → Vec ℕ → Type 0
+  IsAnswered message reply = IsAnsweredBy laws n encoding values old new message reply ⊎ IsAnsweredByDelta message reply
+
+-- neither the message nor a question behind checksums in it is one of which P doesn't hold
+abbrev pub AsksNoneOf : (List ℕ → Type 0) → List ℕ → Type 0
+AsksNoneOf P message = P message × ((checksums question : List ℕ) → AllByRecursion (λ c. c < 2 ^ 32) checksums → message ≡ asking_bytes checksums question → P question)
+
+-- P holds of the message, or of a question behind checksums in it
+abbrev pub AsksOneOf : (List ℕ → Type 0) → List ℕ → Type 0
+AsksOneOf P message = P message ⊎ ((checksums : List ℕ) × (question : List ℕ) × (message ≡ asking_bytes checksums question) × P question)

@@ -1,0 +1,73 @@
+//! The answering side: a reply to a message, as a delta where the message tells checksums.
+ghost use Rattle.std.specs.Prelude.{◌≡◌, ◌++◌, IfOk, IfErr};
+ghost use Rattle.merkle_delta.specs.Messages.{AsksNoneOf, AsksOneOf, IsAnswered};
+ghost use Rattle.merkle_tree_theory.specs.State.{SameSettings};
+ghost use Rattle.merkle_wire.specs.Faults.{IsOfOthers, IsUnread};
+ghost use Rattle.merkle_wire.specs.Questions.{AsksNothing};
+ghost use Rattle.merkle_wire.specs.Replies.{AsksWithOthers};
+
+use crate::delta::add_delta;
+use crate::message::{ASKS, TELLS, behind};
+use merkle_bytes::{Decode, Encode, Reader, decode_list};
+use merkle_digest::{Hasher, Key};
+use merkle_replica::{Join, Lawful, Replica};
+use merkle_wire::{AnswerError, MOST_BYTES};
+use std::alloc::Global;
+
+/// The reply to a message, as [`answer_within`] gives it with [`MOST_BYTES`]. The replica keeps its rows; pages that lack a digest get it.
+///
+/// # Errors
+///
+/// [`AnswerError`]
+pub fn answer<
+    K: Key + Decode,
+    V: Join + Encode + Drop,
+    H: Hasher<N, K> + Hasher<N, V>,
+    const N: usize,
+>(alloc: Global, replica: &mut Replica<K, V, H, N>, message: &[u8]) -> Result<Vec<u8>, AnswerError>
+    ensures answered { IfOk result (IsAnswered ⟦<H as Lawful<N, K, V>>⟧.laws N K.encoding V.encoding replica.old replica.new message.now) }
+    ensures malformed { IfErr result (λ error. IsUnread error → AsksNoneOf (AsksNothing K.encoding K.is_value) message.now) }
+    ensures other_settings { IfErr result (λ error. IsOfOthers error
+        → AsksOneOf (AsksWithOthers ⟦<H as Lawful<N, K, V>>⟧.laws N K.encoding replica.new.tree) message.now) }
+    ensures rows { replica.new.rows ≡ replica.old.rows }
+    ensures settings { SameSettings replica.old.tree replica.new.tree }
+{
+    answer_within(alloc, replica, message, MOST_BYTES)
+}
+
+/// The reply to a message: the one of [`merkle_wire::answer_within`] to a plain question, and to one behind checksums what that differs by from
+/// bytes whose chunks have them. The plain reply ends as it does there. The replica keeps its rows; pages that lack a digest get it.
+///
+/// Besides the plain reply it takes time linear in its bytes and in the checksums, and some 100 bytes of memory a chunk and a checksum.
+///
+/// # Errors
+///
+/// [`AnswerError`]. The offset of a malformed question counts from where it begins.
+pub fn answer_within<
+    K: Key + Decode,
+    V: Join + Encode + Drop,
+    H: Hasher<N, K> + Hasher<N, V>,
+    const N: usize,
+>(
+    alloc: Global,
+    replica: &mut Replica<K, V, H, N>,
+    message: &[u8],
+    most_bytes: usize,
+) -> Result<Vec<u8>, AnswerError>
+    ensures answered { IfOk result (IsAnswered ⟦<H as Lawful<N, K, V>>⟧.laws N K.encoding V.encoding replica.old replica.new message.now) }
+    ensures malformed { IfErr result (λ error. IsUnread error → AsksNoneOf (AsksNothing K.encoding K.is_value) message.now) }
+    ensures other_settings { IfErr result (λ error. IsOfOthers error
+        → AsksOneOf (AsksWithOthers ⟦<H as Lawful<N, K, V>>⟧.laws N K.encoding replica.new.tree) message.now) }
+    ensures rows { replica.new.rows ≡ replica.old.rows }
+    ensures settings { SameSettings replica.old.tree replica.new.tree }
+{
+    let Some(asked) = behind(ASKS, message) else {
+        return merkle_wire::answer_within(alloc, replica, message, most_bytes);
+    };
+    let mut reader = Reader::new(alloc, asked);
+    let checksums = decode_list::<u32>(&mut reader)?;
+    let plain = merkle_wire::answer_within(alloc, replica, reader.left(), most_bytes)?;
+    let mut reply = Vec::from_slice(alloc, &TELLS)?;
+    add_delta(alloc, &checksums, plain, &mut reply)?;
+    Ok(reply)
+}

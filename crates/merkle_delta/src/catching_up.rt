@@ -1,0 +1,241 @@
+//! The asking side: a catch-up of [`merkle_wire`] that tells with each question what it has there itself.
+ghost use Rattle.std.specs.Prelude.{◌≡◌, ◌++◌, None, Some, ℕ, List, IfOk, IfErr, MatchOption};
+ghost use Rattle.merkle_replica.specs.Contents.{side};
+ghost use Rattle.merkle_tree_theory.specs.State.{SameSettings};
+ghost use Rattle.merkle_wire.specs.Found.{nothing};
+ghost use Rattle.merkle_wire.specs.Questions.{AsksForRoot, question_bytes};
+ghost use Rattle.merkle_wire.specs.declared.session_error.SessionError.TheVariants.{Memory};
+ghost use Rattle.merkle_delta.specs.CatchUps.{GoesOnAs, IsNext, IsStopped};
+ghost use Rattle.merkle_delta.specs.Messages.{IsReplyOver};
+ghost use Rattle.merkle_delta.specs.declared.patch.PatchError.TheVariants.{Unlike};
+
+use crate::chunks::Chunks;
+use crate::message::{TELLS, behind, encode_asking};
+use crate::patch::{PatchError, patch};
+use merkle_bytes::{Decode, Reader};
+use merkle_digest::{Hasher, Key};
+use merkle_replica::{Join, Lawful, Replica};
+use merkle_wire::{AnswerError, SessionError};
+use std::alloc::{AllocError, Global};
+use std::marker::Model;
+
+/// How many bytes an own reply has at least for which checksums are told.
+const FEWEST: usize = 64;
+
+/// The kind of a question for values at keys.
+const VALUES: u8 = 4;
+
+/// The kind of a question for all rows in gaps.
+const ROWS: u8 = 5;
+
+/// A catch-up that is under way: it waits for a reply.
+#[derive(Drop)]
+pub struct CatchingUp<K, V> {
+    alloc: Global,
+    session: merkle_wire::CatchingUp<K, V>,
+    told: Option<Told>,
+    /// Whether the last delta and the checksums for it had fewer bytes than the plain reply.
+    pays: bool,
+}
+
+/// A question, and the chunks of this side's own reply to it.
+#[derive(Drop)]
+struct Told {
+    question: Vec<u8>,
+    own: Chunks,
+}
+
+impl Model for Told {
+    ghost use Rattle.merkle_delta.specs.Underway.{Told as ToldOf};
+
+    ghost Value = { ToldOf };
+
+    ghost view = { λ told. record { question = told.question.items; own = told.own } };
+}
+
+impl<K, V> Model for CatchingUp<K, V> {
+    ghost use Rattle.merkle_delta.specs.Underway.{Underway};
+
+    ghost Value = { Underway K V };
+
+    ghost view = { λ catching_up. record { session = catching_up.session; told = catching_up.told } };
+}
+
+/// What comes after a reply.
+#[derive(Drop)]
+pub enum Next<K, V> {
+    /// This message is to be sent, and its reply to be given to the catch-up.
+    Ask(CatchingUp<K, V>, Vec<u8>),
+    /// The peer's rows that this side lacks, or has with another digest, in ascending key order: they are to be joined.
+    Came(Vec<(K, V)>),
+}
+
+impl<K: Key + Decode, V: Join + Decode> CatchingUp<K, V> {
+    /// A catch-up of a replica that begins, and the first message, which tells the replica's settings.
+    ///
+    /// # Errors
+    ///
+    /// Want of memory.
+    pub fn begin<H: Hasher<N, K> + Hasher<N, V>, const N: usize>(
+        alloc: Global,
+        replica: &Replica<K, V, H, N>,
+    ) -> Result<(Self, Vec<u8>), AllocError>
+        ensures settings { IfOk result (λ begun. AsksForRoot (⟦<H as Hasher<N, K>>⟧.digest_of replica.now.tree.hasher) N replica.now.tree
+            begun.0.session.asked) }
+        ensures asks { IfOk result (λ begun. begun.1.items ≡ question_bytes K.encoding begun.0.session.asked) }
+        ensures nothing { IfOk result (λ begun. (begun.0.session.found ≡ nothing) × (begun.0.told ≡ None)) }
+    {
+        let (session, message) = merkle_wire::CatchingUp::begin(alloc, replica)?;
+        let begun = CatchingUp {
+            alloc,
+            session,
+            told: None,
+            pays: true,
+        };
+        Ok((begun, message))
+    }
+
+    /// How many rounds of outlines were asked for: 256 at most.
+    pub fn rounds(&self) -> u32
+        ensures { result ≡ self.now.session.rounds }
+    {
+        self.session.rounds()
+    }
+
+    /// Takes a reply, as [`merkle_wire::CatchingUp::take`] does, which it tells plainly or as a delta. Where it is the delta of no reply, which comes of
+    /// chunks with equal checksums, or of a peer that doesn't know such messages, the question is asked again, plainly. The replica keeps its rows;
+    /// pages that lack a digest get it.
+    ///
+    /// # Errors
+    ///
+    /// [`SessionError`]
+    pub fn take<H: Hasher<N, K> + Hasher<N, V>, const N: usize>(
+        self,
+        replica: &mut Replica<K, V, H, N>,
+        reply: &[u8],
+    ) -> Result<Next<K, V>, SessionError>
+        ensures next { IfOk result (IsNext ⟦<H as Lawful<N, K, V>>⟧.laws N K.encoding V.encoding (side replica.old) self reply.now) }
+        ensures ended { IfErr result (IsStopped ⟦<H as Lawful<N, K, V>>⟧.laws N K.encoding V.encoding K.is_value V.is_value
+            (side replica.old) self reply.now) }
+        ensures rows { replica.new.rows ≡ replica.old.rows }
+        ensures settings { SameSettings replica.old.tree replica.new.tree }
+    {
+        let CatchingUp {
+            alloc,
+            session,
+            told,
+            pays,
+        } = self;
+        let Some(told) = told else {
+            let next = session.take(replica, reply)?;
+            let after = go_on(alloc, replica, next, pays)?;
+            return Ok(after);
+        };
+        match plain_reply(alloc, &told.own, reply) {
+            Ok(plain) => {
+                let next = session.take(replica, &plain)?;
+                let pays = is_shorter(&told, reply, &plain);
+                let after = go_on(alloc, replica, next, pays)?;
+                Ok(after)
+            }
+            Err(PatchError::Memory) => Err(SessionError::Memory),
+            Err(PatchError::Unlike) => {
+                let plainly = CatchingUp {
+                    alloc,
+                    session,
+                    told: None,
+                    pays,
+                };
+                Ok(Next::Ask(plainly, told.question))
+            }
+        }
+    }
+}
+
+/// The plain reply that a reply is the delta of.
+fn plain_reply(alloc: Global, own: &Chunks, reply: &[u8]) -> Result<Vec<u8>, PatchError>
+    ensures plain { IfOk result (λ plain. IsReplyOver own.now reply.now plain.items) }
+    ensures unlike { IfErr result (λ error. error ≡ Unlike → (plain : List ℕ) → ¬ IsReplyOver own.now reply.now plain) }
+{
+    let Some(delta) = behind(TELLS, reply) else {
+        return Err(PatchError::Unlike);
+    };
+    let mut reader = Reader::new(alloc, delta);
+    let plain = patch(own, &mut reader)?;
+    Ok(plain)
+}
+
+/// Whether a delta and the checksums that were told for it had fewer bytes than the plain reply.
+fn is_shorter(told: &Told, delta: &[u8], plain: &[u8]) -> bool {
+    delta.len().saturating_add(told.own.len().saturating_mul(4)) < plain.len()
+}
+
+/// Goes on as the plain catch-up does.
+fn go_on<K: Key + Decode, V: Join + Decode, H: Hasher<N, K> + Hasher<N, V>, const N: usize>(
+    alloc: Global,
+    replica: &mut Replica<K, V, H, N>,
+    next: merkle_wire::Next<K, V>,
+    pays: bool,
+) -> Result<Next<K, V>, SessionError>
+    ensures goes_on { IfOk result (GoesOnAs next) }
+    ensures memory { IfErr result (λ error. error ≡ Memory) }
+    ensures rows { replica.new.rows ≡ replica.old.rows }
+    ensures settings { SameSettings replica.old.tree replica.new.tree }
+{
+    let (session, question) = match next {
+        merkle_wire::Next::Came(rows) => return Ok(Next::Came(rows)),
+        merkle_wire::Next::Ask(session, question) => (session, question),
+    };
+    let Some(own) = own_chunks(alloc, replica, &question, pays)? else {
+        let plainly = CatchingUp {
+            alloc,
+            session,
+            told: None,
+            pays,
+        };
+        return Ok(Next::Ask(plainly, question));
+    };
+    let message = encode_asking(alloc, &own, &question)?;
+    let waiting = CatchingUp {
+        alloc,
+        session,
+        told: Some(Told { question, own }),
+        pays,
+    };
+    Ok(Next::Ask(waiting, message))
+}
+
+/// The chunks of this side's own reply to a question, where they are worth telling.
+fn own_chunks<K: Key + Decode, V: Join + Decode, H: Hasher<N, K> + Hasher<N, V>, const N: usize>(
+    alloc: Global,
+    replica: &mut Replica<K, V, H, N>,
+    question: &[u8],
+    pays: bool,
+) -> Result<Option<Chunks>, SessionError>
+    ensures memory { IfErr result (λ error. error ≡ Memory) }
+    ensures rows { replica.new.rows ≡ replica.old.rows }
+    ensures settings { SameSettings replica.old.tree replica.new.tree }
+{
+    if !is_shared(question, pays) {
+        return Ok(None);
+    }
+    let own = match merkle_wire::answer(alloc, replica, question) {
+        Ok(own) => own,
+        Err(AnswerError::Memory) => return Err(SessionError::Memory),
+        Err(_) => return Ok(None),
+    };
+    if own.len() < FEWEST {
+        return Ok(None);
+    }
+    Ok(Some(Chunks::cut(alloc, own)?))
+}
+
+/// Whether much of the reply to a question may be this side's own: not of values at keys, which it lacks or has with others, and of all rows in gaps where
+/// the last delta paid.
+fn is_shared(question: &[u8], pays: bool) -> bool {
+    match question.get(1) {
+        Some(kind) if *kind == VALUES => false,
+        Some(kind) if *kind == ROWS => pays,
+        _ => true,
+    }
+}

@@ -1,0 +1,29 @@
+//! Laws over the definitions alone: that a session by deltas is a plain one, whatever carries the messages, and how long what a delta tells can be. Each
+//! function has no effect and takes no memory.
+ghost use Rattle.std.specs.Prelude.{◌+◌, ◌≤◌, ℕ, List, length};
+ghost use Rattle.std.specs.List.{concat};
+ghost use Rattle.merkle_delta.specs.Deltas.{IsDeltaOver};
+ghost use Rattle.merkle_delta.specs.Sessions.{ExchangesArePlain, SessionsArePlain};
+
+use merkle_bytes::Decode;
+use merkle_digest::{Hasher, Key};
+use merkle_replica::{Join, Lawful};
+
+/// A session by deltas is a plain one, whatever carries the messages: where each message is answered as [`answer`](crate::answer) does, each reply taken as
+/// [`CatchingUp::take`](crate::CatchingUp::take) does, and no two plain replies of which a delta tells one have one digest, each exchange is a plain one, or
+/// the question is asked again, plainly (`exchanges`); and where rows come they are those of a plain session (`sessions`), of which
+/// [`a_session_is_a_catch_up`](merkle_wire::laws::a_session_is_a_catch_up) says that they are what the side lacks.
+pub fn a_session_by_deltas_is_a_session<
+    K: Key + Decode,
+    V: Join + Decode,
+    H: Hasher<N, K> + Hasher<N, V>,
+    const N: usize,
+>()
+    ensures exchanges { ExchangesArePlain ⟦<H as Lawful<N, K, V>>⟧.laws N K.encoding V.encoding }
+    ensures sessions { SessionsArePlain ⟦<H as Lawful<N, K, V>>⟧.laws N K.encoding V.encoding }
+{}
+
+/// What a delta tells has at most as many bytes as the chunks and the delta have together, whoever made it.
+pub fn a_delta_is_bounded()
+    ensures { (chunks : List (List ℕ)) (delta bytes : List ℕ) → IsDeltaOver chunks delta bytes → length bytes ≤ length (concat chunks) + length delta }
+{}

@@ -1,0 +1,126 @@
+//! What sessions take over a wire: plain ones, and those by deltas.
+
+use crate::fault::Fault;
+use merkle_digest::SipHasher;
+use merkle_replica::Replica;
+use std::alloc::Global;
+
+/// A replica of the default settings.
+pub(crate) type Numbers = Replica<String, u64, SipHasher, 16>;
+
+/// How many messages a session sends here at most: 515 questions, which are one for the root, one for the outlines and one for the nodes of
+/// each of 256 levels, and two for rows; and each once more for each 64 MiB of what it is answered, or where it was told by a delta in vain.
+const MOST_MESSAGES: usize = 2_048;
+
+/// What comes after a reply: the next message, or so many rows.
+pub(crate) enum Step<S> {
+    Ask(S, Vec<u8>),
+    Came(usize),
+}
+
+/// A session that waits for a reply.
+pub(crate) trait Session: Sized + Drop {
+    /// The session of a side that begins, and its first message.
+    fn begun(alloc: Global, local: &Numbers) -> Result<(Self, Vec<u8>), Fault>;
+
+    /// The peer's reply to a message.
+    fn reply_to(alloc: Global, peer: &mut Numbers, message: &[u8]) -> Result<Vec<u8>, Fault>;
+
+    /// What comes after a reply.
+    fn next(self, local: &mut Numbers, reply: &[u8]) -> Result<Step<Self>, Fault>;
+
+    /// How many rounds of outlines were asked for.
+    fn outlined(&self) -> u32;
+}
+
+impl Session for merkle_wire::CatchingUp<String, u64> {
+    fn begun(alloc: Global, local: &Numbers) -> Result<(Self, Vec<u8>), Fault> {
+        Ok(merkle_wire::CatchingUp::begin(alloc, local)?)
+    }
+
+    fn reply_to(alloc: Global, peer: &mut Numbers, message: &[u8]) -> Result<Vec<u8>, Fault> {
+        match merkle_wire::answer(alloc, peer, message) {
+            Ok(reply) => Ok(reply),
+            Err(_) => Err(Fault::Memory),
+        }
+    }
+
+    fn next(self, local: &mut Numbers, reply: &[u8]) -> Result<Step<Self>, Fault> {
+        match self.take(local, reply) {
+            Ok(merkle_wire::Next::Ask(session, message)) => Ok(Step::Ask(session, message)),
+            Ok(merkle_wire::Next::Came(rows)) => Ok(Step::Came(rows.len())),
+            Err(_) => Err(Fault::Memory),
+        }
+    }
+
+    fn outlined(&self) -> u32 {
+        self.rounds()
+    }
+}
+
+impl Session for merkle_delta::CatchingUp<String, u64> {
+    fn begun(alloc: Global, local: &Numbers) -> Result<(Self, Vec<u8>), Fault> {
+        Ok(merkle_delta::CatchingUp::begin(alloc, local)?)
+    }
+
+    fn reply_to(alloc: Global, peer: &mut Numbers, message: &[u8]) -> Result<Vec<u8>, Fault> {
+        match merkle_delta::answer(alloc, peer, message) {
+            Ok(reply) => Ok(reply),
+            Err(_) => Err(Fault::Memory),
+        }
+    }
+
+    fn next(self, local: &mut Numbers, reply: &[u8]) -> Result<Step<Self>, Fault> {
+        match self.take(local, reply) {
+            Ok(merkle_delta::Next::Ask(session, message)) => Ok(Step::Ask(session, message)),
+            Ok(merkle_delta::Next::Came(rows)) => Ok(Step::Came(rows.len())),
+            Err(_) => Err(Fault::Memory),
+        }
+    }
+
+    fn outlined(&self) -> u32 {
+        self.rounds()
+    }
+}
+
+/// What a session takes over a wire.
+#[derive(Clone, Copy)]
+pub(crate) struct Cost {
+    pub(crate) messages: usize,
+    pub(crate) rounds: u32,
+    pub(crate) sent: usize,
+    pub(crate) came: usize,
+    pub(crate) fetched: usize,
+}
+
+/// The bytes of the messages of a session, of both sides, and how many rows it brings. Nothing is joined.
+pub(crate) fn cost_of<S: Session>(
+    alloc: Global,
+    local: &mut Numbers,
+    peer: &mut Numbers,
+) -> Result<Cost, Fault> {
+    let (mut session, mut message) = S::begun(alloc, local)?;
+    let (mut sent, mut came) = (0usize, 0usize);
+    for before in 0..MOST_MESSAGES {
+        let reply = S::reply_to(alloc, peer, &message)?;
+        sent = sent.saturating_add(message.len());
+        came = came.saturating_add(reply.len());
+        let rounds = session.outlined();
+        match session.next(local, &reply)? {
+            Step::Ask(next, question) => {
+                session = next;
+                message = question;
+            }
+            Step::Came(fetched) => {
+                return Ok(Cost {
+                    messages: before.saturating_add(1),
+                    rounds,
+                    sent,
+                    came,
+                    fetched,
+                });
+            }
+        }
+    }
+    Err(Fault::Memory)
+}
