@@ -1,6 +1,6 @@
 //! The times of catch-ups and of pulls between replicas that differ in few rows, and what each takes over a wire.
 
-use crate::clock::{Best, now};
+use crate::clock::{Best, Each, now};
 use crate::fault::Fault;
 use crate::keys::{LOCAL_SEED, keys};
 use crate::sessions::{Cost, Numbers, Session, cost_of};
@@ -245,25 +245,49 @@ fn name_of(kind: Kind) -> &'static str {
     }
 }
 
-/// Writes the line of a case.
-fn write_line<R: Clock, W: Write>(
-    rt: &R,
-    alloc: Global,
-    case: Case<'_>,
-    out: &mut W,
-) -> Result<(), Fault> {
+/// What is measured of a case: the best times, what the sessions take over a wire, and the rows and bytes of pulls.
+#[derive(Drop)]
+struct Measured {
+    catch_up: Each,
+    session: Each,
+    by_deltas: Each,
+    pull: Each,
+    plain: Cost,
+    less: Cost,
+    joined: usize,
+    pulled: usize,
+    pull_bytes: usize,
+}
+
+/// Measures a case; times are in microseconds.
+fn measure<R: Clock>(rt: &R, alloc: Global, case: Case<'_>) -> Result<Measured, Fault> {
     let mut peer = case.asked(alloc)?;
-    let (session, cost) = sessions::<Plain, R>(rt, alloc, case, &mut peer)?;
+    let (session, plain) = sessions::<Plain, R>(rt, alloc, case, &mut peer)?;
     let (by_deltas, less) = sessions::<ByDeltas, R>(rt, alloc, case, &mut peer)?;
     let (catch_up, joined) = catch_ups(rt, alloc, case, &mut peer)?;
     let (pull, pulled) = pulls(rt, alloc, case, &mut peer)?;
-    let (rows, differing, way) = (case.sorted.len(), case.places.len(), name_of(case.kind));
-    let (session, by_deltas) = (session.each(1000), by_deltas.each(1000));
-    let (catch_up, pull) = (catch_up.each(1000), pull.each(1000));
-    let (rounds, fetched) = (cost.rounds, cost.fetched);
-    let bytes = cost.sent.saturating_add(cost.came);
-    let delta_bytes = less.sent.saturating_add(less.came);
     let pull_bytes = bytes_of_pull(&peer, pulled)?;
+    Ok(Measured {
+        catch_up: catch_up.each(1000),
+        session: session.each(1000),
+        by_deltas: by_deltas.each(1000),
+        pull: pull.each(1000),
+        plain,
+        less,
+        joined,
+        pulled,
+        pull_bytes,
+    })
+}
+
+/// Writes the line of a case.
+fn write_line<W: Write>(case: Case<'_>, measured: &Measured, out: &mut W) -> Result<(), Fault> {
+    let (rows, differing, way) = (case.sorted.len(), case.places.len(), name_of(case.kind));
+    let (catch_up, session) = (&measured.catch_up, &measured.session);
+    let (by_deltas, pull) = (&measured.by_deltas, &measured.pull);
+    let (rounds, fetched) = (measured.plain.rounds, measured.plain.fetched);
+    let (bytes, delta_bytes) = (measured.plain.bytes(), measured.less.bytes());
+    let (joined, pull_bytes, pulled) = (measured.joined, measured.pull_bytes, measured.pulled);
     writeln!(
         out,
         "{rows} {differing} {way} {catch_up} {session} {by_deltas} {pull} {rounds} {bytes} {delta_bytes} {fetched} {joined} {pull_bytes} {pulled}"
@@ -290,19 +314,30 @@ pub fn write_table<R: Clock, W: Write>(
         for differing in differing_of(alloc, *count)? {
             let places = places(alloc, differing, *count)?;
             let changed = Case::changed(&sorted, &places);
-            write_line(rt, alloc, changed, out)?;
-            write_line(rt, alloc, changed.missing(), out)?;
+            for case in [changed, changed.missing()] {
+                write_line(case, &measure(rt, alloc, case)?, out)?;
+            }
         }
     }
     Ok(())
 }
 
-/// Writes the line of the sessions of a case.
-fn write_session<W: Write>(alloc: Global, case: Case<'_>, out: &mut W) -> Result<(), Fault> {
+/// What the sessions of a case take over a wire: a plain one, and one by deltas.
+fn costs(alloc: Global, case: Case<'_>) -> Result<(Cost, Cost), Fault> {
     let mut peer = case.asked(alloc)?;
     let mut local = case.asking(alloc)?;
     let plain = cost_of::<Plain>(alloc, &mut local, &mut peer)?;
     let less = cost_of::<ByDeltas>(alloc, &mut local, &mut peer)?;
+    Ok((plain, less))
+}
+
+/// Writes the line of the sessions of a case.
+fn write_session<W: Write>(
+    case: Case<'_>,
+    plain: Cost,
+    less: Cost,
+    out: &mut W,
+) -> Result<(), Fault> {
     let (rows, differing, way) = (case.sorted.len(), case.places.len(), name_of(case.kind));
     let (messages, rounds, fetched) = (plain.messages, plain.rounds, plain.fetched);
     let (sent, came) = (plain.sent, plain.came);
@@ -327,8 +362,10 @@ pub fn write_sessions<W: Write>(alloc: Global, counts: &[usize], out: &mut W) ->
         for differing in differing_of(alloc, *count)? {
             let places = places(alloc, differing, *count)?;
             let changed = Case::changed(&sorted, &places);
-            write_session(alloc, changed, out)?;
-            write_session(alloc, changed.missing(), out)?;
+            for case in [changed, changed.missing()] {
+                let (plain, less) = costs(alloc, case)?;
+                write_session(case, plain, less, out)?;
+            }
         }
     }
     Ok(())

@@ -93,6 +93,13 @@ pub(crate) struct Cost {
     pub(crate) fetched: usize,
 }
 
+impl Cost {
+    /// The bytes of the messages of both sides.
+    pub(crate) fn bytes(&self) -> usize {
+        self.sent.saturating_add(self.came)
+    }
+}
+
 /// The bytes of the messages of a session, of both sides, and how many rows it brings. Nothing is joined.
 pub(crate) fn cost_of<S: Session>(
     alloc: Global,
