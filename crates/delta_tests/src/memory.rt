@@ -53,5 +53,5 @@ fn a_session_brings_rows_or_wants_memory(rt: HostRuntime) {
 
 #[test]
 fn a_session_brings_rows_where_memory_is_at_hand(rt: HostRuntime) {
-    assert_eq!(rt; brings_or_wants_memory(rt.alloc()), Ok(true));
+    assert!(rt; brings_or_wants_memory(rt.alloc()) == Ok(true));
 }

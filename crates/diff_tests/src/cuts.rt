@@ -83,15 +83,13 @@ fn cuts_as_worked_out(rt: HostRuntime) -> Result<(), Fail> {
         let good = ranges(rt.alloc(), good)?;
         let left = ranges(rt.alloc(), left)?;
         let found = cut(rt.alloc(), &bad, &good)?;
-        assert_eq!(rt;
-            bounds_of(rt.alloc(), &found)?.as_slice(),
-            left.as_slice(),
+        assert!(rt;
+            bounds_of(rt.alloc(), &found)?.as_slice() == left.as_slice(),
             "at {line}"
         );
         let found = built(rt.alloc(), &bad, &good)?;
-        assert_eq!(rt;
-            bounds_of(rt.alloc(), &found)?.as_slice(),
-            left.as_slice(),
+        assert!(rt;
+            bounds_of(rt.alloc(), &found)?.as_slice() == left.as_slice(),
             "built, at {line}"
         );
     }
@@ -116,11 +114,11 @@ fn check_spaced(rt: &impl Abort, found: &[DiffRange<'_, u64>], start: u64, lengt
     requires start { start ≤ 4 }
     requires length { length ≤ 4 }
 {
-    assert_eq!(rt; found.len(), MANY as usize);
+    assert!(rt; found.len() == MANY as usize);
     for i in 0..MANY {
         let first = start + 4 * i;
         let range = &found[i as usize];
-        assert_eq!(rt; (*range.start(), *range.end()), (first, first + length));
+        assert!(rt; (*range.start(), *range.end()) == (first, first + length));
     }
 }
 
@@ -133,10 +131,7 @@ fn cuts_long_lists(rt: HostRuntime) -> Result<(), Fail> {
     check_spaced(&rt, &built(rt.alloc(), &whole, &good)?, 2, 2);
     check_spaced(&rt, &cut(rt.alloc(), &bad, &good)?, 2, 1);
     check_spaced(&rt, &built(rt.alloc(), &bad, &good)?, 2, 1);
-    assert_eq!(rt;
-        bounds_of(rt.alloc(), &cut(rt.alloc(), &bad, &whole)?)?.len(),
-        0
-    );
+    assert!(rt; bounds_of(rt.alloc(), &cut(rt.alloc(), &bad, &whole)?)?.len() == 0);
     Ok(())
 }
 
@@ -157,9 +152,9 @@ const REFUSED: [(&[Bounds], &[Bounds], &[Bounds]); 6] = [
 /// Asserts that a cut is these ranges, or want of memory.
 fn expect(rt: &impl Abort, found: Result<Vec<DiffRange<'_, u64>>, AllocError>, left: &[Bounds]) {
     if let Ok(found) = found {
-        assert_eq!(rt; found.len(), left.len());
+        assert!(rt; found.len() == left.len());
         for (range, want) in found.iter().zip(left) {
-            assert_eq!(rt; (*range.start(), *range.end()), *want);
+            assert!(rt; (*range.start(), *range.end()) == *want);
         }
     }
 }

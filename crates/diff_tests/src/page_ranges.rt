@@ -16,7 +16,7 @@ fn takes_bounds_in_order(rt: HostRuntime) {
 fn prints_its_bounds(rt: HostRuntime) -> Result<(), Fail> {
     let range = PageRange::new(&1, &9, PageDigest::new([7; 16]));
     let printed = format!(in rt.alloc(); "{range}")?;
-    assert_eq!(rt; printed.as_str(), "(1, 9)");
+    assert!(rt; printed.as_str() == "(1, 9)");
     Ok(())
 }
 

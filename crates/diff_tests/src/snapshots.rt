@@ -80,8 +80,8 @@ fn a_snapshot_gives_its_ranges_back(rt: HostRuntime) -> Result<(), Fail> {
     let mut iter = snapshot.iter();
     for (i, row) in RANGES.iter().enumerate() {
         let left = RANGES.len() - i;
-        assert_eq!(rt; iter.len(), left);
-        assert_eq!(rt; iter.size_hint(), (left, Some(left)));
+        assert!(rt; iter.len() == left);
+        assert!(rt; iter.size_hint() == (left, Some(left)));
         let given = iter.next().map(|range| (
             *range.start(),
             *range.end(),
@@ -89,7 +89,7 @@ fn a_snapshot_gives_its_ranges_back(rt: HostRuntime) -> Result<(), Fail> {
         ));
         assert!(rt; given == Some(*row), "with {left} left");
     }
-    assert_eq!(rt; iter.len(), 0);
+    assert!(rt; iter.len() == 0);
     assert!(rt; iter.next().is_none());
     assert!(rt; iter.next().is_none());
     Ok(())
@@ -138,10 +138,10 @@ fn bounds_are_in_order(rt: HostRuntime) {
     let rows = [(42, 24, false), (24, 42, true), (42, 42, true)];
     for (start, end, want) in rows {
         let range = OwnedPageRange::try_new(start, end, PageDigest::new([0; 16]));
-        assert_eq!(rt; range.is_some(), want, "{start} to {end}");
+        assert!(rt; range.is_some() == want, "{start} to {end}");
     }
     let range = OwnedPageRange::new(1, 9, PageDigest::new([0; 16]));
-    assert_eq!(rt; (*range.start(), *range.end()), (1, 9));
+    assert!(rt; (*range.start(), *range.end()) == (1, 9));
 }
 
 #[test]
@@ -149,7 +149,7 @@ fn bounds_are_in_the_reversed_order_of_numbers(rt: HostRuntime) {
     let rows = [(1u8, 3, false), (3, 1, true)];
     for (start, end, want) in rows {
         let range = OwnedPageRange::try_new(Reverse(start), Reverse(end), PageDigest::new([0; 16]));
-        assert_eq!(rt; range.is_some(), want, "{start} to {end}");
+        assert!(rt; range.is_some() == want, "{start} to {end}");
     }
 }
 
@@ -181,8 +181,8 @@ fn snapshots_differ_where_their_digests_do(rt: HostRuntime) -> Result<(), Fail> 
     let local = PageRangeSnapshot::from_ranges(alloc, borrowed(alloc, &[(5u8, 5, 1)])?)?;
     let peer = PageRangeSnapshot::from_ranges(alloc, borrowed(alloc, &[(5u8, 5, 2)])?)?;
     let found = diff_snapshots(alloc, &local, &peer)?;
-    assert_eq!(rt; found.len(), 1);
-    assert_eq!(rt; (*found[0].start(), *found[0].end()), (5, 5));
+    assert!(rt; found.len() == 1);
+    assert!(rt; (*found[0].start(), *found[0].end()) == (5, 5));
     assert!(rt; diff_snapshots(alloc, &local, &local)?.is_empty());
     Ok(())
 }
@@ -243,10 +243,10 @@ fn try_clone_wants_memory_where_a_clone_of_a_key_is_refused(rt: HostRuntime) -> 
     for left in 0..6 {
         clones_left.set(left);
         let clone = snapshot.try_clone();
-        assert_eq!(rt; clone.is_ok(), left >= 4, "{left} clones");
+        assert!(rt; clone.is_ok() == (left >= 4), "{left} clones");
         if let Ok(clone) = clone {
             assert!(rt; clone == snapshot);
-            assert_eq!(rt; clones_left.get(), left - 4);
+            assert!(rt; clones_left.get() == left - 4);
         }
         assert!(rt;
             snapshot

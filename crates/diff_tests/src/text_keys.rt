@@ -106,7 +106,7 @@ fn copies(alloc: Global) -> Result<Option<usize>, AllocError> {
 
 #[test]
 fn copies_have_texts_of_their_own(rt: HostRuntime) -> Result<(), Fail> {
-    assert_eq!(rt; copies(rt.alloc())?, Some(3));
+    assert!(rt; copies(rt.alloc())? == Some(3));
     Ok(())
 }
 

@@ -15,18 +15,12 @@ const TWICE: [u8; 16] = [
 fn printed_digests(rt: HostRuntime) -> Result<(), Fail> {
     let alloc = rt.alloc();
     let digest = Digest::new(BANANAS);
-    assert_eq!(rt; digest.to_string(alloc)?.as_str(), "YmFuYW5hcwo=");
-    assert_eq!(rt;
-        ValueDigest::new(digest).to_string(alloc)?.as_str(),
-        "YmFuYW5hcwo="
-    );
+    assert!(rt; digest.to_string(alloc)?.as_str() == "YmFuYW5hcwo=");
+    assert!(rt; ValueDigest::new(digest).to_string(alloc)?.as_str() == "YmFuYW5hcwo=");
     let page = PageDigest::new(TWICE);
-    assert_eq!(rt; page.to_string(alloc)?.as_str(), "YmFuYW5hcwpiYW5hbmFzCg==");
-    assert_eq!(rt;
-        RootHash::new(page).to_string(alloc)?.as_str(),
-        "YmFuYW5hcwpiYW5hbmFzCg=="
-    );
-    assert_eq!(rt; Digest::new([]).to_string(alloc)?.as_str(), "");
+    assert!(rt; page.to_string(alloc)?.as_str() == "YmFuYW5hcwpiYW5hbmFzCg==");
+    assert!(rt; RootHash::new(page).to_string(alloc)?.as_str() == "YmFuYW5hcwpiYW5hbmFzCg==");
+    assert!(rt; Digest::new([]).to_string(alloc)?.as_str() == "");
     Ok(())
 }
 
@@ -35,35 +29,35 @@ fn printing_takes_no_memory(rt: HostRuntime) -> Result<(), Fail> {
     let mut text = [0; 24];
     let mut room = Cursor::new(&mut text[..]);
     write!(room, "{}", RootHash::new(PageDigest::new(TWICE)))?;
-    assert_eq!(rt; &text, b"YmFuYW5hcwpiYW5hbmFzCg==");
+    assert!(rt; &text == b"YmFuYW5hcwpiYW5hbmFzCg==");
     Ok(())
 }
 
 #[test]
 fn bytes_come_back(rt: HostRuntime) {
-    assert_eq!(rt; *Digest::new([42; 4]).as_bytes(), [42; 4]);
-    assert_eq!(rt; *Digest::new([42; 16]).as_bytes(), [42; 16]);
+    assert!(rt; *Digest::new([42; 4]).as_bytes() == [42; 4]);
+    assert!(rt; *Digest::new([42; 16]).as_bytes() == [42; 16]);
     let value = ValueDigest::new(Digest::new(BANANAS));
-    assert_eq!(rt; *value.as_bytes(), BANANAS);
-    assert_eq!(rt; *value.digest(), Digest::new(BANANAS));
+    assert!(rt; *value.as_bytes() == BANANAS);
+    assert!(rt; *value.digest() == Digest::new(BANANAS));
     let page = PageDigest::from(Digest::new(TWICE));
-    assert_eq!(rt; page, PageDigest::new(TWICE));
-    assert_eq!(rt; *page.as_bytes(), TWICE);
-    assert_eq!(rt; *page.digest(), Digest::new(TWICE));
+    assert!(rt; page == PageDigest::new(TWICE));
+    assert!(rt; *page.as_bytes() == TWICE);
+    assert!(rt; *page.digest() == Digest::new(TWICE));
     let root = RootHash::new(page);
-    assert_eq!(rt; *root.as_bytes(), TWICE);
-    assert_eq!(rt; *root.digest(), Digest::new(TWICE));
+    assert!(rt; *root.as_bytes() == TWICE);
+    assert!(rt; *root.digest() == Digest::new(TWICE));
 }
 
 #[test]
 fn clones_are_equal(rt: HostRuntime) -> Result<(), Fail> {
     let page = PageDigest::new(TWICE);
-    assert_eq!(rt; page.clone()?, page);
-    assert_eq!(rt; page.digest().clone()?, Digest::new(TWICE));
+    assert!(rt; page.clone()? == page);
+    assert!(rt; page.digest().clone()? == Digest::new(TWICE));
     let root = RootHash::new(page);
-    assert_eq!(rt; root.clone()?, root);
+    assert!(rt; root.clone()? == root);
     let value = ValueDigest::new(Digest::new(BANANAS));
-    assert_eq!(rt; value.clone()?, value);
+    assert!(rt; value.clone()? == value);
     Ok(())
 }
 
@@ -76,19 +70,16 @@ fn the_first_byte_orders_first(rt: HostRuntime) {
         ([3, 4], [3, 4], Ordering::Equal),
     ];
     for (a, b, want) in rows {
-        assert_eq!(rt;
-            Digest::new(a).cmp(&Digest::new(b)),
-            want,
+        assert!(rt;
+            Digest::new(a).cmp(&Digest::new(b)) == want,
             "{a:?} and {b:?}"
         );
-        assert_eq!(rt;
-            Digest::new(a) == Digest::new(b),
-            want == Ordering::Equal,
+        assert!(rt;
+            (Digest::new(a) == Digest::new(b)) == (want == Ordering::Equal),
             "{a:?} and {b:?}"
         );
-        assert_eq!(rt;
-            Digest::new(a) < Digest::new(b),
-            want == Ordering::Less,
+        assert!(rt;
+            (Digest::new(a) < Digest::new(b)) == (want == Ordering::Less),
             "{a:?} and {b:?}"
         );
     }

@@ -8,7 +8,7 @@ fn expect_fed<T: HashBytes>(rt: &impl Abort, value: &T, bytes: &[u8]) {
     value.feed(&mut fed);
     let mut written = Sip24::new();
     written.write(bytes);
-    assert_eq!(rt; fed.finish128(), written.finish128(), "{bytes:?}");
+    assert!(rt; fed.finish128() == written.finish128(), "{bytes:?}");
 }
 
 #[test]

@@ -3,7 +3,7 @@ use std::process::Abort;
 use std::test::Fail;
 
 fn expect_bytes<K: KeyBytes>(rt: &impl Abort, key: &K, bytes: &[u8]) {
-    assert_eq!(rt; key.key_bytes(), bytes);
+    assert!(rt; key.key_bytes() == bytes);
 }
 
 #[test]

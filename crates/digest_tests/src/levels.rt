@@ -10,10 +10,10 @@ fn levels_in_base_16(rt: HostRuntime) {
         ([0x11, 0x00, 0x00, 0x00], 0),
     ];
     for (bytes, want) in four_bytes {
-        assert_eq!(rt; level(&Digest::new(bytes), base), want, "{bytes:?}");
+        assert!(rt; level(&Digest::new(bytes), base) == want, "{bytes:?}");
     }
     for (bytes, want) in [([0x00, 0x10], 3), ([0x00, 0x11], 2)] {
-        assert_eq!(rt; level(&Digest::new(bytes), base), want, "{bytes:?}");
+        assert!(rt; level(&Digest::new(bytes), base) == want, "{bytes:?}");
     }
     for (first, second, want) in [
         (0x00, 0x00, 32),
@@ -24,19 +24,18 @@ fn levels_in_base_16(rt: HostRuntime) {
         let mut bytes = [0; 16];
         bytes[0] = first;
         bytes[1] = second;
-        assert_eq!(rt; level(&Digest::new(bytes), base), want, "{bytes:?}");
+        assert!(rt; level(&Digest::new(bytes), base) == want, "{bytes:?}");
     }
-    assert_eq!(rt; level(&Digest::new([]), base), 0);
+    assert!(rt; level(&Digest::new([]), base) == 0);
 }
 
 #[test]
 fn levels_of_one_byte_in_base_16(rt: HostRuntime) {
-    assert_eq!(rt; level(&Digest::new([0]), default_level_base()), 2);
+    assert!(rt; level(&Digest::new([0]), default_level_base()) == 2);
     for byte in 1..=255 {
         let want = if byte % 16 == 0 { 1 } else { 0 };
-        assert_eq!(rt;
-            level(&Digest::new([byte]), default_level_base()),
-            want,
+        assert!(rt;
+            level(&Digest::new([byte]), default_level_base()) == want,
             "{byte}"
         );
     }
@@ -63,9 +62,8 @@ fn levels_of_200_bytes(rt: HostRuntime) {
         (127, 0xf0, 255),
         (127, 0x11, 254),
     ] {
-        assert_eq!(rt;
-            level_of_200_bytes(zeros, byte),
-            want,
+        assert!(rt;
+            level_of_200_bytes(zeros, byte) == want,
             "{zeros} zeros and {byte}"
         );
     }
@@ -76,9 +74,8 @@ fn levels_stop_at_255(rt: HostRuntime) {
     for (last, want) in [(0x00, 255), (0x10, 255), (0x11, 254)] {
         let mut bytes = [0; 128];
         bytes[127] = last;
-        assert_eq!(rt;
-            level(&Digest::new(bytes), default_level_base()),
-            want,
+        assert!(rt;
+            level(&Digest::new(bytes), default_level_base()) == want,
             "{last}"
         );
     }
@@ -88,7 +85,7 @@ fn levels_stop_at_255(rt: HostRuntime) {
 fn levels_in_the_least_and_the_greatest_base(rt: HostRuntime) {
     let least = NonZeroU8::MIN;
     let greatest = NonZeroU8::MAX;
-    assert_eq!(rt; level(&Digest::new([0x00, 0x05, 0x00]), least), 3);
+    assert!(rt; level(&Digest::new([0x00, 0x05, 0x00]), least) == 3);
     for (byte, base, want) in [
         (0xff, least, 1),
         (0x00, least, 2),
@@ -96,6 +93,6 @@ fn levels_in_the_least_and_the_greatest_base(rt: HostRuntime) {
         (0xfe, greatest, 0),
         (0x10, greatest, 0),
     ] {
-        assert_eq!(rt; level(&Digest::new([byte]), base), want, "{byte}");
+        assert!(rt; level(&Digest::new([byte]), base) == want, "{byte}");
     }
 }

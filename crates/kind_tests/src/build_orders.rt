@@ -74,6 +74,6 @@ fn root_hashes_agree_exactly_where_maps_do(rt: HostRuntime) -> Result<(), Fail> 
     let mixed = steps(rt.alloc(), 37)?;
     let ascending = steps(rt.alloc(), 1)?;
     // No key, the key 0 alone, and all keys.
-    assert_eq!(rt; equal_steps(&mixed, &ascending), Some(3));
+    assert!(rt; equal_steps(&mixed, &ascending) == Some(3));
     Ok(())
 }

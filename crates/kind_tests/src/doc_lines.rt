@@ -79,14 +79,14 @@ fn asked_before_and_after(alloc: Global) -> Result<(String, String), Fail> {
 #[test]
 fn a_peer_is_asked_for_the_one_key_that_differs(rt: HostRuntime) -> Result<(), Fail> {
     let (before, after) = asked_before_and_after(rt.alloc())?;
-    assert_eq!(rt; before.as_str(), "");
-    assert_eq!(rt; after.as_str(), " bananas-bananas");
+    assert!(rt; before.as_str() == "");
+    assert!(rt; after.as_str() == " bananas-bananas");
     Ok(())
 }
 
 #[test]
 fn a_builder_gives_its_page_format(rt: HostRuntime) -> Result<(), Fail> {
     let base = NonZeroU8::new(32).ok_or("no base")?;
-    assert_eq!(rt; built_in_format_2(rt.alloc(), base), PageFormat::V2);
+    assert!(rt; built_in_format_2(rt.alloc(), base) == PageFormat::V2);
     Ok(())
 }

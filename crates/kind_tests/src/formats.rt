@@ -69,10 +69,10 @@ fn builders_trees_and_clones_keep_the_format(rt: HostRuntime) -> Result<(), Fail
         for way in WAYS {
             let tree = made(way, format)?.build(rt.alloc());
             let (found, root_hash) = format_and_root(rt.alloc(), tree)?;
-            assert_eq!(rt; (found, root_hash.as_str()), (format, root));
+            assert!(rt; (found, root_hash.as_str()) == (format, root));
         }
         let (found, root_hash) = of_clone(rt.alloc(), format)?;
-        assert_eq!(rt; (found, root_hash.as_str()), (format, root));
+        assert!(rt; (found, root_hash.as_str()) == (format, root));
     }
     Ok(())
 }
@@ -85,9 +85,6 @@ fn format_of(tree: Numbers) -> PageFormat {
 #[test]
 fn the_default_is_format_1(rt: HostRuntime) {
     let alloc = rt.alloc();
-    assert_eq!(rt;
-        format_of(MerkleSearchTree::with_defaults(alloc)),
-        PageFormat::V1
-    );
-    assert_eq!(rt; format_of(Builder::default().build(alloc)), PageFormat::V1);
+    assert!(rt; format_of(MerkleSearchTree::with_defaults(alloc)) == PageFormat::V1);
+    assert!(rt; format_of(Builder::default().build(alloc)) == PageFormat::V1);
 }

@@ -57,8 +57,8 @@ fn nodes_and_spans(alloc: Global) -> Result<(String, String), Fail> {
 #[test]
 fn goes_by_the_order_of_the_keys(rt: HostRuntime) -> Result<(), Fail> {
     let (numbers, spans) = nodes_and_spans(rt.alloc())?;
-    assert_eq!(rt; numbers.as_str(), " 3 2 1");
-    assert_eq!(rt; spans.as_str(), " 3-1");
+    assert!(rt; numbers.as_str() == " 3 2 1");
+    assert!(rt; spans.as_str() == " 3-1");
     Ok(())
 }
 
@@ -102,7 +102,7 @@ fn root_of(alloc: Global, text: &str, value: u64) -> Result<RootHash, AllocError
 #[test]
 fn keeps_the_first_of_equal_keys(rt: HostRuntime) -> Result<(), Fail> {
     let (texts, root_hash) = set_twice(rt.alloc())?;
-    assert_eq!(rt; texts.as_str(), " Banana");
+    assert!(rt; texts.as_str() == " Banana");
     assert!(rt; root_hash == root_of(rt.alloc(), "banana", 2)?);
     Ok(())
 }

@@ -112,8 +112,8 @@ fn roots_and_ranges_are_those_of_the_rust_crate(rt: HostRuntime) -> Result<(), F
     for line in RUST_ROOTS.lines() {
         let size = size_of(line)?;
         let upserted = squares(alloc, PageFormat::V1, size)?;
-        assert_eq!(rt; line_of(alloc, size, upserted)?.as_str(), line);
-        assert_eq!(rt; line_of(alloc, size, loaded(alloc, size)?)?.as_str(), line);
+        assert!(rt; line_of(alloc, size, upserted)?.as_str() == line);
+        assert!(rt; line_of(alloc, size, loaded(alloc, size)?)?.as_str() == line);
     }
     Ok(())
 }
@@ -123,10 +123,7 @@ fn roots_of_format_2(rt: HostRuntime) -> Result<(), Fail> {
     for line in ROOTS_OF_FORMAT_2.lines() {
         let size = size_of(line)?;
         let mut tree = squares(rt.alloc(), PageFormat::V2, size)?;
-        assert_eq!(rt;
-            format!(in rt.alloc(); "{size} {}", tree.root_hash())?.as_str(),
-            line
-        );
+        assert!(rt; format!(in rt.alloc(); "{size} {}", tree.root_hash())?.as_str() == line);
     }
     Ok(())
 }

@@ -31,8 +31,11 @@ fn stops_where_the_source_fails(rt: HostRuntime) {
         let wanted = written_after(count);
         for piece in [1, 5, 100] {
             let (result, taken) = serve(rt.alloc(), &INPUT[..count], piece, true, 1024, false);
-            assert_eq!(rt; result, Err(RunFault::Read));
-            assert_eq!(rt; taken.as_slice(), &OUTPUT[..wanted], "after {count} bytes");
+            assert!(rt; result == Err(RunFault::Read));
+            assert!(rt;
+                taken.as_slice() == &OUTPUT[..wanted],
+                "after {count} bytes"
+            );
         }
     }
 }
@@ -41,18 +44,17 @@ fn stops_where_the_source_fails(rt: HostRuntime) {
 fn stops_where_the_sink_fails(rt: HostRuntime) {
     for room in 0..OUTPUT.len() {
         let (result, taken) = serve(rt.alloc(), INPUT, 100, false, room, false);
-        assert_eq!(rt; result, Err(RunFault::Write));
-        assert_eq!(rt;
-            taken.as_slice(),
-            &OUTPUT[..room],
+        assert!(rt; result == Err(RunFault::Write));
+        assert!(rt;
+            taken.as_slice() == &OUTPUT[..room],
             "with room for {room} bytes"
         );
     }
     let (result, taken) = serve(rt.alloc(), INPUT, 100, false, OUTPUT.len(), true);
-    assert_eq!(rt; result, Err(RunFault::Write), "at the flush");
-    assert_eq!(rt; taken.as_slice(), OUTPUT);
+    assert!(rt; result == Err(RunFault::Write), "at the flush");
+    assert!(rt; taken.as_slice() == OUTPUT);
     let (result, _) = serve(rt.alloc(), INPUT, 100, false, OUTPUT.len(), false);
-    assert_eq!(rt; result, Ok(()));
+    assert!(rt; result == Ok(()));
 }
 
 /// What a run answers and writes over a reader and a writer of std that give and take one byte at a time.
@@ -82,10 +84,9 @@ fn stops_where_a_reader_of_std_fails(rt: HostRuntime) {
     for count in 0..INPUT.len() + 1 {
         let writer = byte_writer(16, false, false);
         let (result, taken) = serve_bytes(rt.alloc(), &INPUT[..count], true, writer);
-        assert_eq!(rt; result, Err(RunFault::Read));
-        assert_eq!(rt;
-            taken.as_slice(),
-            &OUTPUT[..written_after(count)],
+        assert!(rt; result == Err(RunFault::Read));
+        assert!(rt;
+            taken.as_slice() == &OUTPUT[..written_after(count)],
             "after {count} bytes"
         );
     }
@@ -97,10 +98,9 @@ fn stops_where_a_writer_of_std_fails(rt: HostRuntime) {
         for takes_none in [false, true] {
             let writer = byte_writer(room, takes_none, false);
             let (result, taken) = serve_bytes(rt.alloc(), INPUT, false, writer);
-            assert_eq!(rt; result, Err(RunFault::Write));
-            assert_eq!(rt;
-                taken.as_slice(),
-                &OUTPUT[..room],
+            assert!(rt; result == Err(RunFault::Write));
+            assert!(rt;
+                taken.as_slice() == &OUTPUT[..room],
                 "with room for {room} bytes"
             );
         }
@@ -108,8 +108,8 @@ fn stops_where_a_writer_of_std_fails(rt: HostRuntime) {
     for (refuses_flush, wanted) in [(true, Err(RunFault::Write)), (false, Ok(()))] {
         let writer = byte_writer(16, false, refuses_flush);
         let (result, taken) = serve_bytes(rt.alloc(), INPUT, false, writer);
-        assert_eq!(rt; result, wanted);
-        assert_eq!(rt; taken.as_slice(), OUTPUT);
+        assert!(rt; result == wanted);
+        assert!(rt; taken.as_slice() == OUTPUT);
     }
 }
 
@@ -119,12 +119,9 @@ fn takes_a_write_of_no_byte_as_a_fault(rt: HostRuntime) {
         let mut output = [0; 16];
         let mut reader = FromRead::new(INPUT);
         let mut writer = ToWrite::new(Cursor::new(&mut output[..room]));
-        assert_eq!(rt;
-            run(rt.alloc(), &mut reader, &mut writer),
-            Err(RunFault::Write)
-        );
+        assert!(rt; run(rt.alloc(), &mut reader, &mut writer) == Err(RunFault::Write));
         assert!(rt; writer.failed());
-        assert_eq!(rt; &output[..room], &OUTPUT[..room]);
+        assert!(rt; &output[..room] == &OUTPUT[..room]);
     }
 }
 
@@ -133,14 +130,14 @@ fn stays_failed(rt: HostRuntime) {
     let mut reader = FromRead::new(FailsOnce { has_failed: false });
     let mut buf = [0; 4];
     assert!(rt; !reader.failed());
-    assert_eq!(rt; reader.read(&mut buf), Err(Failed));
-    assert_eq!(rt; reader.read(&mut buf), Err(Failed));
+    assert!(rt; reader.read(&mut buf) == Err(Failed));
+    assert!(rt; reader.read(&mut buf) == Err(Failed));
     assert!(rt; reader.failed());
     let mut writer = ToWrite::new(CannotFlush);
-    assert_eq!(rt; writer.write(b"x"), Ok(1));
-    assert_eq!(rt; writer.flush(), Err(Failed));
-    assert_eq!(rt; writer.write(b"x"), Err(Failed));
-    assert_eq!(rt; writer.flush(), Err(Failed));
+    assert!(rt; writer.write(b"x") == Ok(1));
+    assert!(rt; writer.flush() == Err(Failed));
+    assert!(rt; writer.write(b"x") == Err(Failed));
+    assert!(rt; writer.flush() == Err(Failed));
     assert!(rt; writer.failed());
 }
 
@@ -150,8 +147,8 @@ fn names_its_faults(rt: HostRuntime) -> Result<(), Fail> {
         (RunFault::Read, "mst_pair: read failed"),
         (RunFault::Write, "mst_pair: write failed"),
     ] {
-        assert_eq!(rt; fault.text(), text);
-        assert_eq!(rt; format!(in rt.alloc(); "{fault}")?.as_str(), text);
+        assert!(rt; fault.text() == text);
+        assert!(rt; format!(in rt.alloc(); "{fault}")?.as_str() == text);
     }
     Ok(())
 }

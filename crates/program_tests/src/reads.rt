@@ -10,12 +10,12 @@ fn fails_after_its_reads(rt: HostRuntime) {
     let mut reader = FromRead::with_reads(b"abc".as_slice(), 2);
     let mut buf = [0];
     for byte in [b'a', b'b'] {
-        assert_eq!(rt; reader.read(&mut buf), Ok(1));
-        assert_eq!(rt; buf, [byte]);
+        assert!(rt; reader.read(&mut buf) == Ok(1));
+        assert!(rt; buf == [byte]);
     }
-    assert_eq!(rt; reader.read(&mut buf), Err(Failed));
+    assert!(rt; reader.read(&mut buf) == Err(Failed));
     assert!(rt; reader.failed());
-    assert_eq!(rt; reader.into_inner(), b"c".as_slice());
+    assert!(rt; reader.into_inner() == b"c".as_slice());
 }
 
 /// What a device answers to calls for four bytes, and what a source or a sink over it answers: the same, until the first error.
@@ -35,20 +35,20 @@ fn answers_an_error_only_where_its_device_does(rt: HostRuntime) {
     let mut reader = FromRead::new(Listed { answers: &answers });
     let mut writer = ToWrite::new(Listed { answers: &answers });
     for (_, wanted) in ANSWERS {
-        assert_eq!(rt; reader.read(&mut [0; 4]), wanted);
-        assert_eq!(rt; writer.write(b"four"), wanted);
+        assert!(rt; reader.read(&mut [0; 4]) == wanted);
+        assert!(rt; writer.write(b"four") == wanted);
     }
     let mut writer = ToWrite::new(Listed {
         answers: &answers[3..],
     });
-    assert_eq!(rt; writer.flush(), Ok(()));
-    assert_eq!(rt; writer.flush(), Err(Failed));
+    assert!(rt; writer.flush() == Ok(()));
+    assert!(rt; writer.flush() == Err(Failed));
 }
 
 #[test]
 fn hands_the_writer_back(rt: HostRuntime) -> Result<(), Fail> {
     let mut writer = ToWrite::new(Vec::new(rt.alloc()));
-    assert_eq!(rt; writer.write(b"ok"), Ok(2));
-    assert_eq!(rt; writer.into_inner().as_slice(), b"ok".as_slice());
+    assert!(rt; writer.write(b"ok") == Ok(2));
+    assert!(rt; writer.into_inner().as_slice() == b"ok".as_slice());
     Ok(())
 }

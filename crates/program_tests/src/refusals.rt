@@ -22,7 +22,7 @@ const REFUSED: [&[u8]; 8] = [
 fn answers_where_memory_is_refused(rt: HostRuntime) {
     let (input, stored) = PULLS;
     let (result, taken) = serve(rt.alloc(), input, 100, false, 1024, false);
-    assert_eq!(rt; result, Ok(()));
+    assert!(rt; result == Ok(()));
     assert!(rt;
         taken.as_slice() == stored || REFUSED.iter().any(|refused| taken.as_slice() == *refused)
     );

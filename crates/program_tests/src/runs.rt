@@ -124,8 +124,8 @@ fn answers_each_line(rt: HostRuntime) {
     for (input, output) in ROWS {
         for piece in [1, 7, 10_000] {
             let (result, taken) = serve(rt.alloc(), input, piece, false, 1024, false);
-            assert_eq!(rt; result, Ok(()));
-            assert_eq!(rt; taken.as_slice(), output, "in pieces of {piece}");
+            assert!(rt; result == Ok(()));
+            assert!(rt; taken.as_slice() == output, "in pieces of {piece}");
         }
     }
 }
@@ -142,15 +142,15 @@ fn long_line(alloc: Global, count: usize) -> Result<Vec<u8>, Fail> {
 fn tells_long_lines(rt: HostRuntime) -> Result<(), Fail> {
     for (count, output) in [(255, b"ok\n".as_slice()), (256, b"bad line\n".as_slice())] {
         let line = long_line(rt.alloc(), count)?;
-        assert_eq!(rt; line.len(), count + 28);
+        assert!(rt; line.len() == count + 28);
         let (result, taken) = serve(rt.alloc(), &line, 1000, false, 1024, false);
-        assert_eq!(rt; result, Ok(()));
-        assert_eq!(rt; taken.as_slice(), output, "a key of {count} bytes");
+        assert!(rt; result == Ok(()));
+        assert!(rt; taken.as_slice() == output, "a key of {count} bytes");
     }
     let line = vec![in rt.alloc(); b'z'; 100_000]?;
     let (result, taken) = serve(rt.alloc(), &line, 4096, false, 1024, false);
-    assert_eq!(rt; result, Ok(()));
-    assert_eq!(rt; taken.as_slice(), b"bad line\n".as_slice());
+    assert!(rt; result == Ok(()));
+    assert!(rt; taken.as_slice() == b"bad line\n".as_slice());
     Ok(())
 }
 
@@ -172,6 +172,6 @@ fn shows_many_rows_in_order(rt: HostRuntime) -> Result<(), Fail> {
     let mut writer = ToWrite::new(&mut output);
     assert_eq!(rt; run(rt.alloc(), &mut reader, &mut writer), Ok(()));
     assert!(rt; !reader.failed() && !writer.failed());
-    assert_eq!(rt; output.as_slice(), wanted.as_bytes());
+    assert!(rt; output.as_slice() == wanted.as_bytes());
     Ok(())
 }

@@ -8,9 +8,8 @@ use std::test::Fail;
 fn faults_say_what_was_done(rt: HostRuntime) -> Result<(), Fail> {
     let alloc = rt.alloc();
     let none: PullError<u8> = PullError::Memory;
-    assert_eq!(rt;
-        format!(in alloc; "{none}")?.as_str(),
-        "memory was refused before a row was joined"
+    assert!(rt;
+        format!(in alloc; "{none}")?.as_str() == "memory was refused before a row was joined"
     );
     let partly: PullError<u8> = PullError::Partly {
         pulled: Pulled {
@@ -19,17 +18,14 @@ fn faults_say_what_was_done(rt: HostRuntime) -> Result<(), Fail> {
         },
         done: 2,
     };
-    assert_eq!(rt;
-        format!(in alloc; "{partly}")?.as_str(),
-        "memory was refused after 2 of 3 rows"
-    );
+    assert!(rt; format!(in alloc; "{partly}")?.as_str() == "memory was refused after 2 of 3 rows");
     let turns: TurnsError<u8> = TurnsError {
         finished: Vec::new(alloc),
         fault: none,
     };
-    assert_eq!(rt;
-        format!(in alloc; "{turns}")?.as_str(),
-        "after 0 pulls memory was refused before a row was joined"
+    assert!(rt;
+        format!(in alloc; "{turns}")?.as_str()
+            == "after 0 pulls memory was refused before a row was joined"
     );
     Ok(())
 }
@@ -54,7 +50,7 @@ fn refused_rows_say_why(rt: HostRuntime) -> Result<(), Fail> {
             rows: Vec::new(alloc),
             why,
         };
-        assert_eq!(rt; format!(in alloc; "{refused}")?.as_str(), text);
+        assert!(rt; format!(in alloc; "{refused}")?.as_str() == text);
     }
     Ok(())
 }
@@ -62,19 +58,15 @@ fn refused_rows_say_why(rt: HostRuntime) -> Result<(), Fail> {
 #[test]
 fn rows_that_were_not_all_joined_say_why(rt: HostRuntime) -> Result<(), Fail> {
     let alloc = rt.alloc();
-    assert_eq!(rt;
-        format!(in alloc; "{}", PutsCut { done: 2 })?.as_str(),
-        "memory was refused after 2 rows"
+    assert!(rt;
+        format!(in alloc; "{}", PutsCut { done: 2 })?.as_str() == "memory was refused after 2 rows"
     );
     let ascending: JoinRefused<u8, u64> = JoinRefused::Memory(2);
-    assert_eq!(rt;
-        format!(in alloc; "{ascending}")?.as_str(),
-        "memory was refused after 2 rows"
-    );
+    assert!(rt; format!(in alloc; "{ascending}")?.as_str() == "memory was refused after 2 rows");
     let unordered: JoinRefused<u8, u64> = JoinRefused::NotAscending(Vec::new(alloc));
-    assert_eq!(rt;
-        format!(in alloc; "{unordered}")?.as_str(),
-        "a key isn't above the one before it, and no row was joined"
+    assert!(rt;
+        format!(in alloc; "{unordered}")?.as_str()
+            == "a key isn't above the one before it, and no row was joined"
     );
     Ok(())
 }

@@ -119,9 +119,8 @@ fn refused_clones_leave_the_first_rows(rt: HostRuntime) -> Result<(), Fail> {
         (3, 8, 3),
         (3, 9, 3),
     ] {
-        assert_eq!(rt;
-            rows_pulled(rt.alloc(), rows, clones)?,
-            Some(count),
+        assert!(rt;
+            rows_pulled(rt.alloc(), rows, clones)? == Some(count),
             "{rows} rows, {clones} clones"
         );
     }

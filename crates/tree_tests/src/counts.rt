@@ -71,8 +71,8 @@ fn counts_the_different_keys(rt: HostRuntime) -> Result<(), Fail> {
     for line in UPSERTS.lines() {
         let keys = numbers_of(rt.alloc(), &keys_of(rt.alloc(), line)?)?;
         let mut tree = tree_of(rt.alloc(), line)?;
-        assert_eq!(rt; count_nodes(&tree), keys.len(), "at {line}");
-        assert_eq!(rt; lacking_once_hashed(&mut tree), 0, "at {line}");
+        assert!(rt; count_nodes(&tree) == keys.len(), "at {line}");
+        assert!(rt; lacking_once_hashed(&mut tree) == 0, "at {line}");
     }
     Ok(())
 }

@@ -109,7 +109,7 @@ fn pages_of_a_hashed_tree_have_ranges(rt: HostRuntime) -> Result<(), Fail> {
         let (keys, wanted) = line.split_once('|').ok_or("no spans")?;
         let mut tree = tree(rt.alloc(), &keys_of(rt.alloc(), keys)?)?;
         tree.root_hash();
-        assert_eq!(rt; spans(rt.alloc(), &tree).as_str(), wanted);
+        assert!(rt; spans(rt.alloc(), &tree).as_str() == wanted);
     }
     Ok(())
 }
@@ -123,7 +123,7 @@ fn pages_that_lack_their_digests_have_none(rt: HostRuntime) -> Result<(), Fail> 
         if let Some((last, _)) = keys.last() {
             put(&mut tree, *last)?;
         }
-        assert_eq!(rt; spans(rt.alloc(), &tree).as_str(), wanted);
+        assert!(rt; spans(rt.alloc(), &tree).as_str() == wanted);
     }
     Ok(())
 }
@@ -133,7 +133,7 @@ fn pages_of_a_tree_that_is_not_hashed_have_none(rt: HostRuntime) -> Result<(), F
     for line in NOT_HASHED.lines() {
         let (keys, wanted) = line.split_once('|').ok_or("no spans")?;
         let tree = tree(rt.alloc(), &keys_of(rt.alloc(), keys)?)?;
-        assert_eq!(rt; spans(rt.alloc(), &tree).as_str(), wanted);
+        assert!(rt; spans(rt.alloc(), &tree).as_str() == wanted);
     }
     Ok(())
 }

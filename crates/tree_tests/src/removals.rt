@@ -146,7 +146,7 @@ fn pages_left(alloc: Global, removal: &str) -> Result<String, Fail> {
 fn leaves_the_pages_of_the_levels(rt: HostRuntime) -> Result<(), Fail> {
     for line in LEFT.lines() {
         let (removal, wanted) = line.split_once('=').ok_or("no pages")?;
-        assert_eq!(rt; pages_left(rt.alloc(), removal)?.as_str(), wanted);
+        assert!(rt; pages_left(rt.alloc(), removal)?.as_str() == wanted);
     }
     Ok(())
 }
@@ -176,7 +176,7 @@ fn spans(alloc: Global, tree: &Tree) -> Result<String, Fail> {
 #[test]
 fn joins_pages_of_one_level(rt: HostRuntime) -> Result<(), Fail> {
     let tree = hashed_without(rt.alloc(), "2:64 6:20 4:20 3:52 5:64", 5)?;
-    assert_eq!(rt; spans(rt.alloc(), &tree)?.as_str(), " 2-6 3-6 4-6");
+    assert!(rt; spans(rt.alloc(), &tree)?.as_str() == " 2-6 3-6 4-6");
     Ok(())
 }
 
@@ -196,7 +196,7 @@ fn without_the_last(alloc: Global) -> Result<(usize, RootHash), Fail> {
 #[test]
 fn the_last_key_leaves_a_new_tree(rt: HostRuntime) -> Result<(), Fail> {
     let (lacked, root_hash) = without_the_last(rt.alloc())?;
-    assert_eq!(rt; lacked, 1);
+    assert!(rt; lacked == 1);
     let mut new = empty(rt.alloc(), PageFormat::V1, &[])?;
     assert!(rt; root_hash == new.root_hash_counted().0);
     Ok(())

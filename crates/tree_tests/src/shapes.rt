@@ -105,7 +105,7 @@ fn pages_are_those_of_the_levels(rt: HostRuntime) -> Result<(), Fail> {
     for line in SHAPES.lines() {
         let (keys, wanted) = line.split_once('=').ok_or("no pages")?;
         let tree = tree_of(rt.alloc(), keys)?;
-        assert_eq!(rt; pages_of(rt.alloc(), &tree, false).as_str(), wanted);
+        assert!(rt; pages_of(rt.alloc(), &tree, false).as_str() == wanted);
     }
     Ok(())
 }
@@ -125,7 +125,7 @@ fn pages_that_stay_whole_keep_their_digests(rt: HostRuntime) -> Result<(), Fail>
     for line in LACKING.lines() {
         let (keys, wanted) = line.split_once('=').ok_or("no pages")?;
         let tree = grown(rt.alloc(), keys)?;
-        assert_eq!(rt; pages_of(rt.alloc(), &tree, true).as_str(), wanted);
+        assert!(rt; pages_of(rt.alloc(), &tree, true).as_str() == wanted);
     }
     Ok(())
 }

@@ -109,9 +109,8 @@ fn gives_nodes_in_order(rt: HostRuntime) -> Result<(), Fail> {
     for line in ORDERS {
         let tree = tree_of(rt.alloc(), line)?;
         let found = nodes(rt.alloc(), &tree)?;
-        assert_eq!(rt;
-            found.as_str(),
-            " 2=2 3=3 4=4 5=5 6=6 7=7 11=11 15=15 42=42",
+        assert!(rt;
+            found.as_str() == " 2=2 3=3 4=4 5=5 6=6 7=7 11=11 15=15 42=42",
             "at {line}"
         );
     }
@@ -122,7 +121,7 @@ fn gives_nodes_in_order(rt: HostRuntime) -> Result<(), Fail> {
 fn replaces_the_digest_of_a_key(rt: HostRuntime) -> Result<(), Fail> {
     let mut tree = tree_of(rt.alloc(), "1:0 2:0")?;
     assert!(rt; tree.upsert(number_key(1), &Value { number: 9 }).is_ok());
-    assert_eq!(rt; nodes(rt.alloc(), &tree)?.as_str(), " 1=9 2=2");
+    assert!(rt; nodes(rt.alloc(), &tree)?.as_str() == " 1=9 2=2");
     Ok(())
 }
 

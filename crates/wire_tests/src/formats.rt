@@ -49,7 +49,7 @@ fn counts_have_one_spelling(rt: HostRuntime) -> Result<(), Fail> {
         encode_count(case.0, &mut bytes)?;
         assert!(rt; bytes == wanted, "{}", case.0);
         let mut reader = Reader::new(alloc, &wanted);
-        assert_eq!(rt; reader.count()?, case.0);
+        assert!(rt; reader.count()? == case.0);
         assert!(rt; reader.end().is_ok());
     }
     Ok(())
@@ -63,12 +63,12 @@ fn other_spellings_of_counts_are_refused(rt: HostRuntime) -> Result<(), Fail> {
         let mut reader = Reader::new(alloc, &bytes);
         match reader.count() {
             Ok(_) => assert!(rt; false, "{}", *text),
-            Err(error) => assert_eq!(rt;
-                error,
-                ReadError::Unexpected {
-                    offset: 0,
-                    expected: Expected::Count
-                }
+            Err(error) => assert!(rt;
+                error
+                    == ReadError::Unexpected {
+                        offset: 0,
+                        expected: Expected::Count
+                    }
             ),
         }
     }
@@ -81,11 +81,11 @@ fn a_row_is_its_key_and_its_value(rt: HostRuntime) -> Result<(), Fail> {
     let row = (String::from_str(alloc, "ab")?, 258u64);
     let bytes = written(alloc, &row)?;
     let wanted = [2, 97, 98, 130, 2];
-    assert_eq!(rt; bytes.as_slice(), wanted.as_slice());
+    assert!(rt; bytes.as_slice() == wanted.as_slice());
     let mut reader = Reader::new(alloc, &bytes);
     let back = <(String, u64)>::decode(&mut reader)?;
-    assert_eq!(rt; back.0.as_str(), "ab");
-    assert_eq!(rt; back.1, 258);
+    assert!(rt; back.0.as_str() == "ab");
+    assert!(rt; back.1 == 258);
     assert!(rt; reader.end().is_ok());
     Ok(())
 }
@@ -98,12 +98,12 @@ fn a_cut_row_is_refused_where_it_ends(rt: HostRuntime) -> Result<(), Fail> {
     match <(String, u64)>::decode(&mut reader) {
         Ok(_) => assert!(rt; false),
         Err(error) => {
-            assert_eq!(rt;
-                error,
-                ReadError::Unexpected {
-                    offset: 3,
-                    expected: Expected::Count
-                }
+            assert!(rt;
+                error
+                    == ReadError::Unexpected {
+                        offset: 3,
+                        expected: Expected::Count
+                    }
             );
         }
     }
@@ -137,7 +137,7 @@ fn keys_are_told_by_what_they_share(rt: HostRuntime) -> Result<(), Fail> {
         assert!(rt; bytes == wanted, "{}", case.0);
         let mut reader = Reader::new(alloc, &wanted);
         let back = reading.decode::<String>(&mut reader)?;
-        assert_eq!(rt; back, key);
+        assert!(rt; back == key);
         assert!(rt; reader.end().is_ok());
     }
     Ok(())
@@ -158,7 +158,7 @@ fn gaps_are_two_bounds(rt: HostRuntime) -> Result<(), Fail> {
     let mut bytes = Vec::new(alloc);
     encode_run(&gaps, &mut KeyRun::new(alloc), &mut bytes)?;
     let wanted = [2, 0, 1, 3, 2, 7, 9, 1, 33, 10, 0];
-    assert_eq!(rt; bytes.as_slice(), wanted.as_slice());
+    assert!(rt; bytes.as_slice() == wanted.as_slice());
     let mut reader = Reader::new(alloc, &bytes);
     let back = decode_run::<OwnedGap<[u8; 2]>>(&mut KeyRun::new(alloc), &mut reader)?;
     assert!(rt; back == gaps);
@@ -215,51 +215,24 @@ fn behind(offset: usize, expected: Expected) -> Option<ReadError> {
 #[test]
 fn bytes_that_are_no_number_are_refused(rt: HostRuntime) -> Result<(), Fail> {
     let alloc = rt.alloc();
-    assert_eq!(rt; refused::<u8>(alloc, "")?, behind(0, Expected::Bytes(1)));
-    assert_eq!(rt;
-        refused::<u16>(alloc, "808004")?,
-        behind(3, Expected::Number)
-    );
-    assert_eq!(rt;
-        refused::<u32>(alloc, "8080808010")?,
-        behind(5, Expected::Number)
-    );
-    assert_eq!(rt; refused::<u64>(alloc, "8000")?, behind(0, Expected::Count));
-    assert_eq!(rt; refused::<()>(alloc, "01")?, behind(0, Expected::Flag));
-    assert_eq!(rt;
-        refused::<(u8, u16)>(alloc, "07")?,
-        behind(1, Expected::Count)
-    );
+    assert!(rt; refused::<u8>(alloc, "")? == behind(0, Expected::Bytes(1)));
+    assert!(rt; refused::<u16>(alloc, "808004")? == behind(3, Expected::Number));
+    assert!(rt; refused::<u32>(alloc, "8080808010")? == behind(5, Expected::Number));
+    assert!(rt; refused::<u64>(alloc, "8000")? == behind(0, Expected::Count));
+    assert!(rt; refused::<()>(alloc, "01")? == behind(0, Expected::Flag));
+    assert!(rt; refused::<(u8, u16)>(alloc, "07")? == behind(1, Expected::Count));
     Ok(())
 }
 
 #[test]
 fn bytes_that_are_no_value_are_refused(rt: HostRuntime) -> Result<(), Fail> {
     let alloc = rt.alloc();
-    assert_eq!(rt;
-        refused::<Option<u8>>(alloc, "02")?,
-        behind(0, Expected::Flag)
-    );
-    assert_eq!(rt;
-        refused::<Option<u8>>(alloc, "01")?,
-        behind(1, Expected::Bytes(1))
-    );
-    assert_eq!(rt;
-        refused::<[u8; 2]>(alloc, "03070909")?,
-        behind(1, Expected::Length)
-    );
-    assert_eq!(rt;
-        refused::<[u8; 2]>(alloc, "0207")?,
-        behind(1, Expected::Bytes(2))
-    );
-    assert_eq!(rt;
-        refused::<Vec<u8>>(alloc, "0307")?,
-        behind(1, Expected::Bytes(3))
-    );
-    assert_eq!(rt;
-        refused::<String>(alloc, "02c328")?,
-        behind(3, Expected::Text)
-    );
+    assert!(rt; refused::<Option<u8>>(alloc, "02")? == behind(0, Expected::Flag));
+    assert!(rt; refused::<Option<u8>>(alloc, "01")? == behind(1, Expected::Bytes(1)));
+    assert!(rt; refused::<[u8; 2]>(alloc, "03070909")? == behind(1, Expected::Length));
+    assert!(rt; refused::<[u8; 2]>(alloc, "0207")? == behind(1, Expected::Bytes(2)));
+    assert!(rt; refused::<Vec<u8>>(alloc, "0307")? == behind(1, Expected::Bytes(3)));
+    assert!(rt; refused::<String>(alloc, "02c328")? == behind(3, Expected::Text));
     Ok(())
 }
 
@@ -352,10 +325,10 @@ fn lists_are_a_count_and_entries(rt: HostRuntime) -> Result<(), Fail> {
     let list = [1u64, 300];
     let mut bytes = Vec::new(alloc);
     encode_list(&list, &mut bytes)?;
-    assert_eq!(rt; bytes, bytes_of(alloc, "02 01 ac02")?);
+    assert!(rt; bytes == bytes_of(alloc, "02 01 ac02")?);
     let mut reader = Reader::new(alloc, &bytes);
     let back = decode_list::<u64>(&mut reader)?;
-    assert_eq!(rt; back.as_slice(), list.as_slice());
+    assert!(rt; back.as_slice() == list.as_slice());
     assert!(rt; reader.end().is_ok());
     Ok(())
 }
@@ -386,13 +359,12 @@ fn page_ranges_are_two_keys_and_a_digest(rt: HostRuntime) -> Result<(), Fail> {
     let Some(range) = OwnedPageRange::try_new([7u8], [9], PageDigest::new([5; 16])) else {
         return Err(Fail::new("no range"));
     };
-    assert_eq!(rt; written(alloc, &range)?, bytes_of(alloc, text)?);
+    assert!(rt; written(alloc, &range)? == bytes_of(alloc, text)?);
     let bytes = bytes_of(alloc, text)?;
     let back = OwnedPageRange::<[u8; 1]>::decode(&mut Reader::new(alloc, &bytes))?;
     assert!(rt; back == range);
-    assert_eq!(rt;
-        refused::<OwnedPageRange<[u8; 1]>>(alloc, reversed)?,
-        behind(21, Expected::LastKey)
+    assert!(rt;
+        refused::<OwnedPageRange<[u8; 1]>>(alloc, reversed)? == behind(21, Expected::LastKey)
     );
     Ok(())
 }

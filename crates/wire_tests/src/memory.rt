@@ -110,5 +110,5 @@ fn a_refused_session_has_joined_the_first_rows(rt: HostRuntime) {
 
 #[test]
 fn a_session_joins_all_rows_where_memory_is_at_hand(rt: HostRuntime) {
-    assert_eq!(rt; joins_the_first(rt.alloc()), Ok(true));
+    assert!(rt; joins_the_first(rt.alloc()) == Ok(true));
 }

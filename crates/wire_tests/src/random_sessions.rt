@@ -197,31 +197,31 @@ fn first_apart<K: Sample, V: Worth>(alloc: Global, seed: u64) -> Result<Option<u
 
 #[test]
 fn texts_meet(rt: HostRuntime) -> Result<(), Fail> {
-    assert_eq!(rt; first_apart::<String, u64>(rt.alloc(), 1)?, None);
+    assert!(rt; first_apart::<String, u64>(rt.alloc(), 1)? == None);
     Ok(())
 }
 
 #[test]
 fn byte_strings_meet(rt: HostRuntime) -> Result<(), Fail> {
-    assert_eq!(rt; first_apart::<Vec<u8>, u64>(rt.alloc(), 2)?, None);
+    assert!(rt; first_apart::<Vec<u8>, u64>(rt.alloc(), 2)? == None);
     Ok(())
 }
 
 #[test]
 fn arrays_meet(rt: HostRuntime) -> Result<(), Fail> {
-    assert_eq!(rt; first_apart::<[u8; 8], u64>(rt.alloc(), 3)?, None);
+    assert!(rt; first_apart::<[u8; 8], u64>(rt.alloc(), 3)? == None);
     Ok(())
 }
 
 #[test]
 fn numbers_meet(rt: HostRuntime) -> Result<(), Fail> {
-    assert_eq!(rt; first_apart::<Number, u64>(rt.alloc(), 4)?, None);
+    assert!(rt; first_apart::<Number, u64>(rt.alloc(), 4)? == None);
     Ok(())
 }
 
 #[test]
 fn long_values_meet(rt: HostRuntime) -> Result<(), Fail> {
-    assert_eq!(rt; first_apart::<String, Wide>(rt.alloc(), 5)?, None);
+    assert!(rt; first_apart::<String, Wide>(rt.alloc(), 5)? == None);
     Ok(())
 }
 
@@ -313,7 +313,7 @@ fn peers_that_change_bring_rows_or_tell_one_twice(rt: HostRuntime) -> Result<(),
         match ends_with_rows(alloc, &mut random)? {
             Ok(_) => came = came.saturating_add(1),
             Err(error) => {
-                assert_eq!(rt; error, SessionError::Twice);
+                assert!(rt; error == SessionError::Twice);
                 twice = twice.saturating_add(1);
             }
         }

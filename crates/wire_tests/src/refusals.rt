@@ -76,7 +76,7 @@ fn questions_that_are_refused(rt: HostRuntime) -> Result<(), Fail> {
         assert!(rt; found == Some(AnswerError::OtherSettings), "{}", *text);
     }
     assert!(rt; is_as_before(&peer));
-    assert_eq!(rt; refusal(alloc)?, bytes_of(alloc, "01ff")?);
+    assert!(rt; refusal(alloc)? == bytes_of(alloc, "01ff")?);
     Ok(())
 }
 

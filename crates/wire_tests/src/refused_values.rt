@@ -104,6 +104,6 @@ fn lists_are_read_back_or_want_memory(rt: HostRuntime) {
 
 #[test]
 fn all_are_read_back_where_memory_is_at_hand(rt: HostRuntime) {
-    assert_eq!(rt; values_come_back(rt.alloc()), Ok(true));
-    assert_eq!(rt; lists_come_back(rt.alloc()), Ok(true));
+    assert!(rt; values_come_back(rt.alloc()) == Ok(true));
+    assert!(rt; lists_come_back(rt.alloc()) == Ok(true));
 }
