@@ -1,9 +1,10 @@
 -- What comes after a reply to a catch-up by deltas.
 use Rattle.std.specs.Prelude.{◌≡◌, ℕ, List, Option, Some, None, ◌⊎◌, map}
 use Rattle.std.specs.Global.{Vec}
+use Rattle.std.specs.declared.cmp.Ordering.{Ordering}
 use Rattle.merkle_replica.specs.Contents.{Side}
 use Rattle.merkle_replica.specs.Laws.{Laws}
-use Rattle.merkle_wire.specs.Next.{IsNext as IsPlainNext, IsStopped as IsPlainStopped}
+use Rattle.merkle_wire.specs.Next.{IsNext as IsPlainNext, IsStopped as IsPlainStopped, OnlyAskedFor as FindsPlainly}
 use Rattle.merkle_wire.specs.Underway.{Underway as PlainUnderway}
 use Rattle.merkle_wire.specs.declared.catching_up.Next.{Next as PlainNext}
 use Rattle.merkle_wire.specs.declared.catching_up.Next.TheVariants as plain
@@ -32,6 +33,11 @@ module _ {K V : Type 0} where
   abbrev pub AsksPlainly : PlainUnderway K V → Told → Next K V → Type 0
   AsksPlainly session told (Ask underway message) = (underway.session ≡ session) × (underway.told ≡ None) × (message.items ≡ told.question)
   AsksPlainly session told (Came rows) = ⊥
+
+-- the rows that are found besides those that were found before are at keys that were asked for
+abbrev pub OnlyAskedFor : {K V : Type 0} → (K → K → Ordering) → Underway K V → Next K V → Type 0
+OnlyAskedFor cmp before (Ask underway message) = FindsPlainly cmp before.session (plain.Ask underway.session message)
+OnlyAskedFor cmp before (Came rows) = FindsPlainly cmp before.session (plain.Came rows)
 
 module _ {K V H : Type 0} (laws : Laws K V H) (n : ℕ) (encoding : K → List ℕ) (values : V → List ℕ) (local : Side K V H) where
   -- a plain reply was taken, and this comes next

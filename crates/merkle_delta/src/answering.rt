@@ -14,7 +14,8 @@ use merkle_replica::{Join, Lawful, Replica};
 use merkle_wire::{AnswerError, MOST_BYTES};
 use std::alloc::Global;
 
-/// The reply to a message, as [`answer_within`] gives it with [`MOST_BYTES`]. The replica keeps its rows; pages that lack a digest get it.
+/// The reply to a message, as [`answer_within`] gives it with [`MOST_BYTES`], in the same time and memory. The replica keeps its rows; pages that lack a
+/// digest get it.
 ///
 /// # Errors
 ///

@@ -1,11 +1,13 @@
 //! The asking side: a catch-up of [`merkle_wire`] that tells with each question what it has there itself.
-ghost use Rattle.std.specs.Prelude.{◌≡◌, ◌++◌, None, Some, ℕ, List, IfOk, IfErr, MatchOption};
+ghost use Rattle.std.specs.Prelude.{◌≡◌, ◌++◌, ◌≤◌, None, Some, ℕ, List, IfOk, IfErr, MatchOption};
 ghost use Rattle.merkle_replica.specs.Contents.{side};
 ghost use Rattle.merkle_tree_theory.specs.State.{SameSettings};
 ghost use Rattle.merkle_wire.specs.Found.{nothing};
-ghost use Rattle.merkle_wire.specs.Questions.{AsksForRoot, question_bytes};
+ghost use Rattle.merkle_wire.specs.Next.{AsksFew};
+ghost use Rattle.merkle_wire.specs.Questions.{AsksForRoot, IsQuestion, question_bytes};
+ghost use Rattle.merkle_wire.specs.Steady.{IsKeyOf};
 ghost use Rattle.merkle_wire.specs.declared.session_error.SessionError.TheVariants.{Memory};
-ghost use Rattle.merkle_delta.specs.CatchUps.{GoesOnAs, IsNext, IsStopped};
+ghost use Rattle.merkle_delta.specs.CatchUps.{GoesOnAs, IsNext, IsStopped, OnlyAskedFor};
 ghost use Rattle.merkle_delta.specs.Messages.{IsReplyOver};
 ghost use Rattle.merkle_delta.specs.declared.patch.PatchError.TheVariants.{Unlike};
 
@@ -29,6 +31,18 @@ const VALUES: u8 = 4;
 const ROWS: u8 = 5;
 
 /// A catch-up that is under way: it waits for a reply.
+///
+/// ```rust crates/delta_tests/src/playing.rt
+/// let reply = answer_within(alloc, peer, &message, most_bytes)?;
+/// cost.add(&message, &reply);
+/// match session.take(local, &reply)? {
+///     Next::Ask(next, question) => {
+///         session = next;
+///         message = question;
+///     }
+///     Next::Came(rows) => return Ok((rows, cost)),
+/// }
+/// ```
 #[derive(Drop)]
 pub struct CatchingUp<K, V> {
     alloc: Global,
@@ -54,11 +68,14 @@ impl Model for Told {
 }
 
 impl<K, V> Model for CatchingUp<K, V> {
+    ghost use Rattle.std.specs.Prelude.{◌≤◌};
     ghost use Rattle.merkle_delta.specs.Underway.{Underway};
 
     ghost Value = { Underway K V };
 
     ghost view = { λ catching_up. record { session = catching_up.session; told = catching_up.told } };
+
+    ghost invariant = { λ catching_up. catching_up.session.rounds ≤ 256 };
 }
 
 /// What comes after a reply.
@@ -83,7 +100,8 @@ impl<K: Key + Decode, V: Join + Decode> CatchingUp<K, V> {
         ensures settings { IfOk result (λ begun. AsksForRoot (⟦<H as Hasher<N, K>>⟧.digest_of replica.now.tree.hasher) N replica.now.tree
             begun.0.session.asked) }
         ensures asks { IfOk result (λ begun. begun.1.items ≡ question_bytes K.encoding begun.0.session.asked) }
-        ensures nothing { IfOk result (λ begun. (begun.0.session.found ≡ nothing) × (begun.0.told ≡ None)) }
+        ensures keys { IfOk result (λ begun. IsQuestion (IsKeyOf K.cmp replica.now.rows) begun.0.session.asked) }
+        ensures nothing { IfOk result (λ begun. (begun.0.session.found ≡ nothing) × (begun.0.session.rounds ≡ 0) × (begun.0.told ≡ None)) }
     {
         let (session, message) = merkle_wire::CatchingUp::begin(alloc, replica)?;
         let begun = CatchingUp {
@@ -95,9 +113,10 @@ impl<K: Key + Decode, V: Join + Decode> CatchingUp<K, V> {
         Ok((begun, message))
     }
 
-    /// How many rounds of outlines were asked for: 256 at most.
+    /// How many rounds of outlines were asked for, 256 at most, in constant time.
     pub fn rounds(&self) -> u32
-        ensures { result ≡ self.now.session.rounds }
+        ensures count { result ≡ self.now.session.rounds }
+        ensures few { result ≤ 256 }
     {
         self.session.rounds()
     }
@@ -105,6 +124,8 @@ impl<K: Key + Decode, V: Join + Decode> CatchingUp<K, V> {
     /// Takes a reply, as [`merkle_wire::CatchingUp::take`] does, which it tells plainly or as a delta. Where it is the delta of no reply, which comes of
     /// chunks with equal checksums, or of a peer that doesn't know such messages, the question is asked again, plainly. The replica keeps its rows;
     /// pages that lack a digest get it.
+    ///
+    /// Besides what the plain call takes it makes this side's own reply to the next question, and takes time linear in it.
     ///
     /// # Errors
     ///
@@ -115,6 +136,7 @@ impl<K: Key + Decode, V: Join + Decode> CatchingUp<K, V> {
         reply: &[u8],
     ) -> Result<Next<K, V>, SessionError>
         ensures next { IfOk result (IsNext ⟦<H as Lawful<N, K, V>>⟧.laws N K.encoding V.encoding (side replica.old) self reply.now) }
+        ensures asked_for { IfOk result (OnlyAskedFor K.cmp self) }
         ensures ended { IfErr result (IsStopped ⟦<H as Lawful<N, K, V>>⟧.laws N K.encoding V.encoding K.is_value V.is_value
             (side replica.old) self reply.now) }
         ensures rows { replica.new.rows ≡ replica.old.rows }
@@ -177,6 +199,7 @@ fn go_on<K: Key + Decode, V: Join + Decode, H: Hasher<N, K> + Hasher<N, V>, cons
     next: merkle_wire::Next<K, V>,
     pays: bool,
 ) -> Result<Next<K, V>, SessionError>
+    requires { AsksFew next }
     ensures goes_on { IfOk result (GoesOnAs next) }
     ensures memory { IfErr result (λ error. error ≡ Memory) }
     ensures rows { replica.new.rows ≡ replica.old.rows }

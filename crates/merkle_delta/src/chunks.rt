@@ -71,7 +71,7 @@ impl Chunks {
         self.ranges.len()
     }
 
-    /// A chunk.
+    /// A chunk, in constant time.
     pub fn get(&self, index: usize) -> &[u8]
         requires { index < length self.now }
         ensures { result.now ≡ get_or self.now index [] }

@@ -3,7 +3,7 @@ use Rattle.std.proofs.lemmas.Result.{err_from_is_err_and}
 use Rattle.merkle_replica.specs.Contents.{side}
 use Rattle.merkle_replica.proofs.Sides.{laws_of}
 use Rattle.merkle_delta.specs.Messages.{IsReplyOver}
-use Rattle.merkle_delta.proofs.Taking.{stops_over, takes_over, takes_plainly}
+use Rattle.merkle_delta.proofs.Taking.{finds_as, finds_nothing, stops_over, takes_over, takes_plainly}
 use Rattle.merkle_delta.proofs.catching_up.CatchingUp.take.Goals as goal
 
 pub returns-in_default-clause-next : goal.returns-in_default-clause-next
@@ -36,3 +36,16 @@ returns-in-Err-Unlike-clause-next g c =
     takes_over laws g.row.N g.K.Encode.encoding g.V.Encode.encoding (side c.args.replica.now) c.args.self c.self.inside.session c.self.inside.told c.args.reply.now c.self.view_is
     c.in-Some.told _ some c.told.view_is _
     (inr (c.in-Err-Unlike.ensures.unlike c.in-Err-Unlike.field-0-is, (refl, refl, refl)))
+
+pub returns-in_default-clause-asked_for : goal.returns-in_default-clause-asked_for
+returns-in_default-clause-asked_for g c =
+    finds_as g.K.Ord.cmp c.args.self c.self.inside.session c.self.inside.told c.self.view_is c.in_ok-next.next c.in_ok-after.after c.in_ok-after.ensures.goes_on c.in_ok-next.ensures.asked_for
+
+pub returns-in_ok-after-in-Ok-clause-asked_for : goal.returns-in_ok-after-in-Ok-clause-asked_for
+returns-in_ok-after-in-Ok-clause-asked_for g c =
+    finds_as g.K.Ord.cmp c.args.self c.self.inside.session c.self.inside.told c.self.view_is c.in_ok-next-in-Ok.next c.in_ok-after-in-Ok.after
+    c.in_ok-after-in-Ok.ensures.goes_on c.in_ok-next-in-Ok.ensures.asked_for
+
+pub returns-in-Err-Unlike-clause-asked_for : goal.returns-in-Err-Unlike-clause-asked_for
+returns-in-Err-Unlike-clause-asked_for g c =
+    finds_nothing g.K.Ord.cmp c.args.self c.self.inside.session c.self.inside.told c.self.view_is c.told.inside.question
