@@ -2,7 +2,7 @@
 use Rattle.std.specs.Prelude.{◌≡◌, Result, IfOk, OnOk, OnErr, IsTrue}
 use Rattle.sqlite.specs.Store.{Ghosts}
 use Rattle.sqlite.specs.Effect.{Database}
-use Rattle.sqlite.specs.State.{HasCleanDisk, IsUnchanged, Survives}
+use Rattle.sqlite.specs.State.{HasCleanDisk, IsUnchanged, KeepsCommit, Survives}
 use Rattle.sqlite.specs.Held.{Held, state}
 use Rattle.store_table.specs.Changes.{IsStore, AreOf}
 
@@ -35,10 +35,18 @@ module _ {S : Type 0} (g : Ghosts S) where
   abbrev pub Leaves : Held S → Held S → (Database → Database → Type 0) → Type 0
   Leaves old new Is = Survives (state g old) (state g new) (AreOf (Is (database old)))
 
+  -- of a store's database, over a clean disk, nothing is committed
+  abbrev pub CommitsNone : Held S → Held S → Type 0
+  CommitsNone old new = HasStore old → IsClean new → KeepsCommit (state g old) (state g new)
+
   module _ {A E : Type 0} (old new : Held S) (result : Result A E) where
     -- of a store's database, over a clean disk, the answer in `Ok` is so
     abbrev pub Finds : (Database → A → Type 0) → Type 0
     Finds Is = HasStore old → IsClean new → IfOk result (Is (database old))
+
+    -- of a store's database, over a clean disk, a call that is `Ok` shows this
+    abbrev pub Shows : (Database → Type 0) → Type 0
+    Shows Is = HasStore old → IsClean new → OnOk result (Is (database old))
 
     -- of a store's database, over a clean disk, a call that is `Ok` makes one that is so of the old one
     abbrev pub Makes : (Database → Database → Type 0) → Type 0

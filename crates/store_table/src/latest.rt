@@ -56,7 +56,8 @@ fn latest_of(entries: Entries) -> Option<Register>
     found
 }
 
-/// The latest register that the table has for a key, if it has one: a removal too.
+/// The latest register that the table has for a key, if it has one: a removal too. It takes the time of a pass over the table, and memory for the
+/// key's rows.
 ///
 /// # Errors
 ///

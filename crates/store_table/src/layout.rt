@@ -94,14 +94,14 @@ fn are_tables(tables: &[Table]) -> bool
     }
 }
 
-/// Whether a schema is that of a store.
+/// Whether a schema is that of a store. It takes the time of a comparison with it.
 pub fn is_of_store(schema: &Schema) -> bool
     ensures { IsTrue result ↔ (schema.now ≡ store_schema) }
 {
     are_tables(schema.tables.as_slice()) && schema.indexes.is_empty() && schema.views.is_empty()
 }
 
-/// Whether a schema has no table, index or view.
+/// Whether a schema has no table, index or view. It takes constant time.
 pub fn is_blank(schema: &Schema) -> bool
     ensures { IsTrue result ↔ (schema.now ≡ no_schema) }
 {

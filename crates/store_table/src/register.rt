@@ -17,7 +17,11 @@ pub struct Register {
 }
 
 impl Register {
-    /// A register that is equal.
+    /// A register that is equal, in memory of its own.
+    ///
+    /// # Errors
+    ///
+    /// Want of memory.
     pub fn copy(&self) -> Result<Register, AllocError>
         ensures { IfOk result (λ copy. ⟦<Register as PartialEq>⟧.eq copy self.now ≡ true) }
     {

@@ -29,7 +29,7 @@ pub struct Summary {
     pub last: u64,
 }
 
-/// The entries of the table, in no order.
+/// The entries of the table, in no order. It takes time and memory linear in the table.
 ///
 /// # Errors
 ///
@@ -58,7 +58,7 @@ pub fn latest_rows(entries: Entries) -> Entries
     rows
 }
 
-/// Each key with its latest register, ascending by key, removals too.
+/// Each key with its latest register, ascending by key, removals too. It takes memory linear in the table, and the time of a sort of its rows.
 ///
 /// # Errors
 ///
@@ -99,7 +99,7 @@ pub fn register_in<'a>(rows: &'a [(String, Register)], key: &String) -> Option<&
     }
 }
 
-/// What rows hold, in numbers.
+/// What rows hold, in numbers. It takes time linear in the rows, and no memory.
 pub fn summary_of(rows: &[(String, Register)]) -> Summary
     ensures keys { result.keys ≡ count_by says_text rows.now }
     ensures removed { result.removed ≡ count_by is_removal rows.now }

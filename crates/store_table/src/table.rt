@@ -2,14 +2,13 @@
 //! the latest register of its rows.
 ghost use Rattle.std.specs.Prelude.{◌≡◌, ◌≢◌, ◌≤◌, ◌^◌, ◌↔◌, [], ◌∷◌, map, pos, string_bytes, IfOk, IfErr, OnOk, IsErrOf, IsTrue};
 ghost use Rattle.std.specs.List.Sorted.{IsPermutation};
-ghost use Rattle.sqlite.specs.State.{KeepsCommit};
 ghost use Rattle.sqlite.specs.View.{doubt};
 ghost use Rattle.sqlite.specs.Held.{state};
 ghost use Rattle.sqlite.specs.Values.{bound};
 ghost use Rattle.sqlite.specs.declared.types.Value.TheVariants.{Int, Text};
 ghost use Rattle.store_table.specs.Entries.{shown, noted, two, four, entry_row, entry_row_of, IsNoted};
 ghost use Rattle.store_table.specs.Changes.{IsBlank, IsStore, HasEntryTable, HasBothTables, IsNewStore, KeepsAbout, HasMore, HasInstead, CommitsNothing};
-ghost use Rattle.store_table.specs.Connections.{database, HasStore, IsClean, IsCommitted, IsUnderway, Finds, Makes, MakesInside, StaysInOk, StaysInErr, Leaves, LeavesNoMore};
+ghost use Rattle.store_table.specs.Connections.{database, HasStore, IsClean, IsCommitted, IsUnderway, Finds, Makes, MakesInside, CommitsNone, StaysInOk, StaysInErr, Leaves, LeavesNoMore};
 ghost use Rattle.store_table.specs.Faults.{IsFailure, IsForeign, IsUnwritten};
 ghost use Rattle.store_table.specs.Registers.{HaveLateTime};
 
@@ -76,7 +75,7 @@ fn make<S: Alter>(transaction: &mut Transaction<'_, S>, writer: &str) -> Result<
     note_about(transaction, writer)
 }
 
-/// Makes a store in a database without tables, or nothing.
+/// Makes a store in a database without tables, or nothing. It takes the time of one transaction.
 ///
 /// # Errors
 ///
@@ -118,7 +117,7 @@ fn read_about<S: Alter>(conn: &mut Connection<S>) -> Result<Vec<Row>, Error>
     conn.query_all("SELECT format, writer FROM about", &[])
 }
 
-/// The format of the file, and the name by which the store writes.
+/// The format of the file, and the name by which the store writes. It takes the time of reading one row.
 ///
 /// # Errors
 ///
@@ -154,7 +153,11 @@ fn entry_of(row: &Row) -> Result<(String, Register), Error>
     ))
 }
 
-/// All rows of the table.
+/// All rows of the table. It takes time and memory linear in it.
+///
+/// # Errors
+///
+/// Those of SQLite, want of memory among them. Nothing is written.
 pub fn read_rows<S: Alter>(conn: &mut Connection<S>) -> Result<Vec<Row>, Error>
     ensures clean { doubt (state S.Store conn.old).is_clean ≤ doubt (state S.Store conn.new).is_clean }
     ensures refused { HasStore S.Store conn.old → IsCommitted S.Store conn.old → StaysInErr S.Store conn.old conn.new result }
@@ -165,7 +168,11 @@ pub fn read_rows<S: Alter>(conn: &mut Connection<S>) -> Result<Vec<Row>, Error>
     conn.query_all("SELECT key, time, writer, value FROM entry", &[])
 }
 
-/// The entries of rows.
+/// The entries of rows. It takes time and memory linear in them.
+///
+/// # Errors
+///
+/// [`StoreFault::Database`] where a row is none of a store's, and [`StoreFault::Memory`].
 pub fn entries_of(alloc: Global, rows: &[Row]) -> Result<Entries, StoreFault>
     ensures entries { IfOk result (λ entries. map four rows.now ≡ map entry_row entries.items) }
     ensures failed { IfErr result IsFailure }
@@ -307,8 +314,7 @@ fn delete_entries<S: Alter>(transaction: &mut Transaction<'_, S>) -> Result<(), 
 fn is_cleared<S: Alter>(transaction: &mut Transaction<'_, S>) -> Result<bool, Error>
     ensures same_reference { transaction.new.conn.ghost_name ≡ transaction.old.conn.ghost_name }
     ensures survives { LeavesNoMore S.Store transaction.old.conn.now transaction.new.conn.now }
-    ensures kept { HasStore S.Store transaction.old.conn.now → IsClean S.Store transaction.new.conn.now
-        → KeepsCommit (state S.Store transaction.old.conn.now) (state S.Store transaction.new.conn.now) }
+    ensures kept { CommitsNone S.Store transaction.old.conn.now transaction.new.conn.now }
     ensures unchanged { HasStore S.Store transaction.old.conn.now → StaysInOk S.Store transaction.old.conn.now transaction.new.conn.now result }
     ensures cleared { Finds S.Store transaction.old.conn.now transaction.new.conn.now result (λ db cleared. IsTrue cleared → db.trees 0 ≡ []) }
 {
@@ -320,8 +326,7 @@ fn is_cleared<S: Alter>(transaction: &mut Transaction<'_, S>) -> Result<bool, Er
 fn clear<S: Alter>(transaction: &mut Transaction<'_, S>) -> Result<(), Error>
     ensures same_reference { transaction.new.conn.ghost_name ≡ transaction.old.conn.ghost_name }
     ensures survives { LeavesNoMore S.Store transaction.old.conn.now transaction.new.conn.now }
-    ensures kept { IsTrue (state S.Store transaction.old.conn.now).in_transaction → HasStore S.Store transaction.old.conn.now
-        → IsClean S.Store transaction.new.conn.now → KeepsCommit (state S.Store transaction.old.conn.now) (state S.Store transaction.new.conn.now) }
+    ensures kept { IsUnderway S.Store transaction.old.conn.now → CommitsNone S.Store transaction.old.conn.now transaction.new.conn.now }
     ensures cleared { MakesInside S.Store transaction.old.conn.now transaction.new.conn.now result IsStore (HasInstead []) }
 {
     delete_entries(transaction)?;
@@ -338,8 +343,7 @@ fn replace<S: Alter>(
 ) -> Result<(), StoreFault>
     ensures same_reference { transaction.new.conn.ghost_name ≡ transaction.old.conn.ghost_name }
     ensures survives { LeavesNoMore S.Store transaction.old.conn.now transaction.new.conn.now }
-    ensures kept { IsTrue (state S.Store transaction.old.conn.now).in_transaction → HasStore S.Store transaction.old.conn.now
-        → IsClean S.Store transaction.new.conn.now → KeepsCommit (state S.Store transaction.old.conn.now) (state S.Store transaction.new.conn.now) }
+    ensures kept { IsUnderway S.Store transaction.old.conn.now → CommitsNone S.Store transaction.old.conn.now transaction.new.conn.now }
     ensures replaced { MakesInside S.Store transaction.old.conn.now transaction.new.conn.now result IsStore (HasInstead (map entry_row entries.now)) }
     ensures late { IsErrOf result StoreFault.Time → HaveLateTime entries.now }
     ensures faults { IfErr result IsUnwritten }
@@ -348,7 +352,11 @@ fn replace<S: Alter>(
     add_each(transaction, entries)
 }
 
-/// Leaves only these entries, and that or nothing.
+/// Leaves only these entries, and that or nothing. It takes the time of one transaction over all rows.
+///
+/// # Errors
+///
+/// [`StoreFault::Underway`], [`StoreFault::Time`] where the database can't hold the time of an entry, and faults of the file.
 pub fn replace_all<S: Alter>(
     conn: &mut Connection<S>,
     entries: &[(String, Register)],
@@ -370,7 +378,7 @@ pub fn replace_all<S: Alter>(
     Ok(())
 }
 
-/// The name by which the store in a database writes.
+/// The name by which the store in a database writes. It takes the time of a comparison of the schema, and of reading one row.
 ///
 /// # Errors
 ///
