@@ -2,3 +2,4 @@ pub mod Keeping
 pub mod Latest
 pub mod Agreeing
 pub mod Found
+pub mod SomeNews

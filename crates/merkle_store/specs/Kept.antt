@@ -72,6 +72,10 @@ AreRowsOf db rows = (writer : List ℕ) → IsNoted db.trees FORMAT writer → A
 abbrev pub TellFound : Database → List (Key × Register) → Type 0
 TellFound db rows = (key : Key) (found : Option Register) → IsLatestAt db.trees (string_bytes key) found → SameRegister found (get text_order rows key)
 
+-- a store writes by the same name, and takes entries up to the same time
+abbrev pub StaysSet : {S : Type 0} → Store S → Store S → Type 0
+StaysSet old new = (new.writer ≡ old.writer) × (new.latest ≡ old.latest)
+
 module _ {S : Type 0} (g : Ghosts S) where
   -- the rows of the store in memory are those of its file
   abbrev pub IsInStep : Store S → Type 0

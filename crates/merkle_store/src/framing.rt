@@ -30,7 +30,11 @@ impl Watch for Unwatched {
     fn came(&mut self, _bytes: usize) {}
 }
 
-/// Sends a message, and hands it on.
+/// Sends a message, and hands it on. It takes memory for a copy of its first 64 KiB.
+///
+/// # Errors
+///
+/// [`WireFault::Device`], and [`WireFault::Memory`]: a part of the message may have been sent.
 pub fn send<W: Write>(alloc: Global, out: &mut W, message: &[u8]) -> Result<(), WireFault> {
     let (front, rest) = message.split_at(if message.len() < PIECE {
         message.len()
@@ -90,6 +94,10 @@ fn receive_body<R: Read, P: Watch>(
 }
 
 /// The next message, of at most `most` bytes, or `None` at the end of the input. No memory is taken for a longer one.
+///
+/// # Errors
+///
+/// [`WireFault::TooLong`], [`WireFault::Cut`] where the input ends within a message, [`WireFault::Device`] and [`WireFault::Memory`].
 pub fn receive<R: Read, P: Watch>(
     alloc: Global,
     from: &mut R,

@@ -1,4 +1,9 @@
 //! A pull over a pair of pipes or a socket, from both sides.
+ghost use Rattle.std.specs.Prelude.{◌≡◌, IfOk, IfErr, OnOk};
+ghost use Rattle.store_table.specs.Connections.{HasStore, IsClean, Makes, Leaves};
+ghost use Rattle.merkle_store.specs.Kept.{IsInStep, StaysSet};
+ghost use Rattle.merkle_store.specs.Pulls.{AreNews, HasBrought, HasSomeNews, IsBehind, StaysUnlessPulled};
+
 use crate::fault::StoreFault;
 use crate::framing::{ANSWER_BYTES, Watch, receive, send};
 use crate::store::Store;
@@ -20,17 +25,27 @@ const MOST_MESSAGES: usize = 65_536;
 /// Why a pull ended early. The store is then as it was, but for [`StoreFault::Behind`].
 #[derive(Debug, Drop)]
 pub enum PullFault {
+    /// The peer was not heard.
     Wire(WireFault),
+    /// The store refused what came, or failed.
     Store(StoreFault),
 }
 
 impl From<WireFault> for PullFault {
+    ghost use Rattle.merkle_store.specs.declared.pulling.PullFault.TheVariants.{Wire};
+
+    ghost from_gives = { λ fault made. made ≡ Wire fault };
+
     fn from(fault: WireFault) -> Self {
         PullFault::Wire(fault)
     }
 }
 
 impl From<StoreFault> for PullFault {
+    ghost use Rattle.merkle_store.specs.declared.pulling.PullFault.TheVariants.{Store};
+
+    ghost from_gives = { λ fault made. made ≡ Store fault };
+
     fn from(fault: StoreFault) -> Self {
         PullFault::Store(fault)
     }
@@ -111,12 +126,14 @@ fn entries_of_peer<R: Read, W: Write, P: Watch>(
     to: &mut W,
     most: u64,
     watch: &mut P,
-) -> Result<(Entries, Traffic), WireFault> {
+) -> Result<(Entries, Traffic), WireFault>
+    ensures { replica.new.rows ≡ replica.old.rows }
+{
     let (session, message) = CatchingUp::begin(alloc, replica)?;
     let mut session = session;
     let mut message = message;
     let mut traffic = Traffic::none();
-    for _ in 0..MOST_MESSAGES {
+    'messages: for _ in 0..MOST_MESSAGES {
         let reply = ask(alloc, from, to, most, watch, &message)?;
         traffic = traffic.with(message.len(), reply.len());
         match session.take(replica, &reply)? {
@@ -130,7 +147,8 @@ fn entries_of_peer<R: Read, W: Write, P: Watch>(
     Err(WireFault::Endless)
 }
 
-/// The entries of a peer that are later than what the store has for their keys: what a pull would bring. The store keeps its rows.
+/// The entries of a peer that are later than what the store has for their keys: what a pull would bring. The store keeps its rows. It takes the
+/// time and the memory of a pull that joins nothing.
 ///
 /// # Errors
 ///
@@ -141,26 +159,44 @@ pub fn look<S: Alter + Drop, R: Read, W: Write, P: Watch>(
     to: &mut W,
     most: u64,
     watch: &mut P,
-) -> Result<Entries, PullFault> {
+) -> Result<Entries, PullFault>
+    ensures news { IfOk result (λ news. AreNews store.old news.items) }
+    ensures rows { store.new.replica.rows ≡ store.old.replica.rows }
+    ensures file { store.new.conn ≡ store.old.conn }
+    ensures settings { StaysSet store.old store.new }
+{
     let alloc = store.alloc();
-    let (entries, _traffic) = entries_of_peer(alloc, store.replica(), from, to, most, watch)?;
-    Ok(store.news(entries)?)
+    let (entries, _traffic) = entries_of_peer(alloc, &mut store.replica, from, to, most, watch)?;
+    let news = store.news(entries)?;
+    Ok(news)
 }
 
 /// Brings the entries of a peer that the store lacks, all or none. A reply has at most `most` bytes, else the peer is refused.
 ///
 /// # Errors
 ///
-/// [`PullFault`]
+/// [`PullFault`]: but for [`StoreFault::Behind`] the file and the rows in memory are as they were.
 pub fn pull<S: Alter + Drop, R: Read, W: Write, P: Watch>(
     store: &mut Store<S>,
     from: &mut R,
     to: &mut W,
     most: u64,
     watch: &mut P,
-) -> Result<Brought, PullFault> {
+) -> Result<Brought, PullFault>
+    ensures kept { IsClean S.Store store.new.conn → IsInStep S.Store store.old → OnOk result (IsInStep S.Store store.new) }
+    ensures brought { IfOk result (λ brought. HasBrought store.old brought store.new.replica.rows) }
+    ensures added { Makes S.Store store.old.conn store.new.conn result (HasSomeNews store.old) }
+    ensures settings { StaysSet store.old store.new }
+
+    // Refused, the rows in memory stay, and the file's too, but for `Behind`.
+    ensures memory { IfErr result (λ why. ¬ IsBehind why → store.new.replica.rows ≡ store.old.replica.rows) }
+    ensures refused { HasStore S.Store store.old.conn → StaysUnlessPulled S.Store store.old.conn store.new.conn result }
+
+    // A crash leaves what it could leave before, or a database with a row more for each entry that came and is later, and no other.
+    ensures crash { HasStore S.Store store.old.conn → Leaves S.Store store.old.conn store.new.conn (HasSomeNews store.old) }
+{
     let alloc = store.alloc();
-    let (entries, traffic) = entries_of_peer(alloc, store.replica(), from, to, most, watch)?;
+    let (entries, traffic) = entries_of_peer(alloc, &mut store.replica, from, to, most, watch)?;
     let count = entries.len();
     let news = store.join(entries)?;
     Ok(Brought {
@@ -182,14 +218,17 @@ pub fn serve<S: Alter + Drop, R: Read, W: Write, P: Watch>(
     to: &mut W,
     most: u64,
     watch: &mut P,
-) -> Result<Traffic, WireFault> {
+) -> Result<Traffic, WireFault>
+    ensures rows { store.new.replica.rows ≡ store.old.replica.rows }
+    ensures file { store.new.conn ≡ store.old.conn }
+{
     let alloc = store.alloc();
     let mut traffic = Traffic::none();
-    for _ in 0..u64::MAX {
+    'messages: for _ in 0..u64::MAX {
         let Some(message) = receive(alloc, from, most, watch)? else {
             return Ok(traffic);
         };
-        match answer_within(alloc, store.replica(), &message, ANSWER_BYTES) {
+        match answer_within(alloc, &mut store.replica, &message, ANSWER_BYTES) {
             Ok(reply) => {
                 send(alloc, to, &reply)?;
                 traffic = traffic.with(reply.len(), message.len());

@@ -1,5 +1,5 @@
 //! A store: its table in the database, and the replica of its entries in memory.
-ghost use Rattle.std.specs.Prelude.{◌≡◌, ◌≢◌, ◌≤◌, ◌^◌, ◌↔◌, [], map, string_bytes, IfOk, IfErr, OnOk, OnErr, IsErrOf, IsTrue};
+ghost use Rattle.std.specs.Prelude.{◌≡◌, ◌≢◌, ◌+◌, ◌≤◌, ◌^◌, ◌↔◌, [], length, map, min, string_bytes, IfOk, IfErr, OnOk, OnErr, IsErrOf, IsTrue};
 ghost use Rattle.std.specs.Option.{option_copied};
 ghost use Rattle.key_order.specs.Text.{text_order};
 ghost use Rattle.key_order.specs.Map.{IsMap, get};
@@ -10,7 +10,7 @@ ghost use Rattle.store_table.specs.Changes.{IsBlank, IsNewStore, HasInstead};
 ghost use Rattle.store_table.specs.Connections.{database, HasStore, IsClean, IsCommitted, IsUnderway, Makes, StaysInOk, StaysInErr, Leaves, LeavesNoMore};
 ghost use Rattle.store_table.specs.Faults.{IsForeign, IsUnwritten};
 ghost use Rattle.store_table.specs.Registers.{time_after, text_at, HasLastTime, HaveLateTime};
-ghost use Rattle.merkle_store.specs.Kept.{AreInStep, IsInStep, HasRegister, SameButFor, HasJoined};
+ghost use Rattle.merkle_store.specs.Kept.{AreInStep, IsInStep, HasRegister, SameButFor, HasJoined, StaysSet};
 ghost use Rattle.merkle_store.specs.Writes.{register_of, later_entries, AreTimely, HasWrite, HasNews, StaysUnlessBehind};
 
 use crate::lookup::register_at;
@@ -30,13 +30,13 @@ pub struct Store<S: Alter + Drop> {
     alloc: Global,
     conn: Connection<S>,
     writer: String,
-    replica: EntryReplica,
+    pub(crate) replica: EntryReplica,
     rows: usize,
     /// The greatest time of a peer's entry that is joined.
     latest: u64,
 }
 
-/// Makes a store without entries in a database without tables, or nothing.
+/// Makes a store without entries in a database without tables, or nothing. It takes the time of one transaction.
 ///
 /// # Errors
 ///
@@ -53,7 +53,12 @@ pub fn create<S: Alter>(conn: &mut Connection<S>, writer: &str) -> Result<(), St
     table::create(conn, writer)
 }
 
-/// The name by which the store writes, the replica of its entries, and how many rows its table has.
+/// The name by which the store writes, the replica of its entries, and how many rows its table has. It takes memory linear in the table, and the
+/// time of a sort of its rows.
+///
+/// # Errors
+///
+/// As of [`open`].
 pub fn read_store<S: Alter>(
     alloc: Global,
     conn: &mut Connection<S>,
@@ -87,6 +92,9 @@ pub fn open<S: Alter + Drop>(
     ensures kept { IfOk result (λ store. IsClean S.Store store.conn → IsInStep S.Store store) }
     ensures unchanged { IfOk result (λ store. IsClean S.Store store.conn → IsUnchanged (state S.Store conn) (state S.Store store.conn)) }
     ensures crash { IfOk result (λ store. LeavesNoMore S.Store conn store.conn) }
+
+    // It takes entries of a peer whose time is a day ahead of the clock at most.
+    ensures latest { IfOk result (λ store. store.latest ≡ min (now + AHEAD) u64.MAX) }
 {
     let mut conn = conn;
     let (writer, replica, rows) = read_store(alloc, &mut conn)?;
@@ -122,7 +130,7 @@ impl<S: Alter + Drop> Store<S> {
         self.alloc
     }
 
-    /// The entries, ascending by key, removals too.
+    /// The entries, ascending by key, removals too. It takes constant time.
     pub fn entries(&self) -> &[(String, Register)]
         ensures { result.now ≡ self.now.replica.rows }
     {
@@ -130,23 +138,20 @@ impl<S: Alter + Drop> Store<S> {
     }
 
     /// How many rows the table has, of which those of `entries` count.
-    pub fn row_count(&self) -> usize {
+    pub fn row_count(&self) -> usize
+        ensures { result ≡ self.now.rows }
+    {
         self.rows
     }
 
-    /// The replica of the entries.
-    pub fn replica(&mut self) -> &mut EntryReplica {
-        &mut self.replica
-    }
-
-    /// The register of a key.
+    /// The register of a key, in time logarithmic in the number of entries.
     pub fn register(&self, key: &String) -> Option<&Register>
         ensures { get text_order self.now.replica.rows key.now ≡ option_copied result }
     {
         register_at(self.replica.rows(), key)
     }
 
-    /// The text of a key.
+    /// The text of a key, in time logarithmic in the number of entries.
     pub fn get(&self, key: &String) -> Option<&str>
         ensures { option_copied result ≡ text_at self.now.replica.rows key.now }
     {
@@ -160,6 +165,10 @@ impl<S: Alter + Drop> Store<S> {
     }
 
     /// The time of a write at this time of the clock: so that it is above that of the key's register.
+    ///
+    /// # Errors
+    ///
+    /// [`StoreFault::Time`] where the key's register has the greatest time of all.
     pub fn later_time(&self, key: &String, now: u64) -> Result<u64, StoreFault>
         ensures time { IfOk result (λ time. time ≡ time_after (get text_order self.now.replica.rows key.now) now) }
         ensures last { IfErr result (λ why. (why ≡ StoreFault.Time) × HasLastTime (get text_order self.now.replica.rows key.now)) }
@@ -185,6 +194,7 @@ impl<S: Alter + Drop> Store<S> {
         // The key then has what was written, and each other key what it had.
         ensures written { OnOk result (HasRegister self.new.replica.rows key (register_of self.old.replica.rows now self.old.writer key value)) }
         ensures others { OnOk result (SameButFor key self.new.replica.rows self.old.replica.rows) }
+        ensures settings { StaysSet self.old self.new }
         ensures added { Makes S.Store self.old.conn self.new.conn result (HasWrite self.old now key value) }
         ensures late { IsErrOf result StoreFault.Time → 2 ^ 63 ≤ time_after (get text_order self.old.replica.rows key) now }
         ensures faults { IfErr result (λ why. why ≢ StoreFault.Behind → IsUnwritten why) }
@@ -235,6 +245,8 @@ impl<S: Alter + Drop> Store<S> {
     pub fn join(&mut self, entries: Entries) -> Result<usize, StoreFault>
         ensures kept { IsClean S.Store self.new.conn → IsInStep S.Store self.old → OnOk result (IsInStep S.Store self.new) }
         ensures joined { OnOk result (HasJoined self.old.replica.rows entries.items self.new.replica.rows) }
+        ensures count { IfOk result (λ count. count ≡ length (later_entries self.old.replica.rows entries.items)) }
+        ensures settings { StaysSet self.old self.new }
         ensures added { Makes S.Store self.old.conn self.new.conn result (HasNews self.old entries.items) }
         ensures late { IsErrOf result StoreFault.Time → HaveLateTime (later_entries self.old.replica.rows entries.items) }
         ensures faults { IfErr result (λ why. why ≢ StoreFault.Behind → why ≢ StoreFault.Underway → why ≢ StoreFault.Future → IsUnwritten why) }
@@ -268,6 +280,7 @@ impl<S: Alter + Drop> Store<S> {
     pub fn compact(&mut self) -> Result<(), StoreFault>
         ensures kept { IsClean S.Store self.new.conn → IsInStep S.Store self.old → OnOk result (IsInStep S.Store self.new) }
         ensures same { self.new.replica ≡ self.old.replica }
+        ensures settings { StaysSet self.old self.new }
         ensures compacted { Makes S.Store self.old.conn self.new.conn result (HasInstead (map entry_row self.old.replica.rows)) }
         ensures late { IsErrOf result StoreFault.Time → HaveLateTime self.old.replica.rows }
         ensures faults { IfErr result (λ why. why ≢ StoreFault.Underway → IsUnwritten why) }
@@ -282,7 +295,11 @@ impl<S: Alter + Drop> Store<S> {
         Ok(())
     }
 
-    /// The digest of the root page, in memory of its own.
+    /// The digest of the root page, in memory of its own. Pages that lack a digest get it.
+    ///
+    /// # Errors
+    ///
+    /// Want of memory.
     pub fn root_hash(&mut self) -> Result<merkle_digest::RootHash, AllocError> {
         self.replica.root_hash().clone()
     }

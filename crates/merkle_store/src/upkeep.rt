@@ -37,7 +37,12 @@ fn replica_of(alloc: Global, entries: Entries) -> Result<EntryReplica, StoreFaul
     }
 }
 
-/// The replica of the entries that the file holds, and how many rows its table has.
+/// The replica of the entries that the file holds, and how many rows its table has. It takes memory linear in the table, and the time of a sort of
+/// its rows.
+///
+/// # Errors
+///
+/// [`StoreFault::Database`] and [`StoreFault::Memory`]. Nothing is written.
 pub fn read_replica<S: Alter>(
     alloc: Global,
     conn: &mut Connection<S>,
@@ -144,6 +149,10 @@ pub fn add_entries<S: Alter>(
 }
 
 /// Leaves one row in the file for each key, or all as it was.
+///
+/// # Errors
+///
+/// [`StoreFault::Underway`], [`StoreFault::Time`] where the database can't hold the time of a row, and faults of the file.
 pub fn rewrite<S: Alter>(conn: &mut Connection<S>, replica: &EntryReplica) -> Result<(), StoreFault>
     // The rows in memory are still those of the file.
     ensures kept { StayInStep S.Store conn.old conn.new replica.now.rows replica.now.rows result }

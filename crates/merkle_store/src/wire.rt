@@ -1,4 +1,6 @@
 //! Why a peer was not served or not heard.
+ghost use Rattle.std.specs.Prelude.{◌≡◌};
+
 use merkle_wire::{AnswerError, SessionError};
 use std::alloc::{AllocError, AllocFailed};
 use std::fmt;
@@ -23,24 +25,40 @@ pub enum WireFault {
 }
 
 impl From<AllocError> for WireFault {
+    ghost use Rattle.merkle_store.specs.declared.wire.WireFault.TheVariants.{Memory};
+
+    ghost from_gives = { λ _ fault. fault ≡ Memory };
+
     fn from(_error: AllocError) -> Self {
         WireFault::Memory
     }
 }
 
 impl<T: Drop> From<AllocFailed<T>> for WireFault {
+    ghost use Rattle.merkle_store.specs.declared.wire.WireFault.TheVariants.{Memory};
+
+    ghost from_gives = { λ _ fault. fault ≡ Memory };
+
     fn from(_error: AllocFailed<T>) -> Self {
         WireFault::Memory
     }
 }
 
 impl From<AnswerError> for WireFault {
+    ghost use Rattle.merkle_store.specs.declared.wire.WireFault.TheVariants.{Question};
+
+    ghost from_gives = { λ error fault. fault ≡ Question error };
+
     fn from(error: AnswerError) -> Self {
         WireFault::Question(error)
     }
 }
 
 impl From<SessionError> for WireFault {
+    ghost use Rattle.merkle_store.specs.declared.wire.WireFault.TheVariants.{Reply};
+
+    ghost from_gives = { λ error fault. fault ≡ Reply error };
+
     fn from(error: SessionError) -> Self {
         WireFault::Reply(error)
     }

@@ -1,0 +1,41 @@
+-- What a pull brings to a store.
+use Rattle.std.specs.Prelude.{◌≡◌, List, length, Result, IfErr, IsTrue}
+use Rattle.key_order.specs.Text.{Text}
+use Rattle.sqlite.specs.Effect.{Database}
+use Rattle.sqlite.specs.Held.{Held, state}
+use Rattle.sqlite.specs.Store.{Ghosts}
+use Rattle.store_table.specs.Connections.{database, IsClean}
+use Rattle.store_table.specs.declared.fault.StoreFault.TheVariants.{Behind}
+use Rattle.store_table.specs.declared.register.Register.{Register}
+use Rattle.merkle_store.specs.Kept.{HasJoined}
+use Rattle.merkle_store.specs.Writes.{later_entries, AreTimely, HasNews}
+use Rattle.merkle_store.specs.declared.pulling.Brought.{Brought}
+use Rattle.merkle_store.specs.declared.pulling.PullFault.{PullFault}
+use Rattle.merkle_store.specs.declared.pulling.PullFault.TheVariants as fault
+use Rattle.merkle_store.specs.declared.store.Store.{Store}
+
+module _ {S : Type 0} (store : Store S) where
+  -- of some entries these are later than what the store has for their keys, and none is from the future
+  abbrev pub AreNews : List (Text × Register) → Type 0
+  AreNews news = (came : List (Text × Register)) × (news ≡ later_entries store.replica.rows came) × AreTimely store.latest came
+
+  -- the file has a row more for each of some entries that is later than what the store has for its key
+  abbrev pub HasSomeNews : Database → Database → Type 0
+  HasSomeNews before after = (came : List (Text × Register)) × HasNews store came before after
+
+  -- entries came, none from the future, so many of them later than what the store has; and the rows are the join of its own with all of them
+  pub record HasBrought (brought : Brought) (rows : List (Text × Register)) : Type 0 where
+    pub came : List (Text × Register)
+    pub timely : AreTimely store.latest came
+    pub entries : brought.entries ≡ length came
+    pub news : brought.news ≡ length (later_entries store.replica.rows came)
+    pub joined : HasJoined store.replica.rows came rows
+
+-- the file has what came, and memory was refused for the rows in memory
+abbrev pub IsBehind : PullFault → Type 0
+IsBehind (fault.Store why) = why ≡ Behind
+IsBehind (fault.Wire why) = ⊥
+
+-- over a clean disk, while the connection is open, the database is as it was in each error but that
+abbrev pub StaysUnlessPulled : {S A : Type 0} → Ghosts S → Held S → Held S → Result A PullFault → Type 0
+StaysUnlessPulled g old new result = IsClean g new → IsTrue (state g new).is_open → IfErr result (λ why. ¬ IsBehind why → database g new ≡ database g old)
