@@ -58,6 +58,10 @@ EndsFor first row (fault.Store why) = ⊤
 EndsFor first row fault.Device = ⊤
 EndsFor first row _ = ⊥
 
+-- a command ends early for want of memory, the store or a device alone
+abbrev pub IsFailure : Fault → Type 0
+IsFailure = EndsFor ⊥ ⊥
+
 -- for its header or a record it ends only where these are wrong, as far as the text is known
 abbrev pub IsImportRefused : Bool → Option (List ℕ) → Fault → Type 0
 IsImportRefused is_log text = EndsFor (IfSome text (HasOtherHeader is_log)) (IfSome text (HasBadRecord is_log))

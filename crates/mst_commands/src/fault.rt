@@ -1,7 +1,7 @@
 //! Why a command ends early.
 ghost use Rattle.std.specs.Prelude.{◌≡◌};
 ghost use Rattle.csv.specs.Reading.{error_kind};
-ghost use Rattle.mst_commands.specs.Malformed.{EndsFor, IsNoText};
+ghost use Rattle.mst_commands.specs.Malformed.{EndsFor, IsFailure, IsNoText};
 
 use csv::ErrorKind;
 use sqlite::{Error, ErrorCode};
@@ -87,8 +87,8 @@ impl From<io::Error> for Fault {
     }
 }
 
-/// Why the CSV of an import or an export ended early.
-pub fn csv_fault(error: &csv::Error) -> Fault
+/// Why a read of CSV ended early.
+pub fn read_fault(error: &csv::Error) -> Fault
     ensures { EndsFor ⊥ (IsNoText (error_kind error.now)) result }
 {
     match error.kind() {
@@ -96,6 +96,16 @@ pub fn csv_fault(error: &csv::Error) -> Fault
             Some(position) => Fault::BadLine(position.line, "it is no text in UTF-8"),
             None => Fault::NotText,
         },
+        ErrorKind::OutOfMemory => Fault::Store(StoreFault::Memory),
+        _ => Fault::Device,
+    }
+}
+
+/// Why a write of CSV ended early.
+pub fn write_fault(error: &csv::Error) -> Fault
+    ensures { IsFailure result }
+{
+    match error.kind() {
         ErrorKind::OutOfMemory => Fault::Store(StoreFault::Memory),
         _ => Fault::Device,
     }

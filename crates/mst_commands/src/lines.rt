@@ -1,6 +1,7 @@
 //! Keys and texts in lines.
-ghost use Rattle.std.specs.Prelude.{◌≡◌, is_some, flat_map, IfOk, OnOk};
+ghost use Rattle.std.specs.Prelude.{◌≡◌, is_some, flat_map, IfOk, IfErr, OnOk};
 ghost use Rattle.std.specs.Io.KnownBytes.{Appends};
+ghost use Rattle.mst_commands.specs.Malformed.{IsFailure};
 ghost use Rattle.mst_commands.specs.Lines.{text_line, json_line, line_as, line_where, listed, list_of, key_line};
 
 use crate::bounds::Listing;
@@ -12,7 +13,8 @@ use store_table::Register;
 
 /// Writes a key and its text as a line.
 fn write_line<W: Write>(alloc: Global, out: &mut W, key: &str, text: &str) -> Result<(), Fault>
-    ensures { OnOk result (Appends (W.contents out.old) (W.contents out.new) (text_line key.now text.now)) }
+    ensures bytes { OnOk result (Appends (W.contents out.old) (W.contents out.new) (text_line key.now text.now)) }
+    ensures faults { IfErr result IsFailure }
 {
     let key = escape(alloc, key)?;
     let text = escape(alloc, text)?;
@@ -25,7 +27,8 @@ fn write_line<W: Write>(alloc: Global, out: &mut W, key: &str, text: &str) -> Re
 
 /// Writes a key and its text as an object of JSON.
 fn write_object<W: Write>(alloc: Global, out: &mut W, key: &str, text: &str) -> Result<(), Fault>
-    ensures { OnOk result (Appends (W.contents out.old) (W.contents out.new) (json_line key.now text.now)) }
+    ensures bytes { OnOk result (Appends (W.contents out.old) (W.contents out.new) (json_line key.now text.now)) }
+    ensures faults { IfErr result IsFailure }
 {
     let key = json_string(alloc, key)?;
     let text = json_string(alloc, text)?;
@@ -46,6 +49,7 @@ fn write_row<W: Write>(
 ) -> Result<bool, Fault>
     ensures shown { IfOk result (λ shown. shown ≡ is_some (listed listing.now.bounds row.now)) }
     ensures bytes { OnOk result (Appends (W.contents out.old) (W.contents out.new) (line_where listing.now.json (listed listing.now.bounds row.now))) }
+    ensures faults { IfErr result IsFailure }
 {
     let key = row.0.as_str();
     if !listing.bounds.hold(key) {
@@ -69,7 +73,8 @@ pub fn write_rows<W: Write>(
     rows: &[(String, Register)],
     listing: &Listing<'_>,
 ) -> Result<(), Fault>
-    ensures { OnOk result (Appends (W.contents out.old) (W.contents out.new) (list_of listing.now rows.now)) }
+    ensures bytes { OnOk result (Appends (W.contents out.old) (W.contents out.new) (list_of listing.now rows.now)) }
+    ensures faults { IfErr result IsFailure }
 {
     let mut left = listing.limit;
     'rows: for row in rows {
@@ -89,7 +94,8 @@ pub fn write_keys<W: Write>(
     out: &mut W,
     entries: &[(String, Register)],
 ) -> Result<(), Fault>
-    ensures { OnOk result (Appends (W.contents out.old) (W.contents out.new) (flat_map key_line entries.now)) }
+    ensures bytes { OnOk result (Appends (W.contents out.old) (W.contents out.new) (flat_map key_line entries.now)) }
+    ensures faults { IfErr result IsFailure }
 {
     'entries: for entry in entries {
         let key = escape(alloc, entry.0.as_str())?;

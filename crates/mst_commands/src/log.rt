@@ -1,10 +1,11 @@
 //! The log as CSV.
-ghost use Rattle.std.specs.Prelude.{◌≡◌, [], ◌∷◌, IfOk, OnOk};
+ghost use Rattle.std.specs.Prelude.{◌≡◌, [], ◌∷◌, IfOk, IfErr, OnOk};
 ghost use Rattle.std.specs.Io.KnownBytes.{Appends};
 ghost use Rattle.csv.specs.Writing.{row_text, default_writer};
+ghost use Rattle.mst_commands.specs.Malformed.{IsFailure};
 ghost use Rattle.mst_commands.specs.Records.{entry_text, log_text, WritesRecords};
 
-use crate::fault::{Fault, csv_fault};
+use crate::fault::{Fault, write_fault};
 use crate::records::finish;
 use csv::Writer;
 use std::alloc::Global;
@@ -20,8 +21,9 @@ fn write_five<'a, W: Write + Drop>(
     change: &'a str,
     value: &'a str,
 ) -> Result<(), Fault>
-    ensures { OnOk result (WritesRecords W.contents writer.old writer.new
+    ensures written { OnOk result (WritesRecords W.contents writer.old writer.new
         (row_text default_writer (key.now ∷ time.now ∷ name.now ∷ change.now ∷ value.now ∷ []))) }
+    ensures faults { IfErr result IsFailure }
 {
     match writer.write_fields(&[
         key.as_bytes(),
@@ -31,7 +33,7 @@ fn write_five<'a, W: Write + Drop>(
         value.as_bytes(),
     ]) {
         Ok(()) => Ok(()),
-        Err(error) => Err(csv_fault(&error)),
+        Err(error) => Err(write_fault(&error)),
     }
 }
 
@@ -41,7 +43,8 @@ fn write_entry<W: Write + Drop>(
     writer: &mut Writer<W>,
     entry: &(String, Register),
 ) -> Result<(), Fault>
-    ensures { OnOk result (WritesRecords W.contents writer.old writer.new (entry_text entry.now)) }
+    ensures written { OnOk result (WritesRecords W.contents writer.old writer.new (entry_text entry.now)) }
+    ensures faults { IfErr result IsFailure }
 {
     let time = entry.1.time.to_string(alloc)?;
     let (key, time, name) = (entry.0.as_str(), time.as_str(), entry.1.writer.as_str());
@@ -57,7 +60,8 @@ pub fn write_log<W: Write + Drop>(
     out: W,
     entries: &[(String, Register)],
 ) -> Result<W, Fault>
-    ensures { IfOk result (λ written. Appends (W.contents out) (W.contents written) (log_text entries.now)) }
+    ensures written { IfOk result (λ written. Appends (W.contents out) (W.contents written) (log_text entries.now)) }
+    ensures faults { IfErr result IsFailure }
 {
     let mut writer = Writer::from_writer(out);
     write_five(&mut writer, "key", "time", "writer", "change", "value")?;

@@ -1,8 +1,9 @@
 //! The commands that read.
-ghost use Rattle.std.specs.Prelude.{◌≡◌, ◌≢◌, ◌++◌, [], ◌∷◌, length, string_bytes, IfOk, OnOk, IsErrOf};
+ghost use Rattle.std.specs.Prelude.{◌≡◌, ◌≢◌, ◌++◌, [], ◌∷◌, length, string_bytes, IfOk, IfErr, OnOk, IsErrOf};
 ghost use Rattle.std.specs.Io.KnownBytes.{Appends};
-ghost use Rattle.store_table.specs.Connections.{database, HasStore, IsClean, Finds, StaysInOk, LeavesNoMore};
+ghost use Rattle.store_table.specs.Connections.{database, HasStore, IsClean, Finds, Shows, StaysInOk, LeavesNoMore};
 ghost use Rattle.store_table.specs.Latest.{text_of as text_said};
+ghost use Rattle.mst_commands.specs.Malformed.{IsFailure};
 ghost use Rattle.mst_commands.specs.Reads.{IsTextAt, WritesText, WritesList, WritesCount, WritesStatus, WritesPairs, WritesLog, IsSummary, status_text};
 
 use crate::bounds::Listing;
@@ -34,7 +35,7 @@ fn text_of<S: Alter>(
     key: &str,
 ) -> Result<Option<String>, Fault>
     ensures text { Finds S.Store conn.old conn.new result (λ db text. IsTextAt db.trees key.now text) }
-    ensures never { result ≢ Err Fault.NoKey }
+    ensures faults { IfErr result IsFailure }
     ensures unchanged { HasStore S.Store conn.old → StaysInOk S.Store conn.old conn.new result }
     ensures crash { HasStore S.Store conn.old → LeavesNoMore S.Store conn.old conn.new }
 {
@@ -45,7 +46,7 @@ fn text_of<S: Alter>(
 /// Writes a text, and a newline.
 fn write_text<W: Write>(out: &mut W, text: &str) -> Result<(), Fault>
     ensures bytes { OnOk result (Appends (W.contents out.old) (W.contents out.new) (text.now ++ 10 ∷ [])) }
-    ensures never { result ≢ Err Fault.NoKey }
+    ensures faults { IfErr result IsFailure }
 {
     out.write_all(text.as_bytes())?;
     out.write_all(b"\n")?;
@@ -63,10 +64,10 @@ pub fn get<S: Alter, W: Write>(
     out: &mut W,
     key: &str,
 ) -> Result<(), Fault>
-    ensures written { HasStore S.Store conn.old → IsClean S.Store conn.new
-        → OnOk result (WritesText (database S.Store conn.old).trees key.now (W.contents out.old) (W.contents out.new)) }
+    ensures written { Shows S.Store conn.old conn.new result (λ db. WritesText db.trees key.now (W.contents out.old) (W.contents out.new)) }
     ensures absent { HasStore S.Store conn.old → IsClean S.Store conn.new → IsErrOf result Fault.NoKey
         → IsTextAt (database S.Store conn.old).trees key.now None }
+    ensures faults { IfErr result (λ why. why ≢ Fault.NoKey → IsFailure why) }
     ensures unchanged { HasStore S.Store conn.old → StaysInOk S.Store conn.old conn.new result }
     ensures crash { HasStore S.Store conn.old → LeavesNoMore S.Store conn.old conn.new }
 {
@@ -84,8 +85,8 @@ pub fn list<S: Alter, W: Write>(
     out: &mut W,
     listing: &Listing<'_>,
 ) -> Result<(), Fault>
-    ensures written { HasStore S.Store conn.old → IsClean S.Store conn.new
-        → OnOk result (WritesList listing.now (database S.Store conn.old).trees (W.contents out.old) (W.contents out.new)) }
+    ensures written { Shows S.Store conn.old conn.new result (λ db. WritesList listing.now db.trees (W.contents out.old) (W.contents out.new)) }
+    ensures faults { IfErr result IsFailure }
     ensures unchanged { HasStore S.Store conn.old → StaysInOk S.Store conn.old conn.new result }
     ensures crash { HasStore S.Store conn.old → LeavesNoMore S.Store conn.old conn.new }
 {
@@ -97,6 +98,7 @@ pub fn list<S: Alter, W: Write>(
 pub fn sum_up<S: Alter>(alloc: Global, conn: &mut Connection<S>) -> Result<(Summary, usize), Fault>
     ensures numbers { Finds S.Store conn.old conn.new result (λ db sum. IsSummary db.trees sum.0) }
     ensures rows { Finds S.Store conn.old conn.new result (λ db sum. sum.1 ≡ length (db.trees 0)) }
+    ensures faults { IfErr result IsFailure }
     ensures unchanged { HasStore S.Store conn.old → StaysInOk S.Store conn.old conn.new result }
     ensures crash { HasStore S.Store conn.old → LeavesNoMore S.Store conn.old conn.new }
 {
@@ -112,8 +114,8 @@ pub fn count<S: Alter, W: Write>(
     conn: &mut Connection<S>,
     out: &mut W,
 ) -> Result<(), Fault>
-    ensures written { HasStore S.Store conn.old → IsClean S.Store conn.new
-        → OnOk result (WritesCount (database S.Store conn.old).trees (W.contents out.old) (W.contents out.new)) }
+    ensures written { Shows S.Store conn.old conn.new result (λ db. WritesCount db.trees (W.contents out.old) (W.contents out.new)) }
+    ensures faults { IfErr result IsFailure }
     ensures unchanged { HasStore S.Store conn.old → StaysInOk S.Store conn.old conn.new result }
     ensures crash { HasStore S.Store conn.old → LeavesNoMore S.Store conn.old conn.new }
 {
@@ -124,7 +126,8 @@ pub fn count<S: Alter, W: Write>(
 
 /// The numbers of the file in lines, and a name.
 fn status_lines(alloc: Global, summary: &Summary, rows: usize, name: &str) -> Result<String, Fault>
-    ensures { IfOk result (λ text. string_bytes text ≡ status_text summary.now rows name.now) }
+    ensures text { IfOk result (λ text. string_bytes text ≡ status_text summary.now rows name.now) }
+    ensures faults { IfErr result IsFailure }
 {
     let Summary {
         keys,
@@ -143,8 +146,8 @@ pub fn status<S: Alter, W: Write>(
     out: &mut W,
     name: &str,
 ) -> Result<(), Fault>
-    ensures written { HasStore S.Store conn.old → IsClean S.Store conn.new
-        → OnOk result (WritesStatus name.now (database S.Store conn.old).trees (W.contents out.old) (W.contents out.new)) }
+    ensures written { Shows S.Store conn.old conn.new result (λ db. WritesStatus name.now db.trees (W.contents out.old) (W.contents out.new)) }
+    ensures faults { IfErr result IsFailure }
     ensures unchanged { HasStore S.Store conn.old → StaysInOk S.Store conn.old conn.new result }
     ensures crash { HasStore S.Store conn.old → LeavesNoMore S.Store conn.old conn.new }
 {
@@ -161,6 +164,7 @@ pub fn export<S: Alter, W: Write + Drop>(
     out: W,
 ) -> Result<W, Fault>
     ensures written { Finds S.Store conn.old conn.new result (λ db written. WritesPairs db.trees (W.contents out) (W.contents written)) }
+    ensures faults { IfErr result IsFailure }
     ensures unchanged { HasStore S.Store conn.old → StaysInOk S.Store conn.old conn.new result }
     ensures crash { HasStore S.Store conn.old → LeavesNoMore S.Store conn.old conn.new }
 {
@@ -175,6 +179,7 @@ pub fn export_log<S: Alter, W: Write + Drop>(
     out: W,
 ) -> Result<W, Fault>
     ensures written { Finds S.Store conn.old conn.new result (λ db written. WritesLog db.trees (W.contents out) (W.contents written)) }
+    ensures faults { IfErr result IsFailure }
     ensures unchanged { HasStore S.Store conn.old → StaysInOk S.Store conn.old conn.new result }
     ensures crash { HasStore S.Store conn.old → LeavesNoMore S.Store conn.old conn.new }
 {

@@ -4,9 +4,9 @@ ghost use Rattle.std.specs.Io.KnownBytes.{Appends, Keeps};
 ghost use Rattle.csv.specs.Records.{fields_of};
 ghost use Rattle.csv.specs.Writing.{row_text, default_writer, text_written};
 ghost use Rattle.mst_commands.specs.Records.{header, change_fields, field_or_empty, pair_fields, pair_text, pairs_text, SaysPair, SaysChange, SaysEntry, HasEntries, HasRead, ReadsOne, WritesRecords};
-ghost use Rattle.mst_commands.specs.Malformed.{EndsFor, IsImportRefused, SaysNoChange, SaysNone, StopsReading};
+ghost use Rattle.mst_commands.specs.Malformed.{EndsFor, IsFailure, IsImportRefused, SaysNoChange, SaysNone, StopsReading};
 
-use crate::fault::{Fault, csv_fault};
+use crate::fault::{Fault, read_fault, write_fault};
 use csv::{Reader, ReaderBuilder, StringRecord, Writer};
 use std::alloc::Global;
 use std::io::{Read, Write};
@@ -202,7 +202,7 @@ fn read_next<R: Read>(reader: &mut Reader<R>, row: &mut StringRecord) -> Result<
 {
     match reader.read_record(row) {
         Ok(found) => Ok(found),
-        Err(error) => Err(csv_fault(&error)),
+        Err(error) => Err(read_fault(&error)),
     }
 }
 
@@ -234,17 +234,19 @@ fn write_pair<'a, W: Write + Drop>(
     key: &'a str,
     text: &'a str,
 ) -> Result<(), Fault>
-    ensures { OnOk result (WritesRecords W.contents writer.old writer.new (row_text default_writer (pair_fields (key.now, text.now)))) }
+    ensures written { OnOk result (WritesRecords W.contents writer.old writer.new (row_text default_writer (pair_fields (key.now, text.now)))) }
+    ensures faults { IfErr result IsFailure }
 {
     match writer.write_fields(&[key.as_bytes(), text.as_bytes()]) {
         Ok(()) => Ok(()),
-        Err(error) => Err(csv_fault(&error)),
+        Err(error) => Err(write_fault(&error)),
     }
 }
 
 /// Writes the record of a row, unless it is a removal.
 fn write_row<W: Write + Drop>(writer: &mut Writer<W>, row: &(String, Register)) -> Result<(), Fault>
-    ensures { OnOk result (WritesRecords W.contents writer.old writer.new (pair_text row.now)) }
+    ensures written { OnOk result (WritesRecords W.contents writer.old writer.new (pair_text row.now)) }
+    ensures faults { IfErr result IsFailure }
 {
     match &row.1.value {
         Some(text) => write_pair(writer, row.0.as_str(), text.as_str()),
@@ -254,17 +256,19 @@ fn write_row<W: Write + Drop>(writer: &mut Writer<W>, row: &(String, Register)) 
 
 /// Hands back the output of a writer that has written all.
 pub fn finish<W: Write + Drop>(writer: Writer<W>) -> Result<W, Fault>
-    ensures { IfOk result (λ out. Keeps (text_written W.contents writer) (W.contents out)) }
+    ensures kept { IfOk result (λ out. Keeps (text_written W.contents writer) (W.contents out)) }
+    ensures faults { IfErr result IsFailure }
 {
     match writer.into_inner() {
         Ok(out) => Ok(out),
-        Err(error) => Err(csv_fault(&error.into_error())),
+        Err(error) => Err(write_fault(&error.into_error())),
     }
 }
 
 /// Writes the rows that say a text as CSV, and hands back the output.
 pub fn write_rows<W: Write + Drop>(out: W, rows: &[(String, Register)]) -> Result<W, Fault>
-    ensures { IfOk result (λ written. Appends (W.contents out) (W.contents written) (pairs_text rows.now)) }
+    ensures written { IfOk result (λ written. Appends (W.contents out) (W.contents written) (pairs_text rows.now)) }
+    ensures faults { IfErr result IsFailure }
 {
     let mut writer = Writer::from_writer(out);
     write_pair(&mut writer, "key", "value")?;

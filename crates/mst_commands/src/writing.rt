@@ -1,16 +1,16 @@
 //! The commands that write.
-ghost use Rattle.std.specs.Prelude.{◌≡◌, ◌≤◌, ◌<◌, ◌⊎◌, is_some, length, string_len, filter, All, Any, IfOk, IfErr, OnOk, IsErrOf, true, false};
+ghost use Rattle.std.specs.Prelude.{◌≡◌, ◌≢◌, ◌≤◌, ◌<◌, ◌⊎◌, is_some, length, string_len, filter, All, Any, IfOk, IfErr, OnOk, IsErrOf, true, false};
 ghost use Rattle.std.specs.List.{AllZip};
 ghost use Rattle.key_order.specs.Text.{text_order};
 ghost use Rattle.key_order.specs.Map.{IsMap};
 ghost use Rattle.sqlite.specs.State.{IsUnchanged};
 ghost use Rattle.sqlite.specs.Held.{state};
 ghost use Rattle.sqlite.specs.View.{doubt};
-ghost use Rattle.store_table.specs.Connections.{database, HasStore, IsClean, IsCommitted, Finds, Makes, StaysInOk, StaysInErr, Leaves, LeavesNoMore};
+ghost use Rattle.store_table.specs.Connections.{database, HasStore, IsClean, IsCommitted, Finds, Makes, Shows, StaysInOk, StaysInErr, Leaves, LeavesNoMore};
 ghost use Rattle.store_table.specs.Latest.{IsThere};
 ghost use Rattle.mst_commands.specs.Faults.{IsTooLong};
 ghost use Rattle.mst_commands.specs.Writes.{WritesBy};
-ghost use Rattle.mst_commands.specs.Malformed.{EndsFor, IsImportRefused};
+ghost use Rattle.mst_commands.specs.Malformed.{IsFailure, IsImportRefused};
 ghost use Rattle.mst_commands.specs.Imports.{IsDated, is_newer, AddsOf, Imports};
 
 use crate::fault::Fault;
@@ -35,7 +35,10 @@ pub fn within(text: &str, what: &'static str) -> Result<(), Fault>
 }
 
 /// The text that an input has to its end.
-pub fn read_text<R: Read + Drop>(alloc: Global, from: R) -> Result<String, Fault> {
+pub fn read_text<R: Read + Drop>(alloc: Global, from: R) -> Result<String, Fault>
+    ensures fits { IfOk result (λ text. string_len text ≤ MOST) }
+    ensures faults { IfErr result (λ why. why ≢ Fault.NotText → ¬ IsTooLong why → IsFailure why) }
+{
     let mut bytes = Vec::new(alloc);
     let mut from = from.take(1_048_577);
     from.read_to_end(&mut bytes)?;
@@ -62,6 +65,7 @@ pub fn put_text<S: Alter>(
     ensures fits { OnOk result (length key.now ≤ MOST × string_len text ≤ MOST) }
     ensures long { IfErr result (λ why. IsTooLong why → MOST < length key.now ⊎ MOST < string_len text) }
     ensures untouched { IfErr result (λ why. IsTooLong why → conn.new ≡ conn.old) }
+    ensures faults { IfErr result (λ why. ¬ IsTooLong why → IsFailure why) }
     // A crash leaves what it could leave before, or a database with the write.
     ensures crash { HasStore S.Store conn.old → Leaves S.Store conn.old conn.new (WritesBy key.now writer.now now (Some text)) }
 {
@@ -85,12 +89,13 @@ pub fn del<S: Alter>(
     key: &str,
 ) -> Result<(), Fault>
     ensures written { Makes S.Store conn.old conn.new result (WritesBy key.now writer.now now None) }
-    ensures there { HasStore S.Store conn.old → IsClean S.Store conn.new → OnOk result (IsThere (database S.Store conn.old).trees key.now true) }
+    ensures there { Shows S.Store conn.old conn.new result (λ db. IsThere db.trees key.now true) }
     // Where the key isn't there, nothing is written.
     ensures absent { HasStore S.Store conn.old → IsClean S.Store conn.new → IsErrOf result Fault.NoKey
         → IsThere (database S.Store conn.old).trees key.now false }
     ensures untouched { HasStore S.Store conn.old → IsClean S.Store conn.new → IsErrOf result Fault.NoKey
         → IsUnchanged (state S.Store conn.old) (state S.Store conn.new) }
+    ensures faults { IfErr result (λ why. why ≢ Fault.NoKey → IsFailure why) }
     // A crash leaves what it could leave before, or a database with the removal.
     ensures crash { HasStore S.Store conn.old → Leaves S.Store conn.old conn.new (WritesBy key.now writer.now now None) }
 {
@@ -108,7 +113,7 @@ fn dated(
     entry: (String, Register),
 ) -> Result<(String, Register), Fault>
     ensures dated { IsMap text_order rows.now → IfOk result (λ dated. IsDated rows.now writer.now now entry dated) }
-    ensures faults { IfErr result (EndsFor ⊥ ⊥) }
+    ensures faults { IfErr result IsFailure }
 {
     let time = match register_in(rows, &entry.0) {
         Some(register) => register.time.checked_add(1),
@@ -137,7 +142,7 @@ fn all_dated(
     entries: Entries,
 ) -> Result<Entries, Fault>
     ensures dated { IsMap text_order rows.now → IfOk result (λ all. AllZip (IsDated rows.now writer.now now) entries.items all.items) }
-    ensures faults { IfErr result (EndsFor ⊥ ⊥) }
+    ensures faults { IfErr result IsFailure }
 {
     let mut all = Vec::new(alloc);
     'entries: for entry in entries {
@@ -195,7 +200,7 @@ fn entries_to_add<S: Alter>(
     ensures refused { HasStore S.Store conn.old → IsCommitted S.Store conn.old → StaysInErr S.Store conn.old conn.new result }
     ensures clean { doubt (state S.Store conn.old).is_clean ≤ doubt (state S.Store conn.new).is_clean }
     ensures crash { HasStore S.Store conn.old → LeavesNoMore S.Store conn.old conn.new }
-    ensures faults { IfErr result (EndsFor ⊥ ⊥) }
+    ensures faults { IfErr result IsFailure }
 {
     let rows = read_latest(alloc, conn)?;
     let mut last = latest_rows(came);

@@ -29,8 +29,8 @@ rows-preserved g c =
     let more = lines_more listing.bounds listing.json rows i left c.if-branch.left row shown low c.row-item.is c.in_ok-write_row.ensures.shown some one in
     (done ++ line, Appends-trans _ _ _ done line app c.in_ok-write_row.ensures.bytes, append_assoc done line _ ∙ ap (λ l. done ++ l) more ∙ split)
 
-pub returns : goal.returns
-returns g c =
+pub returns-clause-bytes : goal.returns-clause-bytes
+returns-clause-bytes g c =
     let (done, app, split) = c.rows.invariant in
     let listing = c.args.listing.now in
     let rows = c.args.rows.now in

@@ -3,8 +3,8 @@ use Rattle.csv.specs.Writing.{writer_setup}
 use Rattle.csv.specs.declared.writer.QuoteStyle.TheVariants as style
 use Rattle.mst_commands.proofs.log.write_five.Goals as goal
 
-pub returns-in-Ok : goal.returns-in-Ok
-returns-in-Ok g c before =
+pub returns-in-Ok-clause-written : goal.returns-in-Ok-clause-written
+returns-in-Ok-clause-written g c before =
     let plain : (writer_setup c.args.writer.now).style ≢ style.NonNumeric = rw before.setup (λ e. cc e) in
     let wrote = c.in-Ok.ensures.bytes before.fields before.wrote plain in (
       record { setup = c.in-Ok.ensures.setup ∙ before.setup; fields = c.in-Ok.ensures.ended; wrote = c.in-Ok.ensures.clean },

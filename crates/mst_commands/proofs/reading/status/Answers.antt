@@ -7,7 +7,7 @@ pub returns-clause-written : goal.returns-clause-written
 returns-clause-written g c has clean =
     let summary = c.in_ok-summary.summary in
     let many = c.in_ok-summary.ensures.rows has clean in
-    let text = c.as_bytes.ensures.value ∙ c.in_ok-text.ensures ∙ ap (λ (n : ℕ). status_text summary n c.args.name.now) many in (
+    let text = c.as_bytes.ensures.value ∙ c.in_ok-text.ensures.text ∙ ap (λ (n : ℕ). status_text summary n c.args.name.now) many in (
       summary,
       c.in_ok-summary.ensures.numbers has clean,
       subst (Appends (g.W.Write.contents c.args.out.now) (g.W.Write.contents c.write_all.new.self)) text c.in_ok-write_all.ensures.bytes,

@@ -10,4 +10,4 @@ returns-in-Ok-clause-read g c =
 
 pub returns-in-Err-clause-no_text : goal.returns-in-Err-clause-no_text
 returns-in-Err-clause-no_text g c =
-    stops-reading g.R.Read.remaining c.args.reader.now c.read_record.new.self (error_kind c.in-Err.error) c.csv_fault.result c.in-Err.ensures.why c.csv_fault.ensures
+    stops-reading g.R.Read.remaining c.args.reader.now c.read_record.new.self (error_kind c.in-Err.error) c.read_fault.result c.in-Err.ensures.why c.read_fault.ensures

@@ -19,15 +19,15 @@ rows-preserved g c =
     let low : i < length rows = omega arith in
     let more = pieces_more pair_text rows i c.row-item.result low c.row-item.is in
     subst (WritesRecords g.W.Write.contents c.write_pair.new.writer c.write_row.new.writer) more
-    (writes_then g.W.Write.contents c.write_pair.new.writer c.rows.writer c.write_row.new.writer _ (pair_text c.row-item.result) c.rows.invariant c.in_ok-write_row.ensures)
+    (writes_then g.W.Write.contents c.write_pair.new.writer c.rows.writer c.write_row.new.writer _ (pair_text c.row-item.result) c.rows.invariant c.in_ok-write_row.ensures.written)
 
-pub returns : goal.returns
-returns g c =
+pub returns-clause-written : goal.returns-clause-written
+returns-clause-written g c =
     let contents = g.W.Write.contents in
     let first = c.from_writer-writer.result in
     let fresh : IsBeforeRecord first = record { setup = c.from_writer-writer.ensures.cfg; fields = c.from_writer-writer.ensures.fields; wrote = c.from_writer-writer.ensures.wrote } in
     let all : take c.rows.row-index c.args.rows.now ≡ c.args.rows.now = take_all c.rows.row-index c.args.rows.now (omega arith) in
     let told = subst (λ (items : List (Key × Register)). WritesRecords contents c.write_pair.new.writer c.rows.writer (flat_map pair_text items)) all c.rows.invariant in
-    let wrote = writes_then contents first c.write_pair.new.writer c.rows.writer (row_text default_writer (header false)) (flat_map pair_text c.args.rows.now) c.in_ok-write_pair.ensures told fresh in
+    let wrote = writes_then contents first c.write_pair.new.writer c.rows.writer (row_text default_writer (header false)) (flat_map pair_text c.args.rows.now) c.in_ok-write_pair.ensures.written told fresh in
     if_ok c.finish.result _ _ (λ out kept. written_all contents c.args.out out first c.rows.writer (pairs_text c.args.rows.now) c.from_writer-writer.ensures.wtr c.from_writer-writer.ensures.empty wrote.1 kept)
-    c.finish.ensures
+    c.finish.ensures.kept
