@@ -1,7 +1,7 @@
 //! Commands on one file, a line each.
 use crate::fault::Failure;
-use crate::tasks::print_root;
-use mst_commands::{Fault, run};
+use crate::tasks::run_open;
+use mst_commands::Fault;
 use mst_words::verb::{HELP, verb_of};
 use mst_words::{Given, NoWords, Verb, given_of, words_of};
 use sqlite::{Alter, Connection};
@@ -47,14 +47,7 @@ fn run_verb<S: Alter>(
     if let Some(why) = refusal_of(verb, &given) {
         return refuse(rt, why);
     }
-    let done = match verb {
-        Verb::Root => print_root(rt, conn),
-        _ => match run::run(rt, conn, writer, verb, &given) {
-            Ok(()) => Ok(()),
-            Err(fault) => Err(Failure::Command(fault)),
-        },
-    };
-    match done {
+    match run_open(rt, conn, writer, verb, &given) {
         Ok(()) => Ok(true),
         Err(failure) => {
             eprintln!(rt; "mst: {failure}")?;

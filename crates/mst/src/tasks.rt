@@ -2,6 +2,7 @@
 use crate::fault::Failure;
 use crate::files::{make_store, open_file};
 use crate::{peers, shell};
+use merkle_digest::RootHash;
 use merkle_store::Store;
 use merkle_store::upkeep::read_replica;
 use mst_commands::clock::now;
@@ -12,11 +13,28 @@ use sqlite_disk::Disk;
 use std::fs;
 use store_table::table::recognise;
 
-/// Prints the root hash.
-pub fn print_root<S: Alter>(rt: &HostRuntime, conn: &mut Connection<S>) -> Result<(), Failure> {
+/// The root hash of what the file holds.
+fn root_of<S: Alter>(rt: &HostRuntime, conn: &mut Connection<S>) -> Result<RootHash, Failure> {
     let (mut replica, _rows) = read_replica(rt.alloc(), conn)?;
-    let root = replica.root_hash().clone()?;
-    println!(rt; "{root}")?;
+    Ok(replica.root_hash().clone()?)
+}
+
+/// Runs a command on an open database of a store that writes by this name.
+pub fn run_open<S: Alter>(
+    rt: &HostRuntime,
+    conn: &mut Connection<S>,
+    writer: &str,
+    verb: Verb,
+    given: &Given<'_>,
+) -> Result<(), Failure> {
+    if verb == Verb::Root {
+        println!(rt; "{}", root_of(rt, conn)?)?;
+        return Ok(());
+    }
+    run::run(rt, conn, writer, verb, given)?;
+    if verb == Verb::Status {
+        println!(rt; "root {}", root_of(rt, conn)?)?;
+    }
     Ok(())
 }
 
@@ -28,11 +46,10 @@ fn run_lent<S: Alter>(
     given: &Given<'_>,
 ) -> Result<(), Failure> {
     let writer = recognise(conn)?;
-    match verb {
-        Verb::Root => print_root(rt, conn),
-        Verb::Shell => shell::run_lines(rt, conn, writer.as_str()),
-        _ => Ok(run::run(rt, conn, writer.as_str(), verb, given)?),
+    if verb == Verb::Shell {
+        return shell::run_lines(rt, conn, writer.as_str());
     }
+    run_open(rt, conn, writer.as_str(), verb, given)
 }
 
 /// The time that a store is opened at: entries of a peer of up to a day behind it are taken.

@@ -193,7 +193,7 @@ Removes the key. It ends with status 1 where the key isn't there.
 const STATUS_HELP: &str = "\
 usage: mst status FILE
 
-Prints how many keys, removed keys and rows the file has, its writer, its size and the time of the last write.
+Prints how many keys, removed keys and rows the file has, the time of the last write, its writer, its root hash and its size.
 ";
 
 const ROOT_HELP: &str = "\
