@@ -1,7 +1,7 @@
 //! The files of stores.
 use crate::fault::Failure;
 use mst_commands::Fault;
-use sqlite::{Connection, Error, ErrorCode, File, FileStore};
+use sqlite::{Alter, Connection, Error, ErrorCode, File, FileStore};
 use std::fs;
 use std::hash::{BuildHasher, RandomState};
 use std::thread::sleep;
@@ -10,6 +10,18 @@ use store_table::table::create;
 
 /// A database in a file.
 pub type FileConnection = Connection<FileStore<File>>;
+
+/// A database whose files can be closed. What runs over any such one has no file to drop, whose many parts make a function slow to prove.
+pub trait Closing: Sized + Drop {
+    /// Closes the files.
+    fn close_all(self) -> Result<(), Error>;
+}
+
+impl Closing for Connection<FileStore<File>> {
+    fn close_all(self) -> Result<(), Error> {
+        self.close()
+    }
+}
 
 /// Whether there is such a file.
 fn is_there(rt: &HostRuntime, path: &str) -> Result<bool, Fault> {
@@ -55,14 +67,22 @@ fn name_of_copy(rt: &HostRuntime, name: Option<&str>) -> Result<String, Failure>
     Ok(format!(in rt.alloc(); "{number:016x}")?)
 }
 
+/// Makes a store in an empty database, and closes it.
+fn create_on<S: Alter + Drop>(conn: Connection<S>, writer: &str) -> Result<(), Failure>
+where
+    Connection<S>: Closing,
+{
+    let mut conn = conn;
+    let made = create(&mut conn, writer);
+    conn.close_all()?;
+    Ok(made?)
+}
+
 /// Makes a store in a new file.
 pub fn make_store(rt: &HostRuntime, path: &str, writer: Option<&str>) -> Result<(), Failure> {
     if is_there(rt, path)? {
         return Err(Failure::Command(Fault::Exists));
     }
     let writer = name_of_copy(rt, writer)?;
-    let mut conn = Connection::open(rt, path)?;
-    let made = create(&mut conn, writer.as_str());
-    conn.close()?;
-    Ok(made?)
+    create_on(Connection::open(rt, path)?, writer.as_str())
 }

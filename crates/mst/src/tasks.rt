@@ -1,6 +1,6 @@
 //! What each command does.
 use crate::fault::Failure;
-use crate::files::{make_store, open_file};
+use crate::files::{Closing, make_store, open_file};
 use crate::{peers, shell};
 use merkle_digest::RootHash;
 use merkle_store::Store;
@@ -8,8 +8,7 @@ use merkle_store::upkeep::read_replica;
 use mst_commands::clock::now;
 use mst_commands::run;
 use mst_words::{Given, Verb};
-use sqlite::{Alter, Connection, FileStore};
-use sqlite_disk::Disk;
+use sqlite::{Alter, Connection};
 use std::fs;
 use store_table::table::recognise;
 
@@ -62,12 +61,15 @@ fn time_of(rt: &HostRuntime, given: &Given<'_>) -> Result<u64, Failure> {
 }
 
 /// Runs a command of a peer on a file that is opened at this time.
-fn run_peer<D: Disk + Drop>(
+fn run_peer<S: Alter + Drop>(
     rt: &HostRuntime,
-    conn: Connection<FileStore<D>>,
+    conn: Connection<S>,
     verb: Verb,
     latest: u64,
-) -> Result<(), Failure> {
+) -> Result<(), Failure>
+where
+    Connection<S>: Closing,
+{
     let mut store = merkle_store::store::open(rt.alloc(), conn, latest)?;
     if verb == Verb::Pull {
         return run_pull(rt, store);
@@ -77,16 +79,38 @@ fn run_peer<D: Disk + Drop>(
     } else {
         peers::diff(rt, &mut store)
     };
-    store.into_connection().close()?;
+    store.into_connection().close_all()?;
     done
 }
 
 /// Brings what a peer has, and says what that was once the file is closed.
-fn run_pull<D: Disk + Drop>(rt: &HostRuntime, store: Store<FileStore<D>>) -> Result<(), Failure> {
+fn run_pull<S: Alter + Drop>(rt: &HostRuntime, store: Store<S>) -> Result<(), Failure>
+where
+    Connection<S>: Closing,
+{
     let mut store = store;
     let pulled = peers::pull(rt, &mut store);
-    store.into_connection().close()?;
+    store.into_connection().close_all()?;
     peers::tell(rt, &pulled?)
+}
+
+/// Runs a command on a database that is open, and closes it.
+fn run_on<S: Alter + Drop>(
+    rt: &HostRuntime,
+    conn: Connection<S>,
+    verb: Verb,
+    given: &Given<'_>,
+) -> Result<(), Failure>
+where
+    Connection<S>: Closing,
+{
+    let mut conn = conn;
+    if let Verb::Serve | Verb::Pull | Verb::Diff = verb {
+        return run_peer(rt, conn, verb, time_of(rt, given)?);
+    }
+    let done = run_lent(rt, &mut conn, verb, given);
+    conn.close_all()?;
+    done
 }
 
 /// Prints how many bytes a file has.
@@ -101,13 +125,7 @@ pub fn run(rt: &HostRuntime, verb: Verb, path: &str, given: &Given<'_>) -> Resul
     if verb == Verb::Init {
         return make_store(rt, path, given.writer);
     }
-    let mut conn = open_file(rt, path, given.wait)?;
-    if let Verb::Serve | Verb::Pull | Verb::Diff = verb {
-        return run_peer(rt, conn, verb, time_of(rt, given)?);
-    }
-    let done = run_lent(rt, &mut conn, verb, given);
-    conn.close()?;
-    done?;
+    run_on(rt, open_file(rt, path, given.wait)?, verb, given)?;
     if verb == Verb::Status {
         print_size(rt, path)?;
     }
