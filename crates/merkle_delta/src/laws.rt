@@ -3,7 +3,7 @@
 ghost use Rattle.std.specs.Prelude.{◌+◌, ◌≤◌, ℕ, List, length};
 ghost use Rattle.std.specs.List.{concat};
 ghost use Rattle.merkle_delta.specs.Deltas.{IsDeltaOver};
-ghost use Rattle.merkle_delta.specs.Sessions.{ExchangesArePlain, SessionsArePlain};
+ghost use Rattle.merkle_delta.specs.Sessions.{AnswersTell, ExchangesArePlain, SessionsArePlain};
 
 use merkle_bytes::Decode;
 use merkle_digest::{Hasher, Key};
@@ -12,13 +12,16 @@ use merkle_replica::{Join, Lawful};
 /// A session by deltas is a plain one, whatever carries the messages: where each message is answered as [`answer`](crate::answer) does, each reply taken as
 /// [`CatchingUp::take`](crate::CatchingUp::take) does, and no two plain replies of which a delta tells one have one digest, each exchange is a plain one, or
 /// the question is asked again, plainly (`exchanges`); and where rows come they are those of a plain session (`sessions`), of which
-/// [`a_session_is_a_catch_up`](merkle_wire::laws::a_session_is_a_catch_up) says that they are what the side lacks.
+/// [`a_session_is_a_catch_up`](merkle_wire::laws::a_session_is_a_catch_up) says that they are what the side lacks. What [`answer`](crate::answer) says of
+/// its reply is what an exchange wants of it (`answers`), by a tree of the peer's map, as
+/// [`Replica::tree`](merkle_replica::Replica::tree) and [`every_tree_is_sound`](merkle_search_tree::laws::every_tree_is_sound) have it.
 pub fn a_session_by_deltas_is_a_session<
     K: Key + Decode,
     V: Join + Decode,
     H: Hasher<N, K> + Hasher<N, V>,
     const N: usize,
 >()
+    ensures answers { AnswersTell ⟦<H as Lawful<N, K, V>>⟧.laws N K.encoding V.encoding }
     ensures exchanges { ExchangesArePlain ⟦<H as Lawful<N, K, V>>⟧.laws N K.encoding V.encoding }
     ensures sessions { SessionsArePlain ⟦<H as Lawful<N, K, V>>⟧.laws N K.encoding V.encoding }
 {}

@@ -18,7 +18,7 @@ returns-in_err-plain-clause-malformed g c =
       asks_plainly_nothing g.K.Encode.encoding g.K.Decode.is_value c.args.message.now asked c.in-Some.ensures,
       λ checksums question each is.
           let told = counts_told c.in_ok-checksums.checksums.items checksums left question (sym read ∙ asked_alone asked checksums question (sym c.in-Some.ensures ∙ is)) in
-          subst (AsksNothing g.K.Encode.encoding g.K.Decode.is_value) told (c.in_err-plain.ensures.malformed unread),
+          subst (AsksNothing g.K.Encode.encoding g.K.Decode.is_value) told.1 (c.in_err-plain.ensures.malformed unread),
     ))
 
 pub returns-in_err-add_delta-clause-malformed : goal.returns-in_err-add_delta-clause-malformed
