@@ -3,3 +3,5 @@ pub mod Latest
 pub mod Agreeing
 pub mod Found
 pub mod SomeNews
+pub mod Messages
+pub mod Exchanged

@@ -1,3 +1,5 @@
 pub mod Kept
+pub mod Framing
+pub mod Sessions
 pub mod Pulls
 pub mod Writes

@@ -4,10 +4,12 @@ use Rattle.key_order.specs.Text.{Text}
 use Rattle.sqlite.specs.Effect.{Database}
 use Rattle.sqlite.specs.Held.{Held, state}
 use Rattle.sqlite.specs.Store.{Ghosts}
-use Rattle.store_table.specs.Connections.{database, IsClean}
+use Rattle.store_table.specs.Connections.{database, HasStore, IsClean}
 use Rattle.store_table.specs.declared.fault.StoreFault.TheVariants.{Behind}
 use Rattle.store_table.specs.declared.register.Register.{Register}
+use Rattle.merkle_store.specs.Framing.{Streams}
 use Rattle.merkle_store.specs.Kept.{HasJoined}
+use Rattle.merkle_store.specs.Sessions.{CatchesUp}
 use Rattle.merkle_store.specs.Writes.{later_entries, AreTimely, HasNews}
 use Rattle.merkle_store.specs.declared.pulling.Brought.{Brought}
 use Rattle.merkle_store.specs.declared.pulling.PullFault.{PullFault}
@@ -15,21 +17,27 @@ use Rattle.merkle_store.specs.declared.pulling.PullFault.TheVariants as fault
 use Rattle.merkle_store.specs.declared.store.Store.{Store}
 
 module _ {S : Type 0} (store : Store S) where
-  -- of some entries these are later than what the store has for their keys, and none is from the future
-  abbrev pub AreNews : List (Text × Register) → Type 0
-  AreNews news = (came : List (Text × Register)) × (news ≡ later_entries store.replica.rows came) × AreTimely store.latest came
+  -- these are later than what the store has for their keys, of the entries that came of a catch-up over the streams, and none is from the future
+  pub record AreNews (before after : Streams) (news : List (Text × Register)) : Type 0 where
+    pub came : List (Text × Register)
+    pub caught_up : CatchesUp store.replica before after came
+    pub timely : AreTimely store.latest came
+    pub later : news ≡ later_entries store.replica.rows came
 
   -- the file has a row more for each of some entries that is later than what the store has for its key
   abbrev pub HasSomeNews : Database → Database → Type 0
   HasSomeNews before after = (came : List (Text × Register)) × HasNews store came before after
 
-  -- entries came, none from the future, so many of them later than what the store has; and the rows are the join of its own with all of them
-  pub record HasBrought (brought : Brought) (rows : List (Text × Register)) : Type 0 where
-    pub came : List (Text × Register)
-    pub timely : AreTimely store.latest came
-    pub entries : brought.entries ≡ length came
-    pub news : brought.news ≡ length (later_entries store.replica.rows came)
-    pub joined : HasJoined store.replica.rows came rows
+-- of a catch-up over the streams entries came, none from the future, so many of them later than what the store has; the rows are the join of its own with
+-- all of them, and the file has a row more for each that is later
+pub record HasBrought {S : Type 0} (g : Ghosts S) (old new : Store S) (before after : Streams) (brought : Brought) : Type 0 where
+  pub came : List (Text × Register)
+  pub caught_up : CatchesUp old.replica before after came
+  pub timely : AreTimely old.latest came
+  pub entries : brought.entries ≡ length came
+  pub news : brought.news ≡ length (later_entries old.replica.rows came)
+  pub joined : HasJoined old.replica.rows came new.replica.rows
+  pub added : HasStore g old.conn → IsClean g new.conn → HasNews old came (database g old.conn) (database g new.conn)
 
 -- the file has what came, and memory was refused for the rows in memory
 abbrev pub IsBehind : PullFault → Type 0

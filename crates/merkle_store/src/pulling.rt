@@ -1,8 +1,12 @@
 //! A pull over a pair of pipes or a socket, from both sides.
 ghost use Rattle.std.specs.Prelude.{◌≡◌, IfOk, IfErr, OnOk};
-ghost use Rattle.store_table.specs.Connections.{HasStore, IsClean, Makes, Leaves};
+ghost use Rattle.std.specs.Io.KnownBytes.{Appends, Consumes, IsAtEnd};
+ghost use Rattle.merkle_tree_theory.specs.State.{SameSettings};
+ghost use Rattle.store_table.specs.Connections.{HasStore, IsClean, Leaves};
+ghost use Rattle.merkle_store.specs.Framing.{framed};
 ghost use Rattle.merkle_store.specs.Kept.{IsInStep, StaysSet};
 ghost use Rattle.merkle_store.specs.Pulls.{AreNews, HasBrought, HasSomeNews, IsBehind, StaysUnlessPulled};
+ghost use Rattle.merkle_store.specs.Sessions.{CatchesUp, HasServed};
 
 use crate::fault::StoreFault;
 use crate::framing::{ANSWER_BYTES, Watch, receive, send};
@@ -10,6 +14,7 @@ use crate::store::Store;
 use crate::upkeep::EntryReplica;
 use crate::wire::WireFault;
 use merkle_delta::{CatchingUp, Next, answer_within};
+use merkle_search_tree::laws::every_tree_is_sound;
 use merkle_wire::refusal;
 use sqlite::Alter;
 use std::alloc::Global;
@@ -110,7 +115,10 @@ fn ask<R: Read, W: Write, P: Watch>(
     most: u64,
     watch: &mut P,
     message: &[u8],
-) -> Result<Vec<u8>, WireFault> {
+) -> Result<Vec<u8>, WireFault>
+    ensures sent { OnOk result (Appends (W.contents to.old) (W.contents to.new) (framed message.now)) }
+    ensures came { IfOk result (λ reply. Consumes (R.remaining from.old) (R.remaining from.new) (framed reply.items)) }
+{
     send(alloc, to, message)?;
     match receive(alloc, from, most, watch)? {
         Some(reply) => Ok(reply),
@@ -127,7 +135,10 @@ fn entries_of_peer<R: Read, W: Write, P: Watch>(
     most: u64,
     watch: &mut P,
 ) -> Result<(Entries, Traffic), WireFault>
-    ensures { replica.new.rows ≡ replica.old.rows }
+    ensures came { IfOk result (λ came. CatchesUp replica.old (W.contents to.old, R.remaining from.old)
+        (W.contents to.new, R.remaining from.new) came.0.items) }
+    ensures rows { replica.new.rows ≡ replica.old.rows }
+    ensures settings { SameSettings replica.old.tree replica.new.tree }
 {
     let (session, message) = CatchingUp::begin(alloc, replica)?;
     let mut session = session;
@@ -160,7 +171,8 @@ pub fn look<S: Alter + Drop, R: Read, W: Write, P: Watch>(
     most: u64,
     watch: &mut P,
 ) -> Result<Entries, PullFault>
-    ensures news { IfOk result (λ news. AreNews store.old news.items) }
+    ensures news { IfOk result (λ news. AreNews store.old (W.contents to.old, R.remaining from.old)
+        (W.contents to.new, R.remaining from.new) news.items) }
     ensures rows { store.new.replica.rows ≡ store.old.replica.rows }
     ensures file { store.new.conn ≡ store.old.conn }
     ensures settings { StaysSet store.old store.new }
@@ -184,8 +196,8 @@ pub fn pull<S: Alter + Drop, R: Read, W: Write, P: Watch>(
     watch: &mut P,
 ) -> Result<Brought, PullFault>
     ensures kept { IsClean S.Store store.new.conn → IsInStep S.Store store.old → OnOk result (IsInStep S.Store store.new) }
-    ensures brought { IfOk result (λ brought. HasBrought store.old brought store.new.replica.rows) }
-    ensures added { Makes S.Store store.old.conn store.new.conn result (HasSomeNews store.old) }
+    ensures brought { IfOk result (HasBrought S.Store store.old store.new (W.contents to.old, R.remaining from.old)
+        (W.contents to.new, R.remaining from.new)) }
     ensures settings { StaysSet store.old store.new }
 
     // Refused, the rows in memory stay, and the file's too, but for `Behind`.
@@ -219,6 +231,9 @@ pub fn serve<S: Alter + Drop, R: Read, W: Write, P: Watch>(
     most: u64,
     watch: &mut P,
 ) -> Result<Traffic, WireFault>
+    ensures served { OnOk result (HasServed store.old.replica (W.contents to.old, R.remaining from.old)
+        (W.contents to.new, R.remaining from.new)) }
+    ensures ended { OnOk result (IsAtEnd (R.remaining from.new)) }
     ensures rows { store.new.replica.rows ≡ store.old.replica.rows }
     ensures file { store.new.conn ≡ store.old.conn }
 {
@@ -230,6 +245,7 @@ pub fn serve<S: Alter + Drop, R: Read, W: Write, P: Watch>(
         };
         match answer_within(alloc, &mut store.replica, &message, ANSWER_BYTES) {
             Ok(reply) => {
+                every_tree_is_sound(store.replica.tree());
                 send(alloc, to, &reply)?;
                 traffic = traffic.with(reply.len(), message.len());
             }
@@ -239,5 +255,5 @@ pub fn serve<S: Alter + Drop, R: Read, W: Write, P: Watch>(
             }
         }
     }
-    Ok(traffic)
+    Err(WireFault::Endless)
 }

@@ -1,0 +1,18 @@
+-- How messages go over a pair of pipes or a socket.
+use Rattle.std.specs.Prelude.{ℕ, List, [], ◌++◌, length, Option, None, Some}
+use Rattle.std.specs.Global.{Vec}
+use Rattle.std.specs.Int.{w64, to_le_bytes}
+use Rattle.std.specs.Io.KnownBytes.{Consumes, IsAtEnd}
+
+-- a message behind its length, which has eight bytes, the lowest first
+abbrev pub framed : List ℕ → List ℕ
+framed message = to_le_bytes w64 (length message) ++ message
+
+-- what was written to one stream, and what is to be read from the other, where they are known
+abbrev pub Streams : Type 0
+Streams = Option (List ℕ) × Option (List ℕ)
+
+-- the next message was read; or none, since nothing is left to be read
+abbrev pub HasCome : Option (List ℕ) → Option (List ℕ) → Option (Vec ℕ) → Type 0
+HasCome before after None = Consumes before after [] × IsAtEnd after
+HasCome before after (Some message) = Consumes before after (framed message.items)
