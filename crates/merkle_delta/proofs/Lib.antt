@@ -6,3 +6,4 @@ pub mod Asking
 pub mod Answered
 pub mod Plain
 pub mod Taking
+pub mod Exchanging

@@ -6,3 +6,4 @@ pub mod Messages
 pub mod CatchUps
 pub mod Sessions
 pub mod Underway
+pub mod Exchanges

@@ -3,11 +3,13 @@
 ghost use Rattle.std.specs.Prelude.{◌+◌, ◌≤◌, ℕ, List, length};
 ghost use Rattle.std.specs.List.{concat};
 ghost use Rattle.merkle_delta.specs.Deltas.{IsDeltaOver};
+ghost use Rattle.merkle_delta.specs.Exchanges.{RepliesBring};
 ghost use Rattle.merkle_delta.specs.Sessions.{AnswersTell, ExchangesArePlain, SessionsArePlain};
 
 use merkle_bytes::Decode;
 use merkle_digest::{Hasher, Key};
 use merkle_replica::{Join, Lawful};
+use merkle_wire::laws::a_session_is_a_catch_up;
 
 /// A session by deltas is a plain one, whatever carries the messages: where each message is answered as [`answer`](crate::answer) does, each reply taken as
 /// [`CatchingUp::take`](crate::CatchingUp::take) does, and no two plain replies of which a delta tells one have one digest, each exchange is a plain one, or
@@ -25,6 +27,20 @@ pub fn a_session_by_deltas_is_a_session<
     ensures exchanges { ExchangesArePlain ⟦<H as Lawful<N, K, V>>⟧.laws N K.encoding V.encoding }
     ensures sessions { SessionsArePlain ⟦<H as Lawful<N, K, V>>⟧.laws N K.encoding V.encoding }
 {}
+
+/// A catch-up brings what is lacked, whatever carries its messages: where the first is that of [`begin`](crate::CatchingUp::begin), each is replied to as
+/// [`answer`](crate::answer) does by a tree of the peer's map, each reply taken as [`take`](crate::CatchingUp::take) does, until rows come, and no two plain
+/// replies of which a delta tells one have one digest. The rows are the peer's, new to the side, and while digests are faithful all that it lacks.
+pub fn replies_bring_what_is_lacked<
+    K: Key + Decode,
+    V: Join + Decode,
+    H: Hasher<N, K> + Hasher<N, V>,
+    const N: usize,
+>()
+    ensures { RepliesBring ⟦<H as Lawful<N, K, V>>⟧.laws N K.encoding V.encoding }
+{
+    a_session_is_a_catch_up::<K, V, H, N>();
+}
 
 /// What a delta tells has at most as many bytes as the chunks and the delta have together, whoever made it.
 pub fn a_delta_is_bounded()
