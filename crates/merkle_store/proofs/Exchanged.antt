@@ -9,13 +9,14 @@ use Rattle.key_order.specs.Text.{Text}
 use Rattle.key_order.proofs.ListParts.{each-append}
 use Rattle.merkle_replica.specs.Contents.{side}
 use Rattle.merkle_delta.specs.CatchUps.{IsNext}
+use Rattle.merkle_delta.specs.Exchanges.{Begins, Exchanges, IsReplyBy, LeadTo}
 use Rattle.merkle_delta.specs.Underway.{Underway}
 use Rattle.merkle_delta.specs.declared.catching_up.Next.{Next}
 use Rattle.merkle_delta.specs.declared.catching_up.Next.TheVariants.{Ask, Came}
 use Rattle.store_table.specs.WireRegisters.{register_encoding}
 use Rattle.store_table.specs.declared.register.Register.{Register}
 use Rattle.merkle_store.specs.Framing.{Streams, framed}
-use Rattle.merkle_store.specs.Sessions.{EntryContents, entry_laws, key_encoding, Exchanges, all_asked, all_told, Begins, LeadTo, CatchesUp, IsReplyBy, HasServed}
+use Rattle.merkle_store.specs.Sessions.{EntryContents, entry_laws, key_encoding, all_asked, all_told, CatchesUp, HasServed}
 
 -- bytes that were read before one more exchange, and with it
 all_read : (f : List ℕ × List ℕ → List ℕ) (a b c : Option (List ℕ)) (exchanges : Exchanges) (one : List ℕ × List ℕ)
@@ -32,15 +33,15 @@ module _ (replica : EntryContents) (before : Streams) where
   pub record HasComeTo (after : Streams) (underway : Underway Text Register) (message : Vec ℕ) : Type 0 where
     pub first : Underway Text Register
     pub opening : Vec ℕ
-    pub begins : Begins replica first opening.items
+    pub begins : Begins entry_laws 16 key_encoding replica first opening.items
     pub exchanges : Exchanges
-    pub leads : (entries : List (Text × Register)) (others : Exchanges) → LeadTo (side replica) entries others (Ask underway message)
-        → LeadTo (side replica) entries (exchanges ++ others) (Ask first opening)
+    pub leads : (entries : List (Text × Register)) (others : Exchanges) → LeadTo entry_laws 16 key_encoding register_encoding (side replica) entries others (Ask underway message)
+        → LeadTo entry_laws 16 key_encoding register_encoding (side replica) entries (exchanges ++ others) (Ask first opening)
     pub asked : Appends before.0 after.0 (all_asked exchanges)
     pub told : Consumes before.1 after.1 (all_told exchanges)
 
   -- none did yet
-  pub has_begun : (underway : Underway Text Register) (message : Vec ℕ) → Begins replica underway message.items → HasComeTo before underway message
+  pub has_begun : (underway : Underway Text Register) (message : Vec ℕ) → Begins entry_laws 16 key_encoding replica underway message.items → HasComeTo before underway message
   has_begun underway message begins = record {
     first = underway;
     opening = message;
@@ -61,7 +62,7 @@ module _ (replica : EntryContents) (before : Streams) where
       opening = come.opening;
       begins = come.begins;
       exchanges = come.exchanges ++ (message.items, reply) ∷ [];
-      leads = λ entries others leads. subst (λ es. LeadTo (side replica) entries es (Ask come.first come.opening))
+      leads = λ entries others leads. subst (λ es. LeadTo entry_laws 16 key_encoding register_encoding (side replica) entries es (Ask come.first come.opening))
           (sym (append_assoc come.exchanges ((message.items, reply) ∷ []) others)) (come.leads entries ((message.items, reply) ∷ others) (refl, Ask next question, is, leads));
       asked = all_written (λ e. framed e.0) before.0 mid.0 after.0 come.exchanges (message.items, reply) come.asked sent;
       told = all_read (λ e. framed e.1) before.1 mid.1 after.1 come.exchanges (message.items, reply) come.told came;
@@ -82,14 +83,14 @@ module _ (replica : EntryContents) (before : Streams) where
 
   -- no message was answered yet
   pub has_served_none : HasServed replica before before
-  has_served_none = record { exchanges = []; answers = tt; asked = Consumes-nil before.1; told = Appends-nil before.0 }
+  has_served_none = record { exchanges = []; replies = tt; asked = Consumes-nil before.1; told = Appends-nil before.0 }
 
   -- one more was
-  pub has_served_more : (mid after : Streams) (message reply : List ℕ) → HasServed replica before mid → IsReplyBy replica message reply
+  pub has_served_more : (mid after : Streams) (message reply : List ℕ) → HasServed replica before mid → IsReplyBy entry_laws 16 key_encoding register_encoding replica message reply
       → Consumes mid.1 after.1 (framed message) → Appends mid.0 after.0 (framed reply) → HasServed replica before after
   has_served_more mid after message reply served is came sent = record {
     exchanges = served.exchanges ++ (message, reply) ∷ [];
-    answers = each-append (λ e. IsReplyBy replica e.0 e.1) served.exchanges ((message, reply) ∷ []) served.answers (is, tt);
+    replies = each-append (λ e. IsReplyBy entry_laws 16 key_encoding register_encoding replica e.0 e.1) served.exchanges ((message, reply) ∷ []) served.replies (is, tt);
     asked = all_read (λ e. framed e.0) before.1 mid.1 after.1 served.exchanges (message, reply) served.asked came;
     told = all_written (λ e. framed e.1) before.0 mid.0 after.0 served.exchanges (message, reply) served.told sent;
   }
@@ -98,7 +99,7 @@ module _ (replica : EntryContents) (before : Streams) where
   pub has_served_all : (mid after : Streams) → HasServed replica before mid → Consumes mid.1 after.1 [] → after.0 ≡ mid.0 → HasServed replica before after
   has_served_all mid after served none same = record {
     exchanges = served.exchanges;
-    answers = served.answers;
+    replies = served.replies;
     asked = subst (Consumes before.1 after.1) (append-nil (all_asked served.exchanges)) (Consumes-trans before.1 mid.1 after.1 _ _ served.asked none);
     told = subst (λ w. Appends before.0 w (all_told served.exchanges)) (sym same) served.told;
   }

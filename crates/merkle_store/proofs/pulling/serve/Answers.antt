@@ -1,6 +1,7 @@
 use Rattle.std.proofs.Common.{◌≡◌, refl, subst, ◌∙◌}
 use Rattle.std.specs.Io.KnownBytes.{Appends}
 use Rattle.key_order.specs.Text.{text_order}
+use Rattle.merkle_delta.specs.Exchanges.{IsReplyBy}
 use Rattle.merkle_delta.specs.Messages.{IsAnswered}
 use Rattle.merkle_digest.specs.Level.{level_of}
 use Rattle.merkle_digest.specs.SipDigests.{text_digest}
@@ -10,7 +11,7 @@ use Rattle.merkle_tree_theory.specs.Canonical.{IsCanonicalRoot, IsTreeOf}
 use Rattle.merkle_tree_theory.specs.State.{SameSettings}
 use Rattle.store_table.specs.WireRegisters.{register_encoding}
 use Rattle.merkle_store.specs.Framing.{HasCome, framed}
-use Rattle.merkle_store.specs.Sessions.{entry_laws, key_encoding, IsReplyBy}
+use Rattle.merkle_store.specs.Sessions.{entry_laws, key_encoding}
 use Rattle.merkle_store.proofs.Exchanged.{has_served_more}
 use Rattle.merkle_store.proofs.pulling.serve.Goals as goal
 
@@ -26,7 +27,7 @@ messages-preserved g c =
     let rows : after.rows ≡ replica.rows = new.rows ∙ inv.rows in
     let settings : SameSettings replica.tree after.tree = (new.settings.0 ∙ inv.settings.0, new.settings.1 ∙ inv.settings.1, new.settings.2 ∙ inv.settings.2) in
     let canonical = subst (λ t. IsCanonicalRoot (λ k. level_of (text_digest t.hasher k) t.base) t.root) c.tree.ensures.tree c.every_tree_is_sound.ensures.sound.canonical in
-    let answers : IsReplyBy replica message reply = record {
+    let replies : IsReplyBy entry_laws 16 key_encoding register_encoding replica message reply = record {
       before = before;
       after = after;
       bytes = c.in-Ok.reply;
@@ -38,7 +39,7 @@ messages-preserved g c =
     } in
     record {
       served = has_served_more replica (g.W.Write.contents c.args.to.now, g.R.Read.remaining c.args.from.now) (g.W.Write.contents c.messages.to, g.R.Read.remaining c.messages.from)
-          (g.W.Write.contents c.send.new.out, g.R.Read.remaining c.receive.new.from) message reply inv.served answers
+          (g.W.Write.contents c.send.new.out, g.R.Read.remaining c.receive.new.from) message reply inv.served replies
           (subst (HasCome (g.R.Read.remaining c.messages.from) (g.R.Read.remaining c.receive.new.from)) c.in-Some.is c.in_ok-message.ensures.came)
           (subst (λ m. Appends (g.W.Write.contents c.messages.to) (g.W.Write.contents c.send.new.out) (framed m)) c.deref-in-Ok.ensures.value c.in_ok-send-in-Ok.ensures.sent);
       rows = rows;
