@@ -53,11 +53,21 @@ fn goes_as_said(
     peer_format: PageFormat,
     case: &Case,
 ) -> Result<bool, Fail> {
-    let (local_keys, peer_keys, wanted, joined, after) = *case;
-    let mut local = numbers(alloc, local_format, local_keys)?;
-    let mut peer = numbers(alloc, peer_format, peer_keys)?;
-    let is_pulled = pulls(alloc, &mut local, &mut peer, wanted, joined)?;
-    let are_rows = is_set_of(alloc, &local, after)? && is_set_of(alloc, &peer, peer_keys)?;
+    let mut local = numbers(alloc, local_format, case.0)?;
+    let mut peer = numbers(alloc, peer_format, case.1)?;
+    goes_between(alloc, &mut local, &mut peer, case)
+}
+
+/// The same of two sides at hand.
+fn goes_between(
+    alloc: Global,
+    local: &mut Numbers,
+    peer: &mut Numbers,
+    case: &Case,
+) -> Result<bool, Fail> {
+    let (_, peer_keys, wanted, joined, after) = *case;
+    let is_pulled = pulls(alloc, local, peer, wanted, joined)?;
+    let are_rows = is_set_of(alloc, local, after)? && is_set_of(alloc, peer, peer_keys)?;
     Ok(is_pulled && are_rows && local.root_hash() != peer.root_hash())
 }
 

@@ -1,6 +1,6 @@
 //! The three steps of a pull, with page ranges and rows that were copied in between, as over a wire.
 
-use crate::mixed_formats::{CASES, is_set_of};
+use crate::mixed_formats::{CASES, Case, is_set_of};
 use crate::turns::{Numbers, add_ranges, numbers};
 use merkle_diff::PageRangeSnapshot;
 use merkle_replica::JoinRefused;
@@ -67,18 +67,31 @@ fn go_as_said(
     Ok(is_joined && count == joined && text.as_str() == wanted && is_set_of(alloc, local, after)?)
 }
 
+/// Whether they do as a case says between sides in these formats.
+fn go_between(
+    alloc: Global,
+    first: PageFormat,
+    second: PageFormat,
+    case: &Case,
+) -> Result<bool, Fail> {
+    let (local_keys, peer_keys, wanted, joined, after) = *case;
+    let mut local = numbers(alloc, first, local_keys)?;
+    let mut peer = numbers(alloc, second, peer_keys)?;
+    go_as_said(alloc, &mut local, &mut peer, wanted, joined, after)
+}
+
 #[test]
 fn steps_go_as_a_pull(rt: HostRuntime) -> Result<(), Fail> {
-    for (local_keys, peer_keys, wanted, joined, after) in CASES {
+    for case in &CASES {
         for (first, second) in [
             (PageFormat::V1, PageFormat::V2),
             (PageFormat::V2, PageFormat::V1),
         ] {
-            let mut local = numbers(rt.alloc(), first, local_keys)?;
-            let mut peer = numbers(rt.alloc(), second, peer_keys)?;
             assert!(rt;
-                go_as_said(rt.alloc(), &mut local, &mut peer, wanted, joined, after)?,
-                "{local_keys} | {peer_keys}"
+                go_between(rt.alloc(), first, second, case)?,
+                "{} | {}",
+                case.0,
+                case.1
             );
         }
     }

@@ -351,7 +351,7 @@ fn later_replies_that_are_refused(rt: HostRuntime) -> Result<(), Fail> {
     Ok(())
 }
 
-/// What a session asks behind replies, or how many rows come, so that the refusals above are of what they say: rows at the keys that were asked for are
+/// What a session asks behind replies, so that the refusals above are of what they say: rows at the keys that were asked for are
 /// told without a key, so a row at another can't be said.
 #[test]
 fn sessions_that_go_on(rt: HostRuntime) -> Result<(), Fail> {
@@ -373,12 +373,37 @@ fn sessions_that_go_on(rt: HostRuntime) -> Result<(), Fail> {
         let wanted = Found::Asks(bytes_of(alloc, case.1)?);
         assert!(rt; after(alloc, &mut local, case.0)? == wanted, "{}", case.1);
     }
-    assert!(rt; after(alloc, &mut local, &["0181 00 00"])? == Found::Came(0));
-    assert!(rt; after(alloc, &mut local, &[ROOT, "0182 00 00"])? == Found::Came(0));
-    assert!(rt; after(alloc, &mut local, &[ROOT, EIGHT, DIGEST, "0184 01 05"])? == Found::Came(1));
-    assert!(rt;
-        after(alloc, &mut local, &[MANY, "0185 02 02 0101 09 11 08 05 01"])? == Found::Came(1)
-    );
+    assert!(rt; is_as_before(&local));
+    Ok(())
+}
+
+/// Whether so many rows come behind replies.
+fn end_with(
+    alloc: Global,
+    local: &mut Bytes,
+    replies: &[&str],
+    count: usize,
+) -> Result<bool, Fail> {
+    match after(alloc, local, replies)? {
+        Found::Came(rows) => Ok(rows == count),
+        _ => Ok(false),
+    }
+}
+
+/// How many rows come behind replies.
+#[test]
+fn sessions_that_end(rt: HostRuntime) -> Result<(), Fail> {
+    let alloc = rt.alloc();
+    let mut local = three(alloc)?;
+    let cases: [(&[&str], usize); 4] = [
+        (&["0181 00 00"], 0),
+        (&[ROOT, "0182 00 00"], 0),
+        (&[ROOT, EIGHT, DIGEST, "0184 01 05"], 1),
+        (&[MANY, "0185 02 02 0101 09 11 08 05 01"], 1),
+    ];
+    for case in &cases {
+        assert!(rt; end_with(alloc, &mut local, case.0, case.1)?);
+    }
     assert!(rt; is_as_before(&local));
     Ok(())
 }

@@ -77,6 +77,27 @@ fn animals<V: Join + HashBytes + Copy + Drop>(
     Ok(replica)
 }
 
+/// Whether bytes are these, in hex.
+fn is_hex(alloc: Global, bytes: &[u8], hex: &str) -> Result<bool, Fail> {
+    let wanted = bytes_of(alloc, hex)?;
+    Ok(*bytes == *wanted.as_slice())
+}
+
+/// The reply of a peer to a message, or none where one of them is another than in this step.
+fn reply_of<V: Join + HashBytes + Decode + Copy>(
+    alloc: Global,
+    peer: &mut Animals<V>,
+    message: &[u8],
+    most_bytes: usize,
+    step: &(&str, &str),
+) -> Result<Option<Vec<u8>>, Fail> {
+    let reply = answer_within(alloc, peer, message, most_bytes)?;
+    if is_hex(alloc, message, step.0)? && is_hex(alloc, &reply, step.1)? {
+        return Ok(Some(reply));
+    }
+    Ok(None)
+}
+
 /// Whether a session has these messages and replies, where a reply ends at so many bytes, and brings these rows in the end.
 fn plays<V: Join + HashBytes + Decode + Copy>(
     alloc: Global,
@@ -86,15 +107,26 @@ fn plays<V: Join + HashBytes + Decode + Copy>(
     brings: &[(&str, V)],
 ) -> Result<bool, Fail> {
     let (mut local, mut peer) = sides;
-    let (session, message) = CatchingUp::begin(alloc, &local)?;
+    play(alloc, &mut local, &mut peer, most_bytes, steps, brings)
+}
+
+/// The same of two sides at hand.
+fn play<V: Join + HashBytes + Decode + Copy>(
+    alloc: Global,
+    local: &mut Animals<V>,
+    peer: &mut Animals<V>,
+    most_bytes: usize,
+    steps: &[(&str, &str)],
+    brings: &[(&str, V)],
+) -> Result<bool, Fail> {
+    let (session, message) = CatchingUp::begin(alloc, local)?;
     let mut session = session;
     let mut message = message;
     for step in steps {
-        let reply = answer_within(alloc, &mut peer, &message, most_bytes)?;
-        if message != bytes_of(alloc, step.0)? || reply != bytes_of(alloc, step.1)? {
+        let Some(reply) = reply_of(alloc, peer, &message, most_bytes, step)? else {
             return Ok(false);
-        }
-        match session.take(&mut local, &reply)? {
+        };
+        match session.take(local, &reply)? {
             Next::Ask(next, ask) => {
                 session = next;
                 message = ask;
