@@ -1,10 +1,11 @@
 -- The engine: what a line is answered, and the state that it leaves.
-use Rattle.std.specs.Prelude.{◌≡◌, ◌≢◌, ℕ, Bool, if◌then◌else◌, ◌<◌, List, [], ◌∷◌, ◌⊎◌, map, length, codes}
+use Rattle.std.specs.Prelude.{◌≡◌, ◌≢◌, ℕ, Bool, if◌then◌else◌, ◌<◌, List, [], ◌∷◌, ◌⊎◌, map, length, codes, Option, Result}
 use Rattle.key_order.specs.Interval.{Span}
 use Rattle.key_order.specs.Text.{Text}
 use Rattle.merkle_digest.specs.Digest.{base64_of}
 use Rattle.merkle_diff.specs.Entry.{span_of}
 use Rattle.merkle_tree_theory.specs.declared.page_format.PageFormat.{PageFormat}
+use Rattle.mst_pair.specs.Devices.{Writes}
 use Rattle.mst_pair.specs.Pages.{page_ranges, root_digest, text_laws, side_of}
 use Rattle.merkle_replica.specs.Contents.{Side}
 use Rattle.merkle_replica.specs.Pulls.{Answer, IsAnswerFor, IsPull, IsPartOfPull, IsByTurns}
@@ -86,3 +87,16 @@ Answers old (set_format format) reply new =
 -- from old, a line may get this reply and leave new
 abbrev pub Step : Replicas → List ℕ → List ℕ → Replicas → Type 0
 Step old line reply new = ((q : Request) × IsSpelled q line × Answers old q reply new) ⊎ (IsBad line × (reply ≡ text_line (codes "bad line")) × (new ≡ old))
+
+-- a call writes the ranges of the pages that show rows, or that memory was refused
+abbrev pub WritesPages : {A E : Type 0} → PageFormat → List TextRow → Result A E → Option (List ℕ) → Option (List ℕ) → Type 0
+WritesPages format shown result taken taken' =
+    (reply : List ℕ) × ((reply ≡ ranges_text (map span_of (page_ranges format shown))) ⊎ (reply ≡ no_memory)) × Writes result taken taken' reply
+
+-- from old, a call carries out a request to new, and writes the reply
+abbrev pub CarriesOut : {A E : Type 0} → Replicas → Request → Replicas → Result A E → Option (List ℕ) → Option (List ℕ) → Type 0
+CarriesOut old request new result taken taken' = (reply : List ℕ) × Answers old request reply new × Writes result taken taken' reply
+
+-- it answers a line
+abbrev pub AnswersLine : {A E : Type 0} → Replicas → List ℕ → Replicas → Result A E → Option (List ℕ) → Option (List ℕ) → Type 0
+AnswersLine old line new result taken taken' = (reply : List ℕ) × Step old line reply new × Writes result taken taken' reply

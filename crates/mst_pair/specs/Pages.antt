@@ -1,9 +1,9 @@
 -- The tree that shows what a replica holds, with the default hasher and level base, SipHash under the zero key and 16, in a page format.
-use Rattle.std.specs.Prelude.{ℕ, List, max, nat_eq, string_bytes}
+use Rattle.std.specs.Prelude.{◌≡◌, ℕ, List, map, max, nat_eq, string_bytes}
 use Rattle.key_order.specs.Text.{Text, text_order}
 use Rattle.merkle_digest.specs.SipDigests.{text_digest, number_digest}
 use Rattle.merkle_digest.specs.SipHash.{zero_key}
-use Rattle.merkle_diff.specs.Entry.{Entry}
+use Rattle.merkle_diff.specs.Entry.{Entry, span_of}
 use Rattle.merkle_search_tree.specs.Loading.{digests}
 use Rattle.merkle_tree_theory.specs.Ranges.{ranges_of}
 use Rattle.merkle_tree_theory.specs.Settings.{default_settings}
@@ -15,6 +15,7 @@ use Rattle.merkle_tree_theory.specs.declared.page_format.PageFormat.{PageFormat}
 use Rattle.merkle_replica.specs.Laws.{Laws}
 use Rattle.merkle_replica.specs.Contents.{Contents, Side}
 use Rattle.mst_pair.specs.Replicas.{TextRow}
+use Rattle.mst_pair.specs.Replies.{ranges_text}
 
 -- the tree of the keys and the digests of their numbers
 abbrev pub tree : List TextRow → Tree Text (List ℕ)
@@ -46,3 +47,10 @@ side_of format rows = record { hasher = zero_key; base = 16; format = format; ro
 -- the replica has the default hasher and level base, and this page format
 abbrev pub HasDefaults : PageFormat → Contents Text ℕ (List ℕ) → Type 0
 HasDefaults format c = HasSettings (default_settings format) c.tree
+
+-- the tree of the replica has the root digest, and the page ranges as they are shown, of the tree of its rows
+abbrev pub HasItsRoot : PageFormat → Contents Text ℕ (List ℕ) → Type 0
+HasItsRoot format c = page_digest c.tree.format string_bytes c.tree.root ≡ root_digest format c.rows
+
+abbrev pub ShowsItsPages : PageFormat → Contents Text ℕ (List ℕ) → Type 0
+ShowsItsPages format c = ranges_text (map span_of (ranges_of c.tree.format string_bytes c.tree.root)) ≡ ranges_text (map span_of (page_ranges format c.rows))

@@ -24,3 +24,11 @@ GoesOn (Err e) input written taken taken' state kept = (more : List ℕ) × Appe
 abbrev pub Finishes : {A E : Type 0} → Result A E → List ℕ → List ℕ → Option (List ℕ) → Option (List ℕ) → Type 0
 Finishes (Ok x) input written taken taken' = (more : List ℕ) × Appends taken taken' more × Replies (lines_of input) (written ++ more)
 Finishes (Err e) input written taken taken' = (more : List ℕ) × AppendsOrHides taken taken' more × RepliesCut (lines_of input) (written ++ more)
+
+-- from a state that an input reached, these bytes more are taken
+abbrev pub Feeds : {A E : Type 0} → Replicas → List ℕ → List ℕ → Result A E → Option (List ℕ) → Option (List ℕ) → Replicas → List ℕ → Type 0
+Feeds old kept bytes result taken taken' new kept' = (input written : List ℕ) → Reached input written old kept → GoesOn result (input ++ bytes) written taken taken' new kept'
+
+-- from such a state the input is at its end
+abbrev pub Ends : {A E : Type 0} → Replicas → List ℕ → Result A E → Option (List ℕ) → Option (List ℕ) → Type 0
+Ends old kept result taken taken' = (input written : List ℕ) → Reached input written old kept → Finishes result input written taken taken'

@@ -1,7 +1,6 @@
 //! What the two replicas answer to a line.
-ghost use Rattle.std.specs.Prelude.{ℕ, List};
-ghost use Rattle.mst_pair.specs.Devices.{Writes, MarksFailure};
-ghost use Rattle.mst_pair.specs.Engine.{Answers, Step};
+ghost use Rattle.mst_pair.specs.Devices.{MarksFailure};
+ghost use Rattle.mst_pair.specs.Engine.{AnswersLine, CarriesOut};
 ghost use Rattle.mst_pair.specs.Parsing.{request_of};
 ghost use Rattle.mst_pair.specs.Requests.{put, del, pages, diff, pull, same, turns, set_format};
 
@@ -15,7 +14,7 @@ use merkle_search_tree::builder::PageFormat;
 impl Engine {
     /// Carries out a line, and writes the reply. What the reply needs is made before its first byte is written.
     pub fn answer<W: Sink>(&mut self, line: &[u8], writer: &mut W) -> Result<(), Failed>
-        ensures bytes { (reply : List ℕ) × Step self.old line.now reply self.new × Writes result (W.taken writer.old) (W.taken writer.new) reply }
+        ensures bytes { AnswersLine self.old line.now self.new result (W.taken writer.old) (W.taken writer.new) }
         ensures failed { MarksFailure result (W.has_failed writer.old) (W.has_failed writer.new) }
     {
         match parse(line) {
@@ -25,7 +24,7 @@ impl Engine {
     }
 
     fn carry_out<W: Sink>(&mut self, command: Command<'_>, writer: &mut W) -> Result<(), Failed>
-        ensures bytes { (reply : List ℕ) × Answers self.old (request_of command.entry) reply self.new × Writes result (W.taken writer.old) (W.taken writer.new) reply }
+        ensures bytes { CarriesOut self.old (request_of command.entry) self.new result (W.taken writer.old) (W.taken writer.new) }
         ensures failed { MarksFailure result (W.has_failed writer.old) (W.has_failed writer.new) }
     {
         match command {
@@ -49,7 +48,7 @@ impl Engine {
         number: u64,
         writer: &mut W,
     ) -> Result<(), Failed>
-        ensures bytes { (reply : List ℕ) × Answers self.old (put name key.now number) reply self.new × Writes result (W.taken writer.old) (W.taken writer.new) reply }
+        ensures bytes { CarriesOut self.old (put name key.now number) self.new result (W.taken writer.old) (W.taken writer.new) }
         ensures failed { MarksFailure result (W.has_failed writer.old) (W.has_failed writer.new) }
     {
         match self.join_row(name, key, number) {
@@ -64,7 +63,7 @@ impl Engine {
         key: &str,
         writer: &mut W,
     ) -> Result<(), Failed>
-        ensures bytes { (reply : List ℕ) × Answers self.old (del name key.now) reply self.new × Writes result (W.taken writer.old) (W.taken writer.new) reply }
+        ensures bytes { CarriesOut self.old (del name key.now) self.new result (W.taken writer.old) (W.taken writer.new) }
         ensures failed { MarksFailure result (W.has_failed writer.old) (W.has_failed writer.new) }
     {
         match self.delete_row(name, key) {
@@ -75,7 +74,7 @@ impl Engine {
     }
 
     fn answer_pages<W: Sink>(&mut self, name: ReplicaName, writer: &mut W) -> Result<(), Failed>
-        ensures bytes { (reply : List ℕ) × Answers self.old (pages name) reply self.new × Writes result (W.taken writer.old) (W.taken writer.new) reply }
+        ensures bytes { CarriesOut self.old (pages name) self.new result (W.taken writer.old) (W.taken writer.new) }
         ensures failed { MarksFailure result (W.has_failed writer.old) (W.has_failed writer.new) }
     {
         match name {
@@ -85,7 +84,7 @@ impl Engine {
     }
 
     fn answer_diff<W: Sink>(&mut self, name: ReplicaName, writer: &mut W) -> Result<(), Failed>
-        ensures bytes { (reply : List ℕ) × Answers self.old (diff name) reply self.new × Writes result (W.taken writer.old) (W.taken writer.new) reply }
+        ensures bytes { CarriesOut self.old (diff name) self.new result (W.taken writer.old) (W.taken writer.new) }
         ensures failed { MarksFailure result (W.has_failed writer.old) (W.has_failed writer.new) }
     {
         match self.ranges_to_ask(name) {
@@ -95,7 +94,7 @@ impl Engine {
     }
 
     fn answer_pull<W: Sink>(&mut self, name: ReplicaName, writer: &mut W) -> Result<(), Failed>
-        ensures bytes { (reply : List ℕ) × Answers self.old (pull name) reply self.new × Writes result (W.taken writer.old) (W.taken writer.new) reply }
+        ensures bytes { CarriesOut self.old (pull name) self.new result (W.taken writer.old) (W.taken writer.new) }
         ensures failed { MarksFailure result (W.has_failed writer.old) (W.has_failed writer.new) }
     {
         match self.pull(name) {
@@ -105,7 +104,7 @@ impl Engine {
     }
 
     fn answer_same<W: Sink>(&mut self, writer: &mut W) -> Result<(), Failed>
-        ensures bytes { (reply : List ℕ) × Answers self.old same reply self.new × Writes result (W.taken writer.old) (W.taken writer.new) reply }
+        ensures bytes { CarriesOut self.old same self.new result (W.taken writer.old) (W.taken writer.new) }
         ensures failed { MarksFailure result (W.has_failed writer.old) (W.has_failed writer.new) }
     {
         if self.is_same() {
@@ -116,7 +115,7 @@ impl Engine {
     }
 
     fn answer_turns<W: Sink>(&mut self, count: u8, writer: &mut W) -> Result<(), Failed>
-        ensures bytes { (reply : List ℕ) × Answers self.old (turns count) reply self.new × Writes result (W.taken writer.old) (W.taken writer.new) reply }
+        ensures bytes { CarriesOut self.old (turns count) self.new result (W.taken writer.old) (W.taken writer.new) }
         ensures failed { MarksFailure result (W.has_failed writer.old) (W.has_failed writer.new) }
     {
         match self.take_turns(count) {
@@ -126,7 +125,7 @@ impl Engine {
     }
 
     fn answer_format<W: Sink>(&mut self, format: PageFormat, writer: &mut W) -> Result<(), Failed>
-        ensures bytes { (reply : List ℕ) × Answers self.old (set_format format) reply self.new × Writes result (W.taken writer.old) (W.taken writer.new) reply }
+        ensures bytes { CarriesOut self.old (set_format format) self.new result (W.taken writer.old) (W.taken writer.new) }
         ensures failed { MarksFailure result (W.has_failed writer.old) (W.has_failed writer.new) }
     {
         if self.set_format(format) {

@@ -1,15 +1,14 @@
 //! Replies of many lines.
-ghost use Rattle.std.specs.Prelude.{◌≡◌, ◌⊎◌, ◌++◌, ℕ, List, map, codes, string_bytes};
+ghost use Rattle.std.specs.Prelude.{◌≡◌, ◌++◌, ℕ, List, codes};
 ghost use Rattle.std.specs.Fmt.{decimal};
 ghost use Rattle.std.specs.List.{flat_map};
 ghost use Rattle.merkle_digest.specs.Digest.{base64_of};
-ghost use Rattle.merkle_diff.specs.Entry.{span_of};
 ghost use Rattle.merkle_tree_theory.specs.declared.page_format.PageFormat.{PageFormat};
 ghost use Rattle.merkle_replica.specs.Answers.{answer_of};
 ghost use Rattle.mst_pair.specs.Devices.{Writes, Passes, MarksFailure};
-ghost use Rattle.mst_pair.specs.Engine.{no_memory};
-ghost use Rattle.mst_pair.specs.Pages.{HasDefaults, page_ranges};
-ghost use Rattle.mst_pair.specs.Replies.{text_line, end_line, row_text, range_text, ranges_text, joined_text, pull_text};
+ghost use Rattle.mst_pair.specs.Engine.{no_memory, WritesPages};
+ghost use Rattle.mst_pair.specs.Pages.{HasDefaults};
+ghost use Rattle.mst_pair.specs.Replies.{text_line, end_line, row_text, range_text, joined_text, pull_text};
 
 use crate::pending::Pending;
 use crate::sink::{Sink, write_all};
@@ -114,8 +113,8 @@ pub fn write_pull<W: Sink>(pulled: &Pulled<String>, writer: &mut W) -> Result<()
 
 /// Writes the range of each page of a replica, and the line `end`. Pages that lack a digest get it.
 pub fn write_pages<W: Sink>(replica: &mut TextReplica, writer: &mut W) -> Result<(), Failed>
-    ensures bytes { (format : PageFormat) → HasDefaults format replica.old →
-        (reply : List ℕ) × ((reply ≡ ranges_text (map span_of (page_ranges format replica.old.rows))) ⊎ (reply ≡ no_memory)) × Writes result (W.taken writer.old) (W.taken writer.new) reply }
+    ensures bytes { (format : PageFormat) → HasDefaults format replica.old
+        → WritesPages format replica.old.rows result (W.taken writer.old) (W.taken writer.new) }
     ensures failed { MarksFailure result (W.has_failed writer.old) (W.has_failed writer.new) }
     ensures rows { replica.new.rows ≡ replica.old.rows }
     ensures defaults { (format : PageFormat) → HasDefaults format replica.old → HasDefaults format replica.new }

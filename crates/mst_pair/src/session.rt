@@ -1,7 +1,7 @@
 //! An engine and the line that it is being given.
-ghost use Rattle.std.specs.Prelude.{◌≡◌, ℕ, List, [], ◌++◌, OnOk, true};
+ghost use Rattle.std.specs.Prelude.{◌≡◌, [], OnOk, true};
 ghost use Rattle.mst_pair.specs.Devices.{MarksFailure};
-ghost use Rattle.mst_pair.specs.Session.{Reached, GoesOn, Finishes};
+ghost use Rattle.mst_pair.specs.Session.{Reached, Feeds, Ends};
 
 use crate::engine::Engine;
 use crate::line::Line;
@@ -28,8 +28,7 @@ impl Session {
 
     /// Takes more of the input, and answers each line that is whole with it.
     pub fn feed<W: Sink>(&mut self, bytes: &[u8], writer: &mut W) -> Result<(), Failed>
-        ensures bytes { (input written : List ℕ) → Reached input written self.old.engine self.old.line →
-            GoesOn result (input ++ bytes.now) written (W.taken writer.old) (W.taken writer.new) self.new.engine self.new.line }
+        ensures bytes { Feeds self.old.engine self.old.line bytes.now result (W.taken writer.old) (W.taken writer.new) self.new.engine self.new.line }
         ensures failed { MarksFailure result (W.has_failed writer.old) (W.has_failed writer.new) }
     {
         'taking: for byte in bytes {
@@ -45,8 +44,7 @@ impl Session {
 
     /// Answers the last line, if it has a byte, and flushes the writer.
     pub fn finish<W: Sink>(&mut self, writer: &mut W) -> Result<(), Failed>
-        ensures bytes { (input written : List ℕ) → Reached input written self.old.engine self.old.line →
-            Finishes result input written (W.taken writer.old) (W.taken writer.new) }
+        ensures bytes { Ends self.old.engine self.old.line result (W.taken writer.old) (W.taken writer.new) }
         ensures flushed { OnOk result (W.is_flushed writer.new ≡ true) }
         ensures failed { MarksFailure result (W.has_failed writer.old) (W.has_failed writer.new) }
     {

@@ -1,11 +1,7 @@
 //! A replica of the program: a map from texts to numbers, with the default hasher and level base.
-ghost use Rattle.std.specs.Prelude.{◌≡◌, map, string_bytes};
-ghost use Rattle.merkle_diff.specs.Entry.{span_of};
-ghost use Rattle.merkle_tree_theory.specs.Ranges.{ranges_of};
-ghost use Rattle.merkle_tree_theory.specs.Stream.{page_digest};
+ghost use Rattle.std.specs.Prelude.{◌≡◌};
 ghost use Rattle.merkle_tree_theory.specs.declared.page_format.PageFormat.{PageFormat};
-ghost use Rattle.mst_pair.specs.Pages.{HasDefaults, root_digest, page_ranges};
-ghost use Rattle.mst_pair.specs.Replies.{ranges_text};
+ghost use Rattle.mst_pair.specs.Pages.{HasDefaults, HasItsRoot, ShowsItsPages, root_digest};
 
 use merkle_digest::{PageDigest, RootHash, SipHasher};
 use merkle_replica::Replica;
@@ -32,9 +28,8 @@ pub fn root_hash_of(replica: &mut TextReplica) -> RootHash
 
 /// The pages of a replica are those of the tree of its rows.
 pub fn shows_its_rows(replica: &TextReplica)
-    ensures root { (format : PageFormat) → HasDefaults format replica.now → page_digest replica.now.tree.format string_bytes replica.now.tree.root ≡ root_digest format replica.now.rows }
-    ensures ranges { (format : PageFormat) → HasDefaults format replica.now →
-        ranges_text (map span_of (ranges_of replica.now.tree.format string_bytes replica.now.tree.root)) ≡ ranges_text (map span_of (page_ranges format replica.now.rows)) }
+    ensures root { (format : PageFormat) → HasDefaults format replica.now → HasItsRoot format replica.now }
+    ensures ranges { (format : PageFormat) → HasDefaults format replica.now → ShowsItsPages format replica.now }
 {
     a_map_has_one_tree::<String, SipHasher, 16>();
     equal_pages_have_equal_maps::<String>();
