@@ -64,7 +64,7 @@ AsksAgain session (Ask underway message) = (underway.session ≡ session) × (un
 AsksAgain session (Came rows) = ⊥
 
 module _ {K V H : Type 0} (laws : Laws K V H) (n : ℕ) (encoding : K → List ℕ) (values : V → List ℕ) where
-  -- what a replica answers to the message of a catch-up: it answers what the catch-up asks, and the reply tells that
+  -- what a replica answers to the message of a catch-up, by a tree of its map: it answers what the catch-up asks, and the reply tells that
   abbrev pub AnswersTell : Type 0
   AnswersTell = (local : Side K V H) (old new : Contents K V H) → SameSettings old.tree new.tree
       → IsTreeOf laws.cmp (laws.key_digest old.tree.hasher) old.tree.base new.tree.root (tree_map laws (side old))

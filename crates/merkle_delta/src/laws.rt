@@ -15,7 +15,7 @@ use merkle_wire::laws::a_session_is_a_catch_up;
 /// [`CatchingUp::take`](crate::CatchingUp::take) does, and no two plain replies of which a delta tells one have one digest, each exchange is a plain one, or
 /// the question is asked again, plainly (`exchanges`); and where rows come they are those of a plain session (`sessions`), of which
 /// [`a_session_is_a_catch_up`](merkle_wire::laws::a_session_is_a_catch_up) says that they are what the side lacks. What [`answer`](crate::answer) says of
-/// its reply is what an exchange wants of it (`answers`), by a tree of the peer's map, as
+/// its reply is what an exchange wants of it, but that no digest collides (`answers`), by a tree of the peer's map, as
 /// [`Replica::tree`](merkle_replica::Replica::tree) and [`every_tree_is_sound`](merkle_search_tree::laws::every_tree_is_sound) have it.
 pub fn a_session_by_deltas_is_a_session<
     K: Key + Decode,

@@ -1,5 +1,5 @@
 -- A catch-up over two streams, exchange by exchange, and what a peer answers.
-use Rattle.std.proofs.Common.{◌≡◌, ℕ, List, [], ◌∷◌, ◌++◌, Option, refl, sym, ap, subst, ◌∙◌, append_assoc, append-nil}
+use Rattle.std.proofs.Common.{◌≡◌, ℕ, ◌≤◌, List, [], ◌∷◌, ◌++◌, length, Option, refl, sym, ap, subst, ◌∙◌, append_assoc, append-nil}
 use Rattle.std.specs.Global.{Vec}
 use Rattle.std.specs.Io.KnownBytes.{Appends, Consumes}
 use Rattle.std.specs.List.{AllByRecursion, flat_map}
@@ -28,7 +28,7 @@ all_written : (f : List ℕ × List ℕ → List ℕ) (a b c : Option (List ℕ)
     → Appends a b (flat_map f exchanges) → Appends b c (f one) → Appends a c (flat_map f (exchanges ++ one ∷ []))
 all_written f a b c exchanges one p q = subst (Appends a c) (flat_map_more f [] exchanges one) (Appends-trans a b c _ _ p q)
 
-module _ (replica : EntryContents) (before : Streams) where
+module _ (replica : EntryContents) (most : ℕ) (before : Streams) where
   -- exchanges led from the beginning of a catch-up to one that is under way, and the message that it sends next
   pub record HasComeTo (after : Streams) (underway : Underway Text Register) (message : Vec ℕ) : Type 0 where
     pub first : Underway Text Register
@@ -37,6 +37,7 @@ module _ (replica : EntryContents) (before : Streams) where
     pub exchanges : Exchanges
     pub leads : (entries : List (Text × Register)) (others : Exchanges) → LeadTo entry_laws 16 key_encoding register_encoding (side replica) entries others (Ask underway message)
         → LeadTo entry_laws 16 key_encoding register_encoding (side replica) entries (exchanges ++ others) (Ask first opening)
+    pub fits : AllByRecursion (λ e. length e.1 ≤ most) exchanges
     pub asked : Appends before.0 after.0 (all_asked exchanges)
     pub told : Consumes before.1 after.1 (all_told exchanges)
 
@@ -48,12 +49,13 @@ module _ (replica : EntryContents) (before : Streams) where
     begins = begins;
     exchanges = [];
     leads = λ entries others leads. leads;
+    fits = tt;
     asked = Appends-nil before.0;
     told = Consumes-nil before.1;
   }
 
   module _ (mid after : Streams) (underway : Underway Text Register) (message : Vec ℕ) (reply : List ℕ) (come : HasComeTo mid underway message)
-      (sent : Appends mid.0 after.0 (framed message.items)) (came : Consumes mid.1 after.1 (framed reply)) where
+      (sent : Appends mid.0 after.0 (framed message.items)) (came : Consumes mid.1 after.1 (framed reply)) (fits : length reply ≤ most) where
     -- one more did
     pub goes_on : (next : Underway Text Register) (question : Vec ℕ)
         → IsNext entry_laws 16 key_encoding register_encoding (side replica) underway reply (Ask next question) → HasComeTo after next question
@@ -64,42 +66,46 @@ module _ (replica : EntryContents) (before : Streams) where
       exchanges = come.exchanges ++ (message.items, reply) ∷ [];
       leads = λ entries others leads. subst (λ es. LeadTo entry_laws 16 key_encoding register_encoding (side replica) entries es (Ask come.first come.opening))
           (sym (append_assoc come.exchanges ((message.items, reply) ∷ []) others)) (come.leads entries ((message.items, reply) ∷ others) (refl, Ask next question, is, leads));
+      fits = each-append (λ e. length e.1 ≤ most) come.exchanges ((message.items, reply) ∷ []) come.fits (fits, tt);
       asked = all_written (λ e. framed e.0) before.0 mid.0 after.0 come.exchanges (message.items, reply) come.asked sent;
       told = all_read (λ e. framed e.1) before.1 mid.1 after.1 come.exchanges (message.items, reply) come.told came;
     }
 
     -- it was the last
     pub comes_to : (entries : Vec (Text × Register))
-        → IsNext entry_laws 16 key_encoding register_encoding (side replica) underway reply (Came entries) → CatchesUp replica before after entries.items
+        → IsNext entry_laws 16 key_encoding register_encoding (side replica) underway reply (Came entries) → CatchesUp replica most before after entries.items
     comes_to entries is = record {
       underway = come.first;
       message = come.opening;
       begins = come.begins;
       exchanges = come.exchanges ++ (message.items, reply) ∷ [];
       leads = come.leads entries.items ((message.items, reply) ∷ []) (refl, Came entries, is, refl);
+      fits = each-append (λ e. length e.1 ≤ most) come.exchanges ((message.items, reply) ∷ []) come.fits (fits, tt);
       asked = all_written (λ e. framed e.0) before.0 mid.0 after.0 come.exchanges (message.items, reply) come.asked sent;
       told = all_read (λ e. framed e.1) before.1 mid.1 after.1 come.exchanges (message.items, reply) come.told came;
     }
 
   -- no message was answered yet
-  pub has_served_none : HasServed replica before before
-  has_served_none = record { exchanges = []; replies = tt; asked = Consumes-nil before.1; told = Appends-nil before.0 }
+  pub has_served_none : HasServed replica most before before
+  has_served_none = record { exchanges = []; replies = tt; fits = tt; asked = Consumes-nil before.1; told = Appends-nil before.0 }
 
   -- one more was
-  pub has_served_more : (mid after : Streams) (message reply : List ℕ) → HasServed replica before mid → IsReplyBy entry_laws 16 key_encoding register_encoding replica message reply
-      → Consumes mid.1 after.1 (framed message) → Appends mid.0 after.0 (framed reply) → HasServed replica before after
-  has_served_more mid after message reply served is came sent = record {
+  pub has_served_more : (mid after : Streams) (message reply : List ℕ) → HasServed replica most before mid → IsReplyBy entry_laws 16 key_encoding register_encoding replica message reply
+      → length message ≤ most → Consumes mid.1 after.1 (framed message) → Appends mid.0 after.0 (framed reply) → HasServed replica most before after
+  has_served_more mid after message reply served is fits came sent = record {
     exchanges = served.exchanges ++ (message, reply) ∷ [];
     replies = each-append (λ e. IsReplyBy entry_laws 16 key_encoding register_encoding replica e.0 e.1) served.exchanges ((message, reply) ∷ []) served.replies (is, tt);
+    fits = each-append (λ e. length e.0 ≤ most) served.exchanges ((message, reply) ∷ []) served.fits (fits, tt);
     asked = all_read (λ e. framed e.0) before.1 mid.1 after.1 served.exchanges (message, reply) served.asked came;
     told = all_written (λ e. framed e.1) before.0 mid.0 after.0 served.exchanges (message, reply) served.told sent;
   }
 
   -- nothing was read since
-  pub has_served_all : (mid after : Streams) → HasServed replica before mid → Consumes mid.1 after.1 [] → after.0 ≡ mid.0 → HasServed replica before after
+  pub has_served_all : (mid after : Streams) → HasServed replica most before mid → Consumes mid.1 after.1 [] → after.0 ≡ mid.0 → HasServed replica most before after
   has_served_all mid after served none same = record {
     exchanges = served.exchanges;
     replies = served.replies;
+    fits = served.fits;
     asked = subst (Consumes before.1 after.1) (append-nil (all_asked served.exchanges)) (Consumes-trans before.1 mid.1 after.1 _ _ served.asked none);
     told = subst (λ w. Appends before.0 w (all_told served.exchanges)) (sym same) served.told;
   }

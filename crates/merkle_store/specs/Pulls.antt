@@ -1,5 +1,5 @@
 -- What a pull brings to a store.
-use Rattle.std.specs.Prelude.{◌≡◌, List, length, Result, IfErr, IsTrue}
+use Rattle.std.specs.Prelude.{◌≡◌, ℕ, List, length, Result, IfErr, IsTrue}
 use Rattle.key_order.specs.Text.{Text}
 use Rattle.sqlite.specs.Effect.{Database}
 use Rattle.sqlite.specs.Held.{Held, state}
@@ -17,29 +17,29 @@ use Rattle.merkle_store.specs.declared.pulling.PullFault.TheVariants as fault
 use Rattle.merkle_store.specs.declared.store.Store.{Store}
 
 module _ {S : Type 0} (store : Store S) where
-  -- these are later than what the store has for their keys, of the entries that came of a catch-up over the streams, and none is from the future
-  pub record AreNews (before after : Streams) (news : List (Text × Register)) : Type 0 where
+  -- of the entries that came of a catch-up over the streams, none from the future, these are all that are later than what the store has for their keys
+  pub record AreNews (most : ℕ) (before after : Streams) (news : List (Text × Register)) : Type 0 where
     pub came : List (Text × Register)
-    pub caught_up : CatchesUp store.replica before after came
+    pub caught_up : CatchesUp store.replica most before after came
     pub timely : AreTimely store.latest came
     pub later : news ≡ later_entries store.replica.rows came
 
-  -- the file has a row more for each of some entries that is later than what the store has for its key
-  abbrev pub HasSomeNews : Database → Database → Type 0
-  HasSomeNews before after = (came : List (Text × Register)) × HasNews store came before after
+  -- entries came of a catch-up over the streams, and the file has a row more for each that is later than what the store has for its key
+  abbrev pub HasNewsOver : ℕ → Streams → Streams → Database → Database → Type 0
+  HasNewsOver most before after db db' = (came : List (Text × Register)) × CatchesUp store.replica most before after came × HasNews store came db db'
 
--- of a catch-up over the streams entries came, none from the future, so many of them later than what the store has; the rows are the join of its own with
--- all of them, and the file has a row more for each that is later
-pub record HasBrought {S : Type 0} (g : Ghosts S) (old new : Store S) (before after : Streams) (brought : Brought) : Type 0 where
+-- entries came of a catch-up over the streams, none from the future; it says how many, and how many of them are later than what the store has; the rows are
+-- the join of its own with all of them, and over a clean disk the file has a row more for each that is later
+pub record HasBrought {S : Type 0} (g : Ghosts S) (old new : Store S) (most : ℕ) (before after : Streams) (brought : Brought) : Type 0 where
   pub came : List (Text × Register)
-  pub caught_up : CatchesUp old.replica before after came
+  pub caught_up : CatchesUp old.replica most before after came
   pub timely : AreTimely old.latest came
   pub entries : brought.entries ≡ length came
   pub news : brought.news ≡ length (later_entries old.replica.rows came)
   pub joined : HasJoined old.replica.rows came new.replica.rows
   pub added : HasStore g old.conn → IsClean g new.conn → HasNews old came (database g old.conn) (database g new.conn)
 
--- the file has what came, and memory was refused for the rows in memory
+-- the error that says that the file has what came, and memory was refused for the rows in memory
 abbrev pub IsBehind : PullFault → Type 0
 IsBehind (fault.Store why) = why ≡ Behind
 IsBehind (fault.Wire why) = ⊥

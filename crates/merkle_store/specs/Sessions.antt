@@ -1,8 +1,8 @@
 -- A catch-up of a replica of entries with a peer, over two streams, and what a peer answers over them.
-use Rattle.std.specs.Prelude.{◌≡◌, ℕ, List, string_bytes}
+use Rattle.std.specs.Prelude.{◌≡◌, ℕ, ◌≤◌, List, length, string_bytes}
 use Rattle.std.specs.Global.{Vec}
 use Rattle.std.specs.Io.KnownBytes.{Appends, Consumes}
-use Rattle.std.specs.List.{flat_map}
+use Rattle.std.specs.List.{AllByRecursion, flat_map}
 use Rattle.key_order.specs.Map.{IsMap}
 use Rattle.key_order.specs.Text.{Text, text_order}
 use Rattle.merkle_bytes.specs.Encodings.{string_encoding}
@@ -21,7 +21,7 @@ use Rattle.store_table.specs.declared.register.Register.{Register}
 use Rattle.merkle_store.specs.Framing.{Streams, framed}
 use Rattle.merkle_store.specs.Kept.{same_register, later_register}
 
--- a replica of entries under SipHash, which is seen as its key
+-- a replica of entries under SipHash, whose hasher is seen as its key
 abbrev pub EntryContents : Type 0
 EntryContents = Contents Text Register (List ℕ)
 
@@ -47,27 +47,30 @@ all_asked exchanges = flat_map (λ e. framed e.0) exchanges
 abbrev pub all_told : Exchanges → List ℕ
 all_told exchanges = flat_map (λ e. framed e.1) exchanges
 
--- the replica catches up with whoever reads one stream and writes the other: its messages are written, their replies read, and these entries come
-pub record CatchesUp (replica : EntryContents) (before after : Streams) (entries : List (Text × Register)) : Type 0 where
+-- the replica catches up with whoever reads one stream and writes the other: its messages are written, their replies read, of so many bytes at most each,
+-- and these entries come
+pub record CatchesUp (replica : EntryContents) (most : ℕ) (before after : Streams) (entries : List (Text × Register)) : Type 0 where
   pub underway : Underway Text Register
   pub message : Vec ℕ
   pub begins : Begins entry_laws 16 key_encoding replica underway message.items
   pub exchanges : Exchanges
   pub leads : LeadTo entry_laws 16 key_encoding register_encoding (side replica) entries exchanges (Ask underway message)
+  pub fits : AllByRecursion (λ e. length e.1 ≤ most) exchanges
   pub asked : Appends before.0 after.0 (all_asked exchanges)
   pub told : Consumes before.1 after.1 (all_told exchanges)
 
--- the replica answers each message that is read from one stream, on the other
-pub record HasServed (replica : EntryContents) (before after : Streams) : Type 0 where
+-- the replica replies to each message that is read from one stream, of so many bytes at most, on the other
+pub record HasServed (replica : EntryContents) (most : ℕ) (before after : Streams) : Type 0 where
   pub exchanges : Exchanges
   pub replies : AreRepliesBy entry_laws 16 key_encoding register_encoding replica exchanges
+  pub fits : AllByRecursion (λ e. length e.0 ≤ most) exchanges
   pub asked : Consumes before.1 after.1 (all_asked exchanges)
   pub told : Appends before.0 after.0 (all_told exchanges)
 
 -- a catch-up over two streams, to each of whose messages a peer replied over its own, brings what is lacked, while no digest of a reply collides
 abbrev pub ServedBring : Type 0
-ServedBring = (local peer : EntryContents) (before after its_before its_after : Streams) (entries : List (Text × Register))
-    (caught_up : CatchesUp local before after entries) (served : HasServed peer its_before its_after) → caught_up.exchanges ≡ served.exchanges
+ServedBring = (local peer : EntryContents) (most its_most : ℕ) (before after its_before its_after : Streams) (entries : List (Text × Register))
+    (caught_up : CatchesUp local most before after entries) (served : HasServed peer its_most its_before its_after) → caught_up.exchanges ≡ served.exchanges
     → IsMap text_order local.rows → IsMap text_order peer.rows → HasSmallMap entry_laws 16 (side peer)
     → NoneCollides entry_laws 16 key_encoding register_encoding (side local) (side peer) caught_up.exchanges (Ask caught_up.underway caught_up.message)
     → AreBrought entry_laws (side local) (side peer) entries

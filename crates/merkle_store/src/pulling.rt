@@ -1,11 +1,11 @@
 //! A pull over a pair of pipes or a socket, from both sides.
-ghost use Rattle.std.specs.Prelude.{◌≡◌, IfOk, IfErr, OnOk};
+ghost use Rattle.std.specs.Prelude.{◌≡◌, ◌≤◌, length, IfOk, IfErr, OnOk};
 ghost use Rattle.std.specs.Io.KnownBytes.{Appends, Consumes, IsAtEnd};
 ghost use Rattle.merkle_tree_theory.specs.State.{SameSettings};
 ghost use Rattle.store_table.specs.Connections.{HasStore, IsClean, Leaves};
 ghost use Rattle.merkle_store.specs.Framing.{framed};
 ghost use Rattle.merkle_store.specs.Kept.{IsInStep, StaysSet};
-ghost use Rattle.merkle_store.specs.Pulls.{AreNews, HasBrought, HasSomeNews, IsBehind, StaysUnlessPulled};
+ghost use Rattle.merkle_store.specs.Pulls.{AreNews, HasBrought, HasNewsOver, IsBehind, StaysUnlessPulled};
 ghost use Rattle.merkle_store.specs.Sessions.{CatchesUp, HasServed};
 
 use crate::fault::StoreFault;
@@ -118,6 +118,7 @@ fn ask<R: Read, W: Write, P: Watch>(
 ) -> Result<Vec<u8>, WireFault>
     ensures sent { OnOk result (Appends (W.contents to.old) (W.contents to.new) (framed message.now)) }
     ensures came { IfOk result (λ reply. Consumes (R.remaining from.old) (R.remaining from.new) (framed reply.items)) }
+    ensures fits { IfOk result (λ reply. length reply.items ≤ most) }
 {
     send(alloc, to, message)?;
     match receive(alloc, from, most, watch)? {
@@ -135,7 +136,7 @@ fn entries_of_peer<R: Read, W: Write, P: Watch>(
     most: u64,
     watch: &mut P,
 ) -> Result<(Entries, Traffic), WireFault>
-    ensures came { IfOk result (λ came. CatchesUp replica.old (W.contents to.old, R.remaining from.old)
+    ensures came { IfOk result (λ came. CatchesUp replica.old most (W.contents to.old, R.remaining from.old)
         (W.contents to.new, R.remaining from.new) came.0.items) }
     ensures rows { replica.new.rows ≡ replica.old.rows }
     ensures settings { SameSettings replica.old.tree replica.new.tree }
@@ -171,7 +172,7 @@ pub fn look<S: Alter + Drop, R: Read, W: Write, P: Watch>(
     most: u64,
     watch: &mut P,
 ) -> Result<Entries, PullFault>
-    ensures news { IfOk result (λ news. AreNews store.old (W.contents to.old, R.remaining from.old)
+    ensures news { IfOk result (λ news. AreNews store.old most (W.contents to.old, R.remaining from.old)
         (W.contents to.new, R.remaining from.new) news.items) }
     ensures rows { store.new.replica.rows ≡ store.old.replica.rows }
     ensures file { store.new.conn ≡ store.old.conn }
@@ -196,7 +197,7 @@ pub fn pull<S: Alter + Drop, R: Read, W: Write, P: Watch>(
     watch: &mut P,
 ) -> Result<Brought, PullFault>
     ensures kept { IsClean S.Store store.new.conn → IsInStep S.Store store.old → OnOk result (IsInStep S.Store store.new) }
-    ensures brought { IfOk result (HasBrought S.Store store.old store.new (W.contents to.old, R.remaining from.old)
+    ensures brought { IfOk result (HasBrought S.Store store.old store.new most (W.contents to.old, R.remaining from.old)
         (W.contents to.new, R.remaining from.new)) }
     ensures settings { StaysSet store.old store.new }
 
@@ -205,7 +206,8 @@ pub fn pull<S: Alter + Drop, R: Read, W: Write, P: Watch>(
     ensures refused { HasStore S.Store store.old.conn → StaysUnlessPulled S.Store store.old.conn store.new.conn result }
 
     // A crash leaves what it could leave before, or a database with a row more for each entry that came and is later, and no other.
-    ensures crash { HasStore S.Store store.old.conn → Leaves S.Store store.old.conn store.new.conn (HasSomeNews store.old) }
+    ensures crash { HasStore S.Store store.old.conn → Leaves S.Store store.old.conn store.new.conn
+        (HasNewsOver store.old most (W.contents to.old, R.remaining from.old) (W.contents to.new, R.remaining from.new)) }
 {
     let alloc = store.alloc();
     let (entries, traffic) = entries_of_peer(alloc, &mut store.replica, from, to, most, watch)?;
@@ -231,11 +233,12 @@ pub fn serve<S: Alter + Drop, R: Read, W: Write, P: Watch>(
     most: u64,
     watch: &mut P,
 ) -> Result<Traffic, WireFault>
-    ensures served { OnOk result (HasServed store.old.replica (W.contents to.old, R.remaining from.old)
+    ensures served { OnOk result (HasServed store.old.replica most (W.contents to.old, R.remaining from.old)
         (W.contents to.new, R.remaining from.new)) }
     ensures ended { OnOk result (IsAtEnd (R.remaining from.new)) }
     ensures rows { store.new.replica.rows ≡ store.old.replica.rows }
     ensures file { store.new.conn ≡ store.old.conn }
+    ensures settings { StaysSet store.old store.new }
 {
     let alloc = store.alloc();
     let mut traffic = Traffic::none();

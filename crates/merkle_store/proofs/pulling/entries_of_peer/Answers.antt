@@ -14,7 +14,7 @@ pub messages-init : goal.messages-init
 messages-init g c =
     let begun = c.in_ok-session.ensures in
     record {
-      come = has_begun c.args.replica.now (g.W.Write.contents c.args.to.now, g.R.Read.remaining c.args.from.now) c.in_ok-session.session c.in_ok-session.message
+      come = has_begun c.args.replica.now c.args.most (g.W.Write.contents c.args.to.now, g.R.Read.remaining c.args.from.now) c.in_ok-session.session c.in_ok-session.message
           (record { settings = begun.settings; asks = begun.asks; nothing_found = (begun.nothing.0, begun.nothing.1); plain = begun.nothing.2 });
       rows = refl;
       settings = (refl, refl, refl);
@@ -28,9 +28,9 @@ returns-in-Came-clause-came g c =
     let taken = subst (λ n. IsNext entry_laws 16 key_encoding register_encoding (side c.messages.replica) c.messages.session c.deref-in-messages.result.now n) c.in-Came.is c.in_ok-next.ensures.next in
     let of_reply = subst (λ r. IsNext entry_laws 16 key_encoding register_encoding (side c.messages.replica) c.messages.session r (Came c.in-Came.entries)) c.deref-in-messages.ensures.value taken in
     let is = subst (λ s. IsNext entry_laws 16 key_encoding register_encoding s c.messages.session reply (Came c.in-Came.entries)) (same_side local c.messages.replica inv.rows inv.settings) of_reply in
-    comes_to local (g.W.Write.contents c.args.to.now, g.R.Read.remaining c.args.from.now) (g.W.Write.contents c.messages.to, g.R.Read.remaining c.messages.from)
+    comes_to local c.args.most (g.W.Write.contents c.args.to.now, g.R.Read.remaining c.args.from.now) (g.W.Write.contents c.messages.to, g.R.Read.remaining c.messages.from)
     (g.W.Write.contents c.ask.new.to, g.R.Read.remaining c.ask.new.from) c.messages.session c.messages.message reply inv.come
-    (subst (λ m. Appends (g.W.Write.contents c.messages.to) (g.W.Write.contents c.ask.new.to) (framed m)) c.deref.ensures.value c.in_ok-reply.ensures.sent) c.in_ok-reply.ensures.came c.in-Came.entries is
+    (subst (λ m. Appends (g.W.Write.contents c.messages.to) (g.W.Write.contents c.ask.new.to) (framed m)) c.deref.ensures.value c.in_ok-reply.ensures.sent) c.in_ok-reply.ensures.came c.in_ok-reply.ensures.fits c.in-Came.entries is
 
 pub messages-preserved : goal.messages-preserved
 messages-preserved g c =
@@ -43,9 +43,9 @@ messages-preserved g c =
     let of_reply = subst (λ r. IsNext entry_laws 16 key_encoding register_encoding (side c.messages.replica) c.messages.session r next) c.deref-in-messages.ensures.value taken in
     let is = subst (λ s. IsNext entry_laws 16 key_encoding register_encoding s c.messages.session reply next) (same_side local c.messages.replica inv.rows inv.settings) of_reply in
     record {
-      come = goes_on local (g.W.Write.contents c.args.to.now, g.R.Read.remaining c.args.from.now) (g.W.Write.contents c.messages.to, g.R.Read.remaining c.messages.from)
+      come = goes_on local c.args.most (g.W.Write.contents c.args.to.now, g.R.Read.remaining c.args.from.now) (g.W.Write.contents c.messages.to, g.R.Read.remaining c.messages.from)
           (g.W.Write.contents c.ask.new.to, g.R.Read.remaining c.ask.new.from) c.messages.session c.messages.message reply inv.come
-          (subst (λ m. Appends (g.W.Write.contents c.messages.to) (g.W.Write.contents c.ask.new.to) (framed m)) c.deref.ensures.value c.in_ok-reply.ensures.sent) c.in_ok-reply.ensures.came c.in-Ask.next c.in-Ask.question is;
+          (subst (λ m. Appends (g.W.Write.contents c.messages.to) (g.W.Write.contents c.ask.new.to) (framed m)) c.deref.ensures.value c.in_ok-reply.ensures.sent) c.in_ok-reply.ensures.came c.in_ok-reply.ensures.fits c.in-Ask.next c.in-Ask.question is;
       rows = c.take.ensures.rows ∙ inv.rows;
       settings = (c.take.ensures.settings.0 ∙ inv.settings.0, c.take.ensures.settings.1 ∙ inv.settings.1, c.take.ensures.settings.2 ∙ inv.settings.2);
     }

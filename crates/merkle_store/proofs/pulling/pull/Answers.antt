@@ -24,7 +24,9 @@ pub returns-in_err-news-clause-crash : goal.returns-in_err-news-clause-crash
 returns-in_err-news-clause-crash g c has =
     let old = state g.S.Store c.args.store.now.conn in
     survives_weaker old (state g.S.Store c.join.new.self.conn) _ _
-    (λ clean. some_news c.args.store.now c.entries_of_peer.new.replica.rows c.entries_of_peer.ensures.rows c.in_ok-entries.entries.items old.now) (c.join.ensures.crash has)
+    (λ clean. some_news c.args.store.now c.entries_of_peer.new.replica.rows c.entries_of_peer.ensures.rows c.in_ok-entries.entries.items c.args.most
+    (g.W.Write.contents c.args.to.now, g.R.Read.remaining c.args.from.now) (g.W.Write.contents c.entries_of_peer.new.to, g.R.Read.remaining c.entries_of_peer.new.from)
+    c.in_ok-entries.ensures.came old.now) (c.join.ensures.crash has)
 
 pub returns-clause-kept : goal.returns-clause-kept
 returns-clause-kept g c clean step =
@@ -51,4 +53,6 @@ pub returns-clause-crash : goal.returns-clause-crash
 returns-clause-crash g c has =
     let old = state g.S.Store c.args.store.now.conn in
     survives_weaker old (state g.S.Store c.join.new.self.conn) _ _
-    (λ clean. some_news c.args.store.now c.entries_of_peer.new.replica.rows c.entries_of_peer.ensures.rows c.in_ok-entries.entries.items old.now) (c.join.ensures.crash has)
+    (λ clean. some_news c.args.store.now c.entries_of_peer.new.replica.rows c.entries_of_peer.ensures.rows c.in_ok-entries.entries.items c.args.most
+    (g.W.Write.contents c.args.to.now, g.R.Read.remaining c.args.from.now) (g.W.Write.contents c.entries_of_peer.new.to, g.R.Read.remaining c.entries_of_peer.new.from)
+    c.in_ok-entries.ensures.came old.now) (c.join.ensures.crash has)

@@ -1,4 +1,4 @@
-use Rattle.std.proofs.Common.{◌≡◌, refl, subst, ◌∙◌}
+use Rattle.std.proofs.Common.{◌≡◌, rules, refl, subst, ◌∙◌}
 use Rattle.std.specs.Io.KnownBytes.{Appends}
 use Rattle.key_order.specs.Text.{text_order}
 use Rattle.merkle_delta.specs.Exchanges.{IsReplyBy}
@@ -38,11 +38,12 @@ messages-preserved g c =
       answered = subst (λ m. IsAnswered entry_laws 16 key_encoding register_encoding before after m c.in-Ok.reply) c.deref.ensures.value c.in-Ok.ensures.answered;
     } in
     record {
-      served = has_served_more replica (g.W.Write.contents c.args.to.now, g.R.Read.remaining c.args.from.now) (g.W.Write.contents c.messages.to, g.R.Read.remaining c.messages.from)
-          (g.W.Write.contents c.send.new.out, g.R.Read.remaining c.receive.new.from) message reply inv.served replies
+      served = has_served_more replica c.args.most (g.W.Write.contents c.args.to.now, g.R.Read.remaining c.args.from.now) (g.W.Write.contents c.messages.to, g.R.Read.remaining c.messages.from)
+          (g.W.Write.contents c.send.new.out, g.R.Read.remaining c.receive.new.from) message reply inv.served replies (search rules)
           (subst (HasCome (g.R.Read.remaining c.messages.from) (g.R.Read.remaining c.receive.new.from)) c.in-Some.is c.in_ok-message.ensures.came)
           (subst (λ m. Appends (g.W.Write.contents c.messages.to) (g.W.Write.contents c.send.new.out) (framed m)) c.deref-in-Ok.ensures.value c.in_ok-send-in-Ok.ensures.sent);
       rows = rows;
       settings = settings;
       file = inv.file;
+      set = inv.set;
     }
