@@ -1,12 +1,14 @@
 -- Messages that ask nothing, neither plainly nor behind checksums.
-use Rattle.std.proofs.Common.{◌≡◌, ℕ, List, [], ◌∷◌, ◌++◌, ◌≢◌, refl, sym, ap, ap₂, ◌∙◌, arith}
+use Rattle.std.proofs.Common.{◌≡◌, ℕ, List, [], ◌∷◌, ◌++◌, ◌≢◌, inr, refl, sym, ap, ap₂, ◌∙◌, arith}
+use Rattle.std.specs.Global.{Vec}
 use Rattle.merkle_bytes.specs.Counts.{count_bytes, count_told}
 use Rattle.merkle_bytes.specs.Encodings.{list_bytes, SameLists}
 use Rattle.merkle_bytes.proofs.Listed.{alone, as_list, run_told, stays}
 use Rattle.merkle_wire.specs.Questions.{AsksNothing, question_bytes}
 use Rattle.merkle_wire.specs.declared.question.Question.{Question}
 use Rattle.merkle_wire.specs.declared.question.Question.TheVariants.{Root, Outlines, Nodes, RowsAt, RowsIn}
-use Rattle.merkle_delta.specs.Messages.{asking_bytes, telling_bytes}
+use Rattle.merkle_delta.specs.Deltas.{IsDelta}
+use Rattle.merkle_delta.specs.Messages.{AnswersBy, asking_bytes, telling_bytes}
 
 -- the second byte, that of the kind
 abbrev second : List ℕ → ℕ
@@ -50,3 +52,18 @@ module _ {K : Type 0} (encoding : K → List ℕ) where
 
   pub asks_plainly_nothing : (is_value : K → Type 0) (message asked : List ℕ) → message ≡ 1 ∷ 6 ∷ asked → AsksNothing encoding is_value message
   asks_plainly_nothing is_value message asked is question of = no_question message asked is question
+
+-- a question was read behind checksums, and of it and its plain reply P holds: so it does by the delta of that
+pub answered_by_delta : (P : List ℕ → Vec ℕ → Type 0) (message asked left checksums delta : List ℕ) (plain reply : Vec ℕ) {old : List ℕ}
+    → message ≡ 1 ∷ 6 ∷ asked → asked ≡ list_bytes count_bytes checksums ++ old → left ≡ old → P left plain → reply.items ≡ telling_bytes delta
+    → IsDelta checksums plain.items delta → AnswersBy P message reply
+answered_by_delta P message asked left checksums delta plain reply asks read rest holds tells made = inr (
+  checksums,
+  left,
+  delta,
+  plain,
+  asks ∙ ap (λ t. 1 ∷ 6 ∷ t) (read ∙ ap (λ t. list_bytes count_bytes checksums ++ t) (sym rest)),
+  holds,
+  tells,
+  made,
+)

@@ -6,7 +6,7 @@ use Rattle.merkle_bytes.specs.Counts.{count_bytes}
 use Rattle.merkle_bytes.specs.Encodings.{list_bytes}
 use Rattle.merkle_replica.specs.Contents.{Contents}
 use Rattle.merkle_replica.specs.Laws.{Laws}
-use Rattle.merkle_wire.specs.Replies.{IsAnsweredBy}
+use Rattle.merkle_wire.specs.Replies.{IsAnsweredBy, IsAnsweredWithin}
 use Rattle.merkle_delta.specs.Deltas.{IsDelta, IsDeltaOver}
 
 -- a question behind checksums: version 1, kind 6
@@ -21,15 +21,19 @@ telling_bytes delta = 1 ∷ 134 ∷ delta
 abbrev pub IsReplyOver : List (List ℕ) → List ℕ → List ℕ → Type 0
 IsReplyOver own reply plain = (delta : List ℕ) × (reply ≡ telling_bytes delta) × IsDeltaOver own delta plain
 
-module _ {K V H : Type 0} (laws : Laws K V H) (n : ℕ) (encoding : K → List ℕ) (values : V → List ℕ) (old new : Contents K V H) where
-  -- the message asks a question behind checksums, and this is a delta of the plain reply to it for them
-  abbrev pub IsAnsweredByDelta : List ℕ → Vec ℕ → Type 0
-  IsAnsweredByDelta message reply = (checksums question delta : List ℕ) × (plain : Vec ℕ) × (message ≡ asking_bytes checksums question)
-      × IsAnsweredBy laws n encoding values old new question plain × (reply.items ≡ telling_bytes delta) × IsDelta checksums plain.items delta
+-- P holds of the message and the reply; or the message asks a question behind checksums, the reply is a delta of a plain one for them, and P holds of
+-- these two
+abbrev pub AnswersBy : (List ℕ → Vec ℕ → Type 0) → List ℕ → Vec ℕ → Type 0
+AnswersBy P message reply = P message reply ⊎ ((checksums question delta : List ℕ) × (plain : Vec ℕ) × (message ≡ asking_bytes checksums question)
+    × P question plain × (reply.items ≡ telling_bytes delta) × IsDelta checksums plain.items delta)
 
-  -- the reply to a message, plain or by a delta, as it asks
-  abbrev pub IsAnswered : List ℕ → Vec ℕ → Type 0
-  IsAnswered message reply = IsAnsweredBy laws n encoding values old new message reply ⊎ IsAnsweredByDelta message reply
+-- the reply to a message, plain or by a delta, as it asks
+abbrev pub IsAnswered : {K V H : Type 0} → Laws K V H → ℕ → (K → List ℕ) → (V → List ℕ) → Contents K V H → Contents K V H → List ℕ → Vec ℕ → Type 0
+IsAnswered laws n encoding values old new = AnswersBy (IsAnsweredBy laws n encoding values old new)
+
+-- the plain reply ends with the entry by which it has so many bytes
+abbrev pub AnswersWithin : {K V : Type 0} → (K → List ℕ) → (V → List ℕ) → ℕ → List ℕ → Vec ℕ → Type 0
+AnswersWithin encoding values most = AnswersBy (IsAnsweredWithin encoding values most)
 
 -- neither the message nor a question behind checksums in it is one of which P doesn't hold
 abbrev pub AsksNoneOf : (List ℕ → Type 0) → List ℕ → Type 0

@@ -1,6 +1,6 @@
 //! The answering side: a reply to a message, as a delta where the message tells checksums.
 ghost use Rattle.std.specs.Prelude.{◌≡◌, ◌++◌, IfOk, IfErr};
-ghost use Rattle.merkle_delta.specs.Messages.{AsksNoneOf, AsksOneOf, IsAnswered};
+ghost use Rattle.merkle_delta.specs.Messages.{AnswersWithin, AsksNoneOf, AsksOneOf, IsAnswered};
 ghost use Rattle.merkle_tree_theory.specs.State.{SameSettings};
 ghost use Rattle.merkle_wire.specs.Faults.{IsOfOthers, IsUnread};
 ghost use Rattle.merkle_wire.specs.Questions.{AsksNothing};
@@ -27,6 +27,7 @@ pub fn answer<
     const N: usize,
 >(alloc: Global, replica: &mut Replica<K, V, H, N>, message: &[u8]) -> Result<Vec<u8>, AnswerError>
     ensures answered { IfOk result (IsAnswered ⟦<H as Lawful<N, K, V>>⟧.laws N K.encoding V.encoding replica.old replica.new message.now) }
+    ensures within { IfOk result (AnswersWithin K.encoding V.encoding 67108864 message.now) }
     ensures malformed { IfErr result (λ error. IsUnread error → AsksNoneOf (AsksNothing K.encoding K.is_value) message.now) }
     ensures other_settings { IfErr result (λ error. IsOfOthers error
         → AsksOneOf (AsksWithOthers ⟦<H as Lawful<N, K, V>>⟧.laws N K.encoding replica.new.tree) message.now) }
@@ -56,6 +57,7 @@ pub fn answer_within<
     most_bytes: usize,
 ) -> Result<Vec<u8>, AnswerError>
     ensures answered { IfOk result (IsAnswered ⟦<H as Lawful<N, K, V>>⟧.laws N K.encoding V.encoding replica.old replica.new message.now) }
+    ensures within { IfOk result (AnswersWithin K.encoding V.encoding most_bytes message.now) }
     ensures malformed { IfErr result (λ error. IsUnread error → AsksNoneOf (AsksNothing K.encoding K.is_value) message.now) }
     ensures other_settings { IfErr result (λ error. IsOfOthers error
         → AsksOneOf (AsksWithOthers ⟦<H as Lawful<N, K, V>>⟧.laws N K.encoding replica.new.tree) message.now) }

@@ -1,12 +1,12 @@
 -- Replies, as bytes. Each begins to answer a list of what was asked for, and says something of the first of it or of all.
-use Rattle.std.specs.Prelude.{◌≡◌, ◌≢◌, ℕ, List, [], ◌∷◌, ◌++◌, length, map, flat_map, Bool, true, false, cond, Option, Some, None}
+use Rattle.std.specs.Prelude.{◌≡◌, ◌≢◌, ℕ, ◌+◌, ◌<◌, max, List, [], ◌∷◌, ◌++◌, length, map, flat_map, take, Bool, true, false, cond, Option, Some, None, ⊤}
 use Rattle.std.specs.Global.{Vec}
 use Rattle.std.specs.List.{AllByRecursion}
 use Rattle.std.specs.declared.cmp.Ordering.{Ordering}
 use Rattle.key_order.specs.Map.{get}
 use Rattle.merkle_bytes.specs.Counts.{count_bytes}
 use Rattle.merkle_bytes.specs.Options.{option_bytes}
-use Rattle.merkle_bytes.specs.Runs.{run_bytes, row_behind, row_key, bound_key}
+use Rattle.merkle_bytes.specs.Runs.{run_bytes, entries_bytes, row_behind, row_key, bound_key}
 use Rattle.merkle_replica.specs.Contents.{Contents}
 use Rattle.merkle_replica.specs.Laws.{Laws}
 use Rattle.merkle_tree_theory.specs.Gap.{pairs_within}
@@ -30,6 +30,19 @@ pub record Answers {X Y : Type 0} (P : X → Y → Type 0) (asked : List X) (tol
   pub some : asked ≢ [] → told ≢ []
   pub each : AllByRecursion (λ t. P t.0 t.1) told
 
+-- each entry fits behind the bytes that stand before it, and those before the first begin so
+abbrev pub EachFits : {X : Type 0} → (X → List ℕ) → (List ℕ → X → Type 0) → List ℕ → List X → Type 0
+EachFits bytes Fits begun [] = ⊤
+EachFits bytes Fits begun (t ∷ ts) = Fits begun t × EachFits bytes Fits (begun ++ bytes t) ts
+
+-- a reply that begins so tells entries by these bytes, each of which fits
+abbrev pub TellsWhatFits : {X : Type 0} → (X → List ℕ) → (List ℕ → X → Type 0) → List ℕ → List ℕ → Type 0
+TellsWhatFits {X} bytes Fits begun reply = (told : List X) × (reply ≡ begun ++ flat_map bytes told) × EachFits bytes Fits begun told
+
+-- behind these bytes of a reply there is room for an entry: they are fewer than so many, or the two of the front
+abbrev pub HasRoom : ℕ → List ℕ → Type 0
+HasRoom most bytes = length bytes < max most 3
+
 -- the rows in a gap that are told: the first of them, and whether they are all
 pub record Part (K V : Type 0) : Type 0 where
   pub rows : List (K × V)
@@ -42,19 +55,61 @@ module _ {K V : Type 0} (cmp : K → K → Ordering) (rows : List (K × V)) wher
 
 module _ {K V : Type 0} (encoding : K → List ℕ) (values : V → List ℕ) where
   -- outlines, each behind the bound that the keys of its gap are above
+  abbrev pub outline_over_bytes : OwnedGap K × Outline K V → List ℕ
+  outline_over_bytes t = outline_bytes encoding values (bound_key encoding [] t.0.after) t.1
+
   abbrev pub outlines_bytes : List (OwnedGap K × Outline K V) → List ℕ
-  outlines_bytes = flat_map (λ t. outline_bytes encoding values (bound_key encoding [] t.0.after) t.1)
+  outlines_bytes = flat_map outline_over_bytes
+
+  -- rows behind a key
+  abbrev pub rows_bytes : List ℕ → List (K × V) → List ℕ
+  rows_bytes = entries_bytes (row_behind encoding values) (row_key encoding)
 
   -- a part: how many rows there are, the rows, and a byte 1 where they are all, or 0
   abbrev pub part_bytes : List ℕ → Part K V → List ℕ
   part_bytes last part = run_bytes (row_behind encoding values) (row_key encoding) last part.rows ++ cond part.whole 1 0 ∷ []
 
+  abbrev pub part_in_bytes : OwnedGap K × Part K V → List ℕ
+  part_in_bytes t = part_bytes (bound_key encoding [] t.0.after) t.1
+
   abbrev pub parts_bytes : List (OwnedGap K × Part K V) → List ℕ
-  parts_bytes = flat_map (λ t. part_bytes (bound_key encoding [] t.0.after) t.1)
+  parts_bytes = flat_map part_in_bytes
+
+  -- behind these bytes there is room for each row of a part but the first
+  abbrev pub RowsFit : ℕ → List ℕ → OwnedGap K × Part K V → Type 0
+  RowsFit most bytes t = (i : ℕ) → i ≢ 0 → i < length t.1.rows
+      → length bytes + length (rows_bytes (bound_key encoding [] t.0.after) (take i t.1.rows)) < most
 
 -- values, each where there is one
+abbrev pub value_at_bytes : {K V : Type 0} → (V → List ℕ) → Wanted K × Option V → List ℕ
+value_at_bytes values t = option_bytes values t.1
+
 abbrev pub values_bytes : {K V : Type 0} → (V → List ℕ) → List (Wanted K × Option V) → List ℕ
-values_bytes values = flat_map (λ t. option_bytes values t.1)
+values_bytes values = flat_map (value_at_bytes values)
+
+-- a reply that begins so tells values, and ends with the one by which it has so many bytes
+abbrev pub ValuesFit : (K : Type 0) {V : Type 0} → (V → List ℕ) → ℕ → List ℕ → List ℕ → Type 0
+ValuesFit K values most = TellsWhatFits (value_at_bytes {K = K} values) (λ bytes t. HasRoom most bytes)
+
+module _ {K V : Type 0} (encoding : K → List ℕ) (values : V → List ℕ) where
+  -- so does one that tells outlines, or parts, and of a part it ends with the row by which it has so many bytes
+  abbrev pub OutlinesFit : ℕ → List ℕ → List ℕ → Type 0
+  OutlinesFit most = TellsWhatFits (outline_over_bytes encoding values) (λ bytes t. HasRoom most bytes)
+
+  abbrev pub PartsFit : ℕ → List ℕ → List ℕ → Type 0
+  PartsFit most = TellsWhatFits (part_in_bytes encoding values) (λ bytes t. HasRoom most bytes × RowsFit encoding values most bytes t)
+
+  -- the reply to a question ends so
+  abbrev pub EndsWithin : ℕ → Question K → List ℕ → Type 0
+  EndsWithin most (Root settings) reply = ⊤
+  EndsWithin most (Outlines n gaps) reply = OutlinesFit most (front outlines_kind) reply
+  EndsWithin most (Nodes n gaps) reply = OutlinesFit most (front nodes_kind) reply
+  EndsWithin most (RowsAt keys) reply = ValuesFit K values most (front rows_at_kind) reply
+  EndsWithin most (RowsIn gaps) reply = PartsFit most (front rows_in_kind) reply
+
+  -- the message asks a question, and the reply to it ends so
+  abbrev pub IsAnsweredWithin : ℕ → List ℕ → Vec ℕ → Type 0
+  IsAnsweredWithin most message reply = (question : Question K) × (message ≡ question_bytes encoding question) × EndsWithin most question reply.items
 
 -- the digest of a whole tree that is one item, where it has a node
 abbrev pub whole_digest : {K : Type 0} → List (Item K (List ℕ)) → Option (List ℕ)

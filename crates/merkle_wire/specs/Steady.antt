@@ -167,6 +167,23 @@ module _ {K V H : Type 0} (laws : Laws K V H) (n : ℕ) (peer : Side K V H) wher
   WhileSteady P before = (root : Tree K (List ℕ)) → IsTreeOf laws.cmp (laws.key_digest peer.hasher) peer.base root (tree_map laws peer) → HasSmallMap laws n peer
       → IsSteady laws peer root before → P root
 
+  -- a steady catch-up stays steady in what comes next
+  abbrev pub StaysSteady : Underway K V → Next K V → Type 0
+  StaysSteady before next = WhileSteady (λ root. SteadyNext laws peer root next) before
+
+  -- it leaves less to ask for
+  abbrev pub GoesDown : Underway K V → Next K V → Type 0
+  GoesDown before next = WhileSteady (λ root. LeavesLess laws peer root before next) before
+
+  module _ (local : Side K V H) where
+    -- what comes next has keys of the two sides alone
+    abbrev pub KeepsKeys : Next K V → Type 0
+    KeepsKeys next = HasSmallMap laws n peer → HasKeysNext laws local peer next
+
+    -- a steady catch-up ends early for want of memory alone
+    abbrev pub EndsForMemory : (K → Type 0) → (V → Type 0) → Underway K V → MessagesError → Type 0
+    EndsForMemory is_key is_value before fault = WhileSteady (λ root. IsForMemory laws local peer is_key is_value fault) before
+
 -- a catch-up that begins asks for the root, and has found nothing
 pub record IsBegun {K V : Type 0} (begun : Underway K V) : Type 0 where
   pub settings : Settings K

@@ -95,8 +95,8 @@ module _ {K V H : Type 0} (laws : Laws K V H) (n : ℕ) (encoding : K → List �
       × LiesIn laws.cmp n (owned_gap gap) told × IsTaken laws (side replica) (owned_gap gap) told before after
 
   -- so was what was told of the pages over the first gaps, so many of them
-  abbrev pub TakesFirstOutlines : List (OwnedGap K) → Reader → Reader → Found K V → Found K V → ℕ → Type 0
-  TakesFirstOutlines gaps old new before after count = (count ≤ length gaps)
+  abbrev pub TakesOutlinesOf : List (OwnedGap K) → Reader → Reader → Found K V → Found K V → ℕ → Type 0
+  TakesOutlinesOf gaps old new before after count = (count ≤ length gaps)
       × ((told : List (OwnedGap K × Outline K V)) × (map (λ t. t.0) told ≡ take count gaps)
       × HasRead old new (outlines_bytes encoding values told)
       × AllByRecursion (λ t. LiesIn laws.cmp n (owned_gap t.0) t.1) told
@@ -123,8 +123,8 @@ module _ {K V H : Type 0} (laws : Laws K V H) (n : ℕ) (encoding : K → List �
       × (left'.items ≡ left.items ++ behind) × AddsRows laws (side replica) part.rows before after
 
   -- so were parts of the first gaps, so many of them
-  abbrev pub TakesFirstParts : List (OwnedGap K) → Reader → Reader → Vec (OwnedGap K) → Vec (OwnedGap K) → Found K V → Found K V → ℕ → Type 0
-  TakesFirstParts gaps old new left left' before after count = (count ≤ length gaps)
+  abbrev pub TakesPartsOf : List (OwnedGap K) → Reader → Reader → Vec (OwnedGap K) → Vec (OwnedGap K) → Found K V → Found K V → ℕ → Type 0
+  TakesPartsOf gaps old new left left' before after count = (count ≤ length gaps)
       × ((told : List (OwnedGap K × Part K V)) × (behind : List (OwnedGap K)) × (map (λ t. t.0) told ≡ take count gaps)
       × HasRead old new (parts_bytes encoding values told)
       × AllByRecursion (λ t. AscendIn laws.cmp (owned_gap t.0) (map (λ r. r.0) t.1.rows)) told

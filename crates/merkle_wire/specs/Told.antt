@@ -2,11 +2,11 @@
 use Rattle.std.specs.Prelude.{◌≡◌, ℕ, List, [], ◌∷◌, ◌++◌, flat_map, Bool, Option, None}
 use Rattle.std.specs.declared.cmp.Ordering.{Ordering}
 use Rattle.key_order.specs.Map.{get}
-use Rattle.merkle_bytes.specs.Runs.{bound_key, entries_bytes, row_behind, row_key}
+use Rattle.merkle_bytes.specs.Runs.{bound_key}
 use Rattle.merkle_replica.specs.Contents.{Contents}
 use Rattle.merkle_tree_theory.specs.Outline.{Item}
 use Rattle.merkle_wire.specs.Outlines.{Outline, AreNodes, IsTold, outline_bytes, keys_told, keys_among, nodes_digest, pages_beside, pages_bytes}
-use Rattle.merkle_wire.specs.Replies.{Answers, IsPartOf, Part, items_over, outlines_bytes, part_bytes, parts_bytes, values_bytes}
+use Rattle.merkle_wire.specs.Replies.{Answers, IsPartOf, Part, RowsFit, items_over, outlines_bytes, part_bytes, parts_bytes, values_bytes}
 use Rattle.merkle_wire.specs.declared.gaps.OwnedGap.{OwnedGap}
 use Rattle.merkle_wire.specs.declared.wanted.Wanted.{Wanted}
 
@@ -19,10 +19,6 @@ module _ {K : Type 0} (encoding : K → List ℕ) where
   abbrev pub page_bytes : List ℕ → List (K × List ℕ) → List (Item K (List ℕ)) → List ℕ
   page_bytes last nodes items = 2 ∷ (nodes_digest nodes ++ (keys_told encoding last (keys_among nodes) ++ pages_bytes (pages_beside None items)))
 
-  -- rows behind a key
-  abbrev pub rows_bytes : {V : Type 0} → (V → List ℕ) → List ℕ → List (K × V) → List ℕ
-  rows_bytes values = entries_bytes (row_behind encoding values) (row_key encoding)
-
 module _ {K V : Type 0} (cmp : K → K → Ordering) (encoding : K → List ℕ) (values : V → List ℕ) (rows : List (K × V)) where
   -- what is told of nodes is written behind a key
   abbrev pub TellsNodes : List (K × List ℕ) → List ℕ → List ℕ → List ℕ → Type 0
@@ -32,9 +28,10 @@ module _ {K V : Type 0} (cmp : K → K → Ordering) (encoding : K → List ℕ)
   abbrev pub TellsItems : Bool → List (Item K (List ℕ)) → List ℕ → List ℕ → List ℕ → Type 0
   TellsItems with_pages items last old new = (told : Outline K V) × IsTold cmp rows with_pages items told × (new ≡ old ++ outline_bytes encoding values last told)
 
-  -- the rows in a gap are written, or the first of them
-  abbrev pub TellsPart : OwnedGap K → List ℕ → List ℕ → Type 0
-  TellsPart gap old new = (part : Part K V) × IsPartOf cmp rows gap part × (new ≡ old ++ part_bytes encoding values (bound_key encoding [] gap.after) part)
+  -- the rows in a gap are written, or the first of them, as far as so many bytes suffice
+  abbrev pub TellsPart : ℕ → OwnedGap K → List ℕ → List ℕ → Type 0
+  TellsPart most gap old new = (part : Part K V) × IsPartOf cmp rows gap part × (new ≡ old ++ part_bytes encoding values (bound_key encoding [] gap.after) part)
+      × RowsFit encoding values most old (gap, part)
 
   -- so are the rows in the first of the gaps
   abbrev pub TellsParts : List (OwnedGap K) → List ℕ → List ℕ → Type 0

@@ -5,7 +5,7 @@ ghost use Rattle.merkle_tree_theory.specs.Outline.{whole_item};
 ghost use Rattle.merkle_tree_theory.specs.State.{SameSettings};
 ghost use Rattle.merkle_wire.specs.Faults.{IsOfOthers, IsUnread, answer_error_text};
 ghost use Rattle.merkle_wire.specs.Questions.{AsksNothing};
-ghost use Rattle.merkle_wire.specs.Replies.{AsksWithOthers, IsAnsweredBy, IsReplyBy, TellsOthers, root_bytes, whole_digest};
+ghost use Rattle.merkle_wire.specs.Replies.{AsksWithOthers, EndsWithin, IsAnsweredBy, IsAnsweredWithin, IsReplyBy, TellsOthers, root_bytes, whole_digest};
 
 use crate::message::{Kind, begin};
 use crate::outlines::{Telling, tell_pages};
@@ -100,6 +100,7 @@ pub fn answer<
 >(alloc: Global, replica: &mut Replica<K, V, H, N>, message: &[u8]) -> Result<Vec<u8>, AnswerError>
     // The message asks, and the reply is that of the rows and the tree.
     ensures answered { IfOk result (IsAnsweredBy ⟦<H as Lawful<N, K, V>>⟧.laws N K.encoding V.encoding replica.old replica.new message.now) }
+    ensures within { IfOk result (IsAnsweredWithin K.encoding V.encoding 67108864 message.now) }
     ensures malformed { IfErr result (λ error. IsUnread error → AsksNothing K.encoding K.is_value message.now) }
     ensures other_settings { IfErr result (λ error. IsOfOthers error
         → AsksWithOthers ⟦<H as Lawful<N, K, V>>⟧.laws N K.encoding replica.new.tree message.now) }
@@ -109,8 +110,8 @@ pub fn answer<
     answer_within(alloc, replica, message, MOST_BYTES)
 }
 
-/// The reply to a message, which ends with the entry by which it has so many bytes, and has at least one. So it may answer the first of what is
-/// asked for, and the asking side asks for the rest. The replica keeps its rows; pages that lack a digest get it.
+/// The reply to a message, which ends with the entry by which it has so many bytes, and of the rows in a gap with the row, and has at least one. So
+/// it may answer the first of what is asked for, and the asking side asks for the rest. The replica keeps its rows; pages that lack a digest get it.
 ///
 /// # Errors
 ///
@@ -127,6 +128,7 @@ pub fn answer_within<
     most_bytes: usize,
 ) -> Result<Vec<u8>, AnswerError>
     ensures answered { IfOk result (IsAnsweredBy ⟦<H as Lawful<N, K, V>>⟧.laws N K.encoding V.encoding replica.old replica.new message.now) }
+    ensures within { IfOk result (IsAnsweredWithin K.encoding V.encoding most_bytes message.now) }
     ensures malformed { IfErr result (λ error. IsUnread error → AsksNothing K.encoding K.is_value message.now) }
     ensures other_settings { IfErr result (λ error. IsOfOthers error
         → AsksWithOthers ⟦<H as Lawful<N, K, V>>⟧.laws N K.encoding replica.new.tree message.now) }
@@ -153,6 +155,7 @@ fn reply_to<
     requires hashed { IsSome replica.now.tree.root_hash }
     ensures reply { IfOk result (IsReplyBy ⟦<H as Lawful<N, K, V>>⟧.laws N K.encoding V.encoding replica.now.rows replica.now.tree
         question.now) }
+    ensures within { IfOk result (λ reply. EndsWithin K.encoding V.encoding most_bytes question.now reply.items) }
     ensures read { IfErr result (λ error. ¬ IsUnread error) }
     ensures others { IfErr result (λ error. IsOfOthers error → TellsOthers ⟦<H as Lawful<N, K, V>>⟧.laws N replica.now.tree question.now) }
 {

@@ -113,7 +113,8 @@ impl<K: Key + Decode, V: Join + Decode> CatchingUp<K, V> {
 
     /// How many rounds of outlines were asked for: 256 at most.
     pub fn rounds(&self) -> u32
-        ensures { result ≡ self.now.rounds }
+        ensures rounds { result ≡ self.now.rounds }
+        ensures few { result ≤ 256 }
     {
         self.rounds
     }

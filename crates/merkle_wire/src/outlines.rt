@@ -4,7 +4,7 @@ ghost use Rattle.merkle_search_tree.specs.Items.{items};
 ghost use Rattle.merkle_wire.specs.Messages.{front};
 ghost use Rattle.merkle_wire.specs.Nodes.{node_pairs};
 ghost use Rattle.merkle_wire.specs.Outlines.{HasNoPage, nodes_digest, pages_beside, pages_bytes};
-ghost use Rattle.merkle_wire.specs.Replies.{items_over};
+ghost use Rattle.merkle_wire.specs.Replies.{HasRoom, OutlinesFit, items_over};
 ghost use Rattle.merkle_wire.specs.Told.{TellsItems, TellsPage, TellsPages, page_bytes};
 
 use crate::gaps::OwnedGap;
@@ -44,8 +44,9 @@ pub(crate) fn tell_pages<
 ) -> Result<Vec<u8>, AllocError>
     requires hashed { IsSome replica.now.tree.root_hash }
     requires front { length begun.items ≡ 2 }
-    ensures { IfOk result (λ bytes. TellsPages K.cmp K.bytes_of K.encoding V.encoding replica.now telling.with_pages gaps.now
+    ensures told { IfOk result (λ bytes. TellsPages K.cmp K.bytes_of K.encoding V.encoding replica.now telling.with_pages gaps.now
         begun.items bytes.items) }
+    ensures fits { IfOk result (λ bytes. OutlinesFit K.encoding V.encoding telling.most_bytes begun.items bytes.items) }
 {
     let mut bytes = begun;
     'gaps: for gap in gaps {
@@ -59,7 +60,8 @@ pub(crate) fn tell_pages<
 
 /// Whether a message that has an entry has as many bytes as it may have.
 pub(crate) fn is_full(bytes: &[u8], most: usize) -> bool
-    ensures { IsTrue result → 2 < length bytes.now }
+    ensures some { IsTrue result → 2 < length bytes.now }
+    ensures room { result ≡ false → HasRoom most bytes.now }
 {
     bytes.len() > FRONT && bytes.len() >= most
 }

@@ -3,7 +3,7 @@ ghost use Rattle.std.specs.Prelude.{◌≡◌, ◌≢◌, ◌++◌, [], length, 
 ghost use Rattle.merkle_wire.specs.Faults.{IsRefusedFor};
 ghost use Rattle.merkle_wire.specs.Fit.{SaysOutlines, SaysParts, SaysValues};
 ghost use Rattle.merkle_wire.specs.Messages.{front};
-ghost use Rattle.merkle_wire.specs.Steps.{TakesFirstOutlines, TakesFirstParts, TakesOutlines, TakesParts, TakesValues};
+ghost use Rattle.merkle_wire.specs.Steps.{TakesOutlinesOf, TakesPartsOf, TakesOutlines, TakesParts, TakesValues};
 ghost use Rattle.merkle_wire.specs.Unfit.{NoEntry, NoFront, NoOutlines, NoParts, SaysNot};
 ghost use Rattle.merkle_wire.specs.declared.message.Kind.TheVariants.{RowsAt as rows_at_kind, RowsIn as rows_in_kind};
 
@@ -87,7 +87,7 @@ fn take_first_outlines<
     gaps: &[OwnedGap<K>],
     work: &mut Work<K, V>,
 ) -> Result<usize, SessionError>
-    ensures taken { IfOk result (TakesFirstOutlines ⟦<H as Lawful<N, K, V>>⟧.laws N K.encoding V.encoding replica.now gaps.now
+    ensures taken { IfOk result (TakesOutlinesOf ⟦<H as Lawful<N, K, V>>⟧.laws N K.encoding V.encoding replica.now gaps.now
         reader.old reader.new work.old work.new) }
     ensures all { IfOk result (λ count. reader.new.left.now ≢ [] → count ≡ length gaps.now) }
     ensures refused { IfErr result (IsRefusedFor (NoOutlines K.cmp K.is_value V.is_value K.encoding V.encoding N with_pages gaps.now
@@ -174,7 +174,7 @@ fn take_first_parts<
     left: &mut Vec<OwnedGap<K>>,
     work: &mut Work<K, V>,
 ) -> Result<usize, SessionError>
-    ensures taken { IfOk result (TakesFirstParts ⟦<H as Lawful<N, K, V>>⟧.laws N K.encoding V.encoding replica.now gaps.now reader.old reader.new
+    ensures taken { IfOk result (TakesPartsOf ⟦<H as Lawful<N, K, V>>⟧.laws N K.encoding V.encoding replica.now gaps.now reader.old reader.new
         left.old left.new work.old work.new) }
     ensures all { IfOk result (λ count. reader.new.left.now ≢ [] → count ≡ length gaps.now) }
     ensures refused { IfErr result (IsRefusedFor (NoParts K.cmp K.is_value V.is_value K.encoding V.encoding gaps.now reader.old.left.now)) }

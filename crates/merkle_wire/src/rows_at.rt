@@ -2,6 +2,7 @@
 ghost use Rattle.std.specs.Prelude.{◌≡◌, ◌++◌, IfOk, OnOk, length};
 ghost use Rattle.key_order.specs.Map.{get};
 ghost use Rattle.merkle_bytes.specs.Options.{option_bytes};
+ghost use Rattle.merkle_wire.specs.Replies.{ValuesFit};
 ghost use Rattle.merkle_wire.specs.Told.{TellsValues};
 
 use crate::outlines::is_full;
@@ -24,7 +25,8 @@ pub(crate) fn tell_values<
     begun: Vec<u8>,
 ) -> Result<Vec<u8>, AllocError>
     requires { length begun.items ≡ 2 }
-    ensures { IfOk result (λ bytes. TellsValues K.cmp V.encoding replica.now.rows keys.now begun.items bytes.items) }
+    ensures told { IfOk result (λ bytes. TellsValues K.cmp V.encoding replica.now.rows keys.now begun.items bytes.items) }
+    ensures fits { IfOk result (λ bytes. ValuesFit K V.encoding most_bytes begun.items bytes.items) }
 {
     let mut bytes = begun;
     'keys: for wanted in keys {

@@ -1,12 +1,11 @@
 //! A whole catch-up between two replicas, through messages.
 ghost use Rattle.std.specs.Prelude.{◌≡◌, IfOk, IfErr, OnOk};
 ghost use Rattle.merkle_replica.specs.Contents.{side};
-ghost use Rattle.merkle_replica.specs.Faithful.{HasSmallMap};
 ghost use Rattle.merkle_tree_theory.specs.State.{SameSettings};
 ghost use Rattle.merkle_wire.specs.Questions.{question_bytes};
 ghost use Rattle.merkle_wire.specs.Sessions.{AreBrought, CatchesUpWhileFaithful, HasJoined, HaveJoined, HoldTheJoinWhileFaithful, JoinsWhileFaithful};
 ghost use Rattle.merkle_wire.specs.Sessions.{AreBothRefused, GoesOnCovering, IsMessagesRefused, IsEarly, TellsOwn, TellsOwnNext};
-ghost use Rattle.merkle_wire.specs.Steady.{HasKeysNext, HasKeysOfSides, IsForMemory, LeavesLess, SteadyNext, WhileSteady};
+ghost use Rattle.merkle_wire.specs.Steady.{EndsForMemory, GoesDown, HasKeysOfSides, IsForMemory, KeepsKeys, StaysSteady};
 
 use crate::answering::{AnswerError, answer};
 use crate::catching_up::{CatchingUp, Next};
@@ -169,15 +168,11 @@ fn exchange<K: Key + Decode, V: Join + Decode, H: Hasher<N, K> + Hasher<N, V>, c
     requires keys { HasKeysOfSides ⟦<H as Lawful<N, K, V>>⟧.laws (side replica.now) (side peer.now) session }
     ensures own { IfOk result (TellsOwnNext ⟦<H as Lawful<N, K, V>>⟧.laws N (side replica.old)) }
     ensures covers { IfOk result (GoesOnCovering ⟦<H as Lawful<N, K, V>>⟧.laws N K.encoding (side replica.old) (side peer.old) session) }
-    ensures keys { IfOk result (λ next. HasSmallMap ⟦<H as Lawful<N, K, V>>⟧.laws N (side peer.old)
-        → HasKeysNext ⟦<H as Lawful<N, K, V>>⟧.laws (side replica.old) (side peer.old) next) }
-    ensures steady { IfOk result (λ next. WhileSteady ⟦<H as Lawful<N, K, V>>⟧.laws N (side peer.old)
-        (λ root. SteadyNext ⟦<H as Lawful<N, K, V>>⟧.laws (side peer.old) root next) session) }
-    ensures less { IfOk result (λ next. WhileSteady ⟦<H as Lawful<N, K, V>>⟧.laws N (side peer.old)
-        (λ root. LeavesLess ⟦<H as Lawful<N, K, V>>⟧.laws (side peer.old) root session next) session) }
+    ensures keys { IfOk result (KeepsKeys ⟦<H as Lawful<N, K, V>>⟧.laws N (side peer.old) (side replica.old)) }
+    ensures steady { IfOk result (StaysSteady ⟦<H as Lawful<N, K, V>>⟧.laws N (side peer.old) session) }
+    ensures less { IfOk result (GoesDown ⟦<H as Lawful<N, K, V>>⟧.laws N (side peer.old) session) }
     ensures early { IfErr result (IsEarly ⟦<H as Lawful<N, K, V>>⟧.laws (side replica.old) (side peer.old)) }
-    ensures memory { IfErr result (λ fault. WhileSteady ⟦<H as Lawful<N, K, V>>⟧.laws N (side peer.old)
-        (λ root. IsForMemory ⟦<H as Lawful<N, K, V>>⟧.laws (side replica.old) (side peer.old) K.is_value V.is_value fault) session) }
+    ensures memory { IfErr result (EndsForMemory ⟦<H as Lawful<N, K, V>>⟧.laws N (side peer.old) (side replica.old) K.is_value V.is_value session) }
     ensures rows { replica.new.rows ≡ replica.old.rows }
     ensures settings { SameSettings replica.old.tree replica.new.tree }
     ensures peer_rows { peer.new.rows ≡ peer.old.rows }

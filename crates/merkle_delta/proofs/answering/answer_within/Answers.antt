@@ -1,10 +1,10 @@
-use Rattle.std.proofs.Common.{◌≡◌, ◌++◌, ◌∷◌, inr, ap, subst, sym, ◌∙◌}
+use Rattle.std.proofs.Common.{◌≡◌, ◌++◌, ap, subst, sym, ◌∙◌}
 use Rattle.std.proofs.lemmas.Result.{err_from_is_err_and}
 use Rattle.merkle_bytes.specs.Counts.{count_bytes}
 use Rattle.merkle_bytes.specs.Encodings.{list_bytes}
 use Rattle.merkle_wire.specs.Questions.{AsksNothing}
 use Rattle.merkle_delta.specs.Deltas.{IsDelta}
-use Rattle.merkle_delta.proofs.Asking.{asked_alone, asks_plainly_nothing, counts_told}
+use Rattle.merkle_delta.proofs.Asking.{answered_by_delta, asked_alone, asks_plainly_nothing, counts_told}
 use Rattle.merkle_delta.proofs.answering.answer_within.Goals as goal
 
 pub returns-in_err-plain-clause-malformed : goal.returns-in_err-plain-clause-malformed
@@ -28,16 +28,14 @@ returns-in_err-add_delta-clause-malformed g c =
 
 pub returns-clause-answered : goal.returns-clause-answered
 returns-clause-answered g c =
-    let checksums = c.in_ok-checksums.checksums.items in
-    let left = c.left.result.now in
     let (delta, is, made) = c.in_ok-add_delta.ensures in
-    inr (
-      checksums,
-      left,
-      delta,
-      c.in_ok-plain.plain,
-      c.in-Some.ensures ∙ ap (λ t. 1 ∷ 6 ∷ t) (sym c.new-reader.ensures.left ∙ c.in_ok-checksums.ensures.read ∙ ap (λ t. list_bytes count_bytes checksums ++ t) (sym c.left.ensures)),
-      c.in_ok-plain.ensures.answered,
-      is ∙ ap (λ t. t ++ delta) c.in_ok-reply.ensures.items,
-      subst (λ cs. IsDelta cs c.in_ok-plain.plain.items delta) c.deref.ensures.value made,
-    )
+    answered_by_delta _ c.args.message.now c.in-Some.asked.now c.left.result.now c.in_ok-checksums.checksums.items delta c.in_ok-plain.plain c.add_delta.new.delta c.in-Some.ensures
+    (sym c.new-reader.ensures.left ∙ c.in_ok-checksums.ensures.read) c.left.ensures c.in_ok-plain.ensures.answered (is ∙ ap (λ t. t ++ delta) c.in_ok-reply.ensures.items)
+    (subst (λ cs. IsDelta cs c.in_ok-plain.plain.items delta) c.deref.ensures.value made)
+
+pub returns-clause-within : goal.returns-clause-within
+returns-clause-within g c =
+    let (delta, is, made) = c.in_ok-add_delta.ensures in
+    answered_by_delta _ c.args.message.now c.in-Some.asked.now c.left.result.now c.in_ok-checksums.checksums.items delta c.in_ok-plain.plain c.add_delta.new.delta c.in-Some.ensures
+    (sym c.new-reader.ensures.left ∙ c.in_ok-checksums.ensures.read) c.left.ensures c.in_ok-plain.ensures.within (is ∙ ap (λ t. t ++ delta) c.in_ok-reply.ensures.items)
+    (subst (λ cs. IsDelta cs c.in_ok-plain.plain.items delta) c.deref.ensures.value made)

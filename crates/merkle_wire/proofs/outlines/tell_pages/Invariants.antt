@@ -1,7 +1,5 @@
-use Rattle.merkle_bytes.specs.Runs.{bound_key}
-use Rattle.std.proofs.Common.{[]}
-use Rattle.merkle_wire.specs.Outlines.{IsTold, outline_bytes}
-use Rattle.merkle_wire.specs.Replies.{items_over}
+use Rattle.merkle_wire.specs.Outlines.{IsTold}
+use Rattle.merkle_wire.specs.Replies.{HasRoom, items_over, outline_over_bytes}
 use Rattle.merkle_wire.proofs.Telling.{IsTelling}
 use Rattle.merkle_wire.proofs.outlines.tell_pages.Given as goal
 
@@ -9,4 +7,4 @@ use Rattle.merkle_wire.proofs.outlines.tell_pages.Given as goal
 abbrev pub invariant-gaps : goal.invariant-gaps
 invariant-gaps g l =
     IsTelling (λ gap. IsTold g.K.Ord.cmp l.replica.rows l.telling.with_pages (items_over g.K.Ord.cmp g.K.KeyBytes.bytes_of l.replica.tree gap))
-    (λ t. outline_bytes g.K.Encode.encoding g.V.Encode.encoding (bound_key g.K.Encode.encoding [] t.0.after) t.1) l.gaps l.fn.begun.items l.gap-index l.bytes.items
+    (outline_over_bytes g.K.Encode.encoding g.V.Encode.encoding) (λ before t. HasRoom l.telling.most_bytes before) l.gaps l.fn.begun.items l.gap-index l.bytes.items
