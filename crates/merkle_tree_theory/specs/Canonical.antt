@@ -14,6 +14,10 @@ module _ {K D : Type 0} where
   HasNode (page l c (high h)) = ⊥
   HasNode (page l c (node h k d r)) = ⊤
 
+-- the digests of two keys put them on one level
+abbrev pub AreOnOneLevel : {K : Type 0} → (K → List ℕ) → ℕ → K → K → Type 0
+AreOnOneLevel digest_of base a b = level_of (digest_of a) base ≡ level_of (digest_of b) base
+
 module _ {K D : Type 0} (lev : K → ℕ) where
   abbrev mutual
     -- the keys of the page's nodes have its level, and each page below has a node and a lower level, and is canonical itself
@@ -48,3 +52,7 @@ module _ {K D : Type 0} (cmp : K → K → Ordering) where
   -- the page t is the tree of the map m, where digest_of gives the digests of keys: the pages are canonical, and their map is m
   abbrev pub IsTreeOf : (K → List ℕ) → ℕ → Tree K D → List (K × D) → Type 0
   IsTreeOf digest_of base t m = IsCanonicalRoot (λ k. level_of (digest_of k) base) t × SameMap cmp (λ d e. d ≡ e) (pairs t) m
+
+-- pages that are equal apart from caches are related
+abbrev pub EqualPages : {K : Type 0} → (K → K → Ordering) → (Tree K (List ℕ) → Tree K (List ℕ) → Type 0) → Type 0
+EqualPages {K} cmp R = (t u : Tree K (List ℕ)) → SamePages cmp t u → R t u

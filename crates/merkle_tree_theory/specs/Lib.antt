@@ -5,6 +5,7 @@ pub mod Depth
 pub mod Alike
 pub mod Canonical
 pub mod TreeOf
+pub mod OneTree
 pub mod Stream
 pub mod Faithful
 pub mod Small

@@ -4,10 +4,10 @@ use Rattle.std.specs.List.{AllByRecursion}
 use Rattle.std.specs.declared.cmp.Ordering.{Ordering}
 use Rattle.key_order.specs.Order.{Same}
 use Rattle.key_order.specs.Interval.{is_in}
-use Rattle.key_order.specs.Map.{SameMap, last_key, rows_at}
+use Rattle.key_order.specs.Map.{IsMap, SameMap, last_key, rows_at}
 use Rattle.merkle_diff.specs.Entry.{Entry, span_of}
 use Rattle.merkle_tree_theory.specs.Page.{pairs}
-use Rattle.merkle_tree_theory.specs.Ranges.{IsPageOf}
+use Rattle.merkle_tree_theory.specs.Ranges.{IsPageOf, IsRangesOf}
 use Rattle.merkle_tree_theory.specs.Stream.{page_digest}
 use Rattle.merkle_tree_theory.specs.declared.page_format.PageFormat.{PageFormat}
 
@@ -32,3 +32,9 @@ module _ {K D P : Type 0} (cmp : K → K → Ordering) where
 -- `es` lists pages of the tree of the map m, with their digests in a format
 abbrev pub ListsPages : {K : Type 0} → (K → K → Ordering) → (K → List ℕ) → ℕ → PageFormat → (K → List ℕ) → List (K × List ℕ) → List (Entry K (List ℕ)) → Type 0
 ListsPages cmp digest_of base format bytes_of m es = IsListing cmp (IsPageOf cmp digest_of base) (page_digest format bytes_of) pairs m es
+
+-- under any hasher and level base and in any page format, the page ranges of each map list pages of its tree
+abbrev pub RangesListPages : {K H : Type 0} → (K → K → Ordering) → (H → K → List ℕ) → (K → List ℕ) → Type 0
+RangesListPages {K} {H} cmp digest_of bytes_of =
+    (hasher : H) (base : ℕ) (format : PageFormat) (m : List (K × List ℕ)) (es : List (Entry K (List ℕ))) → IsMap cmp m
+    → IsRangesOf cmp (digest_of hasher) base format bytes_of m es → ListsPages cmp (digest_of hasher) base format bytes_of m es

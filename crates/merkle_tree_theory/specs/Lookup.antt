@@ -1,8 +1,9 @@
 -- The page over a gap, and the page that fills one.
 use Rattle.std.specs.Prelude.{◌≡◌, ℕ, zero, suc, List, [], ◌∷◌, Option, Some, None, if◌then◌else◌}
 use Rattle.std.specs.declared.cmp.Ordering.{Ordering}
+use Rattle.key_order.specs.Map.{IsMap, get}
 use Rattle.merkle_tree_theory.specs.Canonical.{HasNode}
-use Rattle.merkle_tree_theory.specs.Gap.{Gap, is_after, is_before, pairs_within}
+use Rattle.merkle_tree_theory.specs.Gap.{Gap, IsInGap, is_after, is_before, pairs_within}
 use Rattle.merkle_tree_theory.specs.Tree.{Tree, page, Row, high, node, Held, nothing, below, Node}
 use Rattle.merkle_tree_theory.specs.Page.{pairs}
 use Rattle.merkle_tree_theory.specs.Ranges.{IsPageIn}
@@ -31,3 +32,19 @@ module _ {K D : Type 0} (cmp : K → K → Ordering) where
     pub inside : IsPageIn page whole
     pub some : HasNode page
     pub all : pairs_within cmp g (pairs whole) ≡ pairs page
+
+module _ {K : Type 0} (cmp : K → K → Ordering) where
+  -- over a gap that a page of a tree fills, that page is opened
+  abbrev pub FilledGapsOpen : Type 0
+  FilledGapsOpen = (t s : Tree K (List ℕ)) (gap : Gap K) → IsMap cmp (pairs t) → Fills cmp gap s t → page_over cmp gap t ≡ Some s
+
+  -- a page has what the tree has in the gap that it fills
+  abbrev pub PagesHaveTheirGaps : Type 0
+  PagesHaveTheirGaps =
+      (t s : Tree K (List ℕ)) (gap : Gap K) (k : K) (d : List ℕ) → IsMap cmp (pairs t) → Fills cmp gap s t
+      → IsInGap cmp k gap → get cmp (pairs t) k ≡ Some d → get cmp (pairs s) k ≡ Some d
+
+  -- a tree has what a page of it has
+  abbrev pub TreesHaveTheirPages : Type 0
+  TreesHaveTheirPages =
+      (t s : Tree K (List ℕ)) (k : K) (d : List ℕ) → IsMap cmp (pairs t) → IsPageIn s t → get cmp (pairs s) k ≡ Some d → get cmp (pairs t) k ≡ Some d

@@ -1,8 +1,11 @@
 -- The outline of a page.
-use Rattle.std.specs.Prelude.{◌≡◌, ℕ, ◌<◌, List, [], ◌∷◌, ◌++◌, Option, Some, None}
+use Rattle.std.specs.Prelude.{◌≡◌, ℕ, ◌+◌, ◌<◌, List, [], ◌∷◌, ◌++◌, Option, Some, None}
+use Rattle.std.specs.List.{AllByRecursion}
 use Rattle.std.specs.declared.cmp.Ordering.{Ordering}
-use Rattle.key_order.specs.Order.{Same}
-use Rattle.key_order.specs.Map.{get}
+use Rattle.key_order.specs.Order.{AnyByRecursion, Same}
+use Rattle.key_order.specs.Map.{IsMap, get}
+use Rattle.merkle_digest.specs.Level.{level_of}
+use Rattle.merkle_tree_theory.specs.Canonical.{IsCanonicalRoot}
 use Rattle.merkle_tree_theory.specs.Gap.{Gap, IsInGap, everywhere, part_before, part_behind}
 use Rattle.merkle_tree_theory.specs.Tree.{Tree, page, Row, high, node, Held, nothing, below}
 use Rattle.merkle_tree_theory.specs.Page.{level, cache, pairs}
@@ -65,3 +68,30 @@ module _ {K : Type 0} (format : PageFormat) (bytes_of : K → List ℕ) where
 abbrev pub HasItemAt : {K : Type 0} → (K → K → Ordering) → K → Item K (List ℕ) → Type 0
 HasItemAt cmp k (of_node j d) = Same cmp k j
 HasItemAt cmp k (of_page g digest) = IsInGap cmp k g
+
+module _ {K : Type 0} (cmp : K → K → Ordering) (format : PageFormat) (bytes_of : K → List ℕ) (t : Tree K (List ℕ)) where
+  -- the outline of a page that fills the gap has items of the tree, with pages of lower levels than its own, and has each key of the gap
+  abbrev pub LeadsDown : Tree K (List ℕ) → Gap K → Type 0
+  LeadsDown s gap =
+      AllByRecursion (IsItemOf format bytes_of cmp t (level s)) (outline_of format bytes_of gap s)
+      × ((k : K) (d : List ℕ) → get cmp (pairs t) k ≡ Some d → IsInGap cmp k gap
+      → AnyByRecursion (HasItemAt cmp k) (outline_of format bytes_of gap s))
+
+  -- the whole tree as one item is of the tree, and has each key
+  abbrev pub LeadsToAll : Type 0
+  LeadsToAll =
+      AllByRecursion (IsItemOf format bytes_of cmp t (level t + 1)) (whole_item format bytes_of t)
+      × ((k : K) (d : List ℕ) → get cmp (pairs t) k ≡ Some d → AnyByRecursion (HasItemAt cmp k) (whole_item format bytes_of t))
+
+module _ {K H : Type 0} (cmp : K → K → Ordering) (digest_of : H → K → List ℕ) (bytes_of : K → List ℕ) where
+  -- under any hasher and level base and in any page format, the outline of each page that fills a gap of a tree leads down
+  abbrev pub OutlinesLeadDown : Type 0
+  OutlinesLeadDown =
+      (hasher : H) (base : ℕ) (format : PageFormat) (t s : Tree K (List ℕ)) (gap : Gap K)
+      → IsMap cmp (pairs t) → IsCanonicalRoot (λ k. level_of (digest_of hasher k) base) t → Fills cmp gap s t → LeadsDown cmp format bytes_of t s gap
+
+  -- so does each whole tree as one item, to all its keys
+  abbrev pub WholeTreesLeadDown : Type 0
+  WholeTreesLeadDown =
+      (hasher : H) (base : ℕ) (format : PageFormat) (t : Tree K (List ℕ))
+      → IsMap cmp (pairs t) → IsCanonicalRoot (λ k. level_of (digest_of hasher k) base) t → LeadsToAll cmp format bytes_of t

@@ -1,10 +1,11 @@
 -- The page ranges of a tree, and which lists of them belong to a map.
 use Rattle.std.specs.Prelude.{◌≡◌, ℕ, List, [], ◌∷◌, ◌++◌, ◌⊎◌}
 use Rattle.std.specs.declared.cmp.Ordering.{Ordering}
-use Rattle.key_order.specs.Map.{last_key}
+use Rattle.key_order.specs.Map.{IsMap, SameMap, last_key}
 use Rattle.key_order.specs.Interval.{Span}
 use Rattle.merkle_diff.specs.Difference.{IsDifference, SparesAgreed}
 use Rattle.merkle_diff.specs.Entry.{Entry}
+use Rattle.merkle_diff.specs.SameEntries.{SameEntries}
 use Rattle.merkle_tree_theory.specs.Tree.{Tree, page, Row, high, node, Held, nothing, below}
 use Rattle.merkle_tree_theory.specs.Page.{row_pairs}
 use Rattle.merkle_tree_theory.specs.Stream.{page_digest}
@@ -56,3 +57,20 @@ module _ {K : Type 0} (cmp : K → K → Ordering) (digest_of : K → List ℕ) 
 -- whatever has the interval laws and the laws on trees on the two lists is empty: so is what `diff` answers on lists of trees
 abbrev pub NothingToAsk : {K : Type 0} → (K → K → Ordering) → List (Entry K (List ℕ)) → List (Entry K (List ℕ)) → Type 0
 NothingToAsk {K} cmp ls ps = (found : List (Span K)) → IsDifference cmp ls ps found → SparesAgreed cmp ls ps found → found ≡ []
+
+-- two pages have equal page ranges
+abbrev pub SameRanges : {K : Type 0} → (K → K → Ordering) → PageFormat → (K → List ℕ) → Tree K (List ℕ) → Tree K (List ℕ) → Type 0
+SameRanges cmp format bytes_of t u = SameEntries cmp (ranges_of format bytes_of t) (ranges_of format bytes_of u)
+
+module _ {K H : Type 0} (cmp : K → K → Ordering) (digest_of : H → K → List ℕ) (bytes_of : K → List ℕ) where
+  -- under any hasher and level base and in any page format, the page ranges of each map have the property
+  abbrev pub RangesOfMaps : (List (Entry K (List ℕ)) → Type 0) → Type 0
+  RangesOfMaps P =
+      (hasher : H) (base : ℕ) (format : PageFormat) (m : List (K × List ℕ)) (es : List (Entry K (List ℕ))) → IsMap cmp m
+      → IsRangesOf cmp (digest_of hasher) base format bytes_of m es → P es
+
+  -- so are the page ranges of equal maps related
+  abbrev pub RangesOfEqualMaps : (List (Entry K (List ℕ)) → List (Entry K (List ℕ)) → Type 0) → Type 0
+  RangesOfEqualMaps R =
+      (hasher : H) (base : ℕ) (format : PageFormat) (a b : List (K × List ℕ)) (es fs : List (Entry K (List ℕ))) → SameMap cmp (λ d e. d ≡ e) a b
+      → IsRangesOf cmp (digest_of hasher) base format bytes_of a es → IsRangesOf cmp (digest_of hasher) base format bytes_of b fs → R es fs

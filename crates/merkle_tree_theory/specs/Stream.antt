@@ -1,5 +1,5 @@
 -- The stream of a page in a format, and the digest of a page, which is SipHash-2-4-128 of its stream under the zero key.
-use Rattle.std.specs.Prelude.{ℕ, List, [], ◌∷◌, ◌++◌, length}
+use Rattle.std.specs.Prelude.{◌≡◌, ℕ, List, [], ◌∷◌, ◌++◌, length}
 use Rattle.std.specs.Int.{w64, to_le_bytes}
 use Rattle.merkle_digest.specs.SipHash.{siphash128, zero_key}
 use Rattle.merkle_tree_theory.specs.Tree.{Tree, page, Row, high, node, Held, nothing, below}
@@ -46,3 +46,7 @@ module _ {K : Type 0} (format : PageFormat) (bytes_of : K → List ℕ) where
   -- the digest of a page, whatever caches there are
   abbrev pub page_digest : Tree K (List ℕ) → List ℕ
   page_digest t = siphash128 zero_key (stream_of t)
+
+  -- two pages have one digest
+  abbrev pub SameDigest : Tree K (List ℕ) → Tree K (List ℕ) → Type 0
+  SameDigest t u = page_digest t ≡ page_digest u
