@@ -84,6 +84,10 @@ module _ {K D : Type 0} (cmp : K → K → Ordering) where
       (ms : List (Mark K)) × (P : List (Entry K D)) × (L : List (Entry K D)) × (bad : List (Span K)) × (good : List (Span K))
       × Walk cmp (span_of b) None (b ∷ ps) ls ms P L × IsMerge cmp (bad_of ms) bad × IsMerge cmp (good_of ms) good × IsExactCut cmp bad good found
 
+  -- two answers by the exact walk on the lists have equal bounds, place by place
+  abbrev pub HaveOneAnswer : List (Entry K D) → List (Entry K D) → Type 0
+  HaveOneAnswer ls ps = (xs ys : List (Span K)) → IsByWalk ls ps xs → IsByWalk ls ps ys → SameSpans cmp xs ys
+
   -- the answer on a local and a peer list
   pub record IsAnswer (ls ps : List (Entry K D)) (found : List (Span K)) : Type 0 where
     -- on any two lists

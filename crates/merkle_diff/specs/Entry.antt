@@ -1,4 +1,5 @@
 -- Entries of a list of page ranges.
+use Rattle.std.specs.Prelude.{Result, IsOk}
 use Rattle.std.specs.declared.cmp.Ordering.{Ordering}
 use Rattle.key_order.specs.Interval.{Span, IsWithin}
 
@@ -15,3 +16,7 @@ span_of e = record { first = e.first; last = e.last }
 -- the span of a is within that of b, and b holds a
 abbrev pub EntryWithin : {K D : Type 0} → (K → K → Ordering) → Entry K D → Entry K D → Type 0
 EntryWithin cmp a b = IsWithin cmp (span_of a) (span_of b)
+
+-- the call succeeds where P holds of both bounds
+abbrev pub SucceedsAtBounds : {K D A E : Type 0} → (K → Type 0) → Entry K D → Result A E → Type 0
+SucceedsAtBounds P e result = P e.first → P e.last → IsOk result

@@ -17,6 +17,7 @@ pub mod Cut
 pub mod TreeShape
 pub mod Walk
 pub mod Difference
+pub mod Answers
 -- what the clauses of private functions cite alone: the code's steps
 pub mod Lookahead
 pub mod Sweep

@@ -1,5 +1,5 @@
 -- An iterator with its next item.
-use Rattle.std.specs.Prelude.{◌≡◌, List, [], ◌∷◌, ◌+◌, ℕ, IfSome, Option, Some, None}
+use Rattle.std.specs.Prelude.{◌≡◌, ◌≤◌, ◌<◌, List, [], ◌∷◌, ◌+◌, ℕ, IfSome, MatchOption, Option, Some, None}
 use Rattle.std.specs.Iterator.{Count, IsFinite, size}
 use Rattle.merkle_diff.specs.declared.lookahead.Lookahead.{Lookahead}
 
@@ -19,3 +19,7 @@ left_of left q = left_by q.head (size (left q.rest))
 abbrev pub Leaves : {I X : Type 0} → (I → Option X → I → Type 0) → Lookahead I X → List X → Type 0
 Leaves steps q [] = q.head ≡ None
 Leaves {I} {X} steps q (x ∷ xs) = (q.head ≡ Some x) × (next : Lookahead I X) × steps q.rest next.head next.rest × Leaves steps next xs
+
+-- no more items are left than before, and fewer where something came of it
+abbrev pub ComesNearer : {I X Y : Type 0} → (I → Count) → Lookahead I X → Lookahead I X → Option Y → Type 0
+ComesNearer left old new r = MatchOption r (left_of left new ≤ left_of left old) (λ _. left_of left new < left_of left old)

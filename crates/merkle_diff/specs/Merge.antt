@@ -1,9 +1,9 @@
 -- The merge of a list of spans: those that meet become one.
-use Rattle.std.specs.Prelude.{List, [], ◌∷◌, map, ⊤}
+use Rattle.std.specs.Prelude.{◌↔◌, List, [], ◌∷◌, map, ⊤}
 use Rattle.std.specs.List.{AllByRecursion}
 use Rattle.std.specs.declared.cmp.Ordering.{Ordering}
 use Rattle.key_order.specs.Order.{AnyByRecursion, Upto, Below, Same, IsAscending}
-use Rattle.key_order.specs.Interval.{Span, SameSpan}
+use Rattle.key_order.specs.Interval.{Span, SameSpan, IsCovered}
 
 module _ {K : Type 0} (cmp : K → K → Ordering) where
   -- no span of the list has first < k <= last
@@ -31,3 +31,7 @@ module _ {K : Type 0} (cmp : K → K → Ordering) where
   SameSpans [] (t ∷ ts) = ⊥
   SameSpans (s ∷ ss) [] = ⊥
   SameSpans (s ∷ ss) (t ∷ ts) = SameSpan cmp s t × SameSpans ss ts
+
+  -- a key is in a span of the one list exactly if it is in a span of the other
+  abbrev pub CoverSameKeys : List (Span K) → List (Span K) → Type 0
+  CoverSameKeys ss ts = (k : K) → IsCovered cmp k ss ↔ IsCovered cmp k ts

@@ -1,5 +1,5 @@
 -- Entries that are equal: equal bounds, and the same digest.
-use Rattle.std.specs.Prelude.{◌≡◌, Bool, List, [], ◌∷◌, ⊤}
+use Rattle.std.specs.Prelude.{◌≡◌, Bool, true, List, [], ◌∷◌, ⊤}
 use Rattle.std.specs.Cmp.Lexicographic.{pointwise}
 use Rattle.std.specs.Ordering.{eq_of_both, on}
 use Rattle.std.specs.declared.cmp.Ordering.{Ordering}
@@ -26,3 +26,7 @@ module _ {K D : Type 0} (eq : K → K → Bool) (alike : D → D → Bool) where
   -- the test of `SameEntries`
   abbrev pub same_entries : List (Entry K D) → List (Entry K D) → Bool
   same_entries = pointwise same_entry
+
+-- each of the two is equal to the other by the test
+abbrev pub EqualBothWays : {X : Type 0} → (X → X → Bool) → X → X → Type 0
+EqualBothWays eq a b = (eq a b ≡ true) × (eq b a ≡ true)

@@ -1,5 +1,5 @@
 -- The walk of `diff` over a peer's and a local list, by cases.
-use Rattle.std.specs.Prelude.{◌≡◌, ◌≢◌, true, false, if◌then◌else◌, List, [], ◌∷◌, ◌++◌, map, Option, Some, None}
+use Rattle.std.specs.Prelude.{◌≡◌, ◌≢◌, Bool, true, false, if◌then◌else◌, List, [], ◌∷◌, ◌++◌, map, Option, Some, None}
 use Rattle.std.specs.declared.cmp.Ordering.{Ordering}
 use Rattle.key_order.specs.Order.{upto}
 use Rattle.key_order.specs.Interval.{Span, is_within}
@@ -9,6 +9,10 @@ use Rattle.merkle_diff.specs.Entry.{Entry, span_of}
 pub data Mark (K : Type 0) : Type 0 where
   Bad : Span K → Mark K
   Good : Span K → Mark K
+
+-- the mark of a span: good where it agrees
+abbrev pub mark_of : {K : Type 0} → Bool → Span K → Mark K
+mark_of agrees s = if agrees then Good s else Bad s
 
 -- the spans that are marked bad
 abbrev pub bad_of : {K : Type 0} → List (Mark K) → List (Span K)

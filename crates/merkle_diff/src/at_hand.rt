@@ -1,6 +1,6 @@
 //! `diff` of two lists that are at hand: what its contract says of any iterators, said of these lists.
-ghost use Rattle.std.specs.Prelude.{◌≡◌, [], IfOk, IsOkAnd, OnErr};
-ghost use Rattle.merkle_diff.specs.DiffRange.{spans};
+ghost use Rattle.std.specs.Prelude.{OnErr};
+ghost use Rattle.merkle_diff.specs.Answers.{IfFound, FindsNothing};
 ghost use Rattle.merkle_diff.specs.Difference.{IsAnswer, MayAsk};
 ghost use Rattle.merkle_diff.specs.PageRange.{entries};
 ghost use Rattle.merkle_diff.specs.PageRangeSnapshot.{snapshot_entries};
@@ -22,9 +22,9 @@ pub fn diff_lists<'p, K: Ord>(
     local: Vec<PageRange<'p, K>>,
     peer: Vec<PageRange<'p, K>>,
 ) -> Result<Vec<DiffRange<'p, K>>, AllocError>
-    ensures answer { IfOk result (λ found. IsAnswer K.cmp (entries local.entry.items) (entries peer.entry.items) (spans found.items)) }
+    ensures answer { IfFound result (IsAnswer K.cmp (entries local.entry.items) (entries peer.entry.items)) }
     ensures memory { OnErr result (MayAsk K.cmp (entries local.entry.items) (entries peer.entry.items)) }
-    ensures nothing { ¬ (MayAsk K.cmp (entries local.entry.items) (entries peer.entry.items)) → IsOkAnd result (λ found. spans found.items ≡ []) }
+    ensures nothing { ¬ (MayAsk K.cmp (entries local.entry.items) (entries peer.entry.items)) → FindsNothing result }
 {
     diff(alloc, local, peer)
 }
@@ -40,9 +40,9 @@ pub fn diff_slices<'p, K: Ord>(
     local: &[PageRange<'p, K>],
     peer: &[PageRange<'p, K>],
 ) -> Result<Vec<DiffRange<'p, K>>, AllocError>
-    ensures answer { IfOk result (λ found. IsAnswer K.cmp (entries local.entry.now) (entries peer.entry.now) (spans found.items)) }
+    ensures answer { IfFound result (IsAnswer K.cmp (entries local.entry.now) (entries peer.entry.now)) }
     ensures memory { OnErr result (MayAsk K.cmp (entries local.entry.now) (entries peer.entry.now)) }
-    ensures nothing { ¬ (MayAsk K.cmp (entries local.entry.now) (entries peer.entry.now)) → IsOkAnd result (λ found. spans found.items ≡ []) }
+    ensures nothing { ¬ (MayAsk K.cmp (entries local.entry.now) (entries peer.entry.now)) → FindsNothing result }
 {
     diff(alloc, SliceIter::new(local), SliceIter::new(peer))
 }
@@ -58,9 +58,9 @@ pub fn diff_snapshots<'p, K: Ord>(
     local: &'p PageRangeSnapshot<K>,
     peer: &'p PageRangeSnapshot<K>,
 ) -> Result<Vec<DiffRange<'p, K>>, AllocError>
-    ensures answer { IfOk result (λ found. IsAnswer K.cmp (snapshot_entries local.now) (snapshot_entries peer.now) (spans found.items)) }
+    ensures answer { IfFound result (IsAnswer K.cmp (snapshot_entries local.now) (snapshot_entries peer.now)) }
     ensures memory { OnErr result (MayAsk K.cmp (snapshot_entries local.now) (snapshot_entries peer.now)) }
-    ensures nothing { ¬ (MayAsk K.cmp (snapshot_entries local.now) (snapshot_entries peer.now)) → IsOkAnd result (λ found. spans found.items ≡ []) }
+    ensures nothing { ¬ (MayAsk K.cmp (snapshot_entries local.now) (snapshot_entries peer.now)) → FindsNothing result }
 {
     diff(alloc, local.iter(), peer.iter())
 }

@@ -1,5 +1,5 @@
 //! Ranges of keys that are known to differ or to agree become the list of ranges to ask for.
-ghost use Rattle.std.specs.Prelude.{◌≡◌, ◌≢◌, [], ◌∷◌, ◌++◌, OnOk, OnErr, IfOk};
+ghost use Rattle.std.specs.Prelude.{◌≡◌, ◌≢◌, [], OnOk, OnErr};
 ghost use Rattle.key_order.specs.Order.{Upto};
 
 use crate::diff_range::DiffRange;
@@ -17,8 +17,9 @@ pub struct DiffListBuilder<'a, K: Ord> {
 }
 
 impl<'a, K: Ord> DiffListBuilder<'a, K> {
+    ghost use Rattle.merkle_diff.specs.Answers.{IfFound};
     ghost use Rattle.merkle_diff.specs.DiffListBuilder.{inconsistent_spans, consistent_spans, IsDiffList};
-    ghost use Rattle.merkle_diff.specs.DiffRange.{spans};
+    ghost use Rattle.merkle_diff.specs.RangeList.{Inserts};
 
     /// A builder with no ranges, which will take its memory from `alloc`.
     pub fn new(alloc: Global) -> DiffListBuilder<'a, K>
@@ -39,7 +40,7 @@ impl<'a, K: Ord> DiffListBuilder<'a, K> {
     /// Want of memory, which leaves the builder as it was.
     pub fn inconsistent(&mut self, start: &'a K, end: &'a K) -> Result<(), AllocError>
         requires { Upto K.cmp start.now end.now }
-        ensures ok { OnOk result (inconsistent_spans self.new ≡ inconsistent_spans self.old ++ record { first = start.now; last = end.now } ∷ []) }
+        ensures ok { OnOk result (Inserts (inconsistent_spans self.old) start.now end.now (inconsistent_spans self.new)) }
         ensures err { OnErr result (inconsistent_spans self.new ≡ inconsistent_spans self.old) }
         ensures same { consistent_spans self.new ≡ consistent_spans self.old }
     {
@@ -53,7 +54,7 @@ impl<'a, K: Ord> DiffListBuilder<'a, K> {
     /// Want of memory, which leaves the builder as it was.
     pub fn consistent(&mut self, start: &'a K, end: &'a K) -> Result<(), AllocError>
         requires { Upto K.cmp start.now end.now }
-        ensures ok { OnOk result (consistent_spans self.new ≡ consistent_spans self.old ++ record { first = start.now; last = end.now } ∷ []) }
+        ensures ok { OnOk result (Inserts (consistent_spans self.old) start.now end.now (consistent_spans self.new)) }
         ensures err { OnErr result (consistent_spans self.new ≡ consistent_spans self.old) }
         ensures same { inconsistent_spans self.new ≡ inconsistent_spans self.old }
     {
@@ -67,7 +68,7 @@ impl<'a, K: Ord> DiffListBuilder<'a, K> {
     ///
     /// Want of memory, with which the builder is given up. It is taken only where ranges of both kinds were marked.
     pub fn into_diff_vec(self) -> Result<Vec<DiffRange<'a, K>>, AllocError>
-        ensures cut { IfOk result (λ found. IsDiffList K.cmp (inconsistent_spans self.entry) (consistent_spans self.entry) (spans found.items)) }
+        ensures cut { IfFound result (IsDiffList K.cmp (inconsistent_spans self.entry) (consistent_spans self.entry)) }
         ensures memory { OnErr result ((inconsistent_spans self.entry ≢ []) × (consistent_spans self.entry ≢ [])) }
     {
         let bad = self.inconsistent.into_vec()?;

@@ -1,12 +1,11 @@
 //! The ranges in which a local and a peer list of page ranges differ.
 ghost use Rattle.std.specs.Iterator.{IsFiniteIterable};
-ghost use Rattle.std.specs.Prelude.{[], ◌∷◌, ◌⊎◌, IfOk, OnErr};
-ghost use Rattle.merkle_diff.specs.DiffRange.{spans};
-ghost use Rattle.merkle_diff.specs.Difference.{IsAnswer, IsByWalk, MayAnswer};
-ghost use Rattle.merkle_diff.specs.Iterable.{Gives, Begins};
-ghost use Rattle.merkle_diff.specs.Lookahead.{CanGoOn, Leaves};
-ghost use Rattle.merkle_diff.specs.PageRange.{entry, entries};
-ghost use Rattle.merkle_diff.specs.Turn.{HeadsMayAnswer};
+ghost use Rattle.std.specs.Prelude.{OnErr};
+ghost use Rattle.merkle_diff.specs.Answers.{IfFound, ComesOf, FirstsMayAnswer};
+ghost use Rattle.merkle_diff.specs.Difference.{IsAnswer, IsByWalk};
+ghost use Rattle.merkle_diff.specs.Iterable.{Gives, GivesFirst};
+ghost use Rattle.merkle_diff.specs.Lookahead.{CanGoOn};
+ghost use Rattle.merkle_diff.specs.Turn.{HeadsMayAnswer, LeavesBoth};
 
 use crate::diff_range::DiffRange;
 use crate::lookahead::{Lookahead, drain, look_ahead};
@@ -59,14 +58,12 @@ where
     requires peer_ends { IsFiniteIterable U.into_iter_gives U.IntoIter.can_next U.IntoIter.remaining peer }
 
     // The interval laws, the laws on trees and the exact walk hold of the two lists that were given.
-    ensures answer { IfOk result (λ found. (ls : _) × (ps : _)
-        × Gives T.into_iter_gives T.IntoIter.next_gives local ls × Gives U.into_iter_gives U.IntoIter.next_gives peer ps
-        × IsAnswer K.cmp (entries ls) (entries ps) (spans found.items)) }
+    ensures answer { IfFound result (ComesOf
+        (Gives T.into_iter_gives T.IntoIter.next_gives local) (Gives U.into_iter_gives U.IntoIter.next_gives peer) (IsAnswer K.cmp)) }
 
     // It is refused only where local is empty, or the first entries are such that a range may be answered.
-    ensures memory { OnErr result ((b : _) × Begins U.into_iter_gives U.IntoIter.next_gives peer (b ∷ [])
-        × (Gives T.into_iter_gives T.IntoIter.next_gives local []
-        ⊎ ((a : _) × Begins T.into_iter_gives T.IntoIter.next_gives local (a ∷ []) × MayAnswer K.cmp (entry a) (entry b)))) }
+    ensures memory { OnErr result (FirstsMayAnswer K.cmp
+        (GivesFirst T.into_iter_gives T.IntoIter.next_gives local) (GivesFirst U.into_iter_gives U.IntoIter.next_gives peer)) }
 {
     differences(
         alloc,
@@ -87,8 +84,7 @@ where
     J: Iterator<Item = PageRange<'p, K>>,
     requires locals { CanGoOn I.can_next I.remaining locals }
     requires peers { CanGoOn J.can_next J.remaining peers }
-    ensures ok { IfOk result (λ found. (ls : _) × (ps : _) × Leaves I.next_gives locals.entry ls × Leaves J.next_gives peers.entry ps
-        × IsByWalk K.cmp (entries ls) (entries ps) (spans found.items)) }
+    ensures ok { IfFound result (LeavesBoth I.next_gives J.next_gives locals.entry peers.entry (IsByWalk K.cmp)) }
     ensures err { OnErr result (HeadsMayAnswer K.cmp locals.entry.head peers.entry.head) }
 {
     let Some(first) = &peers.head else {

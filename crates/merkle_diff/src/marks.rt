@@ -1,7 +1,7 @@
 //! The ranges that the walk marks.
-ghost use Rattle.std.specs.Prelude.{◌≡◌, ◌++◌, OnOk};
-ghost use Rattle.merkle_diff.specs.DiffRange.{spans};
-ghost use Rattle.merkle_diff.specs.Walk.{bad_of, good_of, gap_mark};
+ghost use Rattle.std.specs.Prelude.{OnOk};
+ghost use Rattle.merkle_diff.specs.Turn.{MarkedBad, MarkedGood};
+ghost use Rattle.merkle_diff.specs.Walk.{gap_mark};
 
 use crate::diff_range::DiffRange;
 use crate::order::is_upto;
@@ -20,8 +20,8 @@ pub fn mark_gap<'p, K: Ord>(
     end: &'p K,
     marks: &mut Marks<'p, K>,
 ) -> Result<(), AllocError>
-    ensures bad { OnOk result (spans marks.new.bad.items ≡ spans marks.old.bad.items ++ bad_of (gap_mark K.cmp from.entry.now end.entry.now)) }
-    ensures good { OnOk result (spans marks.new.good.items ≡ spans marks.old.good.items ++ good_of (gap_mark K.cmp from.entry.now end.entry.now)) }
+    ensures bad { OnOk result (MarkedBad marks.old (gap_mark K.cmp from.entry.now end.entry.now) marks.new) }
+    ensures good { OnOk result (MarkedGood marks.old (gap_mark K.cmp from.entry.now end.entry.now) marks.new) }
 {
     if is_upto(from, end) {
         marks.bad.push(DiffRange::new(from, end))?;

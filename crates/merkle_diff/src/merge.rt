@@ -1,8 +1,8 @@
 //! Ranges that meet become one.
-ghost use Rattle.std.specs.Prelude.{◌≡◌, ◌≤◌, ◌↔◌, length, take, IsPermutation, IsSortedByKey};
-ghost use Rattle.key_order.specs.Interval.{IsApart, IsCovered};
+ghost use Rattle.std.specs.Prelude.{◌≡◌, ◌≤◌, length, take, IsPermutation, IsSortedByKey};
+ghost use Rattle.key_order.specs.Interval.{IsApart};
 ghost use Rattle.merkle_diff.specs.DiffRange.{span, spans};
-ghost use Rattle.merkle_diff.specs.Merge.{IsMerge};
+ghost use Rattle.merkle_diff.specs.Merge.{CoverSameKeys, IsMerge};
 ghost use Rattle.merkle_diff.specs.Sweep.{swept};
 
 use crate::diff_range::DiffRange;
@@ -39,7 +39,7 @@ fn merge_to_front<'a, K: Ord>(ranges: &mut [DiffRange<'a, K>]) -> usize
 pub fn merge_overlapping<'a, K: Ord>(ranges: &mut Vec<DiffRange<'a, K>>)
     requires { IsSortedByKey (λ r. (span r).first) K.cmp ranges.old.items }
     ensures merged { IsMerge K.cmp (spans ranges.old.items) (spans ranges.new.items) }
-    ensures same_keys { (k : K) → IsCovered K.cmp k (spans ranges.old.items) ↔ IsCovered K.cmp k (spans ranges.new.items) }
+    ensures same_keys { CoverSameKeys K.cmp (spans ranges.old.items) (spans ranges.new.items) }
     ensures apart { IsApart K.cmp (spans ranges.new.items) }
 {
     let kept = merge_to_front(ranges.as_mut_slice());

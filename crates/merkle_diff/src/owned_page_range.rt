@@ -2,7 +2,7 @@
 ghost use Rattle.std.proofs.Common.{rules};
 ghost use Rattle.std.specs.Cmp.Rules.{comparing};
 ghost use Rattle.std.specs.Ordering.{on};
-ghost use Rattle.std.specs.Prelude.{◌≡◌, ◌↔◌, true, IfOk, IfSome, IsOk, IsSome};
+ghost use Rattle.std.specs.Prelude.{◌≡◌, ◌↔◌, IfOk, IfSome, IsSome};
 ghost use Rattle.key_order.specs.Order.{Upto};
 
 use crate::page_range::PageRange;
@@ -80,9 +80,10 @@ impl<K: Ord + Drop> OwnedPageRange<K> {
 }
 
 impl<K: SameClone> OwnedPageRange<K> {
+    ghost use Rattle.merkle_diff.specs.Entry.{SucceedsAtBounds};
     ghost use Rattle.merkle_diff.specs.OwnedPageRange.{owned_entry};
     ghost use Rattle.merkle_diff.specs.PageRange.{entry};
-    ghost use Rattle.merkle_diff.specs.SameEntries.{SameEntry};
+    ghost use Rattle.merkle_diff.specs.SameEntries.{EqualBothWays, SameEntry};
 
     /// The range with clones of its two keys. The allocator is not used: a key is cloned on its own.
     ///
@@ -94,7 +95,7 @@ impl<K: SameClone> OwnedPageRange<K> {
         range: PageRange<'_, K>,
     ) -> Result<OwnedPageRange<K>, AllocError>
         ensures same { IfOk result (λ owned. SameEntry K.cmp (entry range.entry) (owned_entry owned)) }
-        ensures succeeds { K.is_infallible (entry range.entry).first → K.is_infallible (entry range.entry).last → IsOk result }
+        ensures succeeds { SucceedsAtBounds K.is_infallible (entry range.entry) result }
     {
         let start = range.start().clone()?;
         let end = range.end().clone()?;
@@ -112,8 +113,8 @@ impl<K: SameClone> OwnedPageRange<K> {
     /// `AllocError` where the clone of a key is refused, and only there.
     pub fn try_clone(&self, alloc: Global) -> Result<OwnedPageRange<K>, AllocError>
         ensures same { IfOk result (λ copy. SameEntry K.cmp (owned_entry self.now) (owned_entry copy)) }
-        ensures equal { IfOk result (λ copy. (⟦<OwnedPageRange<K> as PartialEq>⟧.eq self.now copy ≡ true) × (⟦<OwnedPageRange<K> as PartialEq>⟧.eq copy self.now ≡ true)) }
-        ensures succeeds { K.is_infallible (owned_entry self.now).first → K.is_infallible (owned_entry self.now).last → IsOk result }
+        ensures equal { IfOk result (EqualBothWays ⟦<OwnedPageRange<K> as PartialEq>⟧.eq self.now) }
+        ensures succeeds { SucceedsAtBounds K.is_infallible (owned_entry self.now) result }
     {
         OwnedPageRange::from_range(alloc, self.as_page_range())
     }

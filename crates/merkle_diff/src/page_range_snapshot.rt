@@ -6,12 +6,12 @@ ghost use Rattle.std.specs.Cmp.Rules.{comparing};
 ghost use Rattle.std.specs.Iterator.{IsFiniteIterable, UpTo, YieldsFirstBy, item_count};
 ghost use Rattle.std.specs.Iterator.SizeHint.{IsWithinCount};
 ghost use Rattle.std.specs.Ordering.{on};
-ghost use Rattle.std.specs.Prelude.{◌≡◌, true, IfOk, IfSome, IsOkAnd, length};
+ghost use Rattle.std.specs.Prelude.{◌≡◌, IfOk, IfSome, IsOkAnd, length};
 ghost use Rattle.merkle_diff.specs.Iterable.{Gives};
 ghost use Rattle.merkle_diff.specs.OwnedPageRange.{owned_entries};
 ghost use Rattle.merkle_diff.specs.PageRange.{entries, entry};
-ghost use Rattle.merkle_diff.specs.PageRangeSnapshot.{entries_left, snapshot_entries};
-ghost use Rattle.merkle_diff.specs.SameEntries.{SameEntries, same_entries};
+ghost use Rattle.merkle_diff.specs.PageRangeSnapshot.{HasClonesOf, IsSnapshotOf, entries_left, snapshot_entries};
+ghost use Rattle.merkle_diff.specs.SameEntries.{EqualBothWays, SameEntries, same_entries};
 
 use crate::owned_page_range::OwnedPageRange;
 use crate::page_range::PageRange;
@@ -66,8 +66,7 @@ impl<K: Ord + Drop> PageRangeSnapshot<K> {
     where
         T: IntoIterator<Item = OwnedPageRange<K>>,
         requires ends { IsFiniteIterable T.into_iter_gives T.IntoIter.can_next T.IntoIter.remaining iter }
-        ensures { IfOk result (λ snapshot. (ranges : _) × Gives T.into_iter_gives T.IntoIter.next_gives iter ranges
-            × (snapshot_entries snapshot ≡ owned_entries ranges)) }
+        ensures { IfOk result (IsSnapshotOf (Gives T.into_iter_gives T.IntoIter.next_gives iter)) }
     {
         Ok(PageRangeSnapshot {
             alloc,
@@ -102,8 +101,7 @@ impl<K: SameClone> PageRangeSnapshot<K> {
         K: 'a,
         T: IntoIterator<Item = PageRange<'a, K>>,
         requires ends { IsFiniteIterable T.into_iter_gives T.IntoIter.can_next T.IntoIter.remaining iter }
-        ensures { IfOk result (λ snapshot. (ranges : _) × Gives T.into_iter_gives T.IntoIter.next_gives iter ranges
-            × SameEntries K.cmp (entries ranges) (snapshot_entries snapshot)) }
+        ensures { IfOk result (HasClonesOf K.cmp (Gives T.into_iter_gives T.IntoIter.next_gives iter)) }
     {
         let iter = iter.into_iter();
         let mut ranges = Vec::with_capacity(alloc, iter.size_hint().0)?;
@@ -120,7 +118,7 @@ impl<K: SameClone> PageRangeSnapshot<K> {
     /// Want of memory, for the snapshot or for the clone of a key. This snapshot stays.
     pub fn try_clone(&self) -> Result<PageRangeSnapshot<K>, AllocError>
         ensures same { IfOk result (λ copy. SameEntries K.cmp (snapshot_entries self.now) (snapshot_entries copy)) }
-        ensures equal { IfOk result (λ copy. (⟦<PageRangeSnapshot<K> as PartialEq>⟧.eq self.now copy ≡ true) × (⟦<PageRangeSnapshot<K> as PartialEq>⟧.eq copy self.now ≡ true)) }
+        ensures equal { IfOk result (EqualBothWays ⟦<PageRangeSnapshot<K> as PartialEq>⟧.eq self.now) }
     {
         PageRangeSnapshot::collect_ranges(self.alloc, self.iter())
     }

@@ -1,6 +1,6 @@
 //! Ranges in any order.
-ghost use Rattle.std.specs.Prelude.{◌≡◌, ◌↔◌, [], ◌∷◌, ◌++◌, OnOk, OnErr, IsOkAnd};
-ghost use Rattle.key_order.specs.Interval.{IsApart, IsCovered};
+ghost use Rattle.std.specs.Prelude.{◌≡◌, [], OnOk, OnErr, IsOkAnd};
+ghost use Rattle.key_order.specs.Interval.{IsApart};
 ghost use Rattle.key_order.specs.Order.{Upto};
 
 use crate::diff_range::DiffRange;
@@ -26,8 +26,8 @@ pub struct RangeList<'a, K: Ord> {
 
 impl<'a, K: Ord> RangeList<'a, K> {
     ghost use Rattle.merkle_diff.specs.DiffRange.{spans};
-    ghost use Rattle.merkle_diff.specs.Merge.{IsMerge};
-    ghost use Rattle.merkle_diff.specs.RangeList.{inserted};
+    ghost use Rattle.merkle_diff.specs.Merge.{CoverSameKeys, IsMerge};
+    ghost use Rattle.merkle_diff.specs.RangeList.{Inserts, inserted};
 
     /// The empty list, which will take its memory from `alloc`.
     pub fn new(alloc: Global) -> RangeList<'a, K>
@@ -46,7 +46,7 @@ impl<'a, K: Ord> RangeList<'a, K> {
     /// Want of memory, which leaves the list as it was.
     pub fn insert(&mut self, start: &'a K, end: &'a K) -> Result<(), AllocError>
         requires { Upto K.cmp start.now end.now }
-        ensures ok { OnOk result (inserted self.new ≡ inserted self.old ++ record { first = start.now; last = end.now } ∷ []) }
+        ensures ok { OnOk result (Inserts (inserted self.old) start.now end.now (inserted self.new)) }
         ensures err { OnErr result (inserted self.new ≡ inserted self.old) }
     {
         self.ranges.push(DiffRange::new(start, end))?;
@@ -57,7 +57,7 @@ impl<'a, K: Ord> RangeList<'a, K> {
     /// a sort, and one pass over the ranges. It takes no memory, and always succeeds.
     pub fn into_vec(self) -> Result<Vec<DiffRange<'a, K>>, AllocError>
         ensures merged { IsOkAnd result (λ ranges. IsMerge K.cmp (inserted self.entry) (spans ranges.items)) }
-        ensures same_keys { IsOkAnd result (λ ranges. (k : K) → IsCovered K.cmp k (inserted self.entry) ↔ IsCovered K.cmp k (spans ranges.items)) }
+        ensures same_keys { IsOkAnd result (λ ranges. CoverSameKeys K.cmp (inserted self.entry) (spans ranges.items)) }
         ensures apart { IsOkAnd result (λ ranges. IsApart K.cmp (spans ranges.items)) }
     {
         Ok(merged(self.ranges))

@@ -1,9 +1,10 @@
 //! Good ranges are cut out of bad ones.
-ghost use Rattle.std.specs.Prelude.{◌≡◌, ◌<◌, [], ◌∷◌, ◌++◌, drop, length, vec_len, OnOk, OnErr, IfOk};
+ghost use Rattle.std.specs.Prelude.{◌≡◌, ◌<◌, drop, length, vec_len, OnOk, OnErr, IfOk};
 ghost use Rattle.key_order.specs.Interval.{IsApart, meets};
+ghost use Rattle.merkle_diff.specs.Answers.{IfFound};
 ghost use Rattle.merkle_diff.specs.Cut.{IsExactCut, IsCut, piece, cut_one, pieces_left};
-ghost use Rattle.merkle_diff.specs.DiffRange.{span, spans};
-ghost use Rattle.merkle_diff.specs.OnePass.{LeavesAlike};
+ghost use Rattle.merkle_diff.specs.DiffRange.{AddsSpans, span, spans};
+ghost use Rattle.merkle_diff.specs.OnePass.{AddsPiecesLeft, LeavesAlikeFrom};
 
 use crate::diff_range::DiffRange;
 use crate::merge::{merge_overlapping, merged};
@@ -23,7 +24,7 @@ fn push_piece<'a, K: Ord>(
     end: &'a K,
     pieces: &mut Vec<DiffRange<'a, K>>,
 ) -> Result<(), AllocError>
-    ensures { OnOk result (spans pieces.new.items ≡ spans pieces.old.items ++ piece K.cmp start.entry.now end.entry.now) }
+    ensures { OnOk result (AddsSpans pieces.old (piece K.cmp start.entry.now end.entry.now) pieces.new) }
 {
     if is_below(start, end) {
         pieces.push(DiffRange::new(start, end))?;
@@ -37,7 +38,7 @@ fn push_pieces<'a, K: Ord>(
     good: DiffRange<'a, K>,
     pieces: &mut Vec<DiffRange<'a, K>>,
 ) -> Result<(), AllocError>
-    ensures { OnOk result (spans pieces.new.items ≡ spans pieces.old.items ++ cut_one K.cmp (span good.entry) (span range.entry)) }
+    ensures { OnOk result (AddsSpans pieces.old (cut_one K.cmp (span good.entry) (span range.entry)) pieces.new) }
 {
     if do_meet(&good, &range) {
         push_piece(range.start(), good.start(), pieces)?;
@@ -57,9 +58,8 @@ fn push_left<'a, K: Ord>(
     pieces: &mut Vec<DiffRange<'a, K>>,
 ) -> Result<usize, AllocError>
     requires { IsApart K.cmp (spans good.now) }
-    ensures pieces { OnOk result (spans pieces.new.items
-        ≡ spans pieces.old.items ++ pieces_left K.cmp (span range.entry ∷ []) (spans (drop first good.entry.now))) }
-    ensures rest { IfOk result (λ next. LeavesAlike K.cmp (span range.entry).last (spans (drop first good.entry.now)) (spans (drop next good.entry.now))) }
+    ensures pieces { OnOk result (AddsPiecesLeft K.cmp range.entry (drop first good.entry.now) pieces.old pieces.new) }
+    ensures rest { IfOk result (λ next. LeavesAlikeFrom K.cmp (span range.entry).last good.entry.now first next) }
 {
     let mut left = range;
     'good: for next in first..good.len() {
@@ -85,7 +85,7 @@ fn all_left<'a, K: Ord>(
 ) -> Result<Vec<DiffRange<'a, K>>, AllocError>
     requires bad { IsApart K.cmp (spans bad.now) }
     requires good { IsApart K.cmp (spans good.now) }
-    ensures left { IfOk result (λ pieces. spans pieces.items ≡ pieces_left K.cmp (spans bad.entry.now) (spans good.entry.now)) }
+    ensures left { IfFound result (λ left. left ≡ pieces_left K.cmp (spans bad.entry.now) (spans good.entry.now)) }
     ensures memory { OnErr result (0 < length bad.entry.now) }
 {
     let mut pieces = Vec::new(alloc);
@@ -106,7 +106,7 @@ pub fn cut_apart<'a, K: Ord>(
 ) -> Result<Vec<DiffRange<'a, K>>, AllocError>
     requires bad { IsApart K.cmp (spans bad.items) }
     requires good { IsApart K.cmp (spans good.now) }
-    ensures exact { IfOk result (λ found. IsExactCut K.cmp (spans bad.entry.items) (spans good.entry.now) (spans found.items)) }
+    ensures exact { IfFound result (IsExactCut K.cmp (spans bad.entry.items) (spans good.entry.now)) }
     ensures memory { OnErr result ((0 < vec_len bad.entry) × (0 < length good.entry.now)) }
 {
     if good.is_empty() {
@@ -131,8 +131,8 @@ pub fn reduce_sync_range<'a, K: Ord>(
     good: Vec<DiffRange<'a, K>>,
 ) -> Result<Vec<DiffRange<'a, K>>, AllocError>
     requires { IsApart K.cmp (spans bad.items) }
-    ensures exact { IfOk result (λ found. IsExactCut K.cmp (spans bad.entry.items) (spans good.entry.items) (spans found.items)) }
-    ensures laws { IfOk result (λ found. IsCut K.cmp (spans bad.entry.items) (spans good.entry.items) (spans found.items)) }
+    ensures exact { IfFound result (IsExactCut K.cmp (spans bad.entry.items) (spans good.entry.items)) }
+    ensures laws { IfFound result (IsCut K.cmp (spans bad.entry.items) (spans good.entry.items)) }
     ensures memory { OnErr result ((0 < vec_len bad.entry) × (0 < vec_len good.entry)) }
 {
     let apart = merged(good);

@@ -1,14 +1,14 @@
 //! The walk over a peer's and a local list of page ranges, which marks ranges bad and good: a loop over the open ranges, the
 //! innermost last.
-ghost use Rattle.std.specs.Prelude.{◌≡◌, ◌↔◌, ◌≤◌, ◌<◌, ◌∷◌, [], if◌then◌else◌, OnOk, IfOk, MatchOption, IsTrue};
-ghost use Rattle.key_order.specs.Interval.{is_within, Span};
+ghost use Rattle.std.specs.Prelude.{◌≡◌, ◌↔◌, ◌≤◌, ◌∷◌, [], OnOk, IfOk, IsTrue};
+ghost use Rattle.key_order.specs.Interval.{is_within};
 ghost use Rattle.merkle_diff.specs.Entry.{span_of};
-ghost use Rattle.merkle_diff.specs.DiffRange.{spans, span};
-ghost use Rattle.merkle_diff.specs.PageRange.{entry, entries};
-ghost use Rattle.merkle_diff.specs.Lookahead.{CanGoOn, Leaves, left_of};
-ghost use Rattle.merkle_diff.specs.Turn.{Leads, LeadsBoth, Marked, Ends, Enters, Walks, Walked, head_is, head_may_answer, gap_end_at, between_marks, last_digest};
-ghost use Rattle.merkle_diff.specs.Walk.{Walk, Mark, bad_of, good_of, front_within, after_within, last_holder, after_holders, bad_marks};
-ghost use Rattle.merkle_diff.specs.Walk.Mark.{Bad, Good};
+ghost use Rattle.merkle_diff.specs.DiffRange.{span};
+ghost use Rattle.merkle_diff.specs.PageRange.{entry};
+ghost use Rattle.merkle_diff.specs.Lookahead.{CanGoOn, ComesNearer, left_of};
+ghost use Rattle.merkle_diff.specs.Turn.{Leads, LeadsBoth, LeavesBoth, Marked, MarksGapBefore, MarksWalk, MarksWithin};
+ghost use Rattle.merkle_diff.specs.Turn.{HasWalked, TakesAgreed, TakesHolders, TakesTurn, gap_end_at, head_is, head_may_answer};
+ghost use Rattle.merkle_diff.specs.Walk.{after_within, mark_of};
 
 use crate::diff_range::DiffRange;
 use crate::lookahead::{Lookahead, drain, take_head};
@@ -88,8 +88,7 @@ where
     requires { CanGoOn I.can_next I.remaining queue.old }
     ensures goes { OnOk result (CanGoOn I.can_next I.remaining queue.new) }
     ensures no_more { OnOk result (left_of I.remaining queue.new ≤ left_of I.remaining queue.old) }
-    ensures leads { OnOk result (Leads I.next_gives queue.old queue.new (λ qs ps. (ps ≡ after_within K.cmp (span outer.entry) qs)
-        × Marked marks.old (bad_marks K.cmp (front_within K.cmp (span outer.entry) qs)) marks.new)) }
+    ensures leads { OnOk result (Leads I.next_gives queue.old queue.new (MarksWithin K.cmp outer.entry marks.old marks.new)) }
 {
     'front: while head_is_within(queue, &outer) {
         let Some(taken) = take_head(queue) else {
@@ -111,8 +110,7 @@ where
     I: Iterator<Item = PageRange<'p, K>>,
     requires { CanGoOn I.can_next I.remaining queue.old }
     ensures goes { CanGoOn I.can_next I.remaining queue.new }
-    ensures leads { Leads I.next_gives queue.old queue.new (λ ks ls. (ls ≡ after_holders K.cmp (span range.entry) ks)
-        × (result ≡ last_digest K.cmp (span range.entry) first ks)) }
+    ensures leads { Leads I.next_gives queue.old queue.new (TakesHolders K.cmp (span range.entry) first result) }
 {
     let mut last = first;
     'front: while head_holds(queue, &range) {
@@ -158,7 +156,7 @@ fn mark_between<'p, I, K>(
 ) -> Result<(), AllocError>
 where
     K: Ord + 'p,
-    ensures { OnOk result (Marked marks.old (between_marks K.cmp from.entry.now (span range.entry) locals.entry.now.head) marks.new) }
+    ensures { OnOk result (MarksGapBefore K.cmp from.entry.now range.entry locals.entry.now marks.old marks.new) }
 {
     if head_holds(locals, &range) {
         return Ok(());
@@ -179,8 +177,8 @@ where
     requires { CanGoOn J.can_next J.remaining peers.old }
     ensures goes { OnOk result (CanGoOn J.can_next J.remaining peers.new) }
     ensures no_more { OnOk result (left_of J.remaining peers.new ≤ left_of J.remaining peers.old) }
-    ensures leads { OnOk result (Leads J.next_gives peers.old peers.new (λ qs ps. ps ≡ (if agrees then after_within K.cmp (span range.entry) qs else qs))) }
-    ensures marked { OnOk result (Marked marks.old ((if agrees then Good (span range.entry) else Bad (span range.entry)) ∷ []) marks.new) }
+    ensures leads { OnOk result (Leads J.next_gives peers.old peers.new (TakesAgreed K.cmp (span range.entry) agrees)) }
+    ensures marked { OnOk result (Marked marks.old (mark_of agrees (span range.entry) ∷ []) marks.new) }
 {
     if agrees {
         marks.good.push(range)?;
@@ -207,12 +205,9 @@ where
     requires peers { CanGoOn J.can_next J.remaining peers.old }
     ensures locals { OnOk result (CanGoOn I.can_next I.remaining locals.new) }
     ensures peers { OnOk result (CanGoOn J.can_next J.remaining peers.new) }
-    ensures nearer { IfOk result (λ r. MatchOption r (left_of J.remaining peers.new ≤ left_of J.remaining peers.old) (λ _. left_of J.remaining peers.new < left_of J.remaining peers.old)) }
-    ensures meaning { IfOk result (λ r. MatchOption r
-        (LeadsBoth I.next_gives J.next_gives locals.old peers.old locals.new peers.new
-        (Ends K.cmp (span current.entry) from.entry.now (λ m. Marked marks.old m marks.new)))
-        (λ s. LeadsBoth I.next_gives J.next_gives locals.old peers.old locals.new peers.new
-        (Enters K.cmp (span current.entry) from.entry.now (span s) (λ m. Marked marks.old m marks.new)))) }
+    ensures nearer { IfOk result (ComesNearer J.remaining peers.old peers.new) }
+    ensures meaning { IfOk result (TakesTurn K.cmp current.entry from.entry.now marks.old marks.new
+        (LeadsBoth I.next_gives J.next_gives locals.old peers.old locals.new peers.new)) }
 {
     if !head_is_within(peers, &current) {
         return Ok(None);
@@ -251,7 +246,7 @@ where
     ensures locals { OnOk result (CanGoOn I.can_next I.remaining locals.new) }
     ensures peers { OnOk result (CanGoOn J.can_next J.remaining peers.new) }
     ensures meaning { OnOk result (LeadsBoth I.next_gives J.next_gives locals.old peers.old locals.new peers.new
-        (Walks K.cmp (span outer.entry) (λ m. Marked marks.old m marks.new))) }
+        (MarksWalk K.cmp outer.entry marks.old marks.new)) }
 {
     let mut open = Vec::new(alloc);
     let mut current = outer;
@@ -288,8 +283,7 @@ where
     J: Iterator<Item = PageRange<'p, K>>,
     requires locals { CanGoOn I.can_next I.remaining locals }
     requires peers { CanGoOn J.can_next J.remaining peers }
-    ensures { IfOk result (λ marks. (ls : _) × (ps : _) × Leaves I.next_gives locals.entry ls × Leaves J.next_gives peers.entry ps
-        × Walked K.cmp (span outer.entry) (entries ls) (entries ps) (spans marks.bad.items) (spans marks.good.items)) }
+    ensures { IfOk result (LeavesBoth I.next_gives J.next_gives locals.entry peers.entry (HasWalked K.cmp outer.entry)) }
 {
     let mut marks: Marks<'p, K> = Marks {
         bad: Vec::new(alloc),
