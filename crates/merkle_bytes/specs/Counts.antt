@@ -1,5 +1,6 @@
 -- Counts as bytes: few where they are small.
 use Rattle.std.proofs.Common.{◌≡◌, ℕ, zero, suc, ◌+◌, ◌-◌, ◌/◌, ◌%◌, ◌<◌, ◌≤◌, List, [], ◌∷◌, ◌++◌, length, if◌then◌else◌, nat_lt, arith, sym, ap, refl, ◌∙◌, inl, inr}
+use Rattle.std.specs.Prelude.{◌≢◌, ◌^◌}
 use Rattle.std.proofs.lemmas.Bool.{cases_lt}
 use Rattle.std.proofs.lemmas.Bool.Decides.{nat_tests}
 
@@ -11,6 +12,14 @@ bits_bytes (suc more) n = if (nat_lt n 128) then (n ∷ []) else ((128 + n % 128
 -- a count below 2 ^ 64: at most ten bytes
 unfoldable pub count_bytes : ℕ → List ℕ
 count_bytes n = bits_bytes 9 n
+
+-- the number has the seven bits of a byte that is not the last, and these higher bits
+abbrev pub HasBits : ℕ → ℕ → ℕ → Type 0
+HasBits byte high n = (128 ≤ n) × (byte ≡ 128 + n % 128) × (n / 128 ≡ high)
+
+-- no number below 2 ^ 64 has them
+abbrev pub NoneHasBits : ℕ → ℕ → Type 0
+NoneHasBits byte high = (n : ℕ) → 128 ≤ n → n < 2 ^ 64 → byte ≡ 128 + n % 128 → n / 128 ≢ high
 
 -- a number below 128 is its byte
 pub bits_few : (more n : ℕ) → n < 128 → bits_bytes more n ≡ n ∷ []

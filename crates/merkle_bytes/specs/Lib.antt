@@ -3,6 +3,7 @@ pub mod Encodings
 pub mod Options
 pub mod PageRanges
 pub mod Refusals
+pub mod Reading
 pub mod Telling
 pub mod Texts
 pub mod Keys

@@ -1,5 +1,5 @@
 -- Entries one behind the other, where what stands for one rests on a state, such as the bytes of the last key before it.
-use Rattle.std.specs.Prelude.{ℕ, List, [], ◌∷◌, ◌++◌, length, Option, Some, None}
+use Rattle.std.specs.Prelude.{ℕ, ◌*◌, ◌≤◌, List, [], ◌∷◌, ◌++◌, length, sum_by, Option, Some, None}
 use Rattle.merkle_bytes.specs.Counts.{count_bytes}
 use Rattle.merkle_bytes.specs.Keys.{key_behind}
 use Rattle.merkle_bytes.specs.Options.{option_bytes}
@@ -34,3 +34,8 @@ module _ {K : Type 0} (encoding : K → List ℕ) where
   abbrev pub bound_key : List ℕ → Option K → List ℕ
   bound_key last None = last
   bound_key last (Some k) = encoding k
+
+-- the keys of the rows have at most so many times the bytes that stand for the rows behind the last key
+abbrev pub KeysHaveAtMost : {K V : Type 0} → ℕ → (K → List ℕ) → (V → List ℕ) → List ℕ → List (K × V) → Type 0
+KeysHaveAtMost times encoding values last rows =
+    sum_by (λ row. length (encoding row.0)) rows ≤ times * length (entries_bytes (row_behind encoding values) (row_key encoding) last rows)

@@ -1,6 +1,7 @@
 //! Counts as bytes: seven bits a byte, so that a count below 128 is one byte, and each has one spelling.
-ghost use Rattle.std.specs.Prelude.{◌≡◌, ◌≢◌, ◌++◌, ◌<◌, ◌≤◌, ◌+◌, ◌*◌, ◌/◌, ◌%◌, ◌^◌, ℕ, List, OnOk, MatchOption};
-ghost use Rattle.merkle_bytes.specs.Counts.{bits_bytes, count_bytes};
+ghost use Rattle.std.specs.Prelude.{◌≡◌, ◌++◌, ◌<◌, ◌≤◌, ◌*◌, ◌^◌, OnOk, MatchOption};
+ghost use Rattle.merkle_bytes.specs.Counts.{HasBits, NoneHasBits, bits_bytes, count_bytes};
+ghost use Rattle.merkle_bytes.specs.Reading.{SplitsOff};
 
 use std::alloc::AllocError;
 
@@ -20,8 +21,7 @@ pub fn encode_count(count: u64, bytes: &mut Vec<u8>) -> Result<(), AllocError>
 
 /// The count that the bytes begin with, and the bytes behind it.
 pub(crate) fn decode_count(bytes: &[u8]) -> Option<(u64, &[u8])>
-    ensures { MatchOption result ((count : ℕ) (rest : List ℕ) → count < 2 ^ 64 → bytes.now ≢ count_bytes count ++ rest)
-        (λ found. bytes.now ≡ count_bytes found.0 ++ found.1.now) }
+    ensures { SplitsOff count_bytes (λ count. count < 2 ^ 64) bytes.now result }
 {
     decode_bits(bytes, MORE)
 }
@@ -46,8 +46,7 @@ fn encode_bits(number: u64, more: u8, bytes: &mut Vec<u8>) -> Result<(), AllocEr
 
 /// The number that the bytes begin with, of at most `more` bytes and then the last, and the bytes behind it.
 fn decode_bits(bytes: &[u8], more: u8) -> Option<(u64, &[u8])>
-    ensures { MatchOption result ((number : ℕ) (rest : List ℕ) → number < 2 ^ 64 → bytes.now ≢ bits_bytes more number ++ rest)
-        (λ found. bytes.now ≡ bits_bytes more found.0 ++ found.1.now) }
+    ensures { SplitsOff (bits_bytes more) (λ number. number < 2 ^ 64) bytes.now result }
 {
     let Some((byte, behind)) = bytes.split_first() else {
         return None;
@@ -70,8 +69,7 @@ fn decode_bits(bytes: &[u8], more: u8) -> Option<(u64, &[u8])>
 /// The number with the seven bits of a byte that is not the last, and these higher bits.
 fn joined(byte: u8, high: u64) -> Option<u64>
     requires { 128 ≤ byte }
-    ensures { MatchOption result ((number : ℕ) → 128 ≤ number → number < 2 ^ 64 → byte ≡ 128 + number % 128 → number / 128 ≢ high)
-        (λ number. (128 ≤ number) × (byte ≡ 128 + number % 128) × (number / 128 ≡ high)) }
+    ensures { MatchOption result (NoneHasBits byte high) (λ number. HasBits byte high number) }
 {
     if high == 0 {
         return None;

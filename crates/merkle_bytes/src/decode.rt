@@ -1,6 +1,7 @@
 //! Values, read from their bytes.
-ghost use Rattle.std.specs.Prelude.{◌≡◌, ◌≢◌, ◌++◌, ◌≤◌, ℕ, List, length, true, IfOk, IfErr};
-ghost use Rattle.merkle_bytes.specs.Refusals.{IsMalformed, IsRefusal};
+ghost use Rattle.std.specs.Prelude.{◌≡◌, ◌++◌, ◌≤◌, ℕ, List, length, true, IfOk, IfErr};
+ghost use Rattle.merkle_bytes.specs.Reading.{FindsNo};
+ghost use Rattle.merkle_bytes.specs.Refusals.{IsRefusal};
 
 use crate::encode::Encode;
 use crate::error::ReadError;
@@ -21,7 +22,7 @@ pub trait Decode: Encode + Eq + Drop {
         ensures value { IfOk result (λ value. is_value value) }
         ensures total { reader.new.total ≡ reader.old.total }
         ensures refused { IfErr result (IsRefusal reader.old.total reader.old.left.now) }
-        ensures malformed { IfErr result (λ error. IsMalformed error → (value : Self) (rest : List ℕ) → is_value value → reader.old.left.now ≢ Self.encoding value ++ rest) };
+        ensures malformed { IfErr result (FindsNo Self.encoding is_value reader.old) };
 
     /// A value has at least one byte.
     ghost some: { (x : Self) → 1 ≤ length (Self.encoding x) };

@@ -1,6 +1,7 @@
 //! How many bytes a key keeps of the one before it, and how many more it has.
-ghost use Rattle.std.specs.Prelude.{◌≡◌, ◌≢◌, ◌++◌, ◌<◌, ◌^◌, ℕ, List, OnOk, MatchOption};
+ghost use Rattle.std.specs.Prelude.{◌≡◌, ◌++◌, OnOk, MatchOption};
 ghost use Rattle.merkle_bytes.specs.Keys.{front_bytes, fit_a_byte, shareable, shared};
+ghost use Rattle.merkle_bytes.specs.Reading.{BeginsWithNoFront};
 
 use crate::counts::{decode_count, encode_count};
 use std::alloc::AllocError;
@@ -61,7 +62,7 @@ pub(crate) fn encode_front(kept: u64, more: u64, bytes: &mut Vec<u8>) -> Result<
 
 /// The two counts that the bytes begin with, and the bytes behind them.
 pub(crate) fn decode_front(bytes: &[u8]) -> Option<(u64, u64, &[u8])>
-    ensures { MatchOption result ((kept more : ℕ) (rest : List ℕ) → kept < 2 ^ 64 → more < 2 ^ 64 → bytes.now ≢ front_bytes kept more ++ rest)
+    ensures { MatchOption result (BeginsWithNoFront bytes.now)
         (λ found. bytes.now ≡ front_bytes found.0 found.1 ++ found.2.now) }
 {
     let Some((byte, behind)) = bytes.split_first() else {

@@ -3,6 +3,7 @@
 ghost use Rattle.std.specs.Prelude.{◌≡◌, ◌≢◌, ◌++◌, ◌↔◌, ℕ, List, [], OnOk, IfOk, IfErr, IsTrue};
 ghost use Rattle.std.specs.Option.{option_map};
 ghost use Rattle.merkle_bytes.specs.Keys.{key_behind, GoOnApart};
+ghost use Rattle.merkle_bytes.specs.Reading.{FindsNo, Reads};
 ghost use Rattle.merkle_bytes.specs.Refusals.{IsMalformed, IsRefusal};
 ghost use Rattle.merkle_bytes.specs.Runs.{bound_key};
 
@@ -81,13 +82,12 @@ impl KeyRun {
     ///
     /// [`ReadError`], where no key stands at the front that is written by what it shares with the last one, or for want of memory.
     pub fn decode<K: Decode>(&mut self, reader: &mut Reader<'_>) -> Result<K, ReadError>
-        ensures read { IfOk result (λ key. reader.old.left.now ≡ key_behind self.old (K.encoding key) ++ reader.new.left.now) }
+        ensures read { IfOk result (λ key. Reads reader.old (key_behind self.old (K.encoding key)) reader.new) }
         ensures value { IfOk result K.is_value }
         ensures last { IfOk result (λ key. self.new ≡ K.encoding key) }
         ensures total { reader.new.total ≡ reader.old.total }
         ensures refused { IfErr result (IsRefusal reader.old.total reader.old.left.now) }
-        ensures malformed { IfErr result (λ error. IsMalformed error → (key : K) (rest : List ℕ) → K.is_value key
-            → reader.old.left.now ≢ key_behind self.old (K.encoding key) ++ rest) }
+        ensures malformed { IfErr result (FindsNo (λ key. key_behind self.old (K.encoding key)) K.is_value reader.old) }
     {
         let part = shareable(&self.last);
         let part_len = part.len() as u64;

@@ -1,9 +1,10 @@
 //! Laws over the definitions alone. Each function has no effect and takes no memory.
-ghost use Rattle.std.specs.Prelude.{◌≡◌, ◌≤◌, ◌+◌, ◌*◌, ◌++◌, ℕ, List, length, sum_by, true};
+ghost use Rattle.std.specs.Prelude.{◌≡◌, ◌≤◌, ◌+◌, ◌*◌, ℕ, List, length, true};
 ghost use Rattle.merkle_bytes.specs.Counts.{count_bytes};
 ghost use Rattle.merkle_bytes.specs.Encodings.{list_bytes, SameLists};
 ghost use Rattle.merkle_bytes.specs.Keys.{key_behind};
-ghost use Rattle.merkle_bytes.specs.Runs.{entries_bytes, row_behind, row_key};
+ghost use Rattle.merkle_bytes.specs.Reading.{BytesTell};
+ghost use Rattle.merkle_bytes.specs.Runs.{KeysHaveAtMost};
 
 use crate::decode::Decode;
 use crate::encode::Encode;
@@ -11,13 +12,12 @@ use crate::encode::Encode;
 /// Bytes that begin with those of a list tell its entries, up to `==`, and where it ends: two lists with the same bytes have equal entries, place
 /// by place.
 pub fn bytes_tell_lists<T: Decode>()
-    ensures { (xs ys : List T) (r s : List ℕ)
-        → list_bytes T.encoding xs ++ r ≡ list_bytes T.encoding ys ++ s → SameLists (λ x y. T.eq x y ≡ true) xs ys × (r ≡ s) }
+    ensures { BytesTell (list_bytes T.encoding) (SameLists (λ x y. T.eq x y ≡ true)) }
 {}
 
 /// Bytes that begin with those of a count tell it, and where it ends: a count has one spelling.
 pub fn bytes_tell_counts()
-    ensures { (m n : ℕ) (r s : List ℕ) → count_bytes m ++ r ≡ count_bytes n ++ s → (m ≡ n) × (r ≡ s) }
+    ensures { BytesTell count_bytes (λ m n. m ≡ n) }
 {}
 
 /// A key has at most 251 bytes more than stand for it behind another, and at most 64 times as many. So the keys of rows have at most 64 times the
@@ -25,6 +25,5 @@ pub fn bytes_tell_counts()
 pub fn keys_of_a_run_are_bounded<K: Encode, V: Encode>()
     ensures more { (last key : List ℕ) → length key ≤ 251 + length (key_behind last key) }
     ensures times { (last key : List ℕ) → length key ≤ 64 * length (key_behind last key) }
-    ensures rows { (last : List ℕ) (rows : List (K × V))
-        → sum_by (λ row. length (K.encoding row.0)) rows ≤ 64 * length (entries_bytes (row_behind K.encoding V.encoding) (row_key K.encoding) last rows) }
+    ensures rows { (last : List ℕ) (rows : List (K × V)) → KeysHaveAtMost 64 K.encoding V.encoding last rows }
 {}

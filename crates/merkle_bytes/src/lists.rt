@@ -1,8 +1,9 @@
 //! Lists as how many entries they have, and the entries.
-ghost use Rattle.std.specs.Prelude.{◌≡◌, ◌≢◌, ◌++◌, List, ℕ, OnOk, IfOk, IfErr};
+ghost use Rattle.std.specs.Prelude.{◌≡◌, ◌++◌, OnOk, IfOk, IfErr};
 ghost use Rattle.std.specs.List.{AllByRecursion};
 ghost use Rattle.merkle_bytes.specs.Encodings.{list_bytes};
-ghost use Rattle.merkle_bytes.specs.Refusals.{IsMalformed, IsRefusal};
+ghost use Rattle.merkle_bytes.specs.Reading.{FindsNoList};
+ghost use Rattle.merkle_bytes.specs.Refusals.{IsRefusal};
 
 use crate::counts::encode_count;
 use crate::decode::Decode;
@@ -32,7 +33,7 @@ pub fn decode_list<T: Decode>(reader: &mut Reader<'_>) -> Result<Vec<T>, ReadErr
     ensures values { IfOk result (λ list. AllByRecursion T.is_value list.items) }
     ensures total { reader.new.total ≡ reader.old.total }
     ensures refused { IfErr result (IsRefusal reader.old.total reader.old.left.now) }
-    ensures malformed { IfErr result (λ error. IsMalformed error → (list : List T) (rest : List ℕ) → AllByRecursion T.is_value list → reader.old.left.now ≢ list_bytes T.encoding list ++ rest) }
+    ensures malformed { IfErr result (FindsNoList (list_bytes T.encoding) T.is_value reader.old) }
 {
     let alloc = reader.alloc();
     let count = reader.count()?;

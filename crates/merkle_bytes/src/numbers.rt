@@ -1,7 +1,8 @@
 //! A byte as itself, and larger numbers as counts.
-ghost use Rattle.std.specs.Prelude.{◌≡◌, ◌≢◌, ◌<◌, ◌^◌, ◌∷◌, ◌++◌, [], ⊤, ℕ, List, IfOk, IfErr};
+ghost use Rattle.std.specs.Prelude.{◌≡◌, ◌<◌, ◌^◌, ◌∷◌, ◌++◌, [], ⊤, IfOk, IfErr};
 ghost use Rattle.merkle_bytes.specs.Counts.{count_bytes, count_some};
-ghost use Rattle.merkle_bytes.specs.Refusals.{IsMalformed, IsRefusal};
+ghost use Rattle.merkle_bytes.specs.Reading.{FindsNo};
+ghost use Rattle.merkle_bytes.specs.Refusals.{IsRefusal};
 ghost use Rattle.merkle_bytes.specs.Telling.{number_told, byte_told, unit_told, some_byte};
 
 use crate::counts::encode_count;
@@ -132,7 +133,7 @@ fn number_below(limit: u64, reader: &mut Reader<'_>) -> Result<u64, ReadError>
     ensures below { IfOk result (λ number. number < limit) }
     ensures total { reader.new.total ≡ reader.old.total }
     ensures refused { IfErr result (IsRefusal reader.old.total reader.old.left.now) }
-    ensures malformed { IfErr result (λ error. IsMalformed error → (number : ℕ) (rest : List ℕ) → number < limit → reader.old.left.now ≢ count_bytes number ++ rest) }
+    ensures malformed { IfErr result (FindsNo count_bytes (λ number. number < limit) reader.old) }
 {
     let number = reader.count()?;
     if number < limit {

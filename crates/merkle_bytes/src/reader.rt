@@ -1,8 +1,9 @@
 //! Bytes that came, read one part after the other.
-ghost use Rattle.std.specs.Prelude.{◌≡◌, ◌≢◌, ◌++◌, ◌∷◌, ◌<◌, ◌-◌, ◌^◌, ℕ, Bool, cond, List, [], OnOk, IfOk, IfErr, length};
+ghost use Rattle.std.specs.Prelude.{◌≡◌, ◌≢◌, ◌++◌, ◌∷◌, ◌<◌, ◌-◌, ◌^◌, cond, [], OnOk, IfOk, IfErr, length};
 ghost use Rattle.merkle_bytes.specs.Counts.{count_bytes};
-ghost use Rattle.merkle_bytes.specs.Encodings.{string_encoding};
+ghost use Rattle.merkle_bytes.specs.Encodings.{flag_bytes, string_encoding};
 ghost use Rattle.merkle_bytes.specs.Keys.{front_bytes};
+ghost use Rattle.merkle_bytes.specs.Reading.{BeginsWithNoFront, FindsNo, FindsNone};
 ghost use Rattle.merkle_bytes.specs.Refusals.{IsMalformed, IsRefusal};
 ghost use Rattle.merkle_bytes.specs.declared.error.ReadError.TheVariants.{Unexpected};
 
@@ -89,7 +90,7 @@ impl<'a> Reader<'a> {
         ensures read { IfOk result (λ flag. self.old.left.now ≡ cond flag 1 0 ∷ self.new.left.now) }
         ensures total { self.new.total ≡ self.old.total }
         ensures refused { IfErr result (IsRefusal self.old.total self.old.left.now) }
-        ensures malformed { IfErr result (λ error. IsMalformed error → (flag : Bool) (rest : List ℕ) → self.old.left.now ≢ cond flag 1 0 ∷ rest) }
+        ensures malformed { IfErr result (FindsNone flag_bytes self.old) }
     {
         let Some((byte, left)) = self.left.split_first() else {
             return Err(self.unexpected(Expected::Bytes(1)));
@@ -108,7 +109,7 @@ impl<'a> Reader<'a> {
         ensures read { IfOk result (λ count. self.old.left.now ≡ count_bytes count ++ self.new.left.now) }
         ensures total { self.new.total ≡ self.old.total }
         ensures refused { IfErr result (IsRefusal self.old.total self.old.left.now) }
-        ensures malformed { IfErr result (λ error. IsMalformed error → (count : ℕ) (rest : List ℕ) → count < 2 ^ 64 → self.old.left.now ≢ count_bytes count ++ rest) }
+        ensures malformed { IfErr result (FindsNo count_bytes (λ count. count < 2 ^ 64) self.old) }
     {
         let Some((count, left)) = decode_count(self.left) else {
             return Err(self.unexpected(Expected::Count));
@@ -122,8 +123,7 @@ impl<'a> Reader<'a> {
         ensures read { IfOk result (λ counts. self.old.left.now ≡ front_bytes counts.0 counts.1 ++ self.new.left.now) }
         ensures total { self.new.total ≡ self.old.total }
         ensures refused { IfErr result (IsRefusal self.old.total self.old.left.now) }
-        ensures malformed { IfErr result (λ error. IsMalformed error → (kept more : ℕ) (rest : List ℕ) → kept < 2 ^ 64 → more < 2 ^ 64
-            → self.old.left.now ≢ front_bytes kept more ++ rest) }
+        ensures malformed { IfErr result (λ error. IsMalformed error → BeginsWithNoFront self.old.left.now) }
     {
         let Some((kept, more, left)) = decode_front(self.left) else {
             return Err(self.unexpected(Expected::Front));
@@ -137,7 +137,7 @@ impl<'a> Reader<'a> {
         ensures read { IfOk result (λ bytes. self.old.left.now ≡ string_encoding bytes.now ++ self.new.left.now) }
         ensures total { self.new.total ≡ self.old.total }
         ensures refused { IfErr result (IsRefusal self.old.total self.old.left.now) }
-        ensures malformed { IfErr result (λ error. IsMalformed error → (bytes rest : List ℕ) → self.old.left.now ≢ string_encoding bytes ++ rest) }
+        ensures malformed { IfErr result (FindsNone string_encoding self.old) }
     {
         let len = self.count()?;
         let Some((bytes, left)) = self.left.split_at_checked(len as usize) else {

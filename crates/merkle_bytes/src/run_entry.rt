@@ -1,6 +1,7 @@
 //! Entries of a run: what is written behind a key, and read back by what it shares with it.
-ghost use Rattle.std.specs.Prelude.{◌≡◌, ◌≢◌, ◌++◌, ◌≤◌, ℕ, List, length, true, OnOk, IfOk, IfErr};
-ghost use Rattle.merkle_bytes.specs.Refusals.{IsMalformed, IsRefusal};
+ghost use Rattle.std.specs.Prelude.{◌≡◌, ◌++◌, ◌≤◌, ℕ, List, length, true, OnOk, IfOk, IfErr};
+ghost use Rattle.merkle_bytes.specs.Reading.{FindsNo};
+ghost use Rattle.merkle_bytes.specs.Refusals.{IsRefusal};
 
 use crate::error::ReadError;
 use crate::key_run::KeyRun;
@@ -48,8 +49,7 @@ pub trait DecodeInRun: EncodeInRun + Eq + Drop {
         ensures last { IfOk result (λ entry. run.new ≡ Self.last_key run.old entry) }
         ensures total { reader.new.total ≡ reader.old.total }
         ensures refused { IfErr result (IsRefusal reader.old.total reader.old.left.now) }
-        ensures malformed { IfErr result (λ error. IsMalformed error → (entry : Self) (rest : List ℕ) → is_entry entry
-            → reader.old.left.now ≢ Self.bytes_behind run.old entry ++ rest) };
+        ensures malformed { IfErr result (FindsNo (Self.bytes_behind run.old) is_entry reader.old) };
 
     /// An entry has at least one byte.
     ghost some: { (last : List ℕ) (x : Self) → 1 ≤ length (Self.bytes_behind last x) };

@@ -1,7 +1,9 @@
 //! Lists whose keys are written by what each shares with the one before.
-ghost use Rattle.std.specs.Prelude.{◌≡◌, ◌≢◌, ◌++◌, List, ℕ, OnOk, IfOk, IfErr};
+ghost use Rattle.std.specs.Prelude.{◌≡◌, OnOk, IfOk, IfErr};
 ghost use Rattle.std.specs.List.{AllByRecursion};
-ghost use Rattle.merkle_bytes.specs.Refusals.{IsMalformed, IsRefusal};
+ghost use Rattle.merkle_bytes.specs.Encodings.{AddsBytes};
+ghost use Rattle.merkle_bytes.specs.Reading.{FindsNoList, Reads};
+ghost use Rattle.merkle_bytes.specs.Refusals.{IsRefusal};
 ghost use Rattle.merkle_bytes.specs.Runs.{run_bytes, state_behind};
 
 use crate::counts::encode_count;
@@ -21,7 +23,7 @@ pub fn encode_run<T: EncodeInRun>(
     run: &mut KeyRun,
     bytes: &mut Vec<u8>,
 ) -> Result<(), AllocError>
-    ensures written { OnOk result (bytes.new.items ≡ bytes.old.items ++ run_bytes T.bytes_behind T.last_key run.old list.now) }
+    ensures written { OnOk result (AddsBytes bytes.old (run_bytes T.bytes_behind T.last_key run.old list.now) bytes.new) }
     ensures last { OnOk result (run.new ≡ state_behind T.bytes_behind T.last_key run.old list.now) }
 {
     encode_count(list.len() as u64, bytes)?;
@@ -40,13 +42,12 @@ pub fn decode_run<T: DecodeInRun>(
     run: &mut KeyRun,
     reader: &mut Reader<'_>,
 ) -> Result<Vec<T>, ReadError>
-    ensures read { IfOk result (λ list. reader.old.left.now ≡ run_bytes T.bytes_behind T.last_key run.old list.items ++ reader.new.left.now) }
+    ensures read { IfOk result (λ list. Reads reader.old (run_bytes T.bytes_behind T.last_key run.old list.items) reader.new) }
     ensures entries { IfOk result (λ list. AllByRecursion T.is_entry list.items) }
     ensures last { IfOk result (λ list. run.new ≡ state_behind T.bytes_behind T.last_key run.old list.items) }
     ensures total { reader.new.total ≡ reader.old.total }
     ensures refused { IfErr result (IsRefusal reader.old.total reader.old.left.now) }
-    ensures malformed { IfErr result (λ error. IsMalformed error → (list : List T) (rest : List ℕ) → AllByRecursion T.is_entry list
-        → reader.old.left.now ≢ run_bytes T.bytes_behind T.last_key run.old list ++ rest) }
+    ensures malformed { IfErr result (FindsNoList (run_bytes T.bytes_behind T.last_key run.old) T.is_entry reader.old) }
 {
     let count = reader.count()?;
     let mut list = Vec::new(reader.alloc());
