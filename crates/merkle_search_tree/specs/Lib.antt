@@ -7,3 +7,8 @@ pub mod Loading
 pub mod Updates
 pub mod Items
 pub mod SameItems
+pub mod Pages
+pub mod WhereHashed
+pub mod Hashing
+pub mod Lists
+pub mod Upserts

@@ -1,10 +1,10 @@
 //! The digests that pages lack: how many there are, and filling them in.
 
-ghost use Rattle.std.specs.Prelude.{◌≡◌, ◌++◌, ◌-◌, ◌^◌, ℕ, List, min};
-ghost use Rattle.merkle_digest.specs.Sip24.{Holds};
+ghost use Rattle.std.specs.Prelude.{◌≡◌, ◌-◌, ◌^◌, min};
 ghost use Rattle.merkle_tree_theory.specs.Tree.{held_of};
 ghost use Rattle.merkle_tree_theory.specs.Stream.{page_digest, held_stream, head_bytes, none_bytes, below_bytes, key_bytes};
 ghost use Rattle.merkle_tree_theory.specs.Cache.{CachesHold, HeldCachesHold, missing, held_missing, filled, held_filled};
+ghost use Rattle.merkle_search_tree.specs.Hashing.{HoldsMore};
 
 use crate::builder::PageFormat;
 use crate::page::{Page, PageOf};
@@ -74,7 +74,7 @@ fn fill_below<const N: usize, K: KeyBytes>(
 ) -> usize
     requires { HeldCachesHold format K.bytes_of (held_of held.old) }
     ensures pages { held_of held.new ≡ held_filled format K.bytes_of (held_of held.old) }
-    ensures bytes { (key written : List ℕ) → Holds sip.old key written → Holds sip.new key (written ++ held_stream format K.bytes_of (held_of held.old)) }
+    ensures bytes { HoldsMore sip.old (held_stream format K.bytes_of (held_of held.old)) sip.new }
     ensures count { result ≡ min (held_missing (held_of held.old)) (2 ^ 64 - 1) }
 {
     match held {
@@ -92,7 +92,7 @@ fn fill_below<const N: usize, K: KeyBytes>(
 
 /// Writes what stands before the first node of a page.
 fn write_head(format: PageFormat, level: u8, node_count: usize, sip: &mut Sip24)
-    ensures { (key written : List ℕ) → Holds sip.old key written → Holds sip.new key (written ++ head_bytes format level node_count) }
+    ensures { HoldsMore sip.old (head_bytes format level node_count) sip.new }
 {
     match format {
         PageFormat::V1 => {}
@@ -105,7 +105,7 @@ fn write_head(format: PageFormat, level: u8, node_count: usize, sip: &mut Sip24)
 
 /// Writes what stands for a page that is not there.
 fn write_none(format: PageFormat, sip: &mut Sip24)
-    ensures { (key written : List ℕ) → Holds sip.old key written → Holds sip.new key (written ++ none_bytes format) }
+    ensures { HoldsMore sip.old (none_bytes format) sip.new }
 {
     match format {
         PageFormat::V1 => {}
@@ -115,7 +115,7 @@ fn write_none(format: PageFormat, sip: &mut Sip24)
 
 /// Writes what stands for a page with this digest.
 fn write_below(format: PageFormat, digest: &PageDigest, sip: &mut Sip24)
-    ensures { (key written : List ℕ) → Holds sip.old key written → Holds sip.new key (written ++ below_bytes format digest.now) }
+    ensures { HoldsMore sip.old (below_bytes format digest.now) sip.new }
 {
     match format {
         PageFormat::V1 => {}
@@ -126,7 +126,7 @@ fn write_below(format: PageFormat, digest: &PageDigest, sip: &mut Sip24)
 
 /// Writes what stands for a key with these bytes.
 fn write_key(format: PageFormat, bytes: &[u8], sip: &mut Sip24)
-    ensures { (key written : List ℕ) → Holds sip.old key written → Holds sip.new key (written ++ key_bytes format bytes.now) }
+    ensures { HoldsMore sip.old (key_bytes format bytes.now) sip.new }
 {
     match format {
         PageFormat::V1 => {}
@@ -136,13 +136,13 @@ fn write_key(format: PageFormat, bytes: &[u8], sip: &mut Sip24)
 }
 
 impl<K: Ord + KeyBytes, V, H: Hasher<N, K>, const N: usize> MerkleSearchTree<K, V, H, N> {
-    ghost use Rattle.std.specs.Prelude.{◌≢◌, None, ⊤};
+    ghost use Rattle.std.specs.Prelude.{◌≢◌, None};
     ghost use Rattle.merkle_tree_theory.specs.Hashed.{hashed_tree, IsHashed};
     ghost use Rattle.merkle_tree_theory.specs.State.{map_of};
+    ghost use Rattle.merkle_search_tree.specs.Pages.{root_digest};
     ghost use Rattle.merkle_search_tree.specs.contracts.tree.MerkleSearchTree.{the_row};
     ghost use Rattle.std.specs.Borrow.{sem};
-    ghost use mathlib.Core.Option.{none};
-    ghost use denote.Follow.{follows_so};
+    ghost use Rattle.std.specs.Io.BufRead.{Rests};
     ghost use denote.Param.{number};
 
     /// How many pages lack a digest, but at most `usize::MAX`: none of a hashed tree. It looks at every page, and takes no memory.
@@ -165,9 +165,9 @@ impl<K: Ord + KeyBytes, V, H: Hasher<N, K>, const N: usize> MerkleSearchTree<K, 
     /// let digest = tree.root_hash().clone()?;
     /// ```
     pub fn root_hash(&mut self) -> &RootHash
-        ensures* tree { let row = the_row K.row V.row H.row (number N) K.Ord.own K.PartialEq K.PartialOrd.own K.KeyBytes.own H.Hasher in
-            sem 𝓛 (follows_so row row self.entry.ghost_name none (λ _ _. ⊤) (IsHashed K.bytes_of self.old)) }
-        ensures digest { result.now ≡ page_digest self.old.format K.bytes_of self.old.root }
+        ensures* tree { sem 𝓛 (Rests (the_row K.row V.row H.row (number N) K.Ord.own K.PartialEq K.PartialOrd.own K.KeyBytes.own H.Hasher) self.entry
+            (IsHashed K.bytes_of self.old)) }
+        ensures digest { result.now ≡ root_digest K.bytes_of self.old }
     {
         let _ = self.root_hash_counted();
         match &self.root_hash {
@@ -181,7 +181,7 @@ impl<K: Ord + KeyBytes, V, H: Hasher<N, K>, const N: usize> MerkleSearchTree<K, 
     pub fn root_hash_counted(&mut self) -> (RootHash, usize)
         ensures tree { self.new ≡ hashed_tree K.bytes_of self.old }
         ensures map { map_of self.new ≡ map_of self.old }
-        ensures digest { result.0 ≡ page_digest self.old.format K.bytes_of self.old.root }
+        ensures digest { result.0 ≡ root_digest K.bytes_of self.old }
         ensures count { result.1 ≡ min (missing self.old.root) (2 ^ 64 - 1) }
         ensures hashed { missing self.new.root ≡ 0 }
     {

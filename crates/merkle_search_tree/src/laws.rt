@@ -7,17 +7,15 @@ ghost use Rattle.std.specs.Prelude.{◌≡◌, ◌+◌, ◌≤◌, ⊤, MatchOpt
 ghost use Rattle.key_order.specs.Map.{SameMap};
 ghost use Rattle.merkle_diff.specs.SameEntries.{SameEntries};
 ghost use Rattle.merkle_diff.specs.TreeShape.{IsTreeShaped};
-ghost use Rattle.merkle_tree_theory.specs.Cache.{missing};
 ghost use Rattle.merkle_tree_theory.specs.Depth.{depth};
-ghost use Rattle.merkle_tree_theory.specs.Listing.{ListsPages};
 ghost use Rattle.merkle_tree_theory.specs.Page.{level};
-ghost use Rattle.merkle_tree_theory.specs.Ranges.{NothingToAsk, ranges_of};
+ghost use Rattle.merkle_tree_theory.specs.Ranges.{NothingToAsk};
 ghost use Rattle.merkle_tree_theory.specs.Canonical.{SamePages};
 ghost use Rattle.merkle_tree_theory.specs.Faithful.{IsSmall};
-ghost use Rattle.merkle_tree_theory.specs.TreeOf.{defined_tree};
-ghost use Rattle.merkle_tree_theory.specs.Stream.{page_digest};
 ghost use Rattle.merkle_tree_theory.specs.State.{map_of};
 ghost use Rattle.merkle_tree_theory.specs.Sound.{IsSound};
+ghost use Rattle.merkle_search_tree.specs.Pages.{root_digest, page_ranges, tree_of_map};
+ghost use Rattle.merkle_search_tree.specs.Pages.{HasEveryDigest, HasDigestOfMap, HasRangesOfMap, ListsItsPages};
 
 use crate::tree::MerkleSearchTree;
 use merkle_digest::{Hasher, KeyBytes};
@@ -34,11 +32,9 @@ pub fn every_tree_is_sound<K: Ord + KeyBytes, V, H: Hasher<N, K>, const N: usize
     tree: &MerkleSearchTree<K, V, H, N>,
 )
     ensures sound { IsSound K.cmp H.digest_of K.bytes_of tree.now }
-    ensures defined { SamePages K.cmp tree.now.root (defined_tree (H.digest_of tree.now.hasher) tree.now.base (map_of tree.now)) }
-    ensures digest { page_digest tree.now.format K.bytes_of tree.now.root
-        ≡ page_digest tree.now.format K.bytes_of (defined_tree (H.digest_of tree.now.hasher) tree.now.base (map_of tree.now)) }
-    ensures ranges { SameEntries K.cmp (ranges_of tree.now.format K.bytes_of tree.now.root)
-        (ranges_of tree.now.format K.bytes_of (defined_tree (H.digest_of tree.now.hasher) tree.now.base (map_of tree.now))) }
+    ensures defined { SamePages K.cmp tree.now.root (tree_of_map H.digest_of tree.now) }
+    ensures digest { HasDigestOfMap H.digest_of K.bytes_of tree.now }
+    ensures ranges { HasRangesOfMap K.cmp H.digest_of K.bytes_of tree.now }
 {
     let _ = &tree.root;
 }
@@ -63,7 +59,7 @@ pub fn equal_maps_have_equal_pages<K: Ord + KeyBytes, V, H: Hasher<N, K>, const 
     requires base { a.now.base ≡ b.now.base }
     requires maps { SameMap K.cmp (λ d e. d ≡ e) (map_of a.now) (map_of b.now) }
     ensures pages { SamePages K.cmp a.now.root b.now.root }
-    ensures digests { a.now.format ≡ b.now.format → page_digest a.now.format K.bytes_of a.now.root ≡ page_digest b.now.format K.bytes_of b.now.root }
+    ensures digests { a.now.format ≡ b.now.format → root_digest K.bytes_of a.now ≡ root_digest K.bytes_of b.now }
 {
     let _ = &a.root;
     let _ = &b.root;
@@ -73,7 +69,7 @@ pub fn equal_maps_have_equal_pages<K: Ord + KeyBytes, V, H: Hasher<N, K>, const 
 pub fn a_hashed_tree_has_every_digest<K: Ord + KeyBytes, V, H: Hasher<N, K>, const N: usize>(
     tree: &MerkleSearchTree<K, V, H, N>,
 )
-    ensures { MatchOption tree.now.root_hash ⊤ (λ digest. (digest ≡ page_digest tree.now.format K.bytes_of tree.now.root) × (missing tree.now.root ≡ 0)) }
+    ensures { MatchOption tree.now.root_hash ⊤ (HasEveryDigest K.bytes_of tree.now) }
 {
     let _ = &tree.root;
 }
@@ -83,7 +79,7 @@ pub fn a_hashed_tree_has_every_digest<K: Ord + KeyBytes, V, H: Hasher<N, K>, con
 pub fn page_ranges_are_tree_shaped<K: Ord + KeyBytes, V, H: Hasher<N, K>, const N: usize>(
     tree: &MerkleSearchTree<K, V, H, N>,
 )
-    ensures { IsTreeShaped K.cmp (ranges_of tree.now.format K.bytes_of tree.now.root) }
+    ensures { IsTreeShaped K.cmp (page_ranges K.bytes_of tree.now) }
 {
     let _ = &tree.root;
 }
@@ -93,7 +89,7 @@ pub fn page_ranges_are_tree_shaped<K: Ord + KeyBytes, V, H: Hasher<N, K>, const 
 pub fn page_ranges_list_the_map<K: Ord + KeyBytes, V, H: Hasher<N, K>, const N: usize>(
     tree: &MerkleSearchTree<K, V, H, N>,
 )
-    ensures { ListsPages K.cmp (H.digest_of tree.now.hasher) tree.now.base tree.now.format K.bytes_of (map_of tree.now) (ranges_of tree.now.format K.bytes_of tree.now.root) }
+    ensures { ListsItsPages K.cmp H.digest_of K.bytes_of tree.now }
 {
     let _ = &tree.root;
 }
@@ -108,9 +104,9 @@ pub fn equal_maps_have_equal_page_ranges<K: Ord + KeyBytes, V, H: Hasher<N, K>, 
     requires base { a.now.base ≡ b.now.base }
     requires format { a.now.format ≡ b.now.format }
     requires maps { SameMap K.cmp (λ d e. d ≡ e) (map_of a.now) (map_of b.now) }
-    ensures ranges { SameEntries K.cmp (ranges_of a.now.format K.bytes_of a.now.root) (ranges_of b.now.format K.bytes_of b.now.root) }
-    ensures nothing_to_ask_b_for { NothingToAsk K.cmp (ranges_of a.now.format K.bytes_of a.now.root) (ranges_of b.now.format K.bytes_of b.now.root) }
-    ensures nothing_to_ask_a_for { NothingToAsk K.cmp (ranges_of b.now.format K.bytes_of b.now.root) (ranges_of a.now.format K.bytes_of a.now.root) }
+    ensures ranges { SameEntries K.cmp (page_ranges K.bytes_of a.now) (page_ranges K.bytes_of b.now) }
+    ensures nothing_to_ask_b_for { NothingToAsk K.cmp (page_ranges K.bytes_of a.now) (page_ranges K.bytes_of b.now) }
+    ensures nothing_to_ask_a_for { NothingToAsk K.cmp (page_ranges K.bytes_of b.now) (page_ranges K.bytes_of a.now) }
 {
     let _ = &a.root;
     let _ = &b.root;

@@ -1,11 +1,12 @@
 //! What peers tell each other of a page: its nodes, and the pages right below it.
 
-ghost use Rattle.std.specs.Prelude.{◌≡◌, ◌≢◌, ◌++◌, IfSome, None, Some, OnOk};
+ghost use Rattle.std.specs.Prelude.{◌≡◌, ◌≢◌, IfSome, None, Some, OnOk};
 ghost use Rattle.merkle_tree_theory.specs.Canonical.{HasNode};
 ghost use Rattle.merkle_tree_theory.specs.Tree.{held_of};
 ghost use Rattle.merkle_tree_theory.specs.Outline.{cached_items, held_items};
 ghost use Rattle.merkle_tree_theory.specs.Page.{cache};
-ghost use Rattle.merkle_search_tree.specs.Items.{gap_of, items};
+ghost use Rattle.merkle_search_tree.specs.Items.{gap_of};
+ghost use Rattle.merkle_search_tree.specs.Lists.{AddsItems};
 
 use crate::gap::Gap;
 use crate::page::PageOf;
@@ -47,7 +48,7 @@ impl<K, D> PageOf<K, D> {
         gap: Gap<'a, K>,
         list: &mut Vec<OutlineItemOf<'a, K, D>>,
     ) -> Result<(), AllocError>
-        ensures { OnOk result (items list.new.items ≡ items list.old.items ++ cached_items (gap_of gap.entry) self.now) }
+        ensures { OnOk result (AddsItems (cached_items (gap_of gap.entry) self.now) list.old list.new) }
     {
         let mut after = gap.after;
         'nodes: for node in &self.nodes {
@@ -74,7 +75,7 @@ fn list_page<'a, K, D>(
     gap: Gap<'a, K>,
     list: &mut Vec<OutlineItemOf<'a, K, D>>,
 ) -> Result<(), AllocError>
-    ensures { OnOk result (items list.new.items ≡ items list.old.items ++ held_items cache (gap_of gap.entry) (held_of held.now)) }
+    ensures { OnOk result (AddsItems (held_items cache (gap_of gap.entry) (held_of held.now)) list.old list.new) }
 {
     let page = match held {
         None => return Ok(()),

@@ -1,11 +1,12 @@
 //! The ranges of keys that pages hold.
 
-ghost use Rattle.std.specs.Prelude.{◌≡◌, ℕ, ◌++◌, ◌∷◌, [], OnOk};
+ghost use Rattle.std.specs.Prelude.{◌≡◌, ℕ, ◌∷◌, [], OnOk};
 ghost use Rattle.std.specs.Option.{option_map};
-ghost use Rattle.merkle_diff.specs.PageRange.{entry, entries};
+ghost use Rattle.merkle_diff.specs.PageRange.{entry};
 ghost use Rattle.merkle_tree_theory.specs.Tree.{held_of};
 ghost use Rattle.merkle_tree_theory.specs.Page.{pairs, held_pairs, LevelsFall, HeldFalls};
 ghost use Rattle.merkle_tree_theory.specs.CachedRanges.{as_list, first_of, last_of, range_of, cached_ranges, held_cached, HasRange};
+ghost use Rattle.merkle_search_tree.specs.Lists.{AddsRanges};
 
 use crate::page::PageOf;
 use merkle_diff::PageRange;
@@ -115,7 +116,7 @@ impl<K: Ord, D> PageOf<K, D> {
 
     /// Adds the range of the page to a list, where it has one.
     fn list_own<'a>(&'a self, list: &mut Vec<PageRange<'a, K>>) -> Result<(), AllocError>
-        ensures { OnOk result (entries list.new.items ≡ entries list.old.items ++ as_list (range_of K.cmp self.now)) }
+        ensures { OnOk result (AddsRanges (as_list (range_of K.cmp self.now)) list.old list.new) }
     {
         if let Some(range) = self.page_range() {
             list.push(range)?;
@@ -131,7 +132,7 @@ impl<K: Ord, D> PageOf<K, D> {
         list: &mut Vec<PageRange<'a, K>>,
     ) -> Result<(), AllocError>
         requires { LevelsFall self.now }
-        ensures { OnOk result (entries list.new.items ≡ entries list.old.items ++ cached_ranges K.cmp self.now) }
+        ensures { OnOk result (AddsRanges (cached_ranges K.cmp self.now) list.old list.new) }
     {
         self.list_own(list)?;
         if self.level == 0 {
@@ -151,7 +152,7 @@ fn list_below<'a, K: Ord, D>(
     list: &mut Vec<PageRange<'a, K>>,
 ) -> Result<(), AllocError>
     requires { (above : ℕ) × HeldFalls above (held_of held.now) }
-    ensures { OnOk result (entries list.new.items ≡ entries list.old.items ++ held_cached K.cmp (held_of held.now)) }
+    ensures { OnOk result (AddsRanges (held_cached K.cmp (held_of held.now)) list.old list.new) }
 {
     match held {
         None => Ok(()),

@@ -4,8 +4,7 @@ ghost use Rattle.std.specs.Prelude.{◌≡◌, ◌≢◌, ℕ, ◌+◌, ◌^◌,
 ghost use Rattle.std.specs.Option.{option_map};
 ghost use Rattle.std.specs.Int.NonZero.{non_zero_u8_get};
 ghost use Rattle.key_order.specs.Order.{Same};
-ghost use Rattle.key_order.specs.Map.{SameMap, set, has_key};
-ghost use Rattle.merkle_digest.specs.Level.{level_of};
+ghost use Rattle.key_order.specs.Map.{SameMap, has_key};
 ghost use Rattle.merkle_digest.specs.SipHash.{zero_key};
 ghost use Rattle.merkle_tree_theory.specs.Tree.{page, high, nothing};
 ghost use Rattle.merkle_tree_theory.specs.Page.{level, pair_of, nodes_of, nodes_in_order};
@@ -16,8 +15,9 @@ ghost use Rattle.merkle_tree_theory.specs.Copy.{IsCopy};
 ghost use Rattle.merkle_tree_theory.specs.Dropped.{UpsertDropsFew, RemovalDropsFew};
 ghost use Rattle.merkle_tree_theory.specs.Sound.{IsSound};
 ghost use Rattle.merkle_tree_theory.specs.State.{map_of, IsNew, SameSettings};
-ghost use Rattle.merkle_tree_theory.specs.Stream.{page_digest};
 ghost use Rattle.merkle_tree_theory.specs.declared.page_format.PageFormat.TheVariants.{V1};
+ghost use Rattle.merkle_search_tree.specs.Pages.{unhashed_tree, root_digest};
+ghost use Rattle.merkle_search_tree.specs.Upserts.{SetsKey, FewAreMissing};
 
 use crate::builder::{Builder, PageFormat};
 use crate::node_iter::NodeIter;
@@ -129,8 +129,8 @@ impl<K: Ord + KeyBytes, V, H: Hasher<N, K>, const N: usize> MerkleSearchTree<K, 
 
     /// The tree with the builder's hasher, level base and page format, and this root page. It isn't hashed.
     pub(crate) fn with_root(alloc: Global, builder: Builder<H>, root: Page<N, K>) -> Self
-        requires { IsSound K.cmp H.digest_of K.bytes_of (record { hasher = builder.hasher; base = builder.base; format = builder.format; root = root; root_hash = None }) }
-        ensures { result ≡ record { hasher = builder.hasher; base = builder.base; format = builder.format; root = root; root_hash = None } }
+        requires { IsSound K.cmp H.digest_of K.bytes_of (unhashed_tree builder root) }
+        ensures { result ≡ unhashed_tree builder root }
     {
         MerkleSearchTree {
             alloc,
@@ -168,7 +168,7 @@ impl<K: Ord + KeyBytes, V, H: Hasher<N, K>, const N: usize> MerkleSearchTree<K, 
     /// key that was there, until the tree is hashed again. It takes no memory.
     pub fn root_hash_cached(&self) -> Option<&RootHash>
         ensures cached { option_map (λ digest. digest.now) result ≡ self.now.root_hash }
-        ensures digest { IfSome result (λ digest. digest.now ≡ page_digest self.now.format K.bytes_of self.now.root) }
+        ensures digest { IfSome result (λ digest. digest.now ≡ root_digest K.bytes_of self.now) }
     {
         self.root_hash.as_ref()
     }
@@ -302,14 +302,13 @@ impl<
     /// hash are as before.
     pub fn upsert(&mut self, key: K, value: &V) -> Result<(), UpsertRefused<K>>
         // The map has the key with the digest of the value.
-        ensures set { OnOk result (map_of self.new ≡ set K.cmp (map_of self.old) key (⟦<H as Hasher<N, V>>⟧.digest_of self.old.hasher value.now)) }
+        ensures set { OnOk result (SetsKey K.cmp ⟦<H as Hasher<N, V>>⟧.digest_of self.old key value.now self.new) }
 
         // No digest over the key is left, and few others are dropped: few are missing in a tree that was hashed.
         ensures forgotten { OnOk result (self.new.root_hash ≡ None) }
         ensures dropped { OnOk result (KeyUncached K.cmp key self.new.root) }
         ensures few_more { OnOk result (UpsertDropsFew (⟦<H as Hasher<N, K>>⟧.digest_of self.old.hasher key) self.old self.new) }
-        ensures few { OnOk result (self.old.root_hash ≢ None → missing self.new.root
-            ≤ level self.new.root + level_of (⟦<H as Hasher<N, K>>⟧.digest_of self.old.hasher key) self.old.base + 1) }
+        ensures few { OnOk result (FewAreMissing (⟦<H as Hasher<N, K>>⟧.digest_of self.old.hasher key) self.old self.new) }
 
         ensures settings { SameSettings self.old self.new }
 

@@ -1,16 +1,13 @@
 //! What a tree answers to a peer that goes down page by page: the outline of a page, and what the tree has of one.
 
-ghost use Rattle.std.specs.Prelude.{◌≡◌, ◌≢◌, ◌↔◌, ℕ, List, None, Some, IfOk, IsOk, IsTrue, MatchOption};
+ghost use Rattle.std.specs.Prelude.{◌≡◌, ◌≢◌, ◌↔◌, None, Some, IfOk, IsOk, IsTrue};
 ghost use Rattle.std.specs.Option.{option_map};
 ghost use Rattle.key_order.specs.Map.{get};
 ghost use Rattle.merkle_tree_theory.specs.CachedRanges.{as_list};
-ghost use Rattle.merkle_tree_theory.specs.Lookup.{Fills};
-ghost use Rattle.merkle_tree_theory.specs.Outline.{outline_over, whole_item};
-ghost use Rattle.merkle_tree_theory.specs.Ranges.{IsPageIn};
 ghost use Rattle.merkle_tree_theory.specs.State.{map_of};
-ghost use Rattle.merkle_tree_theory.specs.Stream.{page_digest};
-ghost use Rattle.merkle_tree_theory.specs.Tree.{Tree};
-ghost use Rattle.merkle_search_tree.specs.Items.{gap_of, item as item_of, items};
+ghost use Rattle.merkle_search_tree.specs.Items.{gap_of, item as item_of};
+ghost use Rattle.merkle_search_tree.specs.Pages.{whole_tree};
+ghost use Rattle.merkle_search_tree.specs.WhereHashed.{WhereHashed, HasPageWith, FindsFillingPage, IsOutlineOver};
 
 use crate::gap::Gap;
 use crate::outline::{OutlineItem, OutlineItemOf};
@@ -38,7 +35,7 @@ impl<K: Ord + KeyBytes, V, H: Hasher<N, K>, const N: usize> MerkleSearchTree<K, 
     /// The whole tree as one item of an outline, where the tree is hashed and has a key: its root page, in the gap that has all keys. It
     /// takes no memory.
     pub fn whole(&self) -> Option<OutlineItem<'_, N, K>>
-        ensures { self.now.root_hash ≢ None → as_list (option_map item_of result) ≡ whole_item self.now.format K.bytes_of self.now.root }
+        ensures { self.now.root_hash ≢ None → as_list (option_map item_of result) ≡ whole_tree K.bytes_of self.now }
     {
         let digest = self.root.digest_with_node()?;
         Some(OutlineItemOf::Page(Gap::everywhere(), digest))
@@ -53,9 +50,8 @@ impl<K: Ord + KeyBytes, V, H: Hasher<N, K>, const N: usize> MerkleSearchTree<K, 
     /// self.tree().has_page(gap, digest)
     /// ```
     pub fn has_page(&self, gap: &Gap<'_, K>, digest: &PageDigest) -> bool
-        ensures only { IsTrue result → (page : Tree K (List ℕ)) × IsPageIn page self.now.root × (page_digest self.now.format K.bytes_of page ≡ digest.now) }
-        ensures all { self.now.root_hash ≢ None → (page : Tree K (List ℕ)) → Fills K.cmp (gap_of gap.now) page self.now.root
-            → page_digest self.now.format K.bytes_of page ≡ digest.now → IsTrue result }
+        ensures only { IsTrue result → HasPageWith K.bytes_of self.now digest.now }
+        ensures all { FindsFillingPage K.cmp K.bytes_of self.now (gap_of gap.now) digest.now result }
     {
         match self.root.page_over(gap) {
             None => false,
@@ -85,8 +81,7 @@ impl<K: Ord + KeyBytes, V, H: Hasher<N, K>, const N: usize> MerkleSearchTree<K, 
         &'a self,
         gap: Gap<'a, K>,
     ) -> Result<Option<Vec<OutlineItem<'a, N, K>>>, AllocError>
-        ensures items { IfOk result (λ found. MatchOption found (self.now.root_hash ≡ None)
-            (λ list. (self.now.root_hash ≢ None) × (items list.items ≡ outline_over self.now.format K.bytes_of K.cmp self.now.root (gap_of gap.entry)))) }
+        ensures items { IfOk result (WhereHashed self.now (IsOutlineOver K.cmp K.bytes_of self.now (gap_of gap.entry))) }
         ensures not_hashed { self.now.root_hash ≡ None → IsOk result }
     {
         if self.root_hash.is_none() {

@@ -1,9 +1,10 @@
 //! The page ranges of a tree, by which peers compare what they hold.
 
-ghost use Rattle.std.specs.Prelude.{◌≡◌, ◌≢◌, None, [], IfOk, IfSome, IsOk, MatchOption};
+ghost use Rattle.std.specs.Prelude.{◌≡◌, ◌≢◌, None, [], IfOk, IfSome, IsOk};
 ghost use Rattle.merkle_diff.specs.PageRange.{entries};
-ghost use Rattle.merkle_tree_theory.specs.Ranges.{ranges_of};
 ghost use Rattle.merkle_tree_theory.specs.State.{map_of};
+ghost use Rattle.merkle_search_tree.specs.Pages.{page_ranges};
+ghost use Rattle.merkle_search_tree.specs.WhereHashed.{WhereHashed};
 
 use crate::page_range_iter::PageRangeIter;
 use crate::tree::MerkleSearchTree;
@@ -35,7 +36,7 @@ impl<K: Ord + KeyBytes, V, H: Hasher<N, K>, const N: usize> MerkleSearchTree<K, 
     /// takes memory.
     pub fn serialise_page_ranges(&self) -> Result<Option<Vec<PageRange<'_, K>>>, AllocError>
         ensures hashed { IfOk result (λ found. IfSome found (λ list. self.now.root_hash ≢ None)) }
-        ensures ranges { IfOk result (λ found. MatchOption found (self.now.root_hash ≡ None) (λ list. entries list.items ≡ ranges_of self.now.format K.bytes_of self.now.root)) }
+        ensures ranges { IfOk result (WhereHashed self.now (λ list. entries list.items ≡ page_ranges K.bytes_of self.now)) }
         ensures not_hashed { self.now.root_hash ≡ None → IsOk result }
         ensures empty { map_of self.now ≡ [] → IsOk result }
     {
@@ -67,7 +68,7 @@ impl<K: Ord + KeyBytes, V, H: Hasher<N, K>, const N: usize> MerkleSearchTree<K, 
     /// nor the iterator of a tree without keys takes memory, and the iteration itself takes none.
     pub fn page_range_iter(&self) -> Result<Option<PageRangeIter<'_, N, K>>, AllocError>
         ensures hashed { IfOk result (λ found. IfSome found (λ rest. self.now.root_hash ≢ None)) }
-        ensures ranges { IfOk result (λ found. MatchOption found (self.now.root_hash ≡ None) (λ rest. rest ≡ ranges_of self.now.format K.bytes_of self.now.root)) }
+        ensures ranges { IfOk result (WhereHashed self.now (λ rest. rest ≡ page_ranges K.bytes_of self.now)) }
         ensures not_hashed { self.now.root_hash ≡ None → IsOk result }
         ensures empty { map_of self.now ≡ [] → IsOk result }
     {
