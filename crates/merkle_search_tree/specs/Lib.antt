@@ -12,3 +12,4 @@ pub mod WhereHashed
 pub mod Hashing
 pub mod Lists
 pub mod Upserts
+pub mod Edges

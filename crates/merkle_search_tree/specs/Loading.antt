@@ -2,10 +2,11 @@
 use Rattle.std.specs.Prelude.{◌≡◌, ℕ, ◌-◌, ◌^◌, min, List, [], ◌∷◌, ◌++◌, map, length, codes, ⊤}
 use Rattle.std.specs.Fmt.{decimal}
 use Rattle.std.specs.declared.cmp.Ordering.{Ordering}
-use Rattle.key_order.specs.Map.{IsMap}
+use Rattle.key_order.specs.Map.{IsMap, SameMap}
 use Rattle.merkle_digest.specs.Level.{level_of}
 use Rattle.merkle_tree_theory.specs.Edge.{IsEdge, edge_pairs}
 use Rattle.merkle_tree_theory.specs.Settings.{Settings}
+use Rattle.merkle_tree_theory.specs.State.{State, map_of}
 use Rattle.merkle_search_tree.specs.declared.load.Loading.{Loading}
 use Rattle.merkle_search_tree.specs.declared.load.LoadRefused.{LoadRefused}
 use Rattle.merkle_search_tree.specs.declared.load.LoadRefused.TheVariants.{Memory, NotAscending}
@@ -20,9 +21,22 @@ pub record IsLoading {K H : Type 0} (cmp : K → K → Ordering) (digest_of : H 
   pub fits : IsEdge (λ k. level_of (digest_of settings.hasher k) settings.base) 256 loading.edge.items
   pub counted : loading.count ≡ row_count (edge_pairs loading.edge.items)
 
+-- a row is put behind those that are loaded
+abbrev pub Adds : {K V H : Type 0} → (H → V → List ℕ) → Settings H → Loading K (List ℕ) → K → V → Loading K (List ℕ) → Type 0
+Adds value_digest settings old key value new = edge_pairs new.edge.items ≡ edge_pairs old.edge.items ++ (key, value_digest settings.hasher value) ∷ []
+
 -- the rows with each value replaced by its digest
 abbrev pub digests : {K V D : Type 0} → (V → D) → List (K × V) → List (K × D)
 digests digest_of = map (λ r. (r.0, digest_of r.1))
+
+module _ {K V H : Type 0} (cmp : K → K → Ordering) (digest_of : V → List ℕ) where
+  -- rows came that ascend, and the map of the tree is these rows with the digests of their values
+  abbrev pub HasLoaded : (List (K × V) → Type 0) → State K H → Type 0
+  HasLoaded Came tree = (rows : List (K × V)) × Came rows × IsMap cmp rows × (map_of tree ≡ digests digest_of rows)
+
+  -- the map of the tree is the rows with the digests of their values, up to equal keys
+  abbrev pub HasDigestsOf : List (K × V) → State K H → Type 0
+  HasDigestsOf rows tree = SameMap cmp (λ d e. d ≡ e) (map_of tree) (digests digest_of rows)
 
 -- the rows begin with these
 abbrev pub BeginsWith : {X : Type 0} → List X → List X → Type 0

@@ -1,9 +1,10 @@
 //! The open pages of a tree's right edge, to which nodes are still added.
 
-ghost use Rattle.std.specs.Prelude.{◌≡◌, ◌≤◌, ℕ, IfOk};
+ghost use Rattle.std.specs.Prelude.{◌≡◌, ◌≤◌, ℕ, IfOk, OnOk};
 ghost use Rattle.merkle_tree_theory.specs.Tree.{held_of};
 ghost use Rattle.merkle_tree_theory.specs.Chain.{row_of_page, remade};
-ghost use Rattle.merkle_tree_theory.specs.Edge.{row_more, last_level, edge_pairs, is_above, IsEdge, ClosesPages, Appends, IsRootOf};
+ghost use Rattle.merkle_tree_theory.specs.Edge.{row_more, last_level, edge_pairs, is_above, IsEdge, IsRootOf};
+ghost use Rattle.merkle_search_tree.specs.Edges.{AppendsPair, ClosesBelow};
 
 use crate::page::{NodeOf, PageOf};
 use crate::page_ranges::last_key;
@@ -57,7 +58,7 @@ fn close<K: Drop, D: Drop>(
     bound: u16,
 ) -> Result<Option<Box<PageOf<K, D>>>, AllocError>
     requires { bound ≤ 256 }
-    ensures closed { IfOk result (λ held. (lev : K → ℕ) → IsEdge lev 256 edge.old.items → ClosesPages lev bound edge.old.items edge.new.items (held_of held)) }
+    ensures closed { IfOk result (λ held. ClosesBelow bound edge.old.items edge.new.items (held_of held)) }
     ensures levels { IfOk result (λ held. bound ≤ last_level 256 edge.new.items) }
 {
     let mut held = None;
@@ -82,7 +83,7 @@ pub(crate) fn append<K: Drop, D: Drop>(
     level: u8,
     digest: D,
 ) -> Result<(), AllocError>
-    ensures { IfOk result (λ _. (lev : K → ℕ) → lev key ≡ level → IsEdge lev 256 edge.old.items → Appends lev key digest edge.old.items edge.new.items) }
+    ensures { OnOk result (AppendsPair key level digest edge.old.items edge.new.items) }
 {
     let low = close(alloc, edge, u16::from(level))?;
     let node = NodeOf {

@@ -1,11 +1,11 @@
 //! Building a tree of rows that come in ascending key order.
 
-ghost use Rattle.std.specs.Prelude.{◌≡◌, [], ◌∷◌, ◌++◌, IfOk, IfErr, OnOk, None};
+ghost use Rattle.std.specs.Prelude.{◌≡◌, IfOk, IfErr, OnOk, None};
 ghost use Rattle.std.specs.Iterator.{IsFiniteIterable};
-ghost use Rattle.key_order.specs.Map.{IsMap, SameMap};
+ghost use Rattle.key_order.specs.Map.{IsMap};
 ghost use Rattle.merkle_diff.specs.Iterable.{Gives, Begins};
 ghost use Rattle.merkle_tree_theory.specs.Edge.{edge_pairs};
-ghost use Rattle.merkle_search_tree.specs.Loading.{digests, IsLoading, RowFails, LoadFails, BeginsWith};
+ghost use Rattle.merkle_search_tree.specs.Loading.{Adds, IsLoading, HasLoaded, HasDigestsOf, RowFails, LoadFails, BeginsWith};
 ghost use Rattle.merkle_tree_theory.specs.State.{map_of, HasSettings};
 ghost use Rattle.merkle_search_tree.specs.declared.load.LoadRefused.TheVariants.{Memory};
 
@@ -74,7 +74,7 @@ fn push_row<K: Ord + KeyBytes + Drop, V: Eq, H: Hasher<N, K> + Hasher<N, V>, con
 ) -> Result<(), LoadRefused>
     requires { IsLoading K.cmp ⟦<H as Hasher<N, K>>⟧.digest_of builder.now loading.old }
     ensures loading { OnOk result (IsLoading K.cmp ⟦<H as Hasher<N, K>>⟧.digest_of builder.now loading.new) }
-    ensures pushed { OnOk result (edge_pairs loading.new.edge.items ≡ edge_pairs loading.old.edge.items ++ (key, ⟦<H as Hasher<N, V>>⟧.digest_of builder.now.hasher value.now) ∷ []) }
+    ensures pushed { OnOk result (Adds ⟦<H as Hasher<N, V>>⟧.digest_of builder.now loading.old key value.now loading.new) }
     ensures refused { IfErr result (λ fault. RowFails K.cmp (edge_pairs loading.old.edge.items) key fault) }
 {
     if !is_above(&loading.edge, &key) {
@@ -146,8 +146,8 @@ impl<
         requires ends { IsFiniteIterable T.into_iter_gives T.IntoIter.can_next T.IntoIter.remaining rows }
 
         // The map is the rows that were given, which ascend, with the digests of their values.
-        ensures map { IfOk result (λ tree. (given : _) × Gives T.into_iter_gives T.IntoIter.next_gives rows given
-            × IsMap K.cmp given × (map_of tree ≡ digests (⟦<H as Hasher<N, V>>⟧.digest_of builder.hasher) given)) }
+        ensures map { IfOk result (HasLoaded K.cmp (⟦<H as Hasher<N, V>>⟧.digest_of builder.hasher)
+            (Gives T.into_iter_gives T.IntoIter.next_gives rows)) }
 
         ensures settings { IfOk result (HasSettings builder) }
         ensures not_hashed { IfOk result (λ tree. tree.root_hash ≡ None) }
@@ -185,7 +185,7 @@ impl<K: Key + Drop, V: Eq, H: Hasher<N, K> + Hasher<N, V> + Drop, const N: usize
         rows: &[(K, V)],
     ) -> Result<Self, LoadRefused>
         // The map is the rows with the digests of their values.
-        ensures map { IfOk result (λ tree. SameMap K.cmp (λ d e. d ≡ e) (map_of tree) (digests (⟦<H as Hasher<N, V>>⟧.digest_of builder.hasher) rows.now)) }
+        ensures map { IfOk result (HasDigestsOf K.cmp (⟦<H as Hasher<N, V>>⟧.digest_of builder.hasher) rows.now) }
 
         ensures ascending { IfOk result (λ tree. IsMap K.cmp rows.now) }
         ensures settings { IfOk result (HasSettings builder) }

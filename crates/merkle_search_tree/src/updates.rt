@@ -1,11 +1,9 @@
 //! A tree's whole life: updates carried out one after the other, from the empty tree on.
 
-ghost use Rattle.std.specs.Prelude.{◌≡◌, IfOk, length, is_some, [], false};
-ghost use Rattle.merkle_diff.specs.SameEntries.{SameEntries};
-ghost use Rattle.merkle_tree_theory.specs.Canonical.{SamePages};
-ghost use Rattle.merkle_tree_theory.specs.Ranges.{ranges_of};
-ghost use Rattle.merkle_tree_theory.specs.State.{map_of, HasSettings, SameSettings};
-ghost use Rattle.merkle_search_tree.specs.Updates.{map_after, map_after_one, hashed_after_one, tree_after, root_hash_after, IsAcceptedIfFree, FreeAreAccepted};
+ghost use Rattle.std.specs.Prelude.{◌≡◌, IfOk, length};
+ghost use Rattle.merkle_tree_theory.specs.State.{HasSettings, SameSettings};
+ghost use Rattle.merkle_search_tree.specs.Updates.{HasMapAfterOne, IsHashedAfterOne, AcceptsIfFree};
+ghost use Rattle.merkle_search_tree.specs.Updates.{AcceptsTheFree, HasMapAfter, HasPagesAfter, HasRangesAfter, HasRootHashAfter};
 
 use crate::builder::Builder;
 use crate::laws::{a_hashed_tree_has_every_digest, every_tree_is_sound};
@@ -33,9 +31,9 @@ where
     K: Ord + KeyBytes + Drop,
     V: Eq + Drop,
     H: Hasher<N, K> + Hasher<N, V>,
-    ensures map { map_of tree.new ≡ map_after_one K.cmp (⟦<H as Hasher<N, V>>⟧.digest_of tree.old.hasher) (map_of tree.old) update result }
-    ensures hashed { is_some tree.new.root_hash ≡ hashed_after_one K.cmp (⟦<H as Hasher<N, V>>⟧.digest_of tree.old.hasher) (map_of tree.old) (is_some tree.old.root_hash) update result }
-    ensures free { IsAcceptedIfFree K.cmp (⟦<H as Hasher<N, V>>⟧.digest_of tree.old.hasher) (map_of tree.old) update result }
+    ensures map { HasMapAfterOne K.cmp ⟦<H as Hasher<N, V>>⟧.digest_of tree.old update result tree.new }
+    ensures hashed { IsHashedAfterOne K.cmp ⟦<H as Hasher<N, V>>⟧.digest_of tree.old update result tree.new }
+    ensures free { AcceptsIfFree K.cmp ⟦<H as Hasher<N, V>>⟧.digest_of tree.old update result }
     ensures settings { SameSettings tree.old tree.new }
 {
     match update {
@@ -69,14 +67,13 @@ where
     V: Eq + Drop,
     H: Hasher<N, K> + Hasher<N, V> + Drop,
     ensures answers { IfOk result (λ r. length r.1.items ≡ length updates.items) }
-    ensures free { IfOk result (λ r. FreeAreAccepted K.cmp (⟦<H as Hasher<N, V>>⟧.digest_of builder.hasher) [] updates.items r.1.items) }
-    ensures map { IfOk result (λ r. map_of r.0 ≡ map_after K.cmp (⟦<H as Hasher<N, V>>⟧.digest_of builder.hasher) [] updates.items r.1.items) }
-    ensures pages { IfOk result (λ r. SamePages K.cmp r.0.root
-        (tree_after K.cmp ⟦<H as Hasher<N, K>>⟧.digest_of ⟦<H as Hasher<N, V>>⟧.digest_of builder updates.items r.1.items)) }
-    ensures ranges { IfOk result (λ r. SameEntries K.cmp (ranges_of builder.format K.bytes_of r.0.root) (ranges_of builder.format K.bytes_of
-        (tree_after K.cmp ⟦<H as Hasher<N, K>>⟧.digest_of ⟦<H as Hasher<N, V>>⟧.digest_of builder updates.items r.1.items))) }
-    ensures root_hash { IfOk result (λ r. r.0.root_hash
-        ≡ root_hash_after K.cmp ⟦<H as Hasher<N, K>>⟧.digest_of ⟦<H as Hasher<N, V>>⟧.digest_of K.bytes_of builder updates.items r.1.items) }
+    ensures free { IfOk result (AcceptsTheFree K.cmp ⟦<H as Hasher<N, V>>⟧.digest_of builder updates.items) }
+    ensures map { IfOk result (HasMapAfter K.cmp ⟦<H as Hasher<N, V>>⟧.digest_of builder updates.items) }
+    ensures pages { IfOk result (HasPagesAfter K.cmp ⟦<H as Hasher<N, K>>⟧.digest_of ⟦<H as Hasher<N, V>>⟧.digest_of builder updates.items) }
+    ensures ranges { IfOk result (HasRangesAfter K.cmp ⟦<H as Hasher<N, K>>⟧.digest_of ⟦<H as Hasher<N, V>>⟧.digest_of
+        K.bytes_of builder updates.items) }
+    ensures root_hash { IfOk result (HasRootHashAfter K.cmp ⟦<H as Hasher<N, K>>⟧.digest_of ⟦<H as Hasher<N, V>>⟧.digest_of
+        K.bytes_of builder updates.items) }
     ensures settings { IfOk result (λ r. HasSettings builder r.0) }
 {
     let mut accepted = Vec::with_capacity(alloc, updates.len())?;
