@@ -13,3 +13,7 @@ pub mod Hashing
 pub mod Lists
 pub mod Upserts
 pub mod Edges
+pub mod Rows
+pub mod Removals
+pub mod Copies
+pub mod Spots

@@ -4,6 +4,7 @@ ghost use Rattle.std.specs.Prelude.{◌≡◌, ◌<◌, ◌≤◌, [], ◌∷◌
 ghost use Rattle.std.specs.Vec.{vec_len, vec_capacity};
 ghost use Rattle.merkle_tree_theory.specs.Tree.{nothing, held_of};
 ghost use Rattle.merkle_tree_theory.specs.Chain.{page_length, with_high, with_first, row_of_page, remade, hung, HaveNodes};
+ghost use Rattle.merkle_search_tree.specs.Split.{IsEmptyChain};
 
 use crate::page::PageOf;
 use std::alloc::{AllocError, Global};
@@ -43,7 +44,7 @@ pub(crate) struct Chain<K, D> {
 impl<K: Drop, D: Drop> Chain<K, D> {
     /// No pages, with room for so many.
     pub(crate) fn with_room(alloc: Global, room: usize) -> Result<Self, AllocError>
-        ensures { IfOk result (λ chain. (chain.pages.items ≡ []) × (chain.stale ≡ 0) × (room ≤ vec_capacity chain.pages)) }
+        ensures { IfOk result (IsEmptyChain room) }
     {
         let pages = Vec::with_capacity(alloc, room)?;
         Ok(Chain { pages, stale: 0 })

@@ -1,8 +1,9 @@
 //! Copies of pages and nodes.
 
-ghost use Rattle.std.specs.Prelude.{◌≡◌, true, IfOk};
+ghost use Rattle.std.specs.Prelude.{◌≡◌, IfOk};
 ghost use Rattle.merkle_tree_theory.specs.Tree.{held_of};
 ghost use Rattle.merkle_tree_theory.specs.Copy.{IsCopy, HeldIsCopy, NodeIsCopy};
+ghost use Rattle.merkle_search_tree.specs.Copies.{ClonesAreEqual, EqualBothWays};
 
 use crate::page::{Node, NodeOf, Page, PageOf};
 use merkle_digest::PageDigest;
@@ -17,8 +18,7 @@ impl<const N: usize, K: Clone + PartialEq> Node<N, K> {
     /// `AllocError` where memory is refused: for a page or its nodes, or for the clone of a key.
     pub fn try_clone(&self, alloc: Global) -> Result<Self, AllocError>
         ensures copy { IfOk result (λ copy. NodeIsCopy K.is_clone (λ digest copied. copied ≡ digest) self.now copy) }
-        ensures equal { ((key clone : K) → K.is_clone key clone → K.eq key clone ≡ true)
-            → IfOk result (λ copy. (⟦<Node<N, K> as PartialEq>⟧.eq self.now copy ≡ true) × (⟦<Node<N, K> as PartialEq>⟧.eq copy self.now ≡ true)) }
+        ensures equal { ClonesAreEqual K.is_clone K.eq → IfOk result (EqualBothWays ⟦<Node<N, K> as PartialEq>⟧.eq self.now) }
     {
         self.copied(alloc)
     }
@@ -33,8 +33,7 @@ impl<const N: usize, K: Clone + PartialEq> Page<N, K> {
     /// `AllocError` where memory is refused: for a page or its nodes, or for the clone of a key.
     pub fn try_clone(&self, alloc: Global) -> Result<Self, AllocError>
         ensures copy { IfOk result (λ copy. IsCopy K.is_clone (λ digest copied. copied ≡ digest) self.now copy) }
-        ensures equal { ((key clone : K) → K.is_clone key clone → K.eq key clone ≡ true)
-            → IfOk result (λ copy. (⟦<Page<N, K> as PartialEq>⟧.eq self.now copy ≡ true) × (⟦<Page<N, K> as PartialEq>⟧.eq copy self.now ≡ true)) }
+        ensures equal { ClonesAreEqual K.is_clone K.eq → IfOk result (EqualBothWays ⟦<Page<N, K> as PartialEq>⟧.eq self.now) }
     {
         self.copied(alloc)
     }

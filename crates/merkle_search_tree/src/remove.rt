@@ -1,12 +1,14 @@
 //! Taking a key out of a subtree.
 
-ghost use Rattle.std.specs.Prelude.{◌≡◌, ◌⊎◌, ◌<◌, length, Some, None, OnOk, OnErr, IfOk, IsOk, MatchOption};
+ghost use Rattle.std.specs.Prelude.{◌≡◌, ◌⊎◌, ◌<◌, length, Some, None, OnOk, OnErr, IfOk, IsOk};
 ghost use Rattle.std.specs.Vec.{vec_len};
 ghost use Rattle.key_order.specs.Map.{IsMap};
 ghost use Rattle.merkle_tree_theory.specs.Page.{pairs, held_pairs};
-ghost use Rattle.merkle_tree_theory.specs.Tree.{high, nothing, row, held_of};
-ghost use Rattle.merkle_tree_theory.specs.Remove.{held_join, row_append, row_del, held_del, tree_without, root_del, row_entry, held_entry, tree_entry};
+ghost use Rattle.merkle_tree_theory.specs.Tree.{high, nothing, held_of};
+ghost use Rattle.merkle_tree_theory.specs.Remove.{held_join, row_append, held_del, tree_without, root_del, held_entry, tree_entry};
 ghost use Rattle.merkle_tree_theory.specs.Remove.{row_without, pair_at, IsNothing, BeginsFree, IsFreeAt, HasFreeGap, HeldHasFreeGap};
+ghost use Rattle.merkle_search_tree.specs.Removals.{ChangesIfFound};
+ghost use Rattle.merkle_search_tree.specs.Rows.{as_row};
 
 use crate::page::{NodeOf, PageOf};
 use crate::spot::search;
@@ -74,13 +76,13 @@ fn join_first<K: Drop, D: Drop>(
     nodes: &mut [NodeOf<K, D>],
     high_page: &mut Option<Box<PageOf<K, D>>>,
 ) -> Result<(), AllocError>
-    ensures joined { OnOk result (row nodes.new (held_of high_page.new) ≡ row_append (high (held_of lower.old)) (row nodes.old (held_of high_page.old))) }
+    ensures joined { OnOk result (as_row nodes.new high_page.new ≡ row_append (high (held_of lower.old)) (as_row nodes.old high_page.old)) }
     ensures emptied { OnOk result (held_of lower.new ≡ nothing) }
     ensures lower_unchanged { OnErr result (held_of lower.new ≡ held_of lower.old) }
     ensures nodes_unchanged { OnErr result (nodes.new ≡ nodes.old) }
     ensures high_unchanged { OnErr result (held_of high_page.new ≡ held_of high_page.old) }
     ensures len { length nodes.new ≡ length nodes.old }
-    ensures succeeds { IsNothing (held_of lower.old) ⊎ BeginsFree (row nodes.old (held_of high_page.old)) → IsOk result }
+    ensures succeeds { IsNothing (held_of lower.old) ⊎ BeginsFree (as_row nodes.old high_page.old) → IsOk result }
 {
     if nodes.is_empty() {
         return join_below(lower, high_page);
@@ -96,11 +98,11 @@ fn take_out<K: Drop, D: Drop>(
     at: usize,
 ) -> Result<(K, D), AllocError>
     requires { at < vec_len nodes.old }
-    ensures joined { OnOk result (row nodes.new.items (held_of high_page.new) ≡ row_without at (row nodes.old.items (held_of high_page.old))) }
+    ensures joined { OnOk result (as_row nodes.new.items high_page.new ≡ row_without at (as_row nodes.old.items high_page.old)) }
     ensures taken { IfOk result (λ entry. Some entry ≡ pair_at at nodes.old.items) }
     ensures nodes_unchanged { OnErr result (nodes.new.items ≡ nodes.old.items) }
     ensures high_unchanged { OnErr result (held_of high_page.new ≡ held_of high_page.old) }
-    ensures succeeds { IsFreeAt at (row nodes.old.items (held_of high_page.old)) → IsOk result }
+    ensures succeeds { IsFreeAt at (as_row nodes.old.items high_page.old) → IsOk result }
 {
     let node = &mut nodes[at];
     let mut low = mem::replace(&mut node.lt_pointer, None);
@@ -123,7 +125,7 @@ impl<K: Ord + Drop, D: Drop> PageOf<K, D> {
     fn remove(&mut self, key: &K) -> Result<Option<(K, D)>, AllocError>
         requires ascending { IsMap K.cmp (pairs self.old) }
         ensures found { IfOk result (λ found. found ≡ tree_entry K.cmp key.now self.old) }
-        ensures done { IfOk result (λ found. MatchOption found (self.new ≡ self.old) (λ entry. self.new ≡ tree_without K.cmp key.now self.old)) }
+        ensures done { IfOk result (ChangesIfFound (tree_without K.cmp key.now) self.old self.new) }
         ensures unchanged { OnErr result (self.new ≡ self.old) }
         ensures succeeds { HasFreeGap K.cmp key.now self.old → IsOk result }
     {
@@ -160,7 +162,7 @@ fn remove_below<K: Ord + Drop, D: Drop>(
 ) -> Result<Option<(K, D)>, AllocError>
     requires ascending { IsMap K.cmp (held_pairs (held_of held.old)) }
     ensures found { IfOk result (λ found. found ≡ held_entry K.cmp key.now (held_of held.old)) }
-    ensures done { IfOk result (λ found. MatchOption found (held_of held.new ≡ held_of held.old) (λ entry. held_of held.new ≡ held_del K.cmp key.now (held_of held.old))) }
+    ensures done { IfOk result (ChangesIfFound (held_del K.cmp key.now) (held_of held.old) (held_of held.new)) }
     ensures unchanged { OnErr result (held_of held.new ≡ held_of held.old) }
     ensures succeeds { HeldHasFreeGap K.cmp key.now (held_of held.old) → IsOk result }
 {
@@ -189,7 +191,7 @@ impl<K: Ord + Drop, D: Drop> PageOf<K, D> {
     ) -> Result<Option<(K, D)>, AllocError>
         requires ascending { IsMap K.cmp (pairs self.old) }
         ensures found { IfOk result (λ found. found ≡ tree_entry K.cmp key.now self.old) }
-        ensures done { IfOk result (λ found. MatchOption found (self.new ≡ self.old) (λ entry. self.new ≡ root_del K.cmp key.now self.old)) }
+        ensures done { IfOk result (ChangesIfFound (root_del K.cmp key.now) self.old self.new) }
         ensures unchanged { OnErr result (self.new ≡ self.old) }
         ensures succeeds { HasFreeGap K.cmp key.now self.old → IsOk result }
     {

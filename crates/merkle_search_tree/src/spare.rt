@@ -2,7 +2,8 @@
 
 ghost use Rattle.std.specs.Prelude.{◌≡◌, ◌+◌, ◌≤◌, [], take, drop, None, IfOk};
 ghost use Rattle.std.specs.Vec.{vec_len, vec_capacity};
-ghost use Rattle.merkle_tree_theory.specs.Tree.{page, row, held_of};
+ghost use Rattle.merkle_tree_theory.specs.Tree.{page};
+ghost use Rattle.merkle_search_tree.specs.Rows.{as_row};
 
 use crate::page::{NodeOf, PageOf};
 use std::alloc::{AllocError, Global};
@@ -31,7 +32,7 @@ impl<K: Drop, D: Drop> Spare<K, D> {
         level: u8,
         high_page: Option<Box<PageOf<K, D>>>,
     ) -> Box<PageOf<K, D>>
-        ensures { result.value ≡ page level None (row self.nodes.items (held_of high_page)) }
+        ensures { result.value ≡ page level None (as_row self.nodes.items high_page) }
     {
         let Spare { mut page, nodes } = self;
         *page = PageOf {

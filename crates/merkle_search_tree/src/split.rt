@@ -5,11 +5,11 @@ ghost use Rattle.std.specs.Vec.{vec_capacity};
 ghost use Rattle.std.specs.declared.cmp.Ordering.{Ordering};
 ghost use Rattle.key_order.specs.Map.{IsMap};
 ghost use Rattle.merkle_tree_theory.specs.Page.{held_pairs};
-ghost use Rattle.merkle_tree_theory.specs.Tree.{Held, below, nothing, held_of};
+ghost use Rattle.merkle_tree_theory.specs.Tree.{Held, nothing, held_of};
 ghost use Rattle.merkle_tree_theory.specs.Upsert.{held_lower, held_upper};
 ghost use Rattle.merkle_tree_theory.specs.Chain.{page_length, high_of, first_of, with_high, with_first, row_take, row_drop, row_of_page, remade};
-ghost use Rattle.merkle_search_tree.specs.Parting.{gap, PartsNodes, PartingFits};
-ghost use Rattle.merkle_search_tree.specs.Split.{HaveRoom, InParts};
+ghost use Rattle.merkle_search_tree.specs.Parting.{PartsNodes};
+ghost use Rattle.merkle_search_tree.specs.Split.{HaveRoom, InParts, IsGapAt, KeepsParts};
 
 use crate::chain::Chain;
 use crate::page::PageOf;
@@ -81,9 +81,8 @@ impl<K: Drop, D: Drop> Sides<K, D> {
         requires parting { PartsNodes (page_length page.value) parting }
         requires room { HaveRoom 1 self.old }
         ensures room { (more : ℕ) → HaveRoom (suc more) self.old → HaveRoom more self.new }
-        ensures gap { (cmp : K → K → Ordering) (key : K) → PartingFits cmp key (row_of_page page.value) parting → held_of result ≡ gap cmp key (row_of_page page.value) }
-        ensures parts { (cmp : K → K → Ordering) (key : K) (whole : Held K D) → PartingFits cmp key (row_of_page page.value) parting → InParts cmp key whole (below page.value) self.old
-            → InParts cmp key whole (held_of result) self.new }
+        ensures gap { IsGapAt page.value parting (held_of result) }
+        ensures parts { KeepsParts page.value parting self.old (held_of result) self.new }
     {
         match parting {
             Parting::Start => {

@@ -1,12 +1,11 @@
 //! Where a key goes among the nodes of a page.
 
-ghost use Rattle.std.specs.Ordering.{is_eq};
-ghost use Rattle.std.specs.Prelude.{slice_index_or, ◌≡◌, ℕ, ◌^◌, ◌<◌, ◌≤◌, length};
+ghost use Rattle.std.specs.Prelude.{◌≡◌, ℕ, ◌^◌, ◌<◌, ◌≤◌, length};
 ghost use Rattle.merkle_tree_theory.specs.Lookup.{place_after};
-ghost use Rattle.merkle_tree_theory.specs.Tree.{Node};
 ghost use Rattle.merkle_tree_theory.specs.Search.{NodesAscend, ComparesByHalves};
 ghost use Rattle.merkle_tree_theory.specs.Upsert.{place};
 ghost use Rattle.merkle_search_tree.specs.Items.{bound_of};
+ghost use Rattle.merkle_search_tree.specs.Spots.{TellsIfThere};
 
 use crate::page::NodeOf;
 use std::cmp::Ordering;
@@ -28,7 +27,7 @@ pub(crate) fn search<K: Ord, D>(nodes: &[NodeOf<K, D>], key: &K) -> Spot
     requires ascending { NodesAscend K.cmp nodes.now }
     ensures found { result.at ≡ place K.cmp key.now nodes.now }
     ensures within { result.at ≤ length nodes.now }
-    ensures there { (node : Node K D) → result.at < length nodes.now → result.is_there ≡ is_eq (K.cmp key.now (slice_index_or nodes.now result.at node).key) }
+    ensures there { TellsIfThere K.cmp key.now nodes.now result }
     ensures counted { ComparesByHalves K.cmp key.now result.compared nodes.now }
     ensures few { (digits : ℕ) → length nodes.now < 2 ^ digits → result.compared ≤ digits }
 {

@@ -3,8 +3,9 @@
 ghost use Rattle.std.specs.Prelude.{◌≡◌, ℕ, false, OnOk, OnErr, IfErr};
 ghost use Rattle.key_order.specs.Map.{IsMap};
 ghost use Rattle.merkle_tree_theory.specs.Page.{pairs, row_pairs, held_pairs};
-ghost use Rattle.merkle_tree_theory.specs.Tree.{row, held_of};
-ghost use Rattle.merkle_tree_theory.specs.Upsert.{level_order, lifted, row_put, row_finds, tree_set, tree_finds, held_set, held_finds};
+ghost use Rattle.merkle_tree_theory.specs.Tree.{held_of};
+ghost use Rattle.merkle_tree_theory.specs.Upsert.{level_order, lifted, row_put, tree_set, tree_finds, held_set, held_finds};
+ghost use Rattle.merkle_search_tree.specs.Rows.{as_row, LacksKey};
 
 use crate::page::{NodeOf, PageOf};
 use crate::spare::Spare;
@@ -109,11 +110,11 @@ fn set_in_page<K: Ord + Drop, D: Drop>(
     key: K,
     digest: D,
 ) -> Result<(), UpsertRefused<K>>
-    requires ascending { IsMap K.cmp (row_pairs (row nodes.old.items (held_of high_page.old))) }
-    ensures done { OnOk result (row nodes.new.items (held_of high_page.new) ≡ row_put K.cmp key digest (row nodes.old.items (held_of high_page.old))) }
-    ensures unchanged { OnErr result (row nodes.new.items (held_of high_page.new) ≡ row nodes.old.items (held_of high_page.old)) }
+    requires ascending { IsMap K.cmp (row_pairs (as_row nodes.old.items high_page.old)) }
+    ensures done { OnOk result (as_row nodes.new.items high_page.new ≡ row_put K.cmp key digest (as_row nodes.old.items high_page.old)) }
+    ensures unchanged { OnErr result (as_row nodes.new.items high_page.new ≡ as_row nodes.old.items high_page.old) }
     ensures returned { IfErr result (λ refused. refused ≡ key) }
-    ensures absent { (level : ℕ) → OnErr result (row_finds K.cmp level key digest false (row nodes.old.items (held_of high_page.old)) ≡ false) }
+    ensures absent { (level : ℕ) → OnErr result (LacksKey K.cmp level key digest (as_row nodes.old.items high_page.old)) }
 {
     let spot = search(nodes, &key);
     let at = spot.at;
