@@ -1,5 +1,8 @@
 -- The pages on the way to what comes next in an iteration, the root first.
-use Rattle.std.specs.Prelude.{ℕ, suc, ◌+◌, ◌<◌, ◌≤◌, List, [], ◌∷◌, ◌++◌, length, ⊤}
+use Rattle.std.specs.Prelude.{◌≡◌, ℕ, suc, ◌+◌, ◌<◌, ◌≤◌, List, [], ◌∷◌, ◌++◌, length, Option, MatchOption, ⊤}
+use Rattle.std.specs.declared.alloc.Global.{Global}
+use Rattle.std.specs.declared.boxed.Box.{Box}
+use denote.Ref.{Bor}
 use Rattle.merkle_tree_theory.specs.Tree.{Tree, Row, high, node, Held, row, held_of, Node}
 use Rattle.merkle_tree_theory.specs.Page.{row_in_order, held_in_order, row_pages, held_pages, RowFalls, HeldFalls}
 use Rattle.merkle_search_tree.specs.declared.path.Visit.{Visit}
@@ -41,3 +44,25 @@ module _ {K D : Type 0} where
   -- a path of this length has room for what is held, down to the lowest level
   abbrev pub HasRoom : ℕ → ℕ → Held K D → Type 0
   HasRoom len capacity h = (bound : ℕ) × HeldFalls bound h × (len + bound ≤ capacity)
+
+  -- the nodes that are left, with those of what is held before those of the path
+  abbrev pub rest_with : Held K D → List (Visit K D) → List (Node K D)
+  rest_with h vs = held_in_order h ++ rest_of vs
+
+  -- the pages that are left, with those of what is held before those of the path
+  abbrev pub pages_with : Held K D → List (Visit K D) → List (Tree K D)
+  pages_with h vs = held_pages h ++ pages_left vs
+
+  -- the node was the first of those that were left, and the others are left; without one none was left, and none is
+  abbrev pub TakesNode : List (Visit K D) → List (Visit K D) → Option (Bor (Node K D)) → Type 0
+  TakesNode old new taken = MatchOption taken ((rest_of old ≡ []) × (rest_of new ≡ [])) (λ node. rest_of old ≡ node.now ∷ rest_of new)
+
+  -- so it is with the node that is passed, where what stands behind it comes next
+  abbrev pub PassesNode : List (Visit K D) → List (Visit K D) → Option (Bor (Node K D) × Bor (Option (Box (Tree K D) Global))) → Type 0
+  PassesNode old new passed =
+      MatchOption passed ((rest_of old ≡ []) × (rest_of new ≡ [])) (λ step. rest_of old ≡ step.0.now ∷ rest_with (held_of step.1.now) new)
+
+  -- the pages behind the node that is passed were the first of those that were left; without a node none was left, and none is
+  abbrev pub PassesPages : List (Visit K D) → List (Visit K D) → Option (Bor (Node K D) × Bor (Option (Box (Tree K D) Global))) → Type 0
+  PassesPages old new passed =
+      MatchOption passed ((pages_left old ≡ []) × (pages_left new ≡ [])) (λ step. pages_left old ≡ pages_with (held_of step.1.now) new)

@@ -1,10 +1,10 @@
 //! The nodes of a tree in order.
 
-ghost use Rattle.std.specs.Prelude.{◌≡◌, ◌++◌, ◌∷◌, [], IfOk, MatchOption};
+ghost use Rattle.std.specs.Prelude.{◌≡◌, IfOk};
 ghost use Rattle.std.specs.Vec.{vec_len, vec_capacity};
 ghost use Rattle.merkle_tree_theory.specs.Tree.{held_of};
-ghost use Rattle.merkle_tree_theory.specs.Page.{nodes_in_order, held_in_order, LevelsFall};
-ghost use Rattle.merkle_search_tree.specs.Path.{rest_of, HasRoom, PathFits};
+ghost use Rattle.merkle_tree_theory.specs.Page.{nodes_in_order, LevelsFall};
+ghost use Rattle.merkle_search_tree.specs.Path.{rest_of, rest_with, HasRoom, PathFits, TakesNode};
 
 use crate::page::{NodeOf, PageOf};
 use crate::path::{Visit, enter, pass};
@@ -73,7 +73,7 @@ impl<'a, K, D> Iterator for NodeIterOf<'a, K, D> {
 fn advance<'a, K, D>(path: &mut Vec<Visit<'a, K, D>>) -> Option<&'a NodeOf<K, D>>
     requires { PathFits (vec_capacity path.old) 0 path.old.items }
     ensures fits { PathFits (vec_capacity path.new) 0 path.new.items }
-    ensures gives { MatchOption result ((rest_of path.old.items ≡ []) × (rest_of path.new.items ≡ [])) (λ node. rest_of path.old.items ≡ node.now ∷ rest_of path.new.items) }
+    ensures gives { TakesNode path.old.items path.new.items result }
 {
     let (node, behind) = pass(path)?;
     descend(path, behind);
@@ -85,7 +85,7 @@ fn descend<'a, K, D>(path: &mut Vec<Visit<'a, K, D>>, held: &'a Option<Box<PageO
     requires room { HasRoom (vec_len path.old) (vec_capacity path.old) (held_of held.now) }
     requires path_fits { PathFits (vec_capacity path.old) 0 path.old.items }
     ensures fits { PathFits (vec_capacity path.new) 0 path.new.items }
-    ensures rest { rest_of path.new.items ≡ held_in_order (held_of held.now) ++ rest_of path.old.items }
+    ensures rest { rest_of path.new.items ≡ rest_with (held_of held.now) path.old.items }
 {
     let mut held = held;
     'down: while let Some(page) = held {

@@ -1,12 +1,12 @@
 //! The ranges of keys that pages hold, one at a time.
 
-ghost use Rattle.std.specs.Prelude.{◌≡◌, ◌+◌, ◌<◌, ◌++◌, [], IfOk, MatchOption};
+ghost use Rattle.std.specs.Prelude.{◌≡◌, ◌+◌, ◌<◌, ◌++◌, [], IfOk};
 ghost use Rattle.std.specs.List.{AllByRecursion};
 ghost use Rattle.std.specs.Vec.{vec_len, vec_capacity};
 ghost use Rattle.merkle_diff.specs.PageRange.{entry};
 ghost use Rattle.merkle_tree_theory.specs.Tree.{held_of};
-ghost use Rattle.merkle_tree_theory.specs.Page.{level, pages_in_order, held_pages, pages_below, LevelsFall};
-ghost use Rattle.merkle_search_tree.specs.Path.{pages_left, HasRoom, PathFits};
+ghost use Rattle.merkle_tree_theory.specs.Page.{level, pages_in_order, pages_below, LevelsFall};
+ghost use Rattle.merkle_search_tree.specs.Path.{pages_left, pages_with, HasRoom, PathFits};
 ghost use Rattle.merkle_search_tree.specs.PagesToCome.{pages_to_come, NextFits};
 ghost use Rattle.merkle_tree_theory.specs.CachedRanges.{ranges_to_come, HasRange};
 
@@ -119,7 +119,7 @@ fn first_page<'a, K, D>(
     requires path_fits { PathFits (vec_capacity path.old) 0 path.old.items }
     ensures fits { PathFits (vec_capacity path.new) 0 path.new.items }
     ensures next_fits { NextFits (vec_len path.new) (vec_capacity path.new) result path.new.items }
-    ensures pages { held_pages (held_of held.now) ++ pages_left path.old.items ≡ pages_to_come result path.new.items }
+    ensures pages { pages_with (held_of held.now) path.old.items ≡ pages_to_come result path.new.items }
 {
     let mut held = held;
     'up: while held.is_none() {

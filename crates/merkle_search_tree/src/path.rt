@@ -1,10 +1,12 @@
 //! The pages on the way to what comes next in an iteration over a tree.
 
-ghost use Rattle.std.specs.Prelude.{◌≡◌, ◌+◌, ◌<◌, ◌≤◌, ◌++◌, ◌∷◌, [], length, IfSome, MatchOption};
+ghost use Rattle.std.specs.Prelude.{◌≡◌, ◌+◌, ◌<◌, ◌≤◌, ◌++◌, length, IfSome};
 ghost use Rattle.std.specs.Vec.{vec_len, vec_capacity};
-ghost use Rattle.merkle_tree_theory.specs.Tree.{row, held_of, held_size, tree_size};
-ghost use Rattle.merkle_tree_theory.specs.Page.{level, nodes_in_order, held_in_order, row_pages, held_pages, LevelsFall, RowFalls, HeldFalls, pages_below};
-ghost use Rattle.merkle_search_tree.specs.Path.{from_first, behind_first, rest_of, pages_left, HasRoom, PathFits};
+ghost use Rattle.merkle_tree_theory.specs.Tree.{held_of, held_size, tree_size};
+ghost use Rattle.merkle_tree_theory.specs.Page.{level, nodes_in_order, LevelsFall, RowFalls, HeldFalls, pages_below};
+ghost use Rattle.merkle_search_tree.specs.Path.{from_first, behind_first, rest_of, pages_left, rest_with, pages_with};
+ghost use Rattle.merkle_search_tree.specs.Path.{HasRoom, PathFits, PassesNode, PassesPages};
+ghost use Rattle.merkle_search_tree.specs.Rows.{as_row};
 
 use crate::page::{NodeOf, PageOf};
 
@@ -22,10 +24,8 @@ pub(crate) fn pass<'a, K, D>(
 ) -> Option<(&'a NodeOf<K, D>, &'a Option<Box<PageOf<K, D>>>)>
     requires { PathFits (vec_capacity path.old) 0 path.old.items }
     ensures fits { PathFits (vec_capacity path.new) 0 path.new.items }
-    ensures nodes { MatchOption result ((rest_of path.old.items ≡ []) × (rest_of path.new.items ≡ []))
-        (λ passed. rest_of path.old.items ≡ passed.0.now ∷ (held_in_order (held_of passed.1.now) ++ rest_of path.new.items)) }
-    ensures pages { MatchOption result ((pages_left path.old.items ≡ []) × (pages_left path.new.items ≡ []))
-        (λ passed. pages_left path.old.items ≡ held_pages (held_of passed.1.now) ++ pages_left path.new.items) }
+    ensures nodes { PassesNode path.old.items path.new.items result }
+    ensures pages { PassesPages path.old.items path.new.items result }
     ensures room { IfSome result (λ passed. HasRoom (vec_len path.new) (vec_capacity path.new) (held_of passed.1.now)) }
 {
     let visit = path.pop()?;
@@ -50,8 +50,8 @@ pub(crate) fn enter<'a, K, D>(
     requires room { vec_len path.old + level page.now < vec_capacity path.old }
     requires path_fits { PathFits (vec_capacity path.old) 0 path.old.items }
     ensures fits { PathFits (vec_capacity path.new) 0 path.new.items }
-    ensures nodes { held_in_order (held_of result.now) ++ rest_of path.new.items ≡ nodes_in_order page.now ++ rest_of path.old.items }
-    ensures pages { held_pages (held_of result.now) ++ pages_left path.new.items ≡ pages_below page.now ++ pages_left path.old.items }
+    ensures nodes { rest_with (held_of result.now) path.new.items ≡ nodes_in_order page.now ++ rest_of path.old.items }
+    ensures pages { pages_with (held_of result.now) path.new.items ≡ pages_below page.now ++ pages_left path.old.items }
     ensures below { HeldFalls (level page.now) (held_of result.now) }
     ensures room_left { vec_len path.new + level page.now ≤ vec_capacity path.new }
     ensures smaller { held_size (held_of result.now) < tree_size page.now }
@@ -72,12 +72,12 @@ fn push<'a, K, D>(
     high_page: &'a Option<Box<PageOf<K, D>>>,
 )
     requires some { 0 < length nodes.now }
-    requires falls { RowFalls level (row nodes.now (held_of high_page.now)) }
+    requires falls { RowFalls level (as_row nodes.now high_page.now) }
     requires room { vec_len path.old + level < vec_capacity path.old }
     requires path_fits { PathFits (vec_capacity path.old) 0 path.old.items }
     ensures fits { PathFits (vec_capacity path.new) 0 path.new.items }
-    ensures nodes { rest_of path.new.items ≡ from_first (row nodes.now (held_of high_page.now)) ++ rest_of path.old.items }
-    ensures pages { pages_left path.new.items ≡ behind_first (row nodes.now (held_of high_page.now)) ++ pages_left path.old.items }
+    ensures nodes { rest_of path.new.items ≡ from_first (as_row nodes.now high_page.now) ++ rest_of path.old.items }
+    ensures pages { pages_left path.new.items ≡ behind_first (as_row nodes.now high_page.now) ++ pages_left path.old.items }
     ensures room_left { vec_len path.new + level ≤ vec_capacity path.new }
 {
     let visit = Visit {
