@@ -3,7 +3,8 @@
 ghost use Rattle.std.specs.Prelude.{◌≡◌, IfOk};
 ghost use Rattle.merkle_tree_theory.specs.Tree.{held_of};
 ghost use Rattle.merkle_tree_theory.specs.Copy.{IsCopy, HeldIsCopy, NodeIsCopy};
-ghost use Rattle.merkle_search_tree.specs.Copies.{ClonesAreEqual, EqualBothWays};
+ghost use Rattle.merkle_diff.specs.SameEntries.{EqualBothWays};
+ghost use Rattle.merkle_search_tree.specs.Copies.{ClonesAreEqual};
 
 use crate::page::{Node, NodeOf, Page, PageOf};
 use merkle_digest::PageDigest;
