@@ -361,7 +361,7 @@ module _ {K V H : Type 0} (laws : Laws K V H) (o : IsTotalOrder laws.cmp) (local
     }
 
     -- the first copies gathered are a part of one
-    pub partly_caught_up : (done : ℕ) (after : List (K × V)) → (done ≡ 0 → ⊥) → IsGatheredTo laws.cmp laws.eq laws.join local.rows copies done after → IsPartOfCatchUp laws local peer keys done after
+    pub partly_caught_up : (done : ℕ) (after : List (K × V)) → (done ≡ 0 → ⊥) → IsGatheredTo laws.cmp laws.eq laws.join local.rows copies after done → IsPartOfCatchUp laws local peer keys done after
     partly_caught_up done after some h =
         let few = h.not_all in
         let len = copies_length laws.cmp o laws.eq peer.rows keys copies are in

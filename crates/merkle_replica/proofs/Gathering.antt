@@ -99,7 +99,7 @@ module _ {K V : Type 0} (cmp : K → K → Ordering) (o : IsTotalOrder cmp) wher
         go (Some v) is further = further (set cmp old r.0 (join v r.1)) (put_joins cmp o eq e join j old r.0 r.1 (join v r.1) m (subst (λ y. Eq eq e join j (Some (join v r.1)) (joined join y (Some r.1))) (sym is) (e.refl (join v r.1))))
 
     -- rows in key order, gathered up to a place, are put up to it
-    pub puts_to : (rows sorted old now : List (K × V)) (done : ℕ) → IsMap cmp old → length sorted ≡ length rows → AreInKeyOrder cmp rows sorted → IsGatheredTo cmp eq join old sorted done now → IsPutsTo cmp eq join old rows done now
+    pub puts_to : (rows sorted old now : List (K × V)) (done : ℕ) → IsMap cmp old → length sorted ≡ length rows → AreInKeyOrder cmp rows sorted → IsGatheredTo cmp eq join old sorted now done → IsPutsTo cmp eq join old rows done now
     puts_to rows sorted old now zero m n order g = let some = g.not_all in inl (refl, omega (arith, some, n), g.unchanged refl)
     puts_to rows sorted old now (suc done) m n order g = let some = g.not_all in inr (sorted, order, omega arith, omega (arith, some, n), puts_gather (take (suc done) sorted) old now m g.gathers)
 
@@ -115,7 +115,7 @@ module _ {K V : Type 0} (cmp : K → K → Ordering) (o : IsTotalOrder cmp) wher
   map_taken (r ∷ rows) (suc n) m = (low_taken r.0 rows n m.0, map_taken rows n m.1)
 
   -- the row behind those gathered is refused
-  pub gathered_to : (eq : V → V → Bool) (join : V → V → V) (old seen rest all now : List (K × V)) (r : K × V) (done : ℕ) → seen ++ r ∷ rest ≡ all → length seen ≡ done → HasGathered cmp eq join old seen now → (done ≡ 0 → now ≡ old) → IsGatheredTo cmp eq join old all done now
+  pub gathered_to : (eq : V → V → Bool) (join : V → V → V) (old seen rest all now : List (K × V)) (r : K × V) (done : ℕ) → seen ++ r ∷ rest ≡ all → length seen ≡ done → HasGathered cmp eq join old seen now → (done ≡ 0 → now ≡ old) → IsGatheredTo cmp eq join old all now done
   gathered_to eq join old seen rest all now r done e n h u =
       let l : length all ≡ length seen + suc (length rest) = ap length (sym e) ∙ length-append seen (r ∷ rest) in
       record {

@@ -70,20 +70,20 @@ module _ {K V H : Type 0} (laws : Laws K V H) where
     starts = record { settings_a = (refl, refl, refl); settings_b = (refl, refl, refl); turns = record { follows = λ qs a' b' met t. (met, t); stops = λ ps fault a' b' t. t } }
 
     module _ (a b : Contents K V H) (done : List (Pulled K)) where
-      turned : (next : Bool) (a1 b1 : Contents K V H) (pulled : Pulled K) → SameSettings a.tree a1.tree → SameSettings b.tree b1.tree → IsTurn laws next a b (answer_of pulled) a1.rows b1.rows → Going done next a b → Going (done ++ pulled ∷ []) (not next) a1 b1
+      turned : (next : Bool) (a1 b1 : Contents K V H) (pulled : Pulled K) → SameSettings a.tree a1.tree → SameSettings b.tree b1.tree → IsTurn laws next a b a1 b1 pulled → Going done next a b → Going (done ++ pulled ∷ []) (not next) a1 b1
       turned true a1 b1 pulled sa sb h t = turn _ _ done a b t a1 b1 pulled sa sb h
       turned false a1 b1 pulled sa sb h t = turn _ _ done b a t b1 a1 pulled sb sa h
 
-      pub goes_on : (next : Bool) (a1 b1 : Contents K V H) (done' : List (Pulled K)) (pulled : Pulled K) → done' ≡ done ++ pulled ∷ [] → SameSettings a.tree a1.tree → SameSettings b.tree b1.tree → IsTurn laws next a b (answer_of pulled) a1.rows b1.rows → Goes done next a b → Goes done' (not next) a1 b1
+      pub goes_on : (next : Bool) (a1 b1 : Contents K V H) (done' : List (Pulled K)) (pulled : Pulled K) → done' ≡ done ++ pulled ∷ [] → SameSettings a.tree a1.tree → SameSettings b.tree b1.tree → IsTurn laws next a b a1 b1 pulled → Goes done next a b → Goes done' (not next) a1 b1
       goes_on next a1 b1 done' pulled d sa sb h g = record {
         settings_a = further a0 a a1 g.settings_a sa;
         settings_b = further b0 b b1 g.settings_b sb;
         turns = subst (λ ps. Going ps (not next) a1 b1) (sym d) (turned next a1 b1 pulled sa sb h g.turns);
       }
 
-      pub stops_here : (next : Bool) (fault : PullError K) (a' b' : List (K × V)) → IsTurnRefused laws next a b fault a' b' → Going done next a b → StopsByTurns laws done fault (side a0) (side b0) a' b'
-      stops_here true fault a' b' h t = halt _ _ done a b t fault a' b' h
-      stops_here false fault a' b' h t = halt _ _ done b a t fault b' a' h
+      pub stops_here : (next : Bool) (fault : PullError K) (a' b' : Contents K V H) → IsTurnRefused laws next a b a' b' fault → Going done next a b → StopsByTurns laws done fault (side a0) (side b0) a'.rows b'.rows
+      stops_here true fault a' b' h t = halt _ _ done a b t fault a'.rows b'.rows h
+      stops_here false fault a' b' h t = halt _ _ done b a t fault b'.rows a'.rows h
 
       ends : (next : Bool) → Going done next a b → (met : List (Side K V H × Side K V H)) × IsByTurns laws (map answer_of done) (side a0) (side b0) a.rows b.rows met
       ends true t = end _ _ done a b t

@@ -2,12 +2,14 @@
 use Rattle.std.specs.Prelude.{◌≡◌, ℕ, ◌<◌, Bool, List, [], ◌∷◌, map, length, take, ⊤}
 use Rattle.std.specs.declared.cmp.Ordering.{Ordering}
 use Rattle.key_order.specs.Interval.{Span}
+use Rattle.key_order.specs.Map.{rows_in}
 use Rattle.key_order.specs.Join.{IsJoin}
 use Rattle.merkle_replica.specs.Laws.{Laws}
-use Rattle.merkle_replica.specs.Contents.{Side, with_rows}
+use Rattle.merkle_replica.specs.Contents.{Contents, Side, side, with_rows}
 use Rattle.merkle_replica.specs.Faithful.{MissesNone}
-use Rattle.merkle_replica.specs.Pulls.{Answer, IsPull, IsPartOfPull}
+use Rattle.merkle_replica.specs.Pulls.{Answer, IsAnswerFor, IsPull, IsPartOfPull}
 use Rattle.merkle_replica.specs.declared.pull.Pulled.{Pulled}
+use Rattle.merkle_replica.specs.declared.pull.Stopped.{Stopped}
 use Rattle.merkle_replica.specs.declared.pull.PullError.{PullError}
 use Rattle.merkle_replica.specs.declared.pull.PullError.TheVariants.{Memory, Partly}
 
@@ -36,6 +38,19 @@ module _ {K V H : Type 0} (laws : Laws K V H) where
   StopsByTurns (pulled ∷ finished) fault local peer local' peer' =
       (after : List (K × V)) × IsPull laws local peer (answer_of pulled) after × StopsByTurns finished fault peer (with_rows local after) peer' local'
 
+module _ {K V H : Type 0} (laws : Laws K V H) (local peer : Contents K V H) where
+  -- local may ask the peer for these ranges
+  abbrev pub MayAsk : List (K × K) → Type 0
+  MayAsk ranges = IsAnswerFor laws (side local) (side peer) (spans_of ranges)
+
+  -- local has pulled from the peer, and is `local'` after
+  abbrev pub HasPulled : Contents K V H → Pulled K → Type 0
+  HasPulled local' pulled = IsPull laws (side local) (side peer) (answer_of pulled) local'.rows
+
+  -- memory was refused in such a pull
+  abbrev pub StopsPulling : Contents K V H → PullError K → Type 0
+  StopsPulling local' fault = IsRefused laws (side local) (side peer) fault local'.rows
+
 module _ {K V : Type 0} (cmp : K → K → Ordering) (eq : V → V → Bool) (join : V → V → V) (wanted local : List (K × V)) where
   -- all of the wanted rows are joined
   pub record IsDone (joined : ℕ) (after : List (K × V)) : Type 0 where
@@ -48,3 +63,13 @@ module _ {K V : Type 0} (cmp : K → K → Ordering) (eq : V → V → Bool) (jo
     pub not_all : done < joined
     pub joins : IsJoin cmp eq join local (take done wanted) after
     pub unchanged : done ≡ 0 → after ≡ local
+
+module _ {K V : Type 0} (cmp : K → K → Ordering) (eq : V → V → Bool) (join : V → V → V) (ranges : List (K × K)) (theirs local after : List (K × V))
+  where
+    -- all of their rows in the ranges are joined, so many
+    abbrev pub JoinsWithin : ℕ → Type 0
+    JoinsWithin joined = IsDone cmp eq join (rows_in cmp (spans_of ranges) theirs) local joined after
+
+    -- the first of these rows are joined, and not all
+    abbrev pub JoinsPartly : Stopped → Type 0
+    JoinsPartly stopped = IsPartlyDone cmp eq join (rows_in cmp (spans_of ranges) theirs) local stopped.done stopped.joined after

@@ -1,8 +1,9 @@
 -- What a catch-up brings: exactly the rows of the peer that a side lacks.
-use Rattle.std.specs.Prelude.{◌≡◌, ℕ, ◌<◌, ◌≤◌, Bool, true, List, [], ◌∷◌, map, length, take, Some, ⊤, ◌⊎◌}
+use Rattle.std.specs.Prelude.{◌≡◌, ℕ, suc, ◌<◌, ◌≤◌, Bool, true, List, [], ◌∷◌, map, length, take, slice_index_or, Some, ⊤, ◌⊎◌}
+use denote.Ref.{Bor}
 use Rattle.std.specs.List.{AllByRecursion}
 use Rattle.std.specs.declared.cmp.Ordering.{Ordering}
-use Rattle.key_order.specs.Order.{AnyByRecursion, Upto, Same, IsAscending}
+use Rattle.key_order.specs.Order.{AnyByRecursion, Upto, Same, IsAscending, below}
 use Rattle.key_order.specs.Interval.{Span}
 use Rattle.key_order.specs.Map.{get, rows_in}
 use Rattle.key_order.specs.Join.{IsJoin}
@@ -11,8 +12,10 @@ use Rattle.merkle_tree_theory.specs.Ranges.{IsPageOf}
 use Rattle.merkle_tree_theory.specs.Stream.{page_digest}
 use Rattle.merkle_tree_theory.specs.Tree.{Tree}
 use Rattle.merkle_replica.specs.Laws.{Laws}
-use Rattle.merkle_replica.specs.Contents.{Side, with_rows, tree_map}
+use Rattle.merkle_replica.specs.Contents.{Contents, Side, side, with_rows, tree_map}
+use Rattle.merkle_replica.specs.Descent.{keys_of}
 use Rattle.merkle_replica.specs.Faithful.{HaveFaithfulPages}
+use Rattle.merkle_replica.specs.declared.catch_up.CaughtUp.{CaughtUp}
 use Rattle.merkle_replica.specs.declared.catch_up.CatchUpError.{CatchUpError}
 use Rattle.merkle_replica.specs.declared.catch_up.CatchUpError.TheVariants.{Memory, Partly}
 use Rattle.merkle_replica.specs.declared.both_ways.CatchUpsError.{CatchUpsError}
@@ -80,6 +83,10 @@ module _ {K V : Type 0} (cmp : K → K → Ordering) (eq : V → V → Bool) (ro
   AreCopies (k ∷ ks) [] = ⊥
   AreCopies (k ∷ ks) (c ∷ cs) = Same cmp c.0 k × ((v : V) × (get cmp rows k ≡ Some v) × (eq c.1 v ≡ true)) × AreCopies ks cs
 
+  -- `copy` has an equal key, and an equal value to that of the rows
+  abbrev pub IsCopyAt : K → K × V → Type 0
+  IsCopyAt k copy = Same cmp copy.0 k × ((v : V) × (get cmp rows k ≡ Some v) × (eq copy.1 v ≡ true))
+
 module _ {K : Type 0} (cmp : K → K → Ordering) where
   -- `once` has the keys in ascending order, each of equal ones once
   pub record IsOnceEach (keys once : List K) : Type 0 where
@@ -91,3 +98,34 @@ module _ {K : Type 0} (cmp : K → K → Ordering) where
   abbrev pub NoneFalls : List K → Type 0
   NoneFalls [] = ⊤
   NoneFalls (k ∷ ks) = AllByRecursion (λ j. Upto cmp k j) ks × NoneFalls ks
+
+  -- whether the key at this place is above the one before it, where there is one
+  abbrev pub IsAboveLast : List (Bor K) → ℕ → Bool → Type 0
+  IsAboveLast keys i above = (j : ℕ) (d : Bor K) → suc j ≡ i → below cmp (slice_index_or keys j d).now (slice_index_or keys i d).now ≡ above
+
+module _ {K V H : Type 0} (laws : Laws K V H) (local peer : Contents K V H) where
+  -- the keys are those of the peer that local lacks, but for hidden ones
+  abbrev pub LacksKeys : List (Bor K) → Type 0
+  LacksKeys keys = HasFound laws (side local) (side peer) (keys_of keys)
+
+  -- the copies are those of the peer's rows at such keys, in ascending order
+  abbrev pub LacksRows : List (K × V) → Type 0
+  LacksRows copies =
+      (keys : List K) × IsAscending laws.cmp keys × HasFound laws (side local) (side peer) keys
+      × AreCopies laws.cmp laws.eq peer.rows keys copies
+
+  -- local has caught up with the peer, and is `local'` after
+  abbrev pub HasCaughtUp : Contents K V H → CaughtUp → Type 0
+  HasCaughtUp local' caught = IsCatchUpOf laws (side local) (side peer) caught.joined local'.rows
+
+  -- memory was refused in such a catch-up
+  abbrev pub StopsCatchingUp : Contents K V H → CatchUpError → Type 0
+  StopsCatchingUp local' fault = IsCatchUpRefused laws (side local) (side peer) fault local'.rows
+
+  -- each has caught up with the other, local first
+  abbrev pub HaveCaughtUp : Contents K V H → Contents K V H → CaughtUp × CaughtUp → Type 0
+  HaveCaughtUp local' peer' caught = AreCatchUps laws (side local) (side peer) caught.0.joined caught.1.joined local'.rows peer'.rows
+
+  -- memory was refused in one of these two catch-ups
+  abbrev pub StopCatchingUp : Contents K V H → Contents K V H → CatchUpsError → Type 0
+  StopCatchingUp local' peer' error = AreCatchUpsRefused laws (side local) (side peer) error local'.rows peer'.rows

@@ -37,10 +37,14 @@ with_rows s rows = record s { rows = rows }
 abbrev pub tree_map : {K V H : Type 0} → Laws K V H → Side K V H → List (K × List ℕ)
 tree_map laws s = digests (laws.value_digest s.hasher) s.rows
 
+-- the tree's map is the digests of the rows
+abbrev pub HasItsDigests : {K V H : Type 0} → (K → K → Ordering) → (H → V → List ℕ) → Contents K V H → Type 0
+HasItsDigests cmp digest_of c = SameMap cmp (λ d e. d ≡ e) (map_of c.tree) (digests (digest_of c.tree.hasher) c.rows)
+
 -- the rows ascend by key, and the tree's map is the digests of the rows
 pub record IsKept {K V H : Type 0} (cmp : K → K → Ordering) (digest_of : H → V → List ℕ) (c : Contents K V H) : Type 0 where
   pub ascending : IsMap cmp c.rows
-  pub digested : SameMap cmp (λ d e. d ≡ e) (map_of c.tree) (digests (digest_of c.tree.hasher) c.rows)
+  pub digested : HasItsDigests cmp digest_of c
 
 -- no row, and the empty tree with this hasher, level base and page format
 abbrev pub IsEmpty : {K V H : Type 0} → H → ℕ → PageFormat → Contents K V H → Type 0

@@ -1,17 +1,22 @@
 -- The steps of a catch-up, each on its own side.
-use Rattle.std.specs.Prelude.{◌≡◌, ℕ, List, [], ◌∷◌, ◌++◌, map, flat_map, Some, ◌⊎◌}
+use Rattle.std.specs.Prelude.{◌≡◌, ℕ, List, [], ◌∷◌, ◌++◌, map, flat_map, Option, MatchOption, Some, None, ◌⊎◌}
 use denote.Ref.{Bor}
+use Rattle.std.specs.Global.{Vec}
+use Rattle.std.specs.declared.cmp.Ordering.{Ordering}
 use Rattle.key_order.specs.Map.{get}
 use Rattle.merkle_tree_theory.specs.Tree.{Tree}
 use Rattle.merkle_tree_theory.specs.Gap.{Gap, SameGaps}
-use Rattle.merkle_tree_theory.specs.Outline.{Item, of_node, of_page, outline_over}
+use Rattle.merkle_tree_theory.specs.Outline.{Item, of_node, of_page, outline_over, whole_item}
 use Rattle.merkle_tree_theory.specs.Ranges.{IsPageOf}
+use Rattle.merkle_tree_theory.specs.State.{State}
 use Rattle.merkle_search_tree.specs.declared.gap.Gap.{Gap as BorrowedGap}
-use Rattle.merkle_search_tree.specs.Items.{gap_of}
+use Rattle.merkle_search_tree.specs.declared.outline.OutlineItemOf.{OutlineItemOf}
+use Rattle.merkle_search_tree.specs.Items.{gap_of, item, items}
 use Rattle.merkle_search_tree.specs.SameItems.{SameItems}
 use Rattle.merkle_tree_theory.specs.Stream.{page_digest}
 use Rattle.merkle_replica.specs.Laws.{Laws}
 use Rattle.merkle_replica.specs.Contents.{Side, tree_map}
+use Rattle.merkle_replica.specs.declared.descent.ToAsk.{ToAsk}
 
 -- borrowed gaps
 abbrev pub gaps_of : {K : Type 0} → List (BorrowedGap K) → List (Gap K)
@@ -22,6 +27,10 @@ abbrev pub keys_of : {K : Type 0} → List (Bor K) → List K
 keys_of = map (λ k. k.now)
 
 module _ {K V H : Type 0} (laws : Laws K V H) (local : Side K V H) where
+  -- the side's tree has the key with this digest
+  abbrev pub HasDigestAt : K → List ℕ → Type 0
+  HasDigestAt k digest = get laws.cmp (tree_map laws local) k ≡ Some digest
+
   -- the side's tree has a page with this digest
   abbrev pub HasPage : List ℕ → Type 0
   HasPage digest = (page : Tree K (List ℕ)) × IsPageOf laws.cmp (laws.key_digest local.hasher) local.base page (tree_map laws local) × (page_digest local.format laws.bytes_of page ≡ digest)
@@ -40,6 +49,25 @@ module _ {K V H : Type 0} (laws : Laws K V H) (local : Side K V H) where
   -- what an item leaves to ask for is added
   abbrev pub HasSortedOut : Item K (List ℕ) → List (Gap K) → List K → List (Gap K) → List K → Type 0
   HasSortedOut e gaps keys gaps' keys' = (o : List (Gap K)) × (w : List K) × IsSortedOut e o w × (gaps' ≡ gaps ++ o) × (keys' ≡ keys ++ w)
+
+  -- what borrowed items leave to ask for
+  abbrev pub LeaveToAsk : List (OutlineItemOf K (List ℕ)) → ToAsk K → Type 0
+  LeaveToAsk came asked = AreSortedOut (items came) (gaps_of asked.gaps.items) (keys_of asked.keys.items)
+
+  -- what a borrowed item leaves to ask for is added
+  abbrev pub AddsToAsk : OutlineItemOf K (List ℕ) → ToAsk K → ToAsk K → Type 0
+  AddsToAsk e asked asked' =
+      HasSortedOut (item e) (gaps_of asked.gaps.items) (keys_of asked.keys.items) (gaps_of asked'.gaps.items) (keys_of asked'.keys.items)
+
+module _ {K H : Type 0} (bytes_of : K → List ℕ) where
+  -- the item that shows a whole tree, where it has a node
+  abbrev pub whole_of : State K H → List (Item K (List ℕ))
+  whole_of tree = whole_item tree.format bytes_of tree.root
+
+  -- the outlines of a tree over the gaps, one behind the other; none where it isn't hashed
+  abbrev pub GivesOutlines : (K → K → Ordering) → State K H → List (BorrowedGap K) → Option (Vec (OutlineItemOf K (List ℕ))) → Type 0
+  GivesOutlines cmp tree gaps found =
+      MatchOption found (tree.root_hash ≡ None) (λ list. items list.items ≡ flat_map (outline_over tree.format bytes_of cmp tree.root) (gaps_of gaps))
 
 module _ {K V H : Type 0} (laws : Laws K V H) (local peer : Side K V H) (root : Tree K (List ℕ)) where
   -- a descent: `came` was sorted out, then what came in each round, the last of which left no gap. What came are the outlines over the

@@ -4,11 +4,12 @@ use Rattle.key_order.specs.Interval.{Span}
 use Rattle.key_order.specs.Map.{IsMap}
 use Rattle.key_order.specs.Join.{IsJoin}
 use Rattle.merkle_tree_theory.specs.declared.page_format.PageFormat.TheVariants.{V2}
-use Rattle.merkle_replica.specs.Answers.{PartMissesNone}
-use Rattle.merkle_replica.specs.Contents.{Side, with_rows}
+use Rattle.merkle_replica.specs.Answers.{PartMissesNone, spans_of}
+use Rattle.merkle_replica.specs.Contents.{Contents, Side, side, with_rows}
 use Rattle.merkle_replica.specs.Faithful.{AllCollisionFree, AllFaithful, AreSetAlike, HasSmallMap, HaveFaithfulPages, IsCollisionFree, IsFaithful, MissesNone, NoStreamsCollide, SpanHolds}
 use Rattle.merkle_replica.specs.Laws.{Laws}
 use Rattle.merkle_replica.specs.Pulls.{Answer, HoldTheJoin, IsAnswerFor, IsByTurns}
+use Rattle.merkle_replica.specs.declared.pull.Pulled.{Pulled}
 use Rattle.merkle_replica.specs.declared.pull.PullError.{PullError}
 
 module _ {K V H : Type 0} (laws : Laws K V H) where
@@ -20,9 +21,17 @@ module _ {K V H : Type 0} (laws : Laws K V H) where
   abbrev pub HoldTheJoinWhileFaithful : Side K V H → Side K V H → List (K × V) → List (K × V) → Type 0
   HoldTheJoinWhileFaithful a b a' b' = IsFaithful laws a b → IsFaithful laws b (with_rows a a') → HoldTheJoin laws a b a' b'
 
+  -- the same of two replicas
+  abbrev pub ConvergeWhileFaithful : Contents K V H → Contents K V H → Contents K V H → Contents K V H → Type 0
+  ConvergeWhileFaithful a b a' b' = HoldTheJoinWhileFaithful (side a) (side b) a'.rows b'.rows
+
   -- while pages are faithful, and where the peer's keys span the local ones, the ranges miss no key
   abbrev pub CoverWhileFaithful : Side K V H → Side K V H → List (Span K) → Type 0
   CoverWhileFaithful local peer found = HaveFaithfulPages laws local peer → SpanHolds laws.cmp peer.rows local.rows → MissesNone laws local peer found
+
+  -- the same of a pull's ranges
+  abbrev pub CoversWhileFaithful : Side K V H → Side K V H → Pulled K → Type 0
+  CoversWhileFaithful local peer pulled = CoverWhileFaithful local peer (spans_of pulled.ranges.items)
 
   -- the same of a pull that stopped behind the first rows
   abbrev pub CoverInPartWhileFaithful : Side K V H → Side K V H → PullError K → Type 0

@@ -1,12 +1,12 @@
 -- Catch-ups among any number of replicas, which are named by numbers, and whose rows came to whom.
-use Rattle.std.specs.Prelude.{◌≡◌, ℕ, zero, suc, ◌+◌, ◌==◌, Bool, true, List, [], ◌∷◌, ◌++◌, map, Option, None, if◌then◌else◌, slice_index_or}
+use Rattle.std.specs.Prelude.{◌≡◌, ℕ, zero, suc, ◌+◌, ◌==◌, Bool, true, List, [], ◌∷◌, ◌++◌, map, Option, None, if◌then◌else◌, slice_index_or, length}
 use Rattle.std.specs.List.{AllByRecursion}
 use Rattle.key_order.specs.Order.{AnyByRecursion}
 use Rattle.std.specs.declared.cmp.Ordering.{Ordering}
 use Rattle.key_order.specs.Map.{SameValue, IsMap, get}
 use Rattle.key_order.specs.Join.{joined}
 use Rattle.merkle_replica.specs.CatchUp.{IsCatchUpOf, IsCatchUpRefused}
-use Rattle.merkle_replica.specs.Contents.{Side, with_rows}
+use Rattle.merkle_replica.specs.Contents.{Contents, Side, side, with_rows}
 use Rattle.merkle_replica.specs.Faithful.{AllFaithful}
 use Rattle.merkle_replica.specs.Laws.{Laws}
 use Rattle.merkle_replica.specs.declared.catch_up.CatchUpError.{CatchUpError}
@@ -97,3 +97,20 @@ module _ {K V H : Type 0} (laws : Laws K V H) where
 -- the rows of sides
 abbrev pub rows_of : {K V H : Type 0} → List (Side K V H) → List (List (K × V))
 rows_of = map (λ s. s.rows)
+
+module _ {K V H : Type 0} (laws : Laws K V H) (hub : Contents K V H) (others : List (Contents K V H)) where
+  -- the hub and the others, as sides under the numbers of their places
+  abbrev pub numbered_sides : Contents K V H → List (Contents K V H) → ℕ → Side K V H
+  numbered_sides hub' others' = numbered (side hub) (map side (hub' ∷ others'))
+
+  -- the catch-ups through the hub were made, and while digests are faithful in the sides that were met, all hold the join of all maps
+  abbrev pub AllCatchUp : Contents K V H → List (Contents K V H) → Type 0
+  AllCatchUp hub' others' =
+      (met : List (Side K V H × Side K V H))
+      × IsGossip laws (through_hub (length others)) (numbered_sides hub others) (numbered_sides hub' others') met
+      × (AllFaithful laws met → AllByRecursion (λ s. IsJoinOf laws.cmp laws.eq laws.join (rows_of (map side (hub ∷ others))) s.rows)
+      (map side (hub' ∷ others')))
+
+  -- memory was refused in one of these catch-ups
+  abbrev pub StopsCatchUps : Contents K V H → List (Contents K V H) → CatchUpAllError → Type 0
+  StopsCatchUps hub' others' error = StopsAtHub laws error (length others) (numbered_sides hub others) (numbered_sides hub' others')

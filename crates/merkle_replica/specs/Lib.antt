@@ -1,5 +1,6 @@
 pub mod Laws
 pub mod Contents
+pub mod RootHash
 pub mod Pulls
 pub mod Faithful
 pub mod Agreeing

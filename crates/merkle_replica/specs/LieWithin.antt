@@ -2,11 +2,11 @@
 use Rattle.std.specs.Prelude.{ℕ, List, [], ◌∷◌, flat_map, Option, Some, None, ◌⊎◌, ⊤}
 use Rattle.std.specs.List.{AllByRecursion}
 use Rattle.std.specs.declared.cmp.Ordering.{Ordering}
-use Rattle.key_order.specs.Order.{Below, Upto}
-use Rattle.merkle_tree_theory.specs.Gap.{Gap, IsInGap}
+use Rattle.key_order.specs.Order.{AnyByRecursion, Below, Upto}
+use Rattle.merkle_tree_theory.specs.Gap.{Gap, IsInGap, everywhere}
 use Rattle.key_order.specs.Map.{IsMap}
 use Rattle.merkle_tree_theory.specs.Lookup.{Fills}
-use Rattle.merkle_tree_theory.specs.Outline.{Item, of_node, of_page, outline_over}
+use Rattle.merkle_tree_theory.specs.Outline.{HasItemAt, Item, of_node, of_page, outline_over, whole_item}
 use Rattle.merkle_tree_theory.specs.Page.{pairs}
 use Rattle.merkle_tree_theory.specs.Tree.{Tree}
 use Rattle.merkle_tree_theory.specs.declared.page_format.PageFormat.{PageFormat}
@@ -49,6 +49,10 @@ module _ {K : Type 0} (cmp : K → K → Ordering) where
   GapsAscend (g ∷ []) = AreInOrder g.after g.before
   GapsAscend (g ∷ h ∷ hs) = AreInOrder g.after g.before × IsBoundUpto g.before h.after × GapsAscend (h ∷ hs)
 
+  -- each key of a node, and each key in the gap of a page, is in one of the gaps
+  abbrev pub KeysLieWithin : List (Gap K) → List (Item K (List ℕ)) → Type 0
+  KeysLieWithin gs xs = (k : K) → AnyByRecursion (HasItemAt cmp k) xs → AnyByRecursion (IsInGap cmp k) gs
+
 module _ {K D : Type 0} (cmp : K → K → Ordering) where
   -- the node has a key of the gap, or the page fills a part of it
   abbrev pub IsWithin : Gap K → Item K D → Type 0
@@ -82,6 +86,10 @@ module _ {K : Type 0} (cmp : K → K → Ordering) (bytes_of : K → List ℕ) w
   -- a page of the tree fills each of the gaps
   abbrev pub AreFilled : Tree K (List ℕ) → List (Gap K) → Type 0
   AreFilled t = AllByRecursion (λ gap. (page : Tree K (List ℕ)) × Fills cmp gap page t)
+
+  -- each whole tree lies within the gap that has all keys
+  abbrev pub WholeTreesLieWithin : Type 0
+  WholeTreesLieWithin = (format : PageFormat) (t : Tree K (List ℕ)) → LieWithin cmp (everywhere ∷ []) (whole_item format bytes_of t)
 
   -- outlines over ascending gaps that pages fill lie within these
   abbrev pub OutlinesLieWithin : Type 0

@@ -7,6 +7,8 @@ use Rattle.std.specs.Ordering.{is_eq, is_lt}
 use Rattle.key_order.specs.Order.{Upto}
 use Rattle.key_order.specs.Map.{SameValue, IsMap, get}
 use Rattle.key_order.specs.Join.{joined, IsJoin}
+use Rattle.merkle_tree_theory.specs.Dropped.{UpsertDropsFew}
+use Rattle.merkle_tree_theory.specs.State.{State}
 
 module _ {K V : Type 0} (cmp : K → K → Ordering) where
   -- no key is below one before it
@@ -35,7 +37,7 @@ module _ {K V : Type 0} (cmp : K → K → Ordering) (eq : V → V → Bool) (jo
     pub values : (k : K) → SameValue (λ x y. eq x y ≡ true) (get cmp after k) (joined join (get cmp before k) (gathered rows k))
 
   -- the first `done` of the rows are gathered, and not all
-  pub record IsGatheredTo (before rows : List (K × V)) (done : ℕ) (after : List (K × V)) : Type 0 where
+  pub record IsGatheredTo (before rows after : List (K × V)) (done : ℕ) : Type 0 where
     pub not_all : done < length rows
     pub gathers : HasGathered before (take done rows) after
     pub unchanged : done ≡ 0 → after ≡ before
@@ -45,3 +47,7 @@ module _ {K V : Type 0} (cmp : K → K → Ordering) (eq : V → V → Bool) (jo
   IsPutsTo before rows done after =
       ((done ≡ 0) × (1 ≤ length rows) × (after ≡ before))
       ⊎ ((sorted : List (K × V)) × AreInKeyOrder cmp rows sorted × (1 ≤ done) × (done < length rows) × IsPuts before (take done sorted) after)
+
+-- a put of the key drops few digests of the tree
+abbrev pub PutDropsFew : {K H : Type 0} → (H → K → List ℕ) → K → State K H → State K H → Type 0
+PutDropsFew digest_of key old new = UpsertDropsFew (digest_of old.hasher key) old new

@@ -2,8 +2,7 @@
 ghost use Rattle.std.specs.Prelude.{◌≡◌, IsTrue};
 ghost use Rattle.merkle_tree_theory.specs.State.{SameSettings};
 ghost use Rattle.merkle_replica.specs.Contents.{side};
-ghost use Rattle.merkle_replica.specs.Faithful.{AreSetAlike, IsFaithful};
-ghost use Rattle.merkle_replica.specs.Agreeing.{GiveOneDigest, HaveEqualRows};
+ghost use Rattle.merkle_replica.specs.Agreeing.{AreEqualWhileFaithful, IsTrueWhereEqual};
 
 use crate::join::Join;
 use crate::lawful::Lawful;
@@ -19,12 +18,10 @@ pub fn agree<K: Key + Drop, V: Join + Drop, H: Hasher<N, K> + Hasher<N, V>, cons
     b: &mut Replica<K, V, H, N>,
 ) -> bool
     // While digests are faithful, replicas with one root hash have equal rows.
-    ensures told { let laws = ⟦<H as Lawful<N, K, V>>⟧.laws in IsTrue result
-        → IsFaithful laws (side a.old) (side b.old) → HaveEqualRows laws (side a.old) (side b.old) }
+    ensures told { IsTrue result → AreEqualWhileFaithful ⟦<H as Lawful<N, K, V>>⟧.laws (side a.old) (side b.old) }
 
     // Replicas that digest alike and have equal rows have one root hash.
-    ensures alike { let laws = ⟦<H as Lawful<N, K, V>>⟧.laws in AreSetAlike laws (side a.old) (side b.old)
-        → GiveOneDigest laws (side a.old) (side b.old) → HaveEqualRows laws (side a.old) (side b.old) → IsTrue result }
+    ensures alike { IsTrueWhereEqual ⟦<H as Lawful<N, K, V>>⟧.laws (side a.old) (side b.old) result }
 
     ensures a_rows { a.new.rows ≡ a.old.rows }
     ensures b_rows { b.new.rows ≡ b.old.rows }

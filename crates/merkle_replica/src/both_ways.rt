@@ -1,9 +1,8 @@
 //! Catch-ups in both directions, by which two replicas come to hold the join of their maps.
 ghost use Rattle.std.specs.Prelude.{◌≡◌, IfOk, IfErr, OnOk};
 ghost use Rattle.merkle_tree_theory.specs.State.{SameSettings};
-ghost use Rattle.merkle_replica.specs.CatchUp.{AreCatchUps, AreCatchUpsRefused};
-ghost use Rattle.merkle_replica.specs.Contents.{side};
-ghost use Rattle.merkle_replica.specs.Faithfully.{HoldTheJoinWhileFaithful};
+ghost use Rattle.merkle_replica.specs.CatchUp.{HaveCaughtUp, StopCatchingUp};
+ghost use Rattle.merkle_replica.specs.Faithfully.{ConvergeWhileFaithful};
 
 use crate::catch_up::{CatchUpError, CaughtUp};
 use crate::join::Join;
@@ -36,12 +35,12 @@ pub fn catch_up_both<K: Key + Drop, V: Join + Drop, H: Hasher<N, K> + Hasher<N, 
     a: &mut Replica<K, V, H, N>,
     b: &mut Replica<K, V, H, N>,
 ) -> Result<(CaughtUp, CaughtUp), CatchUpsError>
-    ensures done { IfOk result (λ caught. AreCatchUps ⟦<H as Lawful<N, K, V>>⟧.laws (side a.old) (side b.old) caught.0.joined caught.1.joined a.new.rows b.new.rows) }
+    ensures done { IfOk result (HaveCaughtUp ⟦<H as Lawful<N, K, V>>⟧.laws a.old b.old a.new b.new) }
 
     // While digests are faithful before each of them, both then hold the join.
-    ensures join { OnOk result (HoldTheJoinWhileFaithful ⟦<H as Lawful<N, K, V>>⟧.laws (side a.old) (side b.old) a.new.rows b.new.rows) }
+    ensures join { OnOk result (ConvergeWhileFaithful ⟦<H as Lawful<N, K, V>>⟧.laws a.old b.old a.new b.new) }
 
-    ensures refused { IfErr result (λ error. AreCatchUpsRefused ⟦<H as Lawful<N, K, V>>⟧.laws (side a.old) (side b.old) error a.new.rows b.new.rows) }
+    ensures refused { IfErr result (StopCatchingUp ⟦<H as Lawful<N, K, V>>⟧.laws a.old b.old a.new b.new) }
 
     ensures a_settings { SameSettings a.old.tree a.new.tree }
     ensures b_settings { SameSettings b.old.tree b.new.tree }

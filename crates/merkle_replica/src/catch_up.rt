@@ -1,13 +1,11 @@
 //! Catch-ups: a replica joins exactly the rows of a peer that it lacks.
-ghost use Rattle.std.specs.Prelude.{◌≡◌, ◌+◌, ◌≤◌, List, IfOk, IfErr, OnOk, IsSome};
-ghost use Rattle.key_order.specs.Order.{IsAscending};
+ghost use Rattle.std.specs.Prelude.{◌≡◌, ◌+◌, ◌≤◌, IfOk, IfErr, OnOk, IsSome};
 ghost use Rattle.merkle_search_tree.specs.Items.{items};
-ghost use Rattle.merkle_tree_theory.specs.Outline.{whole_item};
 ghost use Rattle.merkle_tree_theory.specs.Page.{level};
 ghost use Rattle.merkle_tree_theory.specs.State.{SameSettings};
-ghost use Rattle.merkle_replica.specs.CatchUp.{HasFound, IsCatchUpOf, IsCatchUpRefused, AreCopies};
+ghost use Rattle.merkle_replica.specs.CatchUp.{HasCaughtUp, StopsCatchingUp, LacksKeys, LacksRows};
 ghost use Rattle.merkle_replica.specs.Contents.{side};
-ghost use Rattle.merkle_replica.specs.Descent.{keys_of};
+ghost use Rattle.merkle_replica.specs.Descent.{whole_of};
 ghost use Rattle.merkle_replica.specs.Faithfully.{JoinsWhileFaithful};
 
 use crate::join::Join;
@@ -77,7 +75,7 @@ impl<K: Key + Drop, V: Join + Drop, H: Hasher<N, K> + Hasher<N, V>, const N: usi
     /// [`CatchUpError`] where memory is refused, by which no row is joined, or the first ones in key order and not all.
     pub fn catch_up(&mut self, peer: &mut Replica<K, V, H, N>) -> Result<CaughtUp, CatchUpError>
         // The rows are the join with the peer's rows at the keys that this side lacked.
-        ensures done { IfOk result (λ caught. IsCatchUpOf ⟦<H as Lawful<N, K, V>>⟧.laws (side self.old) (side peer.old) caught.joined self.new.rows) }
+        ensures done { IfOk result (HasCaughtUp ⟦<H as Lawful<N, K, V>>⟧.laws self.old peer.old self.new) }
 
         // While digests are faithful, that is the join of both sides' rows.
         ensures join { OnOk result (JoinsWhileFaithful ⟦<H as Lawful<N, K, V>>⟧.laws (side self.old) (side peer.old) self.new.rows) }
@@ -85,7 +83,7 @@ impl<K: Key + Drop, V: Join + Drop, H: Hasher<N, K> + Hasher<N, V>, const N: usi
         ensures few { IfOk result (λ caught. caught.rounds ≤ level peer.old.tree.root + 1) }
 
         // Refused, it has joined no row, or the first ones.
-        ensures refused { IfErr result (λ fault. IsCatchUpRefused ⟦<H as Lawful<N, K, V>>⟧.laws (side self.old) (side peer.old) fault self.new.rows) }
+        ensures refused { IfErr result (StopsCatchingUp ⟦<H as Lawful<N, K, V>>⟧.laws self.old peer.old self.new) }
 
         ensures peer_rows { peer.new.rows ≡ peer.old.rows }
         ensures settings { SameSettings self.old.tree self.new.tree }
@@ -113,7 +111,7 @@ impl<K: Key + Drop, V: Join + Drop, H: Hasher<N, K> + Hasher<N, V>, const N: usi
     /// Copies of the rows of a peer that this side lacks, and how many times outlines were asked for.
     fn lacked_rows(&self, peer: &Replica<K, V, H, N>) -> Result<(Vec<(K, V)>, usize), AllocError>
         requires hashed { IsSome peer.now.tree.root_hash }
-        ensures rows { IfOk result (λ found. (keys : List K) × IsAscending K.cmp keys × HasFound ⟦<H as Lawful<N, K, V>>⟧.laws (side self.now) (side peer.now) keys × AreCopies K.cmp V.eq peer.now.rows keys found.0.items) }
+        ensures rows { IfOk result (λ found. LacksRows ⟦<H as Lawful<N, K, V>>⟧.laws self.now peer.now found.0.items) }
         ensures few { IfOk result (λ found. found.1 ≤ level peer.now.tree.root + 1) }
     {
         let lacked = lacked_keys(self.alloc, self, peer)?;
@@ -130,7 +128,7 @@ fn lacked_keys<'a, K: Key + Drop, V: Join + Drop, H: Hasher<N, K> + Hasher<N, V>
     peer: &'a Replica<K, V, H, N>,
 ) -> Result<Lacked<'a, K>, AllocError>
     requires { IsSome peer.now.tree.root_hash }
-    ensures found { IfOk result (λ lacked. HasFound ⟦<H as Lawful<N, K, V>>⟧.laws (side local.now) (side peer.now) (keys_of lacked.keys.items)) }
+    ensures found { IfOk result (λ found. LacksKeys ⟦<H as Lawful<N, K, V>>⟧.laws local.now peer.now found.keys.items) }
     ensures few { IfOk result (λ lacked. lacked.rounds ≤ level peer.now.tree.root + 1) }
 {
     local.rows_ascend();
@@ -161,7 +159,7 @@ fn root_items<'a, K: Key + Drop, V: Join + Drop, H: Hasher<N, K> + Hasher<N, V>,
     replica: &'a Replica<K, V, H, N>,
 ) -> Result<Vec<OutlineItem<'a, N, K>>, AllocError>
     requires { IsSome replica.now.tree.root_hash }
-    ensures { IfOk result (λ list. items list.items ≡ whole_item replica.now.tree.format K.bytes_of replica.now.tree.root) }
+    ensures { IfOk result (λ list. items list.items ≡ whole_of K.bytes_of replica.now.tree) }
 {
     let mut items = Vec::new(alloc);
     if let Some(item) = replica.tree().whole() {

@@ -1,12 +1,10 @@
 //! The steps of a catch-up, each on its own side: outlines of pages of the peer, and what they leave to ask for.
 
-ghost use Rattle.std.specs.Prelude.{◌≡◌, ◌↔◌, IfOk, OnOk, MatchOption, None, Some, IsTrue, flat_map};
+ghost use Rattle.std.specs.Prelude.{◌≡◌, ◌↔◌, IfOk, OnOk, IsTrue};
 ghost use Rattle.std.specs.Option.{option_map};
 ghost use Rattle.key_order.specs.Map.{get};
-ghost use Rattle.merkle_tree_theory.specs.Outline.{outline_over};
-ghost use Rattle.merkle_search_tree.specs.Items.{item as item_of, items};
 ghost use Rattle.merkle_replica.specs.Contents.{side, tree_map};
-ghost use Rattle.merkle_replica.specs.Descent.{AreSortedOut, HasSortedOut, HasPage, gaps_of, keys_of};
+ghost use Rattle.merkle_replica.specs.Descent.{LeaveToAsk, AddsToAsk, GivesOutlines, HasDigestAt, HasPage};
 
 use crate::join::Join;
 use crate::lawful::Lawful;
@@ -49,8 +47,7 @@ impl<K: Key + Drop, V: Join + Drop, H: Hasher<N, K> + Hasher<N, V>, const N: usi
         &'a self,
         gaps: &[Gap<'a, K>],
     ) -> Result<Option<Vec<OutlineItem<'a, N, K>>>, AllocError>
-        ensures { IfOk result (λ found. MatchOption found (self.now.tree.root_hash ≡ None)
-            (λ list. items list.items ≡ flat_map (outline_over self.now.tree.format K.bytes_of K.cmp self.now.tree.root) (gaps_of gaps.now))) }
+        ensures { IfOk result (GivesOutlines K.bytes_of K.cmp self.now.tree gaps.now) }
     {
         if self.tree().root_hash_cached().is_none() {
             return Ok(None);
@@ -83,7 +80,7 @@ impl<K: Key + Drop, V: Join + Drop, H: Hasher<N, K> + Hasher<N, V>, const N: usi
     ///
     /// `AllocError` where memory is refused for the lists.
     pub fn sort_out<'a>(&self, came: &[OutlineItem<'a, N, K>]) -> Result<ToAsk<'a, K>, AllocError>
-        ensures { IfOk result (λ asked. AreSortedOut ⟦<H as Lawful<N, K, V>>⟧.laws (side self.now) (items came.now) (gaps_of asked.gaps.items) (keys_of asked.keys.items)) }
+        ensures { IfOk result (LeaveToAsk ⟦<H as Lawful<N, K, V>>⟧.laws (side self.now) came.now) }
     {
         let mut asked = ToAsk {
             gaps: Vec::new(self.alloc),
@@ -101,8 +98,7 @@ impl<K: Key + Drop, V: Join + Drop, H: Hasher<N, K> + Hasher<N, V>, const N: usi
         item: &OutlineItem<'a, N, K>,
         asked: &mut ToAsk<'a, K>,
     ) -> Result<(), AllocError>
-        ensures { OnOk result (HasSortedOut ⟦<H as Lawful<N, K, V>>⟧.laws (side self.now) (item_of item.now) (gaps_of asked.old.gaps.items) (keys_of asked.old.keys.items)
-            (gaps_of asked.new.gaps.items) (keys_of asked.new.keys.items)) }
+        ensures { OnOk result (AddsToAsk ⟦<H as Lawful<N, K, V>>⟧.laws (side self.now) item.now asked.old asked.new) }
     {
         match item {
             OutlineItem::Node(key, digest) => {
@@ -138,7 +134,7 @@ impl<K: Key + Drop, V: Join + Drop, H: Hasher<N, K> + Hasher<N, V>, const N: usi
 
     /// Whether the key is there with this digest of its value.
     fn has_digest(&self, key: &K, digest: &ValueDigest<N>) -> bool
-        ensures { let laws = ⟦<H as Lawful<N, K, V>>⟧.laws in IsTrue result ↔ (get K.cmp (tree_map laws (side self.now)) key.now ≡ Some digest.now) }
+        ensures { IsTrue result ↔ HasDigestAt ⟦<H as Lawful<N, K, V>>⟧.laws (side self.now) key.now digest.now }
     {
         match self.value_hash(key) {
             Some(own) => *own == *digest,

@@ -21,7 +21,7 @@ impl<K: Key + Drop, V: Join + Drop, H: Hasher<N, K> + Hasher<N, V>, const N: usi
     pub(crate) fn join_sparse(&mut self, theirs: Vec<(K, V)>) -> Result<(), usize>
         requires rising { IsRising K.cmp theirs.items }
         ensures all { OnOk result (HasGathered K.cmp V.eq V.join_of self.old.rows theirs.items self.new.rows) }
-        ensures cut { IfErr result (λ done. IsGatheredTo K.cmp V.eq V.join_of self.old.rows theirs.items done self.new.rows) }
+        ensures cut { IfErr result (IsGatheredTo K.cmp V.eq V.join_of self.old.rows theirs.items self.new.rows) }
         ensures settings { SameSettings self.old.tree self.new.tree }
     {
         if self.are_few_new(&theirs) {
@@ -48,7 +48,7 @@ impl<K: Key + Drop, V: Join + Drop, H: Hasher<N, K> + Hasher<N, V>, const N: usi
     /// Puts rows one after the other. Refused, it answers how many of them are joined.
     fn join_each(&mut self, theirs: Vec<(K, V)>) -> Result<(), usize>
         ensures all { OnOk result (HasGathered K.cmp V.eq V.join_of self.old.rows theirs.items self.new.rows) }
-        ensures cut { IfErr result (λ done. IsGatheredTo K.cmp V.eq V.join_of self.old.rows theirs.items done self.new.rows) }
+        ensures cut { IfErr result (IsGatheredTo K.cmp V.eq V.join_of self.old.rows theirs.items self.new.rows) }
         ensures settings { SameSettings self.old.tree self.new.tree }
     {
         self.rows_ascend();

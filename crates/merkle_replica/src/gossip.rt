@@ -1,10 +1,7 @@
 //! Catch-ups among any number of replicas, by which all come to hold the join of their maps.
-ghost use Rattle.std.specs.Prelude.{◌≡◌, ◌∷◌, List, OnOk, IfErr, length, map};
-ghost use Rattle.std.specs.List.{AllByRecursion};
+ghost use Rattle.std.specs.Prelude.{◌≡◌, OnOk, IfErr, length};
 ghost use Rattle.key_order.specs.Order.{Same};
-ghost use Rattle.merkle_replica.specs.Contents.{Side, side};
-ghost use Rattle.merkle_replica.specs.Faithful.{AllFaithful};
-ghost use Rattle.merkle_replica.specs.Gossip.{IsGossip, IsJoinOf, StopsAtHub, numbered, rows_of, through_hub};
+ghost use Rattle.merkle_replica.specs.Gossip.{AllCatchUp, StopsCatchUps};
 
 use crate::catch_up::CatchUpError;
 use crate::join::Join;
@@ -53,13 +50,10 @@ pub fn catch_up_all<K: Key + Drop, V: Join + Drop, H: Hasher<N, K> + Hasher<N, V
 
     // The hub caught up with each of the others, and then each of them with the hub. While digests are faithful in what is met before each
     // catch-up, all then hold the join of all maps.
-    ensures join { let laws = ⟦<H as Lawful<N, K, V>>⟧.laws in let before = map side (hub.old ∷ others.old) in let after = map side (hub.new ∷ others.new) in
-        OnOk result ((met : List (Side K V H × Side K V H)) × IsGossip laws (through_hub (length others.old)) (numbered (side hub.old) before) (numbered (side hub.old) after) met
-        × (AllFaithful laws met → AllByRecursion (λ s. IsJoinOf K.cmp V.eq V.join_of (rows_of before) s.rows) after)) }
+    ensures join { OnOk result (AllCatchUp ⟦<H as Lawful<N, K, V>>⟧.laws hub.old others.old hub.new others.new) }
 
     // Stopped, the first of these catch-ups were made, and then stands what the fault says.
-    ensures stopped { let laws = ⟦<H as Lawful<N, K, V>>⟧.laws in IfErr result (λ error. StopsAtHub laws error (length others.old)
-        (numbered (side hub.old) (map side (hub.old ∷ others.old))) (numbered (side hub.old) (map side (hub.new ∷ others.new)))) }
+    ensures stopped { IfErr result (StopsCatchUps ⟦<H as Lawful<N, K, V>>⟧.laws hub.old others.old hub.new others.new) }
     ensures len { length others.new ≡ length others.old }
 {
     hub.rows_ascend();

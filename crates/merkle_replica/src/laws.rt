@@ -2,17 +2,12 @@
 //! pull, that the steps of a catch-up are one, that outlines lie within gaps, and what gossip joins. Each function has no effect and takes
 //! no memory.
 
-ghost use Rattle.std.specs.Prelude.{ℕ, List, [], ◌∷◌};
-ghost use Rattle.merkle_tree_theory.specs.Gap.{everywhere};
-ghost use Rattle.merkle_tree_theory.specs.Outline.{whole_item};
-ghost use Rattle.merkle_tree_theory.specs.Tree.{Tree};
-ghost use Rattle.merkle_tree_theory.specs.declared.page_format.PageFormat.{PageFormat};
 ghost use Rattle.merkle_replica.specs.CatchUpSteps.{CatchUpsJoin, RoundsAreFew, StepsAreACatchUp};
 ghost use Rattle.merkle_replica.specs.Contents.{side};
 ghost use Rattle.merkle_replica.specs.Faithful.{HasSmallMap};
 ghost use Rattle.merkle_replica.specs.Faithfully.{CollisionFreeIsFaithful, CollisionFreePullsCover, CollisionFreeTurnsAreFaithful, CollisionFreeTurnsConverge};
 ghost use Rattle.merkle_replica.specs.Gossip.{GossipJoins, OrderIsIndifferent};
-ghost use Rattle.merkle_replica.specs.LieWithin.{LieWithin, OutlinesLieWithin, SortedOutGapsAscend};
+ghost use Rattle.merkle_replica.specs.LieWithin.{OutlinesLieWithin, SortedOutGapsAscend, WholeTreesLieWithin};
 ghost use Rattle.merkle_replica.specs.PullSteps.{AnswersAreThoseOfAPull, PullsHaveOneAnswer, PullsLeaveOneMap, StepsAreAPull};
 
 use crate::join::Join;
@@ -123,7 +118,7 @@ pub fn outlines_lie_within<
     H: Hasher<N, K> + Hasher<N, V>,
     const N: usize,
 >()
-    ensures whole { (format : PageFormat) (t : Tree K (List ℕ)) → LieWithin K.cmp (everywhere ∷ []) (whole_item format K.bytes_of t) }
+    ensures whole { WholeTreesLieWithin K.cmp K.bytes_of }
     ensures outlines { OutlinesLieWithin K.cmp K.bytes_of }
     ensures left { SortedOutGapsAscend ⟦<H as Lawful<N, K, V>>⟧.laws }
 {

@@ -1,18 +1,17 @@
 //! Joining many rows in one pass: the own rows are parted at a place that moves up, those before it in their list and those from
 //! it on in a second one, the last row first.
 
-ghost use Rattle.std.specs.Prelude.{◌≡◌, ◌≤◌, ◌<◌, ◌+◌, [], ◌∷◌, ◌++◌, reverse, IfOk, IfErr, OnOk, OnErr};
+ghost use Rattle.std.specs.Prelude.{◌≡◌, ◌≤◌, ◌<◌, ◌+◌, ◌++◌, reverse, IfOk, IfErr, OnOk, OnErr};
 ghost use Rattle.std.specs.Vec.{vec_len, vec_capacity};
 ghost use Rattle.std.specs.List.{AllByRecursion};
 ghost use Rattle.key_order.specs.Order.{Below};
 ghost use Rattle.key_order.specs.Interval.{IsApart, IsOrdered};
-ghost use Rattle.key_order.specs.Map.{IsMap, rows_in};
-ghost use Rattle.key_order.specs.Join.{IsJoin};
+ghost use Rattle.key_order.specs.Map.{IsMap};
 ghost use Rattle.merkle_tree_theory.specs.State.{SameSettings};
 ghost use Rattle.merkle_replica.specs.Contents.{IsKept};
-ghost use Rattle.merkle_replica.specs.Answers.{spans_of, IsDone, IsPartlyDone};
+ghost use Rattle.merkle_replica.specs.Answers.{spans_of, JoinsWithin, JoinsPartly};
 ghost use Rattle.merkle_replica.specs.Puts.{IsRising, HasGathered, IsGatheredTo};
-ghost use Rattle.merkle_replica.specs.Parted.{whole, FirstNotBelow, first_is};
+ghost use Rattle.merkle_replica.specs.Parted.{whole, parted, JoinsParted, FirstNotBelow, first_is};
 
 use crate::join::Join;
 use crate::pull::Stopped;
@@ -103,11 +102,11 @@ where
     K: Key + Drop,
     V: Join + Drop,
     H: Hasher<N, K> + Hasher<N, V>,
-    requires kept { IsKept K.cmp ⟦<H as Hasher<N, V>>⟧.digest_of (record { rows = whole front.old.items back.old.items; tree = tree.old }) }
+    requires kept { IsKept K.cmp ⟦<H as Hasher<N, V>>⟧.digest_of (parted front.old back.old tree.old) }
     requires below { AllByRecursion (λ s. Below K.cmp s.0 key) front.old.items }
     requires room { vec_len front.old + vec_len back.old < vec_capacity front.old }
-    ensures kept { IsKept K.cmp ⟦<H as Hasher<N, V>>⟧.digest_of (record { rows = whole front.new.items back.new.items; tree = tree.new }) }
-    ensures joined { OnOk result (IsJoin K.cmp V.eq V.join_of (whole front.old.items back.old.items) ((key, value) ∷ []) (whole front.new.items back.new.items)) }
+    ensures kept { IsKept K.cmp ⟦<H as Hasher<N, V>>⟧.digest_of (parted front.new back.new tree.new) }
+    ensures joined { OnOk result (JoinsParted K.cmp V.eq V.join_of front.old back.old (key, value) front.new back.new) }
     ensures unchanged { OnErr result (whole front.new.items back.new.items ≡ whole front.old.items back.old.items) }
     ensures below { AllByRecursion (λ s. Below K.cmp s.0 key) front.new.items }
     ensures len { vec_len front.new + vec_len back.new ≤ vec_len front.old + vec_len back.old + 1 }
@@ -148,11 +147,11 @@ where
     K: Key + Drop,
     V: Join + Drop,
     H: Hasher<N, K> + Hasher<N, V>,
-    requires kept { IsKept K.cmp ⟦<H as Hasher<N, V>>⟧.digest_of (record { rows = whole front.old.items back.old.items; tree = tree.old }) }
+    requires kept { IsKept K.cmp ⟦<H as Hasher<N, V>>⟧.digest_of (parted front.old back.old tree.old) }
     requires below { AllByRecursion (λ s. Below K.cmp s.0 row.now.0) front.old.items }
     requires room { vec_len front.old + vec_len back.old < vec_capacity front.old }
-    ensures kept { IsKept K.cmp ⟦<H as Hasher<N, V>>⟧.digest_of (record { rows = whole front.new.items back.new.items; tree = tree.new }) }
-    ensures joined { OnOk result (IsJoin K.cmp V.eq V.join_of (whole front.old.items back.old.items) (row.now ∷ []) (whole front.new.items back.new.items)) }
+    ensures kept { IsKept K.cmp ⟦<H as Hasher<N, V>>⟧.digest_of (parted front.new back.new tree.new) }
+    ensures joined { OnOk result (JoinsParted K.cmp V.eq V.join_of front.old back.old row.now front.new back.new) }
     ensures unchanged { OnErr result (whole front.new.items back.new.items ≡ whole front.old.items back.old.items) }
     ensures below { OnOk result (AllByRecursion (λ s. Below K.cmp s.0 row.now.0) front.new.items) }
     ensures len { vec_len front.new + vec_len back.new ≤ vec_len front.old + vec_len back.old + 1 }
@@ -181,8 +180,8 @@ where
     requires ascending { IsMap K.cmp theirs.now }
     requires kept { IsKept K.cmp ⟦<H as Hasher<N, V>>⟧.digest_of (record { rows = rows.old.items; tree = tree.old }) }
     ensures kept { IsKept K.cmp ⟦<H as Hasher<N, V>>⟧.digest_of (record { rows = rows.new.items; tree = tree.new }) }
-    ensures all { IfOk result (λ joined. IsDone K.cmp V.eq V.join_of (rows_in K.cmp (spans_of ranges.now) theirs.now) rows.old.items joined rows.new.items) }
-    ensures stopped { IfErr result (λ stopped. IsPartlyDone K.cmp V.eq V.join_of (rows_in K.cmp (spans_of ranges.now) theirs.now) rows.old.items stopped.done stopped.joined rows.new.items) }
+    ensures all { IfOk result (JoinsWithin K.cmp V.eq V.join_of ranges.now theirs.now rows.old.items rows.new.items) }
+    ensures stopped { IfErr result (JoinsPartly K.cmp V.eq V.join_of ranges.now theirs.now rows.old.items rows.new.items) }
     ensures settings { SameSettings tree.old tree.new }
 {
     let joined = count_within(ranges, theirs);
@@ -226,7 +225,7 @@ where
     requires kept { IsKept K.cmp ⟦<H as Hasher<N, V>>⟧.digest_of (record { rows = rows.old.items; tree = tree.old }) }
     ensures kept { IsKept K.cmp ⟦<H as Hasher<N, V>>⟧.digest_of (record { rows = rows.new.items; tree = tree.new }) }
     ensures all { OnOk result (HasGathered K.cmp V.eq V.join_of rows.old.items theirs.items rows.new.items) }
-    ensures cut { IfErr result (λ done. IsGatheredTo K.cmp V.eq V.join_of rows.old.items theirs.items done rows.new.items) }
+    ensures cut { IfErr result (IsGatheredTo K.cmp V.eq V.join_of rows.old.items theirs.items rows.new.items) }
     ensures settings { SameSettings tree.old tree.new }
 {
     let joined = theirs.len();

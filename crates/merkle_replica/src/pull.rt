@@ -2,14 +2,12 @@
 ghost use Rattle.std.specs.Prelude.{◌≡◌, IfOk, IfErr, IsSome};
 ghost use Rattle.merkle_diff.specs.DiffRange.{spans};
 ghost use Rattle.merkle_diff.specs.Merge.{SameSpans};
-ghost use Rattle.merkle_diff.specs.PageRangeSnapshot.{snapshot_entries};
 ghost use Rattle.merkle_tree_theory.specs.Hashed.{hashed_tree};
 ghost use Rattle.merkle_tree_theory.specs.State.{SameSettings};
 ghost use Rattle.merkle_replica.specs.Contents.{side};
-ghost use Rattle.merkle_replica.specs.Pulls.{IsAnswerFor, IsPull};
-ghost use Rattle.merkle_replica.specs.Faithfully.{CoverInPartWhileFaithful, CoverWhileFaithful};
-ghost use Rattle.merkle_replica.specs.Answers.{spans_of, answer_of, IsRefused};
-ghost use Rattle.merkle_replica.specs.Steps.{IsAnswerTo};
+ghost use Rattle.merkle_replica.specs.Faithfully.{CoverInPartWhileFaithful, CoversWhileFaithful};
+ghost use Rattle.merkle_replica.specs.Answers.{spans_of, MayAsk, HasPulled, StopsPulling};
+ghost use Rattle.merkle_replica.specs.Steps.{MayAskOf};
 
 use crate::join::Join;
 use crate::lawful::Lawful;
@@ -65,7 +63,7 @@ impl<K: Key + Drop, V: Join + Drop, H: Hasher<N, K> + Hasher<N, V>, const N: usi
         &mut self,
         peer: &mut Replica<K, V, H, N>,
     ) -> Result<Vec<(K, K)>, AllocError>
-        ensures answer { IfOk result (λ ranges. IsAnswerFor ⟦<H as Lawful<N, K, V>>⟧.laws (side self.old) (side peer.old) (spans_of ranges.items)) }
+        ensures answer { IfOk result (λ ranges. MayAsk ⟦<H as Lawful<N, K, V>>⟧.laws self.old peer.old ranges.items) }
         ensures rows { self.new.rows ≡ self.old.rows }
         ensures peer_rows { peer.new.rows ≡ peer.old.rows }
 
@@ -96,14 +94,14 @@ impl<K: Key + Drop, V: Join + Drop, H: Hasher<N, K> + Hasher<N, V>, const N: usi
     /// [`PullError`] where memory is refused, by which no row is joined, or the first ones in key order and not all.
     pub fn pull(&mut self, peer: &mut Replica<K, V, H, N>) -> Result<Pulled<K>, PullError<K>>
         // The rows are the join with the peer's rows in the ranges.
-        ensures done { IfOk result (λ pulled. IsPull ⟦<H as Lawful<N, K, V>>⟧.laws (side self.old) (side peer.old) (answer_of pulled) self.new.rows) }
+        ensures done { IfOk result (HasPulled ⟦<H as Lawful<N, K, V>>⟧.laws self.old peer.old self.new) }
 
         // Refused, it has joined no row, or the first ones.
-        ensures refused { IfErr result (λ fault. IsRefused ⟦<H as Lawful<N, K, V>>⟧.laws (side self.old) (side peer.old) fault self.new.rows) }
+        ensures refused { IfErr result (StopsPulling ⟦<H as Lawful<N, K, V>>⟧.laws self.old peer.old self.new) }
 
         // Coverage: where pages with equal digests have equal maps, and the peer's keys span the replica's, the ranges miss no key, also
         // where the pull stopped behind the first rows.
-        ensures covers { IfOk result (λ pulled. CoverWhileFaithful ⟦<H as Lawful<N, K, V>>⟧.laws (side self.old) (side peer.old) (spans_of pulled.ranges.items)) }
+        ensures covers { IfOk result (CoversWhileFaithful ⟦<H as Lawful<N, K, V>>⟧.laws (side self.old) (side peer.old)) }
         ensures part_covers { IfErr result (CoverInPartWhileFaithful ⟦<H as Lawful<N, K, V>>⟧.laws (side self.old) (side peer.old)) }
 
         ensures peer_rows { peer.new.rows ≡ peer.old.rows }
@@ -150,7 +148,7 @@ fn ask<K: Key + Drop, V: Join + Drop, H: Hasher<N, K> + Hasher<N, V>, const N: u
 ) -> Result<Vec<(K, K)>, AllocError>
     requires local_hashed { IsSome local.now.tree.root_hash }
     requires peer_hashed { IsSome peer.now.tree.root_hash }
-    ensures { IfOk result (λ ranges. IsAnswerFor ⟦<H as Lawful<N, K, V>>⟧.laws (side local.now) (side peer.now) (spans_of ranges.items)) }
+    ensures { IfOk result (λ ranges. MayAsk ⟦<H as Lawful<N, K, V>>⟧.laws local.now peer.now ranges.items) }
 {
     every_tree_is_sound(local.tree());
     every_tree_is_sound(peer.tree());
@@ -175,7 +173,7 @@ pub(crate) fn ask_of<K: Key + Drop, V: Join + Drop, H: Hasher<N, K> + Hasher<N, 
     theirs: &PageRangeSnapshot<K>,
 ) -> Result<Vec<(K, K)>, AllocError>
     requires hashed { IsSome local.now.tree.root_hash }
-    ensures { IfOk result (λ ranges. IsAnswerTo ⟦<H as Lawful<N, K, V>>⟧.laws (side local.now) (snapshot_entries theirs.now) (spans_of ranges.items)) }
+    ensures { IfOk result (λ ranges. MayAskOf ⟦<H as Lawful<N, K, V>>⟧.laws local.now theirs.now ranges.items) }
 {
     every_tree_is_sound(local.tree());
     page_ranges_are_tree_shaped(local.tree());

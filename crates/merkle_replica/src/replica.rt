@@ -1,13 +1,12 @@
 //! A replica: a map from keys to values, with the tree of their digests.
 ghost use Rattle.std.specs.Prelude.{◌≡◌, OnOk, OnErr, IfOk, IfErr, [], ◌∷◌, None};
-ghost use Rattle.key_order.specs.Order.{Same};
-ghost use Rattle.key_order.specs.Map.{IsMap, SameMap};
+ghost use Rattle.key_order.specs.Map.{IsMap};
 ghost use Rattle.key_order.specs.Join.{IsJoin};
-ghost use Rattle.merkle_tree_theory.specs.Dropped.{UpsertDropsFew, RemovalDropsFew};
-ghost use Rattle.merkle_search_tree.specs.Loading.{digests};
-ghost use Rattle.merkle_tree_theory.specs.State.{map_of, HasSettings, SameSettings};
-ghost use Rattle.merkle_replica.specs.Contents.{IsEmpty};
-ghost use Rattle.merkle_replica.specs.Places.{IsPlaceOf, IsGapFor};
+ghost use Rattle.merkle_tree_theory.specs.Dropped.{RemovalDropsFew};
+ghost use Rattle.merkle_tree_theory.specs.State.{HasSettings, SameSettings};
+ghost use Rattle.merkle_replica.specs.Contents.{IsEmpty, HasItsDigests};
+ghost use Rattle.merkle_replica.specs.Places.{FindsRow, IsPlaceOf, IsGapFor};
+ghost use Rattle.merkle_replica.specs.Puts.{PutDropsFew};
 
 use crate::join::Join;
 use crate::merge::{join_all, join_owned};
@@ -89,21 +88,18 @@ impl<K: Key, V: Join, H: Hasher<N, K> + Hasher<N, V>, const N: usize> Replica<K,
         ensures tree { result.now ≡ self.now.tree }
 
         // Its map is the digests of the rows.
-        ensures digests { SameMap K.cmp (λ d e. d ≡ e) (map_of self.now.tree) (digests (⟦<H as Hasher<N, V>>⟧.digest_of self.now.tree.hasher) self.now.rows) }
+        ensures digests { HasItsDigests K.cmp ⟦<H as Hasher<N, V>>⟧.digest_of self.now }
     {
         &self.tree
     }
 }
 
 impl<K: Key, V: Join, H: Hasher<N, K> + ValueHasher<N, V>, const N: usize> Replica<K, V, H, N> {
-    ghost use Rattle.std.specs.Prelude.{◌≡◌, ⊤};
+    ghost use Rattle.std.specs.Prelude.{◌≡◌};
     ghost use Rattle.merkle_tree_theory.specs.Stream.{page_digest};
     ghost use Rattle.merkle_tree_theory.specs.Hashed.{hashed_tree};
-    ghost use Rattle.merkle_replica.specs.contracts.replica.Replica.{the_row};
+    ghost use Rattle.merkle_replica.specs.RootHash.{ends_hashed};
     ghost use Rattle.std.specs.Borrow.{sem};
-    ghost use mathlib.Core.Option.{none};
-    ghost use denote.Follow.{follows_so};
-    ghost use denote.Param.{number};
 
     /// Fills in the digests that pages of the tree lack, so that the tree is hashed then, at the cost of
     /// [`MerkleSearchTree::root_hash`]. It takes no memory.
@@ -122,8 +118,8 @@ impl<K: Key, V: Join, H: Hasher<N, K> + ValueHasher<N, V>, const N: usize> Repli
     /// a.root_hash() == b.root_hash()
     /// ```
     pub fn root_hash(&mut self) -> &RootHash
-        ensures* hashed { let row = the_row K.row V.row H.row (number N) K.Ord.own K.PartialEq K.PartialOrd.own K.Clone K.KeyBytes.own V.Join.own V.PartialEq H.Hasher H.ValueHasher in
-            sem 𝓛 (follows_so row row self.entry.ghost_name none (λ _ _. ⊤) (λ t. (t.rows ≡ self.old.rows) × (t.tree ≡ hashed_tree K.bytes_of self.old.tree))) }
+        ensures* hashed { sem 𝓛 (ends_hashed K.row V.row H.row N K.Ord.own K.PartialEq K.PartialOrd.own K.Clone K.KeyBytes.own V.Join.own
+            V.PartialEq H.Hasher H.ValueHasher self.entry) }
         ensures digest { result.now ≡ page_digest self.old.tree.format K.bytes_of self.old.tree.root }
     {
         self.hash();
@@ -159,7 +155,7 @@ impl<K: Key + Drop, V: Join + Drop, H: Hasher<N, K> + Hasher<N, V>, const N: usi
         ensures settings { SameSettings self.old.tree self.new.tree }
 
         // Few digests of the tree are dropped.
-        ensures few_more { OnOk result (UpsertDropsFew (⟦<H as Hasher<N, K>>⟧.digest_of self.old.tree.hasher key) self.old.tree self.new.tree) }
+        ensures few_more { OnOk result (PutDropsFew ⟦<H as Hasher<N, K>>⟧.digest_of key self.old.tree self.new.tree) }
     {
         match place(&self.rows, &key) {
             Ok(at) => {
@@ -293,12 +289,9 @@ impl<K: Key + Drop, V: Join + Drop, H: Hasher<N, K> + Hasher<N, V>, const N: usi
     H,
     N,
 > {
-    ghost use Rattle.std.specs.Prelude.{MatchOption, Some};
     ghost use Rattle.std.specs.List.{AllByRecursion};
-    ghost use Rattle.key_order.specs.Map.{get};
     ghost use Rattle.key_order.specs.Interval.{IsApart, IsOrdered};
-    ghost use Rattle.key_order.specs.Map.{rows_in};
-    ghost use Rattle.merkle_replica.specs.Answers.{spans_of, IsDone, IsPartlyDone};
+    ghost use Rattle.merkle_replica.specs.Answers.{spans_of, JoinsWithin, JoinsPartly};
     ghost use Rattle.merkle_replica.specs.Puts.{IsRising, HasGathered, IsGatheredTo};
 
     /// Joins the rows of `theirs` in the ranges, in one pass over both, and answers how many they are.
@@ -310,8 +303,8 @@ impl<K: Key + Drop, V: Join + Drop, H: Hasher<N, K> + Hasher<N, V>, const N: usi
         requires apart { IsApart K.cmp (spans_of ranges.now) }
         requires ordered { AllByRecursion (IsOrdered K.cmp) (spans_of ranges.now) }
         requires ascending { IsMap K.cmp theirs.now }
-        ensures all { IfOk result (λ joined. IsDone K.cmp V.eq V.join_of (rows_in K.cmp (spans_of ranges.now) theirs.now) self.old.rows joined self.new.rows) }
-        ensures stopped { IfErr result (λ stopped. IsPartlyDone K.cmp V.eq V.join_of (rows_in K.cmp (spans_of ranges.now) theirs.now) self.old.rows stopped.done stopped.joined self.new.rows) }
+        ensures all { IfOk result (JoinsWithin K.cmp V.eq V.join_of ranges.now theirs.now self.old.rows self.new.rows) }
+        ensures stopped { IfErr result (JoinsPartly K.cmp V.eq V.join_of ranges.now theirs.now self.old.rows self.new.rows) }
         ensures settings { SameSettings self.old.tree self.new.tree }
     {
         join_all(self.alloc, &mut self.rows, &mut self.tree, theirs, ranges)
@@ -329,7 +322,7 @@ impl<K: Key + Drop, V: Join + Drop, H: Hasher<N, K> + Hasher<N, V>, const N: usi
     /// }
     /// ```
     pub fn row_at(&self, key: &K) -> Option<&(K, V)>
-        ensures { MatchOption result (get K.cmp self.now.rows key.now ≡ None) (λ row. Same K.cmp row.now.0 key.now × (get K.cmp self.now.rows key.now ≡ Some row.now.1)) }
+        ensures { FindsRow K.cmp key.now self.now.rows result }
     {
         match place(&self.rows, key) {
             Ok(at) => Some(&self.rows[at]),
@@ -341,7 +334,7 @@ impl<K: Key + Drop, V: Join + Drop, H: Hasher<N, K> + Hasher<N, V>, const N: usi
     pub(crate) fn join_rising(&mut self, theirs: Vec<(K, V)>) -> Result<(), usize>
         requires rising { IsRising K.cmp theirs.items }
         ensures all { OnOk result (HasGathered K.cmp V.eq V.join_of self.old.rows theirs.items self.new.rows) }
-        ensures cut { IfErr result (λ done. IsGatheredTo K.cmp V.eq V.join_of self.old.rows theirs.items done self.new.rows) }
+        ensures cut { IfErr result (IsGatheredTo K.cmp V.eq V.join_of self.old.rows theirs.items self.new.rows) }
         ensures settings { SameSettings self.old.tree self.new.tree }
     {
         join_owned(self.alloc, &mut self.rows, &mut self.tree, theirs)

@@ -1,10 +1,9 @@
 //! The rows of a map in given ranges of keys.
-ghost use Rattle.std.specs.Prelude.{◌≡◌, ◌<◌, ◌↔◌, ◌∷◌, [], ℕ, suc, true, length, slice_index_or, IfSome, MatchOption, IsTrue};
-ghost use Rattle.key_order.specs.Order.{below};
+ghost use Rattle.std.specs.Prelude.{◌≡◌, ◌<◌, ◌↔◌, true, length, IfSome, IsTrue};
 ghost use Rattle.key_order.specs.Interval.{IsApart};
 ghost use Rattle.key_order.specs.Map.{IsMap, rows_in};
 ghost use Rattle.merkle_replica.specs.Answers.{spans_of};
-ghost use Rattle.merkle_replica.specs.Steps.{AreRanges};
+ghost use Rattle.merkle_replica.specs.Steps.{AreRanges, BeginsBehind, FindsFirst};
 
 use crate::seek::{is_below, is_upto, seek};
 use std::marker::Model;
@@ -68,8 +67,7 @@ fn first_within<'a, K: Ord, V>(
 ) -> Option<(&'a (K, V), &'a [(K, V)], &'a [(K, K)])>
     requires ascending { IsMap K.cmp rows.now }
     requires apart { IsApart K.cmp (spans_of ranges.now) }
-    ensures gives { MatchOption result (rows_in K.cmp (spans_of ranges.now) rows.now ≡ [])
-        (λ found. rows_in K.cmp (spans_of ranges.now) rows.now ≡ found.0.now ∷ rows_in K.cmp (spans_of found.2.now) found.1.now) }
+    ensures gives { FindsFirst K.cmp rows.now ranges.now result }
     ensures ascending { IfSome result (λ found. IsMap K.cmp found.1.now) }
     ensures apart { IfSome result (λ found. IsApart K.cmp (spans_of found.2.now)) }
 {
@@ -105,7 +103,7 @@ pub(crate) fn are_ranges<K: Ord>(ranges: &[(K, K)]) -> bool
 /// Whether a range starts behind the end of the one before it, where there is one.
 fn begins_behind<K: Ord>(ranges: &[(K, K)], i: usize) -> bool
     requires { i < length ranges.now }
-    ensures behind { (j : ℕ) (d : K × K) → suc j ≡ i → below K.cmp (slice_index_or ranges.now j d).1 (slice_index_or ranges.now i d).0 ≡ result }
+    ensures behind { BeginsBehind K.cmp ranges.now i result }
     ensures first { i ≡ 0 → result ≡ true }
 {
     i == 0 || is_below(&ranges[i - 1].1, &ranges[i].0)

@@ -2,12 +2,10 @@
 ghost use Rattle.std.specs.Prelude.{◌≡◌, ◌↔◌, IsSome, IfSome, IfOk, IfErr, OnOk, IsTrue};
 ghost use Rattle.key_order.specs.Map.{IsMap, rows_in};
 ghost use Rattle.key_order.specs.Join.{IsJoin};
-ghost use Rattle.merkle_diff.specs.PageRangeSnapshot.{snapshot_entries};
 ghost use Rattle.merkle_tree_theory.specs.Hashed.{hashed_tree};
 ghost use Rattle.merkle_tree_theory.specs.State.{SameSettings};
 ghost use Rattle.merkle_replica.specs.Answers.{spans_of};
-ghost use Rattle.merkle_replica.specs.Contents.{side};
-ghost use Rattle.merkle_replica.specs.Steps.{AreRanges, IsAnswerTo, IsJoinRefused};
+ghost use Rattle.merkle_replica.specs.Steps.{AreRanges, IsJoinRefused, MayAskOf};
 
 use crate::join::Join;
 use crate::lawful::Lawful;
@@ -52,7 +50,7 @@ impl<K: Key + Drop, V: Join + Drop, H: Hasher<N, K> + Hasher<N, V>, const N: usi
         &mut self,
         theirs: &PageRangeSnapshot<K>,
     ) -> Result<Vec<(K, K)>, AllocError>
-        ensures answer { IfOk result (λ ranges. IsAnswerTo ⟦<H as Lawful<N, K, V>>⟧.laws (side self.old) (snapshot_entries theirs.now) (spans_of ranges.items)) }
+        ensures answer { IfOk result (λ ranges. MayAskOf ⟦<H as Lawful<N, K, V>>⟧.laws self.old theirs.now ranges.items) }
         ensures rows { self.new.rows ≡ self.old.rows }
 
         // The tree is hashed, whatever it answers.

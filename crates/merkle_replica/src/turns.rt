@@ -1,11 +1,7 @@
 //! Pulls by turns, by which two replicas come to hold the join of their maps.
-ghost use Rattle.std.specs.Prelude.{◌≡◌, ◌<◌, ◌≤◌, List, IfOk, IfErr, map, length};
+ghost use Rattle.std.specs.Prelude.{◌≡◌, ◌<◌, IfOk, IfErr, length};
 ghost use Rattle.merkle_tree_theory.specs.State.{SameSettings};
-ghost use Rattle.merkle_replica.specs.Contents.{Side, side};
-ghost use Rattle.merkle_replica.specs.Pulls.{IsByTurns, HoldTheJoin};
-ghost use Rattle.merkle_replica.specs.Faithful.{AllFaithful};
-ghost use Rattle.merkle_replica.specs.Answers.{answer_of, StopsByTurns};
-ghost use Rattle.merkle_replica.specs.ByTurns.{IsTurn, IsTurnRefused};
+ghost use Rattle.merkle_replica.specs.ByTurns.{IsTurn, IsTurnRefused, HavePulledByTurns, StopInTurns};
 
 use crate::join::Join;
 use crate::lawful::Lawful;
@@ -30,8 +26,8 @@ fn turn<K: Key + Drop, V: Join + Drop, H: Hasher<N, K> + Hasher<N, V>, const N: 
     b: &mut Replica<K, V, H, N>,
     a_pulls: bool,
 ) -> Result<Pulled<K>, PullError<K>>
-    ensures done { IfOk result (λ pulled. IsTurn ⟦<H as Lawful<N, K, V>>⟧.laws a_pulls a.old b.old (answer_of pulled) a.new.rows b.new.rows) }
-    ensures refused { IfErr result (λ fault. IsTurnRefused ⟦<H as Lawful<N, K, V>>⟧.laws a_pulls a.old b.old fault a.new.rows b.new.rows) }
+    ensures done { IfOk result (IsTurn ⟦<H as Lawful<N, K, V>>⟧.laws a_pulls a.old b.old a.new b.new) }
+    ensures refused { IfErr result (IsTurnRefused ⟦<H as Lawful<N, K, V>>⟧.laws a_pulls a.old b.old a.new b.new) }
     ensures a_settings { SameSettings a.old.tree a.new.tree }
     ensures b_settings { SameSettings b.old.tree b.new.tree }
 {
@@ -68,13 +64,10 @@ pub fn pull_by_turns<K: Key + Drop, V: Join + Drop, H: Hasher<N, K> + Hasher<N, 
 
     // The pulls by turns were made, and, convergence: where digests are faithful in the sides that were met, four turns or more leave
     // both with the join of their maps, whatever their hashers, level bases and page formats.
-    ensures turns { let laws = ⟦<H as Lawful<N, K, V>>⟧.laws in IfOk result (λ pulled. (met : List (Side K V H × Side K V H))
-        × IsByTurns laws (map answer_of pulled.items) (side a.old) (side b.old) a.new.rows b.new.rows met
-        × (AllFaithful laws met → 4 ≤ n → HoldTheJoin laws (side a.old) (side b.old) a.new.rows b.new.rows)) }
+    ensures turns { IfOk result (HavePulledByTurns ⟦<H as Lawful<N, K, V>>⟧.laws a.old b.old a.new b.new n) }
 
     // Stopped, it has made the pulls of `finished`, and then stands what the fault says.
-    ensures stopped { IfErr result (λ error. StopsByTurns ⟦<H as Lawful<N, K, V>>⟧.laws error.finished.items error.fault
-        (side a.old) (side b.old) a.new.rows b.new.rows) }
+    ensures stopped { IfErr result (StopInTurns ⟦<H as Lawful<N, K, V>>⟧.laws a.old b.old a.new b.new) }
     ensures fewer { IfErr result (λ error. length error.finished.items < n) }
 
     ensures a_settings { SameSettings a.old.tree a.new.tree }

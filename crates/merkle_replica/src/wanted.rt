@@ -1,10 +1,8 @@
 //! The keys that are wanted of a peer, in order, and copies of its rows at them.
-ghost use Rattle.std.specs.Prelude.{◌≡◌, ◌<◌, ℕ, suc, true, length, slice_index_or, IfOk, Some};
-ghost use denote.Ref.{Bor};
+ghost use Rattle.std.specs.Prelude.{◌≡◌, ◌<◌, true, length, IfOk};
 ghost use Rattle.std.specs.List.{AllByRecursion};
-ghost use Rattle.key_order.specs.Order.{Same, below};
 ghost use Rattle.key_order.specs.Map.{IsPresent, get};
-ghost use Rattle.merkle_replica.specs.CatchUp.{AreCopies, IsOnceEach, NoneFalls};
+ghost use Rattle.merkle_replica.specs.CatchUp.{AreCopies, IsAboveLast, IsCopyAt, IsOnceEach, NoneFalls};
 ghost use Rattle.merkle_replica.specs.Descent.{keys_of};
 
 use crate::join::Join;
@@ -49,7 +47,7 @@ fn once_each<'a, K: Ord>(alloc: Global, sorted: &[&'a K]) -> Result<Vec<&'a K>, 
 /// Whether the key at the place is above the one before it, or there is none before it.
 fn begins_anew<K: Ord>(sorted: &[&K], i: usize) -> bool
     requires { i < length sorted.now }
-    ensures above { (j : ℕ) (d : Bor K) → suc j ≡ i → below K.cmp (slice_index_or sorted.now j d).now (slice_index_or sorted.now i d).now ≡ result }
+    ensures above { IsAboveLast K.cmp sorted.now i result }
     ensures first { i ≡ 0 → result ≡ true }
 {
     i == 0 || is_below(sorted[i - 1], sorted[i])
@@ -76,7 +74,7 @@ impl<K: Key + Drop, V: Join + Drop, H: Hasher<N, K> + Hasher<N, V>, const N: usi
     /// A copy of the row at a key that is there.
     fn copy_at(&self, key: &K) -> Result<(K, V), AllocError>
         requires there { IsPresent (get K.cmp self.now.rows key.now) }
-        ensures { IfOk result (λ copy. Same K.cmp copy.0 key.now × ((value : V) × (get K.cmp self.now.rows key.now ≡ Some value) × (V.eq copy.1 value ≡ true))) }
+        ensures { IfOk result (IsCopyAt K.cmp V.eq self.now.rows key.now) }
     {
         let row = match self.row_at(key) {
             Some(row) => row,

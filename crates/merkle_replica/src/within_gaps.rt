@@ -1,12 +1,10 @@
 //! Whether items that came over a wire lie within the gaps that were asked for.
 
 ghost use Rattle.std.specs.Prelude.{◌≡◌, ◌↔◌, IsTrue};
-ghost use Rattle.key_order.specs.Order.{AnyByRecursion};
-ghost use Rattle.merkle_tree_theory.specs.Gap.{IsInGap, is_after, is_before, is_in_gap};
-ghost use Rattle.merkle_tree_theory.specs.Outline.{HasItemAt};
+ghost use Rattle.merkle_tree_theory.specs.Gap.{is_after, is_before, is_in_gap};
 ghost use Rattle.merkle_search_tree.specs.Items.{bound_of, gap_of, item as item_of, items};
 ghost use Rattle.merkle_replica.specs.Descent.{gaps_of};
-ghost use Rattle.merkle_replica.specs.LieWithin.{StartsWithin, EndsWithin, AreInOrder, IsBoundUpto, IsPart, IsWithin, Precedes, Rise, AreWithin, LieWithin};
+ghost use Rattle.merkle_replica.specs.LieWithin.{StartsWithin, EndsWithin, AreInOrder, IsBoundUpto, IsPart, IsWithin, Precedes, Rise, AreWithin, LieWithin, KeysLieWithin};
 
 use crate::seek::{is_below, is_upto};
 use merkle_search_tree::{Gap, OutlineItem, OutlineItemOf};
@@ -36,7 +34,7 @@ pub fn lie_within<K: Ord, const N: usize>(
     ensures exactly { IsTrue result ↔ LieWithin K.cmp (gaps_of gaps.now) (items came.now) }
 
     // Each key of a node and each key in the gap of a page is then in one of the gaps.
-    ensures keys { IsTrue result → (k : K) → AnyByRecursion (HasItemAt K.cmp k) (items came.now) → AnyByRecursion (IsInGap K.cmp k) (gaps_of gaps.now) }
+    ensures keys { IsTrue result → KeysLieWithin K.cmp (gaps_of gaps.now) (items came.now) }
 {
     rise(came) && are_within(gaps, came)
 }

@@ -37,7 +37,7 @@ returns-then-is_err-clause-cut g c =
     let i = c.joining.invariant in
     let same = refused c.join_here.result (sym c.is_err.ensures.value ∙ c.if-is_err.true) c.join_here.ensures.unchanged in
     let steps : into_iter_items c.joining.row-iterator ≡ c.in-Some.row ∷ into_iter_items c.next.new.self = c.in-Some.ensures.steps.0 in
-    subst (IsGatheredTo g.K.Ord.cmp g.V.PartialEq.eq g.V.Join.join_of c.args.rows.now.items c.args.theirs.items c.joining.done) (sym (c.turn_over.ensures.moved ∙ same))
+    subst (λ now. IsGatheredTo g.K.Ord.cmp g.V.PartialEq.eq g.V.Join.join_of c.args.rows.now.items c.args.theirs.items now c.joining.done) (sym (c.turn_over.ensures.moved ∙ same))
     (gathered_to g.K.Ord.cmp g.met.K.Ord.total g.V.PartialEq.eq g.V.Join.join_of c.args.rows.now.items c.joining.yielded (into_iter_items c.next.new.self) c.args.theirs.items (whole c.joining.rows.items c.joining.back.items) c.in-Some.row c.joining.done
     (rw (← steps) i.left) i.taken i.gathers i.unchanged)
 

@@ -39,4 +39,4 @@ turning-preserved g c =
 pub returns-in-Err-turn-clause-stopped : goal.returns-in-Err-turn-clause-stopped
 returns-in-Err-turn-clause-stopped g c =
     stops_here (laws_of g.K.Ord.cmp g.K.KeyBytes.bytes_of g.H.Hasher-1.digest_of g.V.PartialEq.eq g.V.Join.join_of g.H.Hasher-2.digest_of)
-    c.args.a.now c.args.b.now c.turning.a c.turning.b c.turning.all.items c.turning.a_pulls c.in-Err-turn.fault c.turn.new.a.rows c.turn.new.b.rows c.in-Err-turn.ensures.refused c.turning.invariant.goes.turns
+    c.args.a.now c.args.b.now c.turning.a c.turning.b c.turning.all.items c.turning.a_pulls c.in-Err-turn.fault c.turn.new.a c.turn.new.b c.in-Err-turn.ensures.refused c.turning.invariant.goes.turns

@@ -63,5 +63,5 @@ returns-in-Err-join_sparse-clause-refused g c =
       keys,
       counted,
       partly_caught_up laws o local peer g.met.V.Eq.laws g.met.V.Join.joining keys c.in-Ok.found.0.items c.rows_ascend-2.ensures ascending found are c.in-Err-join_sparse.done c.join_sparse.new.self.rows c.in-Err-join_sparse.done-test.1
-          (subst (λ rows. IsGatheredTo laws.cmp laws.eq laws.join rows c.in-Ok.found.0.items c.in-Err-join_sparse.done c.join_sparse.new.self.rows) c.hash.ensures.rows c.in-Err-join_sparse.ensures.cut),
+          (subst (λ rows. IsGatheredTo laws.cmp laws.eq laws.join rows c.in-Ok.found.0.items c.join_sparse.new.self.rows c.in-Err-join_sparse.done) c.hash.ensures.rows c.in-Err-join_sparse.ensures.cut),
     )

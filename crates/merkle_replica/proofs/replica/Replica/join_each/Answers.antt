@@ -25,7 +25,7 @@ returns-then-is_err-clause-cut g c =
     let i = c.joining.invariant in
     let same = refused c.put.result (sym c.is_err.ensures.value ∙ c.if-is_err.true) c.put.ensures.unchanged in
     let steps : into_iter_items c.joining.row-iterator ≡ c.in-Some.row ∷ into_iter_items c.next.new.self = c.in-Some.ensures.steps.0 in
-    subst (λ (v : Contents g.row.K.Denot g.row.V.Denot g.row.H.Denot). IsGatheredTo g.K.Ord.cmp g.V.PartialEq.eq g.V.Join.join_of c.args.self.now.rows c.args.theirs.items c.joining.done v.rows) (sym same)
+    subst (λ (v : Contents g.row.K.Denot g.row.V.Denot g.row.H.Denot). IsGatheredTo g.K.Ord.cmp g.V.PartialEq.eq g.V.Join.join_of c.args.self.now.rows c.args.theirs.items v.rows c.joining.done) (sym same)
     (gathered_to g.K.Ord.cmp g.met.K.Ord.total g.V.PartialEq.eq g.V.Join.join_of c.args.self.now.rows c.joining.yielded (into_iter_items c.next.new.self) c.args.theirs.items c.joining.self.rows c.in-Some.row c.joining.done
     (rw (← steps) i.left) i.taken i.gathers i.unchanged)
 
