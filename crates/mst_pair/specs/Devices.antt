@@ -1,6 +1,6 @@
 -- What a device tells of its bytes before and after a call. `None`: it tells nothing.
-use Rattle.std.specs.Prelude.{◌≡◌, ℕ, List, ◌++◌, Option, None, Some, Bool, true, ⊤, Result, Ok, Err}
-use Rattle.std.specs.Io.KnownBytes.{Appends}
+use Rattle.std.specs.Prelude.{◌≡◌, ℕ, List, ◌++◌, take, Option, None, Some, Bool, true, ⊤, ◌⊎◌, Result, Ok, Err}
+use Rattle.std.specs.Io.KnownBytes.{Appends, Consumes}
 use Rattle.mst_pair.specs.declared.sink.ToWrite.{ToWrite}
 use Rattle.mst_pair.specs.declared.source.FromRead.{FromRead}
 
@@ -34,6 +34,21 @@ writer_inside sink = sink.inner
 abbrev pub MarksFailure : {A E : Type 0} → Result A E → Bool → Bool → Type 0
 MarksFailure (Ok x) old new = new ≡ old
 MarksFailure (Err e) old new = new ≡ true
+
+-- so does a call that leads from one state of a device to another, of which this says whether they have failed
+abbrev pub MarksFailed : {D A E : Type 0} → (D → Bool) → D → D → Result A E → Type 0
+MarksFailed has_failed old new result = MarksFailure result (has_failed old) (has_failed new)
+
+-- the writer in a sink took the first n of these bytes, and the reader in a source gave them up
+abbrev pub WriterTakes : {W : Type 0} → (W → Option (List ℕ)) → ToWrite W → ToWrite W → List ℕ → ℕ → Type 0
+WriterTakes contents old new bytes n = Appends (contents (writer_inside old)) (contents (writer_inside new)) (take n bytes)
+
+abbrev pub ReaderGives : {R : Type 0} → (R → Option (List ℕ)) → FromRead R → FromRead R → List ℕ → ℕ → Type 0
+ReaderGives remaining old new bytes n = Consumes (remaining (reader_inside old)) (remaining (reader_inside new)) (take n bytes)
+
+-- the sink had failed before, or its writer may refuse the call
+abbrev pub FailedOrRefuses : {W : Type 0} → (ToWrite W → Bool) → (W → W → Type 0) → ToWrite W → ToWrite W → Type 0
+FailedOrRefuses has_failed may_refuse old new = (has_failed old ≡ true) ⊎ may_refuse (writer_inside old) (writer_inside new)
 
 -- a beginning of bs was written
 abbrev pub WritesPart : Option (List ℕ) → Option (List ℕ) → List ℕ → Type 0

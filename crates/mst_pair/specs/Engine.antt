@@ -6,12 +6,13 @@ use Rattle.merkle_digest.specs.Digest.{base64_of}
 use Rattle.merkle_diff.specs.Entry.{span_of}
 use Rattle.merkle_tree_theory.specs.declared.page_format.PageFormat.{PageFormat}
 use Rattle.mst_pair.specs.Devices.{Writes}
-use Rattle.mst_pair.specs.Pages.{page_ranges, root_digest, text_laws, side_of}
-use Rattle.merkle_replica.specs.Contents.{Side}
+use Rattle.mst_pair.specs.Pages.{HasDefaults, page_ranges, root_digest, text_laws, side_of}
+use Rattle.merkle_replica.specs.Contents.{Contents, Side}
 use Rattle.merkle_replica.specs.Pulls.{Answer, IsAnswerFor, IsPull, IsPartOfPull, IsByTurns}
 use Rattle.mst_pair.specs.Replies.{text_line, rows_text, ranges_text, pull_text, turns_text}
 use Rattle.mst_pair.specs.Requests.{Request, put, del, keys, root, pages, diff, pull, same, turns, set_format, IsSpelled, IsBad}
 use Rattle.mst_pair.specs.Replicas.{TextRow, Replicas, HasNoRow, rows, other_rows, JoinsRow, DeletesRow}
+use Rattle.mst_pair.specs.declared.engine.ReplicaName.{ReplicaName}
 
 -- ranges that local may ask of the peer: they meet the laws of `diff` on the page ranges of both
 abbrev pub AreRangesToAsk : PageFormat → List TextRow → List TextRow → List (Span Text) → Type 0
@@ -39,6 +40,22 @@ StopsAfter format (answer ∷ answers) local peer local' peer' = (after : List T
 -- memory was refused to d pulls by turns, local first: fewer whole pulls were made, and then one stopped
 abbrev pub StopsInTurns : PageFormat → ℕ → List TextRow → List TextRow → List TextRow → List TextRow → Type 0
 StopsInTurns format d local peer local' peer' = (answers : List (Answer Text)) × (length answers < d) × StopsAfter format answers local peer local' peer'
+
+-- the replica of that name may ask the other for these ranges
+abbrev pub MayAsk : Replicas → ReplicaName → List (Span Text) → Type 0
+MayAsk s name = AreRangesToAsk s.format (rows s name) (other_rows s name)
+
+-- it pulled from the other, with this answer
+abbrev pub HasPulled : Replicas → ReplicaName → Replicas → Answer Text → Type 0
+HasPulled old name new answer = Pulls old.format (rows old name) (other_rows old name) answer (rows new name)
+
+-- memory was refused to its pull
+abbrev pub StopsInPull : Replicas → ReplicaName → Replicas → Type 0
+StopsInPull old name new = StopsPulling old.format (rows old name) (other_rows old name) (rows new name)
+
+-- the replicas pulled from each other by turns, a first, with these answers
+abbrev pub HavePulledByTurns : Replicas → Replicas → List (Answer Text) → Type 0
+HavePulledByTurns old new answers = TakesTurns old.format answers old.a old.b new.a new.b
 
 -- the reply where memory was refused
 abbrev pub no_memory : List ℕ
@@ -92,6 +109,10 @@ Step old line reply new = ((q : Request) × IsSpelled q line × Answers old q re
 abbrev pub WritesPages : {A E : Type 0} → PageFormat → List TextRow → Result A E → Option (List ℕ) → Option (List ℕ) → Type 0
 WritesPages format shown result taken taken' =
     (reply : List ℕ) × ((reply ≡ ranges_text (map span_of (page_ranges format shown))) ⊎ (reply ≡ no_memory)) × Writes result taken taken' reply
+
+-- it does so of a replica, by its own rows
+abbrev pub WritesItsPages : {A E : Type 0} → Contents Text ℕ (List ℕ) → Result A E → Option (List ℕ) → Option (List ℕ) → Type 0
+WritesItsPages c result taken taken' = (format : PageFormat) → HasDefaults format c → WritesPages format c.rows result taken taken'
 
 -- from old, a call carries out a request to new, and writes the reply
 abbrev pub CarriesOut : {A E : Type 0} → Replicas → Request → Replicas → Result A E → Option (List ℕ) → Option (List ℕ) → Type 0

@@ -1,4 +1,5 @@
 pub mod Devices
+pub mod Sources
 pub mod Lines
 pub mod Replicas
 pub mod Requests

@@ -54,3 +54,7 @@ HasItsRoot format c = page_digest c.tree.format string_bytes c.tree.root ≡ roo
 
 abbrev pub ShowsItsPages : PageFormat → Contents Text ℕ (List ℕ) → Type 0
 ShowsItsPages format c = ranges_text (map span_of (ranges_of c.tree.format string_bytes c.tree.root)) ≡ ranges_text (map span_of (page_ranges format c.rows))
+
+-- the digest is that of the root page of the replica's rows, in its page format, where it has the default hasher and level base
+abbrev pub IsItsRoot : Contents Text ℕ (List ℕ) → List ℕ → Type 0
+IsItsRoot c digest = (format : PageFormat) → HasDefaults format c → digest ≡ root_digest format c.rows

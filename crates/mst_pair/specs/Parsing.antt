@@ -1,9 +1,11 @@
 -- What the parser's functions tell of a line.
-use Rattle.std.specs.Prelude.{◌≡◌, ◌≤◌, ◌==◌, ℕ, List, [], ◌∷◌, codes, false}
+use Rattle.std.specs.Prelude.{◌≡◌, ◌≢◌, ◌≤◌, ◌==◌, ℕ, List, [], ◌∷◌, ◌++◌, codes, false, Option, MatchOption}
+use denote.Ref.{Bor}
 use Rattle.std.specs.List.{list_any}
 use Rattle.mst_pair.specs.Requests.{Request, put, del, keys, root, pages, diff, pull, same, turns, set_format, IsKey, IsNumber, name_text, format_text, digit, space, fields}
 use Rattle.mst_pair.specs.declared.parse.Command.{Command}
 use Rattle.mst_pair.specs.declared.parse.Command.TheVariants as commands
+use Rattle.merkle_tree_theory.specs.declared.page_format.PageFormat.{PageFormat}
 
 -- what a command asks for
 abbrev pub request_of : Command → Request
@@ -38,3 +40,24 @@ IsSpelledBy (pull name) word arguments = (word ≡ codes "pull") × (arguments �
 IsSpelledBy same word arguments = ⊥
 IsSpelledBy (turns d) word arguments = (word ≡ codes "turns") × (d ≤ 9) × (arguments ≡ digit d ∷ [])
 IsSpelledBy (set_format format) word arguments = (word ≡ codes "format") × (arguments ≡ format_text format)
+
+-- the command asks for the request that the word and the arguments spell; there is none where they spell none
+abbrev pub ReadsRequest : List ℕ → List ℕ → Option Command → Type 0
+ReadsRequest word arguments found =
+    MatchOption found ((q : Request) → IsSpelledBy q word arguments → ⊥) (λ c. IsSpelledBy (request_of c) word arguments)
+
+-- the number below 10 that the text spells, where it spells one
+abbrev pub ReadsDigit : List ℕ → Option ℕ → Type 0
+ReadsDigit text found = MatchOption found ((d : ℕ) → d ≤ 9 → text ≢ digit d ∷ []) (λ d. (d ≤ 9) × (text ≡ digit d ∷ []))
+
+-- what stands before the first space and behind it, where there is one
+abbrev pub ReadsField : List ℕ → Option (Bor (List ℕ) × Bor (List ℕ)) → Type 0
+ReadsField text found = MatchOption found (HasNoSpace text) (λ parts. HasNoSpace parts.0.now × (text ≡ parts.0.now ++ space ∷ parts.1.now))
+
+-- the page format that the text spells, where it spells one
+abbrev pub ReadsFormat : List ℕ → Option PageFormat → Type 0
+ReadsFormat text found = MatchOption found ((format : PageFormat) → text ≢ format_text format) (λ format. text ≡ format_text format)
+
+-- the key and the number that the text spells, where it spells them
+abbrev pub ReadsRow : List ℕ → Option (Bor (List ℕ) × ℕ) → Type 0
+ReadsRow text found = MatchOption found ((key : List ℕ) (n : ℕ) → IsRowText text key n → ⊥) (λ row. IsRowText text row.0.now row.1)

@@ -5,6 +5,7 @@ use Rattle.mst_pair.specs.Devices.{AppendsOrHides}
 use Rattle.mst_pair.specs.Lines.{parts, whole_lines, lines_of}
 use Rattle.mst_pair.specs.Replicas.{Replicas, start}
 use Rattle.mst_pair.specs.Run.{Run, Replies, RepliesCut}
+use Rattle.mst_pair.specs.declared.session.Session.{Session}
 
 -- how many bytes of a line are kept
 abbrev pub kept_bytes : ℕ
@@ -26,9 +27,10 @@ Finishes (Ok x) input written taken taken' = (more : List ℕ) × Appends taken 
 Finishes (Err e) input written taken taken' = (more : List ℕ) × AppendsOrHides taken taken' more × RepliesCut (lines_of input) (written ++ more)
 
 -- from a state that an input reached, these bytes more are taken
-abbrev pub Feeds : {A E : Type 0} → Replicas → List ℕ → List ℕ → Result A E → Option (List ℕ) → Option (List ℕ) → Replicas → List ℕ → Type 0
-Feeds old kept bytes result taken taken' new kept' = (input written : List ℕ) → Reached input written old kept → GoesOn result (input ++ bytes) written taken taken' new kept'
+abbrev pub Feeds : {A E : Type 0} → Session → List ℕ → Result A E → Option (List ℕ) → Option (List ℕ) → Session → Type 0
+Feeds old bytes result taken taken' new =
+    (input written : List ℕ) → Reached input written old.engine old.line → GoesOn result (input ++ bytes) written taken taken' new.engine new.line
 
 -- from such a state the input is at its end
-abbrev pub Ends : {A E : Type 0} → Replicas → List ℕ → Result A E → Option (List ℕ) → Option (List ℕ) → Type 0
-Ends old kept result taken taken' = (input written : List ℕ) → Reached input written old kept → Finishes result input written taken taken'
+abbrev pub Ends : {A E : Type 0} → Session → Result A E → Option (List ℕ) → Option (List ℕ) → Type 0
+Ends old result taken taken' = (input written : List ℕ) → Reached input written old.engine old.line → Finishes result input written taken taken'

@@ -1,7 +1,7 @@
 //! The engine: two replicas, and what the lines do to them.
 ghost use Rattle.std.specs.Prelude.{◌≡◌, ◌↔◌, [], if◌then◌else◌, map, length, OnOk, OnErr, IfOk, IsTrue};
 ghost use Rattle.merkle_replica.specs.Answers.{spans_of, answer_of};
-ghost use Rattle.mst_pair.specs.Engine.{AreRangesToAsk, Pulls, StopsPulling, TakesTurns, StopsInTurns};
+ghost use Rattle.mst_pair.specs.Engine.{MayAsk, HasPulled, StopsInPull, HavePulledByTurns, StopsInTurns};
 ghost use Rattle.mst_pair.specs.Pages.{root_digest};
 ghost use Rattle.mst_pair.specs.Replicas.{Replicas, start, rows, other_rows, HasNoRow, JoinsRow, DeletesRow};
 
@@ -119,7 +119,7 @@ impl Engine {
 
     /// The ranges of keys that a replica may ask the other for.
     pub fn ranges_to_ask(&mut self, name: ReplicaName) -> Result<Vec<(String, String)>, AllocError>
-        ensures ranges { IfOk result (λ found. AreRangesToAsk self.old.format (rows self.old name) (other_rows self.old name) (spans_of found.items)) }
+        ensures ranges { IfOk result (λ found. MayAsk self.old name (spans_of found.items)) }
         ensures same { self.new ≡ self.old }
     {
         match name {
@@ -130,8 +130,8 @@ impl Engine {
 
     /// Has a replica pull from the other.
     pub fn pull(&mut self, name: ReplicaName) -> Result<Pulled<String>, PullError<String>>
-        ensures ok { IfOk result (λ pulled. Pulls self.old.format (rows self.old name) (other_rows self.old name) (answer_of pulled) (rows self.new name)) }
-        ensures err { OnErr result (StopsPulling self.old.format (rows self.old name) (other_rows self.old name) (rows self.new name)) }
+        ensures ok { IfOk result (λ pulled. HasPulled self.old name self.new (answer_of pulled)) }
+        ensures err { OnErr result (StopsInPull self.old name self.new) }
         ensures other { other_rows self.new name ≡ other_rows self.old name }
         ensures format { self.new.format ≡ self.old.format }
     {
@@ -153,7 +153,7 @@ impl Engine {
     pub fn take_turns(&mut self, count: u8) -> Result<Vec<Pulled<String>>, TurnsError<String>>
         ensures length { IfOk result (λ all. length all.items ≡ count) }
         ensures format { self.new.format ≡ self.old.format }
-        ensures ok { IfOk result (λ all. TakesTurns self.old.format (map answer_of all.items) self.old.a self.old.b self.new.a self.new.b) }
+        ensures ok { IfOk result (λ all. HavePulledByTurns self.old self.new (map answer_of all.items)) }
         ensures err { OnErr result (StopsInTurns self.old.format count self.old.a self.old.b self.new.a self.new.b) }
     {
         pull_by_turns(self.alloc, &mut self.a, &mut self.b, usize::from(count))

@@ -1,10 +1,8 @@
 //! What a line asks for.
-ghost use Rattle.std.specs.Prelude.{◌≡◌, ◌≢◌, ◌++◌, ◌∷◌, ℕ, List, IfSome, IfNone, MatchOption, IsTrue, ◌↔◌};
-ghost use Rattle.std.specs.Prelude.{◌≤◌, [], codes};
-ghost use Rattle.mst_pair.specs.Requests.{Request, IsSpelled, IsBad, name_text, format_text, digit, IsKey, space};
-ghost use Rattle.mst_pair.specs.Parsing.{request_of, IsSpelledBy, IsRowText, HasNoSpace};
+ghost use Rattle.std.specs.Prelude.{◌≡◌, ◌≢◌, IfSome, IfNone, MatchOption, IsTrue, ◌↔◌, codes};
+ghost use Rattle.mst_pair.specs.Requests.{IsSpelled, IsBad, name_text, IsKey};
+ghost use Rattle.mst_pair.specs.Parsing.{request_of, ReadsRequest, ReadsDigit, ReadsField, ReadsFormat, ReadsRow};
 ghost use Rattle.mst_pair.specs.declared.engine.ReplicaName.{ReplicaName as NameOf};
-ghost use Rattle.merkle_tree_theory.specs.declared.page_format.PageFormat.{PageFormat as FormatOf};
 
 use crate::engine::ReplicaName;
 use crate::number::number_of;
@@ -52,7 +50,7 @@ pub fn parse(line: &[u8]) -> Option<Command<'_>>
 
 /// What a word with arguments asks for.
 fn command_of<'a>(word: &[u8], arguments: &'a [u8]) -> Option<Command<'a>>
-    ensures { MatchOption result ((q : Request) → IsSpelledBy q word.now arguments.now → ⊥) (λ c. IsSpelledBy (request_of c) word.now arguments.now) }
+    ensures { ReadsRequest word.now arguments.now result }
 {
     if is_word(word, b"put") {
         return put_of(arguments);
@@ -84,7 +82,7 @@ fn command_of<'a>(word: &[u8], arguments: &'a [u8]) -> Option<Command<'a>>
 
 /// The row that is to be joined, and its replica.
 fn put_of(arguments: &[u8]) -> Option<Command<'_>>
-    ensures { MatchOption result ((q : Request) → IsSpelledBy q (codes "put") arguments.now → ⊥) (λ c. IsSpelledBy (request_of c) (codes "put") arguments.now) }
+    ensures { ReadsRequest (codes "put") arguments.now result }
 {
     let (name, rest) = first_field(arguments)?;
     let name = name_of(name)?;
@@ -94,7 +92,7 @@ fn put_of(arguments: &[u8]) -> Option<Command<'_>>
 
 /// The key whose row is to be taken out, and its replica.
 fn del_of(arguments: &[u8]) -> Option<Command<'_>>
-    ensures { MatchOption result ((q : Request) → IsSpelledBy q (codes "del") arguments.now → ⊥) (λ c. IsSpelledBy (request_of c) (codes "del") arguments.now) }
+    ensures { ReadsRequest (codes "del") arguments.now result }
 {
     let (name, rest) = first_field(arguments)?;
     let name = name_of(name)?;
@@ -104,7 +102,7 @@ fn del_of(arguments: &[u8]) -> Option<Command<'_>>
 
 /// The number below 10 that one digit spells.
 fn digit_of(text: &[u8]) -> Option<u8>
-    ensures { MatchOption result ((d : ℕ) → d ≤ 9 → text.now ≢ digit d ∷ []) (λ d. (d ≤ 9) × (text.now ≡ digit d ∷ [])) }
+    ensures { ReadsDigit text.now result }
 {
     if text.len() != 1 || !text[0].is_ascii_digit() {
         return None;
@@ -120,7 +118,7 @@ fn is_word(text: &[u8], word: &[u8]) -> bool
 
 /// What stands before the first space, and what stands behind it.
 fn first_field(text: &[u8]) -> Option<(&[u8], &[u8])>
-    ensures { MatchOption result (HasNoSpace text.now) (λ parts. HasNoSpace parts.0.now × (text.now ≡ parts.0.now ++ space ∷ parts.1.now)) }
+    ensures { ReadsField text.now result }
 {
     'finding: for (at, byte) in text.iter().enumerate() {
         if *byte == b' ' {
@@ -143,7 +141,7 @@ fn name_of(text: &[u8]) -> Option<ReplicaName>
 }
 
 fn format_of(text: &[u8]) -> Option<PageFormat>
-    ensures { MatchOption result ((format : FormatOf) → text.now ≢ format_text format) (λ format. text.now ≡ format_text format) }
+    ensures { ReadsFormat text.now result }
 {
     if is_word(text, b"1") {
         Some(PageFormat::V1)
@@ -155,7 +153,7 @@ fn format_of(text: &[u8]) -> Option<PageFormat>
 }
 
 fn row_of(text: &[u8]) -> Option<(&str, u64)>
-    ensures { MatchOption result ((key : List ℕ) (n : ℕ) → IsRowText text.now key n → ⊥) (λ row. IsRowText text.now row.0.now row.1) }
+    ensures { ReadsRow text.now result }
 {
     let (key, digits) = first_field(text)?;
     let key = key_of(key)?;

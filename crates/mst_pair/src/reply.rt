@@ -6,7 +6,7 @@ ghost use Rattle.merkle_digest.specs.Digest.{base64_of};
 ghost use Rattle.merkle_tree_theory.specs.declared.page_format.PageFormat.{PageFormat};
 ghost use Rattle.merkle_replica.specs.Answers.{answer_of};
 ghost use Rattle.mst_pair.specs.Devices.{Writes, Passes, MarksFailure};
-ghost use Rattle.mst_pair.specs.Engine.{no_memory, WritesPages};
+ghost use Rattle.mst_pair.specs.Engine.{no_memory, WritesItsPages};
 ghost use Rattle.mst_pair.specs.Pages.{HasDefaults};
 ghost use Rattle.mst_pair.specs.Replies.{text_line, end_line, row_text, range_text, joined_text, pull_text};
 
@@ -113,8 +113,7 @@ pub fn write_pull<W: Sink>(pulled: &Pulled<String>, writer: &mut W) -> Result<()
 
 /// Writes the range of each page of a replica, and the line `end`. Pages that lack a digest get it.
 pub fn write_pages<W: Sink>(replica: &mut TextReplica, writer: &mut W) -> Result<(), Failed>
-    ensures bytes { (format : PageFormat) → HasDefaults format replica.old
-        → WritesPages format replica.old.rows result (W.taken writer.old) (W.taken writer.new) }
+    ensures bytes { WritesItsPages replica.old result (W.taken writer.old) (W.taken writer.new) }
     ensures failed { MarksFailure result (W.has_failed writer.old) (W.has_failed writer.new) }
     ensures rows { replica.new.rows ≡ replica.old.rows }
     ensures defaults { (format : PageFormat) → HasDefaults format replica.old → HasDefaults format replica.new }

@@ -28,7 +28,7 @@ impl Session {
 
     /// Takes more of the input, and answers each line that is whole with it.
     pub fn feed<W: Sink>(&mut self, bytes: &[u8], writer: &mut W) -> Result<(), Failed>
-        ensures bytes { Feeds self.old.engine self.old.line bytes.now result (W.taken writer.old) (W.taken writer.new) self.new.engine self.new.line }
+        ensures bytes { Feeds self.old bytes.now result (W.taken writer.old) (W.taken writer.new) self.new }
         ensures failed { MarksFailure result (W.has_failed writer.old) (W.has_failed writer.new) }
     {
         'taking: for byte in bytes {
@@ -44,7 +44,7 @@ impl Session {
 
     /// Answers the last line, if it has a byte, and flushes the writer.
     pub fn finish<W: Sink>(&mut self, writer: &mut W) -> Result<(), Failed>
-        ensures bytes { Ends self.old.engine self.old.line result (W.taken writer.old) (W.taken writer.new) }
+        ensures bytes { Ends self.old result (W.taken writer.old) (W.taken writer.new) }
         ensures flushed { OnOk result (W.is_flushed writer.new ≡ true) }
         ensures failed { MarksFailure result (W.has_failed writer.old) (W.has_failed writer.new) }
     {

@@ -1,7 +1,7 @@
 //! What a run writes to.
-ghost use Rattle.std.specs.Prelude.{◌≡◌, ℕ, ◌<◌, ◌≤◌, List, Option, Bool, true, false, ◌⊎◌, OnOk, OnErr, IfOk, length, take};
+ghost use Rattle.std.specs.Prelude.{◌≡◌, ℕ, ◌<◌, ◌≤◌, List, Option, Bool, true, false, OnOk, OnErr, IfOk, length, take};
 ghost use Rattle.std.specs.Io.KnownBytes.{Appends, Keeps};
-ghost use Rattle.mst_pair.specs.Devices.{KeepsOrHides, Writes, MarksFailure, writer_inside};
+ghost use Rattle.mst_pair.specs.Devices.{KeepsOrHides, Writes, MarksFailure, MarksFailed, WriterTakes, FailedOrRefuses, writer_inside};
 
 use crate::source::Failed;
 use crate::writer::Writer;
@@ -104,12 +104,12 @@ impl<W: Writer> Sink for ToWrite<W> {
     fn write(&mut self, bytes: &[u8]) -> Result<usize, Failed>
         ensures bound { IfOk result (λ n. n ≤ length bytes.now) }
         ensures some { IfOk result (λ n. 0 < length bytes.now → 0 < n) }
-        ensures bytes { IfOk result (λ n. Appends (W.contents (writer_inside self.old)) (W.contents (writer_inside self.new)) (take n bytes.now)) }
+        ensures bytes { IfOk result (WriterTakes W.contents self.old self.new bytes.now) }
         ensures error { OnErr result (Keeps (W.contents (writer_inside self.old)) (W.contents (writer_inside self.new))) }
-        ensures failed { MarksFailure result (⟦<ToWrite<W> as Sink>⟧.has_failed self.old) (⟦<ToWrite<W> as Sink>⟧.has_failed self.new) }
+        ensures failed { MarksFailed ⟦<ToWrite<W> as Sink>⟧.has_failed self.old self.new result }
 
         // It fails only where a call has failed before, or the writer refused the bytes.
-        ensures cause { OnErr result ((⟦<ToWrite<W> as Sink>⟧.has_failed self.old ≡ true) ⊎ W.may_refuse (writer_inside self.old) (writer_inside self.new)) }
+        ensures cause { OnErr result (FailedOrRefuses ⟦<ToWrite<W> as Sink>⟧.has_failed W.may_refuse self.old self.new) }
     {
         if self.failed {
             return Err(Failed);
@@ -133,10 +133,10 @@ impl<W: Writer> Sink for ToWrite<W> {
         ensures ok { OnOk result (Keeps (W.contents (writer_inside self.old)) (W.contents (writer_inside self.new))) }
         ensures flushed { OnOk result (⟦<ToWrite<W> as Sink>⟧.is_flushed self.new ≡ true) }
         ensures error { OnErr result (Keeps (W.contents (writer_inside self.old)) (W.contents (writer_inside self.new))) }
-        ensures failed { MarksFailure result (⟦<ToWrite<W> as Sink>⟧.has_failed self.old) (⟦<ToWrite<W> as Sink>⟧.has_failed self.new) }
+        ensures failed { MarksFailed ⟦<ToWrite<W> as Sink>⟧.has_failed self.old self.new result }
 
         // It fails only where a call has failed before, or the writer's flush failed.
-        ensures cause { OnErr result ((⟦<ToWrite<W> as Sink>⟧.has_failed self.old ≡ true) ⊎ W.flush_may_fail (writer_inside self.old) (writer_inside self.new)) }
+        ensures cause { OnErr result (FailedOrRefuses ⟦<ToWrite<W> as Sink>⟧.has_failed W.flush_may_fail self.old self.new) }
     {
         if self.failed {
             return Err(Failed);

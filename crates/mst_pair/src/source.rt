@@ -1,7 +1,7 @@
 //! What a run reads from.
-ghost use Rattle.std.specs.Prelude.{◌≡◌, ℕ, ◌+◌, ◌<◌, ◌≤◌, List, Option, Bool, true, false, ◌⊎◌, OnErr, IfOk, length, take};
+ghost use Rattle.std.specs.Prelude.{◌≡◌, ℕ, ◌<◌, ◌≤◌, List, Option, Bool, false, OnErr, IfOk, length, take};
 ghost use Rattle.std.specs.Io.KnownBytes.{Consumes, Keeps, IsAtEnd};
-ghost use Rattle.mst_pair.specs.Devices.{KeepsOrHides, MarksFailure, reader_inside};
+ghost use Rattle.mst_pair.specs.Devices.{KeepsOrHides, MarksFailure, MarksFailed, ReaderGives, reader_inside};
 
 use crate::reader::Reader;
 
@@ -94,6 +94,8 @@ impl<R: Reader> FromRead<R> {
 }
 
 impl<R: Reader> Source for FromRead<R> {
+    ghost use Rattle.mst_pair.specs.Sources.{FailedOrSpent, TakesRead, LeavesFewerReads};
+
     ghost left = { λ s. R.remaining s.inner };
 
     ghost reads_left = { λ s. s.reads_left };
@@ -107,19 +109,17 @@ impl<R: Reader> Source for FromRead<R> {
     /// `Failed` where the reader answers an error, a call has failed before, or no read is left. The reader then has what it had.
     fn read(&mut self, buf: &mut [u8]) -> Result<usize, Failed>
         ensures bound { IfOk result (λ n. n ≤ length buf.new) }
-        ensures bytes { IfOk result (λ n. Consumes (R.remaining (reader_inside self.old)) (R.remaining (reader_inside self.new)) (take n buf.new)) }
+        ensures bytes { IfOk result (ReaderGives R.remaining self.old self.new buf.new) }
         ensures end { IfOk result (λ n. n ≡ 0 → 0 < length buf.new → IsAtEnd (R.remaining (reader_inside self.new))) }
         ensures error { OnErr result (Keeps (R.remaining (reader_inside self.old)) (R.remaining (reader_inside self.new))) }
-        ensures failed { MarksFailure result (⟦<FromRead<R> as Source>⟧.has_failed self.old) (⟦<FromRead<R> as Source>⟧.has_failed self.new) }
+        ensures failed { MarksFailed ⟦<FromRead<R> as Source>⟧.has_failed self.old self.new result }
 
         // It fails only where a call has failed before, no read is left, or the reader's call failed.
-        ensures cause { let source = ⟦<FromRead<R> as Source>⟧ in
-            OnErr result ((source.has_failed self.old ≡ true) ⊎ (source.reads_left self.old ≡ 0) ⊎ R.may_fail (reader_inside self.old) (reader_inside self.new)) }
+        ensures cause { OnErr result (FailedOrSpent ⟦<FromRead<R> as Source>⟧ R.may_fail self.old self.new) }
 
         // Each call takes one of the reads, but where a call has failed or no read is left.
-        ensures takes { let left = ⟦<FromRead<R> as Source>⟧.reads_left in
-            ⟦<FromRead<R> as Source>⟧.has_failed self.old ≡ false → 0 < left self.old → left self.old ≡ left self.new + 1 }
-        ensures falls { IfOk result (λ n. 0 < n → ⟦<FromRead<R> as Source>⟧.reads_left self.new < ⟦<FromRead<R> as Source>⟧.reads_left self.old) }
+        ensures takes { TakesRead ⟦<FromRead<R> as Source>⟧ self.old self.new }
+        ensures falls { IfOk result (LeavesFewerReads ⟦<FromRead<R> as Source>⟧ self.old self.new) }
     {
         if self.failed || self.reads_left == 0 {
             self.failed = true;

@@ -1,7 +1,7 @@
 //! A replica of the program: a map from texts to numbers, with the default hasher and level base.
 ghost use Rattle.std.specs.Prelude.{◌≡◌};
 ghost use Rattle.merkle_tree_theory.specs.declared.page_format.PageFormat.{PageFormat};
-ghost use Rattle.mst_pair.specs.Pages.{HasDefaults, HasItsRoot, ShowsItsPages, root_digest};
+ghost use Rattle.mst_pair.specs.Pages.{HasDefaults, HasItsRoot, IsItsRoot, ShowsItsPages};
 
 use merkle_digest::{PageDigest, RootHash, SipHasher};
 use merkle_replica::Replica;
@@ -14,7 +14,7 @@ pub type TextReplica = Replica<String, u64, SipHasher, 16>;
 
 /// The root hash of a replica. Pages that lack a digest get it.
 pub fn root_hash_of(replica: &mut TextReplica) -> RootHash
-    ensures digest { (format : PageFormat) → HasDefaults format replica.old → result ≡ root_digest format replica.old.rows }
+    ensures digest { IsItsRoot replica.old result }
     ensures rows { replica.new.rows ≡ replica.old.rows }
     ensures defaults { (format : PageFormat) → HasDefaults format replica.old → HasDefaults format replica.new }
 {
