@@ -59,6 +59,14 @@ module _ {K V H : Type 0} (laws : Laws K V H) where
   abbrev pub root_hash_under : Settings H → List (K × V) → List ℕ
   root_hash_under s m = page_digest s.format laws.bytes_of (tree_under s m)
 
+  -- the tree has the root hash that a map defines
+  abbrev pub HasRootHashOf : Settings H → List (K × V) → State K H → Type 0
+  HasRootHashOf s m tree = tree.root_hash ≡ Some (root_hash_under s m)
+
+  -- the new tree has the root hash that the old rows define under the old settings
+  abbrev pub IsHashedLast : Contents K V H → Contents K V H → Type 0
+  IsHashedLast old new = HasRootHashOf (settings_of old.tree) old.rows new.tree
+
   -- whatever map the old rows equal, the new ones equal the map after the update
   abbrev pub IsCarriedOut : Update K V → Bool → List (K × V) → List (K × V) → Type 0
   IsCarriedOut update accepted old new =

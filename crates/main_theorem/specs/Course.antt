@@ -4,7 +4,7 @@ use Rattle.key_order.specs.Join.{IsJoin}
 use Rattle.merkle_tree_theory.specs.Settings.{Settings}
 use Rattle.merkle_replica.specs.Answers.{answer_of}
 use Rattle.merkle_replica.specs.CatchUp.{AreCatchUps}
-use Rattle.merkle_replica.specs.Contents.{Contents, Side, with_rows}
+use Rattle.merkle_replica.specs.Contents.{Contents, Side, side, with_rows}
 use Rattle.merkle_replica.specs.Faithful.{AllFaithful}
 use Rattle.merkle_replica.specs.Laws.{Laws}
 use Rattle.merkle_replica.specs.Pulls.{IsByTurns, HoldTheJoin}
@@ -59,11 +59,12 @@ module _ {K V H : Type 0} (laws : Laws K V H) where
   AreExchanged (Pulled pulls) a b a' b' met = IsByTurns laws (map answer_of pulls.items) a b a' b' met
   AreExchanged (CaughtUp first second) a b a' b' met = AreCatchUps laws a b first.joined second.joined a' b' × (met ≡ (a, b) ∷ (b, with_rows a a') ∷ [])
 
-  -- the exchange that was asked for led from the sides a and b to these rows; and while digests are faithful in what was met on the way, four
+  -- the exchange that was asked for led from the replicas a and b to a' and b'; and while digests are faithful in what was met on the way, four
   -- pulls by turns or more, or a catch-up each way, leave both with the join
-  abbrev pub ComeTogether : Exchange → Exchanged K → Side K V H → Side K V H → List (K × V) → List (K × V) → Type 0
-  ComeTogether exchange exchanged a b a' b' = (met : List (Side K V H × Side K V H)) × AreExchanged exchanged a b a' b' met
-      × (AllFaithful laws met → IsEnough exchange → HoldTheJoin laws a b a' b')
+  abbrev pub ComeTogether : Exchange → Contents K V H → Contents K V H → Contents K V H → Contents K V H → Exchanged K → Type 0
+  ComeTogether exchange a b a' b' exchanged =
+      (met : List (Side K V H × Side K V H)) × AreExchanged exchanged (side a) (side b) a'.rows b'.rows met
+      × (AllFaithful laws met → IsEnough exchange → HoldTheJoin laws (side a) (side b) a'.rows b'.rows)
 
   -- two sides with the settings of a builder came together, from these two maps to these rows
   pub record IsCourse (s : Settings H) (m n : List (K × V)) (exchanged : Exchanged K) (a' b' : List (K × V)) (met : List (Side K V H × Side K V H)) : Type 0 where

@@ -29,6 +29,14 @@ module _ {K V H : Type 0} {N : ℕ} (laws : Laws K V H) where
   abbrev pub HasItsMap : List (Update K V) → Outcome K V H N → Type 0
   HasItsMap updates outcome = AreEqual laws.cmp laws.eq outcome.replica.rows (own_map updates outcome)
 
+  -- those of both replicas' updates that take no memory are accepted
+  abbrev pub AcceptTheFree : Settings H → List (Update K V) → List (Update K V) → Run K V H N → Type 0
+  AcceptTheFree s a_updates b_updates run = AcceptsTheFree s a_updates run.a × AcceptsTheFree s b_updates run.b
+
+  -- the rows of both are the maps of their accepted updates
+  abbrev pub HaveTheirMaps : List (Update K V) → List (Update K V) → Run K V H N → Type 0
+  HaveTheirMaps a_updates b_updates run = HasItsMap a_updates run.a × HasItsMap b_updates run.b
+
   -- whatever map its rows are, its tree is the one that the map defines
   abbrev pub HasTheDefinedTree : Settings H → Outcome K V H N → Type 0
   HasTheDefinedTree s outcome = (m : List (K × V)) → AreEqual laws.cmp laws.eq outcome.replica.rows m → IsDefinedBy laws s m outcome.replica.tree

@@ -1,8 +1,8 @@
 //! A replica's whole life: updates carried out one after the other, from no row on.
-ghost use Rattle.std.specs.Prelude.{◌≡◌, [], IfOk, Some, length};
+ghost use Rattle.std.specs.Prelude.{◌≡◌, [], IfOk, length};
 ghost use Rattle.key_order.specs.Order.{Same};
 ghost use Rattle.merkle_tree_theory.specs.State.{HasSettings, SameSettings};
-ghost use Rattle.main_theorem.specs.After.{FreeAreAccepted, IsAcceptedBy, IsCarriedOut, root_hash_under, rows_after, settings_of};
+ghost use Rattle.main_theorem.specs.After.{FreeAreAccepted, HasRootHashOf, IsAcceptedBy, IsCarriedOut, IsHashedLast, rows_after};
 ghost use Rattle.merkle_replica.specs.Agreeing.{AreEqual};
 
 use merkle_digest::{Hasher, Key};
@@ -52,7 +52,7 @@ where
     ensures free { IfOk result (λ r. FreeAreAccepted ⟦<H as Lawful<N, K, V>>⟧.laws builder [] updates.items r.1.items) }
     ensures rows { IfOk result (λ r. AreEqual K.cmp V.eq r.0.rows (rows_after K.cmp V.join_of updates.items r.1.items)) }
     ensures settings { IfOk result (λ r. HasSettings builder r.0.tree) }
-    ensures root_hash { IfOk result (λ r. r.0.tree.root_hash ≡ Some (root_hash_under ⟦<H as Lawful<N, K, V>>⟧.laws builder r.0.rows)) }
+    ensures root_hash { IfOk result (λ r. HasRootHashOf ⟦<H as Lawful<N, K, V>>⟧.laws builder r.0.rows r.0.tree) }
 {
     let mut accepted = Vec::with_capacity(alloc, updates.len())?;
     let mut replica = Replica::new(alloc, builder);
@@ -71,7 +71,7 @@ where
     H: Hasher<N, K> + Hasher<N, V>,
     ensures rows { replica.new.rows ≡ replica.old.rows }
     ensures settings { SameSettings replica.old.tree replica.new.tree }
-    ensures root_hash { replica.new.tree.root_hash ≡ Some (root_hash_under ⟦<H as Lawful<N, K, V>>⟧.laws (settings_of replica.old.tree) replica.old.rows) }
+    ensures root_hash { IsHashedLast ⟦<H as Lawful<N, K, V>>⟧.laws replica.old replica.new }
 {
     a_map_has_one_tree::<K, H, N>();
     every_tree_is_sound(replica.tree());

@@ -2,7 +2,6 @@
 ghost use Rattle.std.specs.Prelude.{◌≡◌, IfOk, IfErr};
 ghost use Rattle.key_order.specs.Order.{Same};
 ghost use Rattle.merkle_tree_theory.specs.State.{SameSettings};
-ghost use Rattle.merkle_replica.specs.Contents.{side};
 ghost use Rattle.main_theorem.specs.Course.{ComeTogether, IsDone, IsStopped};
 
 use merkle_digest::{Hasher, Key};
@@ -58,7 +57,7 @@ pub(crate) fn come_together<
     exchange: Exchange,
 ) -> Result<Exchanged<K>, RunRefused<K>>
     ensures done { IfOk result (λ exchanged. IsDone exchange exchanged) }
-    ensures converges { IfOk result (λ exchanged. ComeTogether ⟦<H as Lawful<N, K, V>>⟧.laws exchange exchanged (side a.old) (side b.old) a.new.rows b.new.rows) }
+    ensures converges { IfOk result (ComeTogether ⟦<H as Lawful<N, K, V>>⟧.laws exchange a.old b.old a.new b.new) }
     ensures stopped { IfErr result (λ refused. IsStopped exchange refused) }
     ensures a_settings { SameSettings a.old.tree a.new.tree }
     ensures b_settings { SameSettings b.old.tree b.new.tree }

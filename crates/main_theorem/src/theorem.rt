@@ -2,7 +2,7 @@
 ghost use Rattle.std.specs.Prelude.{◌≡◌, IfOk, IfErr};
 ghost use Rattle.key_order.specs.Order.{Same};
 ghost use Rattle.main_theorem.specs.Course.{IsDone, IsStopped};
-ghost use Rattle.main_theorem.specs.Runs.{AreAnswered, AcceptsTheFree, HasItsMap, HasTheDefinedTree, Converge};
+ghost use Rattle.main_theorem.specs.Runs.{AreAnswered, AcceptTheFree, HaveTheirMaps, HasTheDefinedTree, Converge};
 ghost use Rattle.main_theorem.specs.declared.course.Exchange.TheVariants.{Apart};
 
 use crate::after::{after, hash_last};
@@ -66,12 +66,10 @@ where
 
     // Each update is answered, and accepted where it takes no memory.
     ensures answers { IfOk result (λ r. AreAnswered a_updates.items r.a × AreAnswered b_updates.items r.b) }
-    ensures free { IfOk result (λ r. AcceptsTheFree ⟦<H as Lawful<N, K, V>>⟧.laws builder a_updates.items r.a
-        × AcceptsTheFree ⟦<H as Lawful<N, K, V>>⟧.laws builder b_updates.items r.b) }
+    ensures free { IfOk result (AcceptTheFree ⟦<H as Lawful<N, K, V>>⟧.laws builder a_updates.items b_updates.items) }
 
     // The rows that the updates leave are the map of the accepted ones.
-    ensures rows { exchange ≡ Apart → IfOk result (λ r. HasItsMap ⟦<H as Lawful<N, K, V>>⟧.laws a_updates.items r.a
-        × HasItsMap ⟦<H as Lawful<N, K, V>>⟧.laws b_updates.items r.b) }
+    ensures rows { exchange ≡ Apart → IfOk result (HaveTheirMaps ⟦<H as Lawful<N, K, V>>⟧.laws a_updates.items b_updates.items) }
 
     // Whatever map the rows of a replica are, its pages are the one tree that the map defines, apart from caches, and its page ranges
     // and root hash are the defined ones.
