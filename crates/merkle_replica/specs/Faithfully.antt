@@ -8,6 +8,7 @@ use Rattle.merkle_replica.specs.Answers.{PartMissesNone, spans_of}
 use Rattle.merkle_replica.specs.Contents.{Contents, Side, side, with_rows}
 use Rattle.merkle_replica.specs.Faithful.{AllCollisionFree, AllFaithful, AreSetAlike, HasSmallMap, HaveFaithfulPages, IsCollisionFree, IsFaithful, MissesNone, NoStreamsCollide, SpanHolds}
 use Rattle.merkle_replica.specs.Laws.{Laws}
+use Rattle.merkle_replica.specs.Puts.{HasPut}
 use Rattle.merkle_replica.specs.Pulls.{Answer, HoldTheJoin, IsAnswerFor, IsByTurns}
 use Rattle.merkle_replica.specs.declared.pull.Pulled.{Pulled}
 use Rattle.merkle_replica.specs.declared.pull.PullError.{PullError}
@@ -24,6 +25,13 @@ module _ {K V H : Type 0} (laws : Laws K V H) where
   -- the same of two replicas
   abbrev pub ConvergeWhileFaithful : Contents K V H → Contents K V H → Contents K V H → Contents K V H → Type 0
   ConvergeWhileFaithful a b a' b' = HoldTheJoinWhileFaithful (side a) (side b) a'.rows b'.rows
+
+  -- a row was put into each of two replicas, whose settings stayed, and from there both came to hold the join, while digests are faithful
+  abbrev pub ConvergeAfterPuts : Contents K V H → K × V → Contents K V H → K × V → Contents K V H → Contents K V H → Type 0
+  ConvergeAfterPuts a a_row b b_row a' b' =
+      (one two : Contents K V H)
+      × HasPut laws a a_row one × (side one ≡ with_rows (side a) one.rows) × HasPut laws b b_row two × (side two ≡ with_rows (side b) two.rows)
+      × ConvergeWhileFaithful one two a' b'
 
   -- while pages are faithful, and where the peer's keys span the local ones, the ranges miss no key
   abbrev pub CoverWhileFaithful : Side K V H → Side K V H → List (Span K) → Type 0

@@ -9,6 +9,8 @@ use Rattle.key_order.specs.Map.{SameValue, IsMap, get}
 use Rattle.key_order.specs.Join.{joined, IsJoin}
 use Rattle.merkle_tree_theory.specs.Dropped.{UpsertDropsFew}
 use Rattle.merkle_tree_theory.specs.State.{State}
+use Rattle.merkle_replica.specs.Contents.{Contents}
+use Rattle.merkle_replica.specs.Laws.{Laws}
 
 module _ {K V : Type 0} (cmp : K → K → Ordering) where
   -- no key is below one before it
@@ -47,6 +49,10 @@ module _ {K V : Type 0} (cmp : K → K → Ordering) (eq : V → V → Bool) (jo
   IsPutsTo before rows done after =
       ((done ≡ 0) × (1 ≤ length rows) × (after ≡ before))
       ⊎ ((sorted : List (K × V)) × AreInKeyOrder cmp rows sorted × (1 ≤ done) × (done < length rows) × IsPuts before (take done sorted) after)
+
+-- a row was put into the replica
+abbrev pub HasPut : {K V H : Type 0} → Laws K V H → Contents K V H → K × V → Contents K V H → Type 0
+HasPut laws before row after = IsJoin laws.cmp laws.eq laws.join before.rows (row ∷ []) after.rows
 
 -- a put of the key drops few digests of the tree
 abbrev pub PutDropsFew : {K H : Type 0} → (H → K → List ℕ) → K → State K H → State K H → Type 0
