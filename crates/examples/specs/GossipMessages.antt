@@ -42,6 +42,13 @@ module _ {K V H : Type 0} (laws : Laws K V H) where
     AreMade steps = (beyond : Side K V H) → (met : List (Side K V H × Side K V H))
         × AreSessions steps (numbered beyond (sides_of hub others)) (numbered beyond (sides_of hub' others')) met
 
+    -- all sessions by the hub were made, or all with it
+    abbrev pub AllGather : Type 0
+    AllGather = AreMade (gathering (length others))
+
+    abbrev pub AllSpread : Type 0
+    AllSpread = AreMade (spreading (length others))
+
     -- all sessions by the hub were made, and then all with it; and while digests are faithful in each, all hold the join of all maps
     pub record IsGossipJoined : Type 0 where
       pub met : List (Side K V H × Side K V H)
@@ -54,11 +61,15 @@ module _ {K V H : Type 0} (laws : Laws K V H) where
         → StopsBehind (gathering stopped.done) (0, suc stopped.done) stopped.fault (numbered beyond (sides_of hub others)) (numbered beyond (sides_of hub' others')))
 
     -- a session with the hub ended early, behind those of these steps
-    abbrev pub StopsSpreading : List (ℕ × ℕ) → Stopped → Type 0
-    StopsSpreading steps stopped = (stopped.done < length others) × ((beyond : Side K V H)
+    abbrev pub StopsSpreadingBehind : List (ℕ × ℕ) → Stopped → Type 0
+    StopsSpreadingBehind steps stopped = (stopped.done < length others) × ((beyond : Side K V H)
         → StopsBehind (steps ++ spreading stopped.done) (suc stopped.done, 0) stopped.fault (numbered beyond (sides_of hub others)) (numbered beyond (sides_of hub' others')))
 
-    -- one of them did
+    -- a session with the hub ended early, behind none by it
+    abbrev pub StopsSpreading : Stopped → Type 0
+    StopsSpreading = StopsSpreadingBehind []
+
+    -- one of all sessions ended early
     abbrev pub StopsGossip : GossipError → Type 0
     StopsGossip (Gathering stopped) = StopsGathering stopped
-    StopsGossip (Spreading stopped) = StopsSpreading (gathering (length others)) stopped
+    StopsGossip (Spreading stopped) = StopsSpreadingBehind (gathering (length others)) stopped

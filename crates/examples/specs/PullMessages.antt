@@ -1,5 +1,5 @@
 -- The messages of a pull between two stores, as bytes.
-use Rattle.std.specs.Prelude.{◌≡◌, ℕ, ◌<◌, ◌≤◌, List, length, take, max, nat_eq}
+use Rattle.std.specs.Prelude.{◌≡◌, ◌⊎◌, ℕ, ◌<◌, ◌≤◌, List, length, take, max, nat_eq, string_bytes}
 use Rattle.std.specs.List.{AllByRecursion}
 use Rattle.key_order.specs.Interval.{Span}
 use Rattle.key_order.specs.Join.{IsJoin}
@@ -7,11 +7,17 @@ use Rattle.key_order.specs.Map.{IsMap, rows_in}
 use Rattle.key_order.specs.Text.{Text, text_order}
 use Rattle.merkle_bytes.specs.Encodings.{list_bytes}
 use Rattle.merkle_diff.specs.Entry.{Entry}
+use Rattle.merkle_tree_theory.specs.Ranges.{ranges_of}
+use Rattle.merkle_tree_theory.specs.State.{State}
 use Rattle.merkle_replica.specs.Contents.{Side}
 use Rattle.merkle_replica.specs.Pulls.{Answer, HasRanges, IsPartOfPull, IsPull}
 use Rattle.merkle_replica.specs.Steps.{IsAnswerTo}
 use Rattle.examples.specs.StoreLaws.{store_laws}
 use Rattle.examples.specs.Wire.{IsPageRange, IsRow, page_range_bytes, range_bytes, row_bytes}
+
+-- the bytes spell the page ranges of the tree
+abbrev pub SpellsPages : State Text (List ℕ) → List ℕ → Type 0
+SpellsPages tree bytes = bytes ≡ list_bytes page_range_bytes (ranges_of tree.format string_bytes tree.root)
 
 -- the bytes spell the page ranges of the peer
 abbrev pub SendsPageRanges : Side Text ℕ (List ℕ) → List ℕ → Type 0
@@ -41,6 +47,10 @@ JoinsFirstRows local came after =
     (rows : List (Text × ℕ)) × (done : ℕ) × AllByRecursion IsRow rows × (came ≡ list_bytes row_bytes rows)
     × (1 ≤ done) × (done < length rows) × IsJoin text_order nat_eq max local.rows (take done rows) after
 
+-- memory was refused to such a join: local has its rows, or the join with the first of these
+abbrev pub StopsJoining : Side Text ℕ (List ℕ) → List ℕ → List (Text × ℕ) → Type 0
+StopsJoining local came after = (after ≡ local.rows) ⊎ JoinsFirstRows local came after
+
 -- local has pulled from the peer, and has these rows after
 abbrev pub HasPulled : Side Text ℕ (List ℕ) → Side Text ℕ (List ℕ) → List (Text × ℕ) → Type 0
 HasPulled local peer after = (answer : Answer Text) × IsPull store_laws local peer answer after
@@ -48,6 +58,10 @@ HasPulled local peer after = (answer : Answer Text) × IsPull store_laws local p
 -- local has made a part of a pull from the peer, and has these rows after
 abbrev pub HasPulledInPart : Side Text ℕ (List ℕ) → Side Text ℕ (List ℕ) → List (Text × ℕ) → Type 0
 HasPulledInPart local peer after = (answer : Answer Text) × (done : ℕ) × IsPartOfPull store_laws local peer answer done after
+
+-- memory was refused to a pull: local has its rows, or has made a part of the pull
+abbrev pub StopsPulling : Side Text ℕ (List ℕ) → Side Text ℕ (List ℕ) → List (Text × ℕ) → Type 0
+StopsPulling local peer after = (after ≡ local.rows) ⊎ HasPulledInPart local peer after
 
 -- the four messages are a pull
 abbrev pub MessagesAreAPull : Type 0

@@ -1,5 +1,5 @@
 -- Syncs of two replicas: four pulls by turns.
-use Rattle.std.specs.Prelude.{◌≡◌, ℕ, ◌<◌, Bool, true, List, [], ◌∷◌, length}
+use Rattle.std.specs.Prelude.{◌≡◌, ◌⊎◌, ℕ, ◌<◌, Bool, true, List, [], ◌∷◌, length}
 use Rattle.std.specs.List.{AllByRecursion}
 use Rattle.std.specs.declared.cmp.Ordering.{Ordering}
 use Rattle.key_order.specs.Map.{SameMap}
@@ -11,7 +11,6 @@ use Rattle.merkle_replica.specs.Pulls.{Answer, HoldTheJoin, IsByTurns}
 use Rattle.merkle_replica.specs.Answers.{StopsByTurns}
 use Rattle.merkle_replica.specs.declared.pull.Pulled.{Pulled}
 use Rattle.merkle_replica.specs.declared.pull.PullError.{PullError}
-use Rattle.merkle_replica.specs.declared.turns.TurnsError.{TurnsError}
 
 module _ {K V : Type 0} (cmp : K → K → Ordering) (eq : V → V → Bool) (join : V → V → V) where
   -- both maps are the join of a and b, and so the same map
@@ -51,10 +50,6 @@ module _ {K V H : Type 0} (laws : Laws K V H) where
   abbrev pub ExactlySyncsToTheJoin : ℕ → Contents K V H → Contents K V H → Contents K V H → Contents K V H → Type 0
   ExactlySyncsToTheJoin n a b a' b' = IsExactSync n (AreJoined laws.cmp laws.eq laws.join a.rows b.rows a'.rows b'.rows) a b a' b'
 
-  -- memory was refused in one of the pulls by turns of a and b: what the error says was done left these rows
-  abbrev pub Stops : TurnsError K → Contents K V H → Contents K V H → List (K × V) → List (K × V) → Type 0
-  Stops error a b a' b' = StopsByTurns laws error.finished.items error.fault (side a) (side b) a' b'
-
   -- the replica has one row, which was put into the empty map
   abbrev pub HasOneRow : K → V → Contents K V H → Type 0
   HasOneRow key value one = IsJoin laws.cmp laws.eq laws.join [] ((key, value) ∷ []) one.rows
@@ -67,3 +62,7 @@ module _ {K V H : Type 0} (laws : Laws K V H) where
   -- a sync of such a replica with b stopped, which left b with these rows
   abbrev pub StopsWithOneRow : K → V → Contents K V H → List (K × V) → Type 0
   StopsWithOneRow key value b b' = (one : Contents K V H) × HasOneRow key value one × StopsSync one b b'
+
+  -- the rows of b stayed, or such a sync with it stopped
+  abbrev pub EndsEarly : K → V → Contents K V H → Contents K V H → Type 0
+  EndsEarly key value b b' = (b'.rows ≡ b.rows) ⊎ StopsWithOneRow key value b b'.rows

@@ -8,6 +8,7 @@ use Rattle.merkle_search_tree.specs.Loading.{digests}
 use Rattle.merkle_tree_theory.specs.Stream.{page_digest}
 use Rattle.merkle_tree_theory.specs.Tree.{Tree}
 use Rattle.merkle_tree_theory.specs.declared.page_format.PageFormat.{PageFormat}
+use Rattle.merkle_replica.specs.Contents.{Contents}
 
 module _ {V : Type 0} (fed_bytes : V → List ℕ) where
   -- the digest of a value that feeds these bytes
@@ -18,3 +19,7 @@ module _ {V : Type 0} (fed_bytes : V → List ℕ) where
   abbrev pub IsRootHashOf : List ℕ → ℕ → PageFormat → List (Text × V) → List ℕ → Type 0
   IsRootHashOf key base format rows digest =
       (t : Tree Text (List ℕ)) × IsTreeOf text_order (text_digest key) base t (digests (value_digest key) rows) × (digest ≡ page_digest format string_bytes t)
+
+  -- the same under the settings of a replica, of its rows
+  abbrev pub IsItsRootHash : Contents Text V (List ℕ) → List ℕ → Type 0
+  IsItsRootHash c = IsRootHashOf c.tree.hasher c.tree.base c.tree.format c.rows

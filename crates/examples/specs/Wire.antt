@@ -38,6 +38,10 @@ IsPageRange = IsEntry (λ _. ⊤) text_order
 abbrev pub IsRow : Text × ℕ → Type 0
 IsRow r = r.1 < 2 ^ 64
 
+-- the bytes spell no list of such values
+abbrev pub AreNoList : {T : Type 0} → (T → Type 0) → (T → List ℕ) → List ℕ → Type 0
+AreNoList {T} is_value encoding bytes = (list : List T) → AllByRecursion is_value list → bytes ≢ list_bytes encoding list
+
 -- the bytes spell no page ranges
 abbrev pub AreNoPageRanges : List ℕ → Type 0
 AreNoPageRanges bytes = (theirs : List (Entry Text (List ℕ))) → AllByRecursion IsPageRange theirs → bytes ≢ list_bytes page_range_bytes theirs

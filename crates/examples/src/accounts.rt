@@ -1,10 +1,10 @@
 //! A key of one's own, and balances by it of which the one that was written last stays.
-ghost use Rattle.std.specs.Prelude.{◌≡◌, [], ◌∷◌, OnOk, OnErr};
-ghost use Rattle.key_order.specs.Join.{IsJoin};
+ghost use Rattle.std.specs.Prelude.{◌≡◌, OnOk, OnErr};
+ghost use Rattle.merkle_replica.specs.Puts.{HasPut};
 ghost use Rattle.merkle_digest.specs.Sip24.{Holds};
 
 use merkle_digest::{HashBytes, KeyBytes, KeyBytesExact, SameClone, Sip24, SipHasher};
-use merkle_replica::{Greatest, Join, Replica};
+use merkle_replica::{Greatest, Join, Lawful, Replica};
 use std::alloc::AllocError;
 
 /// The number of an account: accounts are in the order of its bytes, the first one first.
@@ -69,8 +69,8 @@ pub fn book(
     time: u64,
     balance: u64,
 ) -> Result<(), AllocError>
-    ensures joined { OnOk result (IsJoin ⟦<Account as Ord>⟧.cmp ⟦<Greatest<(u64, u64)> as PartialEq>⟧.eq ⟦<Greatest<(u64, u64)> as Join>⟧.join_of
-        balances.old.rows ((account, record { 0 = (time, balance) }) ∷ []) balances.new.rows) }
+    ensures joined { OnOk result (HasPut ⟦<SipHasher as Lawful<16, Account, Greatest<(u64, u64)>>>⟧.laws balances.old
+        (account, record { 0 = (time, balance) }) balances.new) }
     ensures unchanged { OnErr result (balances.new ≡ balances.old) }
 {
     balances.put(account, Greatest((time, balance)))

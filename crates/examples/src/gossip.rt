@@ -1,12 +1,10 @@
 //! Gossip: peers compare root hashes, and page ranges only where those differ.
-ghost use Rattle.std.specs.Prelude.{◌≡◌, [], IfOk, IsOkAnd};
+ghost use Rattle.std.specs.Prelude.{◌≡◌, [], IsOkAnd};
 ghost use Rattle.key_order.specs.Map.{SameMap};
 ghost use Rattle.merkle_tree_theory.specs.State.{map_of, SameSettings};
-ghost use Rattle.merkle_replica.specs.Answers.{spans_of};
 ghost use Rattle.merkle_replica.specs.Contents.{side};
 ghost use Rattle.merkle_replica.specs.Faithful.{AreSetAlike};
-ghost use Rattle.merkle_replica.specs.Pulls.{IsAnswerFor};
-ghost use Rattle.examples.specs.Gossip.{HaveOneRootHash};
+ghost use Rattle.examples.specs.Gossip.{AsksWhereTheyDiffer, HaveOneRootHash};
 
 use merkle_digest::{Hasher, Key};
 use merkle_replica::{Join, Lawful, Replica};
@@ -24,9 +22,8 @@ pub fn ranges_to_ask<K: Key + Drop, V: Join + Drop, H: Hasher<N, K> + Hasher<N, 
     local: &mut Replica<K, V, H, N>,
     peer: &mut Replica<K, V, H, N>,
 ) -> Result<Vec<(K, K)>, AllocError>
-    ensures quiet { HaveOneRootHash K.bytes_of local.old.tree peer.old.tree → IsOkAnd result (λ ranges. ranges.items ≡ []) }
-    ensures answer { ¬ (HaveOneRootHash K.bytes_of local.old.tree peer.old.tree) → IfOk result (λ ranges.
-        IsAnswerFor ⟦<H as Lawful<N, K, V>>⟧.laws (side local.old) (side peer.old) (spans_of ranges.items)) }
+    ensures quiet { HaveOneRootHash K.bytes_of local.old peer.old → IsOkAnd result (λ ranges. ranges.items ≡ []) }
+    ensures answer { AsksWhereTheyDiffer ⟦<H as Lawful<N, K, V>>⟧.laws local.old peer.old result }
     ensures rows { local.new.rows ≡ local.old.rows }
     ensures peer_rows { peer.new.rows ≡ peer.old.rows }
     ensures settings { SameSettings local.old.tree local.new.tree }

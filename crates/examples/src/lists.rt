@@ -1,11 +1,11 @@
 //! What is sent and what came in a pull: lists, by the encodings of `merkle_bytes`.
-ghost use Rattle.std.specs.Prelude.{◌≡◌, ◌≢◌, ◌<◌, ◌^◌, List, IfOk, OnOk, Err, length, map};
+ghost use Rattle.std.specs.Prelude.{◌≡◌, ◌<◌, ◌^◌, IfOk, OnOk, Err, length, map};
 ghost use Rattle.std.specs.List.{AllByRecursion};
 ghost use Rattle.merkle_bytes.specs.Encodings.{list_bytes};
 ghost use Rattle.merkle_diff.specs.PageRange.{entries};
 ghost use Rattle.merkle_diff.specs.PageRangeSnapshot.{snapshot_entries};
 ghost use Rattle.merkle_replica.specs.Answers.{spans_of};
-ghost use Rattle.examples.specs.Wire.{AreNoPageRanges, AreNoRanges, AreNoRows, IsPageRange, IsRow, page_range_bytes, range_bytes, row_bytes};
+ghost use Rattle.examples.specs.Wire.{AreNoList, AreNoPageRanges, AreNoRanges, AreNoRows, IsPageRange, IsRow, page_range_bytes, range_bytes, row_bytes};
 ghost use Rattle.examples.specs.declared.wire.WireFault.TheVariants.{Malformed};
 
 use crate::wire::WireFault;
@@ -27,7 +27,7 @@ fn write_list<T: Encode>(alloc: Global, list: &[T]) -> Result<Vec<u8>, AllocErro
 fn read_list<T: Decode>(alloc: Global, bytes: &[u8]) -> Result<Vec<T>, WireFault>
     ensures read { IfOk result (λ list. bytes.now ≡ list_bytes T.encoding list.items) }
     ensures values { IfOk result (λ list. AllByRecursion T.is_value list.items) }
-    ensures malformed { result ≡ Err Malformed → (list : List T) → AllByRecursion T.is_value list → bytes.now ≢ list_bytes T.encoding list }
+    ensures malformed { result ≡ Err Malformed → AreNoList T.is_value T.encoding bytes.now }
 {
     bytes_tell_lists::<T>();
     let mut reader = Reader::new(alloc, bytes);

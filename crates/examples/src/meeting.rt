@@ -1,13 +1,13 @@
 //! Two replicas that meet: each catches up with the other.
-ghost use Rattle.std.specs.Prelude.{◌≡◌, ℕ, List, [], ◌∷◌, OnOk, OnErr, IfErr, max, nat_eq};
+ghost use Rattle.std.specs.Prelude.{◌≡◌, [], ◌∷◌, OnOk, OnErr, IfErr, max, nat_eq};
 ghost use Rattle.key_order.specs.Join.{IsJoin};
-ghost use Rattle.key_order.specs.Text.{Text, text_order};
+ghost use Rattle.key_order.specs.Text.{text_order};
 ghost use Rattle.merkle_tree_theory.specs.Settings.{default_settings};
 ghost use Rattle.merkle_tree_theory.specs.State.{HasSettings};
 ghost use Rattle.merkle_tree_theory.specs.declared.page_format.PageFormat.TheVariants.{V1};
-ghost use Rattle.merkle_replica.specs.CatchUp.{AreCatchUpsRefused};
-ghost use Rattle.merkle_replica.specs.Contents.{Contents, side, with_rows};
-ghost use Rattle.merkle_replica.specs.Faithfully.{HoldTheJoinWhileFaithful};
+ghost use Rattle.merkle_replica.specs.CatchUp.{StopCatchingUp};
+ghost use Rattle.merkle_replica.specs.Contents.{side, with_rows};
+ghost use Rattle.merkle_replica.specs.Faithfully.{ConvergeAfterPuts, ConvergeWhileFaithful};
 
 use merkle_digest::SipHasher;
 use merkle_replica::{CatchUpsError, Lawful, Replica, catch_up_both};
@@ -44,8 +44,8 @@ pub fn raise(numbers: &mut Numbers, name: String, number: u64) -> Result<(), All
 ///
 /// Want of memory: what was joined until then stays.
 pub fn meet(a: &mut Numbers, b: &mut Numbers) -> Result<(), CatchUpsError>
-    ensures join { OnOk result (HoldTheJoinWhileFaithful ⟦<SipHasher as Lawful<16, String, u64>>⟧.laws (side a.old) (side b.old) a.new.rows b.new.rows) }
-    ensures refused { IfErr result (λ why. AreCatchUpsRefused ⟦<SipHasher as Lawful<16, String, u64>>⟧.laws (side a.old) (side b.old) why a.new.rows b.new.rows) }
+    ensures join { OnOk result (ConvergeWhileFaithful ⟦<SipHasher as Lawful<16, String, u64>>⟧.laws a.old b.old a.new b.new) }
+    ensures refused { IfErr result (StopCatchingUp ⟦<SipHasher as Lawful<16, String, u64>>⟧.laws a.old b.old a.new b.new) }
 {
     catch_up_both(a, b)?;
     Ok(())
@@ -65,10 +65,8 @@ pub fn raise_both(
     b_number: u64,
 ) -> anyhow::Result<()>
     // There were two replicas between, each with its number put, and both then hold the join of these.
-    ensures join { OnOk result ((one two : Contents Text ℕ (List ℕ))
-        × IsJoin text_order nat_eq max a.old.rows ((a_name, a_number) ∷ []) one.rows × (side one ≡ with_rows (side a.old) one.rows)
-        × IsJoin text_order nat_eq max b.old.rows ((b_name, b_number) ∷ []) two.rows × (side two ≡ with_rows (side b.old) two.rows)
-        × HoldTheJoinWhileFaithful ⟦<SipHasher as Lawful<16, String, u64>>⟧.laws (side one) (side two) a.new.rows b.new.rows) }
+    ensures join { OnOk result (ConvergeAfterPuts ⟦<SipHasher as Lawful<16, String, u64>>⟧.laws
+        a.old (a_name, a_number) b.old (b_name, b_number) a.new b.new) }
 {
     raise(a, a_name, a_number)?;
     raise(b, b_name, b_number)?;

@@ -1,10 +1,9 @@
 //! Gossip through messages: a hub takes the news of the others, one after the other, and then each of them takes its news.
-ghost use Rattle.std.specs.Prelude.{◌≡◌, [], OnOk, IfErr, length, map};
+ghost use Rattle.std.specs.Prelude.{◌≡◌, OnOk, IfErr, length, map};
 ghost use Rattle.std.specs.List.{AllByRecursion};
 ghost use Rattle.key_order.specs.Map.{IsMap};
 ghost use Rattle.merkle_replica.specs.Contents.{side};
-ghost use Rattle.merkle_replica.specs.Gossip.{gathering, spreading};
-ghost use Rattle.examples.specs.GossipMessages.{AreMade, IsGossipJoined, StopsGathering, StopsSpreading, StopsGossip};
+ghost use Rattle.examples.specs.GossipMessages.{AllGather, AllSpread, IsGossipJoined, StopsGathering, StopsSpreading, StopsGossip};
 
 use merkle_bytes::Decode;
 use merkle_digest::{Hasher, Key};
@@ -48,7 +47,7 @@ pub fn gossip_by_messages<
     others: &mut [Replica<K, V, H, N>],
 ) -> Result<(), GossipError>
     ensures join { OnOk result (IsGossipJoined ⟦<H as Lawful<N, K, V>>⟧.laws hub.old others.old hub.new others.new) }
-    ensures stopped { IfErr result (λ error. StopsGossip ⟦<H as Lawful<N, K, V>>⟧.laws hub.old others.old hub.new others.new error) }
+    ensures stopped { IfErr result (StopsGossip ⟦<H as Lawful<N, K, V>>⟧.laws hub.old others.old hub.new others.new) }
     ensures len { length others.new ≡ length others.old }
 {
     gossip_joins_what_came::<K, V, H, N>();
@@ -68,9 +67,9 @@ fn gather<K: Key + Decode, V: Join + Decode, H: Hasher<N, K> + Hasher<N, V>, con
     hub: &mut Replica<K, V, H, N>,
     others: &mut [Replica<K, V, H, N>],
 ) -> Result<(), Stopped>
-    ensures sessions { OnOk result (AreMade ⟦<H as Lawful<N, K, V>>⟧.laws hub.old others.old hub.new others.new (gathering (length others.old))) }
+    ensures sessions { OnOk result (AllGather ⟦<H as Lawful<N, K, V>>⟧.laws hub.old others.old hub.new others.new) }
     ensures ascending { OnOk result (AllByRecursion (λ s. IsMap K.cmp s.rows) (map side others.old)) }
-    ensures stopped { IfErr result (λ stopped. StopsGathering ⟦<H as Lawful<N, K, V>>⟧.laws hub.old others.old hub.new others.new stopped) }
+    ensures stopped { IfErr result (StopsGathering ⟦<H as Lawful<N, K, V>>⟧.laws hub.old others.old hub.new others.new) }
     ensures len { length others.new ≡ length others.old }
 {
     'gathering: for i in 0..others.len() {
@@ -89,8 +88,8 @@ fn spread<K: Key + Decode, V: Join + Decode, H: Hasher<N, K> + Hasher<N, V>, con
     hub: &mut Replica<K, V, H, N>,
     others: &mut [Replica<K, V, H, N>],
 ) -> Result<(), Stopped>
-    ensures sessions { OnOk result (AreMade ⟦<H as Lawful<N, K, V>>⟧.laws hub.old others.old hub.new others.new (spreading (length others.old))) }
-    ensures stopped { IfErr result (λ stopped. StopsSpreading ⟦<H as Lawful<N, K, V>>⟧.laws hub.old others.old hub.new others.new [] stopped) }
+    ensures sessions { OnOk result (AllSpread ⟦<H as Lawful<N, K, V>>⟧.laws hub.old others.old hub.new others.new) }
+    ensures stopped { IfErr result (StopsSpreading ⟦<H as Lawful<N, K, V>>⟧.laws hub.old others.old hub.new others.new) }
     ensures len { length others.new ≡ length others.old }
 {
     'spreading: for i in 0..others.len() {

@@ -1,16 +1,15 @@
 //! Registers of which the last writer wins.
-ghost use Rattle.std.specs.Prelude.{◌≡◌, [], ◌∷◌, OnOk, OnErr};
+ghost use Rattle.std.specs.Prelude.{◌≡◌, OnOk, OnErr};
 ghost use Rattle.std.specs.Cmp.Rules.{comparing};
 ghost use Rattle.std.proofs.Common.{rules};
-ghost use Rattle.key_order.specs.Join.{IsJoin};
-ghost use Rattle.key_order.specs.Text.{text_order};
 ghost use Rattle.merkle_digest.specs.Sip24.{Holds};
 ghost use Rattle.merkle_tree_theory.specs.State.{SameSettings};
+ghost use Rattle.merkle_replica.specs.Puts.{HasPut};
 ghost use Rattle.examples.specs.Register.{IsWritten};
 
 use crate::store::Store;
-use merkle_digest::{HashBytes, Sip24};
-use merkle_replica::{Greatest, Join};
+use merkle_digest::{HashBytes, Sip24, SipHasher};
+use merkle_replica::{Greatest, Join, Lawful};
 use std::alloc::{AllocError, Global};
 
 /// What was written last: at this time, by this writer, this value. Of two registers the one with the greater time is the later; at
@@ -77,8 +76,8 @@ pub type Stamped = Store<Greatest<(u64, u64)>>;
 ///
 /// Want of memory, which leaves all registers as they were.
 pub fn stamp(registers: &mut Stamped, name: String, time: u64, value: u64) -> Result<(), AllocError>
-    ensures joined { OnOk result (IsJoin text_order ⟦<Greatest<(u64, u64)> as PartialEq>⟧.eq ⟦<Greatest<(u64, u64)> as Join>⟧.join_of
-        registers.old.rows ((name, record { 0 = (time, value) }) ∷ []) registers.new.rows) }
+    ensures joined { OnOk result (HasPut ⟦<SipHasher as Lawful<16, String, Greatest<(u64, u64)>>>⟧.laws registers.old
+        (name, record { 0 = (time, value) }) registers.new) }
     ensures unchanged { OnErr result (registers.new ≡ registers.old) }
     ensures settings { SameSettings registers.old.tree registers.new.tree }
 {

@@ -1,13 +1,12 @@
 //! Values that can be removed: a value of its own with a `bool`, of which the later stays by its derived order.
-ghost use Rattle.std.specs.Prelude.{◌≡◌, true, [], ◌∷◌, OnOk, OnErr};
-ghost use Rattle.key_order.specs.Join.{IsJoin};
-ghost use Rattle.key_order.specs.Text.{text_order};
+ghost use Rattle.std.specs.Prelude.{◌≡◌, true, OnOk, OnErr};
 ghost use Rattle.merkle_digest.specs.Sip24.{Holds};
 ghost use Rattle.merkle_tree_theory.specs.State.{SameSettings};
+ghost use Rattle.merkle_replica.specs.Puts.{HasPut};
 
 use crate::store::Store;
-use merkle_digest::{HashBytes, Sip24};
-use merkle_replica::Join;
+use merkle_digest::{HashBytes, Sip24, SipHasher};
+use merkle_replica::{Join, Lawful};
 use std::alloc::{AllocError, Global};
 
 /// What was written last: at this time, whether that was a removal, and the value. Of two the one with the greater time is the later; at
@@ -57,8 +56,8 @@ impl Join for Removable {
 ///
 /// Want of memory, which leaves the store as it was.
 pub fn remove(store: &mut Store<Removable>, name: String, time: u64) -> Result<(), AllocError>
-    ensures joined { OnOk result (IsJoin text_order ⟦<Removable as PartialEq>⟧.eq ⟦<Removable as Join>⟧.join_of
-        store.old.rows ((name, record { time = time; removed = true; value = 0 }) ∷ []) store.new.rows) }
+    ensures joined { OnOk result (HasPut ⟦<SipHasher as Lawful<16, String, Removable>>⟧.laws store.old
+        (name, record { time = time; removed = true; value = 0 }) store.new) }
     ensures unchanged { OnErr result (store.new ≡ store.old) }
     ensures settings { SameSettings store.old.tree store.new.tree }
 {

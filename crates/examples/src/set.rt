@@ -1,8 +1,8 @@
 //! A set of names that only grows: a replica with `()` for values.
 ghost use Rattle.std.specs.Prelude.{◌≡◌, [], ◌∷◌, OnOk, OnErr, IfErr};
 ghost use Rattle.merkle_tree_theory.specs.State.{SameSettings};
+ghost use Rattle.merkle_replica.specs.ByTurns.{StopInTurns};
 ghost use Rattle.examples.specs.Set.{IsUnion, SyncsToTheUnion};
-ghost use Rattle.examples.specs.Sync.{Stops};
 
 use crate::store::Store;
 use crate::sync::sync;
@@ -33,7 +33,7 @@ pub fn add(names: &mut Names, name: String) -> Result<(), AllocError>
 /// Want of memory: no name is lost.
 pub fn unite(alloc: Global, a: &mut Names, b: &mut Names) -> Result<(), TurnsError<String>>
     ensures union { OnOk result (SyncsToTheUnion ⟦<SipHasher as Lawful<16, String, ()>>⟧.laws a.old b.old a.new b.new) }
-    ensures stopped { IfErr result (λ error. Stops ⟦<SipHasher as Lawful<16, String, ()>>⟧.laws error a.old b.old a.new.rows b.new.rows) }
+    ensures stopped { IfErr result (StopInTurns ⟦<SipHasher as Lawful<16, String, ()>>⟧.laws a.old b.old a.new b.new) }
     ensures a_settings { SameSettings a.old.tree a.new.tree }
     ensures b_settings { SameSettings b.old.tree b.new.tree }
 {

@@ -8,7 +8,7 @@ ghost use Rattle.merkle_search_tree.specs.Loading.{LoadFails, BeginsWith};
 ghost use Rattle.merkle_tree_theory.specs.Settings.{default_settings};
 ghost use Rattle.merkle_tree_theory.specs.State.{HasSettings, SameSettings};
 ghost use Rattle.merkle_tree_theory.specs.declared.page_format.PageFormat.TheVariants.{V1};
-ghost use Rattle.examples.specs.Texts.{IsRootHashOf};
+ghost use Rattle.examples.specs.Texts.{IsItsRootHash, IsRootHashOf};
 
 use merkle_digest::{HashBytes, RootHash, SipHasher};
 use merkle_replica::{Join, Replica};
@@ -45,7 +45,7 @@ pub fn open_rows<V: Join + HashBytes + Drop>(
 ///
 /// That of a digest's clone, which takes no memory.
 pub fn root_hash(store: &mut Store<u64>) -> Result<RootHash, AllocError>
-    ensures digest { IfOk result (λ digest. IsRootHashOf (to_le_bytes w64) store.old.tree.hasher store.old.tree.base store.old.tree.format store.old.rows digest) }
+    ensures digest { IfOk result (IsItsRootHash (to_le_bytes w64) store.old) }
     ensures rows { store.new.rows ≡ store.old.rows }
     ensures settings { SameSettings store.old.tree store.new.tree }
 {

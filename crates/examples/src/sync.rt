@@ -2,9 +2,10 @@
 ghost use Rattle.std.specs.Prelude.{◌≡◌, OnOk, IfErr};
 ghost use Rattle.merkle_tree_theory.specs.State.{SameSettings};
 ghost use Rattle.merkle_tree_theory.specs.declared.page_format.PageFormat.TheVariants.{V2};
+ghost use Rattle.merkle_replica.specs.ByTurns.{StopInTurns};
 ghost use Rattle.merkle_replica.specs.Contents.{side};
 ghost use Rattle.merkle_replica.specs.Faithful.{AreSetAlike};
-ghost use Rattle.examples.specs.Sync.{ExactlySyncsToTheJoin, Stops, SyncsToTheJoin};
+ghost use Rattle.examples.specs.Sync.{ExactlySyncsToTheJoin, SyncsToTheJoin};
 
 use merkle_digest::{Hasher, Key, KeyBytesExact};
 use merkle_replica::laws::no_collision_is_enough;
@@ -22,7 +23,7 @@ pub fn sync<K: Key + Drop, V: Join + Drop, H: Hasher<N, K> + Hasher<N, V>, const
     b: &mut Replica<K, V, H, N>,
 ) -> Result<(), TurnsError<K>>
     ensures same { OnOk result (SyncsToTheJoin ⟦<H as Lawful<N, K, V>>⟧.laws a.old b.old a.new b.new) }
-    ensures stopped { IfErr result (λ error. Stops ⟦<H as Lawful<N, K, V>>⟧.laws error a.old b.old a.new.rows b.new.rows) }
+    ensures stopped { IfErr result (StopInTurns ⟦<H as Lawful<N, K, V>>⟧.laws a.old b.old a.new b.new) }
     ensures a_settings { SameSettings a.old.tree a.new.tree }
     ensures b_settings { SameSettings b.old.tree b.new.tree }
 {
@@ -50,7 +51,7 @@ pub fn sync_exact<
     requires alike { AreSetAlike ⟦<H as Lawful<N, K, V>>⟧.laws (side a.old) (side b.old) }
     requires format_2 { a.old.tree.format ≡ V2 }
     ensures same { OnOk result (ExactlySyncsToTheJoin ⟦<H as Lawful<N, K, V>>⟧.laws N a.old b.old a.new b.new) }
-    ensures stopped { IfErr result (λ error. Stops ⟦<H as Lawful<N, K, V>>⟧.laws error a.old b.old a.new.rows b.new.rows) }
+    ensures stopped { IfErr result (StopInTurns ⟦<H as Lawful<N, K, V>>⟧.laws a.old b.old a.new b.new) }
     ensures a_settings { SameSettings a.old.tree a.new.tree }
     ensures b_settings { SameSettings b.old.tree b.new.tree }
 {

@@ -3,13 +3,11 @@
 //!
 //! What is sent is a list, by the encodings of `merkle_bytes`: of page ranges, of ranges of names, or of rows. Nothing that came is
 //! trusted.
-ghost use Rattle.std.specs.Prelude.{◌≡◌, ◌⊎◌, IfOk, OnOk, OnErr, Err, string_bytes};
-ghost use Rattle.merkle_bytes.specs.Encodings.{list_bytes};
-ghost use Rattle.merkle_tree_theory.specs.Ranges.{ranges_of};
+ghost use Rattle.std.specs.Prelude.{◌≡◌, ◌⊎◌, IfOk, OnOk, OnErr, Err};
 ghost use Rattle.merkle_tree_theory.specs.State.{SameSettings};
 ghost use Rattle.merkle_replica.specs.Contents.{side};
-ghost use Rattle.examples.specs.PullMessages.{SendsPageRanges, Asks, SendsRows, JoinsRows, JoinsFirstRows, HasPulled, HasPulledInPart, MessagesAreAPull, MessagesArePartOfAPull};
-ghost use Rattle.examples.specs.Wire.{AreNoPageRanges, AreNoRanges, AreNoRows, AreUnorderedRanges, AreUnorderedRows, page_range_bytes};
+ghost use Rattle.examples.specs.PullMessages.{SpellsPages, SendsPageRanges, Asks, SendsRows, JoinsRows, StopsJoining, HasPulled, StopsPulling, MessagesAreAPull, MessagesArePartOfAPull};
+ghost use Rattle.examples.specs.Wire.{AreNoPageRanges, AreNoRanges, AreNoRows, AreUnorderedRanges, AreUnorderedRows};
 ghost use Rattle.examples.specs.declared.wire.WireFault.TheVariants.{Malformed};
 
 use crate::lists::{
@@ -61,7 +59,7 @@ impl From<ReadError> for WireFault {
 ///
 /// Want of memory.
 pub fn send_page_ranges(alloc: Global, store: &mut Store<u64>) -> Result<Vec<u8>, AllocError>
-    ensures sent { IfOk result (λ bytes. bytes.items ≡ list_bytes page_range_bytes (ranges_of store.new.tree.format string_bytes store.new.tree.root)) }
+    ensures sent { IfOk result (λ bytes. SpellsPages store.new.tree bytes.items) }
     ensures message { IfOk result (λ bytes. SendsPageRanges (side store.old) bytes.items) }
     ensures rows { store.new.rows ≡ store.old.rows }
     ensures settings { SameSettings store.old.tree store.new.tree }
@@ -125,7 +123,7 @@ pub fn join(alloc: Global, store: &mut Store<u64>, rows: &[u8]) -> Result<(), Wi
     ensures malformed { result ≡ Err Malformed → AreNoRows rows.now ⊎ AreUnorderedRows rows.now }
 
     ensures unchanged { result ≡ Err Malformed → store.new ≡ store.old }
-    ensures refused { OnErr result ((store.new.rows ≡ store.old.rows) ⊎ JoinsFirstRows (side store.old) rows.now store.new.rows) }
+    ensures refused { OnErr result (StopsJoining (side store.old) rows.now store.new.rows) }
     ensures settings { SameSettings store.old.tree store.new.tree }
 {
     let came = read_rows(alloc, rows)?;
@@ -158,7 +156,7 @@ pub fn pull_over_bytes(
     peer: &mut Store<u64>,
 ) -> Result<(), WireFault>
     ensures pulled { OnOk result (HasPulled (side local.old) (side peer.old) local.new.rows) }
-    ensures refused { OnErr result ((local.new.rows ≡ local.old.rows) ⊎ HasPulledInPart (side local.old) (side peer.old) local.new.rows) }
+    ensures refused { OnErr result (StopsPulling (side local.old) (side peer.old) local.new.rows) }
     ensures peer_rows { peer.new.rows ≡ peer.old.rows }
     ensures settings { SameSettings local.old.tree local.new.tree }
     ensures peer_settings { SameSettings peer.old.tree peer.new.tree }
