@@ -18,6 +18,8 @@ mod number;
 #[cfg(test)]
 mod playing;
 #[cfg(test)]
+mod questions_refused;
+#[cfg(test)]
 mod random_sessions;
 #[cfg(test)]
 mod refusals;

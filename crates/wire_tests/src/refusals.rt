@@ -1,20 +1,18 @@
-//! Messages that a peer made up, and what each is refused with. The replica has its rows as before.
+//! Replies that a peer made up, and what each is refused with. The replica has its rows as before.
 use crate::hex::bytes_of;
 use crate::sessions::Numbers;
 use merkle_bytes::{Expected, ReadError};
-use merkle_digest::SipHasher;
 use merkle_replica::Replica;
-use merkle_search_tree::builder::{Builder, PageFormat};
-use merkle_wire::{AnswerError, CatchingUp, Next, SessionError, answer, refusal};
-use std::alloc::{AllocError, Global};
-use std::num::NonZeroU8;
+use merkle_search_tree::builder::Builder;
+use merkle_wire::{CatchingUp, Next, SessionError};
+use std::alloc::Global;
 use std::test::Fail;
 
 /// The kind of keys here: a byte, which is written as 01 and the byte.
-type Bytes = Numbers<[u8; 1]>;
+pub(crate) type Bytes = Numbers<[u8; 1]>;
 
 /// A replica with the keys 1 to 3.
-fn three(alloc: Global) -> Result<Bytes, Fail> {
+pub(crate) fn three(alloc: Global) -> Result<Bytes, Fail> {
     let mut replica: Bytes = Replica::new(alloc, Builder::default());
     for key in 1..4u8 {
         replica.put([key], 9)?;
@@ -23,101 +21,8 @@ fn three(alloc: Global) -> Result<Bytes, Fail> {
 }
 
 /// Whether a replica has the keys 1 to 3 with the value 9, and no others.
-fn is_as_before(replica: &Bytes) -> bool {
+pub(crate) fn is_as_before(replica: &Bytes) -> bool {
     replica.rows() == [([1u8], 9u64), ([2], 9), ([3], 9)].as_slice()
-}
-
-/// Bytes in hex that are no question: what should have stood behind so many bytes. A reply, a version and a kind that there is not, bytes that are
-/// cut or go on, a promised length, a flag and a page format that there is not, and a key in its longer spelling.
-const NO_QUESTIONS: [(&str, usize, Expected); 17] = [
-    ("", 0, Expected::Bytes(2)),
-    ("01", 0, Expected::Bytes(2)),
-    ("0202", 0, Expected::Version),
-    ("0001", 0, Expected::Version),
-    ("0100", 0, Expected::Kind),
-    ("0106", 0, Expected::Kind),
-    ("0182 00", 2, Expected::Question),
-    ("01ff", 2, Expected::Question),
-    ("0104 00 00", 3, Expected::End),
-    ("0104 8000", 2, Expected::Count),
-    ("0104 808080808020 02 0107", 11, Expected::Front),
-    ("0102 10 01 02", 4, Expected::Flag),
-    ("0102 10 01 00", 5, Expected::Bytes(1)),
-    ("0103 10", 3, Expected::Count),
-    ("0104 01 f0 00 02 0107", 3, Expected::Front),
-    ("0101 10 03 10 00", 4, Expected::PageFormat),
-    ("0101 10 01 10 01 02", 7, Expected::Length),
-];
-
-/// Questions in hex for the root, with other settings than those of a default replica: its level base is 16, its page format 1, and its digests have 16
-/// bytes; and the digest of a key by another hasher.
-const OTHER_SETTINGS: [&str; 5] = [
-    "0101 0f 01 10 00",
-    "0101 10 02 10 00",
-    "0101 10 01 08 00",
-    "0101 10 01 20 00",
-    "0101 10 01 10 01 0101 10 05050505050505050505050505050505",
-];
-
-#[test]
-fn questions_that_are_refused(rt: HostRuntime) -> Result<(), Fail> {
-    let alloc = rt.alloc();
-    let mut peer = three(alloc)?;
-    for case in &NO_QUESTIONS {
-        let wanted = AnswerError::Malformed(ReadError::Unexpected {
-            offset: case.1,
-            expected: case.2,
-        });
-        let found = refused_with(alloc, &mut peer, &bytes_of(alloc, case.0)?);
-        assert!(rt; found == Some(wanted), "{}", case.0);
-    }
-    for text in &OTHER_SETTINGS {
-        let found = refused_with(alloc, &mut peer, &bytes_of(alloc, *text)?);
-        assert!(rt; found == Some(AnswerError::OtherSettings), "{}", *text);
-    }
-    assert!(rt; is_as_before(&peer));
-    assert!(rt; refusal(alloc)? == bytes_of(alloc, "01ff")?);
-    Ok(())
-}
-
-/// Why the peer refuses a message, where it does.
-fn refused_with(alloc: Global, peer: &mut Bytes, message: &[u8]) -> Option<AnswerError> {
-    match answer(alloc, peer, message) {
-        Ok(_) => None,
-        Err(error) => Some(error),
-    }
-}
-
-/// The first message of a replica with the key 1.
-fn first_message(alloc: Global, builder: Builder<SipHasher>) -> Result<Vec<u8>, Fail> {
-    let mut local: Bytes = Replica::new(alloc, builder);
-    local.put([1], 9)?;
-    let (_, message) = CatchingUp::begin(alloc, &local)?;
-    Ok(message)
-}
-
-/// A replica with another level base, page format or key of its hasher than the peer's is refused by the peer. Other lengths of digests are in the
-/// table above.
-#[test]
-fn other_settings_are_refused(rt: HostRuntime) -> Result<(), Fail> {
-    let alloc = rt.alloc();
-    let mut peer = three(alloc)?;
-    let base = NonZeroU8::new(4).ok_or(AllocError)?;
-    let messages = [
-        first_message(alloc, Builder::default().with_level_base(base))?,
-        first_message(alloc, Builder::default().with_page_format(PageFormat::V2))?,
-        first_message(
-            alloc,
-            Builder::default().with_hasher(SipHasher::new(&[7; 16])),
-        )?,
-    ];
-    for message in &messages {
-        assert!(rt; refused_with(alloc, &mut peer, message) == Some(AnswerError::OtherSettings));
-    }
-    let same = first_message(alloc, Builder::default())?;
-    assert!(rt; refused_with(alloc, &mut peer, &same) == None);
-    assert!(rt; is_as_before(&peer));
-    Ok(())
 }
 
 /// What a session comes to.
