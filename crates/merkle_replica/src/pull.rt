@@ -14,9 +14,7 @@ use crate::lawful::Lawful;
 use crate::replica::Replica;
 use merkle_diff::{DiffRange, PageRangeSnapshot, diff};
 use merkle_digest::{Hasher, Key, SameClone};
-use merkle_search_tree::laws::{
-    every_tree_is_sound, page_ranges_are_tree_shaped, page_ranges_of_a_map,
-};
+use merkle_search_tree::laws::{every_tree_is_sound, page_ranges_of_a_map};
 use std::alloc::{AllocError, Global};
 
 /// What a pull did.
@@ -152,8 +150,6 @@ fn ask<K: Key + Drop, V: Join + Drop, H: Hasher<N, K> + Hasher<N, V>, const N: u
 {
     every_tree_is_sound(local.tree());
     every_tree_is_sound(peer.tree());
-    page_ranges_are_tree_shaped(local.tree());
-    page_ranges_are_tree_shaped(peer.tree());
     let ours = match local.tree().page_range_iter()? {
         Some(ours) => ours,
         None => unreachable!(),
@@ -176,7 +172,6 @@ pub(crate) fn ask_of<K: Key + Drop, V: Join + Drop, H: Hasher<N, K> + Hasher<N, 
     ensures { IfOk result (λ ranges. MayAskOf ⟦<H as Lawful<N, K, V>>⟧.laws local.now theirs.now ranges.items) }
 {
     every_tree_is_sound(local.tree());
-    page_ranges_are_tree_shaped(local.tree());
     let ours = match local.tree().page_range_iter()? {
         Some(ours) => ours,
         None => unreachable!(),

@@ -4,7 +4,7 @@ use Rattle.std.specs.declared.cmp.Ordering.{Ordering}
 use Rattle.merkle_diff.specs.Entry.{Entry}
 use Rattle.merkle_diff.specs.SameEntries.{SameEntries}
 use Rattle.merkle_tree_theory.specs.Cache.{missing}
-use Rattle.merkle_tree_theory.specs.Listing.{ListsPages}
+use Rattle.merkle_tree_theory.specs.Canonical.{IsTreeOf}
 use Rattle.merkle_tree_theory.specs.Outline.{Item, whole_item}
 use Rattle.merkle_tree_theory.specs.Ranges.{ranges_of}
 use Rattle.merkle_tree_theory.specs.Settings.{Settings}
@@ -44,11 +44,11 @@ module _ {K H : Type 0} (digest_of : H → K → List ℕ) where
   abbrev pub HasDigestOfMap : (K → List ℕ) → State K H → Type 0
   HasDigestOfMap bytes_of tree = root_digest bytes_of tree ≡ page_digest tree.format bytes_of (tree_of_map tree)
 
-module _ {K H : Type 0} (cmp : K → K → Ordering) (digest_of : H → K → List ℕ) (bytes_of : K → List ℕ) where
-  -- the page ranges are those of the tree that the map defines
-  abbrev pub HasRangesOfMap : State K H → Type 0
-  HasRangesOfMap tree = SameEntries cmp (page_ranges bytes_of tree) (ranges_of tree.format bytes_of (tree_of_map digest_of tree))
+module _ {K H : Type 0} (cmp : K → K → Ordering) (digest_of : H → K → List ℕ) where
+  -- the root page is the tree of the map
+  abbrev pub IsTreeOfItsMap : State K H → Type 0
+  IsTreeOfItsMap tree = IsTreeOf cmp (digest_of tree.hasher) tree.base tree.root (map_of tree)
 
-  -- the page ranges list pages of that tree
-  abbrev pub ListsItsPages : State K H → Type 0
-  ListsItsPages tree = ListsPages cmp (digest_of tree.hasher) tree.base tree.format bytes_of (map_of tree) (page_ranges bytes_of tree)
+  -- the page ranges are those of the tree that the map defines
+  abbrev pub HasRangesOfMap : (K → List ℕ) → State K H → Type 0
+  HasRangesOfMap bytes_of tree = SameEntries cmp (page_ranges bytes_of tree) (ranges_of tree.format bytes_of (tree_of_map digest_of tree))

@@ -4,7 +4,6 @@ use Rattle.std.specs.declared.cmp.Ordering.{Ordering}
 use Rattle.std.specs.Ordering.{is_eq}
 use Rattle.std.specs.Cmp.{IsTotalOrder}
 use Rattle.key_order.specs.Order.{Same}
-use Rattle.key_order.specs.Map.{SameMap}
 use Rattle.key_order.proofs.SameMaps.{same_is_map, same_map-own}
 use Rattle.merkle_digest.specs.Level.{level_of}
 use Rattle.merkle_tree_theory.specs.State.{State, map_of}
@@ -17,7 +16,6 @@ use Rattle.merkle_tree_theory.proofs.Same.{same-root}
 use Rattle.merkle_tree_theory.proofs.SameRanges.{same-pairs}
 use Rattle.merkle_tree_theory.specs.Canonical.{SamePages, IsCanonicalRoot}
 use Rattle.merkle_tree_theory.specs.TreeOf.{tree_of}
-use Rattle.merkle_tree_theory.proofs.Unique.{unique_root}
 use Rattle.merkle_tree_theory.proofs.TreeOf.{is_tree_of}
 
 -- a level is at most 255
@@ -40,13 +38,6 @@ module _ {K H : Type 0} (cmp : K → K → Ordering) (o : IsTotalOrder cmp) (eq 
   pub sound_defined : (s : State K H) → IsSound cmp digest_of bytes_of s → SamePages cmp s.root (tree_of (λ k. level_of (digest_of s.hasher k) s.base) (map_of s))
   sound_defined s a =
       is_tree_of (λ k. level_of (digest_of s.hasher k) s.base) (λ k. level_low (digest_of s.hasher k) s.base) cmp (alike s) s.root (map_of s) a.canonical (same_map-own cmp o (map_of s))
-
-  -- sound trees of equal maps, under one hasher and base, have the same pages
-  pub same_pages : (s t : State K H) → IsSound cmp digest_of bytes_of s → IsSound cmp digest_of bytes_of t → ((k : K) → digest_of s.hasher k ≡ digest_of t.hasher k) → s.base ≡ t.base
-      → SameMap cmp (λ d e. d ≡ e) (map_of s) (map_of t) → SamePages cmp s.root t.root
-  same_pages s t a b h e m =
-      unique_root (λ k. level_of (digest_of s.hasher k) s.base) cmp (alike s) s.root t.root a.canonical
-      (subst (λ n. IsCanonicalRoot (λ k. level_of (digest_of s.hasher k) n) t.root) (sym e) (subst (λ (lev : K → ℕ). IsCanonicalRoot lev t.root) (λ i k. level_of (sym (h k) i) t.base) b.canonical)) m
 
   -- a copy of the pages of a sound tree, with a hasher that gives the same digests, and the same base and root hash, is sound
   pub copy_sound : ((x y : K) → eq x y ≡ true → bytes_of x ≡ bytes_of y) → (s : State K H) → IsSound cmp digest_of bytes_of s → (h : H) (t : Tree K (List ℕ)) (r : Option (List ℕ)) → ((k : K) → digest_of h k ≡ digest_of s.hasher k) → r ≡ s.root_hash → IsCopy (Same cmp) (λ d e. d ≡ e) s.root t

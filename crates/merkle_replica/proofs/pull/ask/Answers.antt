@@ -18,7 +18,6 @@ returns g c =
     (λ r s. answer_for (laws_of g.K.Ord.cmp g.K.KeyBytes.bytes_of g.H.Hasher-1.digest_of g.V.PartialEq.eq g.V.Join.join_of g.H.Hasher-2.digest_of) g.met.K.Ord.total c.args.local.now c.args.peer.now
     (entries h.0) (entries h.1) (spans c.in_ok-found.found.items) (spans_of r.items) c.tree.ensures.digests c.tree-2.ensures.digests
     (rw c.tree.ensures.tree at c.every_tree_is_sound.ensures.sound) (rw c.tree-2.ensures.tree at c.every_tree_is_sound-2.ensures.sound)
-    (rw c.tree-3.ensures.tree at c.page_ranges_are_tree_shaped.ensures) (rw c.tree-4.ensures.tree at c.page_ranges_are_tree_shaped-2.ensures)
-    (rw c.tree-5.ensures.tree at e) (rw c.tree-6.ensures.tree at f) h.4
+    (rw c.tree-3.ensures.tree at e) (rw c.tree-4.ensures.tree at f) h.4
     (subst (λ w. SameSpans g.K.Ord.cmp (spans w) (spans_of r.items)) c.deref.ensures.value s))
     c.own_bounds.ensures

@@ -18,7 +18,7 @@ returns g c =
     IfOk-weaker c.own_bounds.result _ _
     (λ r s. answer_to (laws_of g.K.Ord.cmp g.K.KeyBytes.bytes_of g.H.Hasher-1.digest_of g.V.PartialEq.eq g.V.Join.join_of g.H.Hasher-2.digest_of) g.met.K.Ord.total c.args.local.now
     (entries h.0) (entries h.1) (snapshot_entries c.args.theirs.now) (spans c.in_ok-found.found.items) (spans_of r.items) c.tree.ensures.digests
-    (rw c.tree.ensures.tree at c.every_tree_is_sound.ensures.sound) (rw c.tree-2.ensures.tree at c.page_ranges_are_tree_shaped.ensures)
-    (rw c.tree-3.ensures.tree at e) f h.4
+    (rw c.tree.ensures.tree at c.every_tree_is_sound.ensures.sound)
+    (rw c.tree-2.ensures.tree at e) f h.4
     (subst (λ w. SameSpans g.K.Ord.cmp (spans w) (spans_of r.items)) c.deref.ensures.value s))
     c.own_bounds.ensures

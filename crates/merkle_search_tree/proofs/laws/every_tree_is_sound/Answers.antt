@@ -1,4 +1,5 @@
 use Rattle.std.proofs.Common.{subst}
+use Rattle.key_order.proofs.SameMaps.{same_map-own}
 use Rattle.merkle_digest.specs.Level.{level_of}
 use Rattle.merkle_tree_theory.specs.Sound.{IsSound}
 use Rattle.merkle_tree_theory.specs.TreeOf.{tree_of}
@@ -10,6 +11,9 @@ use Rattle.merkle_search_tree.proofs.laws.every_tree_is_sound.Goals as goal
 
 pub returns-clause-sound : goal.returns-clause-sound
 returns-clause-sound g c = subst (IsSound g.K.Ord.cmp g.H.Hasher.digest_of g.K.KeyBytes.bytes_of) c.tree.view_is c.tree.invariant
+
+pub returns-clause-tree : goal.returns-clause-tree
+returns-clause-tree g c = ((returns-clause-sound g c).canonical, same_map-own g.K.Ord.cmp g.met.K.Ord.total (map_of c.args.tree.now))
 
 pub returns-clause-defined : goal.returns-clause-defined
 returns-clause-defined g c = sound_defined g.K.Ord.cmp g.met.K.Ord.total g.K.PartialEq.eq g.met.K.Ord.matches_eq g.H.Hasher.digest_of g.met.H.Hasher.respects_eq g.K.KeyBytes.bytes_of c.args.tree.now (returns-clause-sound g c)
