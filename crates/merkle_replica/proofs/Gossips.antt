@@ -16,7 +16,7 @@ use Rattle.merkle_replica.specs.Faithful.{AllFaithful}
 use Rattle.merkle_replica.specs.Gossip.{numbered, changed, come_to, gathering, spreading, joined_at, IsJoinOf, IsGossip, StopsGossip}
 use Rattle.merkle_replica.specs.Laws.{Laws}
 use Rattle.merkle_replica.specs.declared.catch_up.CatchUpError.{CatchUpError}
-use Rattle.merkle_replica.proofs.Copying.{all_joined}
+use Rattle.merkle_replica.proofs.CatchUpJoins.{all_joined}
 
 module _ {X : Type 0} where
   -- a place of a list changed

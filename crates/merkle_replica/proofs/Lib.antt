@@ -27,6 +27,8 @@ pub mod OutlinesWithin
 pub mod SameWithin
 pub mod SameDescents
 pub mod Copying
+pub mod OnceEach
+pub mod CatchUpJoins
 pub mod Gossips
 pub mod Hubs
 mod EqualRows

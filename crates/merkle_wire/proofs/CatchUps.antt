@@ -13,7 +13,8 @@ use Rattle.merkle_replica.specs.CatchUp.{IsLacked, AreCopies, IsCatchUp, IsCatch
 use Rattle.merkle_replica.specs.Contents.{Contents, Side, side, with_rows}
 use Rattle.merkle_replica.specs.Laws.{Laws}
 use Rattle.merkle_replica.proofs.Bounds.{get_digests}
-use Rattle.merkle_replica.proofs.Copying.{all_joined, copies_are, join_same}
+use Rattle.merkle_replica.proofs.CatchUpJoins.{all_joined}
+use Rattle.merkle_replica.proofs.Copying.{copies_are, join_same}
 use Rattle.merkle_replica.proofs.Sides.{same_side, rows_alone}
 use Rattle.merkle_tree_theory.specs.State.{SameSettings}
 use Rattle.merkle_wire.specs.Sessions.{IsFaithfulSession, IsNewRow, AreBrought, HasJoined, IsEarly, IsMessagesRefused}

@@ -2,7 +2,7 @@ use Rattle.std.proofs.Common.{sym, subst}
 use Rattle.key_order.specs.Join.{IsJoin}
 use Rattle.merkle_replica.specs.Contents.{side, with_rows}
 use Rattle.merkle_replica.specs.Faithful.{IsFaithful}
-use Rattle.merkle_replica.proofs.Copying.{join_back}
+use Rattle.merkle_replica.proofs.CatchUpJoins.{join_back}
 use Rattle.merkle_replica.proofs.Sides.{laws_of, same_side, rows_alone}
 use Rattle.merkle_replica.proofs.both_ways.catch_up_both.Goals as goal
 

@@ -10,7 +10,7 @@ use Rattle.merkle_tree_theory.specs.Tree.{page, high, nothing}
 use Rattle.merkle_replica.specs.CatchUp.{points}
 use Rattle.merkle_replica.specs.Contents.{tree_map}
 use Rattle.merkle_replica.proofs.Bounds.{ascending_digests}
-use Rattle.merkle_replica.proofs.Copying.{found_once, all_joined}
+use Rattle.merkle_replica.proofs.CatchUpJoins.{found_once, all_joined}
 use Rattle.merkle_replica.proofs.Rounds.{premises_from, descended, contents_of}
 use Rattle.merkle_replica.proofs.SameDescents.{once-alike, exact_descent}
 use Rattle.merkle_replica.proofs.Sides.{laws_of}

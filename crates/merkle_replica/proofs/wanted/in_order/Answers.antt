@@ -4,7 +4,7 @@ use Rattle.std.proofs.lemmas.Result.{IfOk-weaker}
 use Rattle.std.specs.Ordering.{is_lt}
 use Rattle.merkle_replica.specs.CatchUp.{NoneFalls, IsOnceEach}
 use Rattle.merkle_replica.specs.Descent.{keys_of}
-use Rattle.merkle_replica.proofs.Copying.{lower_key, keys_compare, sorted_keys, once_permuted}
+use Rattle.merkle_replica.proofs.OnceEach.{lower_key, keys_compare, sorted_keys, once_permuted}
 use Rattle.merkle_replica.proofs.wanted.in_order.Goals as goal
 
 pub once_each-requires : goal.once_each-requires

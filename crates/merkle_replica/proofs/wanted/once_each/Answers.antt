@@ -2,7 +2,7 @@ use Rattle.std.proofs.Common.{◌+◌, ◌∷◌, [], take, ap, sym, subst, ◌�
 use Rattle.std.proofs.lemmas.List.{map-append}
 use Rattle.merkle_replica.specs.CatchUp.{IsOnceEach}
 use Rattle.merkle_replica.specs.Descent.{keys_of}
-use Rattle.merkle_replica.proofs.Copying.{once_step, once_stays, key_of}
+use Rattle.merkle_replica.proofs.OnceEach.{once_step, once_stays, key_of}
 use Rattle.merkle_replica.proofs.wanted.once_each.Goals as goal
 use Rattle.merkle_replica.proofs.wanted.once_each.Goals.{then-begins_anew+in_ok-push, else-begins_anew}
 

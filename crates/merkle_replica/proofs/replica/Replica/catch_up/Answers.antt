@@ -2,7 +2,8 @@ use Rattle.std.proofs.Common.{rules, ◌≡◌, length, ap, subst, ◌∙◌}
 use Rattle.merkle_replica.specs.CatchUp.{AreCopies, HasFound}
 use Rattle.merkle_replica.specs.Contents.{side}
 use Rattle.merkle_replica.specs.Puts.{HasGathered, IsGatheredTo}
-use Rattle.merkle_replica.proofs.Copying.{copies_map, copies_length, caught_up, partly_caught_up, all_joined}
+use Rattle.merkle_replica.proofs.CatchUpJoins.{caught_up, partly_caught_up, all_joined}
+use Rattle.merkle_replica.proofs.Copying.{copies_map, copies_length}
 use Rattle.merkle_replica.proofs.Gathering.{map_rises}
 use Rattle.merkle_replica.proofs.Sides.{laws_of, same_side}
 use Rattle.merkle_replica.proofs.replica.Replica.catch_up.Goals as goal
