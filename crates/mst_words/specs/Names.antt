@@ -1,5 +1,5 @@
 -- What commands and settings are called.
-use Rattle.std.specs.Prelude.{ℕ, List, Bool, true, false, codes}
+use Rattle.std.specs.Prelude.{◌≡◌, ◌≢◌, ℕ, List, Bool, true, false, codes, Option, MatchOption}
 use Rattle.mst_words.specs.declared.verb.Verb.{Verb}
 use Rattle.mst_words.specs.declared.verb.Verb.TheVariants.{Init, Put, Get, Del, List as ListOf, Count, Root, Status, Import, Export, Compact, Shell, Serve, Pull, Diff}
 use Rattle.mst_words.specs.declared.verb.Setting.{Setting}
@@ -34,6 +34,14 @@ setting_name Log = codes "--log"
 setting_name Forget = codes "--forget-removals-older-than"
 setting_name Ahead = codes "--allow-ahead"
 setting_name Wait = codes "--wait"
+
+-- the command of this name, or none where no command has it
+abbrev pub IsVerbOf : List ℕ → Option Verb → Type 0
+IsVerbOf name found = MatchOption found ((verb : Verb) → name ≢ verb_name verb) (λ verb. name ≡ verb_name verb)
+
+-- the setting of this name, or none where no setting has it
+abbrev pub IsSettingOf : List ℕ → Option Setting → Type 0
+IsSettingOf name found = MatchOption found ((setting : Setting) → name ≢ setting_name setting) (λ setting. name ≡ setting_name setting)
 
 -- whether a value stands behind a setting
 abbrev pub takes_value : Setting → Bool

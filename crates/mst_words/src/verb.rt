@@ -1,8 +1,6 @@
 //! The commands, and what each takes.
-ghost use Rattle.std.specs.Prelude.{◌≡◌, ◌≢◌, MatchOption};
-ghost use Rattle.mst_words.specs.Names.{verb_name, setting_name, takes_value};
-ghost use Rattle.mst_words.specs.declared.verb.Setting.{Setting as SettingOf};
-ghost use Rattle.mst_words.specs.declared.verb.Verb.{Verb as VerbOf};
+ghost use Rattle.std.specs.Prelude.{◌≡◌};
+ghost use Rattle.mst_words.specs.Names.{IsVerbOf, IsSettingOf, takes_value};
 
 /// A command.
 #[derive(Clone, Copy, Debug, PartialEq, Eq)]
@@ -61,7 +59,7 @@ pub struct Form {
 
 /// The command of this name. It compares the name with those of the fifteen commands, and takes no memory.
 pub fn verb_of(name: &str) -> Option<Verb>
-    ensures { MatchOption result ((verb : VerbOf) → name.now ≢ verb_name verb) (λ verb. name.now ≡ verb_name verb) }
+    ensures { IsVerbOf name.now result }
 {
     match name {
         "init" => Some(Verb::Init),
@@ -85,7 +83,7 @@ pub fn verb_of(name: &str) -> Option<Verb>
 
 /// The setting of this name.
 pub fn setting_of(name: &str) -> Option<Setting>
-    ensures { MatchOption result ((setting : SettingOf) → name.now ≢ setting_name setting) (λ setting. name.now ≡ setting_name setting) }
+    ensures { IsSettingOf name.now result }
 {
     match name {
         "--from" => Some(Setting::From),
