@@ -91,6 +91,14 @@ noted row = column row 2 ∷ column row 3 ∷ []
 abbrev pub IsNoted : Trees → ℤ → List ℕ → Type 0
 IsNoted trees format writer = map noted (trees 1) ≡ (Int format ∷ Words writer ∷ []) ∷ []
 
+-- that table has these rows, in some order
+abbrev pub HoldsNotes : Trees → List Row → Type 0
+HoldsNotes trees rows = IsPermutation (map noted (trees 1)) rows
+
+-- the table of entries has these rows, in some order
+abbrev pub HoldsRows : Trees → List Row → Type 0
+HoldsRows trees rows = IsPermutation (map shown (trees 0)) rows
+
 -- the table of entries has a row for each of these, in some order
 abbrev pub HoldsEntries : Trees → List (Key × Register) → Type 0
 HoldsEntries trees entries = IsPermutation (map shown (trees 0)) (map entry_row entries)

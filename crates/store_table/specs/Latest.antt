@@ -1,5 +1,5 @@
 -- The latest register that the table has for a key.
-use Rattle.std.specs.Prelude.{◌≡◌, ◌≤◌, ◌^◌, ℕ, Bool, cond, List, [], ◌∷◌, map, fold, Option, Some, None, is_some, option_and_then}
+use Rattle.std.specs.Prelude.{◌≡◌, ◌≤◌, ◌^◌, ℕ, Bool, cond, List, [], ◌∷◌, map, fold, Option, Some, None, is_some, option_and_then, IsTrue}
 use Rattle.std.specs.List.{filter}
 use Rattle.std.specs.List.Sorted.{IsPermutation}
 use Rattle.std.specs.Ordering.{is_eq, is_lt}
@@ -16,6 +16,10 @@ use Rattle.store_table.specs.declared.register.Register.{Register}
 -- the rows of a key, which is the first column
 abbrev pub rows_of : List ℕ → List Row → List Row
 rows_of key rows = filter (λ row. is_eq (value_cmp (column row 0) (Words key))) rows
+
+-- the table of entries has these rows of the key, in some order
+abbrev pub HoldsRowsOf : List ℕ → Trees → List Row → Type 0
+HoldsRowsOf key trees rows = IsPermutation (rows_of key (map shown (trees 0))) rows
 
 -- the later of what is there and a register
 abbrev pub later : Option Register → Register → Option Register
@@ -46,6 +50,14 @@ IsWrittenLate trees key now = (found : Option Register) × IsLatestAt trees key 
 abbrev pub written_row : List ℕ → Option Register → Key → ℕ → Option Key → Row
 written_row key found writer now value = entry_row_of key (record { time = time_after found now; writer = writer; value = value })
 
+-- the table has the row of a write over `found` more, and nothing else has changed
+abbrev pub HasWriteOver : List ℕ → Option Register → Key → ℕ → Option Key → Database → Database → Type 0
+HasWriteOver key found writer now value = HasMore (written_row key found writer now value ∷ [])
+
 -- one row is added to the table, and nothing else changes: a write of the value over the latest register of the key
 abbrev pub WritesOver : List ℕ → Key → ℕ → Option Key → Database → Database → Type 0
-WritesOver key writer now value old new = (found : Option Register) × IsLatestAt old.trees key found × HasMore (written_row key found writer now value ∷ []) old new
+WritesOver key writer now value old new = (found : Option Register) × IsLatestAt old.trees key found × HasWriteOver key found writer now value old new
+
+-- where the key was there, a removal is written over its latest register
+abbrev pub Removes : List ℕ → Key → ℕ → Database → Database → Bool → Type 0
+Removes key writer now old new was = IsTrue was → WritesOver key writer now None old new

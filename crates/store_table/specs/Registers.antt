@@ -16,6 +16,10 @@ time_after (Some r) now = max now (r.time + 1)
 abbrev pub HasLastTime : Option Register → Type 0
 HasLastTime found = IsSomeAnd found (λ r. 2 ^ 64 ≤ r.time + 1)
 
+-- so it is of the register that the rows have for the key
+abbrev pub HasLastTimeAt : List (Text × Register) → Text → Type 0
+HasLastTimeAt rows key = HasLastTime (get text_order rows key)
+
 -- one of the entries has a time that the database can't hold
 abbrev pub HaveLateTime : List (Text × Register) → Type 0
 HaveLateTime entries = Any (λ entry. 2 ^ 63 ≤ entry.1.time) entries

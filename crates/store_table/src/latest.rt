@@ -1,15 +1,11 @@
 //! The latest register of a key, found in the table without a tree, and writes over it.
-ghost use Rattle.std.specs.Prelude.{◌≡◌, ◌≤◌, ◌^◌, [], ◌∷◌, map, is_some, false, IfOk, IfErr, IsErrOf, IsTrue};
-ghost use Rattle.std.specs.List.Sorted.{IsPermutation};
-ghost use Rattle.sqlite.specs.State.{IsUnchanged};
+ghost use Rattle.std.specs.Prelude.{◌≡◌, ◌≤◌, ◌^◌, is_some, false, IfOk, IfErr, IsErrOf};
 ghost use Rattle.sqlite.specs.Held.{state};
 ghost use Rattle.sqlite.specs.View.{doubt};
-ghost use Rattle.store_table.specs.Entries.{shown};
-ghost use Rattle.store_table.specs.Changes.{HasMore};
-ghost use Rattle.store_table.specs.Connections.{database, HasStore, IsClean, IsCommitted, Finds, Makes, StaysInOk, StaysInErr, Leaves, LeavesNoMore};
+ghost use Rattle.store_table.specs.Connections.{HasStore, IsCommitted, Finds, Makes, MakesAndFinds, Refuses, Stays, StaysInOk, StaysInErr, LeavesNoMore, LeavesOfStore, LeavesWhereClean};
 ghost use Rattle.store_table.specs.Faults.{IsFailure, IsUnwritten};
 ghost use Rattle.store_table.specs.Registers.{time_after, HasLastTime};
-ghost use Rattle.store_table.specs.Latest.{rows_of, later, latest, text_of, written_row, IsLatestAt, IsThere, IsWrittenLate, WritesOver};
+ghost use Rattle.store_table.specs.Latest.{HoldsRowsOf, later, latest, text_of, IsLatestAt, IsThere, IsWrittenLate, HasWriteOver, WritesOver, Removes};
 
 use crate::fault::StoreFault;
 use crate::register::Register;
@@ -19,7 +15,7 @@ use std::alloc::Global;
 
 /// The rows of a key.
 fn read_rows_of<S: Alter>(conn: &mut Connection<S>, key: &str) -> Result<Vec<Row>, Error>
-    ensures rows { Finds S.Store conn.old conn.new result (λ db rows. IsPermutation (rows_of key.now (map shown (db.trees 0))) rows.items) }
+    ensures rows { Finds S.Store conn.old conn.new result (λ db rows. HoldsRowsOf key.now db.trees rows.items) }
     ensures unchanged { HasStore S.Store conn.old → StaysInOk S.Store conn.old conn.new result }
     ensures crash { HasStore S.Store conn.old → LeavesNoMore S.Store conn.old conn.new }
 {
@@ -105,11 +101,11 @@ fn write_over<S: Alter>(
     value: Option<String>,
 ) -> Result<(), StoreFault>
     ensures clean { doubt (state S.Store conn.old).is_clean ≤ doubt (state S.Store conn.new).is_clean }
-    ensures written { Makes S.Store conn.old conn.new result (HasMore (written_row key.now found.now writer now value ∷ [])) }
+    ensures written { Makes S.Store conn.old conn.new result (HasWriteOver key.now found.now writer now value) }
     ensures late { IsErrOf result StoreFault.Time → 2 ^ 63 ≤ time_after found.now now }
     ensures faults { IfErr result IsUnwritten }
     ensures refused { IsCommitted S.Store conn.old → StaysInErr S.Store conn.old conn.new result }
-    ensures crash { (IsClean S.Store conn.new → HasStore S.Store conn.old) → Leaves S.Store conn.old conn.new (HasMore (written_row key.now found.now writer now value ∷ [])) }
+    ensures crash { LeavesWhereClean S.Store conn.old conn.new (HasWriteOver key.now found.now writer now value) }
 {
     let time = later_time(found, now)?;
     let register = Register {
@@ -134,11 +130,10 @@ pub fn put<S: Alter>(
     text: String,
 ) -> Result<(), StoreFault>
     ensures written { Makes S.Store conn.old conn.new result (WritesOver key.now writer now (Some text)) }
-    ensures late { HasStore S.Store conn.old → IsClean S.Store conn.new → IsErrOf result StoreFault.Time
-        → IsWrittenLate (database S.Store conn.old).trees key.now now }
+    ensures late { Refuses S.Store conn.old conn.new result StoreFault.Time (λ db. IsWrittenLate db.trees key.now now) }
     ensures faults { IfErr result IsUnwritten }
     // A crash leaves what it could leave before, or a database with the write.
-    ensures crash { HasStore S.Store conn.old → Leaves S.Store conn.old conn.new (WritesOver key.now writer now (Some text)) }
+    ensures crash { LeavesOfStore S.Store conn.old conn.new (WritesOver key.now writer now (Some text)) }
 {
     let found = find(alloc, conn, key)?;
     write_over(conn, writer, now, key, &found, Some(text))
@@ -166,13 +161,12 @@ pub fn remove<S: Alter>(
     now: u64,
     key: &str,
 ) -> Result<bool, StoreFault>
-    ensures written { Finds S.Store conn.old conn.new result (λ db was. IsTrue was → WritesOver key.now writer now None db (database S.Store conn.new)) }
-    ensures late { HasStore S.Store conn.old → IsClean S.Store conn.new → IsErrOf result StoreFault.Time
-        → IsWrittenLate (database S.Store conn.old).trees key.now now }
+    ensures written { MakesAndFinds S.Store conn.old conn.new result (Removes key.now writer now) }
+    ensures late { Refuses S.Store conn.old conn.new result StoreFault.Time (λ db. IsWrittenLate db.trees key.now now) }
     ensures faults { IfErr result IsUnwritten }
-    ensures absent { Finds S.Store conn.old conn.new result (λ db was. was ≡ false → IsUnchanged (state S.Store conn.old) (state S.Store conn.new)) }
+    ensures absent { Finds S.Store conn.old conn.new result (λ _ was. was ≡ false → Stays S.Store conn.old conn.new) }
     // A crash leaves what it could leave before, or a database with the removal.
-    ensures crash { HasStore S.Store conn.old → Leaves S.Store conn.old conn.new (WritesOver key.now writer now None) }
+    ensures crash { LeavesOfStore S.Store conn.old conn.new (WritesOver key.now writer now None) }
     ensures was { Finds S.Store conn.old conn.new result (λ db was. IsThere db.trees key.now was) }
 {
     let found = find(alloc, conn, key)?;

@@ -1,5 +1,5 @@
 //! What the table holds, without a tree: each key with its latest register.
-ghost use Rattle.std.specs.Prelude.{◌≡◌, ◌≢◌, ◌≤◌, length, filter, count_by, IfOk, IfErr, IsErrOf};
+ghost use Rattle.std.specs.Prelude.{◌≡◌, ◌≢◌, ◌≤◌, length, filter, count_by, IfOk, IfErr};
 ghost use Rattle.std.specs.Option.{option_copied};
 ghost use Rattle.key_order.specs.Text.{text_order};
 ghost use Rattle.key_order.specs.Map.{IsMap, get};
@@ -7,7 +7,7 @@ ghost use Rattle.merkle_replica.specs.Places.{IsPlaceOf, IsGapFor};
 ghost use Rattle.sqlite.specs.Held.{state};
 ghost use Rattle.sqlite.specs.View.{doubt};
 ghost use Rattle.store_table.specs.Entries.{HoldsEntries};
-ghost use Rattle.store_table.specs.Connections.{database, HasStore, IsClean, IsCommitted, IsUnderway, Finds, Makes, StaysInOk, StaysInErr, Leaves, LeavesNoMore};
+ghost use Rattle.store_table.specs.Connections.{HasStore, IsUnderway, Finds, Makes, MakesAndFinds, Refuses, StaysInOk, StaysCommitted, LeavesNoMore, LeavesOfStore};
 ghost use Rattle.store_table.specs.Faults.{IsFailure, IsUnwritten};
 ghost use Rattle.store_table.specs.Rows.{AreLatest, HasLatestRows, HasLateRow, IsCompacted, stays, says_text, is_removal, last_time};
 
@@ -38,7 +38,7 @@ pub fn read_log<S: Alter>(alloc: Global, conn: &mut Connection<S>) -> Result<Ent
     ensures held { Finds S.Store conn.old conn.new result (λ db entries. HoldsEntries db.trees entries.items) }
     ensures failed { IfErr result IsFailure }
     ensures unchanged { HasStore S.Store conn.old → StaysInOk S.Store conn.old conn.new result }
-    ensures refused { HasStore S.Store conn.old → IsCommitted S.Store conn.old → StaysInErr S.Store conn.old conn.new result }
+    ensures refused { StaysCommitted S.Store conn.old conn.new result }
     ensures clean { doubt (state S.Store conn.old).is_clean ≤ doubt (state S.Store conn.new).is_clean }
     ensures crash { HasStore S.Store conn.old → LeavesNoMore S.Store conn.old conn.new }
 {
@@ -67,7 +67,7 @@ pub fn read_latest<S: Alter>(alloc: Global, conn: &mut Connection<S>) -> Result<
     ensures latest { Finds S.Store conn.old conn.new result (λ db rows. HasLatestRows db.trees rows.items) }
     ensures failed { IfErr result IsFailure }
     ensures unchanged { HasStore S.Store conn.old → StaysInOk S.Store conn.old conn.new result }
-    ensures refused { HasStore S.Store conn.old → IsCommitted S.Store conn.old → StaysInErr S.Store conn.old conn.new result }
+    ensures refused { StaysCommitted S.Store conn.old conn.new result }
     ensures clean { doubt (state S.Store conn.old).is_clean ≤ doubt (state S.Store conn.new).is_clean }
     ensures crash { HasStore S.Store conn.old → LeavesNoMore S.Store conn.old conn.new }
 {
@@ -139,15 +139,13 @@ pub fn compact<S: Alter>(
     before: u64,
 ) -> Result<usize, StoreFault>
     ensures compacted { Makes S.Store conn.old conn.new result (IsCompacted before) }
-    ensures left { Finds S.Store conn.old conn.new result (λ db left. left ≡ length ((database S.Store conn.new).trees 0)) }
-    ensures late { HasStore S.Store conn.old → IsClean S.Store conn.new → IsErrOf result StoreFault.Time
-        → HasLateRow (database S.Store conn.old).trees }
-    ensures underway { HasStore S.Store conn.old → IsClean S.Store conn.new → IsErrOf result StoreFault.Underway
-        → IsUnderway S.Store conn.old }
+    ensures left { MakesAndFinds S.Store conn.old conn.new result (λ _ db left. left ≡ length (db.trees 0)) }
+    ensures late { Refuses S.Store conn.old conn.new result StoreFault.Time (λ db. HasLateRow db.trees) }
+    ensures underway { Refuses S.Store conn.old conn.new result StoreFault.Underway (λ _. IsUnderway S.Store conn.old) }
     ensures faults { IfErr result (λ why. why ≢ StoreFault.Underway → IsUnwritten why) }
-    ensures refused { HasStore S.Store conn.old → IsCommitted S.Store conn.old → StaysInErr S.Store conn.old conn.new result }
+    ensures refused { StaysCommitted S.Store conn.old conn.new result }
     // A crash leaves what it could leave before, or the compacted database.
-    ensures crash { HasStore S.Store conn.old → Leaves S.Store conn.old conn.new (IsCompacted before) }
+    ensures crash { LeavesOfStore S.Store conn.old conn.new (IsCompacted before) }
 {
     let mut rows = read_latest(alloc, conn)?;
     forget(&mut rows, before);

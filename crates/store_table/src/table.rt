@@ -1,14 +1,13 @@
 //! The table of a store: each write that the store has seen, as a row. No row is changed or taken out but by a compaction, so a key has
 //! the latest register of its rows.
 ghost use Rattle.std.specs.Prelude.{◌≡◌, ◌≢◌, ◌≤◌, ◌^◌, ◌↔◌, [], ◌∷◌, map, pos, string_bytes, IfOk, IfErr, OnOk, IsErrOf, IsTrue};
-ghost use Rattle.std.specs.List.Sorted.{IsPermutation};
 ghost use Rattle.sqlite.specs.View.{doubt};
 ghost use Rattle.sqlite.specs.Held.{state};
 ghost use Rattle.sqlite.specs.Values.{bound};
 ghost use Rattle.sqlite.specs.declared.types.Value.TheVariants.{Int, Text};
-ghost use Rattle.store_table.specs.Entries.{shown, noted, two, four, entry_row, entry_row_of, IsNoted};
-ghost use Rattle.store_table.specs.Changes.{IsBlank, IsStore, HasEntryTable, HasBothTables, IsNewStore, KeepsAbout, HasMore, HasInstead, CommitsNothing};
-ghost use Rattle.store_table.specs.Connections.{database, HasStore, IsClean, IsCommitted, IsUnderway, Finds, Makes, MakesInside, CommitsNone, StaysInOk, StaysInErr, Leaves, LeavesNoMore};
+ghost use Rattle.store_table.specs.Entries.{two, four, entry_row, entry_row_of, IsNoted, HoldsNotes, HoldsRows};
+ghost use Rattle.store_table.specs.Changes.{IsBlank, IsStore, HasEntryTable, HasBothTables, IsNewStore, KeepsAbout, HasInstead, HasOneMore, HasEntriesMore, HasEntriesInstead, CommitsNothing};
+ghost use Rattle.store_table.specs.Connections.{database, HasStore, IsClean, IsCommitted, IsUnderway, Finds, Makes, MakesWithin, CommitsNone, CommitsNoneWithin, StaysInOk, StaysInErr, StaysCommitted, StaysWithin, Leaves, LeavesNoMore, LeavesWhereClean};
 ghost use Rattle.store_table.specs.Faults.{IsFailure, IsForeign, IsUnwritten};
 ghost use Rattle.store_table.specs.Registers.{HaveLateTime};
 
@@ -29,7 +28,7 @@ pub const FORMAT: i64 = 1;
 fn make_entries<S: Alter>(transaction: &mut Transaction<'_, S>) -> Result<(), Error>
     ensures same_reference { transaction.new.conn.ghost_name ≡ transaction.old.conn.ghost_name }
     ensures within { CommitsNothing (state S.Store transaction.old.conn.now) (state S.Store transaction.new.conn.now) }
-    ensures made { MakesInside S.Store transaction.old.conn.now transaction.new.conn.now result IsBlank (λ _. HasEntryTable) }
+    ensures made { MakesWithin S.Store transaction.old transaction.new result IsBlank (λ _. HasEntryTable) }
 {
     transaction.execute(
         "CREATE TABLE entry (id INTEGER PRIMARY KEY, key TEXT NOT NULL, time INTEGER NOT NULL, writer TEXT NOT NULL, value TEXT) STRICT",
@@ -42,7 +41,7 @@ fn make_entries<S: Alter>(transaction: &mut Transaction<'_, S>) -> Result<(), Er
 fn make_about<S: Alter>(transaction: &mut Transaction<'_, S>) -> Result<(), Error>
     ensures same_reference { transaction.new.conn.ghost_name ≡ transaction.old.conn.ghost_name }
     ensures within { CommitsNothing (state S.Store transaction.old.conn.now) (state S.Store transaction.new.conn.now) }
-    ensures made { MakesInside S.Store transaction.old.conn.now transaction.new.conn.now result HasEntryTable (λ _. HasBothTables) }
+    ensures made { MakesWithin S.Store transaction.old transaction.new result HasEntryTable (λ _. HasBothTables) }
 {
     transaction.execute(
         "CREATE TABLE about (id INTEGER PRIMARY KEY, format INTEGER NOT NULL, writer TEXT NOT NULL) STRICT",
@@ -55,7 +54,7 @@ fn make_about<S: Alter>(transaction: &mut Transaction<'_, S>) -> Result<(), Erro
 fn note_about<S: Alter>(transaction: &mut Transaction<'_, S>, writer: &str) -> Result<(), Error>
     ensures same_reference { transaction.new.conn.ghost_name ≡ transaction.old.conn.ghost_name }
     ensures within { CommitsNothing (state S.Store transaction.old.conn.now) (state S.Store transaction.new.conn.now) }
-    ensures noted { MakesInside S.Store transaction.old.conn.now transaction.new.conn.now result HasBothTables (λ _. IsNewStore FORMAT writer.now) }
+    ensures noted { MakesWithin S.Store transaction.old transaction.new result HasBothTables (λ _. IsNewStore FORMAT writer.now) }
 {
     transaction.execute(
         "INSERT INTO about (format, writer) VALUES (?1, ?2)",
@@ -68,7 +67,7 @@ fn note_about<S: Alter>(transaction: &mut Transaction<'_, S>, writer: &str) -> R
 fn make<S: Alter>(transaction: &mut Transaction<'_, S>, writer: &str) -> Result<(), Error>
     ensures same_reference { transaction.new.conn.ghost_name ≡ transaction.old.conn.ghost_name }
     ensures within { CommitsNothing (state S.Store transaction.old.conn.now) (state S.Store transaction.new.conn.now) }
-    ensures made { MakesInside S.Store transaction.old.conn.now transaction.new.conn.now result IsBlank (λ _. IsNewStore FORMAT writer.now) }
+    ensures made { MakesWithin S.Store transaction.old transaction.new result IsBlank (λ _. IsNewStore FORMAT writer.now) }
 {
     make_entries(transaction)?;
     make_about(transaction)?;
@@ -110,7 +109,7 @@ fn note_of(row: &Row) -> Result<(i64, String), Error>
 
 /// The rows of the table that says which format the file has.
 fn read_about<S: Alter>(conn: &mut Connection<S>) -> Result<Vec<Row>, Error>
-    ensures rows { Finds S.Store conn.old conn.new result (λ db rows. IsPermutation (map noted (db.trees 1)) rows.items) }
+    ensures rows { Finds S.Store conn.old conn.new result (λ db rows. HoldsNotes db.trees rows.items) }
     ensures unchanged { HasStore S.Store conn.old → StaysInOk S.Store conn.old conn.new result }
     ensures crash { HasStore S.Store conn.old → LeavesNoMore S.Store conn.old conn.new }
 {
@@ -160,8 +159,8 @@ fn entry_of(row: &Row) -> Result<(String, Register), Error>
 /// Those of SQLite, want of memory among them. Nothing is written.
 pub fn read_rows<S: Alter>(conn: &mut Connection<S>) -> Result<Vec<Row>, Error>
     ensures clean { doubt (state S.Store conn.old).is_clean ≤ doubt (state S.Store conn.new).is_clean }
-    ensures refused { HasStore S.Store conn.old → IsCommitted S.Store conn.old → StaysInErr S.Store conn.old conn.new result }
-    ensures rows { Finds S.Store conn.old conn.new result (λ db rows. IsPermutation (map shown (db.trees 0)) rows.items) }
+    ensures refused { StaysCommitted S.Store conn.old conn.new result }
+    ensures rows { Finds S.Store conn.old conn.new result (λ db rows. HoldsRows db.trees rows.items) }
     ensures unchanged { HasStore S.Store conn.old → StaysInOk S.Store conn.old conn.new result }
     ensures crash { (IsClean S.Store conn.new → HasStore S.Store conn.old) → LeavesNoMore S.Store conn.old conn.new }
 {
@@ -221,11 +220,11 @@ pub fn add<S: Alter>(
     register: &Register,
 ) -> Result<(), StoreFault>
     ensures clean { doubt (state S.Store conn.old).is_clean ≤ doubt (state S.Store conn.new).is_clean }
-    ensures added { Makes S.Store conn.old conn.new result (HasMore (entry_row_of key.now register.now ∷ [])) }
+    ensures added { Makes S.Store conn.old conn.new result (HasOneMore key.now register.now) }
     ensures late { IsErrOf result StoreFault.Time → 2 ^ 63 ≤ register.now.time }
     ensures faults { IfErr result IsUnwritten }
     ensures refused { IsCommitted S.Store conn.old → StaysInErr S.Store conn.old conn.new result }
-    ensures crash { (IsClean S.Store conn.new → HasStore S.Store conn.old) → Leaves S.Store conn.old conn.new (HasMore (entry_row_of key.now register.now ∷ [])) }
+    ensures crash { LeavesWhereClean S.Store conn.old conn.new (HasOneMore key.now register.now) }
 {
     let time = stored_time(register)?;
     let values = values_of(key, time, register);
@@ -244,7 +243,7 @@ fn add_within<S: Alter>(
 ) -> Result<(), StoreFault>
     ensures same_reference { transaction.new.conn.ghost_name ≡ transaction.old.conn.ghost_name }
     ensures within { CommitsNothing (state S.Store transaction.old.conn.now) (state S.Store transaction.new.conn.now) }
-    ensures added { MakesInside S.Store transaction.old.conn.now transaction.new.conn.now result IsStore (HasMore (entry_row_of key.now register.now ∷ [])) }
+    ensures added { MakesWithin S.Store transaction.old transaction.new result IsStore (HasOneMore key.now register.now) }
     ensures late { IsErrOf result StoreFault.Time → 2 ^ 63 ≤ register.now.time }
     ensures faults { IfErr result IsUnwritten }
 {
@@ -264,7 +263,7 @@ fn add_each<S: Alter>(
 ) -> Result<(), StoreFault>
     ensures same_reference { transaction.new.conn.ghost_name ≡ transaction.old.conn.ghost_name }
     ensures within { CommitsNothing (state S.Store transaction.old.conn.now) (state S.Store transaction.new.conn.now) }
-    ensures added { MakesInside S.Store transaction.old.conn.now transaction.new.conn.now result IsStore (HasMore (map entry_row entries.now)) }
+    ensures added { MakesWithin S.Store transaction.old transaction.new result IsStore (HasEntriesMore entries.now) }
     ensures late { IsErrOf result StoreFault.Time → HaveLateTime entries.now }
     ensures faults { IfErr result IsUnwritten }
 {
@@ -284,12 +283,12 @@ pub fn add_all<S: Alter>(
     entries: &[(String, Register)],
 ) -> Result<(), StoreFault>
     ensures clean { doubt (state S.Store conn.old).is_clean ≤ doubt (state S.Store conn.new).is_clean }
-    ensures added { Makes S.Store conn.old conn.new result (HasMore (map entry_row entries.now)) }
+    ensures added { Makes S.Store conn.old conn.new result (HasEntriesMore entries.now) }
     ensures late { IsErrOf result StoreFault.Time → HaveLateTime entries.now }
     ensures faults { IfErr result (λ why. why ≢ StoreFault.Underway → IsUnwritten why) }
     ensures underway { IsErrOf result StoreFault.Underway → IsUnderway S.Store conn.old }
     ensures refused { HasStore S.Store conn.old → StaysInErr S.Store conn.old conn.new result }
-    ensures crash { (IsClean S.Store conn.new → HasStore S.Store conn.old) → Leaves S.Store conn.old conn.new (HasMore (map entry_row entries.now)) }
+    ensures crash { LeavesWhereClean S.Store conn.old conn.new (HasEntriesMore entries.now) }
 {
     if !conn.is_autocommit() {
         return Err(StoreFault::Underway);
@@ -304,7 +303,7 @@ pub fn add_all<S: Alter>(
 fn delete_entries<S: Alter>(transaction: &mut Transaction<'_, S>) -> Result<(), Error>
     ensures same_reference { transaction.new.conn.ghost_name ≡ transaction.old.conn.ghost_name }
     ensures within { CommitsNothing (state S.Store transaction.old.conn.now) (state S.Store transaction.new.conn.now) }
-    ensures deleted { MakesInside S.Store transaction.old.conn.now transaction.new.conn.now result IsStore KeepsAbout }
+    ensures deleted { MakesWithin S.Store transaction.old transaction.new result IsStore KeepsAbout }
 {
     transaction.execute("DELETE FROM entry", &[])?;
     Ok(())
@@ -315,7 +314,7 @@ fn is_cleared<S: Alter>(transaction: &mut Transaction<'_, S>) -> Result<bool, Er
     ensures same_reference { transaction.new.conn.ghost_name ≡ transaction.old.conn.ghost_name }
     ensures survives { LeavesNoMore S.Store transaction.old.conn.now transaction.new.conn.now }
     ensures kept { CommitsNone S.Store transaction.old.conn.now transaction.new.conn.now }
-    ensures unchanged { HasStore S.Store transaction.old.conn.now → StaysInOk S.Store transaction.old.conn.now transaction.new.conn.now result }
+    ensures unchanged { StaysWithin S.Store transaction.old transaction.new result }
     ensures cleared { Finds S.Store transaction.old.conn.now transaction.new.conn.now result (λ db cleared. IsTrue cleared → db.trees 0 ≡ []) }
 {
     let left = transaction.query_all("SELECT key, time, writer, value FROM entry", &[])?;
@@ -326,8 +325,8 @@ fn is_cleared<S: Alter>(transaction: &mut Transaction<'_, S>) -> Result<bool, Er
 fn clear<S: Alter>(transaction: &mut Transaction<'_, S>) -> Result<(), Error>
     ensures same_reference { transaction.new.conn.ghost_name ≡ transaction.old.conn.ghost_name }
     ensures survives { LeavesNoMore S.Store transaction.old.conn.now transaction.new.conn.now }
-    ensures kept { IsUnderway S.Store transaction.old.conn.now → CommitsNone S.Store transaction.old.conn.now transaction.new.conn.now }
-    ensures cleared { MakesInside S.Store transaction.old.conn.now transaction.new.conn.now result IsStore (HasInstead []) }
+    ensures kept { CommitsNoneWithin S.Store transaction.old transaction.new }
+    ensures cleared { MakesWithin S.Store transaction.old transaction.new result IsStore (HasInstead []) }
 {
     delete_entries(transaction)?;
     if !is_cleared(transaction)? {
@@ -343,8 +342,8 @@ fn replace<S: Alter>(
 ) -> Result<(), StoreFault>
     ensures same_reference { transaction.new.conn.ghost_name ≡ transaction.old.conn.ghost_name }
     ensures survives { LeavesNoMore S.Store transaction.old.conn.now transaction.new.conn.now }
-    ensures kept { IsUnderway S.Store transaction.old.conn.now → CommitsNone S.Store transaction.old.conn.now transaction.new.conn.now }
-    ensures replaced { MakesInside S.Store transaction.old.conn.now transaction.new.conn.now result IsStore (HasInstead (map entry_row entries.now)) }
+    ensures kept { CommitsNoneWithin S.Store transaction.old transaction.new }
+    ensures replaced { MakesWithin S.Store transaction.old transaction.new result IsStore (HasEntriesInstead entries.now) }
     ensures late { IsErrOf result StoreFault.Time → HaveLateTime entries.now }
     ensures faults { IfErr result IsUnwritten }
 {
@@ -362,12 +361,12 @@ pub fn replace_all<S: Alter>(
     entries: &[(String, Register)],
 ) -> Result<(), StoreFault>
     ensures clean { doubt (state S.Store conn.old).is_clean ≤ doubt (state S.Store conn.new).is_clean }
-    ensures replaced { Makes S.Store conn.old conn.new result (HasInstead (map entry_row entries.now)) }
+    ensures replaced { Makes S.Store conn.old conn.new result (HasEntriesInstead entries.now) }
     ensures late { IsErrOf result StoreFault.Time → HaveLateTime entries.now }
     ensures faults { IfErr result (λ why. why ≢ StoreFault.Underway → IsUnwritten why) }
     ensures underway { IsErrOf result StoreFault.Underway → IsUnderway S.Store conn.old }
     ensures refused { HasStore S.Store conn.old → StaysInErr S.Store conn.old conn.new result }
-    ensures crash { (IsClean S.Store conn.new → HasStore S.Store conn.old) → Leaves S.Store conn.old conn.new (HasInstead (map entry_row entries.now)) }
+    ensures crash { LeavesWhereClean S.Store conn.old conn.new (HasEntriesInstead entries.now) }
 {
     if !conn.is_autocommit() {
         return Err(StoreFault::Underway);
