@@ -1,5 +1,5 @@
 -- Characters in one line, and in a string of JSON.
-use Rattle.std.specs.Prelude.{ℕ, ◌/◌, ◌%◌, List, [], ◌∷◌, ◌++◌, ◌==◌, nat_lt, cond, encode_utf8_all, codes}
+use Rattle.std.specs.Prelude.{◌≡◌, ℕ, ◌/◌, ◌%◌, List, [], ◌∷◌, ◌++◌, ◌==◌, nat_lt, cond, encode_utf8_all, codes, Option, MatchOption}
 use Rattle.std.specs.Char.{digit_char}
 use Rattle.std.specs.List.{flat_map}
 use Rattle.std.specs.Str.{chars}
@@ -7,6 +7,10 @@ use Rattle.std.specs.Str.{chars}
 -- a tab, a newline, a carriage return and a backslash are a backslash and a letter
 abbrev pub escaped : ℕ → List ℕ
 escaped c = cond (c == 9) (codes "\\t") (cond (c == 10) (codes "\\n") (cond (c == 13) (codes "\\r") (cond (c == 92) (codes "\\\\") (c ∷ []))))
+
+-- the letter that stands for a character behind a backslash, or none where the character stands for itself
+abbrev pub IsLetterOf : ℕ → Option ℕ → Type 0
+IsLetterOf c found = MatchOption found (escaped c ≡ c ∷ []) (λ letter. escaped c ≡ 92 ∷ letter ∷ [])
 
 -- a text in one line
 abbrev pub line_of : List ℕ → List ℕ

@@ -1,5 +1,6 @@
 -- What an import makes of the entries that it reads.
-use Rattle.std.specs.Prelude.{◌≡◌, ◌≤◌, ℕ, Bool, List, map, filter, All, Option, Some, None, is_some, IfSome, string_bytes}
+use Rattle.std.specs.Prelude.{◌≡◌, ◌≤◌, ◌<◌, ℕ, Bool, List, map, filter, All, Any, Option, Some, None, is_some, IfSome, string_bytes}
+use Rattle.std.specs.Global.{Vec}
 use Rattle.std.specs.List.{AllZip}
 use Rattle.key_order.specs.Text.{Text as Key, text_order}
 use Rattle.key_order.specs.Map.{get}
@@ -18,6 +19,14 @@ pub record IsDated (rows : List (Key × Register)) (name : List ℕ) (now : ℕ)
   pub time : dated.1.time ≡ time_after (get text_order rows entry.0) now
   pub writer : string_bytes dated.1.writer ≡ name
   pub value : dated.1.value ≡ entry.1.value
+
+-- the entries are there, each as this name writes it over what the rows have
+abbrev pub AreDated : List (Key × Register) → List ℕ → ℕ → Vec (Key × Register) → Vec (Key × Register) → Type 0
+AreDated rows name now entries dated = AllZip (IsDated rows name now) entries.items dated.items
+
+-- one of the entries is later than the last time that is taken
+abbrev pub HaveFutureTime : ℕ → List (Key × Register) → Type 0
+HaveFutureTime latest entries = Any (λ entry. latest < entry.1.time) entries
 
 -- whether an entry is later than what the rows have at its key
 abbrev pub is_newer : List (Key × Register) → Key × Register → Bool

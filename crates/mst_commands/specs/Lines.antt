@@ -1,9 +1,9 @@
 -- Keys and texts in lines, as a list writes them.
 use Rattle.std.specs.Prelude.{ℕ, Bool, List, [], ◌++◌, take, codes, string_bytes, Option, None, option_map, if◌then◌else◌, flat_map, filter_map}
-use Rattle.std.specs.Option.{option_copied, option_map_or}
+use Rattle.std.specs.Option.{option_map_or}
 use Rattle.key_order.specs.Text.{Text as Key}
 use Rattle.store_table.specs.declared.register.Register.{Register}
-use Rattle.mst_commands.specs.Bounds.{are_around}
+use Rattle.mst_commands.specs.Bounds.{is_within}
 use Rattle.mst_commands.specs.Escapes.{line_of, json_of}
 use Rattle.mst_commands.specs.declared.bounds.Bounds.{Bounds}
 use Rattle.mst_commands.specs.declared.bounds.Listing.{Listing}
@@ -30,11 +30,15 @@ line_as json pair = if json then json_line pair.0 pair.1 else text_line pair.0 p
 
 -- the key and the text of a row that is listed: no removal, and its key is within the bounds
 abbrev pub listed : Bounds → Key × Register → Option Pair
-listed b row = if are_around (option_copied b.first) (option_copied b.last) (option_copied b.prefix) (string_bytes row.0) then pair_of row else None
+listed b row = if is_within b (string_bytes row.0) then pair_of row else None
 
 -- its line, or nothing where the row isn't listed
 abbrev pub line_where : Bool → Option Pair → List ℕ
 line_where json pair = option_map_or (line_as json) pair []
+
+-- the line of a row in a listing
+abbrev pub row_line : Listing → Key × Register → List ℕ
+row_line listing row = line_where listing.json (listed listing.bounds row)
 
 -- a line for each row that is listed, for so many at most
 abbrev pub lines_of : Bounds → Bool → ℕ → List (Key × Register) → List ℕ

@@ -9,7 +9,7 @@ use Rattle.csv.specs.declared.parser.State.{State}
 use Rattle.csv.specs.declared.parser.State.TheVariants as st
 use Rattle.csv.specs.declared.reader.Reader.{Reader}
 use Rattle.store_table.specs.declared.register.Register.{Register}
-use Rattle.mst_commands.specs.Records.{change_fields, field_or_empty, header, HasRead, SaysEntry}
+use Rattle.mst_commands.specs.Records.{header, HasRead, SaysEntry, SaysValue}
 use Rattle.mst_commands.specs.declared.fault.Fault.{Fault}
 use Rattle.mst_commands.specs.declared.fault.Fault.TheVariants as fault
 
@@ -30,8 +30,7 @@ SaysNone is_log fields = (number : ℕ) (entry : Key × Register) → SaysEntry 
 
 -- the last two fields of a record of a log say no change, or a value of more than 1 MiB
 abbrev pub SaysNoChange : List (List ℕ) → Type 0
-SaysNoChange fields = (value : Option Key) → change_fields value ≡ field_or_empty fields 3 ∷ field_or_empty fields 4 ∷ []
-    → IsSomeAnd value (λ text. 1048576 < length (string_bytes text))
+SaysNoChange fields = (value : Option Key) → SaysValue fields value → IsSomeAnd value (λ text. 1048576 < length (string_bytes text))
 
 -- the first record of a text is another than the header
 abbrev pub HasOtherHeader : Bool → List ℕ → Type 0

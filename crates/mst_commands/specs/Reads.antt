@@ -2,6 +2,7 @@
 use Rattle.std.specs.Prelude.{◌≡◌, ℕ, List, [], ◌∷◌, ◌++◌, Option, Some, codes, length, string_bytes, count_by, decimal}
 use Rattle.std.specs.Io.KnownBytes.{Appends}
 use Rattle.key_order.specs.Text.{Text as Key}
+use Rattle.sqlite.specs.Effect.{Database}
 use Rattle.sqlite.specs.Tree.{Trees}
 use Rattle.store_table.specs.Entries.{HoldsEntries}
 use Rattle.store_table.specs.Latest.{IsLatestAt, text_of}
@@ -17,24 +18,29 @@ abbrev pub IsTextAt : Trees → List ℕ → Option Key → Type 0
 IsTextAt trees key text = (found : Option Register) × IsLatestAt trees key found × (text ≡ text_of found)
 
 -- the text of the key, and a newline, was written
-abbrev pub WritesText : Trees → List ℕ → Option (List ℕ) → Option (List ℕ) → Type 0
-WritesText trees key old new = (text : Key) × IsTextAt trees key (Some text) × Appends old new (string_bytes text ++ 10 ∷ [])
+abbrev pub WritesText : {W : Type 0} → List ℕ → (W → Option (List ℕ)) → W → W → Database → Type 0
+WritesText key contents old new db =
+    (text : Key) × IsTextAt db.trees key (Some text) × Appends (contents old) (contents new) (string_bytes text ++ 10 ∷ [])
 
 -- the list of the latest rows of the table's entries was written
-abbrev pub WritesList : Listing → Trees → Option (List ℕ) → Option (List ℕ) → Type 0
-WritesList listing trees old new = (rows : List (Key × Register)) × HasLatestRows trees rows × Appends old new (list_of listing rows)
+abbrev pub WritesList : {W : Type 0} → Listing → (W → Option (List ℕ)) → W → W → Database → Type 0
+WritesList listing contents old new db =
+    (rows : List (Key × Register)) × HasLatestRows db.trees rows × Appends (contents old) (contents new) (list_of listing rows)
 
 -- how many of the latest rows say a text, and a newline, was written
-abbrev pub WritesCount : Trees → Option (List ℕ) → Option (List ℕ) → Type 0
-WritesCount trees old new = (rows : List (Key × Register)) × HasLatestRows trees rows × Appends old new (decimal (count_by says_text rows) ++ 10 ∷ [])
+abbrev pub WritesCount : {W : Type 0} → (W → Option (List ℕ)) → W → W → Database → Type 0
+WritesCount contents old new db =
+    (rows : List (Key × Register)) × HasLatestRows db.trees rows × Appends (contents old) (contents new) (decimal (count_by says_text rows) ++ 10 ∷ [])
 
 -- the latest rows of the table's entries were written as CSV
-abbrev pub WritesPairs : Trees → Option (List ℕ) → Option (List ℕ) → Type 0
-WritesPairs trees old new = (rows : List (Key × Register)) × HasLatestRows trees rows × Appends old new (pairs_text rows)
+abbrev pub WritesPairs : {W : Type 0} → (W → Option (List ℕ)) → W → Database → W → Type 0
+WritesPairs contents old db new =
+    (rows : List (Key × Register)) × HasLatestRows db.trees rows × Appends (contents old) (contents new) (pairs_text rows)
 
 -- the table's entries were written as CSV
-abbrev pub WritesLog : Trees → Option (List ℕ) → Option (List ℕ) → Type 0
-WritesLog trees old new = (entries : List (Key × Register)) × HoldsEntries trees entries × Appends old new (log_text entries)
+abbrev pub WritesLog : {W : Type 0} → (W → Option (List ℕ)) → W → Database → W → Type 0
+WritesLog contents old db new =
+    (entries : List (Key × Register)) × HoldsEntries db.trees entries × Appends (contents old) (contents new) (log_text entries)
 
 -- so many of the rows say a text, so many are removals, and this is the greatest time
 pub record HaveNumbers (rows : List (Key × Register)) (summary : Summary) : Type 0 where
@@ -53,5 +59,6 @@ status_text summary rows name =
     ++ (codes "\nlast write " ++ (decimal summary.last ++ (codes "\nwriter " ++ (name ++ codes "\n")))))))))
 
 -- the table's numbers and a name were written
-abbrev pub WritesStatus : List ℕ → Trees → Option (List ℕ) → Option (List ℕ) → Type 0
-WritesStatus name trees old new = (summary : Summary) × IsSummary trees summary × Appends old new (status_text summary (length (trees 0)) name)
+abbrev pub WritesStatus : {W : Type 0} → List ℕ → (W → Option (List ℕ)) → W → W → Database → Type 0
+WritesStatus name contents old new db =
+    (summary : Summary) × IsSummary db.trees summary × Appends (contents old) (contents new) (status_text summary (length (db.trees 0)) name)

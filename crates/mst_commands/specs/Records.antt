@@ -87,6 +87,10 @@ log_text entries = row_text default_writer (header true) ++ flat_map entry_text 
 abbrev pub field_or_empty : List (List ℕ) → ℕ → List ℕ
 field_or_empty fields at = unwrap_or (field_at fields at) []
 
+-- the last two fields of a record of a log say this text, or that it is a removal
+abbrev pub SaysValue : List (List ℕ) → Option Key → Type 0
+SaysValue fields value = change_fields value ≡ field_or_empty fields 3 ∷ field_or_empty fields 4 ∷ []
+
 -- a reader with the crate's defaults has read these records of the text, where the text is known
 pub record HasRead {R : Type 0} (remaining : R → Option (List ℕ)) (text : Option (List ℕ)) (records : List (List (List ℕ))) (reader : Reader R) : Type 0 where
   pub trim : reader_trim reader ≡ trim.None
@@ -114,3 +118,7 @@ pub record IsBeforeRecord {W : Type 0} (writer : Writer W) : Type 0 where
 -- a writer that stood before a record has written these bytes, and stands before a record
 abbrev pub WritesRecords : {W : Type 0} → (W → Option (List ℕ)) → Writer W → Writer W → List ℕ → Type 0
 WritesRecords contents old new bytes = IsBeforeRecord old → IsBeforeRecord new × Appends (text_written contents old) (text_written contents new) bytes
+
+-- a writer that stood before a record has written one of these fields, and stands before a record
+abbrev pub WritesRecord : {W : Type 0} → (W → Option (List ℕ)) → Writer W → Writer W → List (List ℕ) → Type 0
+WritesRecord contents old new fields = WritesRecords contents old new (row_text default_writer fields)

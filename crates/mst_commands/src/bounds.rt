@@ -1,7 +1,6 @@
 //! Which keys a list shows.
 ghost use Rattle.std.specs.Prelude.{◌≡◌};
-ghost use Rattle.std.specs.Option.{option_copied};
-ghost use Rattle.mst_commands.specs.Bounds.{are_around};
+ghost use Rattle.mst_commands.specs.Bounds.{is_within};
 
 /// From the first key, to the last one, of those that begin alike.
 #[derive(Clone, Copy)]
@@ -25,7 +24,7 @@ pub struct Listing<'a> {
 impl Bounds<'_> {
     /// Whether a key is within the bounds.
     pub fn hold(&self, key: &str) -> bool
-        ensures { result ≡ are_around (option_copied self.now.first) (option_copied self.now.last) (option_copied self.now.prefix) key.now }
+        ensures { result ≡ is_within self.now key.now }
     {
         let from_first = match self.first {
             Some(first) => first <= key,

@@ -1,13 +1,13 @@
 //! Texts of any characters in one line.
-ghost use Rattle.std.specs.Prelude.{◌≡◌, ◌<◌, ◌++◌, [], ◌∷◌, IfOk, OnOk, MatchOption, string_bytes, encode_utf8_all};
+ghost use Rattle.std.specs.Prelude.{◌≡◌, ◌<◌, ◌++◌, IfOk, OnOk, string_bytes, encode_utf8_all};
 ghost use Rattle.std.specs.Char.{digit_char};
-ghost use Rattle.mst_commands.specs.Escapes.{escaped, line_of, code_of, json_char, json_of};
+ghost use Rattle.mst_commands.specs.Escapes.{IsLetterOf, escaped, line_of, code_of, json_char, json_of};
 
 use std::alloc::{AllocError, Global};
 
 /// The letter that stands for a character behind a backslash in a list.
 fn letter_of(character: char) -> Option<char>
-    ensures { MatchOption result (escaped character ≡ character ∷ []) (λ letter. escaped character ≡ 92 ∷ letter ∷ []) }
+    ensures { IsLetterOf character result }
 {
     match character {
         '\t' => Some('t'),

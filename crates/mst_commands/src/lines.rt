@@ -2,7 +2,7 @@
 ghost use Rattle.std.specs.Prelude.{◌≡◌, is_some, flat_map, IfOk, IfErr, OnOk};
 ghost use Rattle.std.specs.Io.KnownBytes.{Appends};
 ghost use Rattle.mst_commands.specs.Malformed.{IsFailure};
-ghost use Rattle.mst_commands.specs.Lines.{text_line, json_line, line_as, line_where, listed, list_of, key_line};
+ghost use Rattle.mst_commands.specs.Lines.{text_line, json_line, line_as, row_line, listed, list_of, key_line};
 
 use crate::bounds::Listing;
 use crate::escape::{escape, json_string};
@@ -48,7 +48,7 @@ fn write_row<W: Write>(
     listing: &Listing<'_>,
 ) -> Result<bool, Fault>
     ensures shown { IfOk result (λ shown. shown ≡ is_some (listed listing.now.bounds row.now)) }
-    ensures bytes { OnOk result (Appends (W.contents out.old) (W.contents out.new) (line_where listing.now.json (listed listing.now.bounds row.now))) }
+    ensures bytes { OnOk result (Appends (W.contents out.old) (W.contents out.new) (row_line listing.now row.now)) }
     ensures faults { IfErr result IsFailure }
 {
     let key = row.0.as_str();

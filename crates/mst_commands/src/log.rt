@@ -1,9 +1,8 @@
 //! The log as CSV.
-ghost use Rattle.std.specs.Prelude.{◌≡◌, [], ◌∷◌, IfOk, IfErr, OnOk};
+ghost use Rattle.std.specs.Prelude.{[], ◌∷◌, IfOk, IfErr, OnOk};
 ghost use Rattle.std.specs.Io.KnownBytes.{Appends};
-ghost use Rattle.csv.specs.Writing.{row_text, default_writer};
 ghost use Rattle.mst_commands.specs.Malformed.{IsFailure};
-ghost use Rattle.mst_commands.specs.Records.{entry_text, log_text, WritesRecords};
+ghost use Rattle.mst_commands.specs.Records.{entry_text, log_text, WritesRecord, WritesRecords};
 
 use crate::fault::{Fault, write_fault};
 use crate::records::finish;
@@ -21,8 +20,8 @@ fn write_five<'a, W: Write + Drop>(
     change: &'a str,
     value: &'a str,
 ) -> Result<(), Fault>
-    ensures written { OnOk result (WritesRecords W.contents writer.old writer.new
-        (row_text default_writer (key.now ∷ time.now ∷ name.now ∷ change.now ∷ value.now ∷ []))) }
+    ensures written { OnOk result (WritesRecord W.contents writer.old writer.new
+        (key.now ∷ time.now ∷ name.now ∷ change.now ∷ value.now ∷ [])) }
     ensures faults { IfErr result IsFailure }
 {
     match writer.write_fields(&[

@@ -1,7 +1,7 @@
 //! The commands that read.
-ghost use Rattle.std.specs.Prelude.{◌≡◌, ◌≢◌, ◌++◌, [], ◌∷◌, length, string_bytes, IfOk, IfErr, OnOk, IsErrOf};
+ghost use Rattle.std.specs.Prelude.{◌≡◌, ◌≢◌, ◌++◌, [], ◌∷◌, length, string_bytes, IfOk, IfErr, OnOk};
 ghost use Rattle.std.specs.Io.KnownBytes.{Appends};
-ghost use Rattle.store_table.specs.Connections.{database, HasStore, IsClean, Finds, Shows, StaysInOk, LeavesNoMore};
+ghost use Rattle.store_table.specs.Connections.{HasStore, Finds, Shows, Refuses, StaysInOk, LeavesNoMore};
 ghost use Rattle.store_table.specs.Latest.{text_of as text_said};
 ghost use Rattle.mst_commands.specs.Malformed.{IsFailure};
 ghost use Rattle.mst_commands.specs.Reads.{IsTextAt, WritesText, WritesList, WritesCount, WritesStatus, WritesPairs, WritesLog, IsSummary, status_text};
@@ -64,9 +64,8 @@ pub fn get<S: Alter, W: Write>(
     out: &mut W,
     key: &str,
 ) -> Result<(), Fault>
-    ensures written { Shows S.Store conn.old conn.new result (λ db. WritesText db.trees key.now (W.contents out.old) (W.contents out.new)) }
-    ensures absent { HasStore S.Store conn.old → IsClean S.Store conn.new → IsErrOf result Fault.NoKey
-        → IsTextAt (database S.Store conn.old).trees key.now None }
+    ensures written { Shows S.Store conn.old conn.new result (WritesText key.now W.contents out.old out.new) }
+    ensures absent { Refuses S.Store conn.old conn.new result Fault.NoKey (λ db. IsTextAt db.trees key.now None) }
     ensures faults { IfErr result (λ why. why ≢ Fault.NoKey → IsFailure why) }
     ensures unchanged { HasStore S.Store conn.old → StaysInOk S.Store conn.old conn.new result }
     ensures crash { HasStore S.Store conn.old → LeavesNoMore S.Store conn.old conn.new }
@@ -85,7 +84,7 @@ pub fn list<S: Alter, W: Write>(
     out: &mut W,
     listing: &Listing<'_>,
 ) -> Result<(), Fault>
-    ensures written { Shows S.Store conn.old conn.new result (λ db. WritesList listing.now db.trees (W.contents out.old) (W.contents out.new)) }
+    ensures written { Shows S.Store conn.old conn.new result (WritesList listing.now W.contents out.old out.new) }
     ensures faults { IfErr result IsFailure }
     ensures unchanged { HasStore S.Store conn.old → StaysInOk S.Store conn.old conn.new result }
     ensures crash { HasStore S.Store conn.old → LeavesNoMore S.Store conn.old conn.new }
@@ -114,7 +113,7 @@ pub fn count<S: Alter, W: Write>(
     conn: &mut Connection<S>,
     out: &mut W,
 ) -> Result<(), Fault>
-    ensures written { Shows S.Store conn.old conn.new result (λ db. WritesCount db.trees (W.contents out.old) (W.contents out.new)) }
+    ensures written { Shows S.Store conn.old conn.new result (WritesCount W.contents out.old out.new) }
     ensures faults { IfErr result IsFailure }
     ensures unchanged { HasStore S.Store conn.old → StaysInOk S.Store conn.old conn.new result }
     ensures crash { HasStore S.Store conn.old → LeavesNoMore S.Store conn.old conn.new }
@@ -146,7 +145,7 @@ pub fn status<S: Alter, W: Write>(
     out: &mut W,
     name: &str,
 ) -> Result<(), Fault>
-    ensures written { Shows S.Store conn.old conn.new result (λ db. WritesStatus name.now db.trees (W.contents out.old) (W.contents out.new)) }
+    ensures written { Shows S.Store conn.old conn.new result (WritesStatus name.now W.contents out.old out.new) }
     ensures faults { IfErr result IsFailure }
     ensures unchanged { HasStore S.Store conn.old → StaysInOk S.Store conn.old conn.new result }
     ensures crash { HasStore S.Store conn.old → LeavesNoMore S.Store conn.old conn.new }
@@ -163,7 +162,7 @@ pub fn export<S: Alter, W: Write + Drop>(
     conn: &mut Connection<S>,
     out: W,
 ) -> Result<W, Fault>
-    ensures written { Finds S.Store conn.old conn.new result (λ db written. WritesPairs db.trees (W.contents out) (W.contents written)) }
+    ensures written { Finds S.Store conn.old conn.new result (WritesPairs W.contents out) }
     ensures faults { IfErr result IsFailure }
     ensures unchanged { HasStore S.Store conn.old → StaysInOk S.Store conn.old conn.new result }
     ensures crash { HasStore S.Store conn.old → LeavesNoMore S.Store conn.old conn.new }
@@ -178,7 +177,7 @@ pub fn export_log<S: Alter, W: Write + Drop>(
     conn: &mut Connection<S>,
     out: W,
 ) -> Result<W, Fault>
-    ensures written { Finds S.Store conn.old conn.new result (λ db written. WritesLog db.trees (W.contents out) (W.contents written)) }
+    ensures written { Finds S.Store conn.old conn.new result (WritesLog W.contents out) }
     ensures faults { IfErr result IsFailure }
     ensures unchanged { HasStore S.Store conn.old → StaysInOk S.Store conn.old conn.new result }
     ensures crash { HasStore S.Store conn.old → LeavesNoMore S.Store conn.old conn.new }

@@ -1,9 +1,9 @@
 //! Keys and values as CSV.
-ghost use Rattle.std.specs.Prelude.{◌≡◌, ◌≢◌, ◌<◌, [], ◌∷◌, length, string_bytes, true, false, IfOk, IfErr, OnOk, IfSome};
+ghost use Rattle.std.specs.Prelude.{◌≡◌, ◌≢◌, ◌<◌, [], length, string_bytes, true, false, IfOk, IfErr, OnOk, IfSome};
 ghost use Rattle.std.specs.Io.KnownBytes.{Appends, Keeps};
 ghost use Rattle.csv.specs.Records.{fields_of};
-ghost use Rattle.csv.specs.Writing.{row_text, default_writer, text_written};
-ghost use Rattle.mst_commands.specs.Records.{header, change_fields, field_or_empty, pair_fields, pair_text, pairs_text, SaysPair, SaysChange, SaysEntry, HasEntries, HasRead, ReadsOne, WritesRecords};
+ghost use Rattle.csv.specs.Writing.{text_written};
+ghost use Rattle.mst_commands.specs.Records.{header, field_or_empty, pair_fields, pair_text, pairs_text, SaysPair, SaysChange, SaysEntry, SaysValue, HasEntries, HasRead, ReadsOne, WritesRecord, WritesRecords};
 ghost use Rattle.mst_commands.specs.Malformed.{EndsFor, IsFailure, IsImportRefused, SaysNoChange, SaysNone, StopsReading};
 
 use crate::fault::{Fault, read_fault, write_fault};
@@ -128,7 +128,7 @@ fn entry_of(alloc: Global, row: &StringRecord, number: u64) -> Result<(String, R
 
 /// The value that a record of a log says, or that it is a removal.
 fn change_of(alloc: Global, row: &StringRecord) -> Result<Option<String>, Fault>
-    ensures says { IfOk result (λ value. change_fields value ≡ field_or_empty (fields_of row.now) 3 ∷ field_or_empty (fields_of row.now) 4 ∷ []) }
+    ensures says { IfOk result (λ value. SaysValue (fields_of row.now) value) }
     ensures none { IfErr result (EndsFor ⊥ (SaysNoChange (fields_of row.now))) }
 {
     match field(row, 3) {
@@ -234,7 +234,7 @@ fn write_pair<'a, W: Write + Drop>(
     key: &'a str,
     text: &'a str,
 ) -> Result<(), Fault>
-    ensures written { OnOk result (WritesRecords W.contents writer.old writer.new (row_text default_writer (pair_fields (key.now, text.now)))) }
+    ensures written { OnOk result (WritesRecord W.contents writer.old writer.new (pair_fields (key.now, text.now))) }
     ensures faults { IfErr result IsFailure }
 {
     match writer.write_fields(&[key.as_bytes(), text.as_bytes()]) {

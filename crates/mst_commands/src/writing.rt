@@ -1,17 +1,15 @@
 //! The commands that write.
-ghost use Rattle.std.specs.Prelude.{◌≡◌, ◌≢◌, ◌≤◌, ◌<◌, ◌⊎◌, is_some, length, string_len, filter, All, Any, IfOk, IfErr, OnOk, IsErrOf, true, false};
-ghost use Rattle.std.specs.List.{AllZip};
+ghost use Rattle.std.specs.Prelude.{◌≡◌, ◌≢◌, ◌≤◌, ◌<◌, ◌⊎◌, is_some, length, string_len, filter, All, IfOk, IfErr, OnOk, true, false};
 ghost use Rattle.key_order.specs.Text.{text_order};
 ghost use Rattle.key_order.specs.Map.{IsMap};
-ghost use Rattle.sqlite.specs.State.{IsUnchanged};
 ghost use Rattle.sqlite.specs.Held.{state};
 ghost use Rattle.sqlite.specs.View.{doubt};
-ghost use Rattle.store_table.specs.Connections.{database, HasStore, IsClean, IsCommitted, Finds, Makes, Shows, StaysInOk, StaysInErr, Leaves, LeavesNoMore};
+ghost use Rattle.store_table.specs.Connections.{HasStore, Finds, Makes, Shows, Refuses, Stays, StaysInOk, StaysCommitted, LeavesNoMore, LeavesOfStore};
 ghost use Rattle.store_table.specs.Latest.{IsThere};
 ghost use Rattle.mst_commands.specs.Faults.{IsTooLong};
 ghost use Rattle.mst_commands.specs.Writes.{WritesBy};
 ghost use Rattle.mst_commands.specs.Malformed.{IsFailure, IsImportRefused};
-ghost use Rattle.mst_commands.specs.Imports.{IsDated, is_newer, AddsOf, Imports};
+ghost use Rattle.mst_commands.specs.Imports.{IsDated, AreDated, HaveFutureTime, is_newer, AddsOf, Imports};
 
 use crate::fault::Fault;
 use crate::records::{MOST, read_entries};
@@ -67,7 +65,7 @@ pub fn put_text<S: Alter>(
     ensures untouched { IfErr result (λ why. IsTooLong why → conn.new ≡ conn.old) }
     ensures faults { IfErr result (λ why. ¬ IsTooLong why → IsFailure why) }
     // A crash leaves what it could leave before, or a database with the write.
-    ensures crash { HasStore S.Store conn.old → Leaves S.Store conn.old conn.new (WritesBy key.now writer.now now (Some text)) }
+    ensures crash { LeavesOfStore S.Store conn.old conn.new (WritesBy key.now writer.now now (Some text)) }
 {
     within(key, "the key")?;
     within(text.as_str(), "the value")?;
@@ -91,13 +89,11 @@ pub fn del<S: Alter>(
     ensures written { Makes S.Store conn.old conn.new result (WritesBy key.now writer.now now None) }
     ensures there { Shows S.Store conn.old conn.new result (λ db. IsThere db.trees key.now true) }
     // Where the key isn't there, nothing is written.
-    ensures absent { HasStore S.Store conn.old → IsClean S.Store conn.new → IsErrOf result Fault.NoKey
-        → IsThere (database S.Store conn.old).trees key.now false }
-    ensures untouched { HasStore S.Store conn.old → IsClean S.Store conn.new → IsErrOf result Fault.NoKey
-        → IsUnchanged (state S.Store conn.old) (state S.Store conn.new) }
+    ensures absent { Refuses S.Store conn.old conn.new result Fault.NoKey (λ db. IsThere db.trees key.now false) }
+    ensures untouched { Refuses S.Store conn.old conn.new result Fault.NoKey (λ _. Stays S.Store conn.old conn.new) }
     ensures faults { IfErr result (λ why. why ≢ Fault.NoKey → IsFailure why) }
     // A crash leaves what it could leave before, or a database with the removal.
-    ensures crash { HasStore S.Store conn.old → Leaves S.Store conn.old conn.new (WritesBy key.now writer.now now None) }
+    ensures crash { LeavesOfStore S.Store conn.old conn.new (WritesBy key.now writer.now now None) }
 {
     let writer = String::from_str(alloc, writer)?;
     let there = remove(alloc, conn, writer, now, key)?;
@@ -141,7 +137,7 @@ fn all_dated(
     now: u64,
     entries: Entries,
 ) -> Result<Entries, Fault>
-    ensures dated { IsMap text_order rows.now → IfOk result (λ all. AllZip (IsDated rows.now writer.now now) entries.items all.items) }
+    ensures dated { IsMap text_order rows.now → IfOk result (AreDated rows.now writer.now now entries) }
     ensures faults { IfErr result IsFailure }
 {
     let mut all = Vec::new(alloc);
@@ -176,7 +172,7 @@ fn retain_news(news: &mut Entries, rows: &[(String, Register)])
 /// Refuses entries whose time is above the latest that is taken.
 fn not_above(entries: &[(String, Register)], latest: u64) -> Result<(), Fault>
     ensures timely { OnOk result (All (λ entry. entry.1.time ≤ latest) entries.now) }
-    ensures future { IfErr result (λ why. (why ≡ Fault.Store StoreFault.Future) × Any (λ entry. latest < entry.1.time) entries.now) }
+    ensures future { IfErr result (λ why. (why ≡ Fault.Store StoreFault.Future) × HaveFutureTime latest entries.now) }
 {
     'entries: for entry in entries {
         if entry.1.time > latest {
@@ -197,7 +193,7 @@ fn entries_to_add<S: Alter>(
 ) -> Result<Entries, Fault>
     ensures added { Finds S.Store conn.old conn.new result (λ db added. AddsOf log writer.now now db.trees came.items added.items) }
     ensures unchanged { HasStore S.Store conn.old → StaysInOk S.Store conn.old conn.new result }
-    ensures refused { HasStore S.Store conn.old → IsCommitted S.Store conn.old → StaysInErr S.Store conn.old conn.new result }
+    ensures refused { StaysCommitted S.Store conn.old conn.new result }
     ensures clean { doubt (state S.Store conn.old).is_clean ≤ doubt (state S.Store conn.new).is_clean }
     ensures crash { HasStore S.Store conn.old → LeavesNoMore S.Store conn.old conn.new }
     ensures faults { IfErr result IsFailure }
@@ -227,11 +223,11 @@ pub fn import<S: Alter, R: Read + Drop>(
     log: Option<u64>,
 ) -> Result<(), Fault>
     ensures written { Makes S.Store conn.old conn.new result (Imports (R.remaining from) log writer.now now) }
-    ensures refused { HasStore S.Store conn.old → IsCommitted S.Store conn.old → StaysInErr S.Store conn.old conn.new result }
+    ensures refused { StaysCommitted S.Store conn.old conn.new result }
     // It is refused for its header or one of its records only where these are wrong.
     ensures malformed { IfErr result (IsImportRefused (is_some log) (R.remaining from)) }
     // A crash leaves what it could leave before, or a database with all that is imported.
-    ensures crash { HasStore S.Store conn.old → Leaves S.Store conn.old conn.new (Imports (R.remaining from) log writer.now now) }
+    ensures crash { LeavesOfStore S.Store conn.old conn.new (Imports (R.remaining from) log writer.now now) }
 {
     let came = read_entries(alloc, from, log.is_some())?;
     let added = entries_to_add(alloc, conn, writer, now, came, log)?;
