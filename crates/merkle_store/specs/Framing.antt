@@ -12,7 +12,11 @@ framed message = to_le_bytes w64 (length message) ++ message
 abbrev pub Streams : Type 0
 Streams = Option (List ℕ) × Option (List ℕ)
 
+-- nothing was read, since nothing is left to be read
+abbrev pub HasEnded : Option (List ℕ) → Option (List ℕ) → Type 0
+HasEnded before after = Consumes before after [] × IsAtEnd after
+
 -- the next message was read; or none, since nothing is left to be read
 abbrev pub HasCome : Option (List ℕ) → Option (List ℕ) → Option (Vec ℕ) → Type 0
-HasCome before after None = Consumes before after [] × IsAtEnd after
+HasCome before after None = HasEnded before after
 HasCome before after (Some message) = Consumes before after (framed message.items)

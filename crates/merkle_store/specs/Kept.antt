@@ -1,13 +1,13 @@
 -- When the rows in memory are those of the file.
-use Rattle.std.specs.Prelude.{◌≡◌, ℕ, Bool, true, false, List, [], Option, Some, Result, OnOk, string_bytes}
+use Rattle.std.specs.Prelude.{◌≡◌, ℕ, Bool, true, false, List, [], ◌∷◌, Option, Some, Result, OnOk, string_bytes}
 use Rattle.std.specs.Ordering.{is_eq}
 use Rattle.key_order.specs.Text.{Text as Key, text_order}
 use Rattle.key_order.specs.Map.{SameValue, get}
-use Rattle.key_order.specs.Join.{joined}
+use Rattle.key_order.specs.Join.{joined, IsJoin}
 use Rattle.sqlite.specs.Effect.{Database}
 use Rattle.sqlite.specs.Held.{Held}
 use Rattle.sqlite.specs.Store.{Ghosts}
-use Rattle.merkle_replica.specs.Puts.{gathered, HasGathered}
+use Rattle.merkle_replica.specs.Puts.{gathered, HasGathered, IsPuts}
 use Rattle.store_table.specs.Entries.{store_schema, HoldsEntries, IsNoted}
 use Rattle.store_table.specs.Connections.{database, IsClean, IsCommitted}
 use Rattle.store_table.specs.Latest.{IsLatestAt}
@@ -60,6 +60,14 @@ HasRegister rows key register = SameRegister (get text_order rows key) (Some reg
 abbrev pub HasJoined : List (Key × Register) → List (Key × Register) → List (Key × Register) → Type 0
 HasJoined = HasGathered text_order same_register later_register
 
+-- the new rows are the join of the old ones with one entry
+abbrev pub HasJoinedOne : List (Key × Register) → Key → Register → List (Key × Register) → Type 0
+HasJoinedOne old key register new = IsJoin text_order same_register later_register old ((key, register) ∷ []) new
+
+-- the new rows are what the old ones become where these entries are put, one after the other
+abbrev pub HasPut : List (Key × Register) → List (Key × Register) → List (Key × Register) → Type 0
+HasPut = IsPuts text_order same_register later_register
+
 -- the rows in memory are those of the database, which is a store of this writer
 abbrev pub AreInStep : List ℕ → Database → List (Key × Register) → Type 0
 AreInStep = IsKept same_register later_register
@@ -72,14 +80,26 @@ AreRowsOf db rows = (writer : List ℕ) → IsNoted db.trees FORMAT writer → A
 abbrev pub TellFound : Database → List (Key × Register) → Type 0
 TellFound db rows = (key : Key) (found : Option Register) → IsLatestAt db.trees (string_bytes key) found → SameRegister found (get text_order rows key)
 
+-- rows in memory that are those of a database tell what is found in it
+abbrev pub InStepTellFound : Type 0
+InStepTellFound = (writer : List ℕ) (db : Database) (rows : List (Key × Register)) → AreInStep writer db rows → TellFound db rows
+
 -- a store writes by the same name, and takes entries up to the same time
 abbrev pub StaysSet : {S : Type 0} → Store S → Store S → Type 0
 StaysSet old new = (new.writer ≡ old.writer) × (new.latest ≡ old.latest)
 
 module _ {S : Type 0} (g : Ghosts S) where
+  -- the rows in memory are those of the database that a connection shows, which is a store of the writer of this name
+  abbrev pub AreInStepWith : Held S → Key → List (Key × Register) → Type 0
+  AreInStepWith conn writer rows = AreInStep (string_bytes writer) (database g conn) rows
+
   -- the rows of the store in memory are those of its file
   abbrev pub IsInStep : Store S → Type 0
-  IsInStep store = AreInStep (string_bytes store.writer) (database g store.conn) store.replica.rows
+  IsInStep store = AreInStepWith store.conn store.writer store.replica.rows
+
+  -- over a clean disk, a store that was in step is so after a call that is `Ok`
+  abbrev pub KeepsInStep : {A E : Type 0} → Store S → Store S → Result A E → Type 0
+  KeepsInStep old new result = IsClean g new.conn → IsInStep old → OnOk result (IsInStep new)
 
   -- over a clean disk, a store opened again has the rows of the one that was closed, if that was in step with what was committed
   abbrev pub Reopens : Store S → Store S → Type 0

@@ -4,7 +4,7 @@ use Rattle.key_order.specs.Text.{Text}
 use Rattle.sqlite.specs.Effect.{Database}
 use Rattle.sqlite.specs.Held.{Held, state}
 use Rattle.sqlite.specs.Store.{Ghosts}
-use Rattle.store_table.specs.Connections.{database, HasStore, IsClean}
+use Rattle.store_table.specs.Connections.{database, HasStore, IsClean, LeavesOfStore}
 use Rattle.store_table.specs.declared.fault.StoreFault.TheVariants.{Behind}
 use Rattle.store_table.specs.declared.register.Register.{Register}
 use Rattle.merkle_store.specs.Framing.{Streams}
@@ -38,6 +38,10 @@ pub record HasBrought {S : Type 0} (g : Ghosts S) (old new : Store S) (most : �
   pub news : brought.news ≡ length (later_entries old.replica.rows came)
   pub joined : HasJoined old.replica.rows came new.replica.rows
   pub added : HasStore g old.conn → IsClean g new.conn → HasNews old came (database g old.conn) (database g new.conn)
+
+-- of a store's database, a crash may leave what it could leave before, or one that such a catch-up makes
+abbrev pub LeavesNewsOver : {S : Type 0} → Ghosts S → Store S → Store S → ℕ → Streams → Streams → Type 0
+LeavesNewsOver g old new most before after = LeavesOfStore g old.conn new.conn (HasNewsOver old most before after)
 
 -- the error that says that the file has what came, and memory was refused for the rows in memory
 abbrev pub IsBehind : PullFault → Type 0

@@ -9,10 +9,12 @@ use Rattle.sqlite.specs.Store.{Ghosts}
 use Rattle.store_table.specs.Changes.{HasMore}
 use Rattle.store_table.specs.Connections.{database, IsClean}
 use Rattle.store_table.specs.Entries.{entry_row}
+use Rattle.store_table.specs.Faults.{IsUnwritten}
 use Rattle.store_table.specs.Registers.{time_after, is_later}
 use Rattle.store_table.specs.declared.fault.StoreFault.{StoreFault}
-use Rattle.store_table.specs.declared.fault.StoreFault.TheVariants.{Behind}
+use Rattle.store_table.specs.declared.fault.StoreFault.TheVariants.{Behind, Underway, Future}
 use Rattle.store_table.specs.declared.register.Register.{Register}
+use Rattle.merkle_store.specs.Kept.{HasRegister}
 use Rattle.merkle_store.specs.declared.store.Store.{Store}
 
 -- the register that a write makes under a key: at the clock's time, or one above that of the key's
@@ -35,6 +37,14 @@ module _ {S : Type 0} (store : Store S) where
   -- the file has a row more for each of these entries that is later than what the store has for its key
   abbrev pub HasNews : List (Text × Register) → Database → Database → Type 0
   HasNews entries = HasMore (map entry_row (later_entries store.replica.rows entries))
+
+-- the store has for the key what a write over the old one makes
+abbrev pub HasWritten : {S : Type 0} → Store S → Store S → ℕ → Text → Option Text → Type 0
+HasWritten old new now key value = HasRegister new.replica.rows key (register_of old.replica.rows now old.writer key value)
+
+-- a join fails as a write does, unless memory is behind the file, a transaction is open or an entry is from the future
+abbrev pub IsJoinFault : StoreFault → Type 0
+IsJoinFault why = why ≢ Behind → why ≢ Underway → why ≢ Future → IsUnwritten why
 
 -- over a clean disk, while the connection is open, the database is as it was in each error but `Behind`
 abbrev pub StaysUnlessBehind : {S A : Type 0} → Ghosts S → Held S → Held S → Result A StoreFault → Type 0

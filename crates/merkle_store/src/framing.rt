@@ -1,7 +1,7 @@
 //! Messages over a pair of pipes or a socket: each as its length in eight bytes, the lowest first, and its bytes.
-ghost use Rattle.std.specs.Prelude.{◌≡◌, ◌≤◌, ◌++◌, [], length, IfOk, IfSome, IfNone, OnOk};
-ghost use Rattle.std.specs.Io.KnownBytes.{Appends, Consumes, IsAtEnd};
-ghost use Rattle.merkle_store.specs.Framing.{HasCome, framed};
+ghost use Rattle.std.specs.Prelude.{◌≡◌, ◌≤◌, ◌++◌, length, IfOk, IfSome, IfNone, OnOk};
+ghost use Rattle.std.specs.Io.KnownBytes.{Appends, Consumes};
+ghost use Rattle.merkle_store.specs.Framing.{HasCome, HasEnded, framed};
 
 use crate::wire::WireFault;
 use std::alloc::Global;
@@ -119,7 +119,7 @@ fn receive_body<R: Read, P: Watch>(
 /// The next eight bytes, or `None` at the end of the input.
 fn receive_len<R: Read>(from: &mut R) -> Result<Option<[u8; 8]>, WireFault>
     ensures read { IfOk result (λ len. IfSome len (Consumes (R.remaining from.old) (R.remaining from.new))) }
-    ensures none { IfOk result (λ len. IfNone len (Consumes (R.remaining from.old) (R.remaining from.new) [] × IsAtEnd (R.remaining from.new))) }
+    ensures none { IfOk result (λ len. IfNone len (HasEnded (R.remaining from.old) (R.remaining from.new))) }
 {
     let mut len = [0u8; 8];
     let got = match from.read(&mut len) {

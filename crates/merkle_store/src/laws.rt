@@ -1,9 +1,5 @@
 //! Laws over the definitions alone. Each function has no effect and takes no memory.
-ghost use Rattle.std.specs.Prelude.{ℕ, List};
-ghost use Rattle.key_order.specs.Text.{Text as Key};
-ghost use Rattle.sqlite.specs.Effect.{Database};
-ghost use Rattle.store_table.specs.declared.register.Register.{Register};
-ghost use Rattle.merkle_store.specs.Kept.{AreInStep, TellFound};
+ghost use Rattle.merkle_store.specs.Kept.{InStepTellFound};
 ghost use Rattle.merkle_store.specs.Sessions.{ServedBring};
 
 use merkle_delta::laws::replies_bring_what_is_lacked;
@@ -12,7 +8,7 @@ use store_table::Register;
 
 /// What [`find`](store_table::latest::find) answers for a key is what the rows in memory have for it, up to equality.
 pub fn what_is_found_is_kept()
-    ensures { (writer : List ℕ) (db : Database) (rows : List (Key × Register)) → AreInStep writer db rows → TellFound db rows }
+    ensures { InStepTellFound }
 {}
 
 /// A catch-up brings what is lacked where a peer replied to each of its messages, as [`pull`](crate::pulling::pull) and

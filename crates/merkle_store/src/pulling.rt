@@ -2,10 +2,10 @@
 ghost use Rattle.std.specs.Prelude.{◌≡◌, ◌≤◌, length, IfOk, IfErr, OnOk};
 ghost use Rattle.std.specs.Io.KnownBytes.{Appends, Consumes, IsAtEnd};
 ghost use Rattle.merkle_tree_theory.specs.State.{SameSettings};
-ghost use Rattle.store_table.specs.Connections.{HasStore, IsClean, Leaves};
+ghost use Rattle.store_table.specs.Connections.{HasStore};
 ghost use Rattle.merkle_store.specs.Framing.{framed};
-ghost use Rattle.merkle_store.specs.Kept.{IsInStep, StaysSet};
-ghost use Rattle.merkle_store.specs.Pulls.{AreNews, HasBrought, HasNewsOver, IsBehind, StaysUnlessPulled};
+ghost use Rattle.merkle_store.specs.Kept.{KeepsInStep, StaysSet};
+ghost use Rattle.merkle_store.specs.Pulls.{AreNews, HasBrought, LeavesNewsOver, IsBehind, StaysUnlessPulled};
 ghost use Rattle.merkle_store.specs.Sessions.{CatchesUp, HasServed};
 
 use crate::fault::StoreFault;
@@ -196,7 +196,7 @@ pub fn pull<S: Alter + Drop, R: Read, W: Write, P: Watch>(
     most: u64,
     watch: &mut P,
 ) -> Result<Brought, PullFault>
-    ensures kept { IsClean S.Store store.new.conn → IsInStep S.Store store.old → OnOk result (IsInStep S.Store store.new) }
+    ensures kept { KeepsInStep S.Store store.old store.new result }
     ensures brought { IfOk result (HasBrought S.Store store.old store.new most (W.contents to.old, R.remaining from.old)
         (W.contents to.new, R.remaining from.new)) }
     ensures settings { StaysSet store.old store.new }
@@ -206,8 +206,8 @@ pub fn pull<S: Alter + Drop, R: Read, W: Write, P: Watch>(
     ensures refused { HasStore S.Store store.old.conn → StaysUnlessPulled S.Store store.old.conn store.new.conn result }
 
     // A crash leaves what it could leave before, or a database with a row more for each entry that came and is later, and no other.
-    ensures crash { HasStore S.Store store.old.conn → Leaves S.Store store.old.conn store.new.conn
-        (HasNewsOver store.old most (W.contents to.old, R.remaining from.old) (W.contents to.new, R.remaining from.new)) }
+    ensures crash { LeavesNewsOver S.Store store.old store.new most (W.contents to.old, R.remaining from.old)
+        (W.contents to.new, R.remaining from.new) }
 {
     let alloc = store.alloc();
     let (entries, traffic) = entries_of_peer(alloc, &mut store.replica, from, to, most, watch)?;

@@ -1,17 +1,14 @@
 //! A store: its table in the database, and the replica of its entries in memory.
-ghost use Rattle.std.specs.Prelude.{◌≡◌, ◌≢◌, ◌+◌, ◌≤◌, ◌^◌, ◌↔◌, [], length, map, min, string_bytes, IfOk, IfErr, OnOk, OnErr, IsErrOf, IsTrue};
+ghost use Rattle.std.specs.Prelude.{◌≡◌, ◌≢◌, ◌+◌, ◌≤◌, ◌^◌, ◌↔◌, [], length, min, string_bytes, IfOk, IfErr, OnOk, OnErr, IsErrOf, IsTrue};
 ghost use Rattle.std.specs.Option.{option_copied};
 ghost use Rattle.key_order.specs.Text.{text_order};
 ghost use Rattle.key_order.specs.Map.{IsMap, get};
-ghost use Rattle.sqlite.specs.State.{IsUnchanged};
-ghost use Rattle.sqlite.specs.Held.{state};
-ghost use Rattle.store_table.specs.Entries.{entry_row};
-ghost use Rattle.store_table.specs.Changes.{IsBlank, IsNewStore, HasInstead};
-ghost use Rattle.store_table.specs.Connections.{database, HasStore, IsClean, IsCommitted, IsUnderway, Makes, StaysInOk, StaysInErr, Leaves, LeavesNoMore};
+ghost use Rattle.store_table.specs.Changes.{IsBlank, IsNewStore, HasEntriesInstead};
+ghost use Rattle.store_table.specs.Connections.{database, HasStore, IsClean, IsCommitted, IsUnderway, Makes, Stays, StaysInOk, StaysInErr, Leaves, LeavesNoMore, LeavesOfStore};
 ghost use Rattle.store_table.specs.Faults.{IsForeign, IsUnwritten};
-ghost use Rattle.store_table.specs.Registers.{time_after, text_at, HasLastTime, HaveLateTime};
-ghost use Rattle.merkle_store.specs.Kept.{AreInStep, IsInStep, HasRegister, SameButFor, HasJoined, StaysSet};
-ghost use Rattle.merkle_store.specs.Writes.{register_of, later_entries, AreTimely, HasWrite, HasNews, StaysUnlessBehind};
+ghost use Rattle.store_table.specs.Registers.{time_after, text_at, HasLastTimeAt, HaveLateTime};
+ghost use Rattle.merkle_store.specs.Kept.{AreInStep, AreInStepWith, IsInStep, KeepsInStep, SameButFor, HasJoined, StaysSet};
+ghost use Rattle.merkle_store.specs.Writes.{later_entries, AreTimely, HasWrite, HasWritten, HasNews, IsJoinFault, StaysUnlessBehind};
 
 use crate::lookup::register_at;
 use crate::news::news_of;
@@ -68,7 +65,7 @@ pub fn read_store<S: Alter>(
     ensures only_foreign { IsClean S.Store conn.new → IsErrOf result StoreFault.Foreign → IsForeign (database S.Store conn.old) }
 
     // Its rows are read, and nothing is written.
-    ensures kept { IsClean S.Store conn.new → IfOk result (λ read. AreInStep (string_bytes read.0) (database S.Store conn.new) read.1.rows) }
+    ensures kept { IsClean S.Store conn.new → IfOk result (λ read. AreInStepWith S.Store conn.new read.0 read.1.rows) }
     ensures unchanged { StaysInOk S.Store conn.old conn.new result }
     ensures crash { LeavesNoMore S.Store conn.old conn.new }
 {
@@ -90,7 +87,7 @@ pub fn open<S: Alter + Drop>(
 ) -> Result<Store<S>, StoreFault>
     ensures foreign { ¬ HasStore S.Store conn → IsErrOf result StoreFault.Foreign }
     ensures kept { IfOk result (λ store. IsClean S.Store store.conn → IsInStep S.Store store) }
-    ensures unchanged { IfOk result (λ store. IsClean S.Store store.conn → IsUnchanged (state S.Store conn) (state S.Store store.conn)) }
+    ensures unchanged { IfOk result (λ store. IsClean S.Store store.conn → Stays S.Store conn store.conn) }
     ensures crash { IfOk result (λ store. LeavesNoMore S.Store conn store.conn) }
 
     // It takes entries of a peer whose time is a day ahead of the clock at most.
@@ -171,7 +168,7 @@ impl<S: Alter + Drop> Store<S> {
     /// [`StoreFault::Time`] where the key's register has the greatest time of all.
     pub fn later_time(&self, key: &String, now: u64) -> Result<u64, StoreFault>
         ensures time { IfOk result (λ time. time ≡ time_after (get text_order self.now.replica.rows key.now) now) }
-        ensures last { IfErr result (λ why. (why ≡ StoreFault.Time) × HasLastTime (get text_order self.now.replica.rows key.now)) }
+        ensures last { IfErr result (λ why. (why ≡ StoreFault.Time) × HasLastTimeAt self.now.replica.rows key.now) }
     {
         let Some(register) = self.register(key) else {
             return Ok(now);
@@ -189,10 +186,10 @@ impl<S: Alter + Drop> Store<S> {
     /// [`StoreFault::Time`] where the key's register has the greatest time of all, [`StoreFault::Behind`] where the file has the write and
     /// memory was refused for the row in memory, and faults of the file; but for `Behind` all is as it was.
     pub fn write(&mut self, now: u64, key: String, value: Option<String>) -> Result<(), StoreFault>
-        ensures kept { IsClean S.Store self.new.conn → IsInStep S.Store self.old → OnOk result (IsInStep S.Store self.new) }
+        ensures kept { KeepsInStep S.Store self.old self.new result }
 
         // The key then has what was written, and each other key what it had.
-        ensures written { OnOk result (HasRegister self.new.replica.rows key (register_of self.old.replica.rows now self.old.writer key value)) }
+        ensures written { OnOk result (HasWritten self.old self.new now key value) }
         ensures others { OnOk result (SameButFor key self.new.replica.rows self.old.replica.rows) }
         ensures settings { StaysSet self.old self.new }
         ensures added { Makes S.Store self.old.conn self.new.conn result (HasWrite self.old now key value) }
@@ -204,7 +201,7 @@ impl<S: Alter + Drop> Store<S> {
         ensures refused { IsCommitted S.Store self.old.conn → StaysUnlessBehind S.Store self.old.conn self.new.conn result }
 
         // A crash leaves what it could leave before, or a database with the one row more.
-        ensures crash { HasStore S.Store self.old.conn → Leaves S.Store self.old.conn self.new.conn (HasWrite self.old now key value) }
+        ensures crash { LeavesOfStore S.Store self.old.conn self.new.conn (HasWrite self.old now key value) }
     {
         let time = self.later_time(&key, now)?;
         let writer = self.writer.clone()?;
@@ -243,13 +240,13 @@ impl<S: Alter + Drop> Store<S> {
     /// can't hold the time of one that is later; [`StoreFault::Underway`]; [`StoreFault::Behind`] where the file has the entries and memory
     /// was refused for the rows in memory; and faults of the file. But for `Behind` all is as it was.
     pub fn join(&mut self, entries: Entries) -> Result<usize, StoreFault>
-        ensures kept { IsClean S.Store self.new.conn → IsInStep S.Store self.old → OnOk result (IsInStep S.Store self.new) }
+        ensures kept { KeepsInStep S.Store self.old self.new result }
         ensures joined { OnOk result (HasJoined self.old.replica.rows entries.items self.new.replica.rows) }
         ensures count { IfOk result (λ count. count ≡ length (later_entries self.old.replica.rows entries.items)) }
         ensures settings { StaysSet self.old self.new }
         ensures added { Makes S.Store self.old.conn self.new.conn result (HasNews self.old entries.items) }
         ensures late { IsErrOf result StoreFault.Time → HaveLateTime (later_entries self.old.replica.rows entries.items) }
-        ensures faults { IfErr result (λ why. why ≢ StoreFault.Behind → why ≢ StoreFault.Underway → why ≢ StoreFault.Future → IsUnwritten why) }
+        ensures faults { IfErr result IsJoinFault }
         ensures timely { OnOk result (AreTimely self.old.latest entries.items) }
         ensures future { IsErrOf result StoreFault.Future ↔ ¬ AreTimely self.old.latest entries.items }
         ensures underway { IsErrOf result StoreFault.Underway → IsUnderway S.Store self.old.conn }
@@ -260,7 +257,7 @@ impl<S: Alter + Drop> Store<S> {
         ensures refused { HasStore S.Store self.old.conn → StaysUnlessBehind S.Store self.old.conn self.new.conn result }
 
         // A crash leaves what it could leave before, or a database with a row more for each entry that is later, and no other.
-        ensures crash { HasStore S.Store self.old.conn → Leaves S.Store self.old.conn self.new.conn (HasNews self.old entries.items) }
+        ensures crash { LeavesOfStore S.Store self.old.conn self.new.conn (HasNews self.old entries.items) }
     {
         let news = self.news(entries)?;
         let count = news.len();
@@ -278,17 +275,17 @@ impl<S: Alter + Drop> Store<S> {
     ///
     /// [`StoreFault::Underway`] where a transaction is open, and faults of the file, by which all is as it was.
     pub fn compact(&mut self) -> Result<(), StoreFault>
-        ensures kept { IsClean S.Store self.new.conn → IsInStep S.Store self.old → OnOk result (IsInStep S.Store self.new) }
+        ensures kept { KeepsInStep S.Store self.old self.new result }
         ensures same { self.new.replica ≡ self.old.replica }
         ensures settings { StaysSet self.old self.new }
-        ensures compacted { Makes S.Store self.old.conn self.new.conn result (HasInstead (map entry_row self.old.replica.rows)) }
+        ensures compacted { Makes S.Store self.old.conn self.new.conn result (HasEntriesInstead self.old.replica.rows) }
         ensures late { IsErrOf result StoreFault.Time → HaveLateTime self.old.replica.rows }
         ensures faults { IfErr result (λ why. why ≢ StoreFault.Underway → IsUnwritten why) }
         ensures underway { IsErrOf result StoreFault.Underway → IsUnderway S.Store self.old.conn }
         ensures refused { HasStore S.Store self.old.conn → StaysInErr S.Store self.old.conn self.new.conn result }
 
         // A crash leaves what it could leave before, or a database with one row for each key, the one in memory.
-        ensures crash { HasStore S.Store self.old.conn → Leaves S.Store self.old.conn self.new.conn (HasInstead (map entry_row self.old.replica.rows)) }
+        ensures crash { LeavesOfStore S.Store self.old.conn self.new.conn (HasEntriesInstead self.old.replica.rows) }
     {
         rewrite(&mut self.conn, &self.replica)?;
         self.rows = self.replica.rows().len();

@@ -1,17 +1,14 @@
 //! The rows in memory, kept as those of the file.
-ghost use Rattle.std.specs.Prelude.{◌≡◌, ◌≢◌, ◌≤◌, ◌^◌, [], ◌∷◌, map, IfOk, IfErr, OnOk, OnErr, IsErrOf};
-ghost use Rattle.key_order.specs.Text.{text_order};
-ghost use Rattle.key_order.specs.Join.{IsJoin};
-ghost use Rattle.merkle_replica.specs.Puts.{IsPuts};
+ghost use Rattle.std.specs.Prelude.{◌≡◌, ◌≢◌, ◌≤◌, ◌^◌, [], ◌∷◌, IfOk, IfErr, OnOk, OnErr, IsErrOf};
 ghost use Rattle.sqlite.specs.View.{doubt};
 ghost use Rattle.sqlite.specs.Held.{state};
 ghost use Rattle.store_table.specs.Entries.{entry_row};
-ghost use Rattle.store_table.specs.Changes.{HasMore, HasInstead};
-ghost use Rattle.store_table.specs.Connections.{HasStore, IsClean, IsCommitted, IsUnderway, Finds, Makes, StaysInOk, StaysInErr, Leaves, LeavesNoMore};
+ghost use Rattle.store_table.specs.Changes.{HasMore, HasEntriesMore, HasEntriesInstead};
+ghost use Rattle.store_table.specs.Connections.{HasStore, IsClean, IsCommitted, IsUnderway, Finds, Makes, StaysInOk, StaysInErr, LeavesNoMore, LeavesOfStore};
 ghost use Rattle.store_table.specs.Faults.{IsFailure, IsUnwritten};
 ghost use Rattle.store_table.specs.Registers.{HaveLateTime};
 ghost use Rattle.store_table.specs.declared.fault.StoreFault.TheVariants.{Behind};
-ghost use Rattle.merkle_store.specs.Kept.{same_register, later_register, AreRowsOf, HasJoined, StayInStep};
+ghost use Rattle.merkle_store.specs.Kept.{AreRowsOf, HasJoined, HasJoinedOne, HasPut, StayInStep};
 ghost use Rattle.merkle_store.specs.Writes.{StaysUnlessBehind};
 
 use merkle_digest::SipHasher;
@@ -27,7 +24,7 @@ pub type EntryReplica = Replica<String, Register, SipHasher, 16>;
 
 /// The replica of entries in any order.
 fn replica_of(alloc: Global, entries: Entries) -> Result<EntryReplica, StoreFault>
-    ensures puts { IfOk result (λ replica. IsPuts text_order same_register later_register [] entries.items replica.rows) }
+    ensures puts { IfOk result (λ replica. HasPut [] entries.items replica.rows) }
     ensures failed { IfErr result IsFailure }
 {
     let mut replica = Replica::new(alloc, Builder::default().with_page_format(PageFormat::V2));
@@ -69,7 +66,7 @@ fn join_in_memory(
 ) -> Result<(), StoreFault>
     ensures behind { IfErr result (λ why. why ≡ Behind) }
     ensures unchanged { OnErr result (replica.new ≡ replica.old) }
-    ensures joined { OnOk result (IsJoin text_order same_register later_register replica.old.rows ((key, register) ∷ []) replica.new.rows) }
+    ensures joined { OnOk result (HasJoinedOne replica.old.rows key register replica.new.rows) }
 {
     match replica.put(key, register) {
         Ok(()) => Ok(()),
@@ -80,7 +77,7 @@ fn join_in_memory(
 /// Joins entries in memory.
 fn join_all_in_memory(replica: &mut EntryReplica, entries: Entries) -> Result<(), StoreFault>
     ensures behind { IfErr result (λ why. why ≡ Behind) }
-    ensures joined { OnOk result (IsPuts text_order same_register later_register replica.old.rows entries.items replica.new.rows) }
+    ensures joined { OnOk result (HasPut replica.old.rows entries.items replica.new.rows) }
 {
     match replica.put_all(entries) {
         Ok(()) => Ok(()),
@@ -102,7 +99,7 @@ pub fn add_entry<S: Alter>(
 ) -> Result<(), StoreFault>
     // The file and the rows in memory go on together.
     ensures kept { StayInStep S.Store conn.old conn.new replica.old.rows replica.new.rows result }
-    ensures joined { OnOk result (IsJoin text_order same_register later_register replica.old.rows ((key, register) ∷ []) replica.new.rows) }
+    ensures joined { OnOk result (HasJoinedOne replica.old.rows key register replica.new.rows) }
     ensures added { Makes S.Store conn.old conn.new result (HasMore (entry_row (key, register) ∷ [])) }
     ensures late { IsErrOf result StoreFault.Time → 2 ^ 63 ≤ register.time }
     ensures faults { IfErr result (λ why. why ≢ Behind → IsUnwritten why) }
@@ -112,7 +109,7 @@ pub fn add_entry<S: Alter>(
     ensures refused { IsCommitted S.Store conn.old → StaysUnlessBehind S.Store conn.old conn.new result }
 
     // A crash leaves what it could leave before, or a database with the entry.
-    ensures crash { HasStore S.Store conn.old → Leaves S.Store conn.old conn.new (HasMore (entry_row (key, register) ∷ [])) }
+    ensures crash { LeavesOfStore S.Store conn.old conn.new (HasMore (entry_row (key, register) ∷ [])) }
 {
     table::add(conn, key.as_str(), &register)?;
     join_in_memory(replica, key, register)
@@ -132,7 +129,7 @@ pub fn add_entries<S: Alter>(
     // The file and the rows in memory go on together.
     ensures kept { StayInStep S.Store conn.old conn.new replica.old.rows replica.new.rows result }
     ensures joined { OnOk result (HasJoined replica.old.rows entries.items replica.new.rows) }
-    ensures added { Makes S.Store conn.old conn.new result (HasMore (map entry_row entries.items)) }
+    ensures added { Makes S.Store conn.old conn.new result (HasEntriesMore entries.items) }
     ensures late { IsErrOf result StoreFault.Time → HaveLateTime entries.items }
     ensures faults { IfErr result (λ why. why ≢ Behind → why ≢ StoreFault.Underway → IsUnwritten why) }
     ensures underway { IsErrOf result StoreFault.Underway → IsUnderway S.Store conn.old }
@@ -142,7 +139,7 @@ pub fn add_entries<S: Alter>(
     ensures refused { HasStore S.Store conn.old → StaysUnlessBehind S.Store conn.old conn.new result }
 
     // A crash leaves what it could leave before, or a database with all entries.
-    ensures crash { HasStore S.Store conn.old → Leaves S.Store conn.old conn.new (HasMore (map entry_row entries.items)) }
+    ensures crash { LeavesOfStore S.Store conn.old conn.new (HasEntriesMore entries.items) }
 {
     table::add_all(conn, &entries)?;
     join_all_in_memory(replica, entries)
@@ -156,14 +153,14 @@ pub fn add_entries<S: Alter>(
 pub fn rewrite<S: Alter>(conn: &mut Connection<S>, replica: &EntryReplica) -> Result<(), StoreFault>
     // The rows in memory are still those of the file.
     ensures kept { StayInStep S.Store conn.old conn.new replica.now.rows replica.now.rows result }
-    ensures compacted { Makes S.Store conn.old conn.new result (HasInstead (map entry_row replica.now.rows)) }
+    ensures compacted { Makes S.Store conn.old conn.new result (HasEntriesInstead replica.now.rows) }
     ensures late { IsErrOf result StoreFault.Time → HaveLateTime replica.now.rows }
     ensures faults { IfErr result (λ why. why ≢ StoreFault.Underway → IsUnwritten why) }
     ensures underway { IsErrOf result StoreFault.Underway → IsUnderway S.Store conn.old }
     ensures refused { HasStore S.Store conn.old → StaysInErr S.Store conn.old conn.new result }
 
     // A crash leaves what it could leave before, or a database with the rows in memory.
-    ensures crash { HasStore S.Store conn.old → Leaves S.Store conn.old conn.new (HasInstead (map entry_row replica.now.rows)) }
+    ensures crash { LeavesOfStore S.Store conn.old conn.new (HasEntriesInstead replica.now.rows) }
 {
     table::replace_all(conn, replica.rows())
 }
