@@ -1,5 +1,5 @@
 -- Which texts of CSV an import refuses, and what else ends one.
-use Rattle.std.specs.Prelude.{◌≡◌, ◌≢◌, ◌≤◌, ◌<◌, ◌^◌, ℕ, Bool, List, [], ◌∷◌, ◌++◌, length, ⊤, ◌⊎◌, Option, IfSome, IsSomeAnd, string_bytes}
+use Rattle.std.specs.Prelude.{◌≢◌, ◌≤◌, ◌<◌, ◌^◌, ℕ, Bool, List, [], ◌∷◌, ◌++◌, length, ⊤, ◌⊎◌, Option, IfSome, IsSomeAnd, string_bytes}
 use Rattle.key_order.specs.Text.{Text as Key}
 use Rattle.csv.specs.Reading.{Reached, default_config, strip_bom}
 use Rattle.csv.specs.Records.{AllText}
