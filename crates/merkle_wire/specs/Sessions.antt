@@ -7,7 +7,7 @@ use Rattle.key_order.specs.Order.{AnyByRecursion, Same}
 use Rattle.key_order.specs.Map.{IsMap, get}
 use Rattle.merkle_replica.specs.Agreeing.{GiveOneDigest}
 use Rattle.merkle_replica.specs.CatchUp.{IsCatchUp, IsCatchUpOf, IsLacked}
-use Rattle.merkle_replica.specs.Contents.{Side, with_rows, tree_map}
+use Rattle.merkle_replica.specs.Contents.{Contents, Side, side, with_rows, tree_map}
 use Rattle.merkle_replica.specs.Faithful.{AreSetAlike, HasSmallMap, IsCollisionFree, IsFaithful}
 use Rattle.merkle_replica.specs.Laws.{Laws}
 use Rattle.merkle_replica.specs.Pulls.{HoldTheJoin}
@@ -98,33 +98,50 @@ module _ {K V H : Type 0} (laws : Laws K V H) (local peer : Side K V H) where
   abbrev pub HasJoined : ℕ → List (K × V) → Type 0
   HasJoined joined after = (rows : List (K × V)) × (joined ≡ length rows) × AreBrought rows × IsJoin laws.cmp laws.eq laws.join local.rows rows after
 
-  -- while digests are faithful, to have joined so many rows is a catch-up
-  abbrev pub CatchesUpWhileFaithful : ℕ → List (K × V) → Type 0
-  CatchesUpWhileFaithful joined after = IsFaithfulSession → IsCatchUpOf laws local peer joined after
-
-  -- while digests are faithful, the rows are the join of both sides' rows
-  abbrev pub JoinsWhileFaithful : List (K × V) → Type 0
-  JoinsWhileFaithful after = IsFaithfulSession → IsJoin laws.cmp laws.eq laws.join local.rows peer.rows after
-
   -- nothing is joined; or the first `done` of such rows, and not all
   abbrev pub IsMessagesRefused : MessagesError → List (K × V) → Type 0
   IsMessagesRefused (Answer error) after = (after ≡ local.rows) × HasNoReply error
   IsMessagesRefused (Session error) after = after ≡ local.rows
   IsMessagesRefused (Join done) after = (rows : List (K × V)) × AreBrought rows × (done < length rows) × IsJoin laws.cmp laws.eq laws.join local.rows (take done rows) after × (done ≡ 0 → after ≡ local.rows)
 
+module _ {K V H : Type 0} (laws : Laws K V H) (replica peer : Contents K V H) where
+  -- such rows of the peer came to the replica
+  abbrev pub BringsRows : Vec (K × V) → Type 0
+  BringsRows rows = AreBrought laws (side replica) (side peer) rows.items
+
+  module _ (after : Contents K V H) where
+    -- the replica has joined so many of them
+    abbrev pub JoinsNewRows : ℕ → Type 0
+    JoinsNewRows joined = HasJoined laws (side replica) (side peer) joined after.rows
+
+    -- while digests are faithful, to have joined so many rows is a catch-up
+    abbrev pub CatchesUpWhileFaithful : ℕ → Type 0
+    CatchesUpWhileFaithful joined = IsFaithfulSession laws (side replica) (side peer) → IsCatchUpOf laws (side replica) (side peer) joined after.rows
+
+    -- while digests are faithful, the rows are the join of both sides' rows
+    abbrev pub JoinsWhileFaithful : Type 0
+    JoinsWhileFaithful = IsFaithfulSession laws (side replica) (side peer) → IsJoin laws.cmp laws.eq laws.join replica.rows peer.rows after.rows
+
+    -- the catch-up ended early, with no row joined or the first ones
+    abbrev pub EndsEarly : MessagesError → Type 0
+    EndsEarly error = IsMessagesRefused laws (side replica) (side peer) error after.rows
+
 module _ {K V H : Type 0} (laws : Laws K V H) where
   -- a has joined so many rows of b, and then b so many of a
-  abbrev pub HaveJoined : Side K V H → Side K V H → ℕ → ℕ → List (K × V) → List (K × V) → Type 0
-  HaveJoined a b first second a' b' = HasJoined laws a b first a' × HasJoined laws b (with_rows a a') second b'
+  abbrev pub HaveJoined : Contents K V H → Contents K V H → Contents K V H → Contents K V H → ℕ × ℕ → Type 0
+  HaveJoined a b a' b' joined =
+      HasJoined laws (side a) (side b) joined.0 a'.rows × HasJoined laws (side b) (with_rows (side a) a'.rows) joined.1 b'.rows
 
   -- while digests are faithful before each of the two, both hold the join
-  abbrev pub HoldTheJoinWhileFaithful : Side K V H → Side K V H → List (K × V) → List (K × V) → Type 0
-  HoldTheJoinWhileFaithful a b a' b' = IsFaithfulSession laws a b → IsFaithfulSession laws b (with_rows a a') → HoldTheJoin laws a b a' b'
+  abbrev pub HoldTheJoinWhileFaithful : Contents K V H → Contents K V H → Contents K V H → Contents K V H → Type 0
+  HoldTheJoinWhileFaithful a b a' b' = IsFaithfulSession laws (side a) (side b) → IsFaithfulSession laws (side b) (with_rows (side a) a'.rows)
+      → HoldTheJoin laws (side a) (side b) a'.rows b'.rows
 
   -- the first of them ended early, or the second
-  abbrev pub AreBothRefused : Side K V H → Side K V H → BothMessagesError → List (K × V) → List (K × V) → Type 0
-  AreBothRefused a b (First error) a' b' = IsMessagesRefused laws a b error a' × (b' ≡ b.rows)
-  AreBothRefused a b (Second first error) a' b' = HasJoined laws a b first a' × IsMessagesRefused laws b (with_rows a a') error b'
+  abbrev pub AreBothRefused : Contents K V H → Contents K V H → Contents K V H → Contents K V H → BothMessagesError → Type 0
+  AreBothRefused a b a' b' (First error) = IsMessagesRefused laws (side a) (side b) error a'.rows × (b'.rows ≡ b.rows)
+  AreBothRefused a b a' b' (Second first error) =
+      HasJoined laws (side a) (side b) first a'.rows × IsMessagesRefused laws (side b) (with_rows (side a) a'.rows) error b'.rows
 
 module _ {K V H : Type 0} (laws : Laws K V H) (peer : Side K V H) (root : Tree K (List ℕ)) where
   -- the key is that of a node of the peer's page over the gap
@@ -191,9 +208,10 @@ module _ {K V H : Type 0} (laws : Laws K V H) (n : ℕ) (encoding : K → List �
 
 module _ {K V H : Type 0} (laws : Laws K V H) (n : ℕ) (encoding : K → List ℕ) where
   -- where the catch-up covers what the side lacks, by any tree of the peer's map, what comes next covers it
-  abbrev pub GoesOnCovering : Side K V H → Side K V H → Underway K V → Next K V → Type 0
-  GoesOnCovering local peer before next = (root : Tree K (List ℕ)) → IsTreeOf laws.cmp (laws.key_digest peer.hasher) peer.base root (tree_map laws peer)
-      → HasSmallMap laws n peer → Covers laws local peer root before → CoversNext laws local peer root encoding next
+  abbrev pub GoesOnCovering : Contents K V H → Contents K V H → Underway K V → Next K V → Type 0
+  GoesOnCovering replica peer before next = (root : Tree K (List ℕ))
+      → IsTreeOf laws.cmp (laws.key_digest peer.tree.hasher) peer.tree.base root (tree_map laws (side peer)) → HasSmallMap laws n (side peer)
+      → Covers laws (side replica) (side peer) root before → CoversNext laws (side replica) (side peer) root encoding next
 
 module _ {K V H : Type 0} (laws : Laws K V H) where
   -- a session brings rows of the peer that the side lacks

@@ -5,7 +5,7 @@ use Rattle.std.specs.List.{AllByRecursion}
 use Rattle.std.specs.Ordering.{is_eq}
 use Rattle.std.specs.declared.cmp.Ordering.{Ordering}
 use Rattle.key_order.specs.Map.{IsMap, get}
-use Rattle.merkle_replica.specs.Contents.{Side, tree_map}
+use Rattle.merkle_replica.specs.Contents.{Contents, Side, side, tree_map}
 use Rattle.merkle_replica.specs.Faithful.{AreSetAlike, HasSmallMap}
 use Rattle.merkle_replica.specs.Laws.{Laws}
 use Rattle.merkle_tree_theory.specs.Canonical.{IsTreeOf}
@@ -175,14 +175,19 @@ module _ {K V H : Type 0} (laws : Laws K V H) (n : ℕ) (peer : Side K V H) wher
   abbrev pub GoesDown : Underway K V → Next K V → Type 0
   GoesDown before next = WhileSteady (λ root. LeavesLess laws peer root before next) before
 
-  module _ (local : Side K V H) where
-    -- what comes next has keys of the two sides alone
-    abbrev pub KeepsKeys : Next K V → Type 0
-    KeepsKeys next = HasSmallMap laws n peer → HasKeysNext laws local peer next
+  -- what comes next has keys of the two sides alone
+  abbrev pub KeepsKeys : Side K V H → Next K V → Type 0
+  KeepsKeys local next = HasSmallMap laws n peer → HasKeysNext laws local peer next
 
-    -- a steady catch-up ends early for want of memory alone
-    abbrev pub EndsForMemory : (K → Type 0) → (V → Type 0) → Underway K V → MessagesError → Type 0
-    EndsForMemory is_key is_value before fault = WhileSteady (λ root. IsForMemory laws local peer is_key is_value fault) before
+module _ {K V H : Type 0} (laws : Laws K V H) where
+  -- between replicas that are set alike and whose rows can be told, a session ends early for want of memory alone
+  abbrev pub LacksMemory : Contents K V H → Contents K V H → (K → Type 0) → (V → Type 0) → MessagesError → Type 0
+  LacksMemory replica peer is_key is_value fault = IsForMemory laws (side replica) (side peer) is_key is_value fault
+
+  -- so does a catch-up that is steady
+  abbrev pub EndsForMemory : ℕ → Contents K V H → Contents K V H → (K → Type 0) → (V → Type 0) → Underway K V → MessagesError → Type 0
+  EndsForMemory n peer local is_key is_value before fault =
+      WhileSteady laws n (side peer) (λ root. IsForMemory laws (side local) (side peer) is_key is_value fault) before
 
 -- a catch-up that begins asks for the root, and has found nothing
 pub record IsBegun {K V : Type 0} (begun : Underway K V) : Type 0 where

@@ -3,9 +3,9 @@ ghost use Rattle.std.specs.Prelude.{◌≡◌, IfOk, IfErr, OnOk};
 ghost use Rattle.merkle_replica.specs.Contents.{side};
 ghost use Rattle.merkle_tree_theory.specs.State.{SameSettings};
 ghost use Rattle.merkle_wire.specs.Questions.{question_bytes};
-ghost use Rattle.merkle_wire.specs.Sessions.{AreBrought, CatchesUpWhileFaithful, HasJoined, HaveJoined, HoldTheJoinWhileFaithful, JoinsWhileFaithful};
-ghost use Rattle.merkle_wire.specs.Sessions.{AreBothRefused, GoesOnCovering, IsMessagesRefused, IsEarly, TellsOwn, TellsOwnNext};
-ghost use Rattle.merkle_wire.specs.Steady.{EndsForMemory, GoesDown, HasKeysOfSides, IsForMemory, KeepsKeys, StaysSteady};
+ghost use Rattle.merkle_wire.specs.Sessions.{AreBothRefused, BringsRows, CatchesUpWhileFaithful, EndsEarly, GoesOnCovering, HaveJoined};
+ghost use Rattle.merkle_wire.specs.Sessions.{HoldTheJoinWhileFaithful, IsEarly, JoinsNewRows, JoinsWhileFaithful, TellsOwn, TellsOwnNext};
+ghost use Rattle.merkle_wire.specs.Steady.{EndsForMemory, GoesDown, HasKeysOfSides, KeepsKeys, LacksMemory, StaysSteady};
 
 use crate::answering::{AnswerError, answer};
 use crate::catching_up::{CatchingUp, Next};
@@ -44,18 +44,17 @@ pub fn catch_up_by_messages<
     peer: &mut Replica<K, V, H, N>,
 ) -> Result<usize, MessagesError>
     // New rows of the peer are joined; while digests are faithful, all that this side lacked.
-    ensures joined { IfOk result (λ joined. HasJoined ⟦<H as Lawful<N, K, V>>⟧.laws (side replica.old) (side peer.old) joined replica.new.rows) }
+    ensures joined { IfOk result (JoinsNewRows ⟦<H as Lawful<N, K, V>>⟧.laws replica.old peer.old replica.new) }
 
     // So it is a catch-up then, and leaves the join of both sides' rows.
-    ensures catch_up { IfOk result (λ joined. CatchesUpWhileFaithful ⟦<H as Lawful<N, K, V>>⟧.laws (side replica.old) (side peer.old)
-        joined replica.new.rows) }
-    ensures join { OnOk result (JoinsWhileFaithful ⟦<H as Lawful<N, K, V>>⟧.laws (side replica.old) (side peer.old) replica.new.rows) }
+    ensures catch_up { IfOk result (CatchesUpWhileFaithful ⟦<H as Lawful<N, K, V>>⟧.laws replica.old peer.old replica.new) }
+    ensures join { OnOk result (JoinsWhileFaithful ⟦<H as Lawful<N, K, V>>⟧.laws replica.old peer.old replica.new) }
 
     // Refused, it has joined no row, or the first ones. For its settings it is refused only where the two are not set alike.
-    ensures refused { IfErr result (λ fault. IsMessagesRefused ⟦<H as Lawful<N, K, V>>⟧.laws (side replica.old) (side peer.old) fault replica.new.rows) }
+    ensures refused { IfErr result (EndsEarly ⟦<H as Lawful<N, K, V>>⟧.laws replica.old peer.old replica.new) }
 
     // Between sides that are set alike and whose rows can be told it ends early for want of memory alone.
-    ensures memory { IfErr result (IsForMemory ⟦<H as Lawful<N, K, V>>⟧.laws (side replica.old) (side peer.old) K.is_value V.is_value) }
+    ensures memory { IfErr result (LacksMemory ⟦<H as Lawful<N, K, V>>⟧.laws replica.old peer.old K.is_value V.is_value) }
 
     ensures peer_rows { peer.new.rows ≡ peer.old.rows }
     ensures settings { SameSettings replica.old.tree replica.new.tree }
@@ -100,12 +99,12 @@ pub fn catch_up_both_by_messages<
     a: &mut Replica<K, V, H, N>,
     b: &mut Replica<K, V, H, N>,
 ) -> Result<(usize, usize), BothMessagesError>
-    ensures joined { IfOk result (λ joined. HaveJoined ⟦<H as Lawful<N, K, V>>⟧.laws (side a.old) (side b.old) joined.0 joined.1 a.new.rows b.new.rows) }
+    ensures joined { IfOk result (HaveJoined ⟦<H as Lawful<N, K, V>>⟧.laws a.old b.old a.new b.new) }
 
     // While digests are faithful before each of them, both then hold the join.
-    ensures join { OnOk result (HoldTheJoinWhileFaithful ⟦<H as Lawful<N, K, V>>⟧.laws (side a.old) (side b.old) a.new.rows b.new.rows) }
+    ensures join { OnOk result (HoldTheJoinWhileFaithful ⟦<H as Lawful<N, K, V>>⟧.laws a.old b.old a.new b.new) }
 
-    ensures refused { IfErr result (λ error. AreBothRefused ⟦<H as Lawful<N, K, V>>⟧.laws (side a.old) (side b.old) error a.new.rows b.new.rows) }
+    ensures refused { IfErr result (AreBothRefused ⟦<H as Lawful<N, K, V>>⟧.laws a.old b.old a.new b.new) }
     ensures a_settings { SameSettings a.old.tree a.new.tree }
     ensures b_settings { SameSettings b.old.tree b.new.tree }
 {
@@ -130,9 +129,9 @@ fn rows_by_messages<
     replica: &mut Replica<K, V, H, N>,
     peer: &mut Replica<K, V, H, N>,
 ) -> Result<Vec<(K, V)>, MessagesError>
-    ensures brought { IfOk result (λ rows. AreBrought ⟦<H as Lawful<N, K, V>>⟧.laws (side replica.old) (side peer.old) rows.items) }
+    ensures brought { IfOk result (BringsRows ⟦<H as Lawful<N, K, V>>⟧.laws replica.old peer.old) }
     ensures early { IfErr result (IsEarly ⟦<H as Lawful<N, K, V>>⟧.laws (side replica.old) (side peer.old)) }
-    ensures memory { IfErr result (IsForMemory ⟦<H as Lawful<N, K, V>>⟧.laws (side replica.old) (side peer.old) K.is_value V.is_value) }
+    ensures memory { IfErr result (LacksMemory ⟦<H as Lawful<N, K, V>>⟧.laws replica.old peer.old K.is_value V.is_value) }
     ensures rows { replica.new.rows ≡ replica.old.rows }
     ensures settings { SameSettings replica.old.tree replica.new.tree }
     ensures peer_rows { peer.new.rows ≡ peer.old.rows }
@@ -167,12 +166,12 @@ fn exchange<K: Key + Decode, V: Join + Decode, H: Hasher<N, K> + Hasher<N, V>, c
     requires own { TellsOwn ⟦<H as Lawful<N, K, V>>⟧.laws N (side replica.now) session.asked }
     requires keys { HasKeysOfSides ⟦<H as Lawful<N, K, V>>⟧.laws (side replica.now) (side peer.now) session }
     ensures own { IfOk result (TellsOwnNext ⟦<H as Lawful<N, K, V>>⟧.laws N (side replica.old)) }
-    ensures covers { IfOk result (GoesOnCovering ⟦<H as Lawful<N, K, V>>⟧.laws N K.encoding (side replica.old) (side peer.old) session) }
+    ensures covers { IfOk result (GoesOnCovering ⟦<H as Lawful<N, K, V>>⟧.laws N K.encoding replica.old peer.old session) }
     ensures keys { IfOk result (KeepsKeys ⟦<H as Lawful<N, K, V>>⟧.laws N (side peer.old) (side replica.old)) }
     ensures steady { IfOk result (StaysSteady ⟦<H as Lawful<N, K, V>>⟧.laws N (side peer.old) session) }
     ensures less { IfOk result (GoesDown ⟦<H as Lawful<N, K, V>>⟧.laws N (side peer.old) session) }
     ensures early { IfErr result (IsEarly ⟦<H as Lawful<N, K, V>>⟧.laws (side replica.old) (side peer.old)) }
-    ensures memory { IfErr result (EndsForMemory ⟦<H as Lawful<N, K, V>>⟧.laws N (side peer.old) (side replica.old) K.is_value V.is_value session) }
+    ensures memory { IfErr result (EndsForMemory ⟦<H as Lawful<N, K, V>>⟧.laws N peer.old replica.old K.is_value V.is_value session) }
     ensures rows { replica.new.rows ≡ replica.old.rows }
     ensures settings { SameSettings replica.old.tree replica.new.tree }
     ensures peer_rows { peer.new.rows ≡ peer.old.rows }
