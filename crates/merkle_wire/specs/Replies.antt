@@ -12,11 +12,13 @@ use Rattle.merkle_replica.specs.Laws.{Laws}
 use Rattle.merkle_tree_theory.specs.Gap.{pairs_within}
 use Rattle.merkle_tree_theory.specs.Outline.{Item, of_node, of_page, outline_over, whole_item}
 use Rattle.merkle_tree_theory.specs.State.{State}
+use Rattle.merkle_wire.specs.Faults.{IsOfOthers}
 use Rattle.merkle_wire.specs.Gaps.{owned_gap}
 use Rattle.merkle_wire.specs.Messages.{front}
 use Rattle.merkle_wire.specs.Outlines.{Outline, IsTold, outline_bytes}
 use Rattle.merkle_wire.specs.Questions.{question_bytes}
 use Rattle.merkle_wire.specs.Settings.{AreSettingsOf}
+use Rattle.merkle_wire.specs.declared.answering.AnswerError.{AnswerError}
 use Rattle.merkle_wire.specs.declared.gaps.OwnedGap.{OwnedGap}
 use Rattle.merkle_wire.specs.declared.message.Kind.TheVariants.{Root as root_kind, Outlines as outlines_kind, Nodes as nodes_kind, RowsAt as rows_at_kind, RowsIn as rows_in_kind}
 use Rattle.merkle_wire.specs.declared.question.Question.{Question}
@@ -117,9 +119,17 @@ whole_digest [] = None
 whole_digest (of_node k d ∷ xs) = None
 whole_digest (of_page g d ∷ xs) = Some d
 
--- the reply to a question for the root: how many rows there are, and the digest of the root page, or none
+-- the digest of the root page of a tree, where it has a node
+abbrev pub root_page_digest : {K H : Type 0} → (K → List ℕ) → State K H → Option (List ℕ)
+root_page_digest bytes_of tree = whole_digest (whole_item tree.format bytes_of tree.root)
+
+-- a reply to a question for the root: how many rows there are, and the digest of the root page, or none
+abbrev pub root_reply_bytes : ℕ → Option (List ℕ) → List ℕ
+root_reply_bytes count digest = (front root_kind ++ count_bytes count) ++ option_bytes (λ d. d) digest
+
+-- the reply of a replica with these rows and this tree
 abbrev pub root_bytes : {K V H : Type 0} → (K → List ℕ) → List (K × V) → State K H → List ℕ
-root_bytes bytes_of rows tree = (front root_kind ++ count_bytes (length rows)) ++ option_bytes (λ d. d) (whole_digest (whole_item tree.format bytes_of tree.root))
+root_bytes bytes_of rows tree = root_reply_bytes (length rows) (root_page_digest bytes_of tree)
 
 -- the items of the page over a gap
 abbrev pub items_over : {K H : Type 0} → (K → K → Ordering) → (K → List ℕ) → State K H → OwnedGap K → List (Item K (List ℕ))
@@ -140,6 +150,10 @@ module _ {K V H : Type 0} (laws : Laws K V H) (n : ℕ) (encoding : K → List �
   abbrev pub IsReplyBy : List (K × V) → State K H → Question K → Vec ℕ → Type 0
   IsReplyBy rows tree question reply = IsReply laws.cmp laws.bytes_of encoding values (laws.key_digest tree.hasher) n rows tree question reply.items
 
+  -- a replica replies so to a question
+  abbrev pub Replies : Contents K V H → Question K → Vec ℕ → Type 0
+  Replies replica question reply = IsReplyBy replica.rows replica.tree question reply
+
   -- the message asks a question, and this is the reply to it, by the rows that a replica had and the tree that it has
   abbrev pub IsAnsweredBy : Contents K V H → Contents K V H → List ℕ → Vec ℕ → Type 0
   IsAnsweredBy old new message reply = (question : Question K) × (message ≡ question_bytes encoding question) × IsReplyBy old.rows new.tree question reply
@@ -156,3 +170,10 @@ module _ {K V H : Type 0} (laws : Laws K V H) (n : ℕ) where
   -- the message asks such a question
   abbrev pub AsksWithOthers : (K → List ℕ) → State K H → List ℕ → Type 0
   AsksWithOthers encoding tree message = (question : Question K) × (message ≡ question_bytes encoding question) × TellsOthers tree question
+
+  -- a question, or a message, has no reply for its settings only where it tells others
+  abbrev pub RefusesQuestionOfOthers : State K H → Question K → AnswerError → Type 0
+  RefusesQuestionOfOthers tree question error = IsOfOthers error → TellsOthers tree question
+
+  abbrev pub RefusesOthers : (K → List ℕ) → State K H → List ℕ → AnswerError → Type 0
+  RefusesOthers encoding tree message error = IsOfOthers error → AsksWithOthers encoding tree message

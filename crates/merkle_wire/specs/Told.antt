@@ -1,54 +1,105 @@
 -- What the answering side writes of a reply, step by step.
-use Rattle.std.specs.Prelude.{◌≡◌, ℕ, List, [], ◌∷◌, ◌++◌, flat_map, Bool, Option, None}
+use Rattle.std.specs.Prelude.{◌≡◌, ◌≢◌, ℕ, ◌<◌, List, [], ◌∷◌, ◌++◌, length, map, flat_map, take, Option, None}
+use denote.Ref.{Bor}
+use Rattle.std.specs.Global.{Vec}
+use Rattle.std.specs.Option.{option_map}
 use Rattle.std.specs.declared.cmp.Ordering.{Ordering}
 use Rattle.key_order.specs.Map.{get}
+use Rattle.merkle_bytes.specs.Encodings.{AddsBytes}
+use Rattle.merkle_bytes.specs.Options.{option_bytes}
 use Rattle.merkle_bytes.specs.Runs.{bound_key}
 use Rattle.merkle_replica.specs.Contents.{Contents}
-use Rattle.merkle_tree_theory.specs.Outline.{Item}
-use Rattle.merkle_wire.specs.Outlines.{Outline, AreNodes, IsTold, outline_bytes, keys_told, keys_among, nodes_digest, pages_beside, pages_bytes}
-use Rattle.merkle_wire.specs.Replies.{Answers, IsPartOf, Part, RowsFit, items_over, outlines_bytes, part_bytes, parts_bytes, values_bytes}
+use Rattle.merkle_search_tree.specs.Items.{items}
+use Rattle.merkle_search_tree.specs.declared.outline.OutlineItemOf.{OutlineItemOf}
+use Rattle.merkle_wire.specs.Nodes.{node_pairs}
+use Rattle.merkle_wire.specs.Outlines.{Outline, rows_told, AreNodes, IsTold, outline_bytes, keys_told, keys_among}
+use Rattle.merkle_wire.specs.Outlines.{nodes_digest, pages_beside, pages_bytes}
+use Rattle.merkle_wire.specs.Replies.{Answers, IsPartOf, Part, RowsFit, items_over, outlines_bytes, part_bytes, parts_bytes, rows_bytes, values_bytes}
+use Rattle.merkle_wire.specs.RowsAt.{AreRowsAt, HasRowAt}
 use Rattle.merkle_wire.specs.declared.gaps.OwnedGap.{OwnedGap}
+use Rattle.merkle_wire.specs.declared.outlines.Telling.{Telling}
 use Rattle.merkle_wire.specs.declared.wanted.Wanted.{Wanted}
 
+-- the digest of a page that is lent, where there is one
+abbrev pub lent_page_bytes : Option (Bor (List ℕ)) → List ℕ
+lent_page_bytes digest = option_bytes (λ d. d) (option_map (λ d. d.now) digest)
+
 module _ {K : Type 0} (encoding : K → List ℕ) where
-  -- nodes behind a key, as digests
-  abbrev pub digests_bytes : List ℕ → List (K × List ℕ) → List ℕ
-  digests_bytes last nodes = 1 ∷ (keys_told encoding last (keys_among nodes) ++ flat_map (λ p. p.1) nodes)
+  -- the keys of nodes that are lent, behind a key
+  abbrev pub node_keys_bytes : List ℕ → List (Bor K × Bor (List ℕ)) → List ℕ
+  node_keys_bytes last nodes = keys_told encoding last (keys_among (node_pairs nodes))
 
-  -- a page with these items and nodes, behind a key
-  abbrev pub page_bytes : List ℕ → List (K × List ℕ) → List (Item K (List ℕ)) → List ℕ
-  page_bytes last nodes items = 2 ∷ (nodes_digest nodes ++ (keys_told encoding last (keys_among nodes) ++ pages_bytes (pages_beside None items)))
+  -- such nodes behind a key, as digests
+  abbrev pub digests_bytes : List ℕ → List (Bor K × Bor (List ℕ)) → List ℕ
+  digests_bytes last nodes = 1 ∷ (node_keys_bytes last nodes ++ flat_map (λ p. p.1) (node_pairs nodes))
 
-module _ {K V : Type 0} (cmp : K → K → Ordering) (encoding : K → List ℕ) (values : V → List ℕ) (rows : List (K × V)) where
-  -- what is told of nodes is written behind a key
-  abbrev pub TellsNodes : List (K × List ℕ) → List ℕ → List ℕ → List ℕ → Type 0
-  TellsNodes nodes last old new = (told : Outline K V) × AreNodes cmp rows nodes told × (new ≡ old ++ outline_bytes encoding values last told)
+  -- a page with these nodes and items, behind a key
+  abbrev pub page_bytes : List ℕ → List (Bor K × Bor (List ℕ)) → List (OutlineItemOf K (List ℕ)) → List ℕ
+  page_bytes last nodes list = 2 ∷ (nodes_digest (node_pairs nodes) ++ (node_keys_bytes last nodes ++ pages_bytes (pages_beside None (items list))))
+
+module _ {K V : Type 0} (encoding : K → List ℕ) (values : V → List ℕ) where
+  -- rows that are lent, behind a key, as they are told of a page
+  abbrev pub lent_rows_bytes : List ℕ → List (Bor (K × V)) → List ℕ
+  lent_rows_bytes last rows = outline_bytes encoding values last (rows_told (map (λ row. row.now) rows))
+
+  -- the first of the rows are added behind a key, so many of them
+  abbrev pub AddsFirst : List ℕ → List (K × V) → Vec ℕ → Vec ℕ → ℕ → Type 0
+  AddsFirst last rows old new count = AddsBytes old (rows_bytes encoding values last (take count rows)) new
+
+  -- behind each of these but the last there is room for more
+  abbrev pub LeavesRoom : List ℕ → List (K × V) → ℕ → Vec ℕ → ℕ → Type 0
+  LeavesRoom last rows room old count = (i : ℕ) → i ≢ 0 → i < count → length (old.items ++ rows_bytes encoding values last (take i rows)) < room
+
+module _ {K V : Type 0} (cmp : K → K → Ordering) (rows : List (K × V)) where
+  -- the rows of nodes that are lent were found
+  abbrev pub FindsRows : List (Bor K × Bor (List ℕ)) → Vec (Bor (K × V)) → Type 0
+  FindsRows nodes found = AreRowsAt cmp rows (keys_among (node_pairs nodes)) (map (λ row. row.now) found.items)
+
+  -- the row at a key is added to those that were found, where there is one
+  abbrev pub AddsRowAt : K → Vec (Bor (K × V)) → Vec (Bor (K × V)) → Type 0
+  AddsRowAt key old new = HasRowAt cmp rows key (map (λ row. row.now) old.items) (map (λ row. row.now) new.items)
+
+module _ {K V H : Type 0} (cmp : K → K → Ordering) (encoding : K → List ℕ) (values : V → List ℕ) (replica : Contents K V H) where
+  -- what is told of nodes that are lent is written behind a key
+  abbrev pub TellsNodes : List (Bor K × Bor (List ℕ)) → List ℕ → Vec ℕ → Vec ℕ → Type 0
+  TellsNodes nodes last old new = (told : Outline K V) × AreNodes cmp replica.rows (node_pairs nodes) told
+      × AddsBytes old (outline_bytes encoding values last told) new
 
   -- so is what is told of a page with these items
-  abbrev pub TellsItems : Bool → List (Item K (List ℕ)) → List ℕ → List ℕ → List ℕ → Type 0
-  TellsItems with_pages items last old new = (told : Outline K V) × IsTold cmp rows with_pages items told × (new ≡ old ++ outline_bytes encoding values last told)
+  abbrev pub TellsItems : Telling → List (OutlineItemOf K (List ℕ)) → List ℕ → Vec ℕ → Vec ℕ → Type 0
+  TellsItems telling list last old new = (told : Outline K V) × IsTold cmp replica.rows telling.with_pages (items list) told
+      × AddsBytes old (outline_bytes encoding values last told) new
 
+module _ {K V : Type 0} (cmp : K → K → Ordering) (encoding : K → List ℕ) (values : V → List ℕ) (rows : List (K × V)) where
   -- the rows in a gap are written, or the first of them, as far as so many bytes suffice
-  abbrev pub TellsPart : ℕ → OwnedGap K → List ℕ → List ℕ → Type 0
-  TellsPart most gap old new = (part : Part K V) × IsPartOf cmp rows gap part × (new ≡ old ++ part_bytes encoding values (bound_key encoding [] gap.after) part)
-      × RowsFit encoding values most old (gap, part)
+  abbrev pub TellsPart : ℕ → OwnedGap K → Vec ℕ → Vec ℕ → Type 0
+  TellsPart most gap old new = (part : Part K V) × IsPartOf cmp rows gap part
+      × AddsBytes old (part_bytes encoding values (bound_key encoding [] gap.after) part) new
+      × RowsFit encoding values most old.items (gap, part)
 
   -- so are the rows in the first of the gaps
-  abbrev pub TellsParts : List (OwnedGap K) → List ℕ → List ℕ → Type 0
-  TellsParts gaps old new = (told : List (OwnedGap K × Part K V)) × (new ≡ old ++ parts_bytes encoding values told) × Answers (IsPartOf cmp rows) gaps told
+  abbrev pub TellsParts : List (OwnedGap K) → Vec ℕ → Vec ℕ → Type 0
+  TellsParts gaps old new = (told : List (OwnedGap K × Part K V)) × AddsBytes old (parts_bytes encoding values told) new
+      × Answers (IsPartOf cmp rows) gaps told
 
 module _ {K V : Type 0} (cmp : K → K → Ordering) (values : V → List ℕ) (rows : List (K × V)) where
-  -- the values at the first of the keys are written
-  abbrev pub TellsValues : List (Wanted K) → List ℕ → List ℕ → Type 0
-  TellsValues keys old new = (told : List (Wanted K × Option V)) × (new ≡ old ++ values_bytes values told) × Answers (λ wanted value. value ≡ get cmp rows wanted.key) keys told
+  -- the value at a key is written, where there is one
+  abbrev pub TellsValue : K → Vec ℕ → Vec ℕ → Type 0
+  TellsValue key old new = AddsBytes old (option_bytes values (get cmp rows key)) new
 
-module _ {K V H : Type 0} (cmp : K → K → Ordering) (bytes_of encoding : K → List ℕ) (values : V → List ℕ) (replica : Contents K V H) (with_pages : Bool) where
+  -- so are the values at the first of the keys
+  abbrev pub TellsValues : List (Wanted K) → Vec ℕ → Vec ℕ → Type 0
+  TellsValues keys old new = (told : List (Wanted K × Option V)) × AddsBytes old (values_bytes values told) new
+      × Answers (λ wanted value. value ≡ get cmp rows wanted.key) keys told
+
+module _ {K V H : Type 0} (cmp : K → K → Ordering) (bytes_of encoding : K → List ℕ) (values : V → List ℕ) (replica : Contents K V H)
+    (telling : Telling) where
   -- what is told of the page over a gap is written
-  abbrev pub TellsPage : OwnedGap K → List ℕ → List ℕ → Type 0
-  TellsPage gap old new = (told : Outline K V) × IsTold cmp replica.rows with_pages (items_over cmp bytes_of replica.tree gap) told
-      × (new ≡ old ++ outline_bytes encoding values (bound_key encoding [] gap.after) told)
+  abbrev pub TellsPage : OwnedGap K → Vec ℕ → Vec ℕ → Type 0
+  TellsPage gap old new = (told : Outline K V) × IsTold cmp replica.rows telling.with_pages (items_over cmp bytes_of replica.tree gap) told
+      × AddsBytes old (outline_bytes encoding values (bound_key encoding [] gap.after) told) new
 
   -- so is what is told of the pages over the first of the gaps
-  abbrev pub TellsPages : List (OwnedGap K) → List ℕ → List ℕ → Type 0
-  TellsPages gaps old new = (told : List (OwnedGap K × Outline K V)) × (new ≡ old ++ outlines_bytes encoding values told)
-      × Answers (λ g. IsTold cmp replica.rows with_pages (items_over cmp bytes_of replica.tree g)) gaps told
+  abbrev pub TellsPages : List (OwnedGap K) → Vec ℕ → Vec ℕ → Type 0
+  TellsPages gaps old new = (told : List (OwnedGap K × Outline K V)) × AddsBytes old (outlines_bytes encoding values told) new
+      × Answers (λ g. IsTold cmp replica.rows telling.with_pages (items_over cmp bytes_of replica.tree g)) gaps told

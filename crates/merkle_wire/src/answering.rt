@@ -1,11 +1,11 @@
 //! The answering side: a reply to a message, with nothing kept between messages.
 ghost use Rattle.std.specs.Prelude.{◌≡◌, IsSome, IfOk, IfErr, Some};
 ghost use Rattle.std.specs.Option.{option_map};
-ghost use Rattle.merkle_tree_theory.specs.Outline.{whole_item};
 ghost use Rattle.merkle_tree_theory.specs.State.{SameSettings};
-ghost use Rattle.merkle_wire.specs.Faults.{IsOfOthers, IsUnread, answer_error_text};
+ghost use Rattle.merkle_wire.specs.Faults.{IsUnread, answer_error_text};
 ghost use Rattle.merkle_wire.specs.Questions.{AsksNothing};
-ghost use Rattle.merkle_wire.specs.Replies.{AsksWithOthers, EndsWithin, IsAnsweredBy, IsAnsweredWithin, IsReplyBy, TellsOthers, root_bytes, whole_digest};
+ghost use Rattle.merkle_wire.specs.Replies.{EndsWithin, IsAnsweredBy, IsAnsweredWithin, RefusesOthers, RefusesQuestionOfOthers, Replies};
+ghost use Rattle.merkle_wire.specs.Replies.{root_bytes, root_page_digest};
 
 use crate::message::{Kind, begin};
 use crate::outlines::{Telling, tell_pages};
@@ -102,8 +102,7 @@ pub fn answer<
     ensures answered { IfOk result (IsAnsweredBy ⟦<H as Lawful<N, K, V>>⟧.laws N K.encoding V.encoding replica.old replica.new message.now) }
     ensures within { IfOk result (IsAnsweredWithin K.encoding V.encoding 67108864 message.now) }
     ensures malformed { IfErr result (λ error. IsUnread error → AsksNothing K.encoding K.is_value message.now) }
-    ensures other_settings { IfErr result (λ error. IsOfOthers error
-        → AsksWithOthers ⟦<H as Lawful<N, K, V>>⟧.laws N K.encoding replica.new.tree message.now) }
+    ensures other_settings { IfErr result (RefusesOthers ⟦<H as Lawful<N, K, V>>⟧.laws N K.encoding replica.new.tree message.now) }
     ensures rows { replica.new.rows ≡ replica.old.rows }
     ensures settings { SameSettings replica.old.tree replica.new.tree }
 {
@@ -130,8 +129,7 @@ pub fn answer_within<
     ensures answered { IfOk result (IsAnsweredBy ⟦<H as Lawful<N, K, V>>⟧.laws N K.encoding V.encoding replica.old replica.new message.now) }
     ensures within { IfOk result (IsAnsweredWithin K.encoding V.encoding most_bytes message.now) }
     ensures malformed { IfErr result (λ error. IsUnread error → AsksNothing K.encoding K.is_value message.now) }
-    ensures other_settings { IfErr result (λ error. IsOfOthers error
-        → AsksWithOthers ⟦<H as Lawful<N, K, V>>⟧.laws N K.encoding replica.new.tree message.now) }
+    ensures other_settings { IfErr result (RefusesOthers ⟦<H as Lawful<N, K, V>>⟧.laws N K.encoding replica.new.tree message.now) }
     ensures rows { replica.new.rows ≡ replica.old.rows }
     ensures settings { SameSettings replica.old.tree replica.new.tree }
 {
@@ -153,11 +151,10 @@ fn reply_to<
     most_bytes: usize,
 ) -> Result<Vec<u8>, AnswerError>
     requires hashed { IsSome replica.now.tree.root_hash }
-    ensures reply { IfOk result (IsReplyBy ⟦<H as Lawful<N, K, V>>⟧.laws N K.encoding V.encoding replica.now.rows replica.now.tree
-        question.now) }
+    ensures reply { IfOk result (Replies ⟦<H as Lawful<N, K, V>>⟧.laws N K.encoding V.encoding replica.now question.now) }
     ensures within { IfOk result (λ reply. EndsWithin K.encoding V.encoding most_bytes question.now reply.items) }
     ensures read { IfErr result (λ error. ¬ IsUnread error) }
-    ensures others { IfErr result (λ error. IsOfOthers error → TellsOthers ⟦<H as Lawful<N, K, V>>⟧.laws N replica.now.tree question.now) }
+    ensures others { IfErr result (RefusesQuestionOfOthers ⟦<H as Lawful<N, K, V>>⟧.laws N replica.now.tree question.now) }
 {
     match question {
         Question::Root(settings) => {
@@ -214,7 +211,7 @@ fn root_digest<K: Key, V: Join, H: Hasher<N, K> + Hasher<N, V>, const N: usize>(
     replica: &Replica<K, V, H, N>,
 ) -> Option<&PageDigest>
     requires hashed { IsSome replica.now.tree.root_hash }
-    ensures { option_map (λ digest. digest.now) result ≡ whole_digest (whole_item replica.now.tree.format K.bytes_of replica.now.tree.root) }
+    ensures { option_map (λ digest. digest.now) result ≡ root_page_digest K.bytes_of replica.now.tree }
 {
     match replica.tree().whole() {
         Some(OutlineItem::Page(_, digest)) => Some(digest),

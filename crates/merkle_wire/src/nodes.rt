@@ -1,10 +1,10 @@
 //! The nodes of a page in messages.
-ghost use Rattle.std.specs.Prelude.{◌≡◌, ◌++◌, IfOk, OnOk, map, flat_map};
+ghost use Rattle.std.specs.Prelude.{◌≡◌, IfOk, OnOk, flat_map};
+ghost use Rattle.merkle_bytes.specs.Encodings.{AddsBytes};
 ghost use Rattle.merkle_search_tree.specs.Items.{items};
 ghost use Rattle.merkle_wire.specs.Nodes.{node_pairs};
-ghost use Rattle.merkle_wire.specs.Outlines.{rows_told, outline_bytes, keys_told, keys_among, nodes_among, nodes_digest};
-ghost use Rattle.merkle_wire.specs.RowsAt.{AreRowsAt, HasRowAt};
-ghost use Rattle.merkle_wire.specs.Told.{TellsNodes, digests_bytes};
+ghost use Rattle.merkle_wire.specs.Outlines.{nodes_among, nodes_digest};
+ghost use Rattle.merkle_wire.specs.Told.{AddsRowAt, FindsRows, TellsNodes, digests_bytes, lent_rows_bytes, node_keys_bytes};
 
 use merkle_bytes::{Encode, KeyRun, encode_count, encode_run};
 use merkle_digest::{Hasher, Key, Sip24, ValueDigest};
@@ -48,7 +48,7 @@ pub(crate) fn encode_keys<K: Encode, const N: usize>(
     run: &mut KeyRun,
     bytes: &mut Vec<u8>,
 ) -> Result<(), AllocError>
-    ensures { OnOk result (bytes.new.items ≡ bytes.old.items ++ keys_told K.encoding run.old (keys_among (node_pairs nodes.now))) }
+    ensures { OnOk result (AddsBytes bytes.old (node_keys_bytes K.encoding run.old nodes.now) bytes.new) }
 {
     encode_count(nodes.len() as u64, bytes)?;
     'nodes: for node in nodes {
@@ -70,8 +70,7 @@ pub(crate) fn write_nodes<
     run: &mut KeyRun,
     bytes: &mut Vec<u8>,
 ) -> Result<(), AllocError>
-    ensures { OnOk result (TellsNodes K.cmp K.encoding V.encoding replica.now.rows (node_pairs nodes.now) run.old
-        bytes.old.items bytes.new.items) }
+    ensures { OnOk result (TellsNodes K.cmp K.encoding V.encoding replica.now nodes.now run.old bytes.old bytes.new) }
 {
     let found = rows_of(replica, nodes)?;
     if values_fit(replica.alloc(), &found, most)? {
@@ -89,7 +88,7 @@ fn write_rows<K: Encode, V: Encode>(
     run: &mut KeyRun,
     bytes: &mut Vec<u8>,
 ) -> Result<(), AllocError>
-    ensures { OnOk result (bytes.new.items ≡ bytes.old.items ++ outline_bytes K.encoding V.encoding run.old (rows_told (map (λ row. row.now) rows.now))) }
+    ensures { OnOk result (AddsBytes bytes.old (lent_rows_bytes K.encoding V.encoding run.old rows.now) bytes.new) }
 {
     bytes.extend_from_slice(&[0])?;
     encode_run(rows, run, bytes)?;
@@ -102,7 +101,7 @@ fn write_digests<K: Encode, const N: usize>(
     run: &mut KeyRun,
     bytes: &mut Vec<u8>,
 ) -> Result<(), AllocError>
-    ensures { OnOk result (bytes.new.items ≡ bytes.old.items ++ digests_bytes K.encoding run.old (node_pairs nodes.now)) }
+    ensures { OnOk result (AddsBytes bytes.old (digests_bytes K.encoding run.old nodes.now) bytes.new) }
 {
     bytes.extend_from_slice(&[1])?;
     encode_keys(nodes, run, bytes)?;
@@ -115,7 +114,7 @@ fn rows_of<'a, K: Key + Drop, V: Join + Drop, H: Hasher<N, K> + Hasher<N, V>, co
     replica: &'a Replica<K, V, H, N>,
     nodes: &[NodeRef<'_, N, K>],
 ) -> Result<Vec<&'a (K, V)>, AllocError>
-    ensures { IfOk result (λ found. AreRowsAt K.cmp replica.now.rows (keys_among (node_pairs nodes.now)) (map (λ row. row.now) found.items)) }
+    ensures { IfOk result (FindsRows K.cmp replica.now.rows nodes.now) }
 {
     let mut found = Vec::new(replica.alloc());
     'nodes: for node in nodes {
@@ -130,7 +129,7 @@ fn add_row<'a, K: Key + Drop, V: Join + Drop, H: Hasher<N, K> + Hasher<N, V>, co
     key: &K,
     found: &mut Vec<&'a (K, V)>,
 ) -> Result<(), AllocError>
-    ensures { OnOk result (HasRowAt K.cmp replica.now.rows key.now (map (λ row. row.now) found.old.items) (map (λ row. row.now) found.new.items)) }
+    ensures { OnOk result (AddsRowAt K.cmp replica.now.rows key.now found.old found.new) }
 {
     match replica.row_at(key) {
         None => Ok(()),
@@ -163,7 +162,7 @@ fn encode_digests<K, const N: usize>(
     nodes: &[NodeRef<'_, N, K>],
     bytes: &mut Vec<u8>,
 ) -> Result<(), AllocError>
-    ensures { OnOk result (bytes.new.items ≡ bytes.old.items ++ flat_map (λ p. p.1) (node_pairs nodes.now)) }
+    ensures { OnOk result (AddsBytes bytes.old (flat_map (λ p. p.1) (node_pairs nodes.now)) bytes.new) }
 {
     'nodes: for node in nodes {
         bytes.extend_from_slice(node.1.as_bytes())?;

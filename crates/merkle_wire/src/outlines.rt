@@ -1,9 +1,9 @@
 //! What the answering side tells of pages.
-ghost use Rattle.std.specs.Prelude.{◌≡◌, ◌++◌, ◌<◌, true, false, IfOk, OnOk, IsSome, IsTrue, length, None};
+ghost use Rattle.std.specs.Prelude.{◌≡◌, ◌<◌, true, false, IfOk, OnOk, IsSome, IsTrue, length, None};
+ghost use Rattle.merkle_bytes.specs.Encodings.{AddsBytes};
 ghost use Rattle.merkle_search_tree.specs.Items.{items};
 ghost use Rattle.merkle_wire.specs.Messages.{front};
-ghost use Rattle.merkle_wire.specs.Nodes.{node_pairs};
-ghost use Rattle.merkle_wire.specs.Outlines.{HasNoPage, nodes_digest, pages_beside, pages_bytes};
+ghost use Rattle.merkle_wire.specs.Outlines.{HasNoPage, pages_beside, pages_bytes};
 ghost use Rattle.merkle_wire.specs.Replies.{HasRoom, OutlinesFit, items_over};
 ghost use Rattle.merkle_wire.specs.Told.{TellsItems, TellsPage, TellsPages, page_bytes};
 
@@ -44,8 +44,7 @@ pub(crate) fn tell_pages<
 ) -> Result<Vec<u8>, AllocError>
     requires hashed { IsSome replica.now.tree.root_hash }
     requires front { length begun.items ≡ 2 }
-    ensures told { IfOk result (λ bytes. TellsPages K.cmp K.bytes_of K.encoding V.encoding replica.now telling.with_pages gaps.now
-        begun.items bytes.items) }
+    ensures told { IfOk result (TellsPages K.cmp K.bytes_of K.encoding V.encoding replica.now telling gaps.now begun) }
     ensures fits { IfOk result (λ bytes. OutlinesFit K.encoding V.encoding telling.most_bytes begun.items bytes.items) }
 {
     let mut bytes = begun;
@@ -79,8 +78,7 @@ fn tell_page<
     bytes: &mut Vec<u8>,
 ) -> Result<(), AllocError>
     requires { IsSome replica.now.tree.root_hash }
-    ensures { OnOk result (TellsPage K.cmp K.bytes_of K.encoding V.encoding replica.now telling.with_pages gap.now
-        bytes.old.items bytes.new.items) }
+    ensures { OnOk result (TellsPage K.cmp K.bytes_of K.encoding V.encoding replica.now telling gap.now bytes.old bytes.new) }
 {
     let list = outline_over(replica, gap)?;
     let mut run = KeyRun::behind(replica.alloc(), gap.after.as_ref())?;
@@ -115,8 +113,7 @@ fn tell_items<
     run: &mut KeyRun,
     bytes: &mut Vec<u8>,
 ) -> Result<(), AllocError>
-    ensures { OnOk result (TellsItems K.cmp K.encoding V.encoding replica.now.rows telling.with_pages (items list.now) run.old
-        bytes.old.items bytes.new.items) }
+    ensures { OnOk result (TellsItems K.cmp K.encoding V.encoding replica.now telling list.now run.old bytes.old bytes.new) }
 {
     let nodes = nodes_of(replica.alloc(), list)?;
     if are_told(telling.with_pages, list) {
@@ -158,7 +155,7 @@ fn write_page<K: Encode, const N: usize>(
     run: &mut KeyRun,
     bytes: &mut Vec<u8>,
 ) -> Result<(), AllocError>
-    ensures { OnOk result (bytes.new.items ≡ bytes.old.items ++ page_bytes K.encoding run.old (node_pairs nodes.now) (items list.now)) }
+    ensures { OnOk result (AddsBytes bytes.old (page_bytes K.encoding run.old nodes.now list.now) bytes.new) }
 {
     bytes.extend_from_slice(&[2])?;
     bytes.extend_from_slice(&nodes_digest(nodes))?;
@@ -172,7 +169,7 @@ fn encode_pages<K, const N: usize>(
     list: &[OutlineItem<'_, N, K>],
     bytes: &mut Vec<u8>,
 ) -> Result<(), AllocError>
-    ensures { OnOk result (bytes.new.items ≡ bytes.old.items ++ pages_bytes (pages_beside None (items list.now))) }
+    ensures { OnOk result (AddsBytes bytes.old (pages_bytes (pages_beside None (items list.now))) bytes.new) }
 {
     let mut page = None;
     'items: for item in list {

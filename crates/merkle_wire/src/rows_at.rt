@@ -1,9 +1,7 @@
 //! The values of a replica at keys.
-ghost use Rattle.std.specs.Prelude.{◌≡◌, ◌++◌, IfOk, OnOk, length};
-ghost use Rattle.key_order.specs.Map.{get};
-ghost use Rattle.merkle_bytes.specs.Options.{option_bytes};
+ghost use Rattle.std.specs.Prelude.{◌≡◌, IfOk, OnOk, length};
 ghost use Rattle.merkle_wire.specs.Replies.{ValuesFit};
-ghost use Rattle.merkle_wire.specs.Told.{TellsValues};
+ghost use Rattle.merkle_wire.specs.Told.{TellsValue, TellsValues};
 
 use crate::outlines::is_full;
 use crate::wanted::Wanted;
@@ -25,7 +23,7 @@ pub(crate) fn tell_values<
     begun: Vec<u8>,
 ) -> Result<Vec<u8>, AllocError>
     requires { length begun.items ≡ 2 }
-    ensures told { IfOk result (λ bytes. TellsValues K.cmp V.encoding replica.now.rows keys.now begun.items bytes.items) }
+    ensures told { IfOk result (TellsValues K.cmp V.encoding replica.now.rows keys.now begun) }
     ensures fits { IfOk result (λ bytes. ValuesFit K V.encoding most_bytes begun.items bytes.items) }
 {
     let mut bytes = begun;
@@ -45,7 +43,7 @@ fn tell_value<
     H: Hasher<N, K> + Hasher<N, V>,
     const N: usize,
 >(replica: &Replica<K, V, H, N>, key: &K, bytes: &mut Vec<u8>) -> Result<(), AllocError>
-    ensures { OnOk result (bytes.new.items ≡ bytes.old.items ++ option_bytes V.encoding (get K.cmp replica.now.rows key.now)) }
+    ensures { OnOk result (TellsValue K.cmp V.encoding replica.now.rows key.now bytes.old bytes.new) }
 {
     match replica.row_at(key) {
         None => bytes.extend_from_slice(&[0]),

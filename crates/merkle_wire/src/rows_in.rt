@@ -1,11 +1,11 @@
 //! The rows of a map in gaps.
-ghost use Rattle.std.specs.Prelude.{◌≡◌, ◌≢◌, ◌≤◌, ◌<◌, ◌++◌, ℕ, true, false, cond, not, length, take, drop, [], IfOk, OnOk};
+ghost use Rattle.std.specs.Prelude.{◌≡◌, ◌≢◌, ◌≤◌, true, false, cond, not, length, take, drop, [], IfOk, OnOk};
 ghost use Rattle.std.specs.List.{AllByRecursion};
 ghost use Rattle.key_order.specs.Map.{IsMap};
 ghost use Rattle.merkle_tree_theory.specs.Gap.{is_after, is_before, pairs_within};
 ghost use Rattle.merkle_wire.specs.Gaps.{owned_gap};
-ghost use Rattle.merkle_wire.specs.Replies.{PartsFit, rows_bytes};
-ghost use Rattle.merkle_wire.specs.Told.{TellsPart, TellsParts};
+ghost use Rattle.merkle_wire.specs.Replies.{PartsFit};
+ghost use Rattle.merkle_wire.specs.Told.{AddsFirst, LeavesRoom, TellsPart, TellsParts};
 
 use crate::gaps::OwnedGap;
 use crate::outlines::is_full;
@@ -22,7 +22,7 @@ pub(crate) fn tell_rows<K: Ord + Encode, V: Encode>(
 ) -> Result<Vec<u8>, AllocError>
     requires ascending { IsMap K.cmp rows.now }
     requires front { length begun.items ≡ 2 }
-    ensures told { IfOk result (λ bytes. TellsParts K.cmp K.encoding V.encoding rows.now gaps.now begun.items bytes.items) }
+    ensures told { IfOk result (TellsParts K.cmp K.encoding V.encoding rows.now gaps.now begun) }
     ensures fits { IfOk result (λ bytes. PartsFit K.encoding V.encoding most_bytes begun.items bytes.items) }
 {
     let mut bytes = begun;
@@ -44,7 +44,7 @@ fn tell_part<K: Ord + Encode, V: Encode>(
     bytes: &mut Vec<u8>,
 ) -> Result<(), AllocError>
     requires { IsMap K.cmp rows.now }
-    ensures { OnOk result (TellsPart K.cmp K.encoding V.encoding rows.now most_bytes gap.now bytes.old.items bytes.new.items) }
+    ensures { OnOk result (TellsPart K.cmp K.encoding V.encoding rows.now most_bytes gap.now bytes.old bytes.new) }
 {
     let found = rows_in(rows, gap);
     let mut run = KeyRun::behind(alloc, gap.after.as_ref())?;
@@ -74,9 +74,8 @@ fn encode_first<K: Encode, V: Encode>(
 ) -> Result<usize, AllocError>
     ensures inside { IfOk result (λ count. count ≤ length rows.now) }
     ensures some { IfOk result (λ count. rows.now ≢ [] → count ≢ 0) }
-    ensures written { IfOk result (λ count. bytes.new.items ≡ bytes.old.items ++ rows_bytes K.encoding V.encoding run.old (take count rows.now)) }
-    ensures room { IfOk result (λ count. (i : ℕ) → i ≢ 0 → i < count
-        → length (bytes.old.items ++ rows_bytes K.encoding V.encoding run.old (take i rows.now)) < room) }
+    ensures written { IfOk result (AddsFirst K.encoding V.encoding run.old rows.now bytes.old bytes.new) }
+    ensures room { IfOk result (LeavesRoom K.encoding V.encoding run.old rows.now room bytes.old) }
 {
     let mut count = 0;
     'rows: for row in rows {
