@@ -1,17 +1,23 @@
 -- Gaps behind a key, as bytes.
-use Rattle.std.specs.Prelude.{◌≡◌, ℕ, ◌≤◌, Bool, true, ◌&&◌, List, ◌++◌, length}
+use Rattle.std.specs.Prelude.{◌≡◌, ℕ, ◌≤◌, Bool, true, ◌&&◌, List, ◌++◌, length, Option}
+use denote.Ref.{Bor}
 use Rattle.std.proofs.Common.{sym, ap, ap₂, ◌∙◌, arith}
 use Rattle.std.proofs.lemmas.List.{append_assoc, length-append}
 use Rattle.std.specs.Option.{option_eq}
 use Rattle.merkle_bytes.specs.Options.{IsOption}
 use Rattle.merkle_bytes.specs.Runs.{bound_behind, bound_key}
 use Rattle.merkle_bytes.specs.RunTelling.{bound_some, bound_told}
+use Rattle.merkle_search_tree.specs.Items.{bound_of}
 use Rattle.merkle_tree_theory.specs.Gap.{Gap}
 use Rattle.merkle_wire.specs.declared.gaps.OwnedGap.{OwnedGap}
 
 -- a gap that owns its keys
 abbrev pub owned_gap : {K : Type 0} → OwnedGap K → Gap K
 owned_gap g = record { after = g.after; before = g.before }
+
+-- the gap between two bounds that are lent
+abbrev pub between : {K : Type 0} → Option (Bor K) → Option (Bor K) → Gap K
+between after before = record { after = bound_of after; before = bound_of before }
 
 module _ {K : Type 0} (encoding : K → List ℕ) where
   -- the bound that its keys are above, and behind that the bound that they are below

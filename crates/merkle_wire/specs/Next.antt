@@ -5,7 +5,7 @@ use Rattle.std.specs.List.Sorted.{IsPermutation}
 use Rattle.std.specs.declared.cmp.Ordering.{Ordering}
 use Rattle.key_order.specs.Map.{IsMap}
 use Rattle.key_order.specs.Order.{Same}
-use Rattle.merkle_replica.specs.Contents.{Side}
+use Rattle.merkle_replica.specs.Contents.{Contents, Side, side}
 use Rattle.merkle_replica.specs.Laws.{Laws}
 use Rattle.merkle_wire.specs.Asking.{IsAskedOf, IsDone}
 use Rattle.merkle_wire.specs.Coming.{IsAskedFor}
@@ -82,6 +82,10 @@ module _ {K V H : Type 0} (laws : Laws K V H) (n : ℕ) (encoding : K → List �
   abbrev pub IsNext : Side K V H → Underway K V → List ℕ → Next K V → Type 0
   IsNext local before reply next = (found : Found K V) × (again : Option (Question K))
       × HasTaken laws n encoding values local before.asked reply before.found found again × AsksOrGoesOn laws.cmp encoding again before.rounds found next
+
+  -- a catch-up of the replica takes it so
+  abbrev pub Takes : Contents K V H → Underway K V → List ℕ → Next K V → Type 0
+  Takes replica before reply next = IsNext (side replica) before reply next
 
   -- it is not taken, where bytes of keys and values are those of which these hold: memory was refused, or it is no reply to what was asked; else
   -- it could be taken, but the catch-up doesn't go on

@@ -14,6 +14,10 @@ abbrev pub format_byte : PageFormat → ℕ
 format_byte V1 = 1
 format_byte V2 = 2
 
+-- the byte is that of no page format
+abbrev pub IsNoFormat : ℕ → Type 0
+IsNoFormat byte = (format : PageFormat) → byte ≢ format_byte format
+
 module _ {K : Type 0} (encoding : K → List ℕ) where
   -- the level base, the page format, how many bytes a digest has, and a key with its digest, or none
   abbrev pub settings_bytes : Settings K → List ℕ
@@ -38,3 +42,7 @@ module _ {K : Type 0} (digest_of : K → List ℕ) where
   -- these are the settings of a tree whose digests have n bytes, as far as they tell
   abbrev pub AreSettingsOf : {H : Type 0} → ℕ → State K H → Settings K → Type 0
   AreSettingsOf n tree s = (s.level_base ≡ tree.base) × (s.page_format ≡ tree.format) × (s.digest_bytes ≡ n) × IsDigested s.sample
+
+-- these are the settings of a tree, whose keys have digests by its own hasher
+abbrev pub AreOwnSettings : {K H : Type 0} → (H → K → List ℕ) → ℕ → State K H → Settings K → Type 0
+AreOwnSettings digest_of n tree settings = AreSettingsOf (digest_of tree.hasher) n tree settings

@@ -1,18 +1,16 @@
 //! The asking side: what to ask next, and the rows that came in the end.
-ghost use Rattle.std.specs.Prelude.{◌≡◌, ◌++◌, ◌≤◌, IfOk, IfErr, OnOk};
-ghost use Rattle.merkle_bytes.specs.Counts.{count_bytes};
-ghost use Rattle.merkle_bytes.specs.Options.{option_bytes};
+ghost use Rattle.std.specs.Prelude.{◌≡◌, ◌≤◌, IfOk, IfErr, OnOk};
 ghost use Rattle.merkle_replica.specs.Contents.{side};
 ghost use Rattle.merkle_tree_theory.specs.State.{SameSettings};
 ghost use Rattle.merkle_wire.specs.Asking.{AsksForOutlines};
 ghost use Rattle.merkle_wire.specs.Faults.{IsRefusedFor};
-ghost use Rattle.merkle_wire.specs.Fit.{IsFit, SaysRoot};
+ghost use Rattle.merkle_wire.specs.Fit.{SaysRoot};
 ghost use Rattle.merkle_wire.specs.Found.{nothing};
-ghost use Rattle.merkle_wire.specs.Messages.{front};
-ghost use Rattle.merkle_wire.specs.Next.{AsksFew, GoesOn, IsAsked, IsCame, IsEnded, IsNext, IsStopped, IsTwice, OnlyAskedFor, rounds_with};
-ghost use Rattle.merkle_wire.specs.Questions.{AsksForRoot, IsQuestion, question_bytes};
+ghost use Rattle.merkle_wire.specs.Next.{AsksFew, GoesOn, IsAsked, IsCame, IsEnded, IsStopped, IsTwice, OnlyAskedFor, Takes, rounds_with};
+ghost use Rattle.merkle_wire.specs.Questions.{AsksForOwnRoot, IsQuestion, question_bytes};
+ghost use Rattle.merkle_wire.specs.Replies.{root_reply_bytes};
 ghost use Rattle.merkle_wire.specs.Steady.{IsKeyOf};
-ghost use Rattle.merkle_wire.specs.Steps.{TakesRoot};
+ghost use Rattle.merkle_wire.specs.Steps.{RefusesReply, TakesRoot};
 ghost use Rattle.merkle_wire.specs.Underway.{HasTaken};
 ghost use Rattle.merkle_wire.specs.Unfit.{SaysNot};
 ghost use Rattle.merkle_wire.specs.declared.message.Kind.TheVariants.{Root as root_kind};
@@ -94,8 +92,7 @@ impl<K: Key + Decode, V: Join + Decode> CatchingUp<K, V> {
         alloc: Global,
         replica: &Replica<K, V, H, N>,
     ) -> Result<(Self, Vec<u8>), AllocError>
-        ensures settings { IfOk result (λ begun. AsksForRoot (⟦<H as Hasher<N, K>>⟧.digest_of replica.now.tree.hasher) N replica.now.tree
-            begun.0.asked) }
+        ensures settings { IfOk result (λ begun. AsksForOwnRoot ⟦<H as Hasher<N, K>>⟧.digest_of N replica.now begun.0.asked) }
         ensures asks { IfOk result (λ begun. begun.1.items ≡ question_bytes K.encoding begun.0.asked) }
         ensures keys { IfOk result (λ begun. IsQuestion (IsKeyOf K.cmp replica.now.rows) begun.0.asked) }
         ensures nothing { IfOk result (λ begun. (begun.0.found ≡ nothing) × (begun.0.rounds ≡ 0)) }
@@ -132,7 +129,7 @@ impl<K: Key + Decode, V: Join + Decode> CatchingUp<K, V> {
         replica: &mut Replica<K, V, H, N>,
         reply: &[u8],
     ) -> Result<Next<K, V>, SessionError>
-        ensures next { IfOk result (IsNext ⟦<H as Lawful<N, K, V>>⟧.laws N K.encoding V.encoding (side replica.old) self reply.now) }
+        ensures next { IfOk result (Takes ⟦<H as Lawful<N, K, V>>⟧.laws N K.encoding V.encoding replica.old self reply.now) }
         ensures few { IfOk result AsksFew }
 
         // What is added to the rows that were found lies in the gaps, or at the keys, that were asked for.
@@ -171,7 +168,7 @@ fn take_reply<K: Key + Decode, V: Join + Decode, H: Hasher<N, K> + Hasher<N, V>,
 ) -> Result<Option<Question<K>>, SessionError>
     ensures taken { IfOk result (HasTaken ⟦<H as Lawful<N, K, V>>⟧.laws N K.encoding V.encoding (side replica.now) asked
         reply.now work.old work.new) }
-    ensures refused { IfErr result (IsRefusedFor (¬ IsFit K.cmp K.is_value V.is_value K.encoding V.encoding N asked reply.now)) }
+    ensures refused { IfErr result (RefusesReply K.cmp K.is_value V.is_value K.encoding V.encoding N asked reply.now) }
 {
     match asked {
         Question::Root(_) => {
@@ -236,7 +233,7 @@ fn take_root<K: Key + Decode, V: Join + Decode, H: Hasher<N, K> + Hasher<N, V>, 
 
 /// How many rows the peer has, and the digest of its root page, or none.
 fn decode_root(alloc: Global, reply: &[u8]) -> Result<(u64, Option<PageDigest>), SessionError>
-    ensures read { IfOk result (λ root. reply.now ≡ (front root_kind ++ count_bytes root.0) ++ option_bytes (λ d. d) root.1) }
+    ensures read { IfOk result (λ root. reply.now ≡ root_reply_bytes root.0 root.1) }
     ensures refused { IfErr result (IsRefusedFor (SaysNot root_kind SaysRoot reply.now)) }
 {
     let mut reader = Reader::new(alloc, reply);

@@ -2,7 +2,7 @@
 ghost use Rattle.std.specs.Prelude.{◌≡◌, IfOk};
 ghost use Rattle.merkle_search_tree.specs.Items.{bound_of, gap_of};
 ghost use Rattle.merkle_tree_theory.specs.Gap.{everywhere, SameBound, SameGap};
-ghost use Rattle.merkle_wire.specs.Gaps.{owned_gap, gap_behind, gap_key, IsGap, gap_some, gap_told};
+ghost use Rattle.merkle_wire.specs.Gaps.{between, owned_gap, gap_behind, gap_key, IsGap, gap_some, gap_told};
 
 use merkle_bytes::{Decode, DecodeInRun, Encode, EncodeInRun, KeyRun, ReadError, Reader};
 use merkle_digest::Key;
@@ -47,7 +47,7 @@ impl<K: Key> OwnedGap<K> {
     ///
     /// Want of memory.
     pub(crate) fn between(after: Option<&K>, before: Option<&K>) -> Result<Self, AllocError>
-        ensures { IfOk result (λ gap. SameGap K.cmp (record { after = bound_of after.entry; before = bound_of before.entry }) (owned_gap gap)) }
+        ensures { IfOk result (λ gap. SameGap K.cmp (between after.entry before.entry) (owned_gap gap)) }
     {
         Ok(OwnedGap {
             after: cloned(after)?,

@@ -1,7 +1,8 @@
 //! What stands at the front of each message: the version, and the kind of the message.
-ghost use Rattle.std.specs.Prelude.{◌≡◌, ◌≢◌, ◌++◌, ◌∷◌, [], ℕ, List, IfOk, IfErr, MatchOption, Some};
+ghost use Rattle.std.specs.Prelude.{◌≡◌, ◌≢◌, IfOk, IfErr, MatchOption};
 ghost use Rattle.merkle_wire.specs.Messages.{kind_byte, front};
-ghost use Rattle.merkle_bytes.specs.Refusals.{IsMalformed, IsRefusal};
+ghost use Rattle.merkle_bytes.specs.Reading.{FindsNone, Reads};
+ghost use Rattle.merkle_bytes.specs.Refusals.{IsRefusal};
 ghost use Rattle.merkle_wire.specs.declared.message.Kind.{Kind as KindOf};
 
 use merkle_bytes::{Expected, ReadError, Reader};
@@ -85,10 +86,10 @@ pub(crate) fn begin(alloc: Global, kind: Kind) -> Result<Vec<u8>, AllocError>
 
 /// Reads the front of a message.
 pub(crate) fn decode_kind(reader: &mut Reader<'_>) -> Result<Kind, ReadError>
-    ensures read { IfOk result (λ kind. reader.old.left.now ≡ front kind ++ reader.new.left.now) }
+    ensures read { IfOk result (λ kind. Reads reader.old (front kind) reader.new) }
     ensures total { reader.new.total ≡ reader.old.total }
     ensures refused { IfErr result (IsRefusal reader.old.total reader.old.left.now) }
-    ensures malformed { IfErr result (λ error. IsMalformed error → (kind : KindOf) (rest : List ℕ) → reader.old.left.now ≢ front kind ++ rest) }
+    ensures malformed { IfErr result (FindsNone front reader.old) }
 {
     let Some((version, behind)) = reader.left().split_first() else {
         return Err(reader.unexpected(Expected::Bytes(2)));

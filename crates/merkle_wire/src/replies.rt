@@ -1,11 +1,11 @@
 //! Replies that came, read entry by entry: each answers the first of what was asked for, or all of it.
 ghost use Rattle.std.specs.Prelude.{◌≡◌, ◌≢◌, ◌++◌, [], length, IfOk, IfErr, OnOk};
+ghost use Rattle.merkle_bytes.specs.Reading.{Reads};
 ghost use Rattle.merkle_wire.specs.Faults.{IsRefusedFor};
-ghost use Rattle.merkle_wire.specs.Fit.{SaysOutlines, SaysParts, SaysValues};
 ghost use Rattle.merkle_wire.specs.Messages.{front};
+ghost use Rattle.merkle_wire.specs.Steps.{RefusesOutlines, RefusesOutlinesOf, RefusesParts, RefusesPartsOf, RefusesValues};
 ghost use Rattle.merkle_wire.specs.Steps.{TakesOutlinesOf, TakesPartsOf, TakesOutlines, TakesParts, TakesValues};
-ghost use Rattle.merkle_wire.specs.Unfit.{NoEntry, NoFront, NoOutlines, NoParts, SaysNot};
-ghost use Rattle.merkle_wire.specs.declared.message.Kind.TheVariants.{RowsAt as rows_at_kind, RowsIn as rows_in_kind};
+ghost use Rattle.merkle_wire.specs.Unfit.{NoEntry, NoFront};
 
 use crate::gaps::OwnedGap;
 use crate::message::{Kind, decode_kind};
@@ -20,7 +20,7 @@ use std::alloc::Global;
 
 /// Reads the front of a reply of this kind.
 pub(crate) fn expect(reader: &mut Reader<'_>, kind: Kind) -> Result<(), SessionError>
-    ensures read { OnOk result (reader.old.left.now ≡ front kind ++ reader.new.left.now) }
+    ensures read { OnOk result (Reads reader.old (front kind) reader.new) }
     ensures refused { IfErr result (IsRefusedFor (NoFront kind reader.old.left.now)) }
 {
     let came = decode_kind(reader)?;
@@ -64,8 +64,7 @@ pub(crate) fn take_outlines<
 ) -> Result<Vec<OwnedGap<K>>, SessionError>
     ensures taken { IfOk result (TakesOutlines ⟦<H as Lawful<N, K, V>>⟧.laws N K.encoding V.encoding replica.now kind gaps
         reply.now work.old work.new) }
-    ensures refused { IfErr result (IsRefusedFor (SaysNot kind (SaysOutlines K.cmp K.is_value V.is_value K.encoding V.encoding N with_pages
-        gaps.items) reply.now)) }
+    ensures refused { IfErr result (RefusesOutlines K.cmp K.is_value V.is_value K.encoding V.encoding N with_pages kind gaps reply.now) }
 {
     let mut gaps = gaps;
     let mut reader = reader_of(alloc, reply, kind)?;
@@ -90,8 +89,7 @@ fn take_first_outlines<
     ensures taken { IfOk result (TakesOutlinesOf ⟦<H as Lawful<N, K, V>>⟧.laws N K.encoding V.encoding replica.now gaps.now
         reader.old reader.new work.old work.new) }
     ensures all { IfOk result (λ count. reader.new.left.now ≢ [] → count ≡ length gaps.now) }
-    ensures refused { IfErr result (IsRefusedFor (NoOutlines K.cmp K.is_value V.is_value K.encoding V.encoding N with_pages gaps.now
-        reader.old.left.now)) }
+    ensures refused { IfErr result (RefusesOutlinesOf K.cmp K.is_value V.is_value K.encoding V.encoding N with_pages gaps.now reader.old) }
 {
     let mut count = 0;
     'gaps: for gap in gaps {
@@ -118,7 +116,7 @@ pub(crate) fn take_values<
     work: &mut Work<K, V>,
 ) -> Result<Vec<Wanted<K>>, SessionError>
     ensures taken { IfOk result (TakesValues ⟦<H as Lawful<N, K, V>>⟧.laws N K.encoding V.encoding replica.now keys reply.now work.old work.new) }
-    ensures refused { IfErr result (IsRefusedFor (SaysNot rows_at_kind (SaysValues V.is_value V.encoding keys.items) reply.now)) }
+    ensures refused { IfErr result (RefusesValues V.is_value V.encoding keys reply.now) }
 {
     let mut reader = reader_of(alloc, reply, Kind::RowsAt)?;
     let mut left = Vec::new(alloc);
@@ -147,8 +145,7 @@ pub(crate) fn take_parts<
     work: &mut Work<K, V>,
 ) -> Result<Vec<OwnedGap<K>>, SessionError>
     ensures taken { IfOk result (TakesParts ⟦<H as Lawful<N, K, V>>⟧.laws N K.encoding V.encoding replica.now gaps reply.now work.old work.new) }
-    ensures refused { IfErr result (IsRefusedFor (SaysNot rows_in_kind (SaysParts K.cmp K.is_value V.is_value K.encoding V.encoding gaps.items)
-        reply.now)) }
+    ensures refused { IfErr result (RefusesParts K.cmp K.is_value V.is_value K.encoding V.encoding gaps reply.now) }
 {
     let mut gaps = gaps;
     let mut left = Vec::new(alloc);
@@ -177,7 +174,7 @@ fn take_first_parts<
     ensures taken { IfOk result (TakesPartsOf ⟦<H as Lawful<N, K, V>>⟧.laws N K.encoding V.encoding replica.now gaps.now reader.old reader.new
         left.old left.new work.old work.new) }
     ensures all { IfOk result (λ count. reader.new.left.now ≢ [] → count ≡ length gaps.now) }
-    ensures refused { IfErr result (IsRefusedFor (NoParts K.cmp K.is_value V.is_value K.encoding V.encoding gaps.now reader.old.left.now)) }
+    ensures refused { IfErr result (RefusesPartsOf K.cmp K.is_value V.is_value K.encoding V.encoding gaps.now reader.old) }
 {
     let mut count = 0;
     'gaps: for gap in gaps {

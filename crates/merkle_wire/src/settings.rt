@@ -1,9 +1,10 @@
 //! What the digests of two sides rest on, which the first message tells: sides whose settings differ have no digest in common.
-ghost use Rattle.std.specs.Prelude.{◌≡◌, ◌≢◌, ◌++◌, OnOk, IfOk, IfErr, MatchOption, IsTrue, ◌↔◌};
+ghost use Rattle.std.specs.Prelude.{◌≡◌, OnOk, IfOk, IfErr, MatchOption, IsTrue, ◌↔◌};
+ghost use Rattle.merkle_bytes.specs.Encodings.{AddsBytes};
+ghost use Rattle.merkle_bytes.specs.Reading.{Reads};
 ghost use Rattle.merkle_bytes.specs.Refusals.{IsMalformed, IsRefusal};
-ghost use Rattle.merkle_tree_theory.specs.declared.page_format.PageFormat.{PageFormat as PageFormatOf};
 ghost use Rattle.merkle_bytes.specs.Options.{IsOption};
-ghost use Rattle.merkle_wire.specs.Settings.{format_byte, settings_bytes, AreSettings, AreSettingsOf, IsDigested, NoSettings};
+ghost use Rattle.merkle_wire.specs.Settings.{format_byte, settings_bytes, AreOwnSettings, AreSettings, IsDigested, IsNoFormat, NoSettings};
 ghost use Rattle.merkle_wire.specs.Steady.{IsKeyOf};
 
 use merkle_bytes::{Decode, Encode, Expected, ReadError, Reader, encode_count};
@@ -37,7 +38,7 @@ fn byte_of(format: PageFormat) -> u8
 
 /// The page format of a byte.
 fn format_of(byte: u8) -> Option<PageFormat>
-    ensures { MatchOption result ((format : PageFormatOf) → byte ≢ format_byte format) (λ format. byte ≡ format_byte format) }
+    ensures { MatchOption result (IsNoFormat byte) (λ format. byte ≡ format_byte format) }
 {
     match byte {
         1 => Some(PageFormat::V1),
@@ -52,7 +53,7 @@ pub(crate) fn encode_settings<K: Encode>(
     settings: &Settings<K>,
     bytes: &mut Vec<u8>,
 ) -> Result<(), AllocError>
-    ensures { OnOk result (bytes.new.items ≡ bytes.old.items ++ settings_bytes K.encoding settings.now) }
+    ensures { OnOk result (AddsBytes bytes.old (settings_bytes K.encoding settings.now) bytes.new) }
 {
     bytes.extend_from_slice(&[settings.level_base, byte_of(settings.page_format)])?;
     encode_count(settings.digest_bytes, bytes)?;
@@ -62,7 +63,7 @@ pub(crate) fn encode_settings<K: Encode>(
 
 /// Reads settings.
 pub(crate) fn decode_settings<K: Decode>(reader: &mut Reader<'_>) -> Result<Settings<K>, ReadError>
-    ensures read { IfOk result (λ settings. reader.old.left.now ≡ settings_bytes K.encoding settings ++ reader.new.left.now) }
+    ensures read { IfOk result (λ settings. Reads reader.old (settings_bytes K.encoding settings) reader.new) }
     ensures settings { IfOk result (AreSettings K.is_value) }
     ensures total { reader.new.total ≡ reader.old.total }
     ensures refused { IfErr result (IsRefusal reader.old.total reader.old.left.now) }
@@ -88,7 +89,7 @@ pub(crate) fn settings_of<K: Key + Drop, V: Join, H: Hasher<N, K> + Hasher<N, V>
     alloc: Global,
     replica: &Replica<K, V, H, N>,
 ) -> Result<Settings<K>, AllocError>
-    ensures settings { IfOk result (AreSettingsOf (⟦<H as Hasher<N, K>>⟧.digest_of replica.now.tree.hasher) N replica.now.tree) }
+    ensures settings { IfOk result (AreOwnSettings ⟦<H as Hasher<N, K>>⟧.digest_of N replica.now.tree) }
     ensures keys { IfOk result (AreSettings (IsKeyOf K.cmp replica.now.rows)) }
 {
     let tree = replica.tree();
@@ -124,7 +125,7 @@ pub(crate) fn agree<K: Key, V: Join, H: Hasher<N, K> + Hasher<N, V>, const N: us
     replica: &Replica<K, V, H, N>,
     settings: &Settings<K>,
 ) -> bool
-    ensures { IsTrue result ↔ AreSettingsOf (⟦<H as Hasher<N, K>>⟧.digest_of replica.now.tree.hasher) N replica.now.tree settings.now }
+    ensures { IsTrue result ↔ AreOwnSettings ⟦<H as Hasher<N, K>>⟧.digest_of N replica.now.tree settings.now }
 {
     let tree = replica.tree();
     if settings.level_base != tree.level_base().get() {

@@ -1,7 +1,8 @@
 //! What a side has of what came.
-ghost use Rattle.std.specs.Prelude.{◌≡◌, IsTrue, map};
+ghost use Rattle.std.specs.Prelude.{◌≡◌, IsTrue};
 ghost use Rattle.merkle_replica.specs.Contents.{side};
-ghost use Rattle.merkle_wire.specs.Taking.{has_digest, has_row, HasNodes};
+ghost use Rattle.merkle_wire.specs.Steps.{HasNodesAt};
+ghost use Rattle.merkle_wire.specs.Taking.{has_digest, has_row};
 
 use crate::wanted::Wanted;
 use merkle_digest::{Hasher, Key, Sip24};
@@ -42,7 +43,7 @@ pub(crate) fn has_nodes<
     H: Hasher<N, K> + Hasher<N, V>,
     const N: usize,
 >(replica: &Replica<K, V, H, N>, keys: &[Wanted<K>], digest: &[u8; 16]) -> bool
-    ensures { IsTrue result → HasNodes ⟦<H as Lawful<N, K, V>>⟧.laws (side replica.now) (map (λ w. w.key) keys.now) digest.now }
+    ensures { IsTrue result → HasNodesAt ⟦<H as Lawful<N, K, V>>⟧.laws replica.now keys.now digest.now }
 {
     let mut sip = Sip24::new();
     'keys: for wanted in keys {

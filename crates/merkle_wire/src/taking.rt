@@ -2,10 +2,12 @@
 ghost use Rattle.std.specs.Prelude.{◌≡◌, [], length, ◌+◌, OnOk, IfErr};
 ghost use Rattle.merkle_replica.specs.Contents.{side};
 ghost use Rattle.merkle_wire.specs.Faults.{IsRefusedFor};
+ghost use Rattle.merkle_wire.specs.Gaps.{between};
+ghost use Rattle.merkle_wire.specs.Steps.{RefusesNodes, RefusesOutline, RefusesPart, RefusesRows};
 ghost use Rattle.merkle_wire.specs.Steps.{AddsBehind, TakesDigests, TakesNodes, TakesOutline, TakesPart, TakesRows, TakesValue};
-ghost use Rattle.merkle_wire.specs.Steps.{TakesBelow, TakesPage, TakesPages, between};
+ghost use Rattle.merkle_wire.specs.Steps.{TakesBelow, TakesPage, TakesPages};
 ghost use Rattle.merkle_wire.specs.Taking.{AddsRows};
-ghost use Rattle.merkle_wire.specs.Unfit.{NoDigests, NoNodes, NoOutline, NoPage, NoPageDigest, NoPageDigests, NoPart, NoRows, NoValue};
+ghost use Rattle.merkle_wire.specs.Unfit.{NoDigests, NoPage, NoPageDigest, NoPageDigests, NoValue};
 
 use crate::gaps::OwnedGap;
 use crate::pages::decode_page;
@@ -35,8 +37,7 @@ pub(crate) fn take_outline<
 ) -> Result<(), SessionError>
     ensures taken { OnOk result (TakesOutline ⟦<H as Lawful<N, K, V>>⟧.laws N K.encoding V.encoding replica.now gap.now
         reader.old reader.new work.old work.new) }
-    ensures refused { IfErr result (IsRefusedFor (NoOutline K.cmp K.is_value V.is_value K.encoding V.encoding N with_pages gap.now
-        reader.old.left.now)) }
+    ensures refused { IfErr result (RefusesOutline K.cmp K.is_value V.is_value K.encoding V.encoding N with_pages gap.now reader.old) }
 {
     let mut run = KeyRun::behind(reader.alloc(), gap.after.as_ref())?;
     let [kind] = reader.array::<1>()?;
@@ -65,8 +66,7 @@ fn take_rows<K: Key + Decode, V: Join + Decode, H: Hasher<N, K> + Hasher<N, V>, 
 ) -> Result<(), SessionError>
     ensures taken { OnOk result (TakesRows ⟦<H as Lawful<N, K, V>>⟧.laws K.encoding V.encoding replica.now run.old gap.now
         reader.old reader.new work.old work.new) }
-    ensures refused { IfErr result (IsRefusedFor (NoRows K.cmp K.is_value V.is_value K.encoding V.encoding run.old gap.now
-        reader.old.left.now)) }
+    ensures refused { IfErr result (RefusesRows K.cmp K.is_value V.is_value K.encoding V.encoding run.old gap.now reader.old) }
 {
     let before = reader.left().len();
     let rows = decode_run::<(K, V)>(run, reader)?;
@@ -103,7 +103,7 @@ fn take_digests<K: Key + Decode, V: Join + Drop, H: Hasher<N, K> + Hasher<N, V>,
 ) -> Result<(), SessionError>
     ensures taken { OnOk result (TakesDigests ⟦<H as Lawful<N, K, V>>⟧.laws N K.encoding replica.now run.old gap.now
         reader.old reader.new work.old work.new) }
-    ensures refused { IfErr result (IsRefusedFor (NoNodes K.cmp K.is_value K.encoding N run.old gap.now reader.old.left.now)) }
+    ensures refused { IfErr result (RefusesNodes K.cmp K.is_value K.encoding N run.old gap.now reader.old) }
 {
     let keys = decode_run::<Wanted<K>>(run, reader)?;
     if !keys_lie_in(&keys, gap) {
@@ -245,7 +245,7 @@ pub(crate) fn take_part<
 ) -> Result<(), SessionError>
     ensures taken { OnOk result (TakesPart ⟦<H as Lawful<N, K, V>>⟧.laws N K.encoding V.encoding replica.now gap.now reader.old reader.new
         left.old left.new work.old work.new) }
-    ensures refused { IfErr result (IsRefusedFor (NoPart K.cmp K.is_value V.is_value K.encoding V.encoding gap.now reader.old.left.now)) }
+    ensures refused { IfErr result (RefusesPart K.cmp K.is_value V.is_value K.encoding V.encoding gap.now reader.old) }
 {
     let mut run = KeyRun::behind(reader.alloc(), gap.after.as_ref())?;
     let rows = decode_run::<(K, V)>(&mut run, reader)?;
