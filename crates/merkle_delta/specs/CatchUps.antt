@@ -2,7 +2,7 @@
 use Rattle.std.specs.Prelude.{◌≡◌, ℕ, List, Option, Some, None, ◌⊎◌, map}
 use Rattle.std.specs.Global.{Vec}
 use Rattle.std.specs.declared.cmp.Ordering.{Ordering}
-use Rattle.merkle_replica.specs.Contents.{Side}
+use Rattle.merkle_replica.specs.Contents.{Contents, Side, side}
 use Rattle.merkle_replica.specs.Laws.{Laws}
 use Rattle.merkle_wire.specs.Next.{IsNext as IsPlainNext, IsStopped as IsPlainStopped, OnlyAskedFor as FindsPlainly}
 use Rattle.merkle_wire.specs.Underway.{Underway as PlainUnderway}
@@ -53,6 +53,11 @@ module _ {K V H : Type 0} (laws : Laws K V H) (n : ℕ) (encoding : K → List �
   -- a reply was taken, and this comes next
   abbrev pub IsNext : Underway K V → List ℕ → Next K V → Type 0
   IsNext before = GoesOnFrom before.session before.told
+
+module _ {K V H : Type 0} (laws : Laws K V H) (n : ℕ) (encoding : K → List ℕ) (values : V → List ℕ) where
+  -- a catch-up of the replica takes it so
+  abbrev pub Takes : Contents K V H → Underway K V → List ℕ → Next K V → Type 0
+  Takes replica before reply next = IsNext laws n encoding values (side replica) before reply next
 
 module _ {K V H : Type 0} (laws : Laws K V H) (n : ℕ) (encoding : K → List ℕ) (values : V → List ℕ) (is_key : K → Type 0) (is_value : V → Type 0) (local : Side K V H) where
   -- memory was refused, or the catch-up does not go on with the plain reply

@@ -1,9 +1,10 @@
 -- What bytes are over the chunks of others: which of these they have, and what stands between them.
 use Rattle.std.specs.Prelude.{◌≡◌, ℕ, ◌+◌, ◌≤◌, List, [], ◌∷◌, ◌++◌, length, map, take, drop, ◌⊎◌, ⊤}
 use Rattle.std.proofs.Common.{inl, inr}
+use Rattle.std.specs.Global.{Vec}
 use Rattle.std.specs.List.{AllByRecursion, concat, flat_map}
 use Rattle.merkle_bytes.specs.Counts.{count_bytes}
-use Rattle.merkle_bytes.specs.Encodings.{string_encoding}
+use Rattle.merkle_bytes.specs.Encodings.{AddsBytes, string_encoding}
 use Rattle.merkle_delta.specs.Chunks.{checksum, chunks_of, digest_of}
 
 -- a step: so many chunks are passed by, and so many taken behind them; or other bytes come
@@ -59,6 +60,15 @@ delta_bytes bytes steps = digest_of bytes ++ flat_map step_bytes steps
 abbrev pub IsDeltaOver : List (List ℕ) → List ℕ → List ℕ → Type 0
 IsDeltaOver chunks delta bytes = (steps : List Step) × AreStepsOver chunks steps × (bytes ≡ patched chunks steps) × (delta ≡ delta_bytes bytes steps)
 
+-- over the chunks it is that of no bytes
+abbrev pub IsNoDelta : List (List ℕ) → List ℕ → Type 0
+IsNoDelta chunks delta = (bytes : List ℕ) → ¬ IsDeltaOver chunks delta bytes
+
+-- the bytes of a delta are no more than those of the chunks and its own
+abbrev pub DeltasAreBounded : Type 0
+DeltasAreBounded = (chunks : List (List ℕ)) (delta bytes : List ℕ) → IsDeltaOver chunks delta bytes
+    → length bytes ≤ length (concat chunks) + length delta
+
 -- each chunk that has the checksum of one of the others is that one
 abbrev pub AreToldApart : List (List ℕ) → List (List ℕ) → Type 0
 AreToldApart chunks others = AllByRecursion (λ other. AllByRecursion (λ chunk. checksum chunk ≡ checksum other → chunk ≡ other) chunks) others
@@ -68,3 +78,7 @@ AreToldApart chunks others = AllByRecursion (λ other. AllByRecursion (λ chunk.
 abbrev pub IsDelta : List ℕ → List ℕ → List ℕ → Type 0
 IsDelta checksums bytes delta = (steps : List Step) × (delta ≡ delta_bytes bytes steps)
     × ((chunks : List (List ℕ)) → map checksum chunks ≡ checksums → AreToldApart chunks (chunks_of bytes) → AreStepsOver chunks steps × (bytes ≡ patched chunks steps))
+
+-- a delta of the bytes for these checksums is added
+abbrev pub AddsDelta : List ℕ → List ℕ → Vec ℕ → Vec ℕ → Type 0
+AddsDelta checksums bytes old new = (delta : List ℕ) × AddsBytes old delta new × IsDelta checksums bytes delta

@@ -9,7 +9,7 @@ use Rattle.merkle_replica.specs.Laws.{Laws}
 use Rattle.merkle_tree_theory.specs.Canonical.{IsTreeOf}
 use Rattle.merkle_tree_theory.specs.State.{SameSettings}
 use Rattle.merkle_wire.specs.Found.{nothing}
-use Rattle.merkle_wire.specs.Questions.{AsksForRoot, question_bytes}
+use Rattle.merkle_wire.specs.Questions.{AsksForOwnRoot, AsksForRoot, question_bytes}
 use Rattle.merkle_wire.specs.Sessions.{AreBrought, IsAnswer as IsPlainAnswer}
 use Rattle.merkle_delta.specs.CatchUps.{IsNext}
 use Rattle.merkle_delta.specs.Messages.{IsAnswered}
@@ -29,6 +29,10 @@ module _ {K V H : Type 0} (laws : Laws K V H) (n : ℕ) (encoding : K → List �
     pub asks : message ≡ question_bytes encoding underway.session.asked
     pub nothing_found : (underway.session.found ≡ nothing) × (underway.session.rounds ≡ 0)
     pub plain : underway.told ≡ None
+
+-- a catch-up that begins asks for the root, with the settings of a replica's tree by its own hasher
+abbrev pub BeginsAtRoot : {K V H : Type 0} → (H → K → List ℕ) → ℕ → Contents K V H → Underway K V × Vec ℕ → Type 0
+BeginsAtRoot digest_of n replica begun = AsksForOwnRoot digest_of n replica begun.0.session.asked
 
 -- of the replies that a delta may tell over these chunks, none but the plain one has its digest
 abbrev pub IsSafe : Option Told → List ℕ → List ℕ → Type 0

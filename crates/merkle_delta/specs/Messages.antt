@@ -1,13 +1,20 @@
 -- Messages that tell checksums, and replies that are deltas.
-use Rattle.std.specs.Prelude.{◌≡◌, ℕ, ◌<◌, ◌^◌, List, ◌∷◌, ◌++◌, ◌⊎◌}
+use Rattle.std.specs.Prelude.{◌≡◌, ◌≢◌, ℕ, ◌<◌, ◌^◌, List, ◌∷◌, ◌++◌, ◌⊎◌}
 use Rattle.std.specs.Global.{Vec}
 use Rattle.std.specs.List.{AllByRecursion}
 use Rattle.merkle_bytes.specs.Counts.{count_bytes}
 use Rattle.merkle_bytes.specs.Encodings.{list_bytes}
 use Rattle.merkle_replica.specs.Contents.{Contents}
 use Rattle.merkle_replica.specs.Laws.{Laws}
-use Rattle.merkle_wire.specs.Replies.{IsAnsweredBy, IsAnsweredWithin}
+use Rattle.merkle_tree_theory.specs.State.{State}
+use Rattle.merkle_wire.specs.Faults.{IsOfOthers}
+use Rattle.merkle_wire.specs.Replies.{AsksWithOthers, IsAnsweredBy, IsAnsweredWithin}
+use Rattle.merkle_wire.specs.declared.answering.AnswerError.{AnswerError}
 use Rattle.merkle_delta.specs.Deltas.{IsDelta, IsDeltaOver}
+
+-- the message doesn't begin so
+abbrev pub LacksFront : List ℕ → List ℕ → Type 0
+LacksFront front message = (rest : List ℕ) → message ≢ front ++ rest
 
 -- a question behind checksums: version 1, kind 6
 abbrev pub asking_bytes : List ℕ → List ℕ → List ℕ
@@ -42,3 +49,7 @@ AsksNoneOf P message = P message × ((checksums question : List ℕ) → AllByRe
 -- P holds of the message, or of a question behind checksums in it
 abbrev pub AsksOneOf : (List ℕ → Type 0) → List ℕ → Type 0
 AsksOneOf P message = P message ⊎ ((checksums : List ℕ) × (question : List ℕ) × (message ≡ asking_bytes checksums question) × P question)
+
+-- a message has no reply for its settings only where it, or the question behind checksums in it, tells others than those of the tree
+abbrev pub RefusesOthers : {K V H : Type 0} → Laws K V H → ℕ → (K → List ℕ) → State K H → List ℕ → AnswerError → Type 0
+RefusesOthers laws n encoding tree message error = IsOfOthers error → AsksOneOf (AsksWithOthers laws n encoding tree) message

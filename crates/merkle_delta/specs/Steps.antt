@@ -1,6 +1,8 @@
 -- The steps of a delta, one more told or taken.
 use Rattle.std.specs.Prelude.{◌≡◌, ◌≢◌, ℕ, ◌+◌, ◌<◌, ◌≤◌, List, [], ◌++◌, length, get_or, map, take, drop}
+use Rattle.std.specs.Global.{Vec}
 use Rattle.std.specs.List.{concat, flat_map}
+use Rattle.merkle_bytes.specs.declared.reader.Reader.{Reader}
 use Rattle.merkle_delta.specs.Chunks.{checksum}
 use Rattle.merkle_delta.specs.Deltas.{Step, step_bytes, left_by, given_by, patched, IsStepOver, AreStepsOver, AreToldApart}
 
@@ -37,3 +39,7 @@ module _ (chunks : List (List ℕ)) where
   -- the bytes are no steps over the chunks
   abbrev pub AreNoSteps : List ℕ → Type 0
   AreNoSteps left = (steps : List Step) → AreStepsOver chunks steps → left ≢ flat_map step_bytes steps
+
+-- a step over the chunks from a place on was read, and what it gives was added; those from the end on are behind it
+abbrev pub TakesStep : List (List ℕ) → ℕ → Reader → Vec ℕ → Reader → Vec ℕ → ℕ → Type 0
+TakesStep chunks at old given new given' end = IsStepTaken (drop at chunks) old.left.now given.items (drop end chunks) new.left.now given'.items

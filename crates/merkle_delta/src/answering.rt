@@ -1,10 +1,9 @@
 //! The answering side: a reply to a message, as a delta where the message tells checksums.
 ghost use Rattle.std.specs.Prelude.{◌≡◌, ◌++◌, IfOk, IfErr};
-ghost use Rattle.merkle_delta.specs.Messages.{AnswersWithin, AsksNoneOf, AsksOneOf, IsAnswered};
+ghost use Rattle.merkle_delta.specs.Messages.{AnswersWithin, AsksNoneOf, IsAnswered, RefusesOthers};
 ghost use Rattle.merkle_tree_theory.specs.State.{SameSettings};
-ghost use Rattle.merkle_wire.specs.Faults.{IsOfOthers, IsUnread};
+ghost use Rattle.merkle_wire.specs.Faults.{IsUnread};
 ghost use Rattle.merkle_wire.specs.Questions.{AsksNothing};
-ghost use Rattle.merkle_wire.specs.Replies.{AsksWithOthers};
 
 use crate::delta::add_delta;
 use crate::message::{ASKS, TELLS, behind};
@@ -29,8 +28,7 @@ pub fn answer<
     ensures answered { IfOk result (IsAnswered ⟦<H as Lawful<N, K, V>>⟧.laws N K.encoding V.encoding replica.old replica.new message.now) }
     ensures within { IfOk result (AnswersWithin K.encoding V.encoding 67108864 message.now) }
     ensures malformed { IfErr result (λ error. IsUnread error → AsksNoneOf (AsksNothing K.encoding K.is_value) message.now) }
-    ensures other_settings { IfErr result (λ error. IsOfOthers error
-        → AsksOneOf (AsksWithOthers ⟦<H as Lawful<N, K, V>>⟧.laws N K.encoding replica.new.tree) message.now) }
+    ensures other_settings { IfErr result (RefusesOthers ⟦<H as Lawful<N, K, V>>⟧.laws N K.encoding replica.new.tree message.now) }
     ensures rows { replica.new.rows ≡ replica.old.rows }
     ensures settings { SameSettings replica.old.tree replica.new.tree }
 {
@@ -59,8 +57,7 @@ pub fn answer_within<
     ensures answered { IfOk result (IsAnswered ⟦<H as Lawful<N, K, V>>⟧.laws N K.encoding V.encoding replica.old replica.new message.now) }
     ensures within { IfOk result (AnswersWithin K.encoding V.encoding most_bytes message.now) }
     ensures malformed { IfErr result (λ error. IsUnread error → AsksNoneOf (AsksNothing K.encoding K.is_value) message.now) }
-    ensures other_settings { IfErr result (λ error. IsOfOthers error
-        → AsksOneOf (AsksWithOthers ⟦<H as Lawful<N, K, V>>⟧.laws N K.encoding replica.new.tree) message.now) }
+    ensures other_settings { IfErr result (RefusesOthers ⟦<H as Lawful<N, K, V>>⟧.laws N K.encoding replica.new.tree message.now) }
     ensures rows { replica.new.rows ≡ replica.old.rows }
     ensures settings { SameSettings replica.old.tree replica.new.tree }
 {

@@ -2,13 +2,14 @@
 ghost use Rattle.std.specs.Prelude.{◌≡◌, ◌++◌, ◌≤◌, None, Some, ℕ, List, IfOk, IfErr, MatchOption};
 ghost use Rattle.merkle_replica.specs.Contents.{side};
 ghost use Rattle.merkle_tree_theory.specs.State.{SameSettings};
-ghost use Rattle.merkle_wire.specs.Found.{nothing};
 ghost use Rattle.merkle_wire.specs.Next.{AsksFew};
-ghost use Rattle.merkle_wire.specs.Questions.{AsksForRoot, IsQuestion, question_bytes};
+ghost use Rattle.merkle_wire.specs.Questions.{IsQuestion, question_bytes};
 ghost use Rattle.merkle_wire.specs.Steady.{IsKeyOf};
 ghost use Rattle.merkle_wire.specs.declared.session_error.SessionError.TheVariants.{Memory};
-ghost use Rattle.merkle_delta.specs.CatchUps.{GoesOnAs, IsNext, IsStopped, OnlyAskedFor};
+ghost use Rattle.merkle_delta.specs.CatchUps.{GoesOnAs, IsStopped, OnlyAskedFor, Takes};
+ghost use Rattle.merkle_delta.specs.Exchanges.{BeginsAtRoot};
 ghost use Rattle.merkle_delta.specs.Messages.{IsReplyOver};
+ghost use Rattle.merkle_delta.specs.Underway.{HasFoundNothing};
 ghost use Rattle.merkle_delta.specs.declared.patch.PatchError.TheVariants.{Unlike};
 
 use crate::chunks::Chunks;
@@ -97,11 +98,10 @@ impl<K: Key + Decode, V: Join + Decode> CatchingUp<K, V> {
         alloc: Global,
         replica: &Replica<K, V, H, N>,
     ) -> Result<(Self, Vec<u8>), AllocError>
-        ensures settings { IfOk result (λ begun. AsksForRoot (⟦<H as Hasher<N, K>>⟧.digest_of replica.now.tree.hasher) N replica.now.tree
-            begun.0.session.asked) }
+        ensures settings { IfOk result (BeginsAtRoot ⟦<H as Hasher<N, K>>⟧.digest_of N replica.now) }
         ensures asks { IfOk result (λ begun. begun.1.items ≡ question_bytes K.encoding begun.0.session.asked) }
         ensures keys { IfOk result (λ begun. IsQuestion (IsKeyOf K.cmp replica.now.rows) begun.0.session.asked) }
-        ensures nothing { IfOk result (λ begun. (begun.0.session.found ≡ nothing) × (begun.0.session.rounds ≡ 0) × (begun.0.told ≡ None)) }
+        ensures nothing { IfOk result (λ begun. HasFoundNothing begun.0) }
     {
         let (session, message) = merkle_wire::CatchingUp::begin(alloc, replica)?;
         let begun = CatchingUp {
@@ -135,7 +135,7 @@ impl<K: Key + Decode, V: Join + Decode> CatchingUp<K, V> {
         replica: &mut Replica<K, V, H, N>,
         reply: &[u8],
     ) -> Result<Next<K, V>, SessionError>
-        ensures next { IfOk result (IsNext ⟦<H as Lawful<N, K, V>>⟧.laws N K.encoding V.encoding (side replica.old) self reply.now) }
+        ensures next { IfOk result (Takes ⟦<H as Lawful<N, K, V>>⟧.laws N K.encoding V.encoding replica.old self reply.now) }
         ensures asked_for { IfOk result (OnlyAskedFor K.cmp self) }
         ensures ended { IfErr result (IsStopped ⟦<H as Lawful<N, K, V>>⟧.laws N K.encoding V.encoding K.is_value V.is_value
             (side replica.old) self reply.now) }

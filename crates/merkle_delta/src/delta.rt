@@ -1,6 +1,6 @@
 //! What bytes are over the chunks of others that are known by their checksums.
-ghost use Rattle.std.specs.Prelude.{◌≡◌, ◌≤◌, ◌<◌, ◌++◌, ℕ, List, length, IsTrue, OnOk};
-ghost use Rattle.merkle_delta.specs.Deltas.{IsDelta, bytes_step, run_step};
+ghost use Rattle.std.specs.Prelude.{◌≡◌, ◌≤◌, ◌<◌, ◌++◌, length, IsTrue, OnOk};
+ghost use Rattle.merkle_delta.specs.Deltas.{AddsDelta, bytes_step, run_step};
 ghost use Rattle.merkle_delta.specs.Steps.{AddsSteps, HasChecksum, HaveChecksums};
 
 use crate::checksum::{checksum, digest_of};
@@ -27,7 +27,7 @@ pub(crate) fn add_delta(
     bytes: Vec<u8>,
     delta: &mut Vec<u8>,
 ) -> Result<(), AllocError>
-    ensures { OnOk result ((more : List ℕ) × (delta.new.items ≡ delta.old.items ++ more) × IsDelta checksums.now bytes.items more) }
+    ensures { OnOk result (AddsDelta checksums.now bytes.items delta.old delta.new) }
 {
     delta.extend_from_slice(&digest_of(&bytes))?;
     let table = Table::new(alloc, checksums)?;

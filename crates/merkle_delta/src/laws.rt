@@ -1,8 +1,6 @@
 //! Laws over the definitions alone: that a session by deltas is a plain one, whatever carries the messages, and how long what a delta tells can be. Each
 //! function has no effect and takes no memory.
-ghost use Rattle.std.specs.Prelude.{◌+◌, ◌≤◌, ℕ, List, length};
-ghost use Rattle.std.specs.List.{concat};
-ghost use Rattle.merkle_delta.specs.Deltas.{IsDeltaOver};
+ghost use Rattle.merkle_delta.specs.Deltas.{DeltasAreBounded};
 ghost use Rattle.merkle_delta.specs.Exchanges.{RepliesBring};
 ghost use Rattle.merkle_delta.specs.Sessions.{AnswersTell, ExchangesArePlain, SessionsArePlain};
 
@@ -44,5 +42,5 @@ pub fn replies_bring_what_is_lacked<
 
 /// What a delta tells has at most as many bytes as the chunks and the delta have together, whoever made it.
 pub fn a_delta_is_bounded()
-    ensures { (chunks : List (List ℕ)) (delta bytes : List ℕ) → IsDeltaOver chunks delta bytes → length bytes ≤ length (concat chunks) + length delta }
+    ensures { DeltasAreBounded }
 {}

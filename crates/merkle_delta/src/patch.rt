@@ -1,9 +1,9 @@
 //! The bytes that a delta tells over chunks.
-ghost use Rattle.std.specs.Prelude.{◌≡◌, ◌-◌, ◌≤◌, ◌++◌, ℕ, List, drop, take, length, ◌↔◌, IsTrue, IfOk, IfErr, OnOk};
+ghost use Rattle.std.specs.Prelude.{◌≡◌, ◌-◌, ◌≤◌, ◌++◌, drop, take, length, ◌↔◌, IsTrue, IfOk, IfErr, OnOk};
 ghost use Rattle.std.specs.List.{concat};
 ghost use Rattle.merkle_delta.specs.Chunks.{digest_of};
-ghost use Rattle.merkle_delta.specs.Deltas.{IsDeltaOver};
-ghost use Rattle.merkle_delta.specs.Steps.{AreGiven, AreNoSteps, BeginNoStep, IsStepTaken};
+ghost use Rattle.merkle_delta.specs.Deltas.{IsDeltaOver, IsNoDelta};
+ghost use Rattle.merkle_delta.specs.Steps.{AreGiven, AreNoSteps, BeginNoStep, TakesStep};
 ghost use Rattle.merkle_delta.specs.declared.patch.PatchError.TheVariants.{Unlike};
 
 use crate::checksum::digest_of;
@@ -50,7 +50,7 @@ impl From<ReadError> for PatchError {
 /// [`PatchError`]
 pub(crate) fn patch(own: &Chunks, reader: &mut Reader<'_>) -> Result<Vec<u8>, PatchError>
     ensures patched { IfOk result (λ bytes. IsDeltaOver own.now reader.old.left.now bytes.items) }
-    ensures unlike { IfErr result (λ error. error ≡ Unlike → (bytes : List ℕ) → ¬ IsDeltaOver own.now reader.old.left.now bytes) }
+    ensures unlike { IfErr result (λ error. error ≡ Unlike → IsNoDelta own.now reader.old.left.now) }
 {
     let digest = reader.array::<16>()?;
     let bytes = follow(own, reader)?;
@@ -89,8 +89,7 @@ fn take_step(
 ) -> Result<usize, PatchError>
     requires { at ≤ length own.now }
     ensures inside { IfOk result (λ end. end ≤ length own.now) }
-    ensures taken { IfOk result (λ end. IsStepTaken (drop at own.now) reader.old.left.now bytes.old.items (drop end own.now)
-        reader.new.left.now bytes.new.items) }
+    ensures taken { IfOk result (TakesStep own.now at reader.old bytes.old reader.new bytes.new) }
     ensures unlike { IfErr result (λ error. error ≡ Unlike → BeginNoStep (drop at own.now) reader.old.left.now) }
 {
     let left = (own.len() - at) as u64;
