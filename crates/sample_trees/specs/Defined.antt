@@ -1,5 +1,8 @@
 -- What the plain program that makes the defined tree answers.
-use Rattle.std.specs.Prelude.{ℕ, List, Option, Some, None}
+use Rattle.std.specs.Prelude.{ℕ, List, ◌++◌, Option, Some, None}
+use Rattle.merkle_digest.specs.Level.{level_of}
+use Rattle.merkle_digest.specs.Sip24.{Holds}
+use Rattle.merkle_digest.specs.declared.siphash.Sip24.{Sip24}
 use Rattle.merkle_tree_theory.specs.Tree.{Held, nothing, below}
 use Rattle.merkle_tree_theory.specs.Stream.{page_digest, none_bytes, below_bytes}
 use Rattle.merkle_tree_theory.specs.declared.page_format.PageFormat.{PageFormat}
@@ -13,3 +16,11 @@ gap_digest format bytes_of (below t) = Some (page_digest format bytes_of t)
 abbrev pub written : PageFormat → Option (List ℕ) → List ℕ
 written format None = none_bytes format
 written format (Some digest) = below_bytes format digest
+
+-- the level of a key in base 16, by its digest
+abbrev pub level_by : {K : Type 0} → (K → List ℕ) → K → ℕ
+level_by digest_of = λ key. level_of (digest_of key) 16
+
+-- these bytes are written to a hasher, behind those that it holds
+abbrev pub Writes : Sip24 → List ℕ → Sip24 → Type 0
+Writes old bytes new = (key before : List ℕ) → Holds old key before → Holds new key (before ++ bytes)

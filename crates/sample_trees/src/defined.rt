@@ -1,11 +1,10 @@
 //! The digest of the tree of a map in a page format, by a plain and slow program that scans the sorted list of its pairs.
 
-ghost use Rattle.std.specs.Prelude.{◌≡◌, ◌≤◌, ℕ, List, ◌++◌, ◌==◌, count_by};
+ghost use Rattle.std.specs.Prelude.{◌≡◌, ◌≤◌, ◌==◌, count_by};
 ghost use Rattle.merkle_digest.specs.Level.{level_of};
-ghost use Rattle.merkle_digest.specs.Sip24.{Holds};
 ghost use Rattle.merkle_tree_theory.specs.TreeOf.{gap_of, tree_of};
 ghost use Rattle.merkle_tree_theory.specs.Stream.{page_digest, head_bytes, key_bytes};
-ghost use Rattle.sample_trees.specs.Defined.{gap_digest, written};
+ghost use Rattle.sample_trees.specs.Defined.{Writes, gap_digest, level_by, written};
 
 use merkle_digest::{
     Hasher, KeyBytes, PageDigest, RootHash, Sip24, ValueDigest, default_level_base, level,
@@ -18,7 +17,7 @@ pub fn defined_root_hash<K: Eq + KeyBytes, H: Hasher<N, K>, const N: usize>(
     format: PageFormat,
     pairs: &[(K, ValueDigest<N>)],
 ) -> RootHash
-    ensures { result ≡ page_digest format K.bytes_of (tree_of (λ key. level_of (H.digest_of hasher.now key) 16) pairs.now) }
+    ensures { result ≡ page_digest format K.bytes_of (tree_of (level_by (H.digest_of hasher.now)) pairs.now) }
 {
     match defined_digest(hasher, format, pairs, 256) {
         Some(digest) => RootHash::new(digest),
@@ -39,7 +38,7 @@ fn defined_digest<K: Eq + KeyBytes, H: Hasher<N, K>, const N: usize>(
     bound: u16,
 ) -> Option<PageDigest>
     requires { bound ≤ 256 }
-    ensures { result ≡ gap_digest format K.bytes_of (gap_of (λ key. level_of (H.digest_of hasher.now key) 16) bound pairs.now) }
+    ensures { result ≡ gap_digest format K.bytes_of (gap_of (level_by (H.digest_of hasher.now)) bound pairs.now) }
 {
     if bound == 0 {
         return None;
@@ -69,7 +68,7 @@ fn defined_digest<K: Eq + KeyBytes, H: Hasher<N, K>, const N: usize>(
 
 /// Writes what stands before the first node of a page of a level, which has so many nodes: in format 2 a mark, the level and the number.
 fn write_head(sip: &mut Sip24, format: PageFormat, level: u8, count: usize)
-    ensures { (key before : List ℕ) → Holds sip.old key before → Holds sip.new key (before ++ head_bytes format level count) }
+    ensures { Writes sip.old (head_bytes format level count) sip.new }
 {
     match format {
         PageFormat::V1 => {}
@@ -83,7 +82,7 @@ fn write_head(sip: &mut Sip24, format: PageFormat, level: u8, count: usize)
 
 /// Writes the digest of the page in a gap, where there is one; in format 2 a mark is before it, or in its place.
 fn write_gap(sip: &mut Sip24, format: PageFormat, digest: Option<PageDigest>)
-    ensures { (key before : List ℕ) → Holds sip.old key before → Holds sip.new key (before ++ written format digest) }
+    ensures { Writes sip.old (written format digest) sip.new }
 {
     match (format, digest) {
         (PageFormat::V1, None) => {}
@@ -98,7 +97,7 @@ fn write_gap(sip: &mut Sip24, format: PageFormat, digest: Option<PageDigest>)
 
 /// Writes the bytes of a key, in format 2 behind their number.
 fn write_key(sip: &mut Sip24, format: PageFormat, bytes: &[u8])
-    ensures { (key before : List ℕ) → Holds sip.old key before → Holds sip.new key (before ++ key_bytes format bytes.now) }
+    ensures { Writes sip.old (key_bytes format bytes.now) sip.new }
 {
     match format {
         PageFormat::V1 => sip.write(bytes),
