@@ -1,6 +1,9 @@
 -- What the calls do to the tree of a handle.
-use Rattle.std.specs.Prelude.{◌≡◌, ℕ, ◌<◌, ◌≤◌, List, ◌++◌, drop, length, Option, None, Some}
-use Rattle.mst_c.specs.Trees.{ByteState}
+use Rattle.std.specs.Prelude.{◌≡◌, ◌≢◌, ◌⊎◌, ℕ, ◌<◌, ◌≤◌, List, ◌++◌, drop, length, Option, None, Some}
+use Rattle.key_order.specs.Map.{get}
+use Rattle.merkle_tree_theory.specs.State.{IsNew}
+use Rattle.merkle_tree_theory.specs.declared.page_format.PageFormat.{PageFormat}
+use Rattle.mst_c.specs.Trees.{ByteState, bytes_cmp, rows_of}
 use Rattle.mst_c.specs.declared.byte_tree.ByteTree.{ByteTree}
 
 -- the handle has a tree, of which this holds
@@ -21,3 +24,27 @@ IsOutput old new needed P = (bytes : List ℕ) × P bytes × (needed ≡ length 
 -- there are such bytes, as many as needed, and out is shorter
 abbrev pub IsShort : List ℕ → ℕ → (List ℕ → Type 0) → Type 0
 IsShort out needed P = (length out < needed) × ((bytes : List ℕ) × P bytes × (needed ≡ length bytes))
+
+-- the bytes are in front of out, and behind them it is as before
+abbrev pub AreInFront : List ℕ → List ℕ → List ℕ → Type 0
+AreInFront bytes old new = (length bytes ≤ length old) × (new ≡ bytes ++ drop (length bytes) old)
+
+-- the handle has a tree, and bytes that tell this of it are in front of out
+abbrev pub IsOutputOf : Option ByteTree → (ByteState → List ℕ → Type 0) → List ℕ → List ℕ → ℕ → Type 0
+IsOutputOf tree Tells old new needed = HasTree tree (λ s. IsOutput old new needed (Tells s))
+
+-- it has a tree, and out is too short for such bytes
+abbrev pub IsShortOf : Option ByteTree → (ByteState → List ℕ → Type 0) → List ℕ → ℕ → Type 0
+IsShortOf tree Tells out needed = HasTree tree (λ s. IsShort out needed (Tells s))
+
+-- it has the empty tree with this key of SipHash, way of feeding keys, level base and page format
+abbrev pub HasNewTree : Option ByteTree → List ℕ → ℕ → ℕ → PageFormat → Type 0
+HasNewTree tree key feed base format = HasTree tree (IsNew (record { key = key; feed = feed }) base format)
+
+-- no tree can be made: the handle has one, the base is 0, the format isn't 1 or 2, or the way of feeding keys is above 2
+abbrev pub MakesNoTree : Option ByteTree → ℕ → ℕ → ℕ → Type 0
+MakesNoTree tree base format feed = (tree ≢ None) ⊎ (base ≡ 0) ⊎ ((format ≢ 1) × (format ≢ 2)) ⊎ (2 < feed)
+
+-- it has a tree, which has this digest at the key, or none
+abbrev pub HasAt : Option ByteTree → List ℕ → Option (List ℕ) → Type 0
+HasAt tree key found = HasTree tree (λ s. get bytes_cmp (rows_of s) key ≡ found)

@@ -1,5 +1,5 @@
 -- What bytes spell, and what is made of it.
-use Rattle.std.specs.Prelude.{◌≡◌, ℕ, ◌<◌, ◌≤◌, List, [], ◌∷◌, length, map, take}
+use Rattle.std.specs.Prelude.{◌≡◌, ◌≢◌, ℕ, ◌<◌, ◌≤◌, ◌^◌, List, [], ◌∷◌, ◌++◌, length, map, take}
 use Rattle.std.specs.Global.{Vec}
 use Rattle.std.specs.List.{AllByRecursion, flat_map}
 use Rattle.key_order.specs.Interval.{Span}
@@ -11,8 +11,8 @@ use Rattle.merkle_diff.specs.Entry.{Entry}
 use Rattle.merkle_search_tree.specs.Loading.{digests}
 use Rattle.merkle_tree_theory.specs.Ranges.{ranges_of}
 use Rattle.merkle_tree_theory.specs.State.{SameSettings, map_of}
-use Rattle.mst_c.specs.Trees.{ByteState, bytes_cmp, bytes_of, key_cmp, rows_of}
-use Rattle.mst_c.specs.Wire.{page_ranges_bytes, key_ranges_bytes, row_bytes, rows_bytes, digests_bytes}
+use Rattle.mst_c.specs.Trees.{ByteState, by_bytes, bytes_cmp, bytes_of, key_cmp, rows_of}
+use Rattle.mst_c.specs.Wire.{page_ranges_bytes, key_ranges_bytes, entry_bytes, row_bytes, rows_bytes, digest_bytes, digests_bytes}
 
 -- an entry of a list of page ranges has a digest of 16 bytes, and its first key is at most its last
 abbrev pub IsPageRange : Entry (List ℕ) (List ℕ) → Type 0
@@ -90,3 +90,63 @@ entry_by_bytes e = record { first = e.first.items; last = e.last.items; digest =
 -- the page ranges of a tree, by the bytes of their keys
 abbrev pub page_ranges_of : ByteState → List (Entry (List ℕ) (List ℕ))
 page_ranges_of s = map entry_by_bytes (ranges_of s.format bytes_of s.root)
+
+-- bytes spell one value at most
+abbrev pub SpellOne : {X : Type 0} → (List ℕ → X → Type 0) → Type 0
+SpellOne {X} Spells = (bytes : List ℕ) (x y : X) → length bytes < 2 ^ 64 → Spells bytes x → Spells bytes y → x ≡ y
+
+-- the bytes are the list of these key ranges
+abbrev pub AreKeyRanges : List ℕ → List (Span (List ℕ)) → Type 0
+AreKeyRanges bytes ss = bytes ≡ key_ranges_bytes ss
+
+-- the bytes begin with this page range
+abbrev pub BeginsWithRange : List ℕ → Entry (List ℕ) (List ℕ) → List ℕ → Type 0
+BeginsWithRange bytes e rest = (bytes ≡ entry_bytes e ++ rest) × IsPageRange e
+
+-- they begin with none
+abbrev pub BeginsWithNoRange : List ℕ → Type 0
+BeginsWithNoRange bytes = (e : Entry (List ℕ) (List ℕ)) (rest : List ℕ) → IsPageRange e → bytes ≢ entry_bytes e ++ rest
+
+-- they begin with no key that has a digest
+abbrev pub BeginsWithNoDigest : List ℕ → Type 0
+BeginsWithNoDigest bytes = (row : List ℕ × List ℕ) (rest : List ℕ) → HasDigest row → bytes ≢ digest_bytes row ++ rest
+
+-- the bytes are not so many page ranges
+abbrev pub AreNotSoManyRanges : ℕ → List ℕ → Type 0
+AreNotSoManyRanges count bytes =
+    (es : List (Entry (List ℕ) (List ℕ))) → AllByRecursion IsPageRange es → length es ≡ count → bytes ≢ flat_map entry_bytes es
+
+-- they are not so many rows
+abbrev pub AreNotSoManyRows : ℕ → List ℕ → Type 0
+AreNotSoManyRows count bytes = (given : List (List ℕ × List ℕ)) → length given ≡ count → bytes ≢ flat_map row_bytes given
+
+-- they are not so many keys with digests
+abbrev pub AreNotSoManyDigests : ℕ → List ℕ → Type 0
+AreNotSoManyDigests count bytes =
+    (given : List (List ℕ × List ℕ)) → AllByRecursion HasDigest given → length given ≡ count → bytes ≢ flat_map digest_bytes given
+
+-- they are no list of keys with digests
+abbrev pub IsNoDigestList : List ℕ → Type 0
+IsNoDigestList bytes = (given : List (List ℕ × List ℕ)) → AllByRecursion HasDigest given → bytes ≢ digests_bytes given
+
+-- they are not both lists of page ranges
+abbrev pub AreNotBothRanges : List ℕ → List ℕ → Type 0
+AreNotBothRanges local peer = (ls ps : List (Entry (List ℕ) (List ℕ))) → ArePageRanges local ls → ¬ (ArePageRanges peer ps)
+
+-- the bytes are so many rows, and these have the digests of their values under a key
+abbrev pub DigestsSoManyRows : ℕ → List ℕ → List ℕ → Vec (Vec ℕ × List ℕ) → Type 0
+DigestsSoManyRows count bytes key rows = (given : List (List ℕ × List ℕ)) × (bytes ≡ flat_map row_bytes given) × (length given ≡ count)
+    × (map by_bytes rows.items ≡ digests (siphash128 key) given)
+
+-- the same of a list of rows
+abbrev pub DigestsRows : List ℕ → List ℕ → Vec (Vec ℕ × List ℕ) → Type 0
+DigestsRows bytes key rows =
+    (given : List (List ℕ × List ℕ)) × (bytes ≡ rows_bytes given) × (map by_bytes rows.items ≡ digests (siphash128 key) given)
+
+-- the bytes tell a tree's page ranges
+abbrev pub TellsRanges : ByteState → List ℕ → Type 0
+TellsRanges s bytes = ArePageRanges bytes (page_ranges_of s)
+
+-- they tell its map, with the digests of values
+abbrev pub TellsDigests : ByteState → List ℕ → Type 0
+TellsDigests s bytes = bytes ≡ digests_bytes (rows_of s)

@@ -6,6 +6,7 @@ use Rattle.merkle_search_tree.specs.Loading.{row_count}
 use Rattle.merkle_tree_theory.specs.Events.{Event, visit_page, pre_visit_node, visit_node, post_visit_node, post_visit_page, events_of}
 use Rattle.merkle_tree_theory.specs.Page.{level, cache, nodes_of}
 use Rattle.merkle_tree_theory.specs.Tree.{Tree}
+use Rattle.mst_c.specs.Trees.{ByteState}
 use Rattle.mst_c.specs.Wire.{number_bytes, text_bytes}
 use Rattle.mst_c.specs.declared.walk.Pages.{Pages}
 
@@ -49,6 +50,10 @@ entries_of root = flat_map written (events_of false root)
 -- the list of the pages of a tree
 abbrev pub pages_bytes : Tree (Vec ℕ) (List ℕ) → List ℕ
 pages_bytes root = tree_mark ++ (number_bytes (row_count (entries_of root)) ++ flat_map call_bytes (entries_of root))
+
+-- the bytes tell the pages of a tree
+abbrev pub TellsPages : ByteState → List ℕ → Type 0
+TellsPages s bytes = bytes ≡ pages_bytes s.root
 
 -- a visitor wrote these entries too, and counted them
 pub record Writes (entries : List Call) (old new : Pages) : Type 0 where

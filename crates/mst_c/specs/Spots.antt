@@ -1,5 +1,5 @@
 -- The entries of a list, and where they lie.
-use Rattle.std.specs.Prelude.{◌≡◌, ℕ, ◌+◌, Bool, true, not, ◌&&◌, if◌then◌else◌, nat_eq, List, ◌++◌, length}
+use Rattle.std.specs.Prelude.{◌≡◌, ◌≢◌, ℕ, ◌+◌, Bool, true, not, ◌&&◌, if◌then◌else◌, nat_eq, List, ◌++◌, length}
 use Rattle.std.specs.List.{AllByRecursion, flat_map}
 use Rattle.mst_c.specs.Lists.{HasDigest}
 use Rattle.mst_c.specs.Wire.{number_bytes, row_bytes, digest_bytes, page_mark, key_mark, row_mark, digest_mark}
@@ -48,6 +48,31 @@ IsList rows list = (digests : Bool) × (count : ℕ) × (body : List ℕ) × (li
 -- the mark of either kind of list stands in front, and a number behind it
 abbrev pub HasFront : Bool → List ℕ → Type 0
 HasFront rows list = (digests : Bool) × (count : ℕ) × (body : List ℕ) × (list ≡ mark_of rows digests ++ (number_bytes count ++ body))
+
+-- neither mark does
+abbrev pub LacksFront : Bool → List ℕ → Type 0
+LacksFront rows list = (digests : Bool) (count : ℕ) (body : List ℕ) → list ≢ mark_of rows digests ++ (number_bytes count ++ body)
+
+-- the bytes begin with these two parts
+abbrev pub BeginsWithTwo : Bool → List ℕ → List ℕ × List ℕ → List ℕ → Type 0
+BeginsWithTwo plain bytes two rest = IsTwo plain two × (bytes ≡ two_bytes plain two ++ rest)
+
+-- they begin with no two parts
+abbrev pub BeginsWithNoTwo : Bool → List ℕ → Type 0
+BeginsWithNoTwo plain bytes = (two : List ℕ × List ℕ) (rest : List ℕ) → IsTwo plain two → bytes ≢ two_bytes plain two ++ rest
+
+-- they begin with an entry that has these two parts
+abbrev pub BeginsWithEntry : Bool → Bool → List ℕ → List ℕ × List ℕ → List ℕ → Type 0
+BeginsWithEntry plain hashed bytes two rest =
+    (digest : List ℕ) × IsParts plain hashed (two, digest) × (bytes ≡ parts_bytes plain (two, digest) ++ rest)
+
+-- they begin with no entry
+abbrev pub BeginsWithNoEntry : Bool → Bool → List ℕ → Type 0
+BeginsWithNoEntry plain hashed bytes = (e : EntryParts) (rest : List ℕ) → IsParts plain hashed e → bytes ≢ parts_bytes plain e ++ rest
+
+-- the second part of an entry lies behind the first one, and is as long as this
+abbrev pub HasSecond : Bool → List ℕ → MstSpot → Type 0
+HasSecond plain second spot = (spot.last_at ≡ spot.first_at + spot.first_len + gap_len plain) × (spot.last_len ≡ length second)
 
 -- the list's mark stands in front, and an entry of its kind lies where the spot says: it begins at `old`, or behind the mark and the
 -- number where that is 0, and then the whole is a list; and it ends at `new`

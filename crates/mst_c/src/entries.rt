@@ -1,7 +1,8 @@
 //! The entries of a list of ranges or of rows, one after the other, where they lie.
 
-ghost use Rattle.std.specs.Prelude.{◌≡◌, ◌≢◌, ◌↔◌, Bool, true, false, not, ◌&&◌, None, ◌<◌, ◌+◌, ◌-◌, ◌^◌, ◌⊎◌, ◌++◌, ℕ, List, IfSome, if◌then◌else◌, length, nat_eq};
-ghost use Rattle.mst_c.specs.Spots.{AreEntries, HasEntryAt, HasFront, IsEntryAt, IsList, IsParts, IsTwo, EntryParts, gap_len, mark_of, parts_bytes, two_bytes};
+ghost use Rattle.std.specs.Prelude.{◌≡◌, ◌≢◌, ◌↔◌, true, false, not, ◌&&◌, None, ◌<◌, ◌+◌, ◌-◌, ◌^◌, ◌⊎◌, ◌++◌, IfSome, if◌then◌else◌, length, nat_eq};
+ghost use Rattle.mst_c.specs.Spots.{AreEntries, BeginsWithEntry, BeginsWithNoEntry, BeginsWithNoTwo, BeginsWithTwo, HasEntryAt, HasFront};
+ghost use Rattle.mst_c.specs.Spots.{HasSecond, IsEntryAt, IsList, LacksFront, gap_len, mark_of};
 ghost use Rattle.mst_c.specs.Wire.{number_bytes};
 
 use crate::reading::{body_of, keyed_of, pair_of};
@@ -39,7 +40,7 @@ fn mark(rows: bool, digests: bool) -> [u8; 4]
 /// Whether the entries of the list have digests, how many there are, and their bytes; `None` where it has no such front.
 fn front_of(rows: bool, list: &[u8]) -> Option<(bool, u64, &[u8])>
     ensures front { IfSome result (λ r. list.now ≡ mark_of rows r.0 ++ (number_bytes r.1 ++ r.2.now)) }
-    ensures none { result ≡ None → (digests : Bool) (count : ℕ) (body : List ℕ) → list.now ≢ mark_of rows digests ++ (number_bytes count ++ body) }
+    ensures none { result ≡ None → LacksFront rows list.now }
 {
     match body_of(&mark(rows, true), list) {
         Some((count, body)) => Some((true, count, body)),
@@ -52,8 +53,8 @@ fn front_of(rows: bool, list: &[u8]) -> Option<(bool, u64, &[u8])>
 
 /// The two parts at the front, the second a digest where that is asked, and the bytes behind them.
 fn two_of(plain: bool, bytes: &[u8]) -> Option<(&[u8], &[u8], &[u8])>
-    ensures two { IfSome result (λ r. IsTwo plain (r.0.now, r.1.now) × (bytes.now ≡ two_bytes plain (r.0.now, r.1.now) ++ r.2.now)) }
-    ensures none { result ≡ None → (two : List ℕ × List ℕ) (rest : List ℕ) → IsTwo plain two → bytes.now ≢ two_bytes plain two ++ rest }
+    ensures two { IfSome result (λ r. BeginsWithTwo plain bytes.now (r.0.now, r.1.now) r.2.now) }
+    ensures none { result ≡ None → BeginsWithNoTwo plain bytes.now }
 {
     if plain {
         let (key, digest, rest) = keyed_of(bytes)?;
@@ -65,9 +66,8 @@ fn two_of(plain: bool, bytes: &[u8]) -> Option<(&[u8], &[u8], &[u8])>
 
 /// The two parts of the entry at the front, and the bytes behind the entry.
 fn entry_of(plain: bool, hashed: bool, bytes: &[u8]) -> Option<(&[u8], &[u8], &[u8])>
-    ensures entry { IfSome result (λ r. (digest : List ℕ) × IsParts plain hashed ((r.0.now, r.1.now), digest)
-        × (bytes.now ≡ parts_bytes plain ((r.0.now, r.1.now), digest) ++ r.2.now)) }
-    ensures none { result ≡ None → (e : EntryParts) (rest : List ℕ) → IsParts plain hashed e → bytes.now ≢ parts_bytes plain e ++ rest }
+    ensures entry { IfSome result (λ r. BeginsWithEntry plain hashed bytes.now (r.0.now, r.1.now) r.2.now) }
+    ensures none { result ≡ None → BeginsWithNoEntry plain hashed bytes.now }
 {
     let (first, last, rest) = two_of(plain, bytes)?;
     if hashed {
@@ -107,7 +107,7 @@ fn start_of(at: usize, list: &[u8], body: &[u8]) -> usize
 fn spot_of(plain: bool, hashed: bool, start: usize, first: &[u8], last: &[u8]) -> MstSpot
     requires { start + length first.now + gap_len plain + length last.now + 8 < 2 ^ 64 }
     ensures first { (result.first_at ≡ start + 8) × (result.first_len ≡ length first.now) }
-    ensures last { (result.last_at ≡ result.first_at + result.first_len + gap_len plain) × (result.last_len ≡ length last.now) }
+    ensures last { HasSecond plain last.now result }
     ensures hash { result.digest_at ≡ (if hashed then result.last_at + result.last_len else 0) }
 {
     let first_at = start + 8;

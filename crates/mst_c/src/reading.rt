@@ -2,12 +2,13 @@
 
 ghost use Rattle.std.specs.Prelude.{◌≡◌, ◌≢◌, ◌<◌, ◌^◌, ◌++◌, ℕ, List, None, Err, IfOk, IfSome, length, map};
 ghost use Rattle.std.specs.List.{AllByRecursion, flat_map};
-ghost use Rattle.merkle_digest.specs.SipHash.{siphash128};
 ghost use Rattle.merkle_diff.specs.Entry.{Entry};
 ghost use Rattle.merkle_diff.specs.OwnedPageRange.{owned_entry, owned_entries};
 ghost use Rattle.merkle_diff.specs.PageRangeSnapshot.{snapshot_entries};
-ghost use Rattle.merkle_search_tree.specs.Loading.{digests, row_count};
-ghost use Rattle.mst_c.specs.Lists.{HasDigest, IsPageRange, ArePageRanges, IsDiffOf};
+ghost use Rattle.merkle_search_tree.specs.Loading.{row_count};
+ghost use Rattle.mst_c.specs.Lists.{AreNotBothRanges, AreNotSoManyDigests, AreNotSoManyRanges, AreNotSoManyRows, ArePageRanges};
+ghost use Rattle.mst_c.specs.Lists.{BeginsWithNoDigest, BeginsWithNoRange, BeginsWithRange, DigestsRows, DigestsSoManyRows};
+ghost use Rattle.mst_c.specs.Lists.{HasDigest, IsDiffOf, IsNoDigestList, IsPageRange};
 ghost use Rattle.mst_c.specs.Trees.{by_bytes};
 ghost use Rattle.mst_c.specs.Wire.{number_bytes, text_bytes, row_bytes, digest_bytes, entry_bytes, rows_bytes, digests_bytes};
 ghost use Rattle.mst_c.specs.declared.reading.ReadError.TheVariants.{Memory, Malformed};
@@ -89,8 +90,8 @@ pub fn body_of<'b>(mark: &[u8; 4], bytes: &'b [u8]) -> Option<(u64, &'b [u8])>
 
 /// The page range at the front, whose keys lie in the bytes, and the bytes behind it.
 fn range_of(bytes: &[u8]) -> Option<(OwnedPageRange<Key<'_>>, &[u8])>
-    ensures range { IfSome result (λ r. (bytes.now ≡ entry_bytes (owned_entry r.0) ++ r.1.now) × IsPageRange (owned_entry r.0)) }
-    ensures none { result ≡ None → (e : Entry (List ℕ) (List ℕ)) (rest : List ℕ) → IsPageRange e → bytes.now ≢ entry_bytes e ++ rest }
+    ensures range { IfSome result (λ r. BeginsWithRange bytes.now (owned_entry r.0) r.1.now) }
+    ensures none { result ≡ None → BeginsWithNoRange bytes.now }
 {
     let (first, last, rest) = pair_of(bytes)?;
     let (digest, rest) = rest.split_first_chunk::<16>()?;
@@ -107,7 +108,7 @@ fn ranges_of<'b>(
     ensures ranges { IfOk result (λ ranges. body.now ≡ flat_map entry_bytes (owned_entries ranges.items)) }
     ensures counted { IfOk result (λ ranges. length ranges.items ≡ count) }
     ensures each { IfOk result (λ ranges. AllByRecursion IsPageRange (owned_entries ranges.items)) }
-    ensures malformed { result ≡ Err Malformed → (es : List (Entry (List ℕ) (List ℕ))) → AllByRecursion IsPageRange es → length es ≡ count → body.now ≢ flat_map entry_bytes es }
+    ensures malformed { result ≡ Err Malformed → AreNotSoManyRanges count body.now }
 {
     let room = (body.len() / LEAST_RANGE).min(count as usize);
     let mut ranges = Vec::with_capacity(alloc, room)?;
@@ -147,9 +148,8 @@ fn rows_of(
     count: u64,
     body: &[u8],
 ) -> Result<Vec<(Vec<u8>, [u8; 16])>, ReadError>
-    ensures rows { IfOk result (λ rows. (given : List (List ℕ × List ℕ)) × (body.now ≡ flat_map row_bytes given) × (length given ≡ count)
-        × (map by_bytes rows.items ≡ digests (siphash128 hasher.now.key) given)) }
-    ensures malformed { result ≡ Err Malformed → (given : List (List ℕ × List ℕ)) → length given ≡ count → body.now ≢ flat_map row_bytes given }
+    ensures rows { IfOk result (DigestsSoManyRows count body.now hasher.now.key) }
+    ensures malformed { result ≡ Err Malformed → AreNotSoManyRows count body.now }
 {
     let mut rows = Vec::new(alloc);
     let mut rest = body;
@@ -176,8 +176,7 @@ pub fn decode_rows(
     hasher: &ByteHasher,
     bytes: &[u8],
 ) -> Result<Vec<(Vec<u8>, [u8; 16])>, ReadError>
-    ensures rows { IfOk result (λ rows. (given : List (List ℕ × List ℕ)) × (bytes.now ≡ rows_bytes given)
-        × (map by_bytes rows.items ≡ digests (siphash128 hasher.now.key) given)) }
+    ensures rows { IfOk result (DigestsRows bytes.now hasher.now.key) }
     ensures malformed { result ≡ Err Malformed → (given : List (List ℕ × List ℕ)) → bytes.now ≢ rows_bytes given }
 {
     let Some((count, body)) = body_of(&ROWS, bytes) else {
@@ -190,7 +189,7 @@ pub fn decode_rows(
 pub fn keyed_of(bytes: &[u8]) -> Option<(&[u8], &[u8; 16], &[u8])>
     ensures keyed { IfSome result (λ r. bytes.now ≡ digest_bytes (r.0.now, r.1.now) ++ r.2.now) }
     ensures sized { IfSome result (λ r. length r.1.now ≡ 16) }
-    ensures none { result ≡ None → (row : List ℕ × List ℕ) (rest : List ℕ) → HasDigest row → bytes.now ≢ digest_bytes row ++ rest }
+    ensures none { result ≡ None → BeginsWithNoDigest bytes.now }
 {
     let (key, rest) = text_of(bytes)?;
     let (digest, rest) = rest.split_first_chunk::<16>()?;
@@ -202,7 +201,7 @@ fn digests_of(alloc: Global, count: u64, body: &[u8]) -> Result<Vec<(Vec<u8>, [u
     ensures rows { IfOk result (λ rows. body.now ≡ flat_map digest_bytes (map by_bytes rows.items)) }
     ensures counted { IfOk result (λ rows. row_count (map by_bytes rows.items) ≡ count) }
     ensures each { IfOk result (λ rows. AllByRecursion HasDigest (map by_bytes rows.items)) }
-    ensures malformed { result ≡ Err Malformed → (given : List (List ℕ × List ℕ)) → AllByRecursion HasDigest given → length given ≡ count → body.now ≢ flat_map digest_bytes given }
+    ensures malformed { result ≡ Err Malformed → AreNotSoManyDigests count body.now }
 {
     let mut rows = Vec::new(alloc);
     let mut rest = body;
@@ -227,7 +226,7 @@ fn digests_of(alloc: Global, count: u64, body: &[u8]) -> Result<Vec<(Vec<u8>, [u
 pub fn decode_digests(alloc: Global, bytes: &[u8]) -> Result<Vec<(Vec<u8>, [u8; 16])>, ReadError>
     ensures rows { IfOk result (λ rows. bytes.now ≡ digests_bytes (map by_bytes rows.items)) }
     ensures each { IfOk result (λ rows. AllByRecursion HasDigest (map by_bytes rows.items)) }
-    ensures malformed { result ≡ Err Malformed → (given : List (List ℕ × List ℕ)) → AllByRecursion HasDigest given → bytes.now ≢ digests_bytes given }
+    ensures malformed { result ≡ Err Malformed → IsNoDigestList bytes.now }
 {
     let Some((count, body)) = body_of(&DIGESTS, bytes) else {
         return Err(ReadError::Malformed);
@@ -238,7 +237,7 @@ pub fn decode_digests(alloc: Global, bytes: &[u8]) -> Result<Vec<(Vec<u8>, [u8; 
 /// What [`diff_snapshots`] answers on two lists of page ranges, as bytes.
 pub fn differences(alloc: Global, local: &[u8], peer: &[u8]) -> Result<Vec<u8>, ReadError>
     ensures answer { IfOk result (λ out. IsDiffOf local.now peer.now out.items) }
-    ensures malformed { result ≡ Err Malformed → (ls ps : List (Entry (List ℕ) (List ℕ))) → ArePageRanges local.now ls → ¬ (ArePageRanges peer.now ps) }
+    ensures malformed { result ≡ Err Malformed → AreNotBothRanges local.now peer.now }
 {
     let local = decode(alloc, local)?;
     let peer = decode(alloc, peer)?;

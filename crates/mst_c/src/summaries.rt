@@ -1,11 +1,10 @@
 //! Calls that answer what a tree holds as digests, and compare two such answers.
-ghost use Rattle.std.specs.Prelude.{◌≡◌, ◌≢◌, ◌<◌, ◌≤◌, ◌↔◌, ◌⊎◌, ◌++◌, ℕ, List, None, Err, IfSome, IfOk, IfErr, drop, length};
+ghost use Rattle.std.specs.Prelude.{◌≡◌, ◌≢◌, ◌<◌, ◌↔◌, ◌⊎◌, None, Err, IfSome, IfOk, IfErr, length};
 ghost use Rattle.merkle_tree_theory.specs.Hashed.{IsHashed};
 ghost use Rattle.merkle_tree_theory.specs.Stream.{page_digest};
-ghost use Rattle.merkle_diff.specs.Entry.{Entry};
-ghost use Rattle.mst_c.specs.Handles.{HasTree, Changes, IsOutput, IsShort};
-ghost use Rattle.mst_c.specs.Lists.{ArePageRanges, IsDiffOf, IsLengthOf, page_ranges_of};
-ghost use Rattle.mst_c.specs.Pages.{pages_bytes};
+ghost use Rattle.mst_c.specs.Handles.{AreInFront, Changes, HasTree, IsOutput, IsOutputOf, IsShort, IsShortOf};
+ghost use Rattle.mst_c.specs.Lists.{AreNotBothRanges, ArePageRanges, IsDiffOf, IsLengthOf, TellsDigests, TellsRanges, page_ranges_of};
+ghost use Rattle.mst_c.specs.Pages.{TellsPages, pages_bytes};
 ghost use Rattle.mst_c.specs.Trees.{bytes_of, rows_of, SameRows};
 ghost use Rattle.mst_c.specs.Wire.{digests_bytes};
 
@@ -58,7 +57,7 @@ fn root_hash(handle: MstTree, alloc: Global) -> (MstTree, Option<[u8; 16]>)
 
 /// Puts bytes at the front of `out`, and their count at `needed`: `DONE`, or `SHORT` where `out` is too short, and is as before then.
 fn put_bytes(bytes: &[u8], out: &mut [u8], needed: &mut usize) -> u32
-    ensures done { result ≡ 0 → (length bytes.now ≤ length out.old) × (out.new ≡ bytes.now ++ drop (length bytes.now) out.old) }
+    ensures done { result ≡ 0 → AreInFront bytes.now out.old out.new }
     ensures needed { needed.new ≡ length bytes.now }
     ensures short { (result ≡ 3) ↔ (length out.old < length bytes.now) }
     ensures unchanged { result ≢ 0 → out.new ≡ out.old }
@@ -84,8 +83,8 @@ pub extern "C" fn mst_proved_tree_page_ranges(
     out: &mut [u8],
     needed: &mut usize,
 ) -> u32
-    ensures done { result ≡ 0 → HasTree handle.new.tree (λ s. IsOutput out.old out.new needed.new (λ bytes. ArePageRanges bytes (page_ranges_of s))) }
-    ensures short { result ≡ 3 → HasTree handle.new.tree (λ s. IsShort out.old needed.new (λ bytes. ArePageRanges bytes (page_ranges_of s))) }
+    ensures done { result ≡ 0 → IsOutputOf handle.new.tree TellsRanges out.old out.new needed.new }
+    ensures short { result ≡ 3 → IsShortOf handle.new.tree TellsRanges out.old needed.new }
     ensures kept { result ≢ 4 → Changes handle.old.tree handle.new.tree SameRows }
     ensures hashed { result ≢ 4 → Changes handle.old.tree handle.new.tree (IsHashed bytes_of) }
     ensures no_tree { result ≡ 4 → handle.new.tree ≡ None }
@@ -154,8 +153,8 @@ pub extern "C" fn mst_proved_tree_digests(
     out: &mut [u8],
     needed: &mut usize,
 ) -> u32
-    ensures done { result ≡ 0 → HasTree handle.old.tree (λ s. IsOutput out.old out.new needed.new (λ bytes. bytes ≡ digests_bytes (rows_of s))) }
-    ensures short { result ≡ 3 → HasTree handle.old.tree (λ s. IsShort out.old needed.new (λ bytes. bytes ≡ digests_bytes (rows_of s))) }
+    ensures done { result ≡ 0 → IsOutputOf handle.old.tree TellsDigests out.old out.new needed.new }
+    ensures short { result ≡ 3 → IsShortOf handle.old.tree TellsDigests out.old needed.new }
     ensures tree { handle.new.tree ≡ handle.old.tree }
     ensures unchanged { result ≢ 0 → out.new ≡ out.old }
     ensures refused { result ≢ 0 → result ≢ 3 → needed.new ≡ needed.old }
@@ -194,8 +193,8 @@ pub extern "C" fn mst_proved_tree_pages(
     out: &mut [u8],
     needed: &mut usize,
 ) -> u32
-    ensures done { result ≡ 0 → HasTree handle.old.tree (λ s. IsOutput out.old out.new needed.new (λ bytes. bytes ≡ pages_bytes s.root)) }
-    ensures short { result ≡ 3 → HasTree handle.old.tree (λ s. IsShort out.old needed.new (λ bytes. bytes ≡ pages_bytes s.root)) }
+    ensures done { result ≡ 0 → IsOutputOf handle.old.tree TellsPages out.old out.new needed.new }
+    ensures short { result ≡ 3 → IsShortOf handle.old.tree TellsPages out.old needed.new }
     ensures tree { handle.new.tree ≡ handle.old.tree }
     ensures unchanged { result ≢ 0 → out.new ≡ out.old }
     ensures refused { result ≢ 0 → result ≢ 3 → needed.new ≡ needed.old }
@@ -237,7 +236,7 @@ pub extern "C" fn mst_proved_diff(
 ) -> u32
     ensures done { result ≡ 0 → IsOutput out.old out.new needed.new (IsDiffOf local.now peer.now) }
     ensures short { result ≡ 3 → IsShort out.old needed.new (IsDiffOf local.now peer.now) }
-    ensures malformed { result ≡ 2 → (ls ps : List (Entry (List ℕ) (List ℕ))) → ArePageRanges local.now ls → ¬ (ArePageRanges peer.now ps) }
+    ensures malformed { result ≡ 2 → AreNotBothRanges local.now peer.now }
     ensures unchanged { result ≢ 0 → out.new ≡ out.old }
     ensures refused { result ≢ 0 → result ≢ 3 → needed.new ≡ needed.old }
     ensures status { (result ≡ 0) ⊎ (result ≡ 1) ⊎ (result ≡ 2) ⊎ (result ≡ 3) }

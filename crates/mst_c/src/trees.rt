@@ -1,12 +1,10 @@
 //! Calls that make trees, copy them, let them go, count their keys and look one up.
 ghost use Rattle.std.specs.Prelude.{◌≡◌, ◌≢◌, ◌<◌, ◌≤◌, ◌↔◌, ◌⊎◌, true, None, Some, Err, IfOk, IfErr};
 ghost use Rattle.std.specs.Int.NonZero.{non_zero_u8_get};
-ghost use Rattle.key_order.specs.Map.{get};
-ghost use Rattle.merkle_tree_theory.specs.State.{IsNew};
 ghost use Rattle.merkle_tree_theory.specs.declared.page_format.PageFormat.TheVariants.{V1, V2};
 ghost use Rattle.merkle_search_tree.specs.Loading.{row_count};
-ghost use Rattle.mst_c.specs.Handles.{HasTree, Changes};
-ghost use Rattle.mst_c.specs.Trees.{IsCopied, bytes_cmp, rows_of};
+ghost use Rattle.mst_c.specs.Handles.{Changes, HasAt, HasNewTree, HasTree, MakesNoTree};
+ghost use Rattle.mst_c.specs.Trees.{IsCopied, rows_of};
 
 use crate::byte_tree::ByteTree;
 use crate::bytes16::MstBytes16;
@@ -30,14 +28,14 @@ pub extern "C" fn mst_proved_tree_new(
     page_format: u8,
     key_feed: u8,
 ) -> u32
-    ensures v1 { result ≡ 0 → page_format ≡ 1 → HasTree handle.new.tree (IsNew (record { key = key.now.bytes; feed = key_feed }) level_base V1) }
-    ensures v2 { result ≡ 0 → page_format ≡ 2 → HasTree handle.new.tree (IsNew (record { key = key.now.bytes; feed = key_feed }) level_base V2) }
+    ensures v1 { result ≡ 0 → page_format ≡ 1 → HasNewTree handle.new.tree key.now.bytes key_feed level_base V1 }
+    ensures v2 { result ≡ 0 → page_format ≡ 2 → HasNewTree handle.new.tree key.now.bytes key_feed level_base V2 }
     ensures empty { result ≢ 4 → handle.old.tree ≡ None }
     ensures unchanged { result ≢ 0 → handle.new.tree ≡ handle.old.tree }
     ensures base { result ≢ 4 → level_base ≢ 0 }
     ensures format { result ≢ 4 → (page_format ≡ 1) ⊎ (page_format ≡ 2) }
     ensures feed { result ≢ 4 → key_feed ≤ 2 }
-    ensures argument { result ≡ 4 → (handle.old.tree ≢ None) ⊎ (level_base ≡ 0) ⊎ ((page_format ≢ 1) × (page_format ≢ 2)) ⊎ (2 < key_feed) }
+    ensures argument { result ≡ 4 → MakesNoTree handle.old.tree level_base page_format key_feed }
     ensures status { (result ≡ 0) ⊎ (result ≡ 1) ⊎ (result ≡ 4) }
 {
     let Some(base) = NonZeroU8::new(level_base) else {
@@ -188,8 +186,8 @@ pub extern "C" fn mst_proved_tree_find(
     key: &[u8],
     digest: &mut MstBytes16,
 ) -> u32
-    ensures done { result ≡ 0 → HasTree handle.old.tree (λ s. get bytes_cmp (rows_of s) key.now ≡ Some digest.new.bytes) }
-    ensures absent { result ≡ 5 → HasTree handle.old.tree (λ s. get bytes_cmp (rows_of s) key.now ≡ None) }
+    ensures done { result ≡ 0 → HasAt handle.old.tree key.now (Some digest.new.bytes) }
+    ensures absent { result ≡ 5 → HasAt handle.old.tree key.now None }
     ensures tree { handle.new.tree ≡ handle.old.tree }
     ensures unchanged { result ≢ 0 → digest.new.bytes ≡ digest.old.bytes }
     ensures argument { (result ≡ 4) ↔ (handle.old.tree ≡ None) }
@@ -206,7 +204,7 @@ pub extern "C" fn mst_proved_tree_find(
 }
 
 fn find(handle: MstTree, asked: (Global, &[u8])) -> (MstTree, Result<Option<[u8; 16]>, u32>)
-    ensures found { IfOk result.1 (λ found. HasTree handle.tree (λ s. get bytes_cmp (rows_of s) asked.entry.1.now ≡ found)) }
+    ensures found { IfOk result.1 (HasAt handle.tree asked.entry.1.now) }
     ensures tree { result.0.tree ≡ handle.tree }
     ensures argument { (result.1 ≡ Err 4) ↔ (handle.tree ≡ None) }
     ensures refused { IfErr result.1 (λ status. (status ≡ 1) ⊎ (status ≡ 4)) }
