@@ -171,9 +171,10 @@ module _ {K V H : Type 0} (laws : Laws K V H) (n : ℕ) where
   abbrev pub AsksWithOthers : (K → List ℕ) → State K H → List ℕ → Type 0
   AsksWithOthers encoding tree message = (question : Question K) × (message ≡ question_bytes encoding question) × TellsOthers tree question
 
-  -- a question, or a message, has no reply for its settings only where it tells others
+  -- a question has no reply for its settings only where it tells others than those of the tree
   abbrev pub RefusesQuestionOfOthers : State K H → Question K → AnswerError → Type 0
   RefusesQuestionOfOthers tree question error = IsOfOthers error → TellsOthers tree question
 
+  -- so it is with a message
   abbrev pub RefusesOthers : (K → List ℕ) → State K H → List ℕ → AnswerError → Type 0
   RefusesOthers encoding tree message error = IsOfOthers error → AsksWithOthers encoding tree message

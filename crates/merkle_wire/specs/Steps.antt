@@ -134,45 +134,45 @@ module _ {K V H : Type 0} (laws : Laws K V H) (n : ℕ) (encoding : K → List �
       × AddsRows laws (side replica) (flat_map (λ t. t.1.rows) told) before after)
 
 module _ {K : Type 0} (cmp : K → K → Ordering) (is_key : K → Type 0) (encoding : K → List ℕ) where
-  -- a reply is refused for want of memory, or where no nodes in the gap, behind a key, stood at the front
+  -- a reply is refused for want of memory, or where no nodes in the gap stood at the front, behind a key
   abbrev pub RefusesNodes : ℕ → List ℕ → OwnedGap K → Reader → SessionError → Type 0
   RefusesNodes n last gap reader = IsRefusedFor (NoNodes cmp is_key encoding n last gap reader.left.now)
 
 module _ {K V : Type 0} (is_value : V → Type 0) (values : V → List ℕ) where
-  -- it is, or where it says no values at the keys
+  -- a reply to keys is refused for want of memory, or where it says no values at the first of them
   abbrev pub RefusesValues : Vec (Wanted K) → List ℕ → SessionError → Type 0
   RefusesValues keys reply = IsRefusedFor (SaysNot rows_at_kind (SaysValues is_value values keys.items) reply)
 
 module _ {K V : Type 0} (cmp : K → K → Ordering) (is_key : K → Type 0) (is_value : V → Type 0) (encoding : K → List ℕ) (values : V → List ℕ) where
-  -- or where no rows in the gap, behind a key, stood at the front
+  -- a reply is refused for want of memory, or where no rows in the gap stood at the front, behind a key
   abbrev pub RefusesRows : List ℕ → OwnedGap K → Reader → SessionError → Type 0
   RefusesRows last gap reader = IsRefusedFor (NoRows cmp is_key is_value encoding values last gap reader.left.now)
 
-  -- or no part of the rows in the gap
+  -- so it is where no part of the rows in the gap stood there
   abbrev pub RefusesPart : OwnedGap K → Reader → SessionError → Type 0
   RefusesPart gap reader = IsRefusedFor (NoPart cmp is_key is_value encoding values gap reader.left.now)
 
-  -- or something else than such parts stood there
+  -- or something else than parts of the rows in the first of the gaps
   abbrev pub RefusesPartsOf : List (OwnedGap K) → Reader → SessionError → Type 0
   RefusesPartsOf gaps reader = IsRefusedFor (NoParts cmp is_key is_value encoding values gaps reader.left.now)
 
-  -- or where it says no parts
+  -- a reply to gaps of which all rows are wanted is refused so where it says no parts
   abbrev pub RefusesParts : Vec (OwnedGap K) → List ℕ → SessionError → Type 0
   RefusesParts gaps reply = IsRefusedFor (SaysNot rows_in_kind (SaysParts cmp is_key is_value encoding values gaps.items) reply)
 
-  -- or where no outline of the page over the gap stood at the front
+  -- a reply is refused so where no outline of the page over the gap stood at the front
   abbrev pub RefusesOutline : ℕ → Bool → OwnedGap K → Reader → SessionError → Type 0
   RefusesOutline n with_pages gap reader = IsRefusedFor (NoOutline cmp is_key is_value encoding values n with_pages gap reader.left.now)
 
-  -- or something else than such outlines stood there
+  -- or something else than outlines of the pages over the first of the gaps
   abbrev pub RefusesOutlinesOf : ℕ → Bool → List (OwnedGap K) → Reader → SessionError → Type 0
   RefusesOutlinesOf n with_pages gaps reader = IsRefusedFor (NoOutlines cmp is_key is_value encoding values n with_pages gaps reader.left.now)
 
-  -- or where it says no outlines
+  -- a reply of a kind is refused so where it says no outlines
   abbrev pub RefusesOutlines : ℕ → Bool → Kind → Vec (OwnedGap K) → List ℕ → SessionError → Type 0
   RefusesOutlines n with_pages kind gaps reply =
       IsRefusedFor (SaysNot kind (SaysOutlines cmp is_key is_value encoding values n with_pages gaps.items) reply)
 
-  -- or where it is no reply to the question
+  -- and any reply where it says nothing that can be said to the question
   abbrev pub RefusesReply : ℕ → Question K → List ℕ → SessionError → Type 0
   RefusesReply n question reply = IsRefusedFor (¬ IsFit cmp is_key is_value encoding values n question reply)
