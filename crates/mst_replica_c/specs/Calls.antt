@@ -1,10 +1,11 @@
 -- What the calls do to a replica, to the catch-up that it is in, and to the message that is kept.
-use Rattle.std.specs.Prelude.{◌≡◌, ◌≢◌, ◌⊎◌, ℕ, ◌<◌, List, [], ◌∷◌, length, take, None, Some, ⊤}
+use Rattle.std.specs.Prelude.{◌≡◌, ◌≢◌, ◌⊎◌, ℕ, ◌<◌, List, [], ◌∷◌, length, take, Option, None, Some, MatchOption, ⊤}
 use Rattle.std.specs.Global.{Vec}
 use Rattle.key_order.specs.Join.{IsJoin}
 use Rattle.merkle_replica.specs.Contents.{IsEmpty, side}
 use Rattle.merkle_tree_theory.specs.Hashed.{hashed_tree}
 use Rattle.merkle_tree_theory.specs.State.{SameSettings}
+use Rattle.merkle_tree_theory.specs.Stream.{page_digest}
 use Rattle.merkle_tree_theory.specs.declared.page_format.PageFormat.{PageFormat}
 use Rattle.merkle_wire.specs.Found.{nothing}
 use Rattle.merkle_wire.specs.Next.{IsNext, IsStopped}
@@ -15,7 +16,8 @@ use Rattle.merkle_wire.specs.declared.catching_up.Next.{Next}
 use Rattle.merkle_wire.specs.declared.catching_up.Next.TheVariants.{Ask, Came}
 use Rattle.merkle_wire.specs.declared.session_error.SessionError.{SessionError}
 use Rattle.merkle_wire.specs.declared.session_error.SessionError.TheVariants.{Memory, Refused}
-use Rattle.mst_replica_c.specs.Values.{by_bytes, byte_laws, key_bytes, key_encoding, value_at, value_encoding}
+use Rattle.mst_replica_c.specs.Values.{by_bytes, byte_laws, key_bytes, key_encoding, rows_of, value_at, value_encoding}
+use Rattle.mst_replica_c.specs.Wire.{rows_bytes}
 use Rattle.mst_replica_c.specs.declared.byte_replica.ByteReplica.{ByteReplica}
 use Rattle.mst_replica_c.specs.declared.byte_replica.Taken.{Taken}
 use Rattle.mst_replica_c.specs.declared.byte_replica.Taken.TheVariants.{Asks, Joined, Cut, Failed}
@@ -45,6 +47,10 @@ SameTalk old new = SameSession old new × SameMessage old new
 -- there is a value at the key, of whose bytes this holds
 abbrev pub HasValue : List ℕ → (List ℕ → Type 0) → ByteReplica → Type 0
 HasValue key P held = (value : List ℕ) × (value_at held.replica key ≡ Some value) × P value
+
+-- of the bytes of the rows this holds
+abbrev pub HasRows : (List ℕ → Type 0) → ByteReplica → Type 0
+HasRows P held = P (rows_bytes (rows_of held.replica))
 
 -- the rows are the join of the old ones with those that come: at each key the greater value; and the settings stay
 pub record JoinsRows (coming : List (Vec ℕ × ByteValue)) (old new : ByteReplica) : Type 0 where
@@ -155,6 +161,10 @@ IsTaken reply (Joined count) old new = HasJoined reply count old new
 IsTaken reply (Cut count) old new = IsCutShort reply count old new
 IsTaken reply (Failed status) old new = IsDropped old new × IsEarly status × IsStoppedBy reply status old
 
+-- a reply was given to the catch-up that is under way, or none is, and all stays
+abbrev pub TakesReply : List ℕ → ByteReplica → ByteReplica → Option Taken → Type 0
+TakesReply reply old new result = MatchOption result (IsIdle old × (new ≡ old)) (λ taken. IsTaken reply taken old new)
+
 -- what is done with rows that came
 abbrev pub IsJoinOf : List (Vec ℕ × ByteValue) → Taken → ByteReplica → ByteReplica → Type 0
 IsJoinOf rows Asks old new = ⊥
@@ -162,3 +172,7 @@ IsJoinOf rows (Joined count) old new = (count ≡ length rows) × JoinsRows rows
 IsJoinOf rows (Cut count) old new =
     (count < length rows) × JoinsRows (take count rows) old new × (count ≡ 0 → new.replica.rows ≡ old.replica.rows) × SameTalk old new
 IsJoinOf rows (Failed status) old new = ⊥
+
+-- the root page has this digest
+abbrev pub HasRootDigest : List ℕ → ByteReplica → Type 0
+HasRootDigest digest held = digest ≡ page_digest held.replica.tree.format key_bytes held.replica.tree.root

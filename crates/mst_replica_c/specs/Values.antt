@@ -1,5 +1,6 @@
 -- Keys and values that are byte strings.
-use Rattle.std.specs.Prelude.{ℕ, Bool, List, Option, map, nat_eq}
+use Rattle.std.specs.Prelude.{◌≡◌, ℕ, Bool, List, Option, None, Some, MatchOption, map, nat_eq}
+use Rattle.std.specs.Borrow.{Bor}
 use Rattle.std.specs.Global.{Vec}
 use Rattle.std.specs.Cmp.Lexicographic.{pointwise, slice_cmp}
 use Rattle.std.specs.Ordering.{nat_cmp, ord_max}
@@ -72,3 +73,7 @@ rows_of contents = by_bytes_all contents.rows
 -- the bytes of the value at a key, if any
 abbrev pub value_at : ByteContents → List ℕ → Option (List ℕ)
 value_at contents key = get bytes_cmp (rows_of contents) key
+
+-- the value at a key was found, where the key is there
+abbrev pub IsFoundAt : ByteContents → List ℕ → Option (Bor (List ℕ)) → Type 0
+IsFoundAt replica key found = MatchOption found (value_at replica key ≡ None) (λ value. value_at replica key ≡ Some value.now)

@@ -1,12 +1,12 @@
 //! What a handle holds: a replica of byte strings, the catch-up that it is in, and a message.
-ghost use Rattle.std.specs.Prelude.{◌≡◌, ◌≢◌, ◌⊎◌, None, Some, OnOk, OnErr, IfOk, MatchOption, length};
+ghost use Rattle.std.specs.Prelude.{◌≡◌, ◌≢◌, ◌⊎◌, None, Some, OnOk, OnErr, IfOk, length};
 ghost use Rattle.std.specs.Int.NonZero.{non_zero_u8_get};
 ghost use Rattle.key_order.specs.Map.{IsMap};
 ghost use Rattle.merkle_tree_theory.specs.Stream.{page_digest};
 ghost use Rattle.merkle_wire.specs.Messages.{front};
 ghost use Rattle.merkle_wire.specs.declared.message.Kind.TheVariants.{Refusal};
-ghost use Rattle.mst_replica_c.specs.Calls.{HasBegun, IsAnswered, IsFresh, IsNoQuestion, IsOfOthers, IsJoinOf, IsPut, IsTaken, OnlyHashes, SameRows, early_status};
-ghost use Rattle.mst_replica_c.specs.Values.{key_bytes, key_cmp, rows_of, value_at};
+ghost use Rattle.mst_replica_c.specs.Calls.{HasBegun, IsAnswered, IsFresh, IsNoQuestion, IsOfOthers, IsJoinOf, IsPut, OnlyHashes, SameRows, TakesReply, early_status};
+ghost use Rattle.mst_replica_c.specs.Values.{IsFoundAt, key_bytes, key_cmp, rows_of};
 ghost use Rattle.mst_replica_c.specs.Wire.{rows_bytes};
 
 use crate::list::encode;
@@ -74,8 +74,7 @@ impl ByteReplica {
 
     /// The bytes of the value at a key, where the key is there.
     pub fn get(&self, alloc: Global, key: &[u8]) -> Result<Option<&[u8]>, AllocError>
-        ensures { IfOk result (λ found. MatchOption found (value_at self.now.replica key.now ≡ None)
-            (λ value. value_at self.now.replica key.now ≡ Some value.now)) }
+        ensures { IfOk result (IsFoundAt self.now.replica key.now) }
     {
         let own_key = Vec::from_slice(alloc, key)?;
         match self.replica.row_at(&own_key) {
@@ -162,7 +161,7 @@ impl ByteReplica {
 
     /// Gives a reply to the catch-up that is under way, and keeps its next message, or joins the rows that came. `None` where none is under way.
     pub fn take(&mut self, alloc: Global, reply: &[u8]) -> Option<Taken>
-        ensures { MatchOption result ((self.old.session ≡ None) × (self.new ≡ self.old)) (λ taken. IsTaken reply.now taken self.old self.new) }
+        ensures { TakesReply reply.now self.old self.new result }
     {
         let session = self.session.take()?;
         match session.take(&mut self.replica, reply) {

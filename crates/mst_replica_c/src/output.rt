@@ -1,11 +1,12 @@
 //! Bytes for the caller.
-ghost use Rattle.std.specs.Prelude.{◌≡◌, ◌≢◌, ◌<◌, ◌≤◌, ◌↔◌, ◌⊎◌, ◌++◌, drop, length};
+ghost use Rattle.std.specs.Prelude.{◌≡◌, ◌≢◌, ◌<◌, ◌↔◌, ◌⊎◌, length};
+ghost use Rattle.mst_replica_c.specs.Handles.{AreInFront};
 
 use crate::status::{DONE, SHORT};
 
 /// Puts bytes at the front of `out`, and their count at `needed`: `DONE`, or `SHORT` where `out` is too short, and is as before then.
 pub fn put_bytes(bytes: &[u8], out: &mut [u8], needed: &mut usize) -> u32
-    ensures done { result ≡ 0 → (length bytes.now ≤ length out.old) × (out.new ≡ bytes.now ++ drop (length bytes.now) out.old) }
+    ensures done { result ≡ 0 → AreInFront bytes.now out.old out.new }
     ensures needed { needed.new ≡ length bytes.now }
     ensures short { (result ≡ 3) ↔ (length out.old < length bytes.now) }
     ensures unchanged { result ≢ 0 → out.new ≡ out.old }

@@ -1,11 +1,9 @@
 //! Calls that make replicas and let them go, join values, and read what a replica has.
 ghost use Rattle.std.specs.Prelude.{◌≡◌, ◌≢◌, ◌↔◌, ◌⊎◌, None, length};
-ghost use Rattle.merkle_tree_theory.specs.Stream.{page_digest};
 ghost use Rattle.merkle_tree_theory.specs.declared.page_format.PageFormat.TheVariants.{V1, V2};
-ghost use Rattle.mst_replica_c.specs.Calls.{HasValue, IsFresh, IsPut, OnlyHashes};
+ghost use Rattle.mst_replica_c.specs.Calls.{HasRootDigest, HasRows, HasValue, IsFresh, IsPut, OnlyHashes};
 ghost use Rattle.mst_replica_c.specs.Handles.{Has, Changes, IsOutput, IsShort};
-ghost use Rattle.mst_replica_c.specs.Values.{key_bytes, rows_of, value_at};
-ghost use Rattle.mst_replica_c.specs.Wire.{rows_bytes};
+ghost use Rattle.mst_replica_c.specs.Values.{value_at};
 
 use crate::byte_replica::ByteReplica;
 use crate::bytes16::MstBytes16;
@@ -158,7 +156,7 @@ pub extern "C" fn mst_proved_replica_root_hash(
     handle: &mut MstReplica,
     digest: &mut MstBytes16,
 ) -> u32
-    ensures digest { result ≡ 0 → Has handle.old.held (λ h. digest.new.bytes ≡ page_digest h.replica.tree.format key_bytes h.replica.tree.root) }
+    ensures digest { result ≡ 0 → Has handle.old.held (HasRootDigest digest.new.bytes) }
     ensures kept { result ≡ 0 → Changes handle.old.held handle.new.held OnlyHashes }
     ensures unchanged { result ≢ 0 → handle.new.held ≡ handle.old.held }
     ensures refused { result ≢ 0 → digest.new.bytes ≡ digest.old.bytes }
@@ -184,8 +182,8 @@ pub extern "C" fn mst_proved_replica_rows(
     out: &mut [u8],
     needed: &mut usize,
 ) -> u32
-    ensures done { result ≡ 0 → Has handle.old.held (λ h. IsOutput out.old out.new needed.new (rows_bytes (rows_of h.replica))) }
-    ensures short { result ≡ 3 → Has handle.old.held (λ h. IsShort out.old needed.new (rows_bytes (rows_of h.replica))) }
+    ensures done { result ≡ 0 → Has handle.old.held (HasRows (IsOutput out.old out.new needed.new)) }
+    ensures short { result ≡ 3 → Has handle.old.held (HasRows (IsShort out.old needed.new)) }
     ensures replica { handle.new.held ≡ handle.old.held }
     ensures unchanged { result ≢ 0 → out.new ≡ out.old }
     ensures refused { result ≢ 0 → result ≢ 3 → needed.new ≡ needed.old }
