@@ -15,7 +15,7 @@ use Rattle.merkle_wire.specs.declared.catching_up.Next.{Next as PlainNext}
 use Rattle.merkle_wire.specs.declared.catching_up.Next.TheVariants as plain
 use Rattle.merkle_wire.specs.declared.question.Question.{Question}
 use Rattle.merkle_delta.specs.CatchUps.{GoesOnAs, GoesOnFrom, IsNext, IsSentFor}
-use Rattle.merkle_delta.specs.Exchanges.{Begins, Exchanges, LeadTo, IsReplyBy, AreRepliesBy, IsSafe, NoneCollides, RepliesBring}
+use Rattle.merkle_delta.specs.Exchanges.{Exchanges, LeadTo, IsReplyBy, AreRepliesBy, IsSafe, NoneCollides, RepliesBring}
 use Rattle.merkle_delta.specs.Messages.{IsAnswered}
 use Rattle.merkle_delta.specs.Sessions.{AreExchanges, IsExchange, IsToldAs, Tells}
 use Rattle.merkle_delta.specs.Underway.{Told, Underway}
