@@ -5,7 +5,8 @@ ghost use Rattle.key_order.specs.Map.{IsMap};
 ghost use Rattle.merkle_tree_theory.specs.Stream.{page_digest};
 ghost use Rattle.merkle_wire.specs.Messages.{front};
 ghost use Rattle.merkle_wire.specs.declared.message.Kind.TheVariants.{Refusal};
-ghost use Rattle.mst_replica_c.specs.Calls.{HasBegun, IsAnswered, IsFresh, IsNoQuestion, IsOfOthers, IsJoinOf, IsPut, OnlyHashes, SameRows, TakesReply, early_status};
+ghost use Rattle.mst_replica_c.specs.Calls.{HasBegun, IsAnswered, IsFresh, IsNoQuestion, IsOfOthers, IsJoinOf, IsPut, OnlyHashes};
+ghost use Rattle.mst_replica_c.specs.Calls.{SameRows, TakesReply, early_status};
 ghost use Rattle.mst_replica_c.specs.Values.{IsFoundAt, key_bytes, key_cmp, rows_of};
 ghost use Rattle.mst_replica_c.specs.Wire.{rows_bytes};
 
