@@ -1,6 +1,7 @@
 //! The entries of a list of ranges or of rows, one after the other, where they lie.
 
-ghost use Rattle.std.specs.Prelude.{◌≡◌, ◌≢◌, ◌↔◌, true, false, not, ◌&&◌, None, ◌<◌, ◌+◌, ◌-◌, ◌^◌, ◌⊎◌, ◌++◌, IfSome, if◌then◌else◌, length, nat_eq};
+ghost use Rattle.std.specs.Prelude.{◌≡◌, ◌≢◌, ◌↔◌, true, false, not, ◌&&◌, None, ◌<◌, ◌+◌, ◌-◌, ◌^◌, ◌⊎◌, ◌++◌};
+ghost use Rattle.std.specs.Prelude.{IfSome, if◌then◌else◌, length, nat_eq};
 ghost use Rattle.mst_c.specs.Spots.{AreEntries, BeginsWithEntry, BeginsWithNoEntry, BeginsWithNoTwo, BeginsWithTwo, HasEntryAt, HasFront};
 ghost use Rattle.mst_c.specs.Spots.{HasSecond, IsEntryAt, IsList, LacksFront, gap_len, mark_of};
 ghost use Rattle.mst_c.specs.Wire.{number_bytes};
