@@ -7,7 +7,8 @@ ghost use Rattle.sqlite.specs.Values.{bound};
 ghost use Rattle.sqlite.specs.declared.types.Value.TheVariants.{Int, Text};
 ghost use Rattle.store_table.specs.Entries.{two, four, entry_row, entry_row_of, IsNoted, HoldsNotes, HoldsRows};
 ghost use Rattle.store_table.specs.Changes.{IsBlank, IsStore, HasEntryTable, HasBothTables, IsNewStore, KeepsAbout, HasInstead, HasOneMore, HasEntriesMore, HasEntriesInstead, CommitsNothing};
-ghost use Rattle.store_table.specs.Connections.{database, HasStore, IsClean, IsCommitted, IsUnderway, Finds, Makes, MakesWithin, CommitsNone, CommitsNoneWithin, StaysInOk, StaysInErr, StaysCommitted, StaysWithin, Leaves, LeavesNoMore, LeavesWhereClean};
+ghost use Rattle.store_table.specs.Connections.{database, HasStore, IsClean, IsCommitted, IsUnderway, Finds, Makes, MakesWithin, CommitsNone};
+ghost use Rattle.store_table.specs.Connections.{CommitsNoneWithin, StaysInOk, StaysInErr, StaysCommitted, StaysWithin, Leaves, LeavesNoMore, LeavesWhereClean};
 ghost use Rattle.store_table.specs.Faults.{IsFailure, IsForeign, IsUnwritten};
 ghost use Rattle.store_table.specs.Registers.{HaveLateTime};
 
