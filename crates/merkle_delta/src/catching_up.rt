@@ -44,13 +44,24 @@ const ROWS: u8 = 5;
 ///     Next::Came(rows) => return Ok((rows, cost)),
 /// }
 /// ```
-#[derive(Drop)]
 pub struct CatchingUp<K, V> {
     alloc: Global,
     session: merkle_wire::CatchingUp<K, V>,
     told: Option<Told>,
     /// Whether the last delta and the checksums for it had fewer bytes than the plain reply.
     pays: bool,
+}
+
+// Written out, so that a caller doesn't prove again how each part is dropped.
+impl<K: Drop, V: Drop> Drop for CatchingUp<K, V> {
+    fn drop(self) {
+        let CatchingUp {
+            alloc: _,
+            session: _,
+            told: _,
+            pays: _,
+        } = self;
+    }
 }
 
 /// A question, and the chunks of this side's own reply to it.

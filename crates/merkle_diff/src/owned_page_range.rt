@@ -13,12 +13,22 @@ use std::alloc::{AllocError, Global};
 /// the page's digest. The least key is at most the greatest, always.
 ///
 /// A [`PageRangeSnapshot`](crate::PageRangeSnapshot) is made of such ranges without a clone of any key.
-#[derive(Drop)]
 pub struct OwnedPageRange<K: Ord> {
     start: K,
     end: K,
     hash: PageDigest,
     ghost ordered: { Upto K.cmp start end },
+}
+
+// Written out, so that a caller doesn't prove again how each part is dropped.
+impl<K: Ord + Drop> Drop for OwnedPageRange<K> {
+    fn drop(self) {
+        let OwnedPageRange {
+            start: _,
+            end: _,
+            hash: _,
+        } = self;
+    }
 }
 
 impl<K: Ord> OwnedPageRange<K> {

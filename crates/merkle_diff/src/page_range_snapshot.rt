@@ -30,10 +30,19 @@ use std::iter::FusedIterator;
 /// ```
 ///
 /// It keeps the allocator that it was made with.
-#[derive(Drop)]
 pub struct PageRangeSnapshot<K: Ord> {
     alloc: Global,
     ranges: Vec<OwnedPageRange<K>>,
+}
+
+// Written out, so that a caller doesn't prove again how each part is dropped.
+impl<K: Ord + Drop> Drop for PageRangeSnapshot<K> {
+    fn drop(self) {
+        let PageRangeSnapshot {
+            alloc: _,
+            ranges: _,
+        } = self;
+    }
 }
 
 impl<K: Ord> PageRangeSnapshot<K> {

@@ -31,11 +31,22 @@ use std::marker::Model;
 ///
 /// A contract sees the rows, and the tree as its hasher, its level base, its page format, its root page with all caches, and its cached
 /// root hash. The replica keeps the allocator that it was made with.
-#[derive(Drop)]
 pub struct Replica<K: Key, V: Join, H: Hasher<N, K> + ValueHasher<N, V>, const N: usize> {
     pub(crate) alloc: Global,
     rows: Vec<(K, V)>,
     tree: MerkleSearchTree<K, V, H, N>,
+}
+
+// Written out, so that a caller doesn't prove again how each part is dropped.
+impl<K: Key + Drop, V: Join + Drop, H: Hasher<N, K> + ValueHasher<N, V> + Drop, const N: usize> Drop
+    for Replica<K, V, H, N> {
+    fn drop(self) {
+        let Replica {
+            alloc: _,
+            rows: _,
+            tree: _,
+        } = self;
+    }
 }
 
 impl<K: Key, V: Join, H: Hasher<N, K> + ValueHasher<N, V>, const N: usize> Model

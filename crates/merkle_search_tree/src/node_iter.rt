@@ -19,9 +19,15 @@ pub type NodeIter<'a, const N: usize, K> = NodeIterOf<'a, K, ValueDigest<N>>;
 /// level, so that `next` takes no memory, and it looks at each page once.
 ///
 /// `D` is the type of the value digests: callers name the alias [`NodeIter`].
-#[derive(Drop)]
 pub struct NodeIterOf<'a, K, D> {
     path: Vec<Visit<'a, K, D>>,
+}
+
+// Written out, so that a caller doesn't prove again how each part is dropped.
+impl<'a, K, D> Drop for NodeIterOf<'a, K, D> {
+    fn drop(self) {
+        let NodeIterOf { path: _ } = self;
+    }
 }
 
 impl<'a, K, D> Model for NodeIterOf<'a, K, D> {

@@ -24,10 +24,19 @@ pub type PageRangeIter<'a, const N: usize, K> = PageRangeIterOf<'a, K, ValueDige
 /// list of those that are left. It has room for a page of each level, so that `next` takes no memory.
 ///
 /// `D` is the type of the value digests: callers name the alias [`PageRangeIter`].
-#[derive(Drop)]
 pub struct PageRangeIterOf<'a, K: Ord, D> {
     upcoming: Option<&'a PageOf<K, D>>,
     path: Vec<Visit<'a, K, D>>,
+}
+
+// Written out, so that a caller doesn't prove again how each part is dropped.
+impl<'a, K: Ord, D> Drop for PageRangeIterOf<'a, K, D> {
+    fn drop(self) {
+        let PageRangeIterOf {
+            upcoming: _,
+            path: _,
+        } = self;
+    }
 }
 
 impl<'a, K: Ord, D> Model for PageRangeIterOf<'a, K, D> {

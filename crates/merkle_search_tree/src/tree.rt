@@ -52,7 +52,6 @@ use std::num::NonZeroU8;
 /// every page below it cached too, and that a cached root hash is the digest of the root page.
 ///
 /// The tree keeps the allocator that it was made with.
-#[derive(Drop)]
 pub struct MerkleSearchTree<K: Ord + KeyBytes, V, H: Hasher<N, K>, const N: usize> {
     pub(crate) alloc: Global,
     hasher: H,
@@ -61,6 +60,22 @@ pub struct MerkleSearchTree<K: Ord + KeyBytes, V, H: Hasher<N, K>, const N: usiz
     pub(crate) root: Page<N, K>,
     pub(crate) root_hash: Option<RootHash>,
     value_type: PhantomData<V>,
+}
+
+// Written out, so that a caller doesn't prove again how each part is dropped.
+impl<K: Ord + KeyBytes + Drop, V, H: Hasher<N, K> + Drop, const N: usize> Drop
+    for MerkleSearchTree<K, V, H, N> {
+    fn drop(self) {
+        let MerkleSearchTree {
+            alloc: _,
+            hasher: _,
+            level_base: _,
+            page_format: _,
+            root: _,
+            root_hash: _,
+            value_type: _,
+        } = self;
+    }
 }
 
 impl<K: Ord + KeyBytes, V, H: Hasher<N, K>, const N: usize> Model for MerkleSearchTree<K, V, H, N> {

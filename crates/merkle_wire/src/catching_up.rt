@@ -54,12 +54,23 @@ const FEWEST: u64 = 4;
 ///     }
 /// }
 /// ```
-#[derive(Drop)]
 pub struct CatchingUp<K, V> {
     alloc: Global,
     asked: Question<K>,
     work: Work<K, V>,
     rounds: u32,
+}
+
+// Written out, so that a caller doesn't prove again how each part is dropped.
+impl<K: Drop, V: Drop> Drop for CatchingUp<K, V> {
+    fn drop(self) {
+        let CatchingUp {
+            alloc: _,
+            asked: _,
+            work: _,
+            rounds: _,
+        } = self;
+    }
 }
 
 impl<K, V> Model for CatchingUp<K, V> {

@@ -26,13 +26,23 @@ use std::num::NonZeroU8;
 type Tree = MerkleSearchTree<Vec<u8>, [u8; 16], ByteHasher, 16>;
 
 /// A tree from byte strings to digests of byte strings, with its hasher and level base at hand.
-#[derive(Drop)]
 pub struct ByteTree {
     pub tree: Tree,
     hasher: ByteHasher,
     level_base: NonZeroU8,
     ghost same_hasher: { hasher ≡ tree.hasher },
     ghost same_base: { non_zero_u8_get level_base ≡ tree.base },
+}
+
+// Written out, so that a caller doesn't prove again how each part is dropped.
+impl Drop for ByteTree {
+    fn drop(self) {
+        let ByteTree {
+            tree: _,
+            hasher: _,
+            level_base: _,
+        } = self;
+    }
 }
 
 impl ByteTree {

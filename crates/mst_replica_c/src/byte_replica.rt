@@ -22,11 +22,21 @@ use std::num::NonZeroU8;
 
 /// A replica of byte strings, a catch-up that waits for a reply, if one is under way, and the message that is to be sent next, which is empty where
 /// there is none.
-#[derive(Drop)]
 pub struct ByteReplica {
     pub replica: Replica<Vec<u8>, ByteValue, SipHasher, 16>,
     pub session: Option<CatchingUp<Vec<u8>, ByteValue>>,
     pub message: Vec<u8>,
+}
+
+// Written out, so that a caller doesn't prove again how each part is dropped.
+impl Drop for ByteReplica {
+    fn drop(self) {
+        let ByteReplica {
+            replica: _,
+            session: _,
+            message: _,
+        } = self;
+    }
 }
 
 /// What comes after a reply.
