@@ -6,7 +6,7 @@ ghost use Rattle.std.specs.Prelude.{◌≡◌, ⊤};
 ghost use Rattle.key_order.specs.Interval.{is_within};
 ghost use Rattle.key_order.specs.Order.{Upto};
 
-use crate::order::is_upto;
+use key_order::is_upto;
 use std::alloc::AllocError;
 
 /// A range of keys that a peer is asked for, from `start` to `end`, both in it. `start` is at most `end`, always.

@@ -17,7 +17,6 @@ pub mod laws;
 mod lookahead;
 mod marks;
 mod merge;
-mod order;
 mod owned_page_range;
 mod page_range;
 mod page_range_snapshot;

@@ -4,7 +4,7 @@ ghost use Rattle.merkle_diff.specs.Turn.{MarkedBad, MarkedGood};
 ghost use Rattle.merkle_diff.specs.Walk.{gap_mark};
 
 use crate::diff_range::DiffRange;
-use crate::order::is_upto;
+use key_order::is_upto;
 use std::alloc::AllocError;
 
 /// The ranges that the walk marked bad, and those that it marked good, in this order each.

@@ -1,12 +1,21 @@
 //! Ranges that meet become one.
 ghost use Rattle.std.specs.Prelude.{◌≡◌, ◌≤◌, length, take, IsPermutation, IsSortedByKey};
 ghost use Rattle.key_order.specs.Interval.{IsApart};
+ghost use Rattle.key_order.specs.Order.{Upto};
 ghost use Rattle.merkle_diff.specs.DiffRange.{span, spans};
 ghost use Rattle.merkle_diff.specs.Merge.{CoverSameKeys, IsMerge};
-ghost use Rattle.merkle_diff.specs.Sweep.{swept};
+ghost use Rattle.merkle_diff.specs.Sweep.{greater, swept};
 
 use crate::diff_range::DiffRange;
-use crate::order::{greater_of, is_upto};
+use key_order::is_upto;
+
+/// The greater of two keys.
+fn greater_of<'a, K: Ord>(a: &'a K, b: &'a K) -> &'a K
+    ensures value { result.now ≡ greater K.cmp a.now b.now }
+    ensures above { Upto K.cmp a.now result.now }
+{
+    if b <= a { a } else { b }
+}
 
 /// Merges the ranges to the front, and answers how many there are then.
 fn merge_to_front<'a, K: Ord>(ranges: &mut [DiffRange<'a, K>]) -> usize

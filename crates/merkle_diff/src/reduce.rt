@@ -8,7 +8,7 @@ ghost use Rattle.merkle_diff.specs.OnePass.{AddsPiecesLeft, LeavesAlikeFrom};
 
 use crate::diff_range::DiffRange;
 use crate::merge::{merge_overlapping, merged};
-use crate::order::{is_below, is_upto};
+use key_order::{is_below, is_upto};
 use std::alloc::{AllocError, Global};
 
 /// Whether the ranges share a key.

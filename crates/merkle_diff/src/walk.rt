@@ -13,8 +13,8 @@ ghost use Rattle.merkle_diff.specs.Walk.{after_within, mark_of};
 use crate::diff_range::DiffRange;
 use crate::lookahead::{Lookahead, drain, take_head};
 use crate::marks::{Marks, mark_gap};
-use crate::order::{is_below, is_upto};
 use crate::page_range::PageRange;
+use key_order::{is_below, is_upto};
 use merkle_digest::PageDigest;
 use std::alloc::{AllocError, Global};
 

@@ -5,7 +5,8 @@ ghost use Rattle.key_order.specs.Map.{IsMap, rows_in};
 ghost use Rattle.merkle_replica.specs.Answers.{spans_of};
 ghost use Rattle.merkle_replica.specs.Steps.{AreRanges, BeginsBehind, FindsFirst};
 
-use crate::seek::{is_below, is_upto, seek};
+use crate::seek::seek;
+use key_order::{is_below, is_upto};
 use std::marker::Model;
 
 /// Of the rows of a replica in given ranges of keys those that are still to come, in ascending key order. A contract sees the list of

@@ -1,11 +1,13 @@
 //! Rows within ascending ranges, found by one walk over both.
 ghost use Rattle.std.specs.Prelude.{◌≡◌, ◌≤◌, length, take, drop};
 ghost use Rattle.std.specs.List.{AllByRecursion};
-ghost use Rattle.key_order.specs.Order.{Upto, Below, upto, below};
+ghost use Rattle.key_order.specs.Order.{Upto, Below, below};
 ghost use Rattle.key_order.specs.Interval.{IsApart};
 ghost use Rattle.key_order.specs.Map.{IsMap, rows_in};
 ghost use Rattle.merkle_replica.specs.Answers.{spans_of};
 ghost use Rattle.merkle_replica.specs.Seek.{ranges_from, begins_upto};
+
+use key_order::{is_below, is_upto};
 
 /// Where the first of the ranges from `from` on stands that doesn't end below the key, and whether the key is in it.
 pub fn seek<K: Ord>(ranges: &[(K, K)], from: usize, key: &K) -> (usize, bool)
@@ -52,18 +54,4 @@ pub fn first_from<K: Ord, V>(rows: &[(K, V)], key: &K) -> usize
             ensures { result ≡ below K.cmp row.now.0 key.entry.now }
         { row.0 < *key },
     )
-}
-
-/// Whether `a` is at most `b`.
-pub fn is_upto<K: Ord>(a: &K, b: &K) -> bool
-    ensures { result ≡ upto K.cmp a.now b.now }
-{
-    a <= b
-}
-
-/// Whether `a` is below `b`.
-pub fn is_below<K: Ord>(a: &K, b: &K) -> bool
-    ensures { result ≡ below K.cmp a.now b.now }
-{
-    a < b
 }

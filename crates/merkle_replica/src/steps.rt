@@ -12,7 +12,7 @@ use crate::lawful::Lawful;
 use crate::pull::ask_of;
 use crate::replica::Replica;
 use crate::rows_within::{RowsWithin, are_ranges};
-use crate::seek::is_below;
+use key_order::is_below;
 use merkle_diff::PageRangeSnapshot;
 use merkle_digest::{Hasher, Key};
 use std::alloc::AllocError;

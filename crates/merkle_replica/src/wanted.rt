@@ -7,7 +7,7 @@ ghost use Rattle.merkle_replica.specs.Descent.{keys_of};
 
 use crate::join::Join;
 use crate::replica::Replica;
-use crate::seek::is_below;
+use key_order::is_below;
 use merkle_digest::{Hasher, Key};
 use std::alloc::{AllocError, Global};
 use std::cmp::Ordering;

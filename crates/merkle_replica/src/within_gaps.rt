@@ -6,7 +6,7 @@ ghost use Rattle.merkle_search_tree.specs.Items.{bound_of, gap_of, item as item_
 ghost use Rattle.merkle_replica.specs.Descent.{gaps_of};
 ghost use Rattle.merkle_replica.specs.LieWithin.{StartsWithin, EndsWithin, AreInOrder, IsBoundUpto, IsPart, IsWithin, Precedes, Rise, AreWithin, LieWithin, KeysLieWithin};
 
-use crate::seek::{is_below, is_upto};
+use key_order::{is_below, is_upto};
 use merkle_search_tree::{Gap, OutlineItem, OutlineItemOf};
 
 /// Whether items that came could be outlines over these gaps, by their keys: first come items within the first gap, then items
