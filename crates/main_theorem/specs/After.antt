@@ -95,3 +95,8 @@ module _ {K V H : Type 0} (laws : Laws K V H) where
     pub pages : SamePages laws.cmp tree.root (tree_under s m)
     pub ranges : SameEntries laws.cmp (ranges_of tree.format laws.bytes_of tree.root) (page_ranges_under s m)
     pub root_hash : tree.root_hash ≡ Some (root_hash_under s m)
+
+  -- the tree is the one that any map defines which the rows of a hashed replica equal, under the settings of the replica
+  abbrev pub IsDefinedTreeOf : Contents K V H → State K H → Type 0
+  IsDefinedTreeOf replica tree = (s : Settings H) (m : List (K × V)) → HasSettings s replica.tree → HasRootHashOf s replica.rows replica.tree
+      → AreEqual laws.cmp laws.eq replica.rows m → IsDefinedBy s m tree

@@ -33,6 +33,14 @@ module _ {K V H : Type 0} {N : ℕ} (laws : Laws K V H) where
   abbrev pub AcceptTheFree : Settings H → List (Update K V) → List (Update K V) → Run K V H N → Type 0
   AcceptTheFree s a_updates b_updates run = AcceptsTheFree s a_updates run.a × AcceptsTheFree s b_updates run.b
 
+  -- before the exchange its tree was the one that the map of its accepted updates defines
+  abbrev pub HadTheDefinedTree : Settings H → List (Update K V) → Outcome K V H N → Type 0
+  HadTheDefinedTree s updates outcome = IsDefinedBy laws s (own_map updates outcome) outcome.before
+
+  -- so was that of both
+  abbrev pub HadTheDefinedTrees : Settings H → List (Update K V) → List (Update K V) → Run K V H N → Type 0
+  HadTheDefinedTrees s a_updates b_updates run = HadTheDefinedTree s a_updates run.a × HadTheDefinedTree s b_updates run.b
+
   -- the rows of both are the maps of their accepted updates
   abbrev pub HaveTheirMaps : List (Update K V) → List (Update K V) → Run K V H N → Type 0
   HaveTheirMaps a_updates b_updates run = HasItsMap a_updates run.a × HasItsMap b_updates run.b

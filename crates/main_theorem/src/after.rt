@@ -2,13 +2,16 @@
 ghost use Rattle.std.specs.Prelude.{◌≡◌, [], IfOk, length};
 ghost use Rattle.key_order.specs.Order.{Same};
 ghost use Rattle.merkle_tree_theory.specs.State.{HasSettings, SameSettings};
-ghost use Rattle.main_theorem.specs.After.{FreeAreAccepted, HasRootHashOf, IsAcceptedBy, IsCarriedOut, IsHashedLast, rows_after};
+ghost use Rattle.main_theorem.specs.After.{FreeAreAccepted, HasRootHashOf, IsAcceptedBy, IsCarriedOut, IsDefinedTreeOf, IsHashedLast, rows_after};
 ghost use Rattle.merkle_replica.specs.Agreeing.{AreEqual};
 
 use merkle_digest::{Hasher, Key};
 use merkle_replica::{Join, Lawful, Replica};
+use merkle_search_tree::MerkleSearchTree;
 use merkle_search_tree::builder::Builder;
-use merkle_search_tree::laws::{a_map_has_one_tree, every_tree_is_sound};
+use merkle_search_tree::laws::{
+    a_map_has_one_tree, equal_pages_have_equal_maps, every_tree_is_sound,
+};
 use merkle_search_tree::updates::Update;
 use std::alloc::{AllocError, Global};
 
@@ -76,4 +79,22 @@ where
     a_map_has_one_tree::<K, H, N>();
     every_tree_is_sound(replica.tree());
     replica.hash();
+}
+
+/// A copy of the replica's tree. Where the replica is hashed, the copy is the tree that its rows define.
+pub(crate) fn copy_of_tree<K, V, H, const N: usize>(
+    replica: &Replica<K, V, H, N>,
+) -> Result<MerkleSearchTree<K, V, H, N>, AllocError>
+where
+    K: Key + Drop,
+    V: Join,
+    H: Hasher<N, K> + Hasher<N, V> + Clone + Drop,
+    requires hashers { (x y : H) → H.is_clone x y → y ≡ x }
+    ensures { IfOk result (IsDefinedTreeOf ⟦<H as Lawful<N, K, V>>⟧.laws replica.now) }
+{
+    a_map_has_one_tree::<K, H, N>();
+    equal_pages_have_equal_maps::<K>();
+    let copy = replica.tree().try_clone()?;
+    every_tree_is_sound(&copy);
+    Ok(copy)
 }

@@ -36,7 +36,7 @@ pub enum Exchanged<K> {
 /// Why there is no run to the end: memory was refused. Both replicas are given up.
 #[derive(Debug, Drop)]
 pub enum RunRefused<K> {
-    /// Before the exchange: for the clone of the hasher, or for the answers.
+    /// Before the exchange: for the clone of the hasher, for the answers, or for the copy of a tree.
     Before,
     /// In the pulls by turns.
     InTurns(TurnsError<K>),

@@ -2,13 +2,14 @@
 ghost use Rattle.std.specs.Prelude.{◌≡◌, IfOk, IfErr};
 ghost use Rattle.key_order.specs.Order.{Same};
 ghost use Rattle.main_theorem.specs.Course.{IsDone, IsStopped};
-ghost use Rattle.main_theorem.specs.Runs.{AreAnswered, AcceptTheFree, HaveTheirMaps, HasTheDefinedTree, Converge};
+ghost use Rattle.main_theorem.specs.Runs.{AreAnswered, AcceptTheFree, HadTheDefinedTrees, HaveTheirMaps, HasTheDefinedTree, Converge};
 ghost use Rattle.main_theorem.specs.declared.course.Exchange.TheVariants.{Apart};
 
-use crate::after::{after, hash_last};
+use crate::after::{after, copy_of_tree, hash_last};
 use crate::course::{Exchange, Exchanged, RunRefused, come_together};
 use merkle_digest::{Hasher, Key};
 use merkle_replica::{Join, Lawful, Replica, ValueHasher};
+use merkle_search_tree::MerkleSearchTree;
 use merkle_search_tree::builder::Builder;
 use merkle_search_tree::laws::{
     a_map_has_one_tree, equal_pages_have_equal_maps, every_tree_is_sound,
@@ -21,6 +22,8 @@ use std::alloc::Global;
 pub struct Outcome<K: Key, V: Join, H: Hasher<N, K> + ValueHasher<N, V>, const N: usize> {
     /// For each of its updates, whether it was accepted.
     pub accepted: Vec<bool>,
+    /// A copy of its tree after the updates, before the exchange.
+    pub before: MerkleSearchTree<K, V, H, N>,
     /// The replica after the exchange, hashed.
     pub replica: Replica<K, V, H, N>,
 }
@@ -68,7 +71,11 @@ where
     ensures answers { IfOk result (λ r. AreAnswered a_updates.items r.a × AreAnswered b_updates.items r.b) }
     ensures free { IfOk result (AcceptTheFree ⟦<H as Lawful<N, K, V>>⟧.laws builder a_updates.items b_updates.items) }
 
-    // The rows that the updates leave are the map of the accepted ones.
+    // Between the updates and the exchange, whichever it is, each tree is the one that the map of the accepted updates defines: its pages
+    // apart from caches, its page ranges and its root hash.
+    ensures before { IfOk result (HadTheDefinedTrees ⟦<H as Lawful<N, K, V>>⟧.laws builder a_updates.items b_updates.items) }
+
+    // Where there is no exchange, the rows at the end are the maps of the accepted updates.
     ensures rows { exchange ≡ Apart → IfOk result (HaveTheirMaps ⟦<H as Lawful<N, K, V>>⟧.laws a_updates.items b_updates.items) }
 
     // Whatever map the rows of a replica are, its pages are the one tree that the map defines, apart from caches, and its page ranges
@@ -102,6 +109,9 @@ where
     };
     let (mut a, a_accepted) = first;
     let (mut b, b_accepted) = second;
+    let (Ok(a_before), Ok(b_before)) = (copy_of_tree(&a), copy_of_tree(&b)) else {
+        return Err(RunRefused::Before);
+    };
     let exchanged = match come_together(alloc, &mut a, &mut b, exchange) {
         Ok(exchanged) => exchanged,
         Err(refused) => return Err(refused),
@@ -113,10 +123,12 @@ where
     Ok(Run {
         a: Outcome {
             accepted: a_accepted,
+            before: a_before,
             replica: a,
         },
         b: Outcome {
             accepted: b_accepted,
+            before: b_before,
             replica: b,
         },
         exchanged,

@@ -2,7 +2,7 @@
 //! value, and the root hashes by the plain program of the definition.
 
 use main_theorem::{Exchange, Exchanged, Outcome, Run, RunRefused, converge};
-use merkle_digest::{Hasher, ValueDigest};
+use merkle_digest::{Hasher, RootHash, ValueDigest};
 use merkle_search_tree::builder::{Builder, PageFormat};
 use merkle_search_tree::updates::Update;
 use sample_trees::defined::defined_root_hash;
@@ -117,23 +117,37 @@ fn run_both(
     converge(alloc, builder, a, b, exchange)
 }
 
-/// Whether all updates were accepted, and the rows are these, with the defined root hash.
+/// The root hash that the keys define which have values.
+fn root_hash_of(
+    alloc: Global,
+    hasher: &LevelHasher<[u8; 2]>,
+    format: PageFormat,
+    values: &[u64; COUNT],
+) -> Result<RootHash, AllocError> {
+    let pairs = pairs(alloc, hasher, values)?;
+    Ok(defined_root_hash(hasher, format, &pairs))
+}
+
+/// Whether all updates were accepted, the root hash before the exchange is the one that the values of then define, and the rows are
+/// these at the end, with the defined root hash.
 fn is_defined(
     alloc: Global,
     hasher: &LevelHasher<[u8; 2]>,
     format: PageFormat,
     outcome: Replicated,
+    before: &[u64; COUNT],
     values: &[u64; COUNT],
 ) -> Result<bool, AllocError> {
-    let pairs = pairs(alloc, hasher, values)?;
-    let digest = defined_root_hash(hasher, format, &pairs);
+    let first = root_hash_of(alloc, hasher, format, before)?;
+    let last = root_hash_of(alloc, hasher, format, values)?;
     let replica = outcome.replica;
     let are_accepted = outcome.accepted.len() == UPDATES
         && outcome.accepted.iter().all(|accepted| *accepted);
     Ok(
         are_accepted
+            && outcome.before.root_hash_cached() == Some(&first)
             && holds(replica.rows(), values)
-            && replica.tree().root_hash_cached() == Some(&digest),
+            && replica.tree().root_hash_cached() == Some(&last),
     )
 }
 
@@ -203,8 +217,8 @@ fn runs_as_defined(
     } else {
         joined
     };
-    let a_is = is_defined(alloc, &hasher, format, run.a, &a_wanted)?;
-    let b_is = is_defined(alloc, &hasher, format, run.b, &b_wanted)?;
+    let a_is = is_defined(alloc, &hasher, format, run.a, &a_values, &a_wanted)?;
+    let b_is = is_defined(alloc, &hasher, format, run.b, &b_values, &b_wanted)?;
     Ok(is_made && a_is && b_is)
 }
 

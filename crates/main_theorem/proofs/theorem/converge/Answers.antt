@@ -4,7 +4,8 @@ use Rattle.key_order.proofs.Joins.{same_joins}
 use Rattle.merkle_tree_theory.specs.Sound.{IsSound}
 use Rattle.merkle_tree_theory.specs.State.{State, HasSettings}
 use Rattle.merkle_replica.specs.Contents.{side}
-use Rattle.main_theorem.specs.After.{FreeAreAccepted, rows_after, root_hash_under}
+use Rattle.merkle_tree_theory.specs.Settings.{Settings}
+use Rattle.main_theorem.specs.After.{FreeAreAccepted, IsDefinedBy, rows_after, root_hash_under}
 use Rattle.merkle_replica.specs.Agreeing.{AreEqual}
 use Rattle.main_theorem.specs.Course.{AreExchanged}
 use Rattle.merkle_replica.specs.Laws.{Laws}
@@ -12,6 +13,20 @@ use Rattle.main_theorem.proofs.Courses.{apart_stay}
 use Rattle.main_theorem.proofs.Lives.{join_equal, equal_itself}
 use Rattle.main_theorem.proofs.Roots.{is_defined, root_last, settings_stay}
 use Rattle.main_theorem.proofs.theorem.converge.Goals as goal
+
+pub returns-clause-before : goal.returns-clause-before
+returns-clause-before g c =
+    let laws : Laws g.row.K.Denot g.row.V.Denot g.row.H.Denot = record { cmp = g.K.Ord.cmp; bytes_of = g.K.KeyBytes.bytes_of; key_digest = g.H.Hasher-1.digest_of; eq = g.V.PartialEq.eq; join = g.V.Join.join_of; value_digest = g.H.Hasher-2.digest_of } in
+    let cloned = c.in-Ok.ensures in
+    let hasher = c.requires.hashers _ _ cloned.hasher in
+    let other : Settings g.row.H.Denot = c.in-Ok.other in
+    let same : other ≡ c.args.builder = λ i. record { hasher = hasher i; base = cloned.base i; format = cloned.format i } in
+    let a = c.in-Ok-after.ensures in
+    let b = c.in-Ok-after-2.ensures in (
+      c.in-Ok-Ok.ensures c.args.builder _ a.settings a.root_hash a.rows,
+      subst (λ s. IsDefinedBy laws s (rows_after laws.cmp laws.join c.args.b_updates.items c.in-Ok-after-2.second.1.items) c.in-Ok-Ok.b_before) same
+          (c.in-Ok-Ok.ensures' other _ b.settings b.root_hash b.rows),
+    )
 
 pub returns-clause-rows : goal.returns-clause-rows
 returns-clause-rows g c apart =
