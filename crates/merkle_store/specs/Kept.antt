@@ -12,7 +12,7 @@ use Rattle.store_table.specs.Entries.{store_schema, HoldsEntries, IsNoted}
 use Rattle.store_table.specs.Connections.{database, IsClean, IsCommitted}
 use Rattle.store_table.specs.Latest.{IsLatestAt}
 use Rattle.store_table.specs.declared.register.Register.{Register}
-use Rattle.store_table.specs.declared.table.TheConstants.{FORMAT}
+use Rattle.store_table.specs.declared.format.TheConstants.{FORMAT}
 use Rattle.store_table.specs.contracts.register.RegisterPartialEq.TheImpl as register_eq
 use Rattle.store_table.specs.contracts.registers.RegisterJoin.TheImpl as register_join
 use Rattle.merkle_store.specs.declared.store.Store.{Store}

@@ -12,4 +12,4 @@ pub mod upkeep;
 pub mod wire;
 
 pub use store::Store;
-pub use store_table::{Register, StoreFault, fault, table};
+pub use store_table::{Register, StoreFault, fault, format, table};

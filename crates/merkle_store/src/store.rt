@@ -15,14 +15,14 @@ use crate::news::news_of;
 use crate::upkeep::{EntryReplica, add_entries, add_entry, read_replica, rewrite};
 use sqlite::{Alter, Connection};
 use std::alloc::{AllocError, Global};
-use store_table::table::{self, Entries, FORMAT, recognise};
+use store_table::format::{self, FORMAT, recognise};
+use store_table::table::Entries;
 use store_table::{Register, StoreFault};
 
 /// How far ahead of the clock, in milliseconds, the time of a peer's entry may be: a day.
 pub const AHEAD: u64 = 86_400_000;
 
 /// A store over an open database.
-#[derive(Drop)]
 pub struct Store<S: Alter + Drop> {
     alloc: Global,
     conn: Connection<S>,
@@ -31,6 +31,20 @@ pub struct Store<S: Alter + Drop> {
     rows: usize,
     /// The greatest time of a peer's entry that is joined.
     latest: u64,
+}
+
+// Written out, so that a caller doesn't prove again how each part is dropped.
+impl<S: Alter + Drop> Drop for Store<S> {
+    fn drop(self) {
+        let Store {
+            alloc: _,
+            conn: _,
+            writer: _,
+            replica: _,
+            rows: _,
+            latest: _,
+        } = self;
+    }
 }
 
 /// Makes a store without entries in a database without tables, or nothing. It takes the time of one transaction.
@@ -47,7 +61,7 @@ pub fn create<S: Alter>(conn: &mut Connection<S>, writer: &str) -> Result<(), St
     // A crash leaves what it could leave before, or a store without entries.
     ensures crash { Leaves S.Store conn.old conn.new (λ _. IsNewStore FORMAT writer.now) }
 {
-    table::create(conn, writer)
+    format::create(conn, writer)
 }
 
 /// The name by which the store writes, the replica of its entries, and how many rows its table has. It takes memory linear in the table, and the
@@ -305,6 +319,14 @@ impl<S: Alter + Drop> Store<S> {
     pub fn into_connection(self) -> Connection<S>
         ensures { result ≡ self.conn }
     {
-        self.conn
+        let Store {
+            alloc: _,
+            conn,
+            writer: _,
+            replica: _,
+            rows: _,
+            latest: _,
+        } = self;
+        conn
     }
 }

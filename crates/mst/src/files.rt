@@ -6,7 +6,7 @@ use std::fs;
 use std::hash::{BuildHasher, RandomState};
 use std::thread::sleep;
 use std::time::Duration;
-use store_table::table::create;
+use store_table::format::create;
 
 /// A database in a file.
 pub type FileConnection = Connection<FileStore<File>>;

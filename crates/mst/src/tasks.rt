@@ -10,7 +10,7 @@ use mst_commands::run;
 use mst_words::{Given, Verb};
 use sqlite::{Alter, Connection};
 use std::fs;
-use store_table::table::recognise;
+use store_table::format::recognise;
 
 /// The root hash of what the file holds.
 fn root_of<S: Alter>(rt: &HostRuntime, conn: &mut Connection<S>) -> Result<RootHash, Failure> {

@@ -2,6 +2,7 @@
 #![tactic(auto)]
 
 pub mod fault;
+pub mod format;
 pub mod latest;
 pub mod layout;
 pub mod register;

@@ -5,7 +5,7 @@ use Rattle.sqlite.specs.Held.{state}
 use Rattle.sqlite.proofs.StateLemmas.{survives_then}
 use Rattle.sqlite.proofs.Callers.{unchanged_then}
 use Rattle.store_table.specs.Entries.{IsNoted}
-use Rattle.store_table.specs.declared.table.TheConstants.{FORMAT}
+use Rattle.store_table.specs.declared.format.TheConstants.{FORMAT}
 use Rattle.merkle_store.specs.Kept.{AreInStep}
 use Rattle.merkle_store.proofs.store.read_store.Goals as goal
 

@@ -1,7 +1,7 @@
 use Rattle.sqlite.specs.Held.{state}
 use Rattle.store_table.proofs.Outcomes.{of_ok}
 use Rattle.store_table.proofs.AboutLemmas.{makes_entries}
-use Rattle.store_table.proofs.table.make_entries.Goals as goal
+use Rattle.store_table.proofs.format.make_entries.Goals as goal
 
 pub returns-clause-made : goal.returns-clause-made
 returns-clause-made g c clean going has =

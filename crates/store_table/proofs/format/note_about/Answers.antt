@@ -2,7 +2,7 @@ use Rattle.std.proofs.Common.{pos}
 use Rattle.sqlite.specs.Held.{state}
 use Rattle.store_table.proofs.Outcomes.{of_ok}
 use Rattle.store_table.proofs.AboutLemmas.{notes}
-use Rattle.store_table.proofs.table.note_about.Goals as goal
+use Rattle.store_table.proofs.format.note_about.Goals as goal
 
 pub returns-clause-noted : goal.returns-clause-noted
 returns-clause-noted g c clean going was =

@@ -2,8 +2,8 @@ use Rattle.std.proofs.Common.{◌≡◌, refl, sym, ap, subst, ◌∙◌, string
 use Rattle.std.proofs.Math.Facts.{to_z-of_z}
 use Rattle.sqlite.specs.Held.{state}
 use Rattle.store_table.specs.Entries.{store_schema, IsNoted}
-use Rattle.store_table.specs.declared.table.TheConstants.{FORMAT}
-use Rattle.store_table.proofs.table.recognise.Goals as goal
+use Rattle.store_table.specs.declared.format.TheConstants.{FORMAT}
+use Rattle.store_table.proofs.format.recognise.Goals as goal
 
 pub returns-clause-noted : goal.returns-clause-noted
 returns-clause-noted g c clean =

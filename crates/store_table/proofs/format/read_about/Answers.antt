@@ -1,7 +1,7 @@
 use Rattle.sqlite.specs.Held.{state}
 use Rattle.store_table.proofs.Outcomes.{if_ok, to_on_ok}
 use Rattle.store_table.proofs.AboutLemmas.{reads_about, about_unchanged, never_about}
-use Rattle.store_table.proofs.table.read_about.Goals as goal
+use Rattle.store_table.proofs.format.read_about.Goals as goal
 
 pub returns-clause-rows : goal.returns-clause-rows
 returns-clause-rows g c has clean =

@@ -5,7 +5,7 @@ use Rattle.sqlite.specs.declared.types.Value.TheVariants.{Int, Text}
 use Rattle.sqlite.specs.Held.{state}
 use Rattle.store_table.specs.Entries.{noted}
 use Rattle.store_table.proofs.AboutLemmas.{note_was, one_of, as_many}
-use Rattle.store_table.proofs.table.about.Goals as goal
+use Rattle.store_table.proofs.format.about.Goals as goal
 
 pub returns-then-len-ne1-clause-foreign : goal.returns-then-len-ne1-clause-foreign
 returns-then-len-ne1-clause-foreign g c clean is has one =
