@@ -1,6 +1,8 @@
 use crate::rows::{are_rows, numbers};
 use examples::store::{Store, open_rows};
-use examples::wire::{WireFault, ask, join, pull_over_bytes, send_page_ranges, send_rows};
+use examples::wire::{
+    WireFault, ask, join, pull_over_bytes, rows_to_come, send_page_ranges, send_rows,
+};
 use std::alloc::Global;
 use std::test::Fail;
 
@@ -134,5 +136,17 @@ fn bytes_that_are_no_page_ranges_are_malformed(rt: HostRuntime) -> Result<(), Fa
         assert!(rt; ask(alloc, &mut store, bytes).err() == Some(WireFault::Malformed));
     }
     assert!(rt; ask(alloc, &mut store, BACKWARD).err() == Some(WireFault::Malformed));
+    Ok(())
+}
+
+#[test]
+fn the_first_bytes_tell_how_many_rows_come(rt: HostRuntime) -> Result<(), Fail> {
+    let alloc = rt.alloc();
+    // A count below 128 is one byte; above, its lowest seven bits come first, with 128 more.
+    assert!(rt; rows_to_come(alloc, &[3])? == 3);
+    assert!(rt; rows_to_come(alloc, &[127, 1, 120])? == 127);
+    assert!(rt; rows_to_come(alloc, &[128, 1, 1, 120])? == 128);
+    assert!(rt; rows_to_come(alloc, &[172, 2])? == 300);
+    assert!(rt; matches!(rows_to_come(alloc, &[172]), Err(WireFault::Malformed)));
     Ok(())
 }

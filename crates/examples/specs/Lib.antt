@@ -10,3 +10,4 @@ pub mod GossipMessages
 pub mod Wire
 pub mod StoreLaws
 pub mod PullMessages
+pub mod Sessions

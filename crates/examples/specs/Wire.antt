@@ -1,5 +1,5 @@
 -- Page ranges, ranges of names, and rows, as bytes.
-use Rattle.std.specs.Prelude.{◌≡◌, ◌≢◌, ℕ, ◌<◌, ◌^◌, List, ◌++◌, string_bytes, ⊤}
+use Rattle.std.specs.Prelude.{◌≡◌, ◌≢◌, ℕ, ◌<◌, ◌^◌, List, ◌++◌, length, string_bytes, ⊤}
 use Rattle.std.specs.List.{AllByRecursion}
 use Rattle.key_order.specs.Interval.{Span}
 use Rattle.key_order.specs.Map.{IsMap}
@@ -53,6 +53,10 @@ AreNoRanges bytes = (ranges : List (Span Text)) → bytes ≢ list_bytes range_b
 -- the bytes spell no rows
 abbrev pub AreNoRows : List ℕ → Type 0
 AreNoRows bytes = (rows : List (Text × ℕ)) → AllByRecursion IsRow rows → bytes ≢ list_bytes row_bytes rows
+
+-- bytes that go on with those of a list of rows, whatever comes behind them, begin with how many these are
+abbrev pub TellsHowMany : List ℕ → ℕ → Type 0
+TellsHowMany bytes count = (rows : List (Text × ℕ)) (more rest : List ℕ) → bytes ++ more ≡ list_bytes row_bytes rows ++ rest → count ≡ length rows
 
 -- the bytes spell ranges that don't ascend
 abbrev pub AreUnorderedRanges : List ℕ → Type 0

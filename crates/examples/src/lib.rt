@@ -11,6 +11,7 @@ pub mod messages;
 pub mod readme;
 pub mod register;
 pub mod removable;
+pub mod sessions;
 pub mod set;
 pub mod store;
 pub mod sync;

@@ -5,11 +5,11 @@ ghost use Rattle.merkle_bytes.specs.Encodings.{list_bytes};
 ghost use Rattle.merkle_diff.specs.PageRange.{entries};
 ghost use Rattle.merkle_diff.specs.PageRangeSnapshot.{snapshot_entries};
 ghost use Rattle.merkle_replica.specs.Answers.{spans_of};
-ghost use Rattle.examples.specs.Wire.{AreNoList, AreNoPageRanges, AreNoRanges, AreNoRows, IsPageRange, IsRow, page_range_bytes, range_bytes, row_bytes};
+ghost use Rattle.examples.specs.Wire.{AreNoList, AreNoPageRanges, AreNoRanges, AreNoRows, IsPageRange, IsRow, TellsHowMany, page_range_bytes, range_bytes, row_bytes};
 ghost use Rattle.examples.specs.declared.wire.WireFault.TheVariants.{Malformed};
 
 use crate::wire::WireFault;
-use merkle_bytes::laws::bytes_tell_lists;
+use merkle_bytes::laws::{bytes_tell_counts, bytes_tell_lists};
 use merkle_bytes::{Decode, Encode, Reader, decode_list, encode_list};
 use merkle_diff::{PageRange, PageRangeSnapshot};
 use std::alloc::{AllocError, Global};
@@ -107,4 +107,18 @@ pub fn read_rows(alloc: Global, bytes: &[u8]) -> Result<Vec<(String, u64)>, Wire
     ensures malformed { result ≡ Err Malformed → AreNoRows bytes.now }
 {
     read_list(alloc, bytes)
+}
+
+/// How many rows are to come, by the first bytes of their message: it need not be whole yet.
+///
+/// # Errors
+///
+/// [`WireFault::Malformed`] where the bytes begin with no count.
+pub fn rows_to_come(alloc: Global, bytes: &[u8]) -> Result<u64, WireFault>
+    ensures told { IfOk result (TellsHowMany bytes.now) }
+{
+    bytes_tell_counts();
+    let mut reader = Reader::new(alloc, bytes);
+    let count = reader.count()?;
+    Ok(count)
 }

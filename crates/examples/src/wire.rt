@@ -10,6 +10,7 @@ ghost use Rattle.examples.specs.PullMessages.{SpellsPages, SendsPageRanges, Asks
 ghost use Rattle.examples.specs.Wire.{AreNoPageRanges, AreNoRanges, AreNoRows, AreUnorderedRanges, AreUnorderedRows};
 ghost use Rattle.examples.specs.declared.wire.WireFault.TheVariants.{Malformed};
 
+pub use crate::lists::rows_to_come;
 use crate::lists::{
     read_page_ranges, read_ranges, read_rows, write_page_ranges, write_ranges, write_rows,
 };

@@ -1,0 +1,79 @@
+//! Catch-ups by messages: what is premise enough, and how many replies come at most; and a copy that pulls what its original pulls.
+ghost use Rattle.std.specs.Prelude.{◌≡◌, OnOk};
+ghost use Rattle.merkle_tree_theory.specs.declared.page_format.PageFormat.TheVariants.{V2};
+ghost use Rattle.merkle_replica.specs.Agreeing.{GiveOneDigest};
+ghost use Rattle.merkle_replica.specs.Contents.{side};
+ghost use Rattle.merkle_replica.specs.Faithful.{AreSetAlike};
+ghost use Rattle.examples.specs.Sessions.{AreMostReplies, HaveOneMap, JoinsWhereNothingCollides};
+
+use merkle_bytes::Decode;
+use merkle_digest::{Hasher, Key, KeyBytesExact};
+use merkle_replica::laws::{a_pull_has_one_answer, a_replica_in_memory_is_small};
+use merkle_replica::{Join, Lawful, PullError, Replica};
+use merkle_wire::laws::{an_honest_session_ends, no_collision_makes_a_session_faithful};
+use merkle_wire::{MessagesError, catch_up_by_messages};
+use std::alloc::Global;
+
+/// Catches up with a peer by messages, in page format 2, for keys that their bytes tell apart. It is enough that no two unequal streams of
+/// pages have one digest, that equal digests of values mean equal values, and that no nodes of pages collide.
+///
+/// # Errors
+///
+/// As of [`catch_up_by_messages`].
+pub fn catch_up_exact<
+    K: Key + KeyBytesExact + Decode,
+    V: Join + Decode,
+    H: Hasher<N, K> + Hasher<N, V>,
+    const N: usize,
+>(
+    alloc: Global,
+    replica: &mut Replica<K, V, H, N>,
+    peer: &mut Replica<K, V, H, N>,
+) -> Result<usize, MessagesError>
+    requires alike { AreSetAlike ⟦<H as Lawful<N, K, V>>⟧.laws (side replica.old) (side peer.old) }
+    requires one_digest { GiveOneDigest ⟦<H as Lawful<N, K, V>>⟧.laws (side replica.old) (side peer.old) }
+    requires format_2 { replica.old.tree.format ≡ V2 }
+    ensures join { OnOk result (JoinsWhereNothingCollides ⟦<H as Lawful<N, K, V>>⟧.laws N replica.old peer.old replica.new) }
+    ensures peer_rows { peer.new.rows ≡ peer.old.rows }
+{
+    no_collision_makes_a_session_faithful::<K, V, H, N>();
+    catch_up_by_messages(alloc, replica, peer)
+}
+
+/// How many replies of a peer ask on at most, in a session of whoever catches up with it: so a server knows how long to serve.
+pub fn most_replies<
+    K: Key + Decode,
+    V: Join + Decode,
+    H: Hasher<N, K> + Hasher<N, V>,
+    const N: usize,
+>(peer: &Replica<K, V, H, N>) -> u128
+    ensures { AreMostReplies ⟦<H as Lawful<N, K, V>>⟧.laws N K.encoding V.encoding peer.now result }
+{
+    an_honest_session_ends::<K, V, H, N>();
+    a_replica_in_memory_is_small(peer);
+    peer.rows().len() as u128 * 3 + 2
+}
+
+/// A replica and a copy of it pull from a peer, one after the other, and hold the same map again.
+///
+/// # Errors
+///
+/// Want of memory: the first may have pulled then, and the copy not.
+pub fn pull_with_copy<
+    K: Key + Drop,
+    V: Join + Drop,
+    H: Hasher<N, K> + Hasher<N, V>,
+    const N: usize,
+>(
+    replica: &mut Replica<K, V, H, N>,
+    copy: &mut Replica<K, V, H, N>,
+    peer: &mut Replica<K, V, H, N>,
+) -> Result<(), PullError<K>>
+    requires copied { side copy.old ≡ side replica.old }
+    ensures { OnOk result (HaveOneMap ⟦<H as Lawful<N, K, V>>⟧.laws replica.new copy.new) }
+{
+    a_pull_has_one_answer::<K, V, H, N>();
+    replica.pull(peer)?;
+    copy.pull(peer)?;
+    Ok(())
+}
