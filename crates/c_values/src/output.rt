@@ -1,6 +1,6 @@
 //! Bytes for the caller.
 ghost use Rattle.std.specs.Prelude.{◌≡◌, ◌≢◌, ◌<◌, ◌↔◌, ◌⊎◌, length};
-ghost use Rattle.mst_replica_c.specs.Handles.{AreInFront};
+ghost use Rattle.c_values.specs.Output.{AreInFront};
 
 use crate::status::{DONE, SHORT};
 

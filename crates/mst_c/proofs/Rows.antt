@@ -30,7 +30,7 @@ use Rattle.std.specs.declared.option.Option.{Option}
 use Rattle.std.specs.declared.option.Option.TheVariants.{None, Some}
 use Rattle.mst_c.specs.contracts.byte_tree.ByteTree as ByteTree
 use Rattle.mst_c.proofs.byte_tree.ByteTree.TheLaws as tree_laws
-use Rattle.mst_c.specs.contracts.parts.Parts as Parts
+use Rattle.c_values.specs.contracts.parts.Parts as Parts
 use Rattle.mst_c.specs.contracts.handle.MstTree as MstTree
 
 -- a box of a tree

@@ -25,10 +25,6 @@ IsOutput old new needed P = (bytes : List ℕ) × P bytes × (needed ≡ length 
 abbrev pub IsShort : List ℕ → ℕ → (List ℕ → Type 0) → Type 0
 IsShort out needed P = (length out < needed) × ((bytes : List ℕ) × P bytes × (needed ≡ length bytes))
 
--- the bytes are in front of out, and behind them it is as before
-abbrev pub AreInFront : List ℕ → List ℕ → List ℕ → Type 0
-AreInFront bytes old new = (length bytes ≤ length old) × (new ≡ bytes ++ drop (length bytes) old)
-
 -- the handle has a tree, and bytes that tell this of it are in front of out
 abbrev pub IsOutputOf : Option ByteTree → (ByteState → List ℕ → Type 0) → List ℕ → List ℕ → ℕ → Type 0
 IsOutputOf tree Tells old new needed = HasTree tree (λ s. IsOutput old new needed (Tells s))

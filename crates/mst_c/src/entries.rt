@@ -7,8 +7,8 @@ ghost use Rattle.mst_c.specs.Spots.{HasSecond, IsEntryAt, IsList, LacksFront, ga
 ghost use Rattle.mst_c.specs.Wire.{number_bytes};
 
 use crate::reading::{body_of, keyed_of, pair_of};
-use crate::status::{ABSENT, ARGUMENT, DONE, MALFORMED};
 use crate::wire::{DIGESTS, KEY_RANGES, PAGE_RANGES, ROWS};
+use c_values::status::{ABSENT, ARGUMENT, DONE, MALFORMED};
 
 /// Where the parts of an entry lie in its list: places in bytes from the front of the list, and lengths in bytes. The place of a string
 /// is behind its length.

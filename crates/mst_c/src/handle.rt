@@ -5,7 +5,7 @@ ghost use Rattle.mst_c.specs.declared.byte_tree.ByteTree.{ByteTree as Held};
 ghost use Rattle.mst_c.specs.Owned.{tree_coded, handle_owns};
 
 use crate::byte_tree::ByteTree;
-use crate::parts::Parts;
+use c_values::Parts;
 use std::alloc::Global;
 use std::marker::Model;
 use std::ptr::null_mut;

@@ -5,14 +5,11 @@
 
 mod byte_hasher;
 mod byte_tree;
-mod bytes16;
 mod entries;
 mod handle;
 mod key;
 pub mod laws;
-mod parts;
 mod reading;
-mod status;
 mod summaries;
 mod trees;
 mod updates;

@@ -2,16 +2,16 @@
 ghost use Rattle.std.specs.Prelude.{◌≡◌, ◌≢◌, ◌<◌, ◌↔◌, ◌⊎◌, None, Err, IfSome, IfOk, IfErr, length};
 ghost use Rattle.merkle_tree_theory.specs.Hashed.{IsHashed};
 ghost use Rattle.merkle_tree_theory.specs.Stream.{page_digest};
-ghost use Rattle.mst_c.specs.Handles.{AreInFront, Changes, HasTree, IsOutput, IsOutputOf, IsShort, IsShortOf};
+ghost use Rattle.mst_c.specs.Handles.{Changes, HasTree, IsOutput, IsOutputOf, IsShort, IsShortOf};
 ghost use Rattle.mst_c.specs.Lists.{AreNotBothRanges, ArePageRanges, IsDiffOf, IsLengthOf, TellsDigests, TellsRanges, page_ranges_of};
 ghost use Rattle.mst_c.specs.Pages.{TellsPages, pages_bytes};
 ghost use Rattle.mst_c.specs.Trees.{bytes_of, rows_of, SameRows};
 ghost use Rattle.mst_c.specs.Wire.{digests_bytes};
 
-use crate::bytes16::MstBytes16;
 use crate::handle::MstTree;
 use crate::reading::{ReadError, differences};
-use crate::status::{ARGUMENT, DONE, MALFORMED, MEMORY, SHORT};
+use c_values::status::{ARGUMENT, DONE, MALFORMED, MEMORY, SHORT};
+use c_values::{MstBytes16, put_bytes};
 use core::mem;
 use std::alloc::Global;
 
@@ -53,23 +53,6 @@ fn root_hash(handle: MstTree, alloc: Global) -> (MstTree, Option<[u8; 16]>)
     };
     let bytes = held.root_hash();
     (MstTree::of_box(held), Some(bytes))
-}
-
-/// Puts bytes at the front of `out`, and their count at `needed`: `DONE`, or `SHORT` where `out` is too short, and is as before then.
-fn put_bytes(bytes: &[u8], out: &mut [u8], needed: &mut usize) -> u32
-    ensures done { result ≡ 0 → AreInFront bytes.now out.old out.new }
-    ensures needed { needed.new ≡ length bytes.now }
-    ensures short { (result ≡ 3) ↔ (length out.old < length bytes.now) }
-    ensures unchanged { result ≢ 0 → out.new ≡ out.old }
-    ensures status { (result ≡ 0) ⊎ (result ≡ 3) }
-{
-    *needed = bytes.len();
-    if out.len() < bytes.len() {
-        return SHORT;
-    }
-    let (front, _) = out.split_at_mut(bytes.len());
-    front.copy_from_slice(bytes);
-    DONE
 }
 
 /// Writes the page ranges of a tree to `out`, and how many bytes they are to `needed`. Into no room they are counted, and not made.

@@ -7,9 +7,9 @@ ghost use Rattle.mst_c.specs.Handles.{Changes, HasAt, HasNewTree, HasTree, Makes
 ghost use Rattle.mst_c.specs.Trees.{IsCopied, rows_of};
 
 use crate::byte_tree::ByteTree;
-use crate::bytes16::MstBytes16;
 use crate::handle::MstTree;
-use crate::status::{ABSENT, ARGUMENT, DONE, MEMORY};
+use c_values::MstBytes16;
+use c_values::status::{ABSENT, ARGUMENT, DONE, MEMORY};
 use core::mem;
 use merkle_search_tree::builder::PageFormat;
 use std::alloc::Global;

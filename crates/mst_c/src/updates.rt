@@ -6,10 +6,10 @@ ghost use Rattle.mst_c.specs.Lists.{AllSet, AreDigests, AreLoaded, AreRows, Firs
 ghost use Rattle.mst_c.specs.Trees.{IsSet, IsSetTo, SetDropsFew, IsDel};
 ghost use Rattle.mst_c.specs.Wire.{rows_bytes};
 
-use crate::bytes16::MstBytes16;
 use crate::handle::MstTree;
 use crate::reading::ReadError;
-use crate::status::{ABSENT, ARGUMENT, DONE, MALFORMED, MEMORY};
+use c_values::MstBytes16;
+use c_values::status::{ABSENT, ARGUMENT, DONE, MALFORMED, MEMORY};
 use core::mem;
 use std::alloc::Global;
 

@@ -30,7 +30,7 @@ use Rattle.std.specs.declared.option.Option.{Option}
 use Rattle.std.specs.declared.option.Option.TheVariants.{None, Some}
 use Rattle.mst_replica_c.specs.contracts.byte_replica.ByteReplica as ByteReplica
 use Rattle.mst_replica_c.proofs.byte_replica.ByteReplica.TheLaws as replica_laws
-use Rattle.mst_replica_c.specs.contracts.parts.Parts as Parts
+use Rattle.c_values.specs.contracts.parts.Parts as Parts
 use Rattle.mst_replica_c.specs.contracts.handle.MstReplica as MstReplica
 
 -- a box of a replica

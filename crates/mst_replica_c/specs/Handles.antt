@@ -20,7 +20,3 @@ IsOutput old new needed bytes = (needed ≡ length bytes) × (needed ≤ length 
 -- as many as needed are these bytes, and out is shorter
 abbrev pub IsShort : List ℕ → ℕ → List ℕ → Type 0
 IsShort out needed bytes = (needed ≡ length bytes) × (length out < needed)
-
--- the bytes are in front of out, and behind them it is as before
-abbrev pub AreInFront : List ℕ → List ℕ → List ℕ → Type 0
-AreInFront bytes old new = (length bytes ≤ length old) × (new ≡ bytes ++ drop (length bytes) old)

@@ -11,8 +11,9 @@ ghost use Rattle.mst_replica_c.specs.Values.{IsFoundAt, key_bytes, key_cmp, rows
 ghost use Rattle.mst_replica_c.specs.Wire.{rows_bytes};
 
 use crate::list::encode;
-use crate::status::{DONE, MALFORMED, MEMORY, OTHER_SETTINGS, REFUSED};
+use crate::status::{OTHER_SETTINGS, REFUSED};
 use crate::value::ByteValue;
+use c_values::status::{DONE, MALFORMED, MEMORY};
 use merkle_digest::SipHasher;
 use merkle_replica::{JoinRefused, Replica};
 use merkle_search_tree::builder::{Builder, PageFormat};

@@ -5,7 +5,7 @@ ghost use Rattle.mst_replica_c.specs.declared.byte_replica.ByteReplica.{ByteRepl
 ghost use Rattle.mst_replica_c.specs.Owned.{replica_coded, handle_owns};
 
 use crate::byte_replica::ByteReplica;
-use crate::parts::Parts;
+use c_values::Parts;
 use core::mem;
 use std::alloc::Global;
 use std::marker::Model;

@@ -5,12 +5,9 @@
 #![tactic(auto)]
 
 mod byte_replica;
-mod bytes16;
 mod handle;
 mod list;
 mod messages;
-mod output;
-mod parts;
 mod replicas;
 mod status;
 mod value;

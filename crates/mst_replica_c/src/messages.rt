@@ -7,8 +7,8 @@ ghost use Rattle.mst_replica_c.specs.Handles.{Has, Changes, IsOutput, IsShort};
 
 use crate::byte_replica::Taken;
 use crate::handle::{MstReplica, put_back, take_out};
-use crate::output::put_bytes;
-use crate::status::{ABSENT, ARGUMENT, DONE, MEMORY};
+use c_values::put_bytes;
+use c_values::status::{ABSENT, ARGUMENT, DONE, MEMORY};
 use std::alloc::Global;
 
 /// Makes the reply to a question and keeps it as the message, and writes how many bytes it has. Where the bytes are no question or the asking side has

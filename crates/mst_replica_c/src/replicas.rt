@@ -6,10 +6,9 @@ ghost use Rattle.mst_replica_c.specs.Handles.{Has, Changes, IsOutput, IsShort};
 ghost use Rattle.mst_replica_c.specs.Values.{value_at};
 
 use crate::byte_replica::ByteReplica;
-use crate::bytes16::MstBytes16;
 use crate::handle::{MstReplica, put_back, take_out};
-use crate::output::put_bytes;
-use crate::status::{ABSENT, ARGUMENT, DONE, MEMORY};
+use c_values::status::{ABSENT, ARGUMENT, DONE, MEMORY};
+use c_values::{MstBytes16, put_bytes};
 use merkle_search_tree::builder::PageFormat;
 use std::alloc::Global;
 use std::num::NonZeroU8;

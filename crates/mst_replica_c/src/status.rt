@@ -1,17 +1,5 @@
-//! The statuses that the calls answer, as C sees them.
+//! The statuses that only calls of replicas answer, as C sees them.
 
-/// The call did what it is for.
-pub const DONE: u32 = 0;
-/// Memory was refused.
-pub const MEMORY: u32 = 1;
-/// The bytes are no message of the kind that the call takes.
-pub const MALFORMED: u32 = 2;
-/// The room for the answer is too short.
-pub const SHORT: u32 = 3;
-/// An argument isn't one that the call takes.
-pub const ARGUMENT: u32 = 4;
-/// There is no such key, or no catch-up is under way.
-pub const ABSENT: u32 = 5;
 /// The peer that asks has other settings.
 pub const OTHER_SETTINGS: u32 = 6;
 /// The peer refused what was asked.

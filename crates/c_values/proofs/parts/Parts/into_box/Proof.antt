@@ -29,10 +29,10 @@ use Rattle.std_alloc.proofs.BoxSteps.Form.{Bx, D, R, P, B, args, box_ty, word, b
 use Rattle.std_alloc.proofs.BoxSteps.Steps.{box_out, box_in}
 use Rattle.std_alloc.specs.contracts.boxed.Box.from_raw as callee
 use Rattle.std_alloc.proofs.boxed.Box.from_raw.Met.{met}
-use Rattle.mst_c.specs.contracts.parts.Parts as Parts
-use Rattle.mst_c.specs.contracts.parts.Parts.into_box as f
-use Rattle.mst_c.proofs.parts.Parts.into_box.Statement.{statement}
-use Rattle.mst_c.proofs.parts.Parts.into_box.Code as code
+use Rattle.c_values.specs.contracts.parts.Parts as Parts
+use Rattle.c_values.specs.contracts.parts.Parts.into_box as f
+use Rattle.c_values.proofs.parts.Parts.into_box.Statement.{statement}
+use Rattle.c_values.proofs.parts.Parts.into_box.Code as code
 
 pub into_box_spec : {M : Type 1} → statement M
 into_box_spec 𝓤 𝓛 𝓜 𝓡 wired X A LX LA g d drops allocator dropped =

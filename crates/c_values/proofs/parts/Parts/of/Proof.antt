@@ -32,10 +32,10 @@ use Rattle.std_alloc.proofs.BoxSteps.Form.{Bx, D, τ, R, P, B, word, box_typed}
 use Rattle.std_alloc.proofs.BoxSteps.Steps.{box_out, box_in}
 use Rattle.std_alloc.specs.contracts.boxed.Box.into_raw_with_allocator as callee
 use Rattle.std_alloc.proofs.boxed.Box.into_raw_with_allocator.Met.{met}
-use Rattle.mst_c.specs.contracts.parts.Parts as Parts
-use Rattle.mst_c.specs.contracts.parts.Parts.of as f
-use Rattle.mst_c.proofs.parts.Parts.of.Statement.{statement}
-use Rattle.mst_c.proofs.parts.Parts.of.Code as code
+use Rattle.c_values.specs.contracts.parts.Parts as Parts
+use Rattle.c_values.specs.contracts.parts.Parts.of as f
+use Rattle.c_values.proofs.parts.Parts.of.Statement.{statement}
+use Rattle.c_values.proofs.parts.Parts.of.Code as code
 
 pub of_spec : {M : Type 1} → statement M
 of_spec 𝓤 𝓛 𝓜 𝓡 wired X A LX LA g d drops glue allocator dropped glued =
