@@ -5,7 +5,7 @@ use merkle_search_tree::Gap;
 use merkle_search_tree::builder::{Builder, PageFormat};
 use std::alloc::{AllocError, Global};
 use std::test::Fail;
-use testing::{LevelHasher, number_key};
+use testing::{LevelHasher, Random, number_key};
 
 /// A map of number keys on given levels.
 type Numbers = Replica<[u8; 2], u64, LevelHasher<[u8; 2]>, 32>;
@@ -16,50 +16,31 @@ const COUNT: usize = 40;
 /// The levels that a key can be on, lower ones more often than higher ones.
 const LEVELS: [u8; 8] = [0, 0, 0, 0, 1, 1, 2, 3];
 
-/// A generator of numbers, which it takes from the highest bits of a product sum.
-#[derive(Clone, Copy)]
-struct Random {
-    state: u64,
+/// A level for each key.
+fn levels_of(random: &mut Random) -> [u8; COUNT] {
+    let mut levels = [0; COUNT];
+    for level in &mut levels {
+        *level = LEVELS.get(random.below(8) as usize).copied().unwrap_or(0);
+    }
+    levels
 }
 
-impl Random {
-    /// The next number below a bound.
-    fn below(&mut self, bound: u64) -> u64 {
-        self.state = self
-            .state
-            .wrapping_mul(6_364_136_223_846_793_005)
-            .wrapping_add(1_442_695_040_888_963_407);
-        (self.state >> 33).checked_rem(bound).unwrap_or(0)
-    }
+/// A value for each key; 0 where the map lacks the key.
+fn values_of(random: &mut Random) -> [u64; COUNT] {
+    let mut values = [0; COUNT];
+    random.fill(4, &mut values);
+    values
+}
 
-    /// A level for each key.
-    fn levels(&mut self) -> [u8; COUNT] {
-        let mut levels = [0; COUNT];
-        for level in &mut levels {
-            *level = LEVELS.get(self.below(8) as usize).copied().unwrap_or(0);
+/// The same values, but for one in `rate`.
+fn changed(random: &mut Random, values: &[u64; COUNT], rate: u64) -> [u64; COUNT] {
+    let mut changed = *values;
+    for value in &mut changed {
+        if random.below(rate) == 0 {
+            *value = random.below(4);
         }
-        levels
     }
-
-    /// A value for each key; 0 where the map lacks the key.
-    fn values(&mut self) -> [u64; COUNT] {
-        let mut values = [0; COUNT];
-        for value in &mut values {
-            *value = self.below(4);
-        }
-        values
-    }
-
-    /// The same values, but for one in `rate`.
-    fn changed(&mut self, values: &[u64; COUNT], rate: u64) -> [u64; COUNT] {
-        let mut changed = *values;
-        for value in &mut changed {
-            if self.below(rate) == 0 {
-                *value = self.below(4);
-            }
-        }
-        changed
-    }
+    changed
 }
 
 /// Puts a row.
@@ -170,14 +151,14 @@ fn values_meet(
 
 #[test]
 fn catch_ups_join_what_is_lacked(rt: HostRuntime) -> Result<(), Fail> {
-    let mut random = Random { state: 7 };
+    let mut random = Random::new(7);
     for turn in 0..300u64 {
-        let levels = random.levels();
-        let ours = random.values();
+        let levels = levels_of(&mut random);
+        let ours = values_of(&mut random);
         let theirs = if turn % 3 == 0 {
-            random.values()
+            values_of(&mut random)
         } else {
-            random.changed(&ours, turn % 16 + 2)
+            changed(&mut random, &ours, turn % 16 + 2)
         };
         let format = if turn % 2 == 0 {
             PageFormat::V1
@@ -269,11 +250,11 @@ fn steps_meet(
 
 #[test]
 fn steps_join_what_is_lacked(rt: HostRuntime) -> Result<(), Fail> {
-    let mut random = Random { state: 11 };
+    let mut random = Random::new(11);
     for turn in 0..100u64 {
-        let levels = random.levels();
-        let ours = random.values();
-        let theirs = random.changed(&ours, turn % 16 + 1);
+        let levels = levels_of(&mut random);
+        let ours = values_of(&mut random);
+        let theirs = changed(&mut random, &ours, turn % 16 + 1);
         assert!(rt;
             steps_meet(rt.alloc(), &levels, &ours, &theirs)?,
             "turn {turn}"
@@ -285,11 +266,11 @@ fn steps_join_what_is_lacked(rt: HostRuntime) -> Result<(), Fail> {
 #[test]
 fn catch_ups_in_both_directions_join_both(rt: HostRuntime) -> Result<(), Fail> {
     let alloc = rt.alloc();
-    let mut random = Random { state: 13 };
+    let mut random = Random::new(13);
     for turn in 0..50u64 {
-        let levels = random.levels();
-        let ours = random.values();
-        let theirs = random.values();
+        let levels = levels_of(&mut random);
+        let ours = values_of(&mut random);
+        let theirs = values_of(&mut random);
         let mut a = numbers(alloc, PageFormat::V2, &ours, hasher(alloc, &levels)?)?;
         let mut b = numbers(alloc, PageFormat::V1, &theirs, hasher(alloc, &levels)?)?;
         let (both, _) = joined(&ours, &theirs);

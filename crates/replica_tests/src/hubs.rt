@@ -5,7 +5,7 @@ use merkle_replica::{Replica, catch_up_all};
 use merkle_search_tree::builder::Builder;
 use std::alloc::{AllocError, Global};
 use std::test::Fail;
-use testing::number_key;
+use testing::{Random, number_key};
 
 /// A map of number keys.
 type Numbers = Replica<[u8; 2], u64, SipHasher, 16>;
@@ -13,31 +13,11 @@ type Numbers = Replica<[u8; 2], u64, SipHasher, 16>;
 /// How many keys there are.
 const COUNT: usize = 64;
 
-/// A generator of numbers, which it takes from the highest bits of a product sum.
-#[derive(Clone, Copy)]
-pub struct Random {
-    /// The state of the generator, which may be any number at first.
-    pub state: u64,
-}
-
-impl Random {
-    /// The next number below a bound; 0 where the bound is 0.
-    pub fn below(&mut self, bound: u64) -> u64 {
-        self.state = self
-            .state
-            .wrapping_mul(6_364_136_223_846_793_005)
-            .wrapping_add(1_442_695_040_888_963_407);
-        (self.state >> 33).checked_rem(bound).unwrap_or(0)
-    }
-
-    /// A value for each key; 0 where the map lacks the key.
-    fn values(&mut self) -> [u64; COUNT] {
-        let mut values = [0; COUNT];
-        for value in &mut values {
-            *value = self.below(4);
-        }
-        values
-    }
+/// A value for each key; 0 where the map lacks the key.
+fn values_of(random: &mut Random) -> [u64; COUNT] {
+    let mut values = [0; COUNT];
+    random.fill(4, &mut values);
+    values
 }
 
 /// Puts a row.
@@ -88,11 +68,11 @@ fn raise(joined: &mut [u64; COUNT], values: &[u64; COUNT]) {
 
 /// Whether a hub and so many others come to hold the join of their random maps.
 fn join_through_hub(alloc: Global, others: u64, random: &mut Random) -> Result<bool, AllocError> {
-    let mut joined = random.values();
+    let mut joined = values_of(random);
     let mut hub = numbers(alloc, &joined)?;
     let mut replicas = Vec::new(alloc);
     for _other in 0..others {
-        let values = random.values();
+        let values = values_of(random);
         raise(&mut joined, &values);
         replicas.push(numbers(alloc, &values)?)?;
     }
@@ -106,7 +86,7 @@ fn join_through_hub(alloc: Global, others: u64, random: &mut Random) -> Result<b
 
 #[test]
 fn a_hub_brings_all_to_the_join(rt: HostRuntime) -> Result<(), Fail> {
-    let mut random = Random { state: 2026 };
+    let mut random = Random::new(2026);
     for others in 0..6 {
         for round in 0..8 {
             assert!(rt;

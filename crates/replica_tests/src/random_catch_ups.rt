@@ -1,13 +1,13 @@
 //! Catch-ups between maps of random puts and removals, whose keys are texts, byte strings or numbers: two maps with each other, and five
 //! through a hub or in a ring. The joins are worked out beside them, value by value.
 
-use crate::hubs::Random;
 use crate::kinds::{Kind, Map, del, put};
 use merkle_digest::{HashBytes, Key};
 use merkle_replica::{catch_up_all, catch_up_both};
 use merkle_search_tree::builder::{Builder, PageFormat};
 use std::alloc::{AllocError, Global};
 use std::test::Fail;
+use testing::Random;
 
 /// A map, and the value that it is to have at each of its keys, by their numbers; 0 where it is to lack the key.
 #[derive(Drop)]
@@ -167,7 +167,7 @@ fn first_apart<K: Kind + Drop>(
     format: PageFormat,
     seed: u64,
 ) -> Result<Option<u64>, AllocError> {
-    let mut random = Random { state: seed };
+    let mut random = Random::new(seed);
     for pair in 0..334u64 {
         let most = if pair < 2 { 3_000 } else { 300 };
         let keys = random.below(most).saturating_add(1) as usize;
@@ -290,7 +290,7 @@ fn five_meet<K: Kind + Drop>(alloc: Global, random: &mut Random) -> Result<bool,
 
 #[test]
 fn five_maps_meet(rt: HostRuntime) -> Result<(), Fail> {
-    let mut random = Random { state: 7 };
+    let mut random = Random::new(7);
     for round in 0..5 {
         assert!(rt;
             five_meet::<String>(rt.alloc(), &mut random)?,

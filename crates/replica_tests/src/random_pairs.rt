@@ -4,7 +4,7 @@ use merkle_replica::{Replica, pull_by_turns};
 use merkle_search_tree::builder::{Builder, PageFormat};
 use std::alloc::{AllocError, Global};
 use std::test::Fail;
-use testing::{LevelHasher, number_key};
+use testing::{LevelHasher, Random, number_key};
 
 /// A map of number keys on given levels.
 type Numbers = Replica<[u8; 2], u64, LevelHasher<[u8; 2]>, 32>;
@@ -18,39 +18,20 @@ const NUMBERS: [u16; COUNT] = [0, 1, 2, 3, 4, 5, 6, 7];
 /// The levels that a key can be on, level 0 twice as often as the others.
 const LEVELS: [u8; 4] = [0, 0, 1, 2];
 
-/// A generator of numbers, which it takes from the highest bits of a product sum.
-#[derive(Clone, Copy)]
-struct Random {
-    state: u64,
+/// A level for each key.
+fn levels_of(random: &mut Random) -> [u8; COUNT] {
+    let mut levels = [0; COUNT];
+    for level in &mut levels {
+        *level = LEVELS.get(random.below(4) as usize).copied().unwrap_or(0);
+    }
+    levels
 }
 
-impl Random {
-    /// The next number below a bound.
-    fn below(&mut self, bound: u64) -> u64 {
-        self.state = self
-            .state
-            .wrapping_mul(6_364_136_223_846_793_005)
-            .wrapping_add(1_442_695_040_888_963_407);
-        (self.state >> 33).checked_rem(bound).unwrap_or(0)
-    }
-
-    /// A level for each key.
-    fn levels(&mut self) -> [u8; COUNT] {
-        let mut levels = [0; COUNT];
-        for level in &mut levels {
-            *level = LEVELS.get(self.below(4) as usize).copied().unwrap_or(0);
-        }
-        levels
-    }
-
-    /// A value for each key; 0 where the map lacks the key.
-    fn values(&mut self) -> [u64; COUNT] {
-        let mut values = [0; COUNT];
-        for value in &mut values {
-            *value = self.below(4);
-        }
-        values
-    }
+/// A value for each key; 0 where the map lacks the key.
+fn values_of(random: &mut Random) -> [u64; COUNT] {
+    let mut values = [0; COUNT];
+    random.fill(4, &mut values);
+    values
 }
 
 /// Puts a row.
@@ -123,9 +104,9 @@ fn join_in_four_turns(
     format: PageFormat,
     random: &mut Random,
 ) -> Result<bool, AllocError> {
-    let hasher = hasher(alloc, &random.levels())?;
-    let a_values = random.values();
-    let b_values = random.values();
+    let hasher = hasher(alloc, &levels_of(random))?;
+    let a_values = values_of(random);
+    let b_values = values_of(random);
     let joined = greatest(&a_values, &b_values);
     let mut a = numbers(alloc, format, &a_values, hasher.clone()?)?;
     let mut b = numbers(alloc, format, &b_values, hasher)?;
@@ -138,7 +119,7 @@ fn join_in_four_turns(
 #[test]
 fn four_turns_join_random_maps(rt: HostRuntime) -> Result<(), Fail> {
     for format in [PageFormat::V1, PageFormat::V2] {
-        let mut random = Random { state: 2019 };
+        let mut random = Random::new(2019);
         for round in 0..200 {
             assert!(rt;
                 join_in_four_turns(rt.alloc(), format, &mut random)?,

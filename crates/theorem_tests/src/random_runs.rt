@@ -8,7 +8,7 @@ use merkle_search_tree::updates::Update;
 use sample_trees::defined::defined_root_hash;
 use std::alloc::{AllocError, Global};
 use std::test::Fail;
-use testing::{LevelHasher, number_key};
+use testing::{LevelHasher, Random, number_key};
 
 /// An update of a map of number keys.
 type Change = Update<[u8; 2], u64>;
@@ -28,59 +28,45 @@ const LEVELS: [u8; 4] = [0, 0, 1, 2];
 /// How many updates each replica carries out.
 const UPDATES: usize = 24;
 
-/// A generator of numbers, which it takes from the highest bits of a product sum.
-#[derive(Clone, Copy)]
-struct Random {
-    state: u64,
+/// The number of a key.
+fn number_of(random: &mut Random) -> u16 {
+    NUMBERS.get(random.below(12) as usize).copied().unwrap_or(0)
 }
 
-impl Random {
-    /// The next number below a bound.
-    fn below(&mut self, bound: u64) -> u64 {
-        self.state = self
-            .state
-            .wrapping_mul(6_364_136_223_846_793_005)
-            .wrapping_add(1_442_695_040_888_963_407);
-        (self.state >> 33).checked_rem(bound).unwrap_or(0)
+/// The hasher that puts each key on a random level.
+fn hasher_of(alloc: Global, random: &mut Random) -> Result<LevelHasher<[u8; 2]>, AllocError> {
+    let mut levels = Vec::with_capacity(alloc, COUNT)?;
+    for number in &NUMBERS {
+        let level = LEVELS.get(random.below(4) as usize).copied().unwrap_or(0);
+        levels.push((number_key(*number), level))?;
     }
+    Ok(LevelHasher::new(levels))
+}
 
-    /// The number of a key.
-    fn number(&mut self) -> u16 {
-        NUMBERS.get(self.below(12) as usize).copied().unwrap_or(0)
-    }
-
-    /// The hasher that puts each key on a random level.
-    fn hasher(&mut self, alloc: Global) -> Result<LevelHasher<[u8; 2]>, AllocError> {
-        let mut levels = Vec::with_capacity(alloc, COUNT)?;
-        for number in &NUMBERS {
-            let level = LEVELS.get(self.below(4) as usize).copied().unwrap_or(0);
-            levels.push((number_key(*number), level))?;
-        }
-        Ok(LevelHasher::new(levels))
-    }
-
-    /// A list of updates, and the value that it leaves at each key; 0 where it leaves none.
-    fn updates(&mut self, alloc: Global) -> Result<(Vec<Change>, [u64; COUNT]), AllocError> {
-        let mut updates = Vec::with_capacity(alloc, UPDATES)?;
-        let mut values = [0; COUNT];
-        for _update in 0..UPDATES {
-            let number = self.number();
-            match self.below(6) {
-                0 => updates.push(Update::RootHash)?,
-                1 => {
-                    set(&mut values, number, 0);
-                    updates.push(Update::Remove(number_key(number)))?;
-                }
-                _ => {
-                    let value = self.below(4).saturating_add(1);
-                    let greater = value.max(value_at(&values, number));
-                    set(&mut values, number, greater);
-                    updates.push(Update::Upsert(number_key(number), value))?;
-                }
+/// A list of updates, and the value that it leaves at each key; 0 where it leaves none.
+fn updates_of(
+    alloc: Global,
+    random: &mut Random,
+) -> Result<(Vec<Change>, [u64; COUNT]), AllocError> {
+    let mut updates = Vec::with_capacity(alloc, UPDATES)?;
+    let mut values = [0; COUNT];
+    for _update in 0..UPDATES {
+        let number = number_of(random);
+        match random.below(6) {
+            0 => updates.push(Update::RootHash)?,
+            1 => {
+                set(&mut values, number, 0);
+                updates.push(Update::Remove(number_key(number)))?;
+            }
+            _ => {
+                let value = random.below(4).saturating_add(1);
+                let greater = value.max(value_at(&values, number));
+                set(&mut values, number, greater);
+                updates.push(Update::Upsert(number_key(number), value))?;
             }
         }
-        Ok((updates, values))
     }
+    Ok((updates, values))
 }
 
 /// The value at a key.
@@ -191,9 +177,9 @@ fn runs_as_defined(
     random: &mut Random,
     exchange: Exchange,
 ) -> Result<bool, AllocError> {
-    let hasher = random.hasher(alloc)?;
-    let (a_updates, a_values) = random.updates(alloc)?;
-    let (b_updates, b_values) = random.updates(alloc)?;
+    let hasher = hasher_of(alloc, random)?;
+    let (a_updates, a_values) = updates_of(alloc, random)?;
+    let (b_updates, b_values) = updates_of(alloc, random)?;
     let joined = greatest(&a_values, &b_values);
     let builder = Builder::default()
         .with_page_format(format)
@@ -232,7 +218,7 @@ fn random_runs_converge(rt: HostRuntime) -> Result<(), Fail> {
     ];
     for format in [PageFormat::V1, PageFormat::V2] {
         for exchange in &exchanges {
-            let mut random = Random { state: 2026 };
+            let mut random = Random::new(2026);
             for round in 0..5 {
                 assert!(rt;
                     runs_as_defined(rt.alloc(), format, &mut random, *exchange)?,

@@ -11,29 +11,13 @@ use merkle_wire::{MOST_BYTES, Next, SessionError, answer};
 use std::alloc::{AllocError, Global};
 use std::num::NonZeroU8;
 use std::test::Fail;
+use testing::Random;
 
 /// At how many bytes replies end.
 const MOST: [usize; 5] = [1, 64, 200, 1000, MOST_BYTES];
 
 /// The level bases: where it is small, few keys have several levels.
 const BASES: [u8; 3] = [2, 4, 16];
-
-/// A generator of numbers, which it takes from the highest bits of a product sum.
-#[derive(Clone, Copy)]
-struct Random {
-    state: u64,
-}
-
-impl Random {
-    /// The next number below a bound; 0 where the bound is 0.
-    fn below(&mut self, bound: u64) -> u64 {
-        self.state = self
-            .state
-            .wrapping_mul(6_364_136_223_846_793_005)
-            .wrapping_add(1_442_695_040_888_963_407);
-        (self.state >> 33).checked_rem(bound).unwrap_or(0)
-    }
-}
 
 /// A replica, and the value that it is to have at each of its keys, by their numbers; 0 where it is to lack the key.
 #[derive(Drop)]
@@ -184,7 +168,7 @@ fn pair_meets<K: Sample, V: Worth>(
 
 /// The first of 500 pairs in each page format that doesn't come to hold the join.
 fn first_apart<K: Sample, V: Worth>(alloc: Global, seed: u64) -> Result<Option<u64>, Fail> {
-    let mut random = Random { state: seed };
+    let mut random = Random::new(seed);
     for pair in 0..500u64 {
         for format in [PageFormat::V1, PageFormat::V2] {
             if !pair_meets::<K, V>(alloc, format, &mut random)? {
@@ -255,7 +239,7 @@ fn five_meet<K: Sample, V: Worth>(alloc: Global, random: &mut Random) -> Result<
 
 #[test]
 fn five_meet_in_a_ring(rt: HostRuntime) -> Result<(), Fail> {
-    let mut random = Random { state: 7 };
+    let mut random = Random::new(7);
     for round in 0..5 {
         assert!(rt;
             five_meet::<String, u64>(rt.alloc(), &mut random)?,
@@ -307,7 +291,7 @@ fn ends_with_rows(alloc: Global, random: &mut Random) -> Result<Result<bool, Ses
 #[test]
 fn peers_that_change_bring_rows_or_tell_one_twice(rt: HostRuntime) -> Result<(), Fail> {
     let alloc = rt.alloc();
-    let mut random = Random { state: 11 };
+    let mut random = Random::new(11);
     let (mut came, mut twice) = (0u32, 0u32);
     for _session in 0..200 {
         match ends_with_rows(alloc, &mut random)? {
