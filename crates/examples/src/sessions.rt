@@ -41,6 +41,7 @@ pub fn catch_up_exact<
 }
 
 /// How many replies of a peer ask on at most, in a session of whoever catches up with it: so a server knows how long to serve.
+/// It looks at the bytes of each key of the peer, and takes no memory.
 pub fn most_replies<
     K: Key + Decode,
     V: Join + Decode,
