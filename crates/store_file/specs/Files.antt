@@ -1,0 +1,54 @@
+-- What the two files hold, and what a store over them shows.
+use Rattle.std.specs.Prelude.{◌≡◌, ◌⊎◌, ℕ, false, List, []}
+use Rattle.sqlite_disk.specs.declared.Disk.{Ghosts}
+use Rattle.sqlite_disk.specs.declared.Files as disk
+use Rattle.sqlite_wal.specs.Recovery.{Image}
+use Rattle.sqlite_wal.specs.Files.{seen_image}
+use Rattle.sqlite_wal.specs.PageSize.{IsPageSize}
+use Rattle.sqlite_pages.specs.PageMap.{PageMap}
+use Rattle.sqlite_pool.specs.Stored.{stored_size, Recovers}
+use Rattle.sqlite_pool.specs.Opening.{IsBlankFile}
+use Rattle.sqlite_value.specs.Keys.{plain}
+use Rattle.sqlite_trees.specs.Tree.{Trees}
+use Rattle.sqlite_trees.specs.View.{View}
+use Rattle.sqlite_trees.specs.declared.store.Shape.TheVariants.{Table, Index}
+use Rattle.sqlite_store.specs.declared.catalog.Wanted.{Wanted}
+use Rattle.sqlite_store.specs.Db.{IsFile}
+use Rattle.sqlite_store.specs.Listing.{file_trees}
+use Rattle.sqlite_store.specs.Opening.{IsEmptyFile}
+use Rattle.store_file.specs.Catalog.{laid_out}
+
+-- the two files recover to a sound database of these objects, whose trees these are
+pub record Holds (schema : List Wanted) (image : Image) (db : Trees) : Type 0 where
+  pub size : ℕ
+  pub allowed : IsPageSize (stored_size size)
+  pub pages : PageMap
+  pub found : Recovers size image pages
+  pub file : IsFile size schema pages
+  pub reads : db ≡ file_trees size schema pages
+
+-- the two files hold a store, with no sums at the ends of its pages
+pub record HoldsStore (image : Image) : Type 0 where
+  pub db : Trees
+  pub holds : Holds laid_out image db
+  pub plain : IsPageSize holds.size
+
+-- there is no database, or one whose schema is still empty
+abbrev pub HoldsNothing : Image → Type 0
+HoldsNothing image = IsBlankFile 4096 image ⊎ ((pages : PageMap) × Recovers 4096 image pages × IsEmptyFile 4096 pages)
+
+-- the last commit is in the database file, with the log and without it
+pub record HoldsAlone (image : Image) (db : Trees) : Type 0 where
+  pub both : ∥ ((schema : List Wanted) × Holds schema image db) ∥₁
+  pub alone : ∥ ((schema : List Wanted) × Holds schema (record image { log = [] }) db) ∥₁
+
+-- a store with the two trees, in which nothing is written that isn't committed
+pub record IsLaidOut (v : View) : Type 0 where
+  pub entries : v.shape 0 ≡ Index plain
+  pub about : v.shape 1 ≡ Table
+  pub shape : v.shape ≡ v.committed_shape
+  pub sound : v.is_broken ≡ false
+  pub trees : v.trees ≡ v.committed
+
+abbrev pub image_of : {D : Type 0} → Ghosts D → disk.Files D → Image
+image_of g files = seen_image g files.log files.db

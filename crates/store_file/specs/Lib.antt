@@ -1,0 +1,3 @@
+pub mod Unsure
+pub mod Catalog
+pub mod Files

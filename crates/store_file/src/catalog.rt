@@ -1,0 +1,88 @@
+//! The two tables of a store's file.
+ghost use Rattle.std.specs.Prelude.{◌≡◌, ◌↔◌, IsTrue, MatchResult, map};
+ghost use Rattle.sqlite_store.specs.Catalog.{wanted_of};
+ghost use Rattle.store_file.specs.Catalog.{IsTableRow, Lists, Refuses, laid_out};
+
+use crate::fault::OpenFault;
+use sqlite_trees::schema::Object;
+use sqlite_trees::store::Shape;
+use sqlite_value::keys::Order;
+use sqlite_value::order::is_same;
+use sqlite_value::row::Row;
+use sqlite_value::value::ValueRef;
+
+/// The number of the tree of entries.
+pub const ENTRIES: u32 = 0;
+
+/// The number of the tree that says whose store it is, and in which format.
+pub const ABOUT: u32 = 1;
+
+/// How the table of entries is made.
+pub const ENTRIES_SQL: &str =
+    "CREATE TABLE entry (key TEXT NOT NULL, time INTEGER NOT NULL, writer TEXT NOT NULL, value ANY NOT NULL, PRIMARY KEY (key, time, writer, value)) STRICT, WITHOUT ROWID";
+
+/// How the table of the format and the writer is made.
+pub const ABOUT_SQL: &str =
+    "CREATE TABLE about (id INTEGER PRIMARY KEY, format INTEGER NOT NULL, writer TEXT NOT NULL) STRICT";
+
+/// How the table of entries was made in format 1.
+pub const FORMER_SQL: &str =
+    "CREATE TABLE entry (id INTEGER PRIMARY KEY, key TEXT NOT NULL, time INTEGER NOT NULL, writer TEXT NOT NULL, value TEXT) STRICT";
+
+/// The two tables, each at its number.
+pub fn objects() -> [Object<'static>; 2]
+    ensures { map wanted_of result ≡ laid_out }
+{
+    [
+        Object {
+            shape: Shape::Index(Order::PLAIN),
+            kind: "table",
+            name: "entry",
+            table: "entry",
+            reals: 0,
+            sql: Some(ENTRIES_SQL),
+        },
+        Object {
+            shape: Shape::Table,
+            kind: "table",
+            name: "about",
+            table: "about",
+            reals: 0,
+            sql: Some(ABOUT_SQL),
+        },
+    ]
+}
+
+/// Whether a row of `sqlite_schema` is that of a table which is made so.
+fn is_table(row: &Row, name: &[u8], sql: &[u8]) -> bool
+    ensures { IsTrue result ↔ IsTableRow name.now sql.now row.now }
+{
+    is_same(row.get(1), ValueRef::Text(b"table"))
+        && is_same(row.get(2), ValueRef::Text(name))
+        && is_same(row.get(3), ValueRef::Text(name))
+        && is_same(row.get(5), ValueRef::Text(sql))
+}
+
+/// Whether these rows of `sqlite_schema` are those of a store, whose table of entries is made so.
+fn lists(rows: &[Row], entries: &[u8]) -> bool
+    ensures { IsTrue result ↔ Lists entries.now rows.now }
+{
+    match rows {
+        [entry, about] => is_table(entry, b"entry", entries)
+            && is_table(about, b"about", ABOUT_SQL.as_bytes()),
+        _ => false,
+    }
+}
+
+/// Refuses the rows of `sqlite_schema` that aren't those of a store.
+pub fn recognise(rows: &[Row]) -> Result<(), OpenFault>
+    ensures { MatchResult result (λ _. Lists ENTRIES_SQL.now rows.now) (Refuses rows.now) }
+{
+    if lists(rows, ENTRIES_SQL.as_bytes()) {
+        return Ok(());
+    }
+    if lists(rows, FORMER_SQL.as_bytes()) {
+        return Err(OpenFault::Format);
+    }
+    Err(OpenFault::Foreign)
+}

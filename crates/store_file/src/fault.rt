@@ -1,0 +1,68 @@
+//! Why a file isn't opened or made.
+ghost use Rattle.std.specs.Prelude.{◌≡◌};
+ghost use Rattle.store_file.specs.Catalog.{fault_of, fault_of_probe};
+
+use sqlite_store::OpenError;
+use sqlite_wal::Error as ProbeError;
+use std::error::Error;
+use std::fmt;
+
+/// Why a file isn't opened or made.
+#[derive(Clone, Copy, Debug, PartialEq, Eq)]
+pub enum OpenFault {
+    /// The disk failed.
+    Io,
+    /// The disk or the file has no room.
+    Full,
+    /// Memory was refused.
+    Memory,
+    /// The file is no SQLite database, or one of something else.
+    Foreign,
+    /// The file is a store in an earlier format.
+    Format,
+    /// The file is a SQLite database, and damaged.
+    Corrupt,
+    /// There is a database already, so that none is made.
+    Exists,
+}
+
+/// What a refusal to open a store means.
+pub fn fault_of(error: OpenError) -> OpenFault
+    ensures { result ≡ fault_of error }
+{
+    match error {
+        OpenError::OutOfMemory => OpenFault::Memory,
+        OpenError::Io => OpenFault::Io,
+        OpenError::Full => OpenFault::Full,
+        OpenError::Refused => OpenFault::Corrupt,
+    }
+}
+
+/// What it means that the first page can't be read.
+pub fn fault_of_probe(error: ProbeError) -> OpenFault
+    ensures { result ≡ fault_of_probe error }
+{
+    match error {
+        ProbeError::OutOfMemory => OpenFault::Memory,
+        ProbeError::Io(_) => OpenFault::Io,
+        ProbeError::Full => OpenFault::Full,
+        _ => OpenFault::Corrupt,
+    }
+}
+
+impl fmt::Display for OpenFault {
+    fn fmt<W: fmt::Write>(&self, f: &mut fmt::Formatter<W>) -> fmt::Result {
+        f.write_str(match self {
+            OpenFault::Io => "the disk failed",
+            OpenFault::Full => "the disk or the file is full",
+            OpenFault::Memory => "out of memory",
+            OpenFault::Foreign => "the file is no store",
+            OpenFault::Format =>
+                "the file is a store in an earlier format, which this program can't read",
+            OpenFault::Corrupt => "the file is damaged",
+            OpenFault::Exists => "there is a database already",
+        })
+    }
+}
+
+impl Error for OpenFault {}

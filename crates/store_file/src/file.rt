@@ -1,0 +1,144 @@
+//! The file of a store is made, opened and closed.
+ghost use Rattle.std.specs.Prelude.{◌≡◌, ◌≢◌, ◌⊎◌, [], IsTrue, IfOk};
+ghost use Rattle.sqlite_wal.specs.PageSize.{bytes_of};
+ghost use Rattle.sqlite_wal.specs.Files.{outcomes};
+ghost use Rattle.sqlite_wal.specs.Reads.{AreClean, OnlyReads};
+ghost use Rattle.sqlite_store.specs.FileStore.{view};
+ghost use Rattle.sqlite_store.specs.Unopened.{state_of, files_of, wanted_by};
+ghost use Rattle.store_file.specs.Catalog.{fault_of, laid_out};
+ghost use Rattle.store_file.specs.Files.{HoldsStore, HoldsNothing, HoldsAlone, IsLaidOut, image_of};
+
+use crate::catalog::{objects, recognise};
+use crate::fault::{OpenFault, fault_of, fault_of_probe};
+use sqlite_disk::{Disk, Files, Tally, digest_of};
+use sqlite_pager::{Options, Pager};
+use sqlite_store::{FileStore, OpenError, Unopened, name_fault};
+use sqlite_trees::error::StoreError;
+use sqlite_trees::store::Store;
+use sqlite_wal::{PageSize, probe_first_page, probe_page_size};
+use std::alloc::Global;
+
+/// The page size of a new file.
+const NEW_SIZE: usize = 4096;
+
+/// The first byte of a SQLite database.
+const FIRST: u8 = b'S';
+
+/// The two files under the schema of a store, of which nothing is read yet. The number from which the log's salts come is drawn from the
+/// secret of the files, which it doesn't tell.
+fn unopened<D: Disk + Drop>(
+    alloc: Global,
+    files: Files<D>,
+    size: PageSize,
+) -> Result<Unopened<D>, OpenFault>
+    ensures files { IfOk result (λ it. files_of it ≡ (files.log, files.db)) }
+    ensures size { IfOk result (λ it. (state_of it).page_size ≡ bytes_of size) }
+    ensures schema { IfOk result (λ it. wanted_by it ≡ laid_out) }
+{
+    let options = Options::new(digest_of(files.log.key(), b"salts"));
+    let Ok(pager) = Pager::new(alloc, files, size, options) else {
+        return Err(OpenFault::Memory);
+    };
+    match Unopened::new(alloc, pager, &objects()) {
+        Ok(fresh) => Ok(fresh),
+        Err(_) => Err(OpenFault::Memory),
+    }
+}
+
+/// The page size of a database, if the files hold one.
+fn find_size<D: Disk>(alloc: Global, files: &mut Files<D>) -> Result<PageSize, OpenFault>
+    requires log { IsTrue (D.Disk.is_usable files.old.log) }
+    requires db { IsTrue (D.Disk.is_usable files.old.db) }
+    ensures named { IfOk result (λ size. AreClean D.Disk files.new.log files.new.db → (held : HoldsStore (image_of D.Disk files.old)) → held.holds.size ≡ bytes_of size) }
+    ensures log { OnlyReads D.Disk files.old.log files.new.log }
+    ensures file { OnlyReads D.Disk files.old.db files.new.db }
+{
+    let Ok(found) = probe_page_size(files) else {
+        return Err(OpenFault::Io);
+    };
+    let Some(size) = found else {
+        return Err(OpenFault::Foreign);
+    };
+    match probe_first_page(alloc, files, size) {
+        Ok(head) if head.0 == FIRST => Ok(size),
+        Ok(_) => Err(OpenFault::Foreign),
+        Err(error) => Err(fault_of_probe(error)),
+    }
+}
+
+/// What a refusal means, where a failure of the disk is told by what the files met since this tally.
+fn named<D: Disk>(error: OpenError, before: Tally, left: &Unopened<D>) -> OpenFault
+    ensures told { error ≢ OpenError.Io → result ≡ fault_of error }
+    ensures disk { error ≡ OpenError.Io → (result ≡ OpenFault.Io) ⊎ ((result ≡ OpenFault.Corrupt) ⊎ (result ≡ OpenFault.Full)) }
+{
+    if error != OpenError::Io {
+        return fault_of(error);
+    }
+    match name_fault(before, left.tally()) {
+        StoreError::Corrupt => OpenFault::Corrupt,
+        StoreError::Full => OpenFault::Full,
+        _ => OpenFault::Io,
+    }
+}
+
+/// Opens the file of a store, and reads of it the header, the list of free pages and the list of tables.
+pub fn open<D: Disk + Drop>(alloc: Global, files: Files<D>) -> Result<FileStore<D>, OpenFault>
+    requires log { IsTrue (D.Disk.is_usable files.log) }
+    requires db { IsTrue (D.Disk.is_usable files.db) }
+    requires sound { AreClean D.Disk files.log files.db → HoldsStore (image_of D.Disk files) }
+    ensures honest { IfOk result (λ it. IsTrue (view it).is_clean → AreClean D.Disk files.log files.db) }
+    ensures laid_out { IfOk result (λ it. IsTrue (view it).is_clean → IsLaidOut (view it)) }
+    ensures found { IfOk result (λ it. IsTrue (view it).is_clean → (held : HoldsStore (image_of D.Disk files)) → (view it).committed ≡ held.db) }
+{
+    let mut files = files;
+    let size = find_size(alloc, &mut files)?;
+    let mut fresh = unopened(alloc, files, size)?;
+    let before = fresh.tally();
+    match fresh.read_catalog() {
+        Ok(rows) => recognise(rows.as_slice())?,
+        Err(error) => return Err(named(error, before, &fresh)),
+    }
+    match fresh.open_trusted() {
+        Ok(store) => Ok(store),
+        Err((error, left)) => Err(named(error, before, &left)),
+    }
+}
+
+/// Makes an empty store in files that hold nothing.
+pub fn create<D: Disk + Drop>(alloc: Global, files: Files<D>) -> Result<FileStore<D>, OpenFault>
+    requires log { IsTrue (D.Disk.is_usable files.log) }
+    requires db { IsTrue (D.Disk.is_usable files.db) }
+    ensures laid_out { IfOk result (λ it. IsTrue (view it).is_clean → IsLaidOut (view it)) }
+    ensures entries { IfOk result (λ it. IsTrue (view it).is_clean → (view it).committed 0 ≡ []) }
+    ensures about { IfOk result (λ it. IsTrue (view it).is_clean → (view it).committed 1 ≡ []) }
+    ensures nothing { IfOk result (λ it. IsTrue (view it).is_clean → ∥ HoldsNothing (image_of D.Disk files) ∥₁) }
+{
+    let size = PageSize::new(NEW_SIZE).unwrap();
+    let fresh = unopened(alloc, files, size)?;
+    let before = fresh.tally();
+    match fresh.create() {
+        Ok(store) => Ok(store),
+        Err((OpenError::Refused, _)) => Err(OpenFault::Exists),
+        Err((error, left)) => Err(named(error, before, &left)),
+    }
+}
+
+/// Takes back what isn't committed, copies the log into the database file, and gives the files back. The database file alone has the store
+/// then: its log has no page.
+pub fn close_files<D: Disk + Drop>(store: FileStore<D>) -> Result<Files<D>, StoreError>
+    ensures usable { IfOk result (λ files. IsTrue (D.Disk.is_usable files.log) × IsTrue (D.Disk.is_usable files.db)) }
+    ensures copied { IfOk result (λ files. AreClean D.Disk files.log files.db → (image : _) → outcomes D.Disk files.log files.db image → HoldsAlone image (view store).committed) }
+{
+    let mut store = store;
+    store.rollback();
+    let copied = store.checkpoint();
+    let files = store.close();
+    copied?;
+    Ok(files)
+}
+
+/// As `close_files`, and the files are closed.
+pub fn close<D: Disk + Drop>(store: FileStore<D>) -> Result<(), StoreError> {
+    close_files(store)?;
+    Ok(())
+}

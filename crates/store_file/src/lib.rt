@@ -1,0 +1,13 @@
+//! The SQLite file of a key-value store: it is made, opened and closed, without a statement of SQL and without reading all of it.
+#![tactic(auto)]
+
+pub mod catalog;
+pub mod fault;
+pub mod file;
+#[cfg(test)]
+mod tests;
+pub mod unsure;
+
+pub use fault::OpenFault;
+pub use file::{close, close_files, create, open};
+pub use unsure::Unsure;

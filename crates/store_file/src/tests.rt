@@ -1,0 +1,186 @@
+//! Stores over files in memory.
+ghost use Rattle.std.specs.Prelude.{IsSome, IsTrue, IfOk, OnOk};
+ghost use Rattle.sqlite_disk.specs.Memory.{memory_is_usable};
+ghost use Rattle.store_file.specs.Unsure.{disk_below};
+
+use crate::catalog::{ABOUT, ABOUT_SQL, ENTRIES, FORMER_SQL};
+use crate::{OpenFault, Unsure, close, close_files, create, open};
+use sqlite_disk::{Disk, Files, Memory};
+use sqlite_pager::{Options, Pager};
+use sqlite_store::Unopened;
+use sqlite_trees::error::StoreError;
+use sqlite_trees::schema::Object;
+use sqlite_trees::store::{Direction, Shape, Store};
+use sqlite_value::keys::Order;
+use sqlite_value::order::is_same;
+use sqlite_value::row::Row;
+use sqlite_value::value::ValueRef;
+use sqlite_wal::PageSize;
+use std::alloc::Global;
+use std::process::Abort;
+use std::test::Fail;
+
+type Pair = Files<Unsure<Memory>>;
+
+/// Two empty files.
+fn blank(alloc: Global) -> Pair
+    ensures log { IsTrue (memory_is_usable (disk_below result.log)) }
+    ensures db { IsTrue (memory_is_usable (disk_below result.db)) }
+{
+    Files {
+        log: Unsure::new(Memory::new(alloc)),
+        db: Unsure::new(Memory::new(alloc)),
+    }
+}
+
+/// The files of a database whose tables have the names of a store's.
+fn database(alloc: Global, sql: &str) -> Result<Pair, Fail>
+    ensures log { IfOk result (λ files. IsTrue (memory_is_usable (disk_below files.log))) }
+    ensures db { IfOk result (λ files. IsTrue (memory_is_usable (disk_below files.db))) }
+{
+    let size = PageSize::new(512).ok_or("a page size")?;
+    let pager = Pager::new(alloc, blank(alloc), size, Options::new(7))?;
+    let entry = Object {
+        shape: Shape::Table,
+        kind: "table",
+        name: "entry",
+        table: "entry",
+        reals: 0,
+        sql: Some(sql),
+    };
+    let about = Object {
+        name: "about",
+        table: "about",
+        sql: Some(ABOUT_SQL),
+        ..entry
+    };
+    match Unopened::new(alloc, pager, &[entry, about])?.create() {
+        Ok(store) => Ok(close_files(store)?),
+        Err((error, _)) => Err(Fail::from(error)),
+    }
+}
+
+/// The files of an empty store.
+fn made(alloc: Global) -> Result<Pair, Fail>
+    ensures log { IfOk result (λ files. IsTrue (memory_is_usable (disk_below files.log))) }
+    ensures db { IfOk result (λ files. IsTrue (memory_is_usable (disk_below files.db))) }
+{
+    Ok(close_files(create(alloc, blank(alloc))?)?)
+}
+
+fn add<S: Store>(
+    rt: &impl Abort,
+    store: &mut S,
+    row: &mut Row,
+    key: &[u8],
+    time: i64,
+) -> Result<(), StoreError> {
+    row.clear();
+    row.push(ValueRef::Text(key))?;
+    row.push(ValueRef::Int(time))?;
+    row.push(ValueRef::Text(b"office"))?;
+    row.push(ValueRef::Text(b"a value"))?;
+    assert_eq!(rt; store.shape(ENTRIES), Shape::Index(Order::PLAIN));
+    store.insert(ENTRIES, row)
+}
+
+/// Commits three entries and a row of the other table, and begins to write another entry.
+fn fill<S: Store>(rt: &impl Abort, store: &mut S, row: &mut Row) -> Result<(), StoreError> {
+    add(rt, store, row, b"banana", 7)?;
+    add(rt, store, row, b"apple", 9)?;
+    add(rt, store, row, b"apple", 3)?;
+    row.clear();
+    row.push(ValueRef::Int(1))?;
+    row.push(ValueRef::Null)?;
+    row.push(ValueRef::Int(2))?;
+    row.push(ValueRef::Text(b"office"))?;
+    assert_eq!(rt; store.shape(ABOUT), Shape::Table);
+    store.put(ABOUT, row)?;
+    store.commit()?;
+    add(rt, store, row, b"cherry", 1)
+}
+
+/// Whether this entry is next.
+fn is_next<S: Store>(
+    store: &mut S,
+    row: &mut Row,
+    key: &[u8],
+    time: i64,
+) -> Result<bool, StoreError>
+    requires { IsSome ((S.Store.view store.old).cursors 0) }
+    ensures { OnOk result (IsSome ((S.Store.view store.new).cursors 0)) }
+{
+    let found = store.next(0, row)?;
+    Ok(
+        found
+            && is_same(row.get(0), ValueRef::Text(key))
+            && is_same(row.get(1), ValueRef::Int(time)),
+    )
+}
+
+/// Whether the store has what was committed, and nothing else.
+fn is_filled<S: Store>(rt: &impl Abort, store: &mut S, row: &mut Row) -> Result<bool, StoreError> {
+    row.clear();
+    assert_eq!(rt; store.shape(ENTRIES), Shape::Index(Order::PLAIN));
+    store.seek(0, ENTRIES, row, Direction::Forward)?;
+    let first = is_next(store, row, b"apple", 3)?;
+    let second = is_next(store, row, b"apple", 9)?;
+    let third = is_next(store, row, b"banana", 7)?;
+    let ended = !store.next(0, row)?;
+    assert_eq!(rt; store.shape(ABOUT), Shape::Table);
+    let about = store.get(ABOUT, 1, row)? && is_same(row.get(3), ValueRef::Text(b"office"));
+    Ok(first && second && third && ended && about)
+}
+
+#[test]
+fn keeps_what_is_committed(rt: HostRuntime) -> Result<(), Fail> {
+    let alloc = rt.alloc();
+    let mut row = Row::new(alloc);
+    let mut first = create(alloc, blank(alloc))?;
+    let written = fill(&rt, &mut first, &mut row);
+    let files = close_files(first)?;
+    written?;
+    let mut second = open(alloc, files)?;
+    let found = is_filled(&rt, &mut second, &mut row);
+    close(second)?;
+    assert!(rt; found?);
+    Ok(())
+}
+
+#[test]
+fn opens_no_other_file(rt: HostRuntime) -> Result<(), Fail> {
+    let alloc = rt.alloc();
+    assert_eq!(rt; open(alloc, blank(alloc)).err(), Some(OpenFault::Foreign));
+    let mut text = blank(alloc);
+    text.db
+        .write_at(0, b"key,value\napple,3\nbanana,5\ncherry,1\n")?;
+    assert_eq!(rt; open(alloc, text).err(), Some(OpenFault::Foreign));
+    let other = database(alloc, "CREATE TABLE entry (a)")?;
+    assert_eq!(rt; open(alloc, other).err(), Some(OpenFault::Foreign));
+    let former = database(alloc, FORMER_SQL)?;
+    assert_eq!(rt; open(alloc, former).err(), Some(OpenFault::Format));
+    Ok(())
+}
+
+#[test]
+fn opens_no_damaged_file(rt: HostRuntime) -> Result<(), Fail> {
+    let mut files = made(rt.alloc())?;
+    // The text encoding is UTF-8.
+    files.db.write_at(56, &[0, 0, 0, 9])?;
+    assert_eq!(rt; open(rt.alloc(), files).err(), Some(OpenFault::Corrupt));
+    Ok(())
+}
+
+#[test]
+fn makes_no_store_over_another(rt: HostRuntime) -> Result<(), Fail> {
+    let files = made(rt.alloc())?;
+    assert_eq!(rt; create(rt.alloc(), files).err(), Some(OpenFault::Exists));
+    Ok(())
+}
+
+#[test]
+fn says_why(rt: HostRuntime) -> Result<(), Fail> {
+    let text = format!(in rt.alloc(); "{}", OpenFault::Foreign)?;
+    assert_eq!(rt; text.as_str(), "the file is no store");
+    Ok(())
+}
