@@ -13,10 +13,11 @@ use Rattle.key_order.proofs.Clones.{string_clone}
 use Rattle.key_order.proofs.Bools.{which, is_equal}
 use Rattle.key_order.proofs.Maps.{get_same}
 use Rattle.key_order.proofs.Orders.{either, not_both}
-use Rattle.key_order.proofs.Values.{Eq, on, back, assoc, comm, cong, same, to_none}
+use Rattle.key_order.proofs.Values.{Eq, on, back, assoc, cong, same, to_none}
 use Rattle.merkle_replica.specs.Puts.{gathered}
 use Rattle.store_table.specs.Registers.{is_later, register_order, time_after}
 use Rattle.merkle_store.specs.Kept.{JoinTheSame}
+use Rattle.merkle_store.proofs.Adding.{swap}
 use Rattle.store_table.specs.declared.register.Register.{Register}
 
 module _ (o : IsTotalOrder register_order) (eq : Register → Register → Bool) (e : IsEquivalence eq) (j : IsJoining eq (ord_max register_order)) (total : IsTotalOrder text_order) where
@@ -56,12 +57,6 @@ module _ (o : IsTotalOrder register_order) (eq : Register → Register → Bool)
     abbrev J : Option Register → Option Register → Option Register
     J = joined (ord_max register_order)
 
-    swap : (a b c : Option Register) → Eq eq e (ord_max register_order) j (J a (J b c)) (J b (J a c))
-    swap a b c =
-        on eq e (ord_max register_order) j (J a (J b c)) (J (J a b) c) (J b (J a c)) (back eq e (ord_max register_order) j (J (J a b) c) (J a (J b c)) (assoc eq e (ord_max register_order) j a b c))
-        (on eq e (ord_max register_order) j (J (J a b) c) (J (J b a) c) (J b (J a c)) (cong eq e (ord_max register_order) j (J a b) (J b a) c c (comm eq e (ord_max register_order) j a b) (same eq e (ord_max register_order) j c))
-        (assoc eq e (ord_max register_order) j b a c))
-
     -- joined with the rows, the later entries make the same as all
     pub later_join_the_same : (entries : List (Key × Register)) → JoinTheSame eq (ord_max register_order) rows entries (filter later entries)
     later_join_the_same [] k = same eq e (ord_max register_order) j (joined (ord_max register_order) (get text_order rows k) None)
@@ -82,9 +77,9 @@ module _ (o : IsTotalOrder register_order) (eq : Register → Register → Bool)
             let G = gathered text_order eq (ord_max register_order) entries k in
             let G' = gathered text_order eq (ord_max register_order) (filter later entries) k in
             let R = at k r in
-            rw n (on eq e (ord_max register_order) j (J A (J R G)) (J R (J A G)) (J A (J R G')) (swap A R G)
+            rw n (on eq e (ord_max register_order) j (J A (J R G)) (J R (J A G)) (J A (J R G')) (swap eq e (ord_max register_order) j A R G)
             (on eq e (ord_max register_order) j (J R (J A G)) (J R (J A G')) (J A (J R G')) (cong eq e (ord_max register_order) j R R (J A G) (J A G') (same eq e (ord_max register_order) j R) h)
-            (swap R A G')))
+            (swap eq e (ord_max register_order) j R A G')))
 
   -- the time comes first
   earlier : (a b : Register) → a.time < b.time → Upto register_order a b

@@ -1,7 +1,9 @@
+pub mod Agreeing
+pub mod Adding
 pub mod Keeping
 pub mod Latest
-pub mod Agreeing
 pub mod Found
 pub mod SomeNews
+pub mod Reopened
 pub mod Messages
 pub mod Exchanged

@@ -4,13 +4,12 @@ use Rattle.std.specs.Ordering.{is_eq}
 use Rattle.key_order.specs.Text.{Text as Key, text_order}
 use Rattle.key_order.specs.Map.{SameValue, get}
 use Rattle.key_order.specs.Join.{joined, IsJoin}
-use Rattle.sqlite.specs.Effect.{Database}
-use Rattle.sqlite.specs.Held.{Held}
-use Rattle.sqlite.specs.Store.{Ghosts}
+use Rattle.sqlite_trees.specs.declared.store.Store.{Ghosts}
+use Rattle.sqlite_trees.specs.Tree.{Trees}
 use Rattle.merkle_replica.specs.Puts.{gathered, HasGathered, IsPuts}
-use Rattle.store_table.specs.Entries.{store_schema, HoldsEntries, IsNoted}
-use Rattle.store_table.specs.Connections.{database, IsClean, IsCommitted}
+use Rattle.store_table.specs.Entries.{HoldsEntries, IsNoted}
 use Rattle.store_table.specs.Latest.{IsLatestAt}
+use Rattle.store_table.specs.Logs.{trees_of, IsClean}
 use Rattle.store_table.specs.declared.register.Register.{Register}
 use Rattle.store_table.specs.declared.format.TheConstants.{FORMAT}
 use Rattle.store_table.specs.contracts.register.RegisterPartialEq.TheImpl as register_eq
@@ -18,13 +17,12 @@ use Rattle.store_table.specs.contracts.registers.RegisterJoin.TheImpl as registe
 use Rattle.merkle_store.specs.declared.store.Store.{Store}
 
 module _ (eq : Register → Register → Bool) (join : Register → Register → Register) where
-  -- The database has the tables of a store by this writer, and the rows in memory are the map that has, for each key of an entry of its
-  -- table, the join of all registers that the entries have for it: the latest.
-  pub record IsKept (writer : List ℕ) (db : Database) (rows : List (Key × Register)) : Type 0 where
-    pub schema : db.schema ≡ store_schema
-    pub about : IsNoted db.trees FORMAT writer
+  -- The trees are those of a store by this writer, and the rows in memory are the map that has, for each key of an entry of its table, the
+  -- join of all registers that the entries have for it: the latest.
+  pub record IsKept (writer : List ℕ) (trees : Trees) (rows : List (Key × Register)) : Type 0 where
+    pub about : IsNoted trees FORMAT writer
     pub entries : List (Key × Register)
-    pub held : HoldsEntries db.trees entries
+    pub held : HoldsEntries trees entries
     pub gathered : HasGathered text_order eq join [] entries rows
 
   -- joined with the rows, these entries make the same as those
@@ -68,44 +66,43 @@ HasJoinedOne old key register new = IsJoin text_order same_register later_regist
 abbrev pub HasPut : List (Key × Register) → List (Key × Register) → List (Key × Register) → Type 0
 HasPut = IsPuts text_order same_register later_register
 
--- the rows in memory are those of the database, which is a store of this writer
-abbrev pub AreInStep : List ℕ → Database → List (Key × Register) → Type 0
+-- the rows in memory are those of the trees, which are a store's of this writer
+abbrev pub AreInStep : List ℕ → Trees → List (Key × Register) → Type 0
 AreInStep = IsKept same_register later_register
 
--- the rows in memory are those of the database, by the writer that it notes
-abbrev pub AreRowsOf : Database → List (Key × Register) → Type 0
-AreRowsOf db rows = (writer : List ℕ) → IsNoted db.trees FORMAT writer → AreInStep writer db rows
+-- the rows in memory are those of the trees, by the writer that they note
+abbrev pub AreRowsOf : Trees → List (Key × Register) → Type 0
+AreRowsOf trees rows = (writer : List ℕ) → IsNoted trees FORMAT writer → AreInStep writer trees rows
 
 -- what is found in the table for a key is what the rows have for it
-abbrev pub TellFound : Database → List (Key × Register) → Type 0
-TellFound db rows = (key : Key) (found : Option Register) → IsLatestAt db.trees (string_bytes key) found → SameRegister found (get text_order rows key)
+abbrev pub TellFound : Trees → List (Key × Register) → Type 0
+TellFound trees rows = (key : Key) (found : Option Register) → IsLatestAt trees (string_bytes key) found → SameRegister found (get text_order rows key)
 
--- rows in memory that are those of a database tell what is found in it
+-- rows in memory that are those of a store's trees tell what is found in them
 abbrev pub InStepTellFound : Type 0
-InStepTellFound = (writer : List ℕ) (db : Database) (rows : List (Key × Register)) → AreInStep writer db rows → TellFound db rows
+InStepTellFound = (writer : List ℕ) (trees : Trees) (rows : List (Key × Register)) → AreInStep writer trees rows → TellFound trees rows
 
 -- a store writes by the same name, and takes entries up to the same time
 abbrev pub StaysSet : {S : Type 0} → Store S → Store S → Type 0
 StaysSet old new = (new.writer ≡ old.writer) × (new.latest ≡ old.latest)
 
 module _ {S : Type 0} (g : Ghosts S) where
-  -- the rows in memory are those of the database that a connection shows, which is a store of the writer of this name
-  abbrev pub AreInStepWith : Held S → Key → List (Key × Register) → Type 0
-  AreInStepWith conn writer rows = AreInStep (string_bytes writer) (database g conn) rows
+  -- the rows in memory are those of the trees that a log shows, which are a store's of the writer of this name
+  abbrev pub AreInStepWith : S → Key → List (Key × Register) → Type 0
+  AreInStepWith log writer rows = AreInStep (string_bytes writer) (trees_of g log) rows
 
   -- the rows of the store in memory are those of its file
   abbrev pub IsInStep : Store S → Type 0
-  IsInStep store = AreInStepWith store.conn store.writer store.replica.rows
+  IsInStep store = AreInStepWith store.log store.writer store.replica.rows
 
   -- over a clean disk, a store that was in step is so after a call that is `Ok`
   abbrev pub KeepsInStep : {A E : Type 0} → Store S → Store S → Result A E → Type 0
-  KeepsInStep old new result = IsClean g new.conn → IsInStep old → OnOk result (IsInStep new)
+  KeepsInStep old new result = IsClean g new.log → IsInStep old → OnOk result (IsInStep new)
 
-  -- over a clean disk, a store opened again has the rows of the one that was closed, if that was in step with what was committed
+  -- over a clean disk, a store opened again has the rows of the one that was closed, if that was in step
   abbrev pub Reopens : Store S → Store S → Type 0
-  Reopens store again = IsClean g again.conn → IsCommitted g store.conn → IsInStep store → SameRows again.replica.rows store.replica.rows
+  Reopens store again = IsClean g again.log → IsInStep store → SameRows again.replica.rows store.replica.rows
 
   -- over a clean disk, what was in step is so after a call that is `Ok`
-  abbrev pub StayInStep : {A E : Type 0} → Held S → Held S → List (Key × Register) → List (Key × Register) → Result A E → Type 0
-  StayInStep old new rows now result =
-      IsClean g new → (writer : List ℕ) → AreInStep writer (database g old) rows → OnOk result (AreInStep writer (database g new) now)
+  abbrev pub StayInStep : {A E : Type 0} → S → S → List (Key × Register) → List (Key × Register) → Result A E → Type 0
+  StayInStep old new rows now result = IsClean g new → (writer : List ℕ) → AreInStep writer (trees_of g old) rows → OnOk result (AreInStep writer (trees_of g new) now)

@@ -2,4 +2,5 @@ pub mod Kept
 pub mod Framing
 pub mod Sessions
 pub mod Pulls
+pub mod Reopening
 pub mod Writes

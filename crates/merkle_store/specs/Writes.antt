@@ -1,18 +1,17 @@
 -- What a write and a join add to the table of a store.
-use Rattle.std.specs.Prelude.{◌≡◌, ◌≢◌, ◌≤◌, ℕ, List, [], ◌∷◌, map, All, Option, Result, IfErr, IsTrue}
+use Rattle.std.specs.Prelude.{◌≡◌, ◌≢◌, ◌≤◌, ℕ, List, [], ◌∷◌, map, All, Option, Result, IfErr}
 use Rattle.std.specs.List.{filter}
 use Rattle.key_order.specs.Text.{Text, text_order}
 use Rattle.key_order.specs.Map.{get}
-use Rattle.sqlite.specs.Effect.{Database}
-use Rattle.sqlite.specs.Held.{Held, state}
-use Rattle.sqlite.specs.Store.{Ghosts}
+use Rattle.sqlite_trees.specs.declared.store.Store.{Ghosts}
+use Rattle.sqlite_trees.specs.Tree.{Trees}
 use Rattle.store_table.specs.Changes.{HasMore}
-use Rattle.store_table.specs.Connections.{database, IsClean}
 use Rattle.store_table.specs.Entries.{entry_row}
 use Rattle.store_table.specs.Faults.{IsUnwritten}
+use Rattle.store_table.specs.Logs.{trees_of, IsClean, IsOpen}
 use Rattle.store_table.specs.Registers.{time_after, is_later}
 use Rattle.store_table.specs.declared.fault.StoreFault.{StoreFault}
-use Rattle.store_table.specs.declared.fault.StoreFault.TheVariants.{Behind, Underway, Future}
+use Rattle.store_table.specs.declared.fault.StoreFault.TheVariants.{Behind, Future}
 use Rattle.store_table.specs.declared.register.Register.{Register}
 use Rattle.merkle_store.specs.Kept.{HasRegister}
 use Rattle.merkle_store.specs.declared.store.Store.{Store}
@@ -30,22 +29,22 @@ abbrev pub AreTimely : ℕ → List (Text × Register) → Type 0
 AreTimely latest entries = All (λ entry. entry.1.time ≤ latest) entries
 
 module _ {S : Type 0} (store : Store S) where
-  -- the file has the row of a write more
-  abbrev pub HasWrite : ℕ → Text → Option Text → Database → Database → Type 0
+  -- the file has the row of a write too
+  abbrev pub HasWrite : ℕ → Text → Option Text → Trees → Trees → Type 0
   HasWrite now key value = HasMore (entry_row (key, register_of store.replica.rows now store.writer key value) ∷ [])
 
-  -- the file has a row more for each of these entries that is later than what the store has for its key
-  abbrev pub HasNews : List (Text × Register) → Database → Database → Type 0
+  -- the file has a row too for each of these entries that is later than what the store has for its key
+  abbrev pub HasNews : List (Text × Register) → Trees → Trees → Type 0
   HasNews entries = HasMore (map entry_row (later_entries store.replica.rows entries))
 
 -- the store has for the key what a write over the old one makes
 abbrev pub HasWritten : {S : Type 0} → Store S → Store S → ℕ → Text → Option Text → Type 0
 HasWritten old new now key value = HasRegister new.replica.rows key (register_of old.replica.rows now old.writer key value)
 
--- a join fails as a write does, unless memory is behind the file, a transaction is open or an entry is from the future
+-- a join fails as a write does, unless memory is behind the file or an entry is from the future
 abbrev pub IsJoinFault : StoreFault → Type 0
-IsJoinFault why = why ≢ Behind → why ≢ Underway → why ≢ Future → IsUnwritten why
+IsJoinFault why = why ≢ Behind → why ≢ Future → IsUnwritten why
 
--- over a clean disk, while the connection is open, the database is as it was in each error but `Behind`
-abbrev pub StaysUnlessBehind : {S A : Type 0} → Ghosts S → Held S → Held S → Result A StoreFault → Type 0
-StaysUnlessBehind g old new result = IsClean g new → IsTrue (state g new).is_open → IfErr result (λ why. why ≢ Behind → database g new ≡ database g old)
+-- over a clean disk, while the log is open, its trees are as they were in each error but `Behind`
+abbrev pub StaysUnlessBehind : {S A : Type 0} → Ghosts S → S → S → Result A StoreFault → Type 0
+StaysUnlessBehind g old new result = IsClean g new → IsOpen g new → IfErr result (λ why. why ≢ Behind → trees_of g new ≡ trees_of g old)

@@ -2,7 +2,7 @@
 ghost use Rattle.std.specs.Prelude.{◌≡◌, ◌≤◌, length, IfOk, IfErr, OnOk};
 ghost use Rattle.std.specs.Io.KnownBytes.{Appends, Consumes, IsAtEnd};
 ghost use Rattle.merkle_tree_theory.specs.State.{SameSettings};
-ghost use Rattle.store_table.specs.Connections.{HasStore};
+ghost use Rattle.store_table.specs.Logs.{IsSteady};
 ghost use Rattle.merkle_store.specs.Framing.{framed};
 ghost use Rattle.merkle_store.specs.Kept.{KeepsInStep, StaysSet};
 ghost use Rattle.merkle_store.specs.Pulls.{AreNews, HasBrought, LeavesNewsOver, IsBehind, StaysUnlessPulled};
@@ -16,7 +16,7 @@ use crate::wire::WireFault;
 use merkle_delta::{CatchingUp, Next, answer_within};
 use merkle_search_tree::laws::every_tree_is_sound;
 use merkle_wire::refusal;
-use sqlite::Alter;
+use sqlite_trees::store::Store as Trees;
 use std::alloc::Global;
 use std::fmt;
 use std::io::{Read, Write};
@@ -165,7 +165,7 @@ fn entries_of_peer<R: Read, W: Write, P: Watch>(
 /// # Errors
 ///
 /// [`PullFault`], as of a pull.
-pub fn look<S: Alter + Drop, R: Read, W: Write, P: Watch>(
+pub fn look<S: Trees + Drop, R: Read, W: Write, P: Watch>(
     store: &mut Store<S>,
     from: &mut R,
     to: &mut W,
@@ -175,7 +175,7 @@ pub fn look<S: Alter + Drop, R: Read, W: Write, P: Watch>(
     ensures news { IfOk result (λ news. AreNews store.old most (W.contents to.old, R.remaining from.old)
         (W.contents to.new, R.remaining from.new) news.items) }
     ensures rows { store.new.replica.rows ≡ store.old.replica.rows }
-    ensures file { store.new.conn ≡ store.old.conn }
+    ensures file { store.new.log ≡ store.old.log }
     ensures settings { StaysSet store.old store.new }
 {
     let alloc = store.alloc();
@@ -189,7 +189,7 @@ pub fn look<S: Alter + Drop, R: Read, W: Write, P: Watch>(
 /// # Errors
 ///
 /// [`PullFault`]: but for [`StoreFault::Behind`] the file and the rows in memory are as they were.
-pub fn pull<S: Alter + Drop, R: Read, W: Write, P: Watch>(
+pub fn pull<S: Trees + Drop, R: Read, W: Write, P: Watch>(
     store: &mut Store<S>,
     from: &mut R,
     to: &mut W,
@@ -203,9 +203,10 @@ pub fn pull<S: Alter + Drop, R: Read, W: Write, P: Watch>(
 
     // Refused, the rows in memory stay, and the file's too, but for `Behind`.
     ensures memory { IfErr result (λ why. ¬ IsBehind why → store.new.replica.rows ≡ store.old.replica.rows) }
-    ensures refused { HasStore S.Store store.old.conn → StaysUnlessPulled S.Store store.old.conn store.new.conn result }
+    ensures refused { StaysUnlessPulled S.Store store.old.log store.new.log result }
+    ensures steady { IsSteady S.Store store.old.log store.new.log }
 
-    // A crash leaves what it could leave before, or a database with a row more for each entry that came and is later, and no other.
+    // A crash leaves what it could leave before, or trees with a row too for each entry that came and is later, and no other.
     ensures crash { LeavesNewsOver S.Store store.old store.new most (W.contents to.old, R.remaining from.old)
         (W.contents to.new, R.remaining from.new) }
 {
@@ -226,7 +227,7 @@ pub fn pull<S: Alter + Drop, R: Read, W: Write, P: Watch>(
 /// # Errors
 ///
 /// [`WireFault`]: the peer is told that it is refused, where the output still takes that.
-pub fn serve<S: Alter + Drop, R: Read, W: Write, P: Watch>(
+pub fn serve<S: Trees + Drop, R: Read, W: Write, P: Watch>(
     store: &mut Store<S>,
     from: &mut R,
     to: &mut W,
@@ -237,7 +238,7 @@ pub fn serve<S: Alter + Drop, R: Read, W: Write, P: Watch>(
         (W.contents to.new, R.remaining from.new)) }
     ensures ended { OnOk result (IsAtEnd (R.remaining from.new)) }
     ensures rows { store.new.replica.rows ≡ store.old.replica.rows }
-    ensures file { store.new.conn ≡ store.old.conn }
+    ensures file { store.new.log ≡ store.old.log }
     ensures settings { StaysSet store.old store.new }
 {
     let alloc = store.alloc();

@@ -1,11 +1,11 @@
-//! A store: its table in the database, and the replica of its entries in memory.
+//! A store: its log in the file, and the replica of its entries in memory.
 ghost use Rattle.std.specs.Prelude.{◌≡◌, ◌≢◌, ◌+◌, ◌≤◌, ◌^◌, ◌↔◌, [], length, min, string_bytes, IfOk, IfErr, OnOk, OnErr, IsErrOf, IsTrue};
 ghost use Rattle.std.specs.Option.{option_copied};
 ghost use Rattle.key_order.specs.Text.{text_order};
 ghost use Rattle.key_order.specs.Map.{IsMap, get};
 ghost use Rattle.store_table.specs.Changes.{IsBlank, IsNewStore, HasEntriesInstead};
-ghost use Rattle.store_table.specs.Connections.{database, HasStore, IsClean, IsCommitted, IsUnderway, Makes, Stays, StaysInOk, StaysInErr, Leaves, LeavesNoMore, LeavesOfStore};
 ghost use Rattle.store_table.specs.Faults.{IsForeign, IsUnwritten};
+ghost use Rattle.store_table.specs.Logs.{IsClean, IsSteady, trees_of, Makes, Refuses, StaysInOk, StaysInErr, Leaves, LeavesNoMore};
 ghost use Rattle.store_table.specs.Registers.{time_after, text_at, HasLastTimeAt, HaveLateTime};
 ghost use Rattle.merkle_store.specs.Kept.{AreInStep, AreInStepWith, IsInStep, KeepsInStep, SameButFor, HasJoined, StaysSet};
 ghost use Rattle.merkle_store.specs.Writes.{later_entries, AreTimely, HasWrite, HasWritten, HasNews, IsJoinFault, StaysUnlessBehind};
@@ -13,108 +13,101 @@ ghost use Rattle.merkle_store.specs.Writes.{later_entries, AreTimely, HasWrite, 
 use crate::lookup::register_at;
 use crate::news::news_of;
 use crate::upkeep::{EntryReplica, add_entries, add_entry, read_replica, rewrite};
-use sqlite::{Alter, Connection};
+use sqlite_trees::store::Store as Trees;
 use std::alloc::{AllocError, Global};
 use store_table::format::{self, FORMAT, recognise};
+use store_table::log::Log;
 use store_table::table::Entries;
 use store_table::{Register, StoreFault};
 
 /// How far ahead of the clock, in milliseconds, the time of a peer's entry may be: a day.
 pub const AHEAD: u64 = 86_400_000;
 
-/// A store over an open database.
-pub struct Store<S: Alter + Drop> {
+/// A store over the log of an open file.
+pub struct Store<S: Trees + Drop> {
     alloc: Global,
-    conn: Connection<S>,
+    log: Log<S>,
     writer: String,
     pub(crate) replica: EntryReplica,
-    rows: usize,
     /// The greatest time of a peer's entry that is joined.
     latest: u64,
 }
 
 // Written out, so that a caller doesn't prove again how each part is dropped.
-impl<S: Alter + Drop> Drop for Store<S> {
+impl<S: Trees + Drop> Drop for Store<S> {
     fn drop(self) {
         let Store {
             alloc: _,
-            conn: _,
+            log: _,
             writer: _,
             replica: _,
-            rows: _,
             latest: _,
         } = self;
     }
 }
 
-/// Makes a store without entries in a database without tables, or nothing. It takes the time of one transaction.
+/// Makes a store without entries of tables without rows, or nothing. It takes the time of one transaction.
 ///
 /// # Errors
 ///
-/// [`StoreFault::Foreign`] where the database has tables already.
-pub fn create<S: Alter>(conn: &mut Connection<S>, writer: &str) -> Result<(), StoreFault>
-    ensures kept { IsClean S.Store conn.new → OnOk result (AreInStep writer.now (database S.Store conn.new) []) }
-    ensures foreign { IsErrOf result StoreFault.Foreign ↔ ¬ IsBlank (database S.Store conn.old) }
-    ensures underway { IsErrOf result StoreFault.Underway → IsUnderway S.Store conn.old }
-    ensures refused { StaysInErr S.Store conn.old conn.new result }
+/// [`StoreFault::Foreign`] where a table has rows already, and faults of the file.
+pub fn create<S: Trees>(alloc: Global, log: &mut Log<S>, writer: &str) -> Result<(), StoreFault>
+    ensures kept { Makes S.Store log.old log.new result (λ _ trees. AreInStep writer.now trees []) }
+    ensures foreign { Refuses S.Store log.old log.new result StoreFault.Foreign (λ trees. ¬ IsBlank trees) }
+    ensures refused { StaysInErr S.Store log.old log.new result }
+    ensures steady { IsSteady S.Store log.old log.new }
 
     // A crash leaves what it could leave before, or a store without entries.
-    ensures crash { Leaves S.Store conn.old conn.new (λ _. IsNewStore FORMAT writer.now) }
+    ensures crash { Leaves S.Store log.old log.new (λ _. IsNewStore FORMAT writer.now) }
 {
-    format::create(conn, writer)
+    format::create(alloc, log, writer)
 }
 
-/// The name by which the store writes, the replica of its entries, and how many rows its table has. It takes memory linear in the table, and the
-/// time of a sort of its rows.
+/// The name by which the store writes, and the replica of its entries. It takes memory linear in the table, and the time of a sort of its rows.
 ///
 /// # Errors
 ///
 /// As of [`open`].
-pub fn read_store<S: Alter>(
+pub fn read_store<S: Trees>(
     alloc: Global,
-    conn: &mut Connection<S>,
-) -> Result<(String, EntryReplica, usize), StoreFault>
-    // A database of something else is refused, and not read.
-    ensures foreign { ¬ HasStore S.Store conn.old → IsErrOf result StoreFault.Foreign × (conn.new ≡ conn.old) }
-    ensures only_foreign { IsClean S.Store conn.new → IsErrOf result StoreFault.Foreign → IsForeign (database S.Store conn.old) }
+    log: &mut Log<S>,
+) -> Result<(String, EntryReplica), StoreFault>
+    ensures foreign { Refuses S.Store log.old log.new result StoreFault.Foreign IsForeign }
 
     // Its rows are read, and nothing is written.
-    ensures kept { IsClean S.Store conn.new → IfOk result (λ read. AreInStepWith S.Store conn.new read.0 read.1.rows) }
-    ensures unchanged { StaysInOk S.Store conn.old conn.new result }
-    ensures crash { LeavesNoMore S.Store conn.old conn.new }
+    ensures kept { IsClean S.Store log.new → IfOk result (λ read. AreInStepWith S.Store log.new read.0 read.1.rows) }
+    ensures unchanged { StaysInOk S.Store log.old log.new result }
+    ensures refused { StaysInErr S.Store log.old log.new result }
+    ensures steady { IsSteady S.Store log.old log.new }
+    ensures crash { LeavesNoMore S.Store log.old log.new }
 {
-    let writer = recognise(conn)?;
-    let (replica, count) = read_replica(alloc, conn)?;
-    Ok((writer, replica, count))
+    let writer = recognise(alloc, log)?;
+    let replica = read_replica(alloc, log)?;
+    Ok((writer, replica))
 }
 
-/// The store that a database holds, at this time of the clock.
+/// The store that a log is of, at this time of the clock.
 ///
 /// # Errors
 ///
-/// [`StoreFault::Foreign`] where the database is none of this program, [`StoreFault::Format`] where it is one of another version of it;
-/// nothing is written then.
-pub fn open<S: Alter + Drop>(
-    alloc: Global,
-    conn: Connection<S>,
-    now: u64,
-) -> Result<Store<S>, StoreFault>
-    ensures foreign { ¬ HasStore S.Store conn → IsErrOf result StoreFault.Foreign }
-    ensures kept { IfOk result (λ store. IsClean S.Store store.conn → IsInStep S.Store store) }
-    ensures unchanged { IfOk result (λ store. IsClean S.Store store.conn → Stays S.Store conn store.conn) }
-    ensures crash { IfOk result (λ store. LeavesNoMore S.Store conn store.conn) }
+/// [`StoreFault::Foreign`] where the log doesn't say whose it is, [`StoreFault::Format`] where it is one of another version of this program,
+/// and faults of the file; nothing is written then.
+pub fn open<S: Trees + Drop>(alloc: Global, log: Log<S>, now: u64) -> Result<Store<S>, StoreFault>
+    ensures kept { IfOk result (λ store. IsClean S.Store store.log → IsInStep S.Store store) }
+    ensures unchanged { IfOk result (λ store. IsClean S.Store store.log → trees_of S.Store store.log ≡ trees_of S.Store log) }
+    ensures steady { IfOk result (λ store. IsSteady S.Store log store.log) }
+    ensures crash { IfOk result (λ store. LeavesNoMore S.Store log store.log) }
 
     // It takes entries of a peer whose time is a day ahead of the clock at most.
     ensures latest { IfOk result (λ store. store.latest ≡ min (now + AHEAD) u64.MAX) }
 {
-    let mut conn = conn;
-    let (writer, replica, rows) = read_store(alloc, &mut conn)?;
+    let mut log = log;
+    let (writer, replica) = read_store(alloc, &mut log)?;
     Ok(Store {
         alloc,
-        conn,
+        log,
         writer,
         replica,
-        rows,
         latest: now.saturating_add(AHEAD),
     })
 }
@@ -128,7 +121,7 @@ fn are_timely(entries: &[(String, Register)], latest: u64) -> bool
         .all(|entry: &(String, Register)| entry.1.time <= latest)
 }
 
-impl<S: Alter + Drop> Store<S> {
+impl<S: Trees + Drop> Store<S> {
     /// The name by which this store writes.
     pub fn writer(&self) -> &str
         ensures { result.now ≡ string_bytes self.now.writer }
@@ -146,13 +139,6 @@ impl<S: Alter + Drop> Store<S> {
         ensures { result.now ≡ self.now.replica.rows }
     {
         self.replica.rows()
-    }
-
-    /// How many rows the table has, of which those of `entries` count.
-    pub fn row_count(&self) -> usize
-        ensures { result ≡ self.now.rows }
-    {
-        self.rows
     }
 
     /// The register of a key, in time logarithmic in the number of entries.
@@ -206,16 +192,17 @@ impl<S: Alter + Drop> Store<S> {
         ensures written { OnOk result (HasWritten self.old self.new now key value) }
         ensures others { OnOk result (SameButFor key self.new.replica.rows self.old.replica.rows) }
         ensures settings { StaysSet self.old self.new }
-        ensures added { Makes S.Store self.old.conn self.new.conn result (HasWrite self.old now key value) }
+        ensures added { Makes S.Store self.old.log self.new.log result (HasWrite self.old now key value) }
         ensures late { IsErrOf result StoreFault.Time → 2 ^ 63 ≤ time_after (get text_order self.old.replica.rows key) now }
         ensures faults { IfErr result (λ why. why ≢ StoreFault.Behind → IsUnwritten why) }
 
         // Refused, the rows in memory stay, and the file's too, but for `Behind`.
         ensures memory { OnErr result (self.new.replica ≡ self.old.replica) }
-        ensures refused { IsCommitted S.Store self.old.conn → StaysUnlessBehind S.Store self.old.conn self.new.conn result }
+        ensures refused { StaysUnlessBehind S.Store self.old.log self.new.log result }
+        ensures steady { IsSteady S.Store self.old.log self.new.log }
 
-        // A crash leaves what it could leave before, or a database with the one row more.
-        ensures crash { LeavesOfStore S.Store self.old.conn self.new.conn (HasWrite self.old now key value) }
+        // A crash leaves what it could leave before, or trees with the one row too.
+        ensures crash { Leaves S.Store self.old.log self.new.log (HasWrite self.old now key value) }
     {
         let time = self.later_time(&key, now)?;
         let writer = self.writer.clone()?;
@@ -224,9 +211,7 @@ impl<S: Alter + Drop> Store<S> {
             writer,
             value,
         };
-        add_entry(&mut self.conn, &mut self.replica, key, register)?;
-        self.rows = self.rows.wrapping_add(1);
-        Ok(())
+        add_entry(self.alloc, &mut self.log, &mut self.replica, key, register)
     }
 
     /// Those of a peer's entries that are later than what their keys have: what [`join`](Store::join) adds.
@@ -251,35 +236,34 @@ impl<S: Alter + Drop> Store<S> {
     /// # Errors
     ///
     /// [`StoreFault::Future`] where an entry has a time that is more than a day ahead of the clock; [`StoreFault::Time`] where the database
-    /// can't hold the time of one that is later; [`StoreFault::Underway`]; [`StoreFault::Behind`] where the file has the entries and memory
-    /// was refused for the rows in memory; and faults of the file. But for `Behind` all is as it was.
+    /// can't hold the time of one that is later; [`StoreFault::Behind`] where the file has the entries and memory was refused for the rows in
+    /// memory; and faults of the file. But for `Behind` all is as it was.
     pub fn join(&mut self, entries: Entries) -> Result<usize, StoreFault>
         ensures kept { KeepsInStep S.Store self.old self.new result }
         ensures joined { OnOk result (HasJoined self.old.replica.rows entries.items self.new.replica.rows) }
         ensures count { IfOk result (λ count. count ≡ length (later_entries self.old.replica.rows entries.items)) }
         ensures settings { StaysSet self.old self.new }
-        ensures added { Makes S.Store self.old.conn self.new.conn result (HasNews self.old entries.items) }
+        ensures added { Makes S.Store self.old.log self.new.log result (HasNews self.old entries.items) }
         ensures late { IsErrOf result StoreFault.Time → HaveLateTime (later_entries self.old.replica.rows entries.items) }
         ensures faults { IfErr result IsJoinFault }
         ensures timely { OnOk result (AreTimely self.old.latest entries.items) }
         ensures future { IsErrOf result StoreFault.Future ↔ ¬ AreTimely self.old.latest entries.items }
-        ensures underway { IsErrOf result StoreFault.Underway → IsUnderway S.Store self.old.conn }
         ensures untouched { IsErrOf result StoreFault.Future → self.new ≡ self.old }
 
         // Refused, the rows in memory stay, and the file's too, but for `Behind`.
         ensures memory { IfErr result (λ why. why ≢ StoreFault.Behind → self.new.replica ≡ self.old.replica) }
-        ensures refused { HasStore S.Store self.old.conn → StaysUnlessBehind S.Store self.old.conn self.new.conn result }
+        ensures refused { StaysUnlessBehind S.Store self.old.log self.new.log result }
+        ensures steady { IsSteady S.Store self.old.log self.new.log }
 
-        // A crash leaves what it could leave before, or a database with a row more for each entry that is later, and no other.
-        ensures crash { LeavesOfStore S.Store self.old.conn self.new.conn (HasNews self.old entries.items) }
+        // A crash leaves what it could leave before, or trees with a row too for each entry that is later, and no other.
+        ensures crash { Leaves S.Store self.old.log self.new.log (HasNews self.old entries.items) }
     {
         let news = self.news(entries)?;
         let count = news.len();
         if count == 0 {
             return Ok(0);
         }
-        add_entries(&mut self.conn, &mut self.replica, news)?;
-        self.rows = self.rows.wrapping_add(count);
+        add_entries(self.alloc, &mut self.log, &mut self.replica, news)?;
         Ok(count)
     }
 
@@ -287,23 +271,21 @@ impl<S: Alter + Drop> Store<S> {
     ///
     /// # Errors
     ///
-    /// [`StoreFault::Underway`] where a transaction is open, and faults of the file, by which all is as it was.
+    /// [`StoreFault::Time`] where the database can't hold the time of a row, and faults of the file, by which all is as it was.
     pub fn compact(&mut self) -> Result<(), StoreFault>
         ensures kept { KeepsInStep S.Store self.old self.new result }
         ensures same { self.new.replica ≡ self.old.replica }
         ensures settings { StaysSet self.old self.new }
-        ensures compacted { Makes S.Store self.old.conn self.new.conn result (HasEntriesInstead self.old.replica.rows) }
+        ensures compacted { Makes S.Store self.old.log self.new.log result (HasEntriesInstead self.old.replica.rows) }
         ensures late { IsErrOf result StoreFault.Time → HaveLateTime self.old.replica.rows }
-        ensures faults { IfErr result (λ why. why ≢ StoreFault.Underway → IsUnwritten why) }
-        ensures underway { IsErrOf result StoreFault.Underway → IsUnderway S.Store self.old.conn }
-        ensures refused { HasStore S.Store self.old.conn → StaysInErr S.Store self.old.conn self.new.conn result }
+        ensures faults { IfErr result IsUnwritten }
+        ensures refused { StaysInErr S.Store self.old.log self.new.log result }
+        ensures steady { IsSteady S.Store self.old.log self.new.log }
 
-        // A crash leaves what it could leave before, or a database with one row for each key, the one in memory.
-        ensures crash { LeavesOfStore S.Store self.old.conn self.new.conn (HasEntriesInstead self.old.replica.rows) }
+        // A crash leaves what it could leave before, or trees with one row for each key, the one in memory.
+        ensures crash { Leaves S.Store self.old.log self.new.log (HasEntriesInstead self.old.replica.rows) }
     {
-        rewrite(&mut self.conn, &self.replica)?;
-        self.rows = self.replica.rows().len();
-        Ok(())
+        rewrite(self.alloc, &mut self.log, &self.replica)
     }
 
     /// The digest of the root page, in memory of its own. Pages that lack a digest get it.
@@ -315,18 +297,17 @@ impl<S: Alter + Drop> Store<S> {
         self.replica.root_hash().clone()
     }
 
-    /// The connection, to be closed.
-    pub fn into_connection(self) -> Connection<S>
-        ensures { result ≡ self.conn }
+    /// The log, to be closed.
+    pub fn into_log(self) -> Log<S>
+        ensures { result ≡ self.log }
     {
         let Store {
             alloc: _,
-            conn,
+            log,
             writer: _,
             replica: _,
-            rows: _,
             latest: _,
         } = self;
-        conn
+        log
     }
 }

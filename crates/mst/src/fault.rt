@@ -2,9 +2,11 @@
 use merkle_store::pulling::PullFault;
 use merkle_store::wire::WireFault;
 use mst_commands::Fault;
-use sqlite::Error;
+use sqlite_std_file::OpenError;
+use sqlite_trees::error::StoreError;
 use std::alloc::AllocError;
 use std::{fmt, io};
+use store_file::OpenFault;
 use store_table::StoreFault;
 
 /// Why the program ends early.
@@ -12,6 +14,10 @@ use store_table::StoreFault;
 pub enum Failure {
     /// A command on the file failed.
     Command(Fault),
+    /// The operating system didn't open the file.
+    Path(OpenError),
+    /// The file wasn't opened or made.
+    File(OpenFault),
     /// A pull failed.
     Pull(PullFault),
     /// Commands of a shell failed, each with its line on standard error.
@@ -30,9 +36,24 @@ impl From<StoreFault> for Failure {
     }
 }
 
-impl From<Error> for Failure {
-    fn from(error: Error) -> Self {
-        Failure::Command(Fault::Store(StoreFault::Database(error)))
+impl From<StoreError> for Failure {
+    fn from(error: StoreError) -> Self {
+        Failure::Command(Fault::Store(StoreFault::from(error)))
+    }
+}
+
+impl From<OpenError> for Failure {
+    fn from(error: OpenError) -> Self {
+        match error {
+            OpenError::Busy => Failure::Command(Fault::InUse),
+            other => Failure::Path(other),
+        }
+    }
+}
+
+impl From<OpenFault> for Failure {
+    fn from(fault: OpenFault) -> Self {
+        Failure::File(fault)
     }
 }
 
@@ -64,6 +85,8 @@ impl fmt::Display for Failure {
     fn fmt<W: fmt::Write>(&self, f: &mut fmt::Formatter<W>) -> fmt::Result {
         match self {
             Failure::Command(fault) => write!(f, "{fault}"),
+            Failure::Path(error) => write!(f, "{error}"),
+            Failure::File(fault) => write!(f, "{fault}"),
             Failure::Pull(fault) => write!(f, "{fault}"),
             Failure::Lines(count) => write!(f, "{count} commands failed"),
         }

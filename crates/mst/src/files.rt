@@ -1,25 +1,32 @@
 //! The files of stores.
+ghost use Rattle.std.specs.Prelude.{IfOk, IsTrue};
+
 use crate::fault::Failure;
 use mst_commands::Fault;
-use sqlite::{Alter, Connection, Error, ErrorCode, File, FileStore};
+use sqlite_disk::{Disk, Files};
+use sqlite_std_file::{File, OpenError, Unknown};
+use sqlite_store::FileStore;
+use sqlite_trees::store::Store;
 use std::fs;
 use std::hash::{BuildHasher, RandomState};
 use std::thread::sleep;
 use std::time::Duration;
+use store_file::Unsure;
 use store_table::format::create;
+use store_table::log::Log;
 
-/// A database in a file.
-pub type FileConnection = Connection<FileStore<File>>;
+/// The trees of a store's file.
+pub type FileTrees = FileStore<Unsure<File>>;
 
-/// A database whose files can be closed. What runs over any such one has no file to drop, whose many parts make a function slow to prove.
+/// A log whose file can be closed. What runs over any such one has no file to drop, whose many parts make a function slow to prove.
 pub trait Closing: Sized + Drop {
-    /// Closes the files.
-    fn close_all(self) -> Result<(), Error>;
+    /// Closes the file.
+    fn close_all(self) -> Result<(), Failure>;
 }
 
-impl Closing for Connection<FileStore<File>> {
-    fn close_all(self) -> Result<(), Error> {
-        self.close()
+impl Closing for Log<FileTrees> {
+    fn close_all(self) -> Result<(), Failure> {
+        Ok(store_file::close(self.into_trees())?)
     }
 }
 
@@ -34,25 +41,46 @@ fn is_there(rt: &HostRuntime, path: &str) -> Result<bool, Fault> {
 /// How many times a second a file is tried that another process has.
 const TRIES: u64 = 20;
 
-/// Whether a file wasn't opened since another process has it.
-fn is_in_use(opened: &Result<FileConnection, Error>) -> bool {
-    matches!(opened, Err(Error::SqliteFailure(ErrorCode::DatabaseBusy)))
+/// The file of a store and its log, as files of which nothing is known.
+fn files_at(rt: &HostRuntime, path: &str) -> Result<Files<Unsure<File>>, OpenError>
+    ensures log { IfOk result (λ files. IsTrue (⟦<Unsure<File> as Disk>⟧.is_usable files.log)) }
+    ensures db { IfOk result (λ files. IsTrue (⟦<Unsure<File> as Disk>⟧.is_usable files.db)) }
+{
+    let files = sqlite_std_file::open(rt, path, Unknown)?;
+    Ok(Files {
+        log: Unsure::new(files.log),
+        db: Unsure::new(files.db),
+    })
 }
 
-/// Opens a file that is there. Where another process has it, it is tried again for so many seconds.
-pub fn open_file(rt: &HostRuntime, path: &str, seconds: u64) -> Result<FileConnection, Failure> {
-    if !is_there(rt, path)? {
-        return Err(Failure::Command(Fault::NoStore));
-    }
-    let mut opened = Connection::open(rt, path);
-    for _ in 0..seconds.saturating_mul(TRIES) {
+/// Whether a file wasn't opened since another process has it.
+fn is_in_use(opened: &Result<Files<Unsure<File>>, OpenError>) -> bool {
+    matches!(opened, Err(OpenError::Busy))
+}
+
+/// The files, once no other process has them. They are tried again for so many seconds.
+fn wait_for(rt: &HostRuntime, path: &str, seconds: u64) -> Result<Files<Unsure<File>>, OpenError>
+    ensures log { IfOk result (λ files. IsTrue (⟦<Unsure<File> as Disk>⟧.is_usable files.log)) }
+    ensures db { IfOk result (λ files. IsTrue (⟦<Unsure<File> as Disk>⟧.is_usable files.db)) }
+{
+    let mut opened = files_at(rt, path);
+    'tries: for _ in 0..seconds.saturating_mul(TRIES) {
         if !is_in_use(&opened) {
             break;
         }
         sleep(rt, Duration::from_millis(1_000 / TRIES));
-        opened = Connection::open(rt, path);
+        opened = files_at(rt, path);
     }
-    Ok(opened?)
+    opened
+}
+
+/// Opens a file that is there. Where another process has it, it is tried again for so many seconds.
+pub fn open_file(rt: &HostRuntime, path: &str, seconds: u64) -> Result<Log<FileTrees>, Failure> {
+    if !is_there(rt, path)? {
+        return Err(Failure::Command(Fault::NoStore));
+    }
+    let files = wait_for(rt, path, seconds)?;
+    Ok(Log::over(store_file::open(rt.alloc(), files)?))
 }
 
 /// The name, or a random one.
@@ -67,14 +95,14 @@ fn name_of_copy(rt: &HostRuntime, name: Option<&str>) -> Result<String, Failure>
     Ok(format!(in rt.alloc(); "{number:016x}")?)
 }
 
-/// Makes a store in an empty database, and closes it.
-fn create_on<S: Alter + Drop>(conn: Connection<S>, writer: &str) -> Result<(), Failure>
+/// Makes a store in tables without rows, and closes it.
+fn create_on<S: Store + Drop>(rt: &HostRuntime, log: Log<S>, writer: &str) -> Result<(), Failure>
 where
-    Connection<S>: Closing,
+    Log<S>: Closing,
 {
-    let mut conn = conn;
-    let made = create(&mut conn, writer);
-    conn.close_all()?;
+    let mut log = log;
+    let made = create(rt.alloc(), &mut log, writer);
+    log.close_all()?;
     Ok(made?)
 }
 
@@ -84,5 +112,7 @@ pub fn make_store(rt: &HostRuntime, path: &str, writer: Option<&str>) -> Result<
         return Err(Failure::Command(Fault::Exists));
     }
     let writer = name_of_copy(rt, writer)?;
-    create_on(Connection::open(rt, path)?, writer.as_str())
+    let files = files_at(rt, path)?;
+    let log = Log::over(store_file::create(rt.alloc(), files)?);
+    create_on(rt, log, writer.as_str())
 }

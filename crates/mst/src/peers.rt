@@ -4,7 +4,7 @@ use merkle_store::Store;
 use merkle_store::framing::{MOST_BYTES, Unwatched, Watch};
 use merkle_store::pulling::{self, Brought};
 use mst_commands::lines::write_keys;
-use sqlite::Alter;
+use sqlite_trees::store::Store as Trees;
 use std::io::{BufWriter, Write};
 
 /// How many bytes come between two lines on standard error.
@@ -51,7 +51,7 @@ pub fn tell(rt: &HostRuntime, brought: &Brought) -> Result<(), Failure> {
 }
 
 /// Answers a peer.
-pub fn serve<S: Alter + Drop>(rt: &HostRuntime, store: &mut Store<S>) -> Result<(), Failure> {
+pub fn serve<S: Trees + Drop>(rt: &HostRuntime, store: &mut Store<S>) -> Result<(), Failure> {
     let mut lines = lines_of(rt);
     let _traffic = pulling::serve(
         store,
@@ -64,7 +64,7 @@ pub fn serve<S: Alter + Drop>(rt: &HostRuntime, store: &mut Store<S>) -> Result<
 }
 
 /// Brings what a peer has.
-pub fn pull<S: Alter + Drop>(rt: &HostRuntime, store: &mut Store<S>) -> Result<Brought, Failure> {
+pub fn pull<S: Trees + Drop>(rt: &HostRuntime, store: &mut Store<S>) -> Result<Brought, Failure> {
     let mut lines = lines_of(rt);
     Ok(pulling::pull(
         store,
@@ -76,7 +76,7 @@ pub fn pull<S: Alter + Drop>(rt: &HostRuntime, store: &mut Store<S>) -> Result<B
 }
 
 /// Tells on standard error which keys a pull would bring, a line each.
-pub fn diff<S: Alter + Drop>(rt: &HostRuntime, store: &mut Store<S>) -> Result<(), Failure> {
+pub fn diff<S: Trees + Drop>(rt: &HostRuntime, store: &mut Store<S>) -> Result<(), Failure> {
     let news = pulling::look(
         store,
         &mut rt.stdin(),

@@ -4,8 +4,9 @@ use crate::tasks::run_open;
 use mst_commands::Fault;
 use mst_words::verb::{HELP, verb_of};
 use mst_words::{Given, NoWords, Verb, given_of, words_of};
-use sqlite::{Alter, Connection};
+use sqlite_trees::store::Store;
 use store_table::StoreFault;
+use store_table::log::Log;
 
 /// Says on standard error that a line is none.
 fn refuse(rt: &HostRuntime, why: &str) -> Result<bool, Failure> {
@@ -30,9 +31,9 @@ fn refusal_of(verb: Verb, given: &Given<'_>) -> Option<&'static str> {
 }
 
 /// Runs a command, and answers whether it succeeded.
-fn run_verb<S: Alter>(
+fn run_verb<S: Store>(
     rt: &HostRuntime,
-    conn: &mut Connection<S>,
+    log: &mut Log<S>,
     writer: &str,
     verb: Verb,
     words: &[String],
@@ -47,7 +48,7 @@ fn run_verb<S: Alter>(
     if let Some(why) = refusal_of(verb, &given) {
         return refuse(rt, why);
     }
-    match run_open(rt, conn, writer, verb, &given) {
+    match run_open(rt, log, writer, verb, &given) {
         Ok(()) => Ok(true),
         Err(failure) => {
             eprintln!(rt; "mst: {failure}")?;
@@ -57,9 +58,9 @@ fn run_verb<S: Alter>(
 }
 
 /// Runs a line, and answers whether it succeeded.
-fn run_line<S: Alter>(
+fn run_line<S: Store>(
     rt: &HostRuntime,
-    conn: &mut Connection<S>,
+    log: &mut Log<S>,
     writer: &str,
     line: &str,
 ) -> Result<bool, Failure> {
@@ -78,7 +79,7 @@ fn run_line<S: Alter>(
         return Ok(true);
     }
     match verb_of(name.as_str()) {
-        Some(verb) => run_verb(rt, conn, writer, verb, rest),
+        Some(verb) => run_verb(rt, log, writer, verb, rest),
         None => refuse(rt, "the shell has no such command"),
     }
 }
@@ -88,15 +89,15 @@ fn run_line<S: Alter>(
 /// # Errors
 ///
 /// [`Failure::Lines`] where commands failed: each said why on standard error, and the others were carried out.
-pub fn run_lines<S: Alter>(
+pub fn run_lines<S: Store>(
     rt: &HostRuntime,
-    conn: &mut Connection<S>,
+    log: &mut Log<S>,
     writer: &str,
 ) -> Result<(), Failure> {
     let mut failed = 0u64;
     for line in rt.lines(rt.alloc()) {
         let line = line?;
-        if !run_line(rt, conn, writer, line.as_str())? {
+        if !run_line(rt, log, writer, line.as_str())? {
             failed = failed.saturating_add(1);
         }
     }

@@ -8,47 +8,48 @@ use merkle_store::upkeep::read_replica;
 use mst_commands::clock::now;
 use mst_commands::run;
 use mst_words::{Given, Verb};
-use sqlite::{Alter, Connection};
+use sqlite_trees::store::Store as Trees;
 use std::fs;
 use store_table::format::recognise;
+use store_table::log::Log;
 
 /// The root hash of what the file holds.
-fn root_of<S: Alter>(rt: &HostRuntime, conn: &mut Connection<S>) -> Result<RootHash, Failure> {
-    let (mut replica, _rows) = read_replica(rt.alloc(), conn)?;
+fn root_of<S: Trees>(rt: &HostRuntime, log: &mut Log<S>) -> Result<RootHash, Failure> {
+    let mut replica = read_replica(rt.alloc(), log)?;
     Ok(replica.root_hash().clone()?)
 }
 
-/// Runs a command on an open database of a store that writes by this name.
-pub fn run_open<S: Alter>(
+/// Runs a command on an open log of a store that writes by this name.
+pub fn run_open<S: Trees>(
     rt: &HostRuntime,
-    conn: &mut Connection<S>,
+    log: &mut Log<S>,
     writer: &str,
     verb: Verb,
     given: &Given<'_>,
 ) -> Result<(), Failure> {
     if verb == Verb::Root {
-        println!(rt; "{}", root_of(rt, conn)?)?;
+        println!(rt; "{}", root_of(rt, log)?)?;
         return Ok(());
     }
-    run::run(rt, conn, writer, verb, given)?;
+    run::run(rt, log, writer, verb, given)?;
     if verb == Verb::Status {
-        println!(rt; "root {}", root_of(rt, conn)?)?;
+        println!(rt; "root {}", root_of(rt, log)?)?;
     }
     Ok(())
 }
 
-/// Runs a command that takes the file by a connection that is lent.
-fn run_lent<S: Alter>(
+/// Runs a command that takes the file by a log that is lent.
+fn run_lent<S: Trees>(
     rt: &HostRuntime,
-    conn: &mut Connection<S>,
+    log: &mut Log<S>,
     verb: Verb,
     given: &Given<'_>,
 ) -> Result<(), Failure> {
-    let writer = recognise(conn)?;
+    let writer = recognise(rt.alloc(), log)?;
     if verb == Verb::Shell {
-        return shell::run_lines(rt, conn, writer.as_str());
+        return shell::run_lines(rt, log, writer.as_str());
     }
-    run_open(rt, conn, writer.as_str(), verb, given)
+    run_open(rt, log, writer.as_str(), verb, given)
 }
 
 /// The time that a store is opened at: entries of a peer of up to a day behind it are taken.
@@ -61,16 +62,16 @@ fn time_of(rt: &HostRuntime, given: &Given<'_>) -> Result<u64, Failure> {
 }
 
 /// Runs a command of a peer on a file that is opened at this time.
-fn run_peer<S: Alter + Drop>(
+fn run_peer<S: Trees + Drop>(
     rt: &HostRuntime,
-    conn: Connection<S>,
+    log: Log<S>,
     verb: Verb,
     latest: u64,
 ) -> Result<(), Failure>
 where
-    Connection<S>: Closing,
+    Log<S>: Closing,
 {
-    let mut store = merkle_store::store::open(rt.alloc(), conn, latest)?;
+    let mut store = merkle_store::store::open(rt.alloc(), log, latest)?;
     if verb == Verb::Pull {
         return run_pull(rt, store);
     }
@@ -79,37 +80,37 @@ where
     } else {
         peers::diff(rt, &mut store)
     };
-    store.into_connection().close_all()?;
+    store.into_log().close_all()?;
     done
 }
 
 /// Brings what a peer has, and says what that was once the file is closed.
-fn run_pull<S: Alter + Drop>(rt: &HostRuntime, store: Store<S>) -> Result<(), Failure>
+fn run_pull<S: Trees + Drop>(rt: &HostRuntime, store: Store<S>) -> Result<(), Failure>
 where
-    Connection<S>: Closing,
+    Log<S>: Closing,
 {
     let mut store = store;
     let pulled = peers::pull(rt, &mut store);
-    store.into_connection().close_all()?;
+    store.into_log().close_all()?;
     peers::tell(rt, &pulled?)
 }
 
-/// Runs a command on a database that is open, and closes it.
-fn run_on<S: Alter + Drop>(
+/// Runs a command on a log that is open, and closes its file.
+fn run_on<S: Trees + Drop>(
     rt: &HostRuntime,
-    conn: Connection<S>,
+    log: Log<S>,
     verb: Verb,
     given: &Given<'_>,
 ) -> Result<(), Failure>
 where
-    Connection<S>: Closing,
+    Log<S>: Closing,
 {
-    let mut conn = conn;
+    let mut log = log;
     if let Verb::Serve | Verb::Pull | Verb::Diff = verb {
-        return run_peer(rt, conn, verb, time_of(rt, given)?);
+        return run_peer(rt, log, verb, time_of(rt, given)?);
     }
-    let done = run_lent(rt, &mut conn, verb, given);
-    conn.close_all()?;
+    let done = run_lent(rt, &mut log, verb, given);
+    log.close_all()?;
     done
 }
 

@@ -12,7 +12,7 @@ use Rattle.csv.specs.declared.reader.Trim.TheVariants as trim
 use Rattle.csv.specs.declared.writer.Writer.{Writer}
 use Rattle.csv.proofs.ReadFacts.{rows-end, rows-more}
 use Rattle.store_table.specs.declared.register.Register.{Register}
-use Rattle.mst_commands.specs.Records.{field_or_empty, SaysEntry, SayEntries, HasRead, AreAll, ReadsOne, WritesRecords}
+use Rattle.mst_commands.specs.Records.{field_or_empty, SaysEntry, SayEntries, HasRead, AreAll, ReadsOne, HasWritten, WritesRecords}
 
 -- the fields of a record of two
 pub two_fields : (fields : List (List ℕ)) (x y : List ℕ) → length fields ≡ 2 → field_or_empty fields 0 ≡ x → field_or_empty fields 1 ≡ y → fields ≡ x ∷ y ∷ []
@@ -110,3 +110,12 @@ module _ {W : Type 0} (contents : W → Option (List ℕ)) where
       (subst (λ buf. Appends (append_known (contents out) buf) (contents last) text) none
       (subst (λ w. Appends (append_known (contents w) (writer_pending first)) (contents last) text) under
       (Appends-kept _ _ _ text wrote kept)))
+
+  -- a record behind those that were written
+  pub written_more : (out : W) (before after : Writer W) (text more all : List ℕ) → HasWritten contents out before text → WritesRecords contents before after more → text ++ more ≡ all → HasWritten contents out after all
+  written_more out before after text more all had writes is =
+      (had.0, had.1, subst (WritesRecords contents had.0 after) is (writes_then had.0 before after text more had.2 writes))
+
+  -- what was written is behind what the output had
+  pub written_out : (out last : W) (writer : Writer W) (text : List ℕ) → HasWritten contents out writer text → Keeps (text_written contents writer) (contents last) → Appends (contents out) (contents last) text
+  written_out out last writer text had kept = written_all out last had.0 writer text had.1.under had.1.empty (had.2 had.1.before).1 kept

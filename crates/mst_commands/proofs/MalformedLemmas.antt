@@ -27,6 +27,7 @@ ends-for (fault.Store why) f g h = tt
 ends-for fault.Device f g h = tt
 ends-for fault.NoStore f g h = absurd h
 ends-for fault.Exists f g h = absurd h
+ends-for fault.InUse f g h = absurd h
 ends-for fault.NoKey f g h = absurd h
 ends-for (fault.TooLong what) f g h = absurd h
 ends-for fault.System f g h = absurd h

@@ -1,37 +1,45 @@
 -- Writes by the writer of a name, and imports.
-use Rattle.std.proofs.Common.{◌≡◌, ℕ, List, map, Option, IfSome, is_some, string_bytes, subst}
+use Rattle.std.proofs.Common.{◌≡◌, ◌⊎◌, inl, inr, ℕ, List, map, Option, IfSome, is_some, string_bytes, subst, arith}
 use Rattle.key_order.specs.Text.{Text as Key}
-use Rattle.sqlite.specs.Effect.{Database}
-use Rattle.sqlite.specs.State.{State, HasCleanDisk, Survives}
-use Rattle.sqlite.proofs.StateLemmas.{survives_weaker, survives_then}
-use Rattle.store_table.specs.Changes.{HasMore, AreOf}
+use Rattle.sqlite_trees.specs.declared.store.Store.{Ghosts}
+use Rattle.sqlite_trees.specs.Tree.{Trees}
+use Rattle.store_table.specs.Changes.{HasMore}
 use Rattle.store_table.specs.Entries.{entry_row}
 use Rattle.store_table.specs.Latest.{WritesOver}
+use Rattle.store_table.specs.Logs.{IsClean, IsSteady, Leaves, LeavesNoMore, trees_of}
 use Rattle.store_table.specs.declared.register.Register.{Register}
 use Rattle.mst_commands.specs.Imports.{AddsOf, Imports}
 use Rattle.mst_commands.specs.Records.{HasEntries}
 use Rattle.mst_commands.specs.Writes.{WritesBy}
 
--- a write by a writer of this name
-pub by_name : (key name : List ℕ) (writer : Key) (now : ℕ) (value : Option Key) (before : Database) (old new : State) → string_bytes writer ≡ name
-    → Survives old new (AreOf (WritesOver key writer now value before)) → Survives old new (AreOf (WritesBy key name now value before))
-by_name key name writer now value before old new is s =
-    survives_weaker old new (AreOf (WritesOver key writer now value before)) (AreOf (WritesBy key name now value before)) (λ clean trees may. (may.0, (writer, is, may.1), may.2)) s
+-- a crash in a write by a writer of this name
+pub by_name : {S : Type 0} (g : Ghosts S) (key name : List ℕ) (writer : Key) (now : ℕ) (value : Option Key) (old new : S) → string_bytes writer ≡ name
+    → Leaves g old new (WritesOver key writer now value) → Leaves g old new (WritesBy key name now value)
+by_name g key name writer now value old new is leaves trees left = by (leaves trees left)
+  where
+    by : (IsClean g old × WritesOver key writer now value (trees_of g old) trees) ⊎ g.recovers old trees → (IsClean g old × WritesBy key name now value (trees_of g old) trees) ⊎ g.recovers old trees
+    by (inl at) = inl (at.0, (writer, is, at.1))
+    by (inr r) = inr r
 
 module _ (text : Option (List ℕ)) (log : Option ℕ) (name : List ℕ) (now : ℕ) (came added : List (Key × Register)) (read : IfSome text (λ bytes. HasEntries (is_some log) bytes came)) where
-  -- rows that are added to a database that was only read since
-  pub imported : (old mid new : Database) → mid ≡ old → AddsOf log name now old.trees came added → HasMore (map entry_row added) mid new → Imports text log name now old new
+  -- rows that are added to trees that were only read since
+  pub imported : (old mid new : Trees) → mid ≡ old → AddsOf log name now old came added → HasMore (map entry_row added) mid new → Imports text log name now old new
   imported old mid new same chosen more = record {
     came = came;
     added = added;
     read = read;
     chosen = chosen;
-    more = subst (λ (d : Database). HasMore (map entry_row added) d new) same more;
+    more = subst (λ (t : Trees). HasMore (map entry_row added) t new) same more;
   }
 
   -- a crash leaves these rows, or what it could leave before
-  pub import_survives : (old mid new : State) → (HasCleanDisk new → (mid.now ≡ old.now) × AddsOf log name now old.now.trees came added) → Survives old mid (λ _. ⊥)
-      → Survives mid new (AreOf (HasMore (map entry_row added) mid.now)) → Survives old new (AreOf (Imports text log name now old.now))
-  import_survives old mid new told one two =
-      survives_then old mid new (λ _. ⊥) (AreOf (HasMore (map entry_row added) mid.now)) (AreOf (Imports text log name now old.now)) (λ _ db none. absurd none)
-      (λ clean db made. let t = told clean in (made.0, imported old.now mid.now made.0 t.0 t.1 made.1, made.2)) one two
+  pub import_leaves : {S : Type 0} (g : Ghosts S) (old mid new : S) → IsSteady g old mid → (IsClean g mid → AddsOf log name now (trees_of g old) came added)
+      → (IsClean g mid → trees_of g mid ≡ trees_of g old) → LeavesNoMore g old mid → Leaves g mid new (HasMore (map entry_row added)) → Leaves g old new (Imports text log name now)
+  import_leaves g old mid new steady chosen same no_more leaves trees left = by (leaves trees left)
+    where
+      first : IsClean g mid → IsClean g old
+      first clean = omega (arith, steady.clean, clean)
+
+      by : (IsClean g mid × HasMore (map entry_row added) (trees_of g mid) trees) ⊎ g.recovers mid trees → (IsClean g old × Imports text log name now (trees_of g old) trees) ⊎ g.recovers old trees
+      by (inl at) = inl (first at.0, imported (trees_of g old) (trees_of g mid) trees (same at.0) (chosen at.0) at.1)
+      by (inr r) = inr (no_more trees r)

@@ -4,8 +4,7 @@ use Rattle.std.specs.Global.{Vec}
 use Rattle.std.specs.List.{AllZip}
 use Rattle.key_order.specs.Text.{Text as Key, text_order}
 use Rattle.key_order.specs.Map.{get}
-use Rattle.sqlite.specs.Effect.{Database}
-use Rattle.sqlite.specs.Tree.{Trees}
+use Rattle.sqlite_trees.specs.Tree.{Trees}
 use Rattle.store_table.specs.Changes.{HasMore}
 use Rattle.store_table.specs.Entries.{entry_row}
 use Rattle.store_table.specs.Registers.{is_later, time_after}
@@ -43,9 +42,9 @@ AddsOf log name now trees came added =
     (rows last : List (Key × Register)) × HasLatestRows trees rows × AreLatest came last × AreAdded log name now rows last added
 
 -- the entries of a text, where it is known, that an import adds are rows more, and nothing else changes
-pub record Imports (text : Option (List ℕ)) (log : Option ℕ) (name : List ℕ) (now : ℕ) (old new : Database) : Type 0 where
+pub record Imports (text : Option (List ℕ)) (log : Option ℕ) (name : List ℕ) (now : ℕ) (old new : Trees) : Type 0 where
   pub came : List (Key × Register)
   pub added : List (Key × Register)
   pub read : IfSome text (λ bytes. HasEntries (is_some log) bytes came)
-  pub chosen : AddsOf log name now old.trees came added
+  pub chosen : AddsOf log name now old came added
   pub more : HasMore (map entry_row added) old new

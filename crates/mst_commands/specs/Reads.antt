@@ -2,8 +2,7 @@
 use Rattle.std.specs.Prelude.{◌≡◌, ℕ, List, [], ◌∷◌, ◌++◌, Option, Some, codes, length, string_bytes, count_by, decimal}
 use Rattle.std.specs.Io.KnownBytes.{Appends}
 use Rattle.key_order.specs.Text.{Text as Key}
-use Rattle.sqlite.specs.Effect.{Database}
-use Rattle.sqlite.specs.Tree.{Trees}
+use Rattle.sqlite_trees.specs.Tree.{Trees}
 use Rattle.store_table.specs.Entries.{HoldsEntries}
 use Rattle.store_table.specs.Latest.{IsLatestAt, text_of}
 use Rattle.store_table.specs.Rows.{HasLatestRows, says_text, is_removal, last_time}
@@ -18,35 +17,39 @@ abbrev pub IsTextAt : Trees → List ℕ → Option Key → Type 0
 IsTextAt trees key text = (found : Option Register) × IsLatestAt trees key found × (text ≡ text_of found)
 
 -- the text of the key, and a newline, was written
-abbrev pub WritesText : {W : Type 0} → List ℕ → (W → Option (List ℕ)) → W → W → Database → Type 0
-WritesText key contents old new db =
-    (text : Key) × IsTextAt db.trees key (Some text) × Appends (contents old) (contents new) (string_bytes text ++ 10 ∷ [])
+abbrev pub WritesText : {W : Type 0} → List ℕ → (W → Option (List ℕ)) → W → W → Trees → Type 0
+WritesText key contents old new trees =
+    (text : Key) × IsTextAt trees key (Some text) × Appends (contents old) (contents new) (string_bytes text ++ 10 ∷ [])
 
 -- the list of the latest rows of the table's entries was written
-abbrev pub WritesList : {W : Type 0} → Listing → (W → Option (List ℕ)) → W → W → Database → Type 0
-WritesList listing contents old new db =
-    (rows : List (Key × Register)) × HasLatestRows db.trees rows × Appends (contents old) (contents new) (list_of listing rows)
+abbrev pub WritesList : {W : Type 0} → Listing → (W → Option (List ℕ)) → W → W → Trees → Type 0
+WritesList listing contents old new trees =
+    (rows : List (Key × Register)) × HasLatestRows trees rows × Appends (contents old) (contents new) (list_of listing rows)
 
 -- how many of the latest rows say a text, and a newline, was written
-abbrev pub WritesCount : {W : Type 0} → (W → Option (List ℕ)) → W → W → Database → Type 0
-WritesCount contents old new db =
-    (rows : List (Key × Register)) × HasLatestRows db.trees rows × Appends (contents old) (contents new) (decimal (count_by says_text rows) ++ 10 ∷ [])
+abbrev pub WritesCount : {W : Type 0} → (W → Option (List ℕ)) → W → W → Trees → Type 0
+WritesCount contents old new trees =
+    (rows : List (Key × Register)) × HasLatestRows trees rows × Appends (contents old) (contents new) (decimal (count_by says_text rows) ++ 10 ∷ [])
 
 -- the latest rows of the table's entries were written as CSV
-abbrev pub WritesPairs : {W : Type 0} → (W → Option (List ℕ)) → W → Database → W → Type 0
-WritesPairs contents old db new =
-    (rows : List (Key × Register)) × HasLatestRows db.trees rows × Appends (contents old) (contents new) (pairs_text rows)
+abbrev pub WritesPairs : {W : Type 0} → (W → Option (List ℕ)) → W → Trees → W → Type 0
+WritesPairs contents old trees new =
+    (rows : List (Key × Register)) × HasLatestRows trees rows × Appends (contents old) (contents new) (pairs_text rows)
 
 -- the table's entries were written as CSV
-abbrev pub WritesLog : {W : Type 0} → (W → Option (List ℕ)) → W → Database → W → Type 0
-WritesLog contents old db new =
-    (entries : List (Key × Register)) × HoldsEntries db.trees entries × Appends (contents old) (contents new) (log_text entries)
+abbrev pub WritesLog : {W : Type 0} → (W → Option (List ℕ)) → W → Trees → W → Type 0
+WritesLog contents old trees new =
+    (entries : List (Key × Register)) × HoldsEntries trees entries × Appends (contents old) (contents new) (log_text entries)
 
 -- so many of the rows say a text, so many are removals, and this is the greatest time
 pub record HaveNumbers (rows : List (Key × Register)) (summary : Summary) : Type 0 where
   pub keys : summary.keys ≡ count_by says_text rows
   pub removed : summary.removed ≡ count_by is_removal rows
   pub last : summary.last ≡ last_time rows
+
+-- the numbers before a row make these with it
+abbrev pub SumsOn : Summary → Key × Register → Summary → Type 0
+SumsOn before row after = (rows : List (Key × Register)) → HaveNumbers rows before → HaveNumbers (rows ++ row ∷ []) after
 
 -- the numbers of the latest rows of the table's entries
 abbrev pub IsSummary : Trees → Summary → Type 0
@@ -59,6 +62,6 @@ status_text summary rows name =
     ++ (codes "\nlast write " ++ (decimal summary.last ++ (codes "\nwriter " ++ (name ++ codes "\n")))))))))
 
 -- the table's numbers and a name were written
-abbrev pub WritesStatus : {W : Type 0} → List ℕ → (W → Option (List ℕ)) → W → W → Database → Type 0
-WritesStatus name contents old new db =
-    (summary : Summary) × IsSummary db.trees summary × Appends (contents old) (contents new) (status_text summary (length (db.trees 0)) name)
+abbrev pub WritesStatus : {W : Type 0} → List ℕ → (W → Option (List ℕ)) → W → W → Trees → Type 0
+WritesStatus name contents old new trees =
+    (summary : Summary) × IsSummary trees summary × Appends (contents old) (contents new) (status_text summary (length (trees 0)) name)

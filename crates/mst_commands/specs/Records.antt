@@ -6,7 +6,7 @@ use Rattle.std.specs.Io.KnownBytes.{Appends}
 use Rattle.key_order.specs.Text.{Text as Key}
 use Rattle.csv.specs.Records.{field_at}
 use Rattle.csv.specs.Reading.{AreRecords, Reached, Ready, default_config, reader_config, reader_state, reader_trim, source_of, strip_bom}
-use Rattle.csv.specs.Writing.{row_text, default_writer, writer_setup, fields_written, has_written, text_written}
+use Rattle.csv.specs.Writing.{row_text, default_writer, writer_setup, writer_under, writer_pending, fields_written, has_written, text_written}
 use Rattle.csv.specs.declared.parser.State.TheVariants as st
 use Rattle.csv.specs.declared.reader.Reader.{Reader}
 use Rattle.csv.specs.declared.reader.Trim.TheVariants as trim
@@ -118,6 +118,16 @@ pub record IsBeforeRecord {W : Type 0} (writer : Writer W) : Type 0 where
 -- a writer that stood before a record has written these bytes, and stands before a record
 abbrev pub WritesRecords : {W : Type 0} → (W → Option (List ℕ)) → Writer W → Writer W → List ℕ → Type 0
 WritesRecords contents old new bytes = IsBeforeRecord old → IsBeforeRecord new × Appends (text_written contents old) (text_written contents new) bytes
+
+-- a writer was made over this output, and has written nothing
+pub record IsOver {W : Type 0} (out : W) (first : Writer W) : Type 0 where
+  pub before : IsBeforeRecord first
+  pub under : writer_under first ≡ out
+  pub empty : writer_pending first ≡ []
+
+-- a writer that was made over this output has written these bytes, and stands before a record
+abbrev pub HasWritten : {W : Type 0} → (W → Option (List ℕ)) → W → Writer W → List ℕ → Type 0
+HasWritten {W} contents out writer bytes = (first : Writer W) × IsOver out first × WritesRecords contents first writer bytes
 
 -- a writer that stood before a record has written one of these fields, and stands before a record
 abbrev pub WritesRecord : {W : Type 0} → (W → Option (List ℕ)) → Writer W → Writer W → List (List ℕ) → Type 0

@@ -4,7 +4,6 @@ ghost use Rattle.csv.specs.Reading.{error_kind};
 ghost use Rattle.mst_commands.specs.Malformed.{EndsFor, IsFailure, IsNoText};
 
 use csv::ErrorKind;
-use sqlite::{Error, ErrorCode};
 use std::alloc::{AllocError, AllocFailed};
 use std::{fmt, io};
 use store_table::StoreFault;
@@ -16,6 +15,8 @@ pub enum Fault {
     NoStore,
     /// There is a file already.
     Exists,
+    /// Another process has the file.
+    InUse,
     /// The key is not there.
     NoKey,
     /// A key or a value has more than 1 MiB.
@@ -41,17 +42,6 @@ impl From<StoreFault> for Fault {
 
     fn from(fault: StoreFault) -> Self {
         Fault::Store(fault)
-    }
-}
-
-impl From<Error> for Fault {
-    ghost use Rattle.store_table.specs.declared.fault.StoreFault.TheVariants.{Database};
-    ghost use Rattle.mst_commands.specs.declared.fault.Fault.TheVariants.{Store};
-
-    ghost from_gives = { λ error made. made ≡ Store (Database error) };
-
-    fn from(error: Error) -> Self {
-        Fault::Store(StoreFault::Database(error))
     }
 }
 
@@ -116,13 +106,12 @@ impl fmt::Display for Fault {
         match self {
             Fault::NoStore => f.write_str("there is no such file: mst init FILE makes a store"),
             Fault::Exists => f.write_str("there is a file already"),
+            Fault::InUse => f.write_str("the file is in use by another process"),
             Fault::NoKey => f.write_str("no such key"),
             Fault::TooLong(what) => write!(f, "{what} has more than 1 MiB"),
             Fault::NotText => f.write_str("standard input is no text in UTF-8"),
             Fault::NoHeader(header) => write!(f, "line 1 is not {header}: nothing is imported"),
             Fault::BadLine(line, why) => write!(f, "line {line}: {why}: nothing is imported"),
-            Fault::Store(StoreFault::Database(Error::SqliteFailure(ErrorCode::DatabaseBusy))) =>
-                f.write_str("the file is in use by another process"),
             Fault::Store(fault) => write!(f, "{fault}"),
             Fault::Device => f.write_str("standard input or output failed"),
             Fault::System => f.write_str("the clock or the source of randomness failed"),

@@ -1,8 +1,8 @@
 //! Keys and texts in lines.
-ghost use Rattle.std.specs.Prelude.{◌≡◌, is_some, flat_map, IfOk, IfErr, OnOk};
+ghost use Rattle.std.specs.Prelude.{◌≡◌, ◌-◌, [], ◌∷◌, length, is_some, flat_map, filter_map, IfOk, IfErr, OnOk};
 ghost use Rattle.std.specs.Io.KnownBytes.{Appends};
 ghost use Rattle.mst_commands.specs.Malformed.{IsFailure};
-ghost use Rattle.mst_commands.specs.Lines.{text_line, json_line, line_as, row_line, listed, list_of, key_line};
+ghost use Rattle.mst_commands.specs.Lines.{text_line, json_line, line_as, row_line, listed, lines_of, key_line};
 
 use crate::bounds::Listing;
 use crate::escape::{escape, json_string};
@@ -66,26 +66,26 @@ fn write_row<W: Write>(
     Ok(true)
 }
 
-/// Writes the lines of rows.
-pub fn write_rows<W: Write>(
+/// Writes the line of the next row where it is listed and as long as some may be, and answers how many may be listed then.
+pub fn write_next<W: Write>(
     alloc: Global,
     out: &mut W,
-    rows: &[(String, Register)],
+    row: &(String, Register),
     listing: &Listing<'_>,
-) -> Result<(), Fault>
-    ensures bytes { OnOk result (Appends (W.contents out.old) (W.contents out.new) (list_of listing.now rows.now)) }
+    left: u64,
+) -> Result<u64, Fault>
+    ensures left { IfOk result (λ after. after ≡ left - length (filter_map (listed listing.now.bounds) (row.now ∷ []))) }
+    ensures bytes { OnOk result (Appends (W.contents out.old) (W.contents out.new) (lines_of listing.now.bounds listing.now.json left (row.now ∷ []))) }
     ensures faults { IfErr result IsFailure }
 {
-    let mut left = listing.limit;
-    'rows: for row in rows {
-        if left == 0 {
-            return Ok(());
-        }
-        if write_row(alloc, out, row, listing)? {
-            left -= 1;
-        }
+    if left == 0 {
+        return Ok(0);
     }
-    Ok(())
+    if write_row(alloc, out, row, listing)? {
+        Ok(left - 1)
+    } else {
+        Ok(left)
+    }
 }
 
 /// Writes the keys of entries, a line each, as a list writes them.

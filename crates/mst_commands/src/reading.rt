@@ -1,22 +1,25 @@
 //! The commands that read.
-ghost use Rattle.std.specs.Prelude.{◌≡◌, ◌≢◌, ◌++◌, [], ◌∷◌, length, string_bytes, IfOk, IfErr, OnOk};
+ghost use Rattle.std.specs.Prelude.{◌≡◌, ◌≢◌, ◌+◌, if◌then◌else◌, ◌++◌, [], ◌∷◌, length, string_bytes, IfOk, IfErr, OnOk};
 ghost use Rattle.std.specs.Io.KnownBytes.{Appends};
-ghost use Rattle.store_table.specs.Connections.{HasStore, Finds, Shows, Refuses, StaysInOk, LeavesNoMore};
 ghost use Rattle.store_table.specs.Latest.{text_of as text_said};
+ghost use Rattle.store_table.specs.Logs.{Finds, Shows, Refuses, StaysInOk, StaysInErr, LeavesNoMore};
 ghost use Rattle.mst_commands.specs.Malformed.{IsFailure};
-ghost use Rattle.mst_commands.specs.Reads.{IsTextAt, WritesText, WritesList, WritesCount, WritesStatus, WritesPairs, WritesLog, IsSummary, status_text};
+ghost use Rattle.mst_commands.specs.Reads.{IsTextAt, WritesText, WritesList, WritesCount, WritesStatus, WritesPairs, WritesLog, IsSummary, SumsOn, status_text};
 
 use crate::bounds::Listing;
 use crate::fault::Fault;
-use crate::lines::write_rows;
+use crate::lines::write_next;
 use crate::log::write_log;
-use crate::records;
-use sqlite::{Alter, Connection};
+use crate::records::{begin_pairs, finish, write_row};
+use sqlite_trees::store::Store;
 use std::alloc::Global;
 use std::io::Write;
-use store_table::Register;
 use store_table::latest::find;
-use store_table::rows::{Summary, latest_rows, read_latest, read_log, summary_of};
+use store_table::log::Log;
+use store_table::reader::{begin, next_latest};
+use store_table::rows::Summary;
+use store_table::table::read_log;
+use store_table::{Register, StoreFault};
 
 /// What a register says: a text, or none where there is no register or a removal.
 fn said_by(found: Option<Register>) -> Option<String>
@@ -29,17 +32,13 @@ fn said_by(found: Option<Register>) -> Option<String>
 }
 
 /// The text of a key.
-fn text_of<S: Alter>(
-    alloc: Global,
-    conn: &mut Connection<S>,
-    key: &str,
-) -> Result<Option<String>, Fault>
-    ensures text { Finds S.Store conn.old conn.new result (λ db text. IsTextAt db.trees key.now text) }
+fn text_of<S: Store>(alloc: Global, log: &mut Log<S>, key: &str) -> Result<Option<String>, Fault>
+    ensures text { Finds S.Store log.old log.new result (λ trees text. IsTextAt trees key.now text) }
     ensures faults { IfErr result IsFailure }
-    ensures unchanged { HasStore S.Store conn.old → StaysInOk S.Store conn.old conn.new result }
-    ensures crash { HasStore S.Store conn.old → LeavesNoMore S.Store conn.old conn.new }
+    ensures unchanged { StaysInOk S.Store log.old log.new result }
+    ensures crash { LeavesNoMore S.Store log.old log.new }
 {
-    let found = find(alloc, conn, key)?;
+    let found = find(alloc, log, key)?;
     Ok(said_by(found))
 }
 
@@ -58,67 +57,107 @@ fn write_text<W: Write>(out: &mut W, text: &str) -> Result<(), Fault>
 /// # Errors
 ///
 /// [`Fault::NoKey`] where the key isn't there.
-pub fn get<S: Alter, W: Write>(
+pub fn get<S: Store, W: Write>(
     alloc: Global,
-    conn: &mut Connection<S>,
+    log: &mut Log<S>,
     out: &mut W,
     key: &str,
 ) -> Result<(), Fault>
-    ensures written { Shows S.Store conn.old conn.new result (WritesText key.now W.contents out.old out.new) }
-    ensures absent { Refuses S.Store conn.old conn.new result Fault.NoKey (λ db. IsTextAt db.trees key.now None) }
+    ensures written { Shows S.Store log.old log.new result (WritesText key.now W.contents out.old out.new) }
+    ensures absent { Refuses S.Store log.old log.new result Fault.NoKey (λ trees. IsTextAt trees key.now None) }
     ensures faults { IfErr result (λ why. why ≢ Fault.NoKey → IsFailure why) }
-    ensures unchanged { HasStore S.Store conn.old → StaysInOk S.Store conn.old conn.new result }
-    ensures crash { HasStore S.Store conn.old → LeavesNoMore S.Store conn.old conn.new }
+    ensures unchanged { StaysInOk S.Store log.old log.new result }
+    ensures crash { LeavesNoMore S.Store log.old log.new }
 {
-    let said = text_of(alloc, conn, key)?;
+    let said = text_of(alloc, log, key)?;
     match said {
         Some(text) => write_text(out, text.as_str()),
         None => Err(Fault::NoKey),
     }
 }
 
-/// Writes each key that the listing shows with its text, ascending by key.
-pub fn list<S: Alter, W: Write>(
+/// Writes each key that the listing shows with its text, ascending by key. It takes the time of reading all rows, and memory for a few.
+pub fn list<S: Store, W: Write>(
     alloc: Global,
-    conn: &mut Connection<S>,
+    log: &mut Log<S>,
     out: &mut W,
     listing: &Listing<'_>,
 ) -> Result<(), Fault>
-    ensures written { Shows S.Store conn.old conn.new result (WritesList listing.now W.contents out.old out.new) }
+    ensures written { Shows S.Store log.old log.new result (WritesList listing.now W.contents out.old out.new) }
     ensures faults { IfErr result IsFailure }
-    ensures unchanged { HasStore S.Store conn.old → StaysInOk S.Store conn.old conn.new result }
-    ensures crash { HasStore S.Store conn.old → LeavesNoMore S.Store conn.old conn.new }
+    ensures unchanged { StaysInOk S.Store log.old log.new result }
+    ensures crash { LeavesNoMore S.Store log.old log.new }
 {
-    let rows = read_latest(alloc, conn)?;
-    write_rows(alloc, out, &rows, listing)
+    let mut walk = begin(alloc, log)?;
+    let mut left = listing.limit;
+    'rows: for _ in 0..u64::MAX {
+        let Some(row) = next_latest(alloc, log, &mut walk)? else {
+            return Ok(());
+        };
+        left = write_next(alloc, out, &row, listing, left)?;
+    }
+    Err(Fault::Store(StoreFault::Malformed))
 }
 
-/// What the file holds, in numbers, and how many rows its table has.
-pub fn sum_up<S: Alter>(alloc: Global, conn: &mut Connection<S>) -> Result<(Summary, usize), Fault>
-    ensures numbers { Finds S.Store conn.old conn.new result (λ db sum. IsSummary db.trees sum.0) }
-    ensures rows { Finds S.Store conn.old conn.new result (λ db sum. sum.1 ≡ length (db.trees 0)) }
+/// A number, and one more where it is so.
+fn counted(number: usize, is_so: bool) -> Result<usize, Fault>
+    ensures count { IfOk result (λ more. more ≡ number + (if is_so then 1 else 0)) }
     ensures faults { IfErr result IsFailure }
-    ensures unchanged { HasStore S.Store conn.old → StaysInOk S.Store conn.old conn.new result }
-    ensures crash { HasStore S.Store conn.old → LeavesNoMore S.Store conn.old conn.new }
 {
-    let entries = read_log(alloc, conn)?;
-    let rows = entries.len();
-    let latest = latest_rows(entries);
-    Ok((summary_of(&latest), rows))
+    if !is_so {
+        return Ok(number);
+    }
+    match number.checked_add(1) {
+        Some(more) => Ok(more),
+        None => Err(Fault::Store(StoreFault::Malformed)),
+    }
+}
+
+/// The numbers of rows and of one more.
+fn summed(summary: &Summary, row: &(String, Register)) -> Result<Summary, Fault>
+    ensures more { IfOk result (SumsOn summary.now row.now) }
+    ensures faults { IfErr result IsFailure }
+{
+    let keys = counted(summary.keys, row.1.value.is_some())?;
+    let removed = counted(summary.removed, row.1.value.is_none())?;
+    Ok(Summary {
+        keys,
+        removed,
+        last: summary.last.max(row.1.time),
+    })
+}
+
+/// What the file holds, in numbers, and how many rows its table has. It takes the time of reading all rows, and memory for a few.
+pub fn sum_up<S: Store>(alloc: Global, log: &mut Log<S>) -> Result<(Summary, usize), Fault>
+    ensures numbers { Finds S.Store log.old log.new result (λ trees sum. IsSummary trees sum.0) }
+    ensures rows { Finds S.Store log.old log.new result (λ trees sum. sum.1 ≡ length (trees 0)) }
+    ensures faults { IfErr result IsFailure }
+    ensures unchanged { StaysInOk S.Store log.old log.new result }
+    ensures crash { LeavesNoMore S.Store log.old log.new }
+{
+    let mut walk = begin(alloc, log)?;
+    let mut summary = Summary {
+        keys: 0,
+        removed: 0,
+        last: 0,
+    };
+    'rows: for _ in 0..u64::MAX {
+        let Some(row) = next_latest(alloc, log, &mut walk)? else {
+            return Ok((summary, walk.count()));
+        };
+        summary = summed(&summary, &row)?;
+    }
+    Err(Fault::Store(StoreFault::Malformed))
 }
 
 /// Writes how many keys have a text, and a newline.
-pub fn count<S: Alter, W: Write>(
-    alloc: Global,
-    conn: &mut Connection<S>,
-    out: &mut W,
-) -> Result<(), Fault>
-    ensures written { Shows S.Store conn.old conn.new result (WritesCount W.contents out.old out.new) }
+pub fn count<S: Store, W: Write>(alloc: Global, log: &mut Log<S>, out: &mut W) -> Result<(), Fault>
+    ensures written { Shows S.Store log.old log.new result (WritesCount W.contents out.old out.new) }
     ensures faults { IfErr result IsFailure }
-    ensures unchanged { HasStore S.Store conn.old → StaysInOk S.Store conn.old conn.new result }
-    ensures crash { HasStore S.Store conn.old → LeavesNoMore S.Store conn.old conn.new }
+    ensures unchanged { StaysInOk S.Store log.old log.new result }
+    ensures crash { LeavesNoMore S.Store log.old log.new }
 {
-    let (summary, _rows) = sum_up(alloc, conn)?;
+    let (summary, _rows) = sum_up(alloc, log)?;
     let text = summary.keys.to_string(alloc)?;
     write_text(out, text.as_str())
 }
@@ -139,49 +178,57 @@ fn status_lines(alloc: Global, summary: &Summary, rows: usize, name: &str) -> Re
 }
 
 /// Writes the numbers of the file, a line each, and the name by which it writes.
-pub fn status<S: Alter, W: Write>(
+pub fn status<S: Store, W: Write>(
     alloc: Global,
-    conn: &mut Connection<S>,
+    log: &mut Log<S>,
     out: &mut W,
     name: &str,
 ) -> Result<(), Fault>
-    ensures written { Shows S.Store conn.old conn.new result (WritesStatus name.now W.contents out.old out.new) }
+    ensures written { Shows S.Store log.old log.new result (WritesStatus name.now W.contents out.old out.new) }
     ensures faults { IfErr result IsFailure }
-    ensures unchanged { HasStore S.Store conn.old → StaysInOk S.Store conn.old conn.new result }
-    ensures crash { HasStore S.Store conn.old → LeavesNoMore S.Store conn.old conn.new }
+    ensures unchanged { StaysInOk S.Store log.old log.new result }
+    ensures crash { LeavesNoMore S.Store log.old log.new }
 {
-    let (summary, rows) = sum_up(alloc, conn)?;
+    let (summary, rows) = sum_up(alloc, log)?;
     let text = status_lines(alloc, &summary, rows, name)?;
     out.write_all(text.as_bytes())?;
     Ok(())
 }
 
-/// Writes the keys that have a text, each with its text, as CSV, and hands back the output.
-pub fn export<S: Alter, W: Write + Drop>(
+/// Writes the keys that have a text, each with its text, as CSV, and hands back the output. It takes the time of reading all rows, and memory
+/// for a few.
+pub fn export<S: Store, W: Write + Drop>(
     alloc: Global,
-    conn: &mut Connection<S>,
+    log: &mut Log<S>,
     out: W,
 ) -> Result<W, Fault>
-    ensures written { Finds S.Store conn.old conn.new result (WritesPairs W.contents out) }
+    ensures written { Finds S.Store log.old log.new result (WritesPairs W.contents out) }
     ensures faults { IfErr result IsFailure }
-    ensures unchanged { HasStore S.Store conn.old → StaysInOk S.Store conn.old conn.new result }
-    ensures crash { HasStore S.Store conn.old → LeavesNoMore S.Store conn.old conn.new }
+    ensures unchanged { StaysInOk S.Store log.old log.new result }
+    ensures crash { LeavesNoMore S.Store log.old log.new }
 {
-    let rows = read_latest(alloc, conn)?;
-    records::write_rows(out, &rows)
+    let mut writer = begin_pairs(out)?;
+    let mut walk = begin(alloc, log)?;
+    'rows: for _ in 0..u64::MAX {
+        let Some(row) = next_latest(alloc, log, &mut walk)? else {
+            return finish(writer);
+        };
+        write_row(&mut writer, &row)?;
+    }
+    Err(Fault::Store(StoreFault::Malformed))
 }
 
 /// Writes the log as CSV, a record for each row of the table, and hands back the output.
-pub fn export_log<S: Alter, W: Write + Drop>(
+pub fn export_log<S: Store, W: Write + Drop>(
     alloc: Global,
-    conn: &mut Connection<S>,
+    log: &mut Log<S>,
     out: W,
 ) -> Result<W, Fault>
-    ensures written { Finds S.Store conn.old conn.new result (WritesLog W.contents out) }
+    ensures written { Finds S.Store log.old log.new result (WritesLog W.contents out) }
     ensures faults { IfErr result IsFailure }
-    ensures unchanged { HasStore S.Store conn.old → StaysInOk S.Store conn.old conn.new result }
-    ensures crash { HasStore S.Store conn.old → LeavesNoMore S.Store conn.old conn.new }
+    ensures unchanged { StaysInOk S.Store log.old log.new result }
+    ensures crash { LeavesNoMore S.Store log.old log.new }
 {
-    let entries = read_log(alloc, conn)?;
+    let entries = read_log(alloc, log)?;
     write_log(alloc, out, &entries)
 }

@@ -3,7 +3,7 @@ ghost use Rattle.std.specs.Prelude.{◌≡◌, ◌≢◌, ◌<◌, [], length, s
 ghost use Rattle.std.specs.Io.KnownBytes.{Appends, Keeps};
 ghost use Rattle.csv.specs.Records.{fields_of};
 ghost use Rattle.csv.specs.Writing.{text_written};
-ghost use Rattle.mst_commands.specs.Records.{header, field_or_empty, pair_fields, pair_text, pairs_text, SaysPair, SaysChange, SaysEntry, SaysValue, HasEntries, HasRead, ReadsOne, WritesRecord, WritesRecords};
+ghost use Rattle.mst_commands.specs.Records.{header, field_or_empty, pair_fields, pair_text, pairs_text, SaysPair, SaysChange, SaysEntry, SaysValue, HasEntries, HasRead, HasWritten, ReadsOne, WritesRecord, WritesRecords};
 ghost use Rattle.mst_commands.specs.Malformed.{EndsFor, IsFailure, IsImportRefused, SaysNoChange, SaysNone, StopsReading};
 
 use crate::fault::{Fault, read_fault, write_fault};
@@ -244,7 +244,10 @@ fn write_pair<'a, W: Write + Drop>(
 }
 
 /// Writes the record of a row, unless it is a removal.
-fn write_row<W: Write + Drop>(writer: &mut Writer<W>, row: &(String, Register)) -> Result<(), Fault>
+pub fn write_row<W: Write + Drop>(
+    writer: &mut Writer<W>,
+    row: &(String, Register),
+) -> Result<(), Fault>
     ensures written { OnOk result (WritesRecords W.contents writer.old writer.new (pair_text row.now)) }
     ensures faults { IfErr result IsFailure }
 {
@@ -265,15 +268,12 @@ pub fn finish<W: Write + Drop>(writer: Writer<W>) -> Result<W, Fault>
     }
 }
 
-/// Writes the rows that say a text as CSV, and hands back the output.
-pub fn write_rows<W: Write + Drop>(out: W, rows: &[(String, Register)]) -> Result<W, Fault>
-    ensures written { IfOk result (λ written. Appends (W.contents out) (W.contents written) (pairs_text rows.now)) }
+/// A writer of CSV behind the header of keys and values.
+pub fn begin_pairs<W: Write + Drop>(out: W) -> Result<Writer<W>, Fault>
+    ensures begun { IfOk result (λ writer. HasWritten W.contents out writer (pairs_text [])) }
     ensures faults { IfErr result IsFailure }
 {
     let mut writer = Writer::from_writer(out);
     write_pair(&mut writer, "key", "value")?;
-    'rows: for row in rows {
-        write_row(&mut writer, row)?;
-    }
-    finish(writer)
+    Ok(writer)
 }

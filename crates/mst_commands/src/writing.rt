@@ -2,10 +2,8 @@
 ghost use Rattle.std.specs.Prelude.{◌≡◌, ◌≢◌, ◌≤◌, ◌<◌, ◌⊎◌, is_some, length, string_len, filter, All, IfOk, IfErr, OnOk, true, false};
 ghost use Rattle.key_order.specs.Text.{text_order};
 ghost use Rattle.key_order.specs.Map.{IsMap};
-ghost use Rattle.sqlite.specs.Held.{state};
-ghost use Rattle.sqlite.specs.View.{doubt};
-ghost use Rattle.store_table.specs.Connections.{HasStore, Finds, Makes, Shows, Refuses, Stays, StaysInOk, StaysCommitted, LeavesNoMore, LeavesOfStore};
 ghost use Rattle.store_table.specs.Latest.{IsThere};
+ghost use Rattle.store_table.specs.Logs.{IsSteady, trees_of, Finds, Makes, Shows, Refuses, StaysInOk, StaysInErr, LeavesNoMore, Leaves};
 ghost use Rattle.mst_commands.specs.Faults.{IsTooLong};
 ghost use Rattle.mst_commands.specs.Writes.{WritesBy};
 ghost use Rattle.mst_commands.specs.Malformed.{IsFailure, IsImportRefused};
@@ -13,10 +11,11 @@ ghost use Rattle.mst_commands.specs.Imports.{IsDated, AreDated, HaveFutureTime, 
 
 use crate::fault::Fault;
 use crate::records::{MOST, read_entries};
-use sqlite::{Alter, Connection};
+use sqlite_trees::store::Store;
 use std::alloc::Global;
 use std::io::Read;
 use store_table::latest::{put, remove};
+use store_table::log::Log;
 use store_table::rows::{latest_rows, read_latest, register_in};
 use store_table::table::{Entries, add_all};
 use store_table::{Register, StoreFault};
@@ -50,27 +49,28 @@ pub fn read_text<R: Read + Drop>(alloc: Global, from: R) -> Result<String, Fault
 }
 
 /// Writes a value under a key.
-pub fn put_text<S: Alter>(
+pub fn put_text<S: Store>(
     alloc: Global,
-    conn: &mut Connection<S>,
+    log: &mut Log<S>,
     writer: &str,
     now: u64,
     key: &str,
     text: String,
 ) -> Result<(), Fault>
-    ensures written { Makes S.Store conn.old conn.new result (WritesBy key.now writer.now now (Some text)) }
+    ensures written { Makes S.Store log.old log.new result (WritesBy key.now writer.now now (Some text)) }
     // A key or a value that is too long is refused, and nothing is written.
     ensures fits { OnOk result (length key.now ≤ MOST × string_len text ≤ MOST) }
     ensures long { IfErr result (λ why. IsTooLong why → MOST < length key.now ⊎ MOST < string_len text) }
-    ensures untouched { IfErr result (λ why. IsTooLong why → conn.new ≡ conn.old) }
+    ensures untouched { IfErr result (λ why. IsTooLong why → log.new ≡ log.old) }
+    ensures refused { StaysInErr S.Store log.old log.new result }
     ensures faults { IfErr result (λ why. ¬ IsTooLong why → IsFailure why) }
-    // A crash leaves what it could leave before, or a database with the write.
-    ensures crash { LeavesOfStore S.Store conn.old conn.new (WritesBy key.now writer.now now (Some text)) }
+    // A crash leaves what it could leave before, or trees with the write.
+    ensures crash { Leaves S.Store log.old log.new (WritesBy key.now writer.now now (Some text)) }
 {
     within(key, "the key")?;
     within(text.as_str(), "the value")?;
     let writer = String::from_str(alloc, writer)?;
-    put(alloc, conn, writer, now, key, text)?;
+    put(alloc, log, writer, now, key, text)?;
     Ok(())
 }
 
@@ -79,24 +79,25 @@ pub fn put_text<S: Alter>(
 /// # Errors
 ///
 /// [`Fault::NoKey`] where the key isn't there.
-pub fn del<S: Alter>(
+pub fn del<S: Store>(
     alloc: Global,
-    conn: &mut Connection<S>,
+    log: &mut Log<S>,
     writer: &str,
     now: u64,
     key: &str,
 ) -> Result<(), Fault>
-    ensures written { Makes S.Store conn.old conn.new result (WritesBy key.now writer.now now None) }
-    ensures there { Shows S.Store conn.old conn.new result (λ db. IsThere db.trees key.now true) }
+    ensures written { Makes S.Store log.old log.new result (WritesBy key.now writer.now now None) }
+    ensures there { Shows S.Store log.old log.new result (λ trees. IsThere trees key.now true) }
     // Where the key isn't there, nothing is written.
-    ensures absent { Refuses S.Store conn.old conn.new result Fault.NoKey (λ db. IsThere db.trees key.now false) }
-    ensures untouched { Refuses S.Store conn.old conn.new result Fault.NoKey (λ _. Stays S.Store conn.old conn.new) }
+    ensures absent { Refuses S.Store log.old log.new result Fault.NoKey (λ trees. IsThere trees key.now false) }
+    ensures untouched { Refuses S.Store log.old log.new result Fault.NoKey (λ trees. trees_of S.Store log.new ≡ trees) }
+    ensures refused { StaysInErr S.Store log.old log.new result }
     ensures faults { IfErr result (λ why. why ≢ Fault.NoKey → IsFailure why) }
-    // A crash leaves what it could leave before, or a database with the removal.
-    ensures crash { LeavesOfStore S.Store conn.old conn.new (WritesBy key.now writer.now now None) }
+    // A crash leaves what it could leave before, or trees with the removal.
+    ensures crash { Leaves S.Store log.old log.new (WritesBy key.now writer.now now None) }
 {
     let writer = String::from_str(alloc, writer)?;
-    let there = remove(alloc, conn, writer, now, key)?;
+    let there = remove(alloc, log, writer, now, key)?;
     if there { Ok(()) } else { Err(Fault::NoKey) }
 }
 
@@ -183,24 +184,24 @@ fn not_above(entries: &[(String, Register)], latest: u64) -> Result<(), Fault>
 }
 
 /// The entries of an import that are to be added, of those that came.
-fn entries_to_add<S: Alter>(
+fn entries_to_add<S: Store>(
     alloc: Global,
-    conn: &mut Connection<S>,
+    log: &mut Log<S>,
     writer: &str,
     now: u64,
     came: Entries,
-    log: Option<u64>,
+    limit: Option<u64>,
 ) -> Result<Entries, Fault>
-    ensures added { Finds S.Store conn.old conn.new result (λ db added. AddsOf log writer.now now db.trees came.items added.items) }
-    ensures unchanged { HasStore S.Store conn.old → StaysInOk S.Store conn.old conn.new result }
-    ensures refused { StaysCommitted S.Store conn.old conn.new result }
-    ensures clean { doubt (state S.Store conn.old).is_clean ≤ doubt (state S.Store conn.new).is_clean }
-    ensures crash { HasStore S.Store conn.old → LeavesNoMore S.Store conn.old conn.new }
+    ensures added { Finds S.Store log.old log.new result (λ trees added. AddsOf limit writer.now now trees came.items added.items) }
+    ensures unchanged { StaysInOk S.Store log.old log.new result }
+    ensures refused { StaysInErr S.Store log.old log.new result }
+    ensures steady { IsSteady S.Store log.old log.new }
+    ensures crash { LeavesNoMore S.Store log.old log.new }
     ensures faults { IfErr result IsFailure }
 {
-    let rows = read_latest(alloc, conn)?;
+    let rows = read_latest(alloc, log)?;
     let mut last = latest_rows(came);
-    let Some(latest) = log else {
+    let Some(latest) = limit else {
         return all_dated(alloc, &rows, writer, now, last);
     };
     not_above(&last, latest)?;
@@ -208,29 +209,29 @@ fn entries_to_add<S: Alter>(
     Ok(last)
 }
 
-/// Writes the records of a CSV, all or none: the last of each key; and of a log, where `log` has the latest time that an entry may have,
+/// Writes the records of a CSV, all or none: the last of each key; and of a log, where `limit` has the latest time that an entry may have,
 /// those that are later than what the store has.
 ///
 /// # Errors
 ///
 /// [`Fault::NoHeader`] and [`Fault::BadLine`] name what is wrong in the CSV.
-pub fn import<S: Alter, R: Read + Drop>(
+pub fn import<S: Store, R: Read + Drop>(
     alloc: Global,
-    conn: &mut Connection<S>,
+    log: &mut Log<S>,
     writer: &str,
     now: u64,
     from: R,
-    log: Option<u64>,
+    limit: Option<u64>,
 ) -> Result<(), Fault>
-    ensures written { Makes S.Store conn.old conn.new result (Imports (R.remaining from) log writer.now now) }
-    ensures refused { StaysCommitted S.Store conn.old conn.new result }
+    ensures written { Makes S.Store log.old log.new result (Imports (R.remaining from) limit writer.now now) }
+    ensures refused { StaysInErr S.Store log.old log.new result }
     // It is refused for its header or one of its records only where these are wrong.
-    ensures malformed { IfErr result (IsImportRefused (is_some log) (R.remaining from)) }
-    // A crash leaves what it could leave before, or a database with all that is imported.
-    ensures crash { LeavesOfStore S.Store conn.old conn.new (Imports (R.remaining from) log writer.now now) }
+    ensures malformed { IfErr result (IsImportRefused (is_some limit) (R.remaining from)) }
+    // A crash leaves what it could leave before, or trees with all that is imported.
+    ensures crash { Leaves S.Store log.old log.new (Imports (R.remaining from) limit writer.now now) }
 {
-    let came = read_entries(alloc, from, log.is_some())?;
-    let added = entries_to_add(alloc, conn, writer, now, came, log)?;
-    add_all(conn, &added)?;
+    let came = read_entries(alloc, from, limit.is_some())?;
+    let added = entries_to_add(alloc, log, writer, now, came, limit)?;
+    add_all(alloc, log, &added)?;
     Ok(())
 }

@@ -1,5 +1,5 @@
 -- What follows from a call that succeeds.
-use Rattle.std.proofs.Common.{◌≡◌, OnOk, OnErr, IfOk, IfErr, Result, Ok, Err}
+use Rattle.std.proofs.Common.{subst, sym, ◌≡◌, OnOk, OnErr, IfOk, IfErr, Result, Ok, Err}
 
 pub on_ok : {A E : Type 0} (r : Result A E) (P Q : Type 0) → (P → Q) → OnOk r P → OnOk r Q
 on_ok (Ok x) P Q f h = f h
@@ -24,3 +24,11 @@ on_err (Err e) P h = h
 pub to_on_err : {A E : Type 0} (r : Result A E) (P : E → Type 0) (Q : Type 0) → ((e : E) → P e → Q) → IfErr r P → OnErr r Q
 to_on_err (Ok x) P Q f h = tt
 to_on_err (Err e) P Q f h = f e h
+
+-- what a call found is so of the settled result
+pub settled_ok : {S A E : Type 0} (C : S → Type 0) (mid new : S) (r done : Result A E) (Q P : A → Type 0) (B : Type 0) → r ≡ done → OnOk r (new ≡ mid) → C new
+    → IfOk done (λ x. C mid → Q x) → OnOk done (C mid → B) → ((x : A) → C mid → Q x → B → P x) → IfOk r P
+settled_ok C mid new r (Ok x) Q P B is same clean found sound f =
+    let early = subst C (subst (λ t. OnOk t (new ≡ mid)) is same) clean in
+    subst (λ t. IfOk t P) (sym is) (f x early (found early) (sound early))
+settled_ok C mid new r (Err e) Q P B is same clean found sound f = subst (λ t. IfOk t P) (sym is) tt

@@ -1,9 +1,6 @@
 -- Of a list that descends, the first of each key.
 use Rattle.std.proofs.Common.{◌≡◌, ℕ, Bool, true, false, cond, List, [], ◌∷◌, ◌++◌, ◌<◌, ◌≤◌, length, get_or, suc, reverse, All, Option, Some, IsSomeAnd, refl, sym, ap, subst, ◌∙◌, arith}
-use Rattle.std.specs.Prelude.{⊤, nat_eq, string_bytes}
-use Rattle.std.specs.Cmp.Lexicographic.{pointwise}
-use Rattle.key_order.specs.Text.{Text as Key}
-use Rattle.store_table.specs.declared.register.Register.{Register}
+use Rattle.std.specs.Prelude.{⊤}
 use Rattle.std.specs.List.{AllByRecursion, Contains, dedup, dedup_from}
 use Rattle.std.specs.List.Sorted.{IsPermutation, IsSorted}
 use Rattle.std.specs.Cmp.{IsTotalOrder}
@@ -217,7 +214,3 @@ module _ {K V : Type 0} (ck : K → K → Ordering) (ok : IsTotalOrder ck) (cv :
     rows_latest =
         let all = All-permutation (HasLatest (kept (reverse sorted))) (reverse sorted) entries (IsPermutation-sym entries (reverse sorted) turned_round) (kept_covers (reverse sorted) down) in
         All-weaker (HasLatest (kept (reverse sorted))) (HasLatest (reverse (kept (reverse sorted)))) (λ e h. subst (λ (o : Option V). IsSomeAnd o (λ v. is_lt (cv v e.1) ≡ false)) (sym (get_back (kept (reverse sorted)) e.0 (kept_falls (reverse sorted) down))) h) entries all
-
--- whether two rows have one key
-abbrev pub same_key : Key × Register → Key × Register → Bool
-same_key later kept = pointwise nat_eq (string_bytes later.0) (string_bytes kept.0)

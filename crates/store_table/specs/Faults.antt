@@ -1,13 +1,20 @@
 -- Why a call on a store fails.
 use Rattle.std.specs.Prelude.{◌≢◌, ⊤, length}
-use Rattle.sqlite.specs.Effect.{Database}
-use Rattle.store_table.specs.Changes.{IsStore}
+use Rattle.sqlite_trees.specs.declared.error.StoreError.{StoreError}
+use Rattle.sqlite_trees.specs.declared.error.StoreError.TheVariants.{OutOfMemory}
+use Rattle.sqlite_trees.specs.Tree.{Trees}
 use Rattle.store_table.specs.declared.fault.StoreFault.{StoreFault}
 use Rattle.store_table.specs.declared.fault.StoreFault.TheVariants as fault
 
--- the database refused or failed, or memory was refused
+-- what an error of the database is to a caller
+abbrev pub fault_of : StoreError → StoreFault
+fault_of OutOfMemory = fault.Memory
+fault_of other = fault.Database other
+
+-- the database failed, a row of the table is no entry, or memory was refused
 abbrev pub IsFailure : StoreFault → Type 0
 IsFailure (fault.Database error) = ⊤
+IsFailure fault.Malformed = ⊤
 IsFailure fault.Memory = ⊤
 IsFailure _ = ⊥
 
@@ -16,6 +23,6 @@ abbrev pub IsUnwritten : StoreFault → Type 0
 IsUnwritten fault.Time = ⊤
 IsUnwritten other = IsFailure other
 
--- the database is no store: it has other tables, or the one that says the format has not just one row
-abbrev pub IsForeign : Database → Type 0
-IsForeign db = IsStore db → length (db.trees 1) ≢ 1
+-- the trees are no store's: the table that says the format has not just one row
+abbrev pub IsForeign : Trees → Type 0
+IsForeign trees = length (trees 1) ≢ 1

@@ -1,10 +1,13 @@
 pub mod Changes
-pub mod Connections
 pub mod Entries
 pub mod Faults
 pub mod Latest
-pub mod Registers
+pub mod Logs
+pub mod Reading
 pub mod RegisterBytes
 pub mod RegisterLaws
-pub mod WireRegisters
+pub mod Registers
 pub mod Rows
+pub mod Transactions
+pub mod Walks
+pub mod WireRegisters

@@ -1,10 +1,10 @@
 -- The latest rows of entries, and what rows say in numbers.
-use Rattle.std.specs.Prelude.{◌≡◌, ℕ, max, nat_le, Bool, false, ◌||◌, List, map, filter, fold, is_some, is_none, All, Contains, IsSomeAnd}
+use Rattle.std.specs.Prelude.{◌≡◌, ℕ, max, nat_le, nat_eq, string_bytes, Bool, false, ◌||◌, List, map, filter, fold, is_some, is_none, All, Contains, IsSomeAnd}
+use Rattle.std.specs.Cmp.Lexicographic.{pointwise}
 use Rattle.std.specs.Ordering.{is_lt}
 use Rattle.key_order.specs.Text.{Text as Key, text_order}
 use Rattle.key_order.specs.Map.{IsMap, get}
-use Rattle.sqlite.specs.Tree.{Trees}
-use Rattle.sqlite.specs.Effect.{Database}
+use Rattle.sqlite_trees.specs.Tree.{Trees}
 use Rattle.store_table.specs.Changes.{HasInstead}
 use Rattle.store_table.specs.Entries.{HoldsEntries, entry_row}
 use Rattle.store_table.specs.Registers.{register_order, HaveLateTime}
@@ -25,6 +25,10 @@ HasLatestRows trees rows = (entries : List (Key × Register)) × HoldsEntries tr
 abbrev pub HasLateRow : Trees → Type 0
 HasLateRow trees = (rows : List (Key × Register)) × HasLatestRows trees rows × HaveLateTime rows
 
+-- whether two rows have one key
+abbrev pub same_key : Key × Register → Key × Register → Bool
+same_key a b = pointwise nat_eq (string_bytes a.0) (string_bytes b.0)
+
 -- whether a row says a text
 abbrev pub says_text : Key × Register → Bool
 says_text row = is_some row.1.value
@@ -42,5 +46,5 @@ abbrev pub stays : ℕ → Key × Register → Bool
 stays before row = is_some row.1.value || nat_le before row.1.time
 
 -- the table has the latest rows of its entries that stay, in place of its own, and nothing else has changed
-abbrev pub IsCompacted : ℕ → Database → Database → Type 0
-IsCompacted before old new = (rows : List (Key × Register)) × HasLatestRows old.trees rows × HasInstead (map entry_row (filter (stays before) rows)) old new
+abbrev pub IsCompacted : ℕ → Trees → Trees → Type 0
+IsCompacted before old new = (rows : List (Key × Register)) × HasLatestRows old rows × HasInstead (map entry_row (filter (stays before) rows)) old new

@@ -1,23 +1,23 @@
 //! Why a call on a store failed.
 ghost use Rattle.std.specs.Prelude.{◌≡◌};
 
-use sqlite::Error;
+use sqlite_trees::error::StoreError;
 use std::alloc::AllocError;
 use std::fmt;
 
 /// Why a call on a store failed. But for [`Behind`](StoreFault::Behind), the store is then as it was.
 #[derive(Debug, Drop)]
 pub enum StoreFault {
-    /// The database refused or failed.
-    Database(Error),
+    /// The database failed.
+    Database(StoreError),
     /// Memory was refused.
     Memory,
+    /// A row of the table is no entry.
+    Malformed,
     /// The file is a database, but its tables are not those of a store.
     Foreign,
     /// The file is a store in another format, which has this number.
     Format(i64),
-    /// A transaction is open on the connection already.
-    Underway,
     /// No later time is left for the key.
     Time,
     /// A peer sent an entry whose time is too far ahead of the clock: nothing was joined.
@@ -26,13 +26,16 @@ pub enum StoreFault {
     Behind,
 }
 
-impl From<Error> for StoreFault {
-    ghost use Rattle.store_table.specs.declared.fault.StoreFault.TheVariants.{Database};
+impl From<StoreError> for StoreFault {
+    ghost use Rattle.store_table.specs.Faults.{fault_of};
 
-    ghost from_gives = { λ error fault. fault ≡ Database error };
+    ghost from_gives = { λ error fault. fault ≡ fault_of error };
 
-    fn from(error: Error) -> Self {
-        StoreFault::Database(error)
+    fn from(error: StoreError) -> Self {
+        match error {
+            StoreError::OutOfMemory => StoreFault::Memory,
+            other => StoreFault::Database(other),
+        }
     }
 }
 
@@ -51,12 +54,12 @@ impl fmt::Display for StoreFault {
         match self {
             StoreFault::Database(error) => write!(f, "{error}"),
             StoreFault::Memory => f.write_str("out of memory"),
+            StoreFault::Malformed => f.write_str("a row of the store is no entry"),
             StoreFault::Foreign => f.write_str("the file is a database, but no store"),
             StoreFault::Format(format) => write!(
                 f,
                 "the file is a store in format {format}, which this program can't read"
             ),
-            StoreFault::Underway => f.write_str("a transaction is open already"),
             StoreFault::Time => f.write_str("the key has the last time that there is"),
             StoreFault::Future => f.write_str(
                 "the peer sent an entry from the future: nothing was joined",

@@ -1,153 +1,217 @@
 //! The format of a store's file: how it is made, and how it is recognised.
-ghost use Rattle.std.specs.Prelude.{◌≡◌, ◌↔◌, [], ◌∷◌, string_bytes, IfOk, OnOk, IsErrOf};
-ghost use Rattle.sqlite.specs.Held.{state};
-ghost use Rattle.sqlite.specs.declared.types.Value.TheVariants.{Int, Text};
-ghost use Rattle.store_table.specs.Entries.{two, IsNoted, HoldsNotes};
-ghost use Rattle.store_table.specs.Changes.{IsBlank, HasEntryTable, HasBothTables, IsNewStore, CommitsNothing};
-ghost use Rattle.store_table.specs.Connections.{database, HasStore, IsClean, IsUnderway, Finds, Makes, MakesWithin};
-ghost use Rattle.store_table.specs.Connections.{StaysInOk, StaysInErr, Leaves, LeavesNoMore};
-ghost use Rattle.store_table.specs.Faults.{IsForeign};
+ghost use Rattle.std.specs.Prelude.{◌≡◌, ◌≢◌, [], ◌∷◌, true, false, length, map, string_bytes, IfOk, IfErr, OnOk, IsErrOf};
+ghost use Rattle.sqlite_trees.specs.Tree.{put_row};
+ghost use Rattle.sqlite_trees.specs.View.{KeepsSchema, KeepsCommitted, IsQuiet, OnlyWrites};
+ghost use Rattle.sqlite_value.specs.Value.{owned};
+ghost use Rattle.sqlite_value.specs.declared.value.Value.TheVariants.{Int, Text};
+ghost use Rattle.store_table.specs.Changes.{IsBlank, IsNewStore};
+ghost use Rattle.store_table.specs.Entries.{noted, note_row, IsNoted};
+ghost use Rattle.store_table.specs.Faults.{IsFailure, IsForeign};
+ghost use Rattle.store_table.specs.Logs.{HasTables, IsLog, IsClean, IsSteady, trees_of, Finds, Makes, Refuses, StaysInOk, StaysInErr, Leaves, LeavesNoMore};
+ghost use Rattle.store_table.specs.Transactions.{IsTransaction};
+ghost use Rattle.store_table.specs.Walks.{StaysBut};
 
+use crate::entry::text_in;
 use crate::fault::StoreFault;
-use crate::layout::{is_blank, is_of_store};
-use sqlite::{Alter, Connection, Error, Row, Transaction, params};
+use crate::log::{ABOUT, CURSOR, Log, settled};
+use crate::walk::look;
+use sqlite_trees::error::StoreError;
+use sqlite_trees::store::{Direction, Store};
+use sqlite_value::row::Row;
+use sqlite_value::value::ValueRef;
+use std::alloc::Global;
 
 /// The format of the file.
-pub const FORMAT: i64 = 1;
+pub const FORMAT: i64 = 2;
 
-/// Makes the table of entries.
-fn make_entries<S: Alter>(transaction: &mut Transaction<'_, S>) -> Result<(), Error>
-    ensures same_reference { transaction.new.conn.ghost_name ≡ transaction.old.conn.ghost_name }
-    ensures within { CommitsNothing (state S.Store transaction.old.conn.now) (state S.Store transaction.new.conn.now) }
-    ensures made { MakesWithin S.Store transaction.old transaction.new result IsBlank (λ _. HasEntryTable) }
+/// Fills in the first note, and answers whether it is the only one.
+fn only_note<S: Store>(
+    trees: &mut S,
+    none: &Row,
+    first: &mut Row,
+    second: &mut Row,
+) -> Result<bool, StoreError>
+    requires tables { IsClean S.Store trees.old → HasTables (S.Store.view trees.old) }
+    requires none { none.now ≡ [] }
+    ensures one { IfOk result (λ one. IsClean S.Store trees.new → one ≡ true → trees_of S.Store trees.old 1 ≡ first.new ∷ []) }
+    ensures more { IfOk result (λ one. IsClean S.Store trees.new → one ≡ false → length (trees_of S.Store trees.old 1) ≢ 1) }
+    ensures same { OnOk result (IsClean S.Store trees.new → StaysBut (S.Store.view trees.old) (S.Store.view trees.new)) }
+    ensures schema { KeepsSchema (S.Store.view trees.old) (S.Store.view trees.new) }
+    ensures kept { IsClean S.Store trees.new → KeepsCommitted (S.Store.view trees.old) (S.Store.view trees.new) }
+    ensures quiet { IsQuiet S.Store.view S.Store.faults S.Store.recovers S.Store.is_shielded trees.old trees.new }
 {
-    transaction.execute(
-        "CREATE TABLE entry (id INTEGER PRIMARY KEY, key TEXT NOT NULL, time INTEGER NOT NULL, writer TEXT NOT NULL, value TEXT) STRICT",
-        &[],
-    )?;
-    Ok(())
-}
-
-/// Makes the table that says which format the file has and by which name the store writes.
-fn make_about<S: Alter>(transaction: &mut Transaction<'_, S>) -> Result<(), Error>
-    ensures same_reference { transaction.new.conn.ghost_name ≡ transaction.old.conn.ghost_name }
-    ensures within { CommitsNothing (state S.Store transaction.old.conn.now) (state S.Store transaction.new.conn.now) }
-    ensures made { MakesWithin S.Store transaction.old transaction.new result HasEntryTable (λ _. HasBothTables) }
-{
-    transaction.execute(
-        "CREATE TABLE about (id INTEGER PRIMARY KEY, format INTEGER NOT NULL, writer TEXT NOT NULL) STRICT",
-        &[],
-    )?;
-    Ok(())
-}
-
-/// Notes the format and the writer.
-fn note_about<S: Alter>(transaction: &mut Transaction<'_, S>, writer: &str) -> Result<(), Error>
-    ensures same_reference { transaction.new.conn.ghost_name ≡ transaction.old.conn.ghost_name }
-    ensures within { CommitsNothing (state S.Store transaction.old.conn.now) (state S.Store transaction.new.conn.now) }
-    ensures noted { MakesWithin S.Store transaction.old transaction.new result HasBothTables (λ _. IsNewStore FORMAT writer.now) }
-{
-    transaction.execute(
-        "INSERT INTO about (format, writer) VALUES (?1, ?2)",
-        params![FORMAT, writer],
-    )?;
-    Ok(())
-}
-
-/// Makes both tables, and notes the format and the writer.
-fn make<S: Alter>(transaction: &mut Transaction<'_, S>, writer: &str) -> Result<(), Error>
-    ensures same_reference { transaction.new.conn.ghost_name ≡ transaction.old.conn.ghost_name }
-    ensures within { CommitsNothing (state S.Store transaction.old.conn.now) (state S.Store transaction.new.conn.now) }
-    ensures made { MakesWithin S.Store transaction.old transaction.new result IsBlank (λ _. IsNewStore FORMAT writer.now) }
-{
-    make_entries(transaction)?;
-    make_about(transaction)?;
-    note_about(transaction, writer)
-}
-
-/// Makes a store in a database without tables, or nothing. It takes the time of one transaction.
-///
-/// # Errors
-///
-/// [`StoreFault::Foreign`] where the database has tables already, [`StoreFault::Underway`], and faults of the file.
-pub fn create<S: Alter>(conn: &mut Connection<S>, writer: &str) -> Result<(), StoreFault>
-    ensures created { IsClean S.Store conn.new → OnOk result (IsNewStore FORMAT writer.now (database S.Store conn.new)) }
-    ensures foreign { IsErrOf result StoreFault.Foreign ↔ ¬ IsBlank (database S.Store conn.old) }
-    ensures underway { IsErrOf result StoreFault.Underway → IsUnderway S.Store conn.old }
-    ensures refused { StaysInErr S.Store conn.old conn.new result }
-    ensures crash { Leaves S.Store conn.old conn.new (λ _. IsNewStore FORMAT writer.now) }
-{
-    if !is_blank(conn.schema()) {
-        return Err(StoreFault::Foreign);
+    trees.seek(CURSOR, ABOUT, none, Direction::Forward)?;
+    if !trees.next(CURSOR, first)? {
+        return Ok(false);
     }
-    if !conn.is_autocommit() {
-        return Err(StoreFault::Underway);
-    }
-    let mut transaction = conn.transaction();
-    make(&mut transaction, writer)?;
-    transaction.commit()?;
-    Ok(())
+    Ok(!trees.next(CURSOR, second)?)
 }
 
-/// The format and the writer of a row.
-fn note_of(row: &Row) -> Result<(i64, String), Error>
-    ensures { IfOk result (λ note. two row.now ≡ Int note.0 ∷ Text (string_bytes note.1) ∷ []) }
+/// A number.
+fn number_in(value: ValueRef<'_>) -> Result<i64, StoreFault>
+    ensures number { IfOk result (λ number. owned value.entry ≡ Int number) }
+    ensures failed { IfErr result IsFailure }
 {
-    let format: i64 = row.get(0)?;
-    let writer: String = row.get(1)?;
+    match value {
+        ValueRef::Int(number) => Ok(number),
+        _ => Err(StoreFault::Malformed),
+    }
+}
+
+/// The format and the writer of a note.
+fn note_of(alloc: Global, row: &Row) -> Result<(i64, String), StoreFault>
+    ensures note { IfOk result (λ note. noted row.now ≡ Int note.0 ∷ Text (string_bytes note.1) ∷ []) }
+    ensures failed { IfErr result IsFailure }
+{
+    let format = number_in(row.get(2))?;
+    let writer = text_in(alloc, row.get(3))?;
     Ok((format, writer))
 }
 
-/// The rows of the table that says which format the file has.
-fn read_about<S: Alter>(conn: &mut Connection<S>) -> Result<Vec<Row>, Error>
-    ensures rows { Finds S.Store conn.old conn.new result (λ db rows. HoldsNotes db.trees rows.items) }
-    ensures unchanged { HasStore S.Store conn.old → StaysInOk S.Store conn.old conn.new result }
-    ensures crash { HasStore S.Store conn.old → LeavesNoMore S.Store conn.old conn.new }
+/// The note.
+fn read_note<S: Store>(alloc: Global, trees: &mut S) -> Result<(i64, String), StoreFault>
+    requires tables { IsClean S.Store trees.old → HasTables (S.Store.view trees.old) }
+    ensures noted { IfOk result (λ note. IsClean S.Store trees.new → IsNoted (trees_of S.Store trees.old) note.0 (string_bytes note.1)) }
+    ensures foreign { IsClean S.Store trees.new → IsErrOf result StoreFault.Foreign → IsForeign (trees_of S.Store trees.old) }
+    ensures same { OnOk result (IsClean S.Store trees.new → StaysBut (S.Store.view trees.old) (S.Store.view trees.new)) }
+    ensures schema { KeepsSchema (S.Store.view trees.old) (S.Store.view trees.new) }
+    ensures kept { IsClean S.Store trees.new → KeepsCommitted (S.Store.view trees.old) (S.Store.view trees.new) }
+    ensures quiet { IsQuiet S.Store.view S.Store.faults S.Store.recovers S.Store.is_shielded trees.old trees.new }
 {
-    conn.query_all("SELECT format, writer FROM about", &[])
+    let none = Row::new(alloc);
+    let mut first = Row::new(alloc);
+    if !only_note(trees, &none, &mut first, &mut Row::new(alloc))? {
+        return Err(StoreFault::Foreign);
+    }
+    note_of(alloc, &first)
 }
 
 /// The format of the file, and the name by which the store writes. It takes the time of reading one row.
 ///
 /// # Errors
 ///
-/// [`StoreFault::Foreign`] where the table doesn't have one row, [`StoreFault::Database`]; nothing is written.
-pub fn about<S: Alter>(conn: &mut Connection<S>) -> Result<(i64, String), StoreFault>
-    ensures noted { Finds S.Store conn.old conn.new result (λ db about. IsNoted db.trees about.0 (string_bytes about.1)) }
-    ensures foreign { IsClean S.Store conn.new → IsErrOf result StoreFault.Foreign → IsForeign (database S.Store conn.old) }
-    ensures unchanged { HasStore S.Store conn.old → StaysInOk S.Store conn.old conn.new result }
-    ensures crash { HasStore S.Store conn.old → LeavesNoMore S.Store conn.old conn.new }
+/// [`StoreFault::Foreign`] where there is not just one note, [`StoreFault::Database`], [`StoreFault::Malformed`] and [`StoreFault::Memory`];
+/// nothing is written.
+pub fn about<S: Store>(alloc: Global, log: &mut Log<S>) -> Result<(i64, String), StoreFault>
+    ensures noted { Finds S.Store log.old log.new result (λ trees about. IsNoted trees about.0 (string_bytes about.1)) }
+    ensures foreign { Refuses S.Store log.old log.new result StoreFault.Foreign IsForeign }
+    ensures unchanged { StaysInOk S.Store log.old log.new result }
+    ensures refused { StaysInErr S.Store log.old log.new result }
+    ensures steady { IsSteady S.Store log.old log.new }
+    ensures crash { LeavesNoMore S.Store log.old log.new }
 {
-    let rows = read_about(conn)?;
-    if rows.len() != 1 {
-        return Err(StoreFault::Foreign);
-    }
-    Ok(note_of(&rows[0])?)
+    let read = read_note(alloc, &mut log.trees);
+    settled(&mut log.trees, read)
 }
 
-/// The name by which the store in a database writes. It takes the time of a comparison of the schema, and of reading one row.
+/// The name by which the store writes. It takes the time of reading one row.
 ///
 /// # Errors
 ///
-/// [`StoreFault::Foreign`] where the database's tables aren't those of a store, [`StoreFault::Format`] where they are those of a store of
-/// another version of this program; nothing is written.
-pub fn recognise<S: Alter>(conn: &mut Connection<S>) -> Result<String, StoreFault>
-    // A database of something else is refused, and not read.
-    ensures foreign { ¬ HasStore S.Store conn.old → IsErrOf result StoreFault.Foreign × (conn.new ≡ conn.old) }
-    ensures only_foreign { IsClean S.Store conn.new → IsErrOf result StoreFault.Foreign → IsForeign (database S.Store conn.old) }
-
-    // Its format and its writer are read, and nothing is written.
-    ensures schema { OnOk result (HasStore S.Store conn.old) }
-    ensures noted { IsClean S.Store conn.new → IfOk result (λ writer. IsNoted (database S.Store conn.old).trees FORMAT (string_bytes writer)) }
-    ensures unchanged { StaysInOk S.Store conn.old conn.new result }
-    ensures crash { LeavesNoMore S.Store conn.old conn.new }
+/// As of [`about`], and [`StoreFault::Format`] where the store is one of another version of this program; nothing is written.
+pub fn recognise<S: Store>(alloc: Global, log: &mut Log<S>) -> Result<String, StoreFault>
+    ensures noted { Finds S.Store log.old log.new result (λ trees writer. IsNoted trees FORMAT (string_bytes writer)) }
+    ensures foreign { Refuses S.Store log.old log.new result StoreFault.Foreign IsForeign }
+    ensures unchanged { StaysInOk S.Store log.old log.new result }
+    ensures refused { StaysInErr S.Store log.old log.new result }
+    ensures steady { IsSteady S.Store log.old log.new }
+    ensures crash { LeavesNoMore S.Store log.old log.new }
 {
-    if !is_of_store(conn.schema()) {
-        return Err(StoreFault::Foreign);
-    }
-    let (format, writer) = about(conn)?;
+    let (format, writer) = about(alloc, log)?;
     if format != FORMAT {
         return Err(StoreFault::Format(format));
     }
     Ok(writer)
+}
+
+/// Makes a row the note of this format and this writer.
+fn fill_note(row: &mut Row, writer: &str) -> Result<(), StoreFault>
+    ensures note { OnOk result (row.new ≡ note_row FORMAT writer.now) }
+    ensures failed { IfErr result IsFailure }
+{
+    row.clear();
+    row.push(ValueRef::Int(1))?;
+    row.push(ValueRef::Null)?;
+    row.push(ValueRef::Int(FORMAT))?;
+    row.push(ValueRef::Text(writer.as_bytes()))?;
+    Ok(())
+}
+
+/// Whether the first row of the table of notes, or of entries, is missing: of both.
+fn is_blank<S: Store>(trees: &mut S, none: &Row, row: &mut Row) -> Result<bool, StoreError>
+    requires tables { IsClean S.Store trees.old → HasTables (S.Store.view trees.old) }
+    requires none { none.now ≡ [] }
+    ensures blank { IfOk result (λ blank. IsClean S.Store trees.new → blank ≡ true → IsBlank (trees_of S.Store trees.old)) }
+    ensures other { IfOk result (λ blank. IsClean S.Store trees.new → blank ≡ false → ¬ IsBlank (trees_of S.Store trees.old)) }
+    ensures same { OnOk result (IsClean S.Store trees.new → StaysBut (S.Store.view trees.old) (S.Store.view trees.new)) }
+    ensures schema { KeepsSchema (S.Store.view trees.old) (S.Store.view trees.new) }
+    ensures kept { IsClean S.Store trees.new → KeepsCommitted (S.Store.view trees.old) (S.Store.view trees.new) }
+    ensures quiet { IsQuiet S.Store.view S.Store.faults S.Store.recovers S.Store.is_shielded trees.old trees.new }
+{
+    if look(trees, none, Direction::Forward, row)? {
+        return Ok(false);
+    }
+    trees.seek(CURSOR, ABOUT, none, Direction::Forward)?;
+    Ok(!trees.next(CURSOR, row)?)
+}
+
+/// Writes the note.
+fn write_note<S: Store>(trees: &mut S, row: &mut Row, writer: &str) -> Result<(), StoreFault>
+    requires tables { IsClean S.Store trees.old → HasTables (S.Store.view trees.old) }
+    ensures about { OnOk result (IsClean S.Store trees.new → trees_of S.Store trees.new 1 ≡ put_row (note_row FORMAT writer.now) (trees_of S.Store trees.old 1)) }
+    ensures entries { OnOk result (IsClean S.Store trees.new → trees_of S.Store trees.new 0 ≡ trees_of S.Store trees.old 0) }
+    ensures failed { IfErr result IsFailure }
+    ensures frame { OnOk result (IsClean S.Store trees.new → OnlyWrites (S.Store.view trees.old) (S.Store.view trees.new)) }
+    ensures schema { KeepsSchema (S.Store.view trees.old) (S.Store.view trees.new) }
+    ensures kept { IsClean S.Store trees.new → KeepsCommitted (S.Store.view trees.old) (S.Store.view trees.new) }
+    ensures quiet { IsQuiet S.Store.view S.Store.faults S.Store.recovers S.Store.is_shielded trees.old trees.new }
+{
+    fill_note(row, writer)?;
+    trees.put(ABOUT, row)?;
+    Ok(())
+}
+
+/// Writes the note where there is nothing yet.
+fn begin<S: Store>(alloc: Global, trees: &mut S, writer: &str) -> Result<(), StoreFault>
+    requires tables { IsClean S.Store trees.old → HasTables (S.Store.view trees.old) }
+    ensures begun { OnOk result (IsClean S.Store trees.new → IsNewStore FORMAT writer.now (trees_of S.Store trees.new)) }
+    ensures foreign { IsClean S.Store trees.new → IsErrOf result StoreFault.Foreign → ¬ IsBlank (trees_of S.Store trees.old) }
+    ensures frame { OnOk result (IsClean S.Store trees.new → OnlyWrites (S.Store.view trees.old) (S.Store.view trees.new)) }
+    ensures schema { KeepsSchema (S.Store.view trees.old) (S.Store.view trees.new) }
+    ensures kept { IsClean S.Store trees.new → KeepsCommitted (S.Store.view trees.old) (S.Store.view trees.new) }
+    ensures quiet { IsQuiet S.Store.view S.Store.faults S.Store.recovers S.Store.is_shielded trees.old trees.new }
+{
+    let none = Row::new(alloc);
+    let mut row = Row::new(alloc);
+    if !is_blank(trees, &none, &mut row)? {
+        return Err(StoreFault::Foreign);
+    }
+    write_note(trees, &mut row, writer)
+}
+
+/// Writes the note where there is nothing yet, and commits.
+fn commit_note<S: Store>(alloc: Global, trees: &mut S, writer: &str) -> Result<(), StoreFault>
+    requires { IsLog S.Store trees.old }
+    ensures done { IsTransaction S.Store trees.old trees.new result (λ _. IsNewStore FORMAT writer.now) }
+    ensures foreign { IsClean S.Store trees.new → IsErrOf result StoreFault.Foreign → ¬ IsBlank (trees_of S.Store trees.old) }
+{
+    begin(alloc, trees, writer)?;
+    trees.commit()?;
+    Ok(())
+}
+
+/// Makes a store of tables without rows, or nothing. It takes the time of one transaction.
+///
+/// # Errors
+///
+/// [`StoreFault::Foreign`] where a table has rows already, and faults of the file.
+pub fn create<S: Store>(alloc: Global, log: &mut Log<S>, writer: &str) -> Result<(), StoreFault>
+    ensures created { Makes S.Store log.old log.new result (λ _. IsNewStore FORMAT writer.now) }
+    ensures foreign { Refuses S.Store log.old log.new result StoreFault.Foreign (λ trees. ¬ IsBlank trees) }
+    ensures refused { StaysInErr S.Store log.old log.new result }
+    ensures steady { IsSteady S.Store log.old log.new }
+    ensures crash { Leaves S.Store log.old log.new (λ _. IsNewStore FORMAT writer.now) }
+{
+    let done = commit_note(alloc, &mut log.trees, writer);
+    settled(&mut log.trees, done)
 }

@@ -1,76 +1,100 @@
-//! The latest register of a key, found in the table without a tree, and writes over it.
-ghost use Rattle.std.specs.Prelude.{◌≡◌, ◌≤◌, ◌^◌, is_some, false, IfOk, IfErr, IsErrOf};
-ghost use Rattle.sqlite.specs.Held.{state};
-ghost use Rattle.sqlite.specs.View.{doubt};
-ghost use Rattle.store_table.specs.Connections.{HasStore, IsCommitted, Finds, Makes, MakesAndFinds, Refuses, Stays, StaysInOk, StaysInErr, LeavesNoMore, LeavesOfStore, LeavesWhereClean};
+//! The latest register of a key, found in the log without a tree in memory, and writes over it.
+ghost use Rattle.std.specs.Prelude.{◌≡◌, ◌≤◌, ◌^◌, is_some, false, if◌then◌else◌, Some, None, IfOk, IfErr, OnOk, IsErrOf};
+ghost use Rattle.std.specs.List.{last_or};
+ghost use Rattle.std.specs.Ordering.{is_eq};
+ghost use Rattle.sqlite_trees.specs.View.{KeepsSchema, KeepsCommitted, IsQuiet};
+ghost use Rattle.sqlite_value.specs.Order.{column, value_cmp};
+ghost use Rattle.sqlite_value.specs.declared.value.Value.TheVariants.{Text as Words};
 ghost use Rattle.store_table.specs.Faults.{IsFailure, IsUnwritten};
+ghost use Rattle.store_table.specs.Latest.{rows_of, text_of, IsLatestAt, IsThere, IsWrittenLate, HasWriteOver, WritesOver, Removes};
+ghost use Rattle.store_table.specs.Logs.{IsLog, IsClean, IsSteady, trees_of, Finds, Makes, MakesAndFinds, Refuses, StaysInOk, StaysInErr, Leaves, LeavesNoMore};
 ghost use Rattle.store_table.specs.Registers.{time_after, HasLastTime};
-ghost use Rattle.store_table.specs.Latest.{HoldsRowsOf, later, latest, text_of, IsLatestAt, IsThere, IsWrittenLate, HasWriteOver, WritesOver, Removes};
+ghost use Rattle.store_table.specs.Walks.{StaysBut};
 
+use crate::entry::entry_of;
 use crate::fault::StoreFault;
+use crate::log::{Log, settled};
 use crate::register::Register;
-use crate::table::{self, Entries, entries_of};
-use sqlite::{Alter, Connection, Error, Row, params};
+use crate::table;
+use crate::walk::look;
+use sqlite_trees::store::{Direction, Store};
+use sqlite_value::order::compare;
+use sqlite_value::row::Row;
+use sqlite_value::value::ValueRef;
 use std::alloc::Global;
 
-/// The rows of a key.
-fn read_rows_of<S: Alter>(conn: &mut Connection<S>, key: &str) -> Result<Vec<Row>, Error>
-    ensures rows { Finds S.Store conn.old conn.new result (λ db rows. HoldsRowsOf key.now db.trees rows.items) }
-    ensures unchanged { HasStore S.Store conn.old → StaysInOk S.Store conn.old conn.new result }
-    ensures crash { HasStore S.Store conn.old → LeavesNoMore S.Store conn.old conn.new }
+/// Whether a row is one of a key.
+fn is_of(row: &Row, key: &str) -> bool
+    ensures { result ≡ is_eq (value_cmp (column row.now 0) (Words key.now)) }
 {
-    conn.query_all(
-        "SELECT key, time, writer, value FROM entry WHERE key = ?1",
-        params![key],
-    )
+    compare(row.get(0), ValueRef::Text(key.as_bytes())).is_eq()
 }
 
-/// The later of what is there and a register.
-fn later_of(found: Option<Register>, register: Register) -> Option<Register>
-    ensures { result ≡ later found register }
+/// The last row of a key, if it has one.
+fn last_row<S: Store>(
+    alloc: Global,
+    trees: &mut S,
+    key: &str,
+    row: &mut Row,
+) -> Result<bool, StoreFault>
+    requires log { IsLog S.Store trees.old }
+    ensures last { IfOk result (λ found. IsClean S.Store trees.new → last_or None (rows_of key.now (trees_of S.Store trees.old 0)) ≡ (if found then Some row.new else None)) }
+    ensures failed { IfErr result IsFailure }
+    ensures same { OnOk result (IsClean S.Store trees.new → StaysBut (S.Store.view trees.old) (S.Store.view trees.new)) }
+    ensures schema { KeepsSchema (S.Store.view trees.old) (S.Store.view trees.new) }
+    ensures kept { IsClean S.Store trees.new → KeepsCommitted (S.Store.view trees.old) (S.Store.view trees.new) }
+    ensures quiet { IsQuiet S.Store.view S.Store.faults S.Store.recovers S.Store.is_shielded trees.old trees.new }
 {
-    match found {
-        Some(own) => {
-            if register < own {
-                Some(own)
-            } else {
-                Some(register)
-            }
-        }
-        None => Some(register),
+    let mut bound = Row::new(alloc);
+    bound.push(ValueRef::Text(key.as_bytes()))?;
+    if !look(trees, &bound, Direction::Backward, row)? {
+        return Ok(false);
     }
+    Ok(is_of(row, key))
 }
 
-/// The latest register of entries.
-fn latest_of(entries: Entries) -> Option<Register>
-    ensures { result ≡ latest entries.items }
+/// The register of the last row of a key.
+fn last_register<S: Store>(
+    alloc: Global,
+    trees: &mut S,
+    key: &str,
+) -> Result<Option<Register>, StoreFault>
+    requires log { IsLog S.Store trees.old }
+    ensures latest { IfOk result (λ found. IsClean S.Store trees.new → IsLatestAt (trees_of S.Store trees.old) key.now found) }
+    ensures failed { IfErr result IsFailure }
+    ensures same { OnOk result (IsClean S.Store trees.new → StaysBut (S.Store.view trees.old) (S.Store.view trees.new)) }
+    ensures schema { KeepsSchema (S.Store.view trees.old) (S.Store.view trees.new) }
+    ensures kept { IsClean S.Store trees.new → KeepsCommitted (S.Store.view trees.old) (S.Store.view trees.new) }
+    ensures quiet { IsQuiet S.Store.view S.Store.faults S.Store.recovers S.Store.is_shielded trees.old trees.new }
 {
-    let mut found = None;
-    'entries: for entry in entries {
-        found = later_of(found, entry.1);
+    let mut row = Row::new(alloc);
+    if !last_row(alloc, trees, key, &mut row)? {
+        return Ok(None);
     }
-    found
+    let entry = entry_of(alloc, &row)?;
+    Ok(Some(entry.1))
 }
 
-/// The latest register that the table has for a key, if it has one: a removal too. It takes the time of a pass over the table, and memory for the
-/// key's rows.
+/// The latest register that the log has for a key, if it has one: a removal too. It takes the time of one look into a tree, logarithmic in the
+/// log, and memory for one row.
 ///
 /// # Errors
 ///
-/// [`StoreFault::Database`] and [`StoreFault::Memory`]. Nothing is written.
-pub fn find<S: Alter>(
+/// [`StoreFault::Database`], [`StoreFault::Malformed`] and [`StoreFault::Memory`]. Nothing is written.
+pub fn find<S: Store>(
     alloc: Global,
-    conn: &mut Connection<S>,
+    log: &mut Log<S>,
     key: &str,
 ) -> Result<Option<Register>, StoreFault>
-    ensures latest { Finds S.Store conn.old conn.new result (λ db found. IsLatestAt db.trees key.now found) }
+    ensures latest { Finds S.Store log.old log.new result (λ trees found. IsLatestAt trees key.now found) }
     ensures failed { IfErr result IsFailure }
-    ensures unchanged { HasStore S.Store conn.old → StaysInOk S.Store conn.old conn.new result }
-    ensures crash { HasStore S.Store conn.old → LeavesNoMore S.Store conn.old conn.new }
+    ensures unchanged { StaysInOk S.Store log.old log.new result }
+    ensures refused { StaysInErr S.Store log.old log.new result }
+    ensures steady { IsSteady S.Store log.old log.new }
+    ensures crash { LeavesNoMore S.Store log.old log.new }
 {
-    let rows = read_rows_of(conn, key)?;
-    let entries = entries_of(alloc, &rows)?;
-    Ok(latest_of(entries))
+    let found = last_register(alloc, &mut log.trees, key);
+    settled(&mut log.trees, found)
 }
 
 /// The time of a write over what is there, at this time of the clock.
@@ -92,20 +116,21 @@ pub fn later_time(found: &Option<Register>, now: u64) -> Result<u64, StoreFault>
 }
 
 /// Writes a text under a key, or that the key is removed, over what `found` says of the key.
-fn write_over<S: Alter>(
-    conn: &mut Connection<S>,
+fn write_over<S: Store>(
+    alloc: Global,
+    log: &mut Log<S>,
     writer: String,
     now: u64,
     key: &str,
     found: &Option<Register>,
     value: Option<String>,
 ) -> Result<(), StoreFault>
-    ensures clean { doubt (state S.Store conn.old).is_clean ≤ doubt (state S.Store conn.new).is_clean }
-    ensures written { Makes S.Store conn.old conn.new result (HasWriteOver key.now found.now writer now value) }
+    ensures written { Makes S.Store log.old log.new result (HasWriteOver key.now found.now writer now value) }
     ensures late { IsErrOf result StoreFault.Time → 2 ^ 63 ≤ time_after found.now now }
     ensures faults { IfErr result IsUnwritten }
-    ensures refused { IsCommitted S.Store conn.old → StaysInErr S.Store conn.old conn.new result }
-    ensures crash { LeavesWhereClean S.Store conn.old conn.new (HasWriteOver key.now found.now writer now value) }
+    ensures refused { StaysInErr S.Store log.old log.new result }
+    ensures steady { IsSteady S.Store log.old log.new }
+    ensures crash { Leaves S.Store log.old log.new (HasWriteOver key.now found.now writer now value) }
 {
     let time = later_time(found, now)?;
     let register = Register {
@@ -113,30 +138,33 @@ fn write_over<S: Alter>(
         writer,
         value,
     };
-    table::add(conn, key, &register)
+    table::add(alloc, log, key, &register)
 }
 
 /// Writes a text under a key, at the clock's time, or one above the time of what is there.
 ///
 /// # Errors
 ///
-/// [`StoreFault::Time`] where the database can't hold that time, [`StoreFault::Database`] and [`StoreFault::Memory`].
-pub fn put<S: Alter>(
+/// [`StoreFault::Time`] where the database can't hold that time, [`StoreFault::Database`], [`StoreFault::Malformed`] and
+/// [`StoreFault::Memory`].
+pub fn put<S: Store>(
     alloc: Global,
-    conn: &mut Connection<S>,
+    log: &mut Log<S>,
     writer: String,
     now: u64,
     key: &str,
     text: String,
 ) -> Result<(), StoreFault>
-    ensures written { Makes S.Store conn.old conn.new result (WritesOver key.now writer now (Some text)) }
-    ensures late { Refuses S.Store conn.old conn.new result StoreFault.Time (λ db. IsWrittenLate db.trees key.now now) }
+    ensures written { Makes S.Store log.old log.new result (WritesOver key.now writer now (Some text)) }
+    ensures late { Refuses S.Store log.old log.new result StoreFault.Time (λ trees. IsWrittenLate trees key.now now) }
     ensures faults { IfErr result IsUnwritten }
-    // A crash leaves what it could leave before, or a database with the write.
-    ensures crash { LeavesOfStore S.Store conn.old conn.new (WritesOver key.now writer now (Some text)) }
+    ensures refused { StaysInErr S.Store log.old log.new result }
+    ensures steady { IsSteady S.Store log.old log.new }
+    // A crash leaves what it could leave before, or trees with the write.
+    ensures crash { Leaves S.Store log.old log.new (WritesOver key.now writer now (Some text)) }
 {
-    let found = find(alloc, conn, key)?;
-    write_over(conn, writer, now, key, &found, Some(text))
+    let found = find(alloc, log, key)?;
+    write_over(alloc, log, writer, now, key, &found, Some(text))
 }
 
 /// Whether a register says a text.
@@ -153,26 +181,29 @@ fn has_text(found: &Option<Register>) -> bool
 ///
 /// # Errors
 ///
-/// [`StoreFault::Time`] where the database can't hold the time of the removal, [`StoreFault::Database`] and [`StoreFault::Memory`].
-pub fn remove<S: Alter>(
+/// [`StoreFault::Time`] where the database can't hold the time of the removal, [`StoreFault::Database`], [`StoreFault::Malformed`] and
+/// [`StoreFault::Memory`].
+pub fn remove<S: Store>(
     alloc: Global,
-    conn: &mut Connection<S>,
+    log: &mut Log<S>,
     writer: String,
     now: u64,
     key: &str,
 ) -> Result<bool, StoreFault>
-    ensures written { MakesAndFinds S.Store conn.old conn.new result (Removes key.now writer now) }
-    ensures late { Refuses S.Store conn.old conn.new result StoreFault.Time (λ db. IsWrittenLate db.trees key.now now) }
+    ensures written { MakesAndFinds S.Store log.old log.new result (Removes key.now writer now) }
+    ensures late { Refuses S.Store log.old log.new result StoreFault.Time (λ trees. IsWrittenLate trees key.now now) }
     ensures faults { IfErr result IsUnwritten }
-    ensures absent { Finds S.Store conn.old conn.new result (λ _ was. was ≡ false → Stays S.Store conn.old conn.new) }
-    // A crash leaves what it could leave before, or a database with the removal.
-    ensures crash { LeavesOfStore S.Store conn.old conn.new (WritesOver key.now writer now None) }
-    ensures was { Finds S.Store conn.old conn.new result (λ db was. IsThere db.trees key.now was) }
+    ensures absent { MakesAndFinds S.Store log.old log.new result (λ old new was. was ≡ false → new ≡ old) }
+    ensures refused { StaysInErr S.Store log.old log.new result }
+    ensures steady { IsSteady S.Store log.old log.new }
+    // A crash leaves what it could leave before, or trees with the removal.
+    ensures crash { Leaves S.Store log.old log.new (WritesOver key.now writer now None) }
+    ensures was { Finds S.Store log.old log.new result (λ trees was. IsThere trees key.now was) }
 {
-    let found = find(alloc, conn, key)?;
+    let found = find(alloc, log, key)?;
     if !has_text(&found) {
         return Ok(false);
     }
-    write_over(conn, writer, now, key, &found, None)?;
+    write_over(alloc, log, writer, now, key, &found, None)?;
     Ok(true)
 }

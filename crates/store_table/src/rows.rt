@@ -1,20 +1,18 @@
 //! What the table holds, without a tree: each key with its latest register.
-ghost use Rattle.std.specs.Prelude.{◌≡◌, ◌≢◌, ◌≤◌, length, filter, count_by, IfOk, IfErr};
+ghost use Rattle.std.specs.Prelude.{◌≡◌, length, filter, IfOk, IfErr};
 ghost use Rattle.std.specs.Option.{option_copied};
 ghost use Rattle.key_order.specs.Text.{text_order};
 ghost use Rattle.key_order.specs.Map.{IsMap, get};
 ghost use Rattle.merkle_replica.specs.Places.{IsPlaceOf, IsGapFor};
-ghost use Rattle.sqlite.specs.Held.{state};
-ghost use Rattle.sqlite.specs.View.{doubt};
-ghost use Rattle.store_table.specs.Entries.{HoldsEntries};
-ghost use Rattle.store_table.specs.Connections.{HasStore, IsUnderway, Finds, Makes, MakesAndFinds, Refuses, StaysInOk, StaysCommitted, LeavesNoMore, LeavesOfStore};
+ghost use Rattle.store_table.specs.Logs.{IsSteady, Finds, Makes, MakesAndFinds, Refuses, StaysInOk, StaysInErr, Leaves, LeavesNoMore};
 ghost use Rattle.store_table.specs.Faults.{IsFailure, IsUnwritten};
-ghost use Rattle.store_table.specs.Rows.{AreLatest, HasLatestRows, HasLateRow, IsCompacted, stays, says_text, is_removal, last_time};
+ghost use Rattle.store_table.specs.Rows.{AreLatest, HasLatestRows, HasLateRow, IsCompacted, stays};
 
 use crate::fault::StoreFault;
+use crate::log::Log;
 use crate::register::Register;
-use crate::table::{Entries, entries_of, read_rows, replace_all};
-use sqlite::{Alter, Connection};
+use crate::table::{Entries, read_log, replace_all};
+use sqlite_trees::store::Store;
 use std::alloc::Global;
 use std::cmp::Ordering;
 
@@ -27,23 +25,6 @@ pub struct Summary {
     pub removed: usize,
     /// The greatest time of a register, or 0.
     pub last: u64,
-}
-
-/// The entries of the table, in no order. It takes time and memory linear in the table.
-///
-/// # Errors
-///
-/// [`StoreFault::Database`] and [`StoreFault::Memory`].
-pub fn read_log<S: Alter>(alloc: Global, conn: &mut Connection<S>) -> Result<Entries, StoreFault>
-    ensures held { Finds S.Store conn.old conn.new result (λ db entries. HoldsEntries db.trees entries.items) }
-    ensures failed { IfErr result IsFailure }
-    ensures unchanged { HasStore S.Store conn.old → StaysInOk S.Store conn.old conn.new result }
-    ensures refused { StaysCommitted S.Store conn.old conn.new result }
-    ensures clean { doubt (state S.Store conn.old).is_clean ≤ doubt (state S.Store conn.new).is_clean }
-    ensures crash { HasStore S.Store conn.old → LeavesNoMore S.Store conn.old conn.new }
-{
-    let rows = read_rows(conn)?;
-    entries_of(alloc, &rows)
 }
 
 /// Of each key the latest entry, ascending by key.
@@ -63,15 +44,15 @@ pub fn latest_rows(entries: Entries) -> Entries
 /// # Errors
 ///
 /// [`StoreFault::Database`] and [`StoreFault::Memory`].
-pub fn read_latest<S: Alter>(alloc: Global, conn: &mut Connection<S>) -> Result<Entries, StoreFault>
-    ensures latest { Finds S.Store conn.old conn.new result (λ db rows. HasLatestRows db.trees rows.items) }
+pub fn read_latest<S: Store>(alloc: Global, log: &mut Log<S>) -> Result<Entries, StoreFault>
+    ensures latest { Finds S.Store log.old log.new result (λ trees rows. HasLatestRows trees rows.items) }
     ensures failed { IfErr result IsFailure }
-    ensures unchanged { HasStore S.Store conn.old → StaysInOk S.Store conn.old conn.new result }
-    ensures refused { StaysCommitted S.Store conn.old conn.new result }
-    ensures clean { doubt (state S.Store conn.old).is_clean ≤ doubt (state S.Store conn.new).is_clean }
-    ensures crash { HasStore S.Store conn.old → LeavesNoMore S.Store conn.old conn.new }
+    ensures unchanged { StaysInOk S.Store log.old log.new result }
+    ensures refused { StaysInErr S.Store log.old log.new result }
+    ensures steady { IsSteady S.Store log.old log.new }
+    ensures crash { LeavesNoMore S.Store log.old log.new }
 {
-    Ok(latest_rows(read_log(alloc, conn)?))
+    Ok(latest_rows(read_log(alloc, log)?))
 }
 
 /// Where the key is among ascending rows, or where it would go.
@@ -99,23 +80,6 @@ pub fn register_in<'a>(rows: &'a [(String, Register)], key: &String) -> Option<&
     }
 }
 
-/// What rows hold, in numbers. It takes time linear in the rows, and no memory.
-pub fn summary_of(rows: &[(String, Register)]) -> Summary
-    ensures keys { result.keys ≡ count_by says_text rows.now }
-    ensures removed { result.removed ≡ count_by is_removal rows.now }
-    ensures last { result.last ≡ last_time rows.now }
-{
-    let mut last = 0u64;
-    for row in rows {
-        last = last.max(row.1.time);
-    }
-    Summary {
-        keys: rows.iter().filter(|row| row.1.value.is_some()).count(),
-        removed: rows.iter().filter(|row| row.1.value.is_none()).count(),
-        last,
-    }
-}
-
 /// Takes out the rows of removals that are older than `before`.
 fn forget(rows: &mut Entries, before: u64)
     ensures { rows.new.items ≡ filter (stays before) rows.old.items }
@@ -131,24 +95,19 @@ fn forget(rows: &mut Entries, before: u64)
 ///
 /// # Errors
 ///
-/// [`StoreFault::Underway`] where a transaction is open already, [`StoreFault::Database`] and [`StoreFault::Memory`]: the file is then as
-/// it was.
-pub fn compact<S: Alter>(
-    alloc: Global,
-    conn: &mut Connection<S>,
-    before: u64,
-) -> Result<usize, StoreFault>
-    ensures compacted { Makes S.Store conn.old conn.new result (IsCompacted before) }
-    ensures left { MakesAndFinds S.Store conn.old conn.new result (λ _ db left. left ≡ length (db.trees 0)) }
-    ensures late { Refuses S.Store conn.old conn.new result StoreFault.Time (λ db. HasLateRow db.trees) }
-    ensures underway { Refuses S.Store conn.old conn.new result StoreFault.Underway (λ _. IsUnderway S.Store conn.old) }
-    ensures faults { IfErr result (λ why. why ≢ StoreFault.Underway → IsUnwritten why) }
-    ensures refused { StaysCommitted S.Store conn.old conn.new result }
-    // A crash leaves what it could leave before, or the compacted database.
-    ensures crash { LeavesOfStore S.Store conn.old conn.new (IsCompacted before) }
+/// [`StoreFault::Database`], [`StoreFault::Malformed`] and [`StoreFault::Memory`]: the file is then as it was.
+pub fn compact<S: Store>(alloc: Global, log: &mut Log<S>, before: u64) -> Result<usize, StoreFault>
+    ensures compacted { Makes S.Store log.old log.new result (IsCompacted before) }
+    ensures left { MakesAndFinds S.Store log.old log.new result (λ _ trees left. left ≡ length (trees 0)) }
+    ensures late { Refuses S.Store log.old log.new result StoreFault.Time HasLateRow }
+    ensures faults { IfErr result IsUnwritten }
+    ensures refused { StaysInErr S.Store log.old log.new result }
+    ensures steady { IsSteady S.Store log.old log.new }
+    // A crash leaves what it could leave before, or the compacted table.
+    ensures crash { Leaves S.Store log.old log.new (IsCompacted before) }
 {
-    let mut rows = read_latest(alloc, conn)?;
+    let mut rows = read_latest(alloc, log)?;
     forget(&mut rows, before);
-    replace_all(conn, &rows)?;
+    replace_all(alloc, log, &rows)?;
     Ok(rows.len())
 }

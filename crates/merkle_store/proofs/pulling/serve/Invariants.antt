@@ -9,6 +9,6 @@ invariant-messages g l = record {
   served : HasServed l.fn.store.replica l.fn.most (g.W.Write.contents l.fn.to, g.R.Read.remaining l.fn.from) (g.W.Write.contents l.to, g.R.Read.remaining l.from);
   rows : l.store.replica.rows ≡ l.fn.store.replica.rows;
   settings : SameSettings l.fn.store.replica.tree l.store.replica.tree;
-  file : l.store.conn ≡ l.fn.store.conn;
+  file : l.store.log ≡ l.fn.store.log;
   set : (l.store.writer ≡ l.fn.store.writer) × (l.store.latest ≡ l.fn.store.latest);
 }

@@ -1,5 +1,5 @@
 use Rattle.std.specs.String.{string_cmp_total}
-use Rattle.sqlite.specs.Held.{state}
+use Rattle.store_table.specs.Logs.{trees_of}
 use Rattle.store_table.specs.contracts.register.RegisterEq.TheImpl.Laws.{laws-law}
 use Rattle.store_table.specs.contracts.registers.RegisterJoin.TheImpl.Laws.{joining-law}
 use Rattle.store_table.proofs.Outcomes.{on_ok}
@@ -8,5 +8,4 @@ use Rattle.merkle_store.proofs.store.create.Goals as goal
 
 pub returns-clause-kept : goal.returns-clause-kept
 returns-clause-kept g c clean =
-    let new = state g.S.Store c.create.new.conn in
-    on_ok c.create.result _ _ (kept_new _ laws-law _ joining-law string_cmp_total c.args.writer.now new.now) (c.create.ensures.created clean)
+    on_ok c.create.result _ _ (kept_new _ laws-law _ joining-law string_cmp_total c.args.writer.now (trees_of g.S.Store c.create.new.log)) (c.create.ensures.created clean)

@@ -1,6 +1,22 @@
+use Rattle.std.proofs.Common.{◌++◌, ◌∷◌, [], Option, subst}
+use Rattle.key_order.specs.Text.{Text as Key}
 use Rattle.store_table.proofs.Outcomes.{if_ok}
+use Rattle.store_table.specs.Reading.{WalksOn}
+use Rattle.store_table.specs.declared.register.Register.{Register}
+use Rattle.mst_commands.specs.Records.{pair_text, pairs_text}
+use Rattle.mst_commands.proofs.CsvLemmas.{written_more, written_out}
+use Rattle.mst_commands.proofs.ReadLemmas.{pairs_more}
 use Rattle.mst_commands.proofs.reading.export.Goals as goal
 
-pub returns-clause-written : goal.returns-clause-written
-returns-clause-written g c has clean =
-    if_ok c.write_rows.result _ _ (λ out app. (c.in_ok-rows.rows.items, c.in_ok-rows.ensures.latest has clean, app)) (rw c.deref.ensures.value at c.write_rows.ensures.written)
+pub returns-in_default-clause-written : goal.returns-in_default-clause-written
+returns-in_default-clause-written g c clean =
+    let (given, walked, wrote) = c.rows.invariant in
+    let all = c.in_ok-row.ensures.all c.in_default.is clean c.args.log.now given walked in
+    if_ok c.finish.result _ _ (λ out kept. (given, all.0, written_out g.W.Write.contents c.args.out out c.rows.writer (pairs_text given) wrote kept)) c.finish.ensures.kept
+
+pub rows-preserved : goal.rows-preserved
+rows-preserved g c =
+    let (given, walked, wrote) = c.rows.invariant in
+    let row = c.in-Some.row in
+    let on = subst (λ (o : Option (Key × Register)). WalksOn g.S.Store c.rows.log c.next_latest.new.log c.rows.walk c.next_latest.new.walk o) c.in-Some.is c.in_ok-row.ensures.walked in
+    (given ++ row ∷ [], on c.args.log.now given walked, written_more g.W.Write.contents c.args.out c.rows.writer c.write_row.new.writer (pairs_text given) (pair_text row) _ wrote c.in_ok-write_row.ensures.written (pairs_more given row))

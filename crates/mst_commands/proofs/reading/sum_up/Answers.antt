@@ -1,20 +1,21 @@
-use Rattle.std.proofs.Common.{arith}
-use Rattle.std.proofs.lemmas.Grind.{common_steps}
-use Rattle.sqlite.specs.Held.{state}
-use Rattle.mst_commands.specs.Reads.{HaveNumbers}
-use Rattle.mst_commands.proofs.ReadLemmas.{as_many_held}
+use Rattle.std.proofs.Common.{◌++◌, ◌∷◌, [], Option, subst, ◌∙◌}
+use Rattle.key_order.specs.Text.{Text as Key}
+use Rattle.store_table.specs.Reading.{WalksOn}
+use Rattle.store_table.specs.declared.register.Register.{Register}
 use Rattle.mst_commands.proofs.reading.sum_up.Goals as goal
 
-pub returns-clause-numbers : goal.returns-clause-numbers
-returns-clause-numbers g c has clean =
-    let told = c.summary_of.ensures in
-    let numbers : HaveNumbers c.deref.result.now c.summary_of.result = record { keys = told.keys; removed = told.removed; last = told.last } in (
-      c.latest_rows-latest.result.items,
-      (c.in_ok-entries.entries.items, c.in_ok-entries.ensures.held has clean, c.latest_rows-latest.ensures),
-      rw c.deref.ensures.value at numbers,
-    )
+pub returns-in_default-clause-numbers : goal.returns-in_default-clause-numbers
+returns-in_default-clause-numbers g c clean =
+    let (given, walked, numbers) = c.rows.invariant in
+    (given, (c.in_ok-row.ensures.all c.in_default.is clean c.args.log.now given walked).0, numbers)
 
-pub returns-clause-rows : goal.returns-clause-rows
-returns-clause-rows g c has clean =
-    let many = as_many_held ((state g.S.Store c.args.conn.now).now.trees 0) c.in_ok-entries.entries.items (c.in_ok-entries.ensures.held has clean) in
-    grind (arith, common_steps)
+pub returns-in_default-clause-rows : goal.returns-in_default-clause-rows
+returns-in_default-clause-rows g c clean =
+    let (given, walked, numbers) = c.rows.invariant in
+    c.count.ensures ∙ (c.in_ok-row.ensures.all c.in_default.is clean c.args.log.now given walked).1
+
+pub rows-preserved : goal.rows-preserved
+rows-preserved g c =
+    let (given, walked, numbers) = c.rows.invariant in
+    let on = subst (λ (o : Option (Key × Register)). WalksOn g.S.Store c.rows.log c.next_latest.new.log c.rows.walk c.next_latest.new.walk o) c.in-Some.is c.in_ok-row.ensures.walked in
+    (given ++ c.in-Some.row ∷ [], on c.args.log.now given walked, c.in_ok-summary.ensures.more given numbers)

@@ -5,19 +5,19 @@ use Rattle.mst_commands.proofs.writing.entries_to_add.Goals as goal
 
 -- of keys and texts
 pub returns-in_default-clause-added : goal.returns-in_default-clause-added
-returns-in_default-clause-added g c has clean =
+returns-in_default-clause-added g c clean =
     let rows = c.in_ok-rows.rows.items in
     let last = c.latest_rows-last.result.items in
-    let latest = c.in_ok-rows.ensures.latest has clean in
+    let latest = c.in_ok-rows.ensures.latest clean in
     if_ok c.all_dated.result _ _ (λ all dated. (rows, last, latest, c.latest_rows-last.ensures, subst (λ log. AreAdded log c.args.writer.now c.args.now rows last all.items) (sym c.in_default.is) dated))
     ((rw c.deref.ensures.value at c.all_dated.ensures.dated) latest.2.ascending)
 
 -- of a log
 pub returns-clause-added : goal.returns-clause-added
-returns-clause-added g c has clean =
+returns-clause-added g c clean =
     let rows = c.in_ok-rows.rows.items in
     let last = c.latest_rows-last.result.items in
-    let latest = c.in_ok-rows.ensures.latest has clean in
+    let latest = c.in_ok-rows.ensures.latest clean in
     let timely = rw c.deref-2.ensures.value at c.in_ok-not_above.ensures.timely in
     let news = (rw c.deref-3.ensures.value at c.retain_news.ensures) latest.2.ascending in
     (rows, last, latest, c.latest_rows-last.ensures, subst (λ log. AreAdded log c.args.writer.now c.args.now rows last c.retain_news.new.news.items) (sym c.in-Some.is) (timely, news))

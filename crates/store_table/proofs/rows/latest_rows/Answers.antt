@@ -5,10 +5,10 @@ use Rattle.std.specs.String.{string_cmp_total}
 use Rattle.std.specs.List.{dedup}
 use Rattle.key_order.specs.Text.{Text as Key, text_order}
 use Rattle.store_table.specs.Registers.{register_order}
-use Rattle.store_table.specs.Rows.{AreLatest}
+use Rattle.store_table.specs.Rows.{AreLatest, same_key}
 use Rattle.store_table.specs.declared.register.Register.{Register}
 use Rattle.store_table.specs.contracts.register.RegisterOrd.TheImpl.Laws.{total-law}
-use Rattle.store_table.proofs.RowLemmas.{same_key, rows_ascend, rows_taken, rows_latest}
+use Rattle.store_table.proofs.RowLemmas.{rows_ascend, rows_taken, rows_latest}
 use Rattle.store_table.proofs.rows.latest_rows.Goals as goal
 
 pub returns : goal.returns

@@ -1,0 +1,80 @@
+-- What a call makes of a log: the trees that it shows, and what a crash may leave. A log is clean where the disk gave back what was written.
+use Rattle.std.specs.Prelude.{◌≡◌, ◌⊎◌, ◌≤◌, false, Result, IfOk, OnOk, OnErr, IsErrOf, IsTrue}
+use Rattle.sqlite_disk.specs.Disk.{MoreFaults}
+use Rattle.sqlite_value.specs.Keys.{plain}
+use Rattle.sqlite_trees.specs.declared.store.Shape.TheVariants.{Table, Index}
+use Rattle.sqlite_trees.specs.declared.store.Store.{Ghosts}
+use Rattle.sqlite_trees.specs.Tree.{Trees}
+use Rattle.sqlite_trees.specs.View.{View, doubt}
+
+-- the first tree is a table without rowids, the second one with them, and both are committed
+pub record HasTables (v : View) : Type 0 where
+  pub entries : v.shape 0 ≡ Index plain
+  pub about : v.shape 1 ≡ Table
+  pub settled : v.shape ≡ v.committed_shape
+
+-- what it shows is committed
+pub record IsAtRest (v : View) : Type 0 where
+  pub sound : v.is_broken ≡ false
+  pub settled : v.trees ≡ v.committed
+
+module _ {S : Type 0} (g : Ghosts S) where
+  -- the trees that a log shows
+  abbrev pub trees_of : S → Trees
+  trees_of log = (g.view log).trees
+
+  -- the disk is clean
+  abbrev pub IsClean : S → Type 0
+  IsClean log = doubt (g.view log).is_clean ≡ 0
+
+  -- no fault has shut it
+  abbrev pub IsOpen : S → Type 0
+  IsOpen log = IsTrue (g.view log).is_open
+
+  -- it has the tables of a store, and while it is open all that it shows is committed
+  pub record IsLog (log : S) : Type 0 where
+    pub tables : IsClean log → HasTables (g.view log)
+    pub rest : IsClean log → IsOpen log → IsAtRest (g.view log)
+
+  -- a crash may leave no more than before
+  abbrev pub LeavesNoMore : S → S → Type 0
+  LeavesNoMore old new = (trees : Trees) → g.recovers new trees → g.recovers old trees
+
+  -- a crash may leave what it could leave before, or over a clean disk trees that are so of the old ones
+  abbrev pub Leaves : S → S → (Trees → Trees → Type 0) → Type 0
+  Leaves old new Is = (trees : Trees) → g.recovers new trees → (IsClean old × Is (trees_of old) trees) ⊎ g.recovers old trees
+
+  -- a disk that isn't clean stays so, no fault is forgotten, and only a fault shuts it
+  pub record IsSteady (old new : S) : Type 0 where
+    pub clean : doubt (g.view old).is_clean ≤ doubt (g.view new).is_clean
+    pub counts : g.faults old ≤ g.faults new
+    pub closes : IsClean new → IsOpen old → IsOpen new ⊎ MoreFaults (g.faults old) (g.faults new)
+
+  module _ {A E : Type 0} (old new : S) (result : Result A E) where
+    -- over a clean disk the answer in `Ok` is so of the trees
+    abbrev pub Finds : (Trees → A → Type 0) → Type 0
+    Finds Is = IsClean new → IfOk result (Is (trees_of old))
+
+    -- over a clean disk a call that is `Ok` shows this of the trees
+    abbrev pub Shows : (Trees → Type 0) → Type 0
+    Shows Is = IsClean new → OnOk result (Is (trees_of old))
+
+    -- over a clean disk a call that is `Ok` makes trees that are so of the old ones
+    abbrev pub Makes : (Trees → Trees → Type 0) → Type 0
+    Makes Is = IsClean new → OnOk result (Is (trees_of old) (trees_of new))
+
+    -- over a clean disk a call that is `Ok` makes trees that are so of the old ones and of the answer
+    abbrev pub MakesAndFinds : (Trees → Trees → A → Type 0) → Type 0
+    MakesAndFinds Is = IsClean new → IfOk result (Is (trees_of old) (trees_of new))
+
+    -- over a clean disk a call fails by this error only where the trees were so
+    abbrev pub Refuses : E → (Trees → Type 0) → Type 0
+    Refuses why Is = IsClean new → IsErrOf result why → Is (trees_of old)
+
+    -- over a clean disk the trees are as they were in `Ok`
+    abbrev pub StaysInOk : Type 0
+    StaysInOk = IsClean new → OnOk result (trees_of new ≡ trees_of old)
+
+    -- over a clean disk, while it is open, the trees are as they were in `Err`
+    abbrev pub StaysInErr : Type 0
+    StaysInErr = IsClean new → IsOpen new → OnErr result (trees_of new ≡ trees_of old)

@@ -1,0 +1,177 @@
+//! The entries of a log, and the latest of each key, one after the other, in the memory of a few rows.
+ghost use Rattle.std.specs.Prelude.{◌≡◌, ◌+◌, [], false, Some, None, IsSome, IfOk, IfErr, OnOk};
+ghost use Rattle.sqlite_trees.specs.View.{KeepsSchema, KeepsCommitted, IsQuiet};
+ghost use Rattle.store_table.specs.Faults.{IsFailure};
+ghost use Rattle.store_table.specs.Logs.{HasTables, IsClean, IsSteady, trees_of, StaysInErr, LeavesNoMore};
+ghost use Rattle.store_table.specs.Reading.{Takes, EndsGroup, IsWalked, ReadsOn, ReadsAll, WalksOn, WalksAll};
+ghost use Rattle.store_table.specs.Walks.{StaysBut};
+
+use crate::entry::entry_of;
+use crate::fault::StoreFault;
+use crate::log::{CURSOR, ENTRIES, Log, settled};
+use crate::register::Register;
+use sqlite_trees::store::{Direction, Store};
+use sqlite_value::row::Row;
+use std::alloc::Global;
+
+/// A walk through the entries of a log. Another call on the log ends it.
+#[derive(Drop)]
+pub struct Walk {
+    /// The row that was read last.
+    row: Row,
+    /// The latest entry so far of the key that it is at.
+    ahead: Option<(String, Register)>,
+    /// How many entries it has read.
+    count: usize,
+}
+
+impl Walk {
+    /// How many entries the walk has read.
+    pub fn count(&self) -> usize
+        ensures { result ≡ self.now.count }
+    {
+        self.count
+    }
+}
+
+/// Places the cursor before the first row.
+fn seek_first<S: Store>(alloc: Global, trees: &mut S) -> Result<(), StoreFault>
+    requires tables { IsClean S.Store trees.old → HasTables (S.Store.view trees.old) }
+    ensures begun { OnOk result (IsClean S.Store trees.new → (S.Store.view trees.new).cursors 0 ≡ Some (trees_of S.Store trees.old 0)) }
+    ensures live { OnOk result (IsSome ((S.Store.view trees.new).cursors 0)) }
+    ensures failed { IfErr result IsFailure }
+    ensures same { OnOk result (IsClean S.Store trees.new → StaysBut (S.Store.view trees.old) (S.Store.view trees.new)) }
+    ensures schema { KeepsSchema (S.Store.view trees.old) (S.Store.view trees.new) }
+    ensures kept { IsClean S.Store trees.new → KeepsCommitted (S.Store.view trees.old) (S.Store.view trees.new) }
+    ensures quiet { IsQuiet S.Store.view S.Store.faults S.Store.recovers S.Store.is_shielded trees.old trees.new }
+{
+    trees.seek(CURSOR, ENTRIES, &Row::new(alloc), Direction::Forward)?;
+    Ok(())
+}
+
+/// Begins a walk before the first entry.
+///
+/// # Errors
+///
+/// [`StoreFault::Database`] and [`StoreFault::Memory`]. Nothing is written.
+pub fn begin<S: Store>(alloc: Global, log: &mut Log<S>) -> Result<Walk, StoreFault>
+    ensures begun { IfOk result (λ walk. IsWalked S.Store log.old log.new walk []) }
+    ensures failed { IfErr result IsFailure }
+    ensures refused { StaysInErr S.Store log.old log.new result }
+    ensures steady { IsSteady S.Store log.old log.new }
+    ensures crash { LeavesNoMore S.Store log.old log.new }
+{
+    match seek_first(alloc, &mut log.trees) {
+        Ok(()) => Ok(Walk {
+            row: Row::new(alloc),
+            ahead: None,
+            count: 0,
+        }),
+        Err(why) => settled(&mut log.trees, Err(why)),
+    }
+}
+
+/// The entry of the next row, if there is one.
+fn take_entry<S: Store>(
+    alloc: Global,
+    trees: &mut S,
+    row: &mut Row,
+) -> Result<Option<(String, Register)>, StoreFault>
+    requires live { IsSome ((S.Store.view trees.old).cursors 0) }
+    ensures taken { IfOk result (λ found. IsClean S.Store trees.new → Takes (S.Store.view trees.old) (S.Store.view trees.new) found) }
+    ensures live { OnOk result (IsSome ((S.Store.view trees.new).cursors 0)) }
+    ensures failed { IfErr result IsFailure }
+    ensures same { OnOk result (IsClean S.Store trees.new → StaysBut (S.Store.view trees.old) (S.Store.view trees.new)) }
+    ensures sound { OnOk result (IsClean S.Store trees.new → (S.Store.view trees.old).is_broken ≡ false) }
+    ensures schema { KeepsSchema (S.Store.view trees.old) (S.Store.view trees.new) }
+    ensures kept { IsClean S.Store trees.new → KeepsCommitted (S.Store.view trees.old) (S.Store.view trees.new) }
+    ensures quiet { IsQuiet S.Store.view S.Store.faults S.Store.recovers S.Store.is_shielded trees.old trees.new }
+{
+    if !trees.next(CURSOR, row)? {
+        return Ok(None);
+    }
+    Ok(Some(entry_of(alloc, row)?))
+}
+
+/// The next entry of a walk, or none where it has read all.
+fn next_entry<S: Store>(
+    alloc: Global,
+    log: &mut Log<S>,
+    row: &mut Row,
+) -> Result<Option<(String, Register)>, StoreFault>
+    requires live { IsSome ((S.Store.view log.old).cursors 0) }
+    ensures taken { IfOk result (λ found. IsClean S.Store log.new → Takes (S.Store.view log.old) (S.Store.view log.new) found) }
+    ensures read { IfOk result (λ found. ReadsOn S.Store log.old log.new found) }
+    ensures all { IfOk result (λ found. found ≡ None → IsClean S.Store log.new → ReadsAll S.Store log.old log.new) }
+    ensures failed { IfErr result IsFailure }
+    ensures live { OnOk result (IsSome ((S.Store.view log.new).cursors 0)) }
+    ensures same { OnOk result (IsClean S.Store log.new → StaysBut (S.Store.view log.old) (S.Store.view log.new)) }
+    ensures refused { StaysInErr S.Store log.old log.new result }
+    ensures steady { IsSteady S.Store log.old log.new }
+    ensures crash { LeavesNoMore S.Store log.old log.new }
+{
+    match take_entry(alloc, &mut log.trees, row) {
+        Ok(found) => Ok(found),
+        Err(why) => settled(&mut log.trees, Err(why)),
+    }
+}
+
+/// Takes an entry in behind those that a walk has read, and answers the last one before it where that is of another key.
+fn take_in(walk: &mut Walk, entry: (String, Register)) -> Option<(String, Register)>
+    ensures ended { EndsGroup walk.old.ahead walk.new.ahead entry result }
+    ensures count { walk.new.count ≡ walk.old.count }
+{
+    let is_same = match &walk.ahead {
+        Some(last) => last.0 == entry.0,
+        None => true,
+    };
+    let last = walk.ahead.replace(entry);
+    if is_same { None } else { last }
+}
+
+/// Counts an entry.
+fn count_one(walk: &mut Walk) -> Result<(), StoreFault>
+    ensures counted { OnOk result (walk.new.count ≡ walk.old.count + 1) }
+    ensures ahead { walk.new.ahead ≡ walk.old.ahead }
+    ensures failed { IfErr result IsFailure }
+{
+    match walk.count.checked_add(1) {
+        Some(count) => {
+            walk.count = count;
+            Ok(())
+        }
+        None => Err(StoreFault::Malformed),
+    }
+}
+
+/// The latest entry of the next key of a walk, or none where it has handed out all. It takes memory for a few rows.
+///
+/// # Errors
+///
+/// [`StoreFault::Database`], [`StoreFault::Malformed`] and [`StoreFault::Memory`]. Nothing is written.
+pub fn next_latest<S: Store>(
+    alloc: Global,
+    log: &mut Log<S>,
+    walk: &mut Walk,
+) -> Result<Option<(String, Register)>, StoreFault>
+    requires live { IsSome ((S.Store.view log.old).cursors 0) }
+    ensures walked { IfOk result (λ found. WalksOn S.Store log.old log.new walk.old walk.new found) }
+    ensures all { IfOk result (λ found. found ≡ None → IsClean S.Store log.new → WalksAll S.Store log.old log.new walk.old walk.new) }
+    ensures failed { IfErr result IsFailure }
+    ensures live { OnOk result (IsSome ((S.Store.view log.new).cursors 0)) }
+    ensures same { OnOk result (IsClean S.Store log.new → StaysBut (S.Store.view log.old) (S.Store.view log.new)) }
+    ensures refused { StaysInErr S.Store log.old log.new result }
+    ensures steady { IsSteady S.Store log.old log.new }
+    ensures crash { LeavesNoMore S.Store log.old log.new }
+{
+    'entries: for _ in 0..u64::MAX {
+        let Some(entry) = next_entry(alloc, log, &mut walk.row)? else {
+            return Ok(walk.ahead.take());
+        };
+        count_one(walk)?;
+        if let Some(last) = take_in(walk, entry) {
+            return Ok(Some(last));
+        }
+    }
+    Err(StoreFault::Malformed)
+}

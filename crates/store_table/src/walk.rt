@@ -1,0 +1,180 @@
+//! Walks through the rows of the table of entries, which are one transaction with what a caller does next.
+ghost use Rattle.std.specs.Prelude.{◌≡◌, ◌≤◌, ◌^◌, [], ◌∷◌, ◌++◌, map, false, IfOk, IfErr, OnOk, IsErrOf};
+ghost use Rattle.sqlite_trees.specs.Tree.{sought, insert_entry};
+ghost use Rattle.sqlite_trees.specs.View.{KeepsSchema, KeepsCommitted, IsQuiet, OnlyWrites};
+ghost use Rattle.sqlite_value.specs.Keys.{plain};
+ghost use Rattle.store_table.specs.Entries.{entry_row, entry_row_of, with_rows};
+ghost use Rattle.store_table.specs.Faults.{IsFailure, IsUnwritten};
+ghost use Rattle.store_table.specs.Logs.{HasTables, IsClean, trees_of};
+ghost use Rattle.store_table.specs.Registers.{HaveLateTime};
+ghost use Rattle.store_table.specs.Walks.{Gives, StaysBut};
+
+use crate::entry::{Entries, entry_of, fill_row};
+use crate::fault::StoreFault;
+use crate::log::{CURSOR, ENTRIES};
+use crate::register::Register;
+use sqlite_trees::error::StoreError;
+use sqlite_trees::store::{Direction, Store};
+use sqlite_value::row::Row;
+use std::alloc::Global;
+
+/// The last row that is not above the key, or the first that is not below it, over the columns that the key has.
+pub(crate) fn look<S: Store>(
+    trees: &mut S,
+    key: &Row,
+    direction: Direction,
+    row: &mut Row,
+) -> Result<bool, StoreError>
+    requires tables { IsClean S.Store trees.old → HasTables (S.Store.view trees.old) }
+    ensures found { IfOk result (λ found. IsClean S.Store trees.new → Gives (sought plain direction key.now (trees_of S.Store trees.old 0)) row.new found) }
+    ensures same { OnOk result (IsClean S.Store trees.new → StaysBut (S.Store.view trees.old) (S.Store.view trees.new)) }
+    ensures sound { OnOk result (IsClean S.Store trees.new → (S.Store.view trees.old).is_broken ≡ false) }
+    ensures schema { KeepsSchema (S.Store.view trees.old) (S.Store.view trees.new) }
+    ensures kept { IsClean S.Store trees.new → KeepsCommitted (S.Store.view trees.old) (S.Store.view trees.new) }
+    ensures quiet { IsQuiet S.Store.view S.Store.faults S.Store.recovers S.Store.is_shielded trees.old trees.new }
+{
+    trees.seek(CURSOR, ENTRIES, key, direction)?;
+    trees.next(CURSOR, row)
+}
+
+/// Adds the entry of a row.
+fn push_entry(alloc: Global, row: &Row, entries: &mut Entries) -> Result<(), StoreFault>
+    ensures pushed { OnOk result (map entry_row entries.new.items ≡ map entry_row entries.old.items ++ row.now ∷ []) }
+    ensures failed { IfErr result IsFailure }
+{
+    let entry = entry_of(alloc, row)?;
+    if entries.push(entry).is_err() {
+        return Err(StoreFault::Memory);
+    }
+    Ok(())
+}
+
+/// All entries.
+pub(crate) fn all_entries<S: Store>(alloc: Global, trees: &mut S) -> Result<Entries, StoreFault>
+    requires tables { IsClean S.Store trees.old → HasTables (S.Store.view trees.old) }
+    ensures found { IfOk result (λ entries. IsClean S.Store trees.new → trees_of S.Store trees.old 0 ≡ map entry_row entries.items) }
+    ensures failed { IfErr result IsFailure }
+    ensures same { OnOk result (IsClean S.Store trees.new → StaysBut (S.Store.view trees.old) (S.Store.view trees.new)) }
+    ensures sound { OnOk result (IsClean S.Store trees.new → (S.Store.view trees.old).is_broken ≡ false) }
+    ensures schema { KeepsSchema (S.Store.view trees.old) (S.Store.view trees.new) }
+    ensures kept { IsClean S.Store trees.new → KeepsCommitted (S.Store.view trees.old) (S.Store.view trees.new) }
+    ensures quiet { IsQuiet S.Store.view S.Store.faults S.Store.recovers S.Store.is_shielded trees.old trees.new }
+{
+    let mut entries = Vec::new(alloc);
+    let mut row = Row::new(alloc);
+    trees.seek(CURSOR, ENTRIES, &row, Direction::Forward)?;
+    'rows: for _ in 0..u64::MAX {
+        if !trees.next(CURSOR, &mut row)? {
+            return Ok(entries);
+        }
+        push_entry(alloc, &row, &mut entries)?;
+    }
+    Err(StoreFault::Malformed)
+}
+
+/// Takes out the first row, if there is one.
+fn remove_first<S: Store>(trees: &mut S, none: &Row, row: &mut Row) -> Result<bool, StoreError>
+    requires tables { IsClean S.Store trees.old → HasTables (S.Store.view trees.old) }
+    requires none { none.now ≡ [] }
+    ensures last { IfOk result (λ more. IsClean S.Store trees.new → more ≡ false → trees_of S.Store trees.new 0 ≡ []) }
+    ensures others { OnOk result (IsClean S.Store trees.new → trees_of S.Store trees.new 1 ≡ trees_of S.Store trees.old 1) }
+    ensures frame { OnOk result (IsClean S.Store trees.new → OnlyWrites (S.Store.view trees.old) (S.Store.view trees.new)) }
+    ensures sound { OnOk result (IsClean S.Store trees.new → (S.Store.view trees.old).is_broken ≡ false) }
+    ensures schema { KeepsSchema (S.Store.view trees.old) (S.Store.view trees.new) }
+    ensures kept { IsClean S.Store trees.new → KeepsCommitted (S.Store.view trees.old) (S.Store.view trees.new) }
+    ensures quiet { IsQuiet S.Store.view S.Store.faults S.Store.recovers S.Store.is_shielded trees.old trees.new }
+{
+    if !look(trees, none, Direction::Forward, row)? {
+        return Ok(false);
+    }
+    trees.remove(ENTRIES, row)?;
+    Ok(true)
+}
+
+/// Takes out all rows.
+pub(crate) fn clear<S: Store>(alloc: Global, trees: &mut S) -> Result<(), StoreFault>
+    requires tables { IsClean S.Store trees.old → HasTables (S.Store.view trees.old) }
+    ensures cleared { OnOk result (IsClean S.Store trees.new → trees_of S.Store trees.new 0 ≡ []) }
+    ensures others { OnOk result (IsClean S.Store trees.new → trees_of S.Store trees.new 1 ≡ trees_of S.Store trees.old 1) }
+    ensures failed { IfErr result IsFailure }
+    ensures frame { OnOk result (IsClean S.Store trees.new → OnlyWrites (S.Store.view trees.old) (S.Store.view trees.new)) }
+    ensures sound { OnOk result (IsClean S.Store trees.new → (S.Store.view trees.old).is_broken ≡ false) }
+    ensures schema { KeepsSchema (S.Store.view trees.old) (S.Store.view trees.new) }
+    ensures kept { IsClean S.Store trees.new → KeepsCommitted (S.Store.view trees.old) (S.Store.view trees.new) }
+    ensures quiet { IsQuiet S.Store.view S.Store.faults S.Store.recovers S.Store.is_shielded trees.old trees.new }
+{
+    let none = Row::new(alloc);
+    let mut row = Row::new(alloc);
+    'rows: for _ in 0..u64::MAX {
+        if !remove_first(trees, &none, &mut row)? {
+            return Ok(());
+        }
+    }
+    Err(StoreFault::Malformed)
+}
+
+/// Puts the row of an entry at its place, unless it is there.
+pub(crate) fn insert<S: Store>(
+    trees: &mut S,
+    row: &mut Row,
+    key: &str,
+    register: &Register,
+) -> Result<(), StoreFault>
+    requires tables { IsClean S.Store trees.old → HasTables (S.Store.view trees.old) }
+    ensures added { OnOk result (IsClean S.Store trees.new → trees_of S.Store trees.new 0 ≡ insert_entry plain (entry_row_of key.now register.now) (trees_of S.Store trees.old 0)) }
+    ensures others { OnOk result (IsClean S.Store trees.new → trees_of S.Store trees.new 1 ≡ trees_of S.Store trees.old 1) }
+    ensures late { IsErrOf result StoreFault.Time → 2 ^ 63 ≤ register.now.time }
+    ensures faults { IfErr result IsUnwritten }
+    ensures frame { OnOk result (IsClean S.Store trees.new → OnlyWrites (S.Store.view trees.old) (S.Store.view trees.new)) }
+    ensures sound { OnOk result (IsClean S.Store trees.new → (S.Store.view trees.old).is_broken ≡ false) }
+    ensures schema { KeepsSchema (S.Store.view trees.old) (S.Store.view trees.new) }
+    ensures kept { IsClean S.Store trees.new → KeepsCommitted (S.Store.view trees.old) (S.Store.view trees.new) }
+    ensures quiet { IsQuiet S.Store.view S.Store.faults S.Store.recovers S.Store.is_shielded trees.old trees.new }
+{
+    fill_row(row, key, register)?;
+    trees.insert(ENTRIES, row)?;
+    Ok(())
+}
+
+/// Puts the rows of entries at their places, but for those that are there.
+pub(crate) fn insert_all<S: Store>(
+    alloc: Global,
+    trees: &mut S,
+    entries: &[(String, Register)],
+) -> Result<(), StoreFault>
+    requires tables { IsClean S.Store trees.old → HasTables (S.Store.view trees.old) }
+    ensures added { OnOk result (IsClean S.Store trees.new → trees_of S.Store trees.new 0 ≡ with_rows (trees_of S.Store trees.old 0) (map entry_row entries.now)) }
+    ensures others { OnOk result (IsClean S.Store trees.new → trees_of S.Store trees.new 1 ≡ trees_of S.Store trees.old 1) }
+    ensures late { IsErrOf result StoreFault.Time → HaveLateTime entries.now }
+    ensures faults { IfErr result IsUnwritten }
+    ensures frame { OnOk result (IsClean S.Store trees.new → OnlyWrites (S.Store.view trees.old) (S.Store.view trees.new)) }
+    ensures schema { KeepsSchema (S.Store.view trees.old) (S.Store.view trees.new) }
+    ensures kept { IsClean S.Store trees.new → KeepsCommitted (S.Store.view trees.old) (S.Store.view trees.new) }
+    ensures quiet { IsQuiet S.Store.view S.Store.faults S.Store.recovers S.Store.is_shielded trees.old trees.new }
+{
+    let mut row = Row::new(alloc);
+    'entries: for entry in entries {
+        insert(trees, &mut row, entry.0.as_str(), &entry.1)?;
+    }
+    Ok(())
+}
+
+/// Puts the rows of entries in place of those that are there.
+pub(crate) fn replace<S: Store>(
+    alloc: Global,
+    trees: &mut S,
+    entries: &[(String, Register)],
+) -> Result<(), StoreFault>
+    requires tables { IsClean S.Store trees.old → HasTables (S.Store.view trees.old) }
+    ensures added { OnOk result (IsClean S.Store trees.new → trees_of S.Store trees.new 0 ≡ with_rows [] (map entry_row entries.now)) }
+    ensures others { OnOk result (IsClean S.Store trees.new → trees_of S.Store trees.new 1 ≡ trees_of S.Store trees.old 1) }
+    ensures late { IsErrOf result StoreFault.Time → HaveLateTime entries.now }
+    ensures faults { IfErr result IsUnwritten }
+    ensures frame { OnOk result (IsClean S.Store trees.new → OnlyWrites (S.Store.view trees.old) (S.Store.view trees.new)) }
+    ensures schema { KeepsSchema (S.Store.view trees.old) (S.Store.view trees.new) }
+    ensures kept { IsClean S.Store trees.new → KeepsCommitted (S.Store.view trees.old) (S.Store.view trees.new) }
+    ensures quiet { IsQuiet S.Store.view S.Store.faults S.Store.recovers S.Store.is_shielded trees.old trees.new }
+{
+    clear(alloc, trees)?;
+    insert_all(alloc, trees, entries)
+}
