@@ -1,5 +1,5 @@
 -- A catch-up over two streams, exchange by exchange, and what a peer answers.
-use Rattle.std.proofs.Common.{◌≡◌, ℕ, ◌≤◌, List, [], ◌∷◌, ◌++◌, length, Option, refl, sym, ap, subst, append_assoc, append-nil}
+use Rattle.std.proofs.Common.{◌≡◌, ℕ, ◌≤◌, List, [], ◌∷◌, ◌++◌, length, Option, refl, sym, subst, append_assoc, append-nil}
 use Rattle.std.specs.Global.{Vec}
 use Rattle.std.specs.Io.KnownBytes.{Appends, Consumes}
 use Rattle.std.specs.List.{AllByRecursion, flat_map}
@@ -11,7 +11,6 @@ use Rattle.merkle_replica.specs.Contents.{side}
 use Rattle.merkle_delta.specs.CatchUps.{IsNext}
 use Rattle.merkle_delta.specs.Exchanges.{Begins, Exchanges, IsReplyBy, LeadTo}
 use Rattle.merkle_delta.specs.Underway.{Underway}
-use Rattle.merkle_delta.specs.declared.catching_up.Next.{Next}
 use Rattle.merkle_delta.specs.declared.catching_up.Next.TheVariants.{Ask, Came}
 use Rattle.store_table.specs.WireRegisters.{register_encoding}
 use Rattle.store_table.specs.declared.register.Register.{Register}

@@ -6,6 +6,7 @@ use mst_commands::Fault;
 use sqlite_disk::{Disk, Files};
 use sqlite_std_file::{File, OpenError, Unknown};
 use sqlite_store::FileStore;
+use sqlite_trees::error::StoreError;
 use sqlite_trees::store::Store;
 use std::fs;
 use std::hash::{BuildHasher, RandomState};
@@ -20,13 +21,16 @@ pub type FileTrees = FileStore<Unsure<File>>;
 
 /// A log whose file can be closed. What runs over any such one has no file to drop, whose many parts make a function slow to prove.
 pub trait Closing: Sized + Drop {
-    /// Closes the file.
+    /// Closes the file. Where it has no room for what its log holds, the log keeps that, and what was committed is read from there.
     fn close_all(self) -> Result<(), Failure>;
 }
 
 impl Closing for Log<FileTrees> {
     fn close_all(self) -> Result<(), Failure> {
-        Ok(store_file::close(self.into_trees())?)
+        match store_file::close(self.into_trees()) {
+            Ok(()) | Err(StoreError::Full) => Ok(()),
+            Err(error) => Err(Failure::from(error)),
+        }
     }
 }
 

@@ -1,8 +1,9 @@
 //! Walks through the rows of the table of entries, which are one transaction with what a caller does next.
 ghost use Rattle.std.specs.Prelude.{◌≡◌, ◌≤◌, ◌^◌, [], ◌∷◌, ◌++◌, map, false, IfOk, IfErr, OnOk, IsErrOf};
+ghost use Rattle.std.specs.Ordering.{is_gt};
 ghost use Rattle.sqlite_trees.specs.Tree.{sought, insert_entry};
 ghost use Rattle.sqlite_trees.specs.View.{KeepsSchema, KeepsCommitted, IsQuiet, OnlyWrites};
-ghost use Rattle.sqlite_value.specs.Keys.{plain};
+ghost use Rattle.sqlite_value.specs.Keys.{plain, entry_cmp};
 ghost use Rattle.store_table.specs.Entries.{entry_row, entry_row_of, with_rows};
 ghost use Rattle.store_table.specs.Faults.{IsFailure, IsUnwritten};
 ghost use Rattle.store_table.specs.Logs.{HasTables, IsClean, trees_of};
@@ -15,6 +16,7 @@ use crate::log::{CURSOR, ENTRIES};
 use crate::register::Register;
 use sqlite_trees::error::StoreError;
 use sqlite_trees::store::{Direction, Store};
+use sqlite_value::keys::Order;
 use sqlite_value::row::Row;
 use std::alloc::Global;
 
@@ -91,7 +93,14 @@ fn remove_first<S: Store>(trees: &mut S, none: &Row, row: &mut Row) -> Result<bo
     Ok(true)
 }
 
-/// Takes out all rows.
+/// Whether a row is above another.
+fn is_above(row: &Row, other: &Row) -> bool
+    ensures { result ≡ is_gt (entry_cmp plain row.now other.now) }
+{
+    row.cmp_entry(Order::PLAIN, other).is_gt()
+}
+
+/// Takes out all rows, each above the one before: in a damaged tree a row may stay that is taken out, and the walk ends there.
 pub(crate) fn clear<S: Store>(alloc: Global, trees: &mut S) -> Result<(), StoreFault>
     requires tables { IsClean S.Store trees.old → HasTables (S.Store.view trees.old) }
     ensures cleared { OnOk result (IsClean S.Store trees.new → trees_of S.Store trees.new 0 ≡ []) }
@@ -105,10 +114,15 @@ pub(crate) fn clear<S: Store>(alloc: Global, trees: &mut S) -> Result<(), StoreF
 {
     let none = Row::new(alloc);
     let mut row = Row::new(alloc);
+    let mut last = Row::new(alloc);
     'rows: for _ in 0..u64::MAX {
         if !remove_first(trees, &none, &mut row)? {
             return Ok(());
         }
+        if !is_above(&row, &last) {
+            return Err(StoreFault::Malformed);
+        }
+        std::mem::swap(&mut row, &mut last);
     }
     Err(StoreFault::Malformed)
 }
