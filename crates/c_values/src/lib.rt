@@ -1,11 +1,11 @@
-//! What the calls for C share: statuses, sixteen bytes as C passes them, bytes for the caller, and a `Box` taken apart.
+//! What the calls for C share: statuses, sixteen bytes as C passes them, bytes for the caller, and what is held behind a pointer.
 #![tactic(auto)]
 
 mod bytes16;
+mod handle;
 mod output;
-mod parts;
 pub mod status;
 
 pub use bytes16::MstBytes16;
+pub use handle::Handle;
 pub use output::put_bytes;
-pub use parts::Parts;

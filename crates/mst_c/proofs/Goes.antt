@@ -34,7 +34,7 @@ use Rattle.merkle_digest.specs.contracts.wrappers.ValueDigest as ValueDigest
 use Rattle.merkle_digest.proofs.wrappers.PageDigest.TheSendSync as page_digest
 use Rattle.merkle_digest.proofs.wrappers.RootHash.TheSendSync as root_hash
 use Rattle.merkle_digest.proofs.wrappers.ValueDigest.TheSendSync as value_digest
-use Rattle.mst_c.specs.Owned.{handle_owns}
+use Rattle.c_values.specs.Owned.{handle_owns}
 use Rattle.mst_c.specs.Goes.{HandleGoes}
 use Rattle.mst_c.specs.contracts.byte_tree.ByteTree as Tree
 use Rattle.mst_c.specs.contracts.handle.MstTree.{the_type}
@@ -52,7 +52,7 @@ tree_goes =
       (search sendable depth 10, (search sendable depth 10, tt)),
     ))
 
-owned_by : (alloc : Global) (ptr : Ptr) (tree : Option Tree.the_row.Denot) → Keyless (handle_owns alloc ptr tree)
+owned_by : (alloc : Global) (ptr : Ptr) (tree : Option Tree.the_row.Denot) → Keyless (handle_owns Tree.the_row alloc ptr tree)
 owned_by alloc ptr None = λ _. tt
 owned_by alloc ptr (Some tree) = (lies Tree.the_row tree_goes ptr tree, frees.frees alloc (raw (lone Tree.the_row.mir)) ptr)
 

@@ -3,7 +3,6 @@ pub mod Lists
 pub mod Loads
 pub mod Pages
 pub mod Ranges
-pub mod Rows
 pub mod Sets
 pub mod Spots
 pub mod Strings

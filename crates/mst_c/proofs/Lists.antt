@@ -1,23 +1,12 @@
--- Lists as bytes, whatever their entries: how one is written, and that it is read in one way.
-use Rattle.std.proofs.Common.{◌≡◌, ℕ, ◌+◌, ◌<◌, ◌≤◌, ◌^◌, List, [], ◌∷◌, ◌++◌, map, length, take, get_or, sym, ap, ◌∙◌, arith}
+-- Lists as bytes, whatever their entries: each is read in one way.
+use Rattle.std.proofs.Common.{◌≡◌, ℕ, ◌+◌, ◌<◌, ◌≤◌, ◌^◌, List, [], ◌∷◌, ◌++◌, map, length, sym, ap, ◌∙◌, arith}
 use Rattle.std.specs.Bool.{⊤}
 use Rattle.std.specs.List.{AllByRecursion, flat_map}
-use Rattle.std.proofs.lemmas.List.{append_assoc, append-nil, length-append, map-append, take_more}
+use Rattle.std.proofs.lemmas.List.{append_assoc, append-nil, length-append}
 use Rattle.std.proofs.lemmas.Grind.{flat_map-append}
 use Rattle.key_order.proofs.ListParts.{join_tells}
 use Rattle.mst_c.specs.Wire.{number_bytes, list_bytes}
 use Rattle.mst_c.proofs.Strings.{one_number}
-
--- one entry more is written
-pub one_more : {X Y : Type 0} (to : X → Y) (bytes : Y → List ℕ) (xs : List X) (i : ℕ) (x : X) (front old new : List ℕ)
-    → i < length xs → x ≡ get_or xs i x → old ≡ front ++ flat_map bytes (map to (take i xs)) → new ≡ old ++ bytes (to x) → new ≡ front ++ flat_map bytes (map to (take (i + 1) xs))
-one_more to bytes xs i x front old new low is was put =
-    let done = flat_map bytes (map to (take i xs)) in
-    put ∙ ap (λ t. t ++ bytes (to x)) was ∙ append_assoc front done (bytes (to x))
-    ∙ ap (λ t. front ++ t)
-    (ap (λ t. done ++ t) (sym (append-nil (bytes (to x)))) ∙ sym (flat_map-append bytes (map to (take i xs)) (to x ∷ []))
-    ∙ ap (flat_map bytes) (sym (map-append to (take i xs) (x ∷ [])))
-    ∙ ap (λ t. flat_map bytes (map to t)) (ap (λ y. take i xs ++ y ∷ []) is ∙ sym (take_more xs i x low)))
 
 -- one entry more was read
 pub read_more : {X : Type 0} (bytes : X → List ℕ) (done : List X) (x : X) (all rest behind : List ℕ)

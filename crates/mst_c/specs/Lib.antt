@@ -1,7 +1,6 @@
 pub mod Handles
 pub mod Keys
 pub mod Lists
-pub mod Owned
 pub mod Pages
 pub mod Spots
 pub mod Trees

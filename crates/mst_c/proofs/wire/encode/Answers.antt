@@ -5,7 +5,8 @@ use Rattle.std.proofs.lemmas.List.Folds.{flat_map-map}
 use Rattle.merkle_diff.specs.PageRange.{entry, entries}
 use Rattle.mst_c.specs.Lists.{IsPageRange, entry_by_bytes}
 use Rattle.mst_c.specs.Wire.{number_bytes, entry_bytes, page_mark}
-use Rattle.mst_c.proofs.Lists.{all_more, one_more}
+use Rattle.c_values.proofs.Lists.{one_more}
+use Rattle.mst_c.proofs.Lists.{all_more}
 use Rattle.mst_c.proofs.wire.encode.Goals as goal
 
 pub entries-preserved : goal.entries-preserved

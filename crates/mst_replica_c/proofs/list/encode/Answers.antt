@@ -1,7 +1,7 @@
 use Rattle.std.proofs.Common.{◌++◌, length}
 use Rattle.mst_replica_c.specs.Values.{by_bytes}
 use Rattle.mst_replica_c.specs.Wire.{number_bytes, row_bytes, row_mark}
-use Rattle.mst_replica_c.proofs.Bytes.{one_more}
+use Rattle.c_values.proofs.Lists.{one_more}
 use Rattle.mst_replica_c.proofs.list.encode.Goals as goal
 
 pub rows-preserved : goal.rows-preserved
