@@ -8,6 +8,7 @@ ghost use Rattle.mst_c.specs.declared.byte_tree.ByteTree.{ByteTree as Held};
 
 use crate::byte_tree::ByteTree;
 use c_values::Handle;
+use core::mem;
 use std::alloc::Global;
 use std::marker::Model;
 
@@ -48,23 +49,38 @@ impl MstTree {
     }
 
     /// The handle without a tree.
-    pub fn empty(alloc: Global) -> MstTree
+    fn empty(alloc: Global) -> MstTree
         ensures { result.tree ≡ None }
     {
         MstTree::of_handle(Handle::empty(alloc))
     }
 
     /// The handle of a tree.
-    pub fn of_box(tree: Box<ByteTree>) -> MstTree
+    fn of_box(tree: Box<ByteTree>) -> MstTree
         ensures { result.tree ≡ Some tree.value }
     {
         MstTree::of_handle(Handle::of_box(tree))
     }
 
     /// The tree of the handle, where it has one.
-    pub fn into_box(self) -> Option<Box<ByteTree>>
+    fn into_box(self) -> Option<Box<ByteTree>>
         ensures { option_map (λ tree. tree.value) result ≡ self.tree }
     {
         self.into_handle().into_box()
     }
+}
+
+/// Takes the tree out of a handle, which has none then.
+pub fn take_out(alloc: Global, handle: &mut MstTree) -> Option<Box<ByteTree>>
+    ensures taken { option_map (λ tree. tree.value) result ≡ handle.old.tree }
+    ensures empty { handle.new.tree ≡ None }
+{
+    mem::replace(handle, MstTree::empty(alloc)).into_box()
+}
+
+/// Puts a tree into a handle. One that it has is let go.
+pub fn put_back(handle: &mut MstTree, tree: Box<ByteTree>)
+    ensures { handle.new.tree ≡ Some tree.value }
+{
+    drop(mem::replace(handle, MstTree::of_box(tree)).into_box());
 }

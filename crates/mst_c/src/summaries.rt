@@ -8,11 +8,10 @@ ghost use Rattle.mst_c.specs.Pages.{TellsPages, pages_bytes};
 ghost use Rattle.mst_c.specs.Trees.{bytes_of, rows_of, SameRows};
 ghost use Rattle.mst_c.specs.Wire.{digests_bytes};
 
-use crate::handle::MstTree;
+use crate::handle::{MstTree, put_back, take_out};
 use crate::reading::{ReadError, differences};
 use c_values::status::{ARGUMENT, DONE, MALFORMED, MEMORY, SHORT};
 use c_values::{MstBytes16, put_bytes};
-use core::mem;
 use std::alloc::Global;
 
 /// Writes the root hash of a tree.
@@ -32,27 +31,12 @@ pub extern "C" fn mst_proved_tree_root_hash(
     ensures argument { (result ≡ 4) ↔ (handle.old.tree ≡ None) }
     ensures status { (result ≡ 0) ⊎ (result ≡ 4) }
 {
-    match mem::replace_with(handle, alloc, root_hash) {
-        Some(bytes) => {
-            digest.bytes = bytes;
-            DONE
-        }
-        None => ARGUMENT,
-    }
-}
-
-fn root_hash(handle: MstTree, alloc: Global) -> (MstTree, Option<[u8; 16]>)
-    ensures digest { IfSome result.1 (λ bytes. HasTree handle.tree (λ s. bytes ≡ page_digest s.format bytes_of s.root)) }
-    ensures kept { IfSome result.1 (λ bytes. Changes handle.tree result.0.tree SameRows) }
-    ensures hashed { IfSome result.1 (λ bytes. Changes handle.tree result.0.tree (IsHashed bytes_of)) }
-    ensures unchanged { result.1 ≡ None → result.0.tree ≡ handle.tree }
-    ensures argument { (result.1 ≡ None) ↔ (handle.tree ≡ None) }
-{
-    let Some(mut held) = handle.into_box() else {
-        return (MstTree::empty(alloc), None);
+    let Some(mut held) = take_out(alloc, handle) else {
+        return ARGUMENT;
     };
-    let bytes = held.root_hash();
-    (MstTree::of_box(held), Some(bytes))
+    digest.bytes = held.root_hash();
+    put_back(handle, held);
+    DONE
 }
 
 /// Writes the page ranges of a tree to `out`, and how many bytes they are to `needed`. Into no room they are counted, and not made.
@@ -76,52 +60,23 @@ pub extern "C" fn mst_proved_tree_page_ranges(
     ensures argument { (result ≡ 4) ↔ (handle.old.tree ≡ None) }
     ensures status { (result ≡ 0) ⊎ (result ≡ 1) ⊎ (result ≡ 3) ⊎ (result ≡ 4) }
 {
+    let Some(mut held) = take_out(alloc, handle) else {
+        return ARGUMENT;
+    };
     if out.is_empty() {
-        return match mem::replace_with(handle, alloc, page_ranges_len) {
-            Ok(len) => {
-                *needed = len;
-                SHORT
-            }
-            Err(status) => status,
+        let len = held.page_ranges_len();
+        put_back(handle, held);
+        let Ok(len) = len else {
+            return MEMORY;
         };
+        *needed = len;
+        return SHORT;
     }
-    match mem::replace_with(handle, alloc, page_ranges) {
+    let bytes = held.page_ranges(alloc);
+    put_back(handle, held);
+    match bytes {
         Ok(bytes) => put_bytes(bytes.as_slice(), out, needed),
-        Err(status) => status,
-    }
-}
-
-fn page_ranges_len(handle: MstTree, alloc: Global) -> (MstTree, Result<usize, u32>)
-    ensures len { IfOk result.1 (λ len. HasTree result.0.tree (λ s. IsLengthOf (page_ranges_of s) len)) }
-    ensures kept { handle.tree ≢ None → Changes handle.tree result.0.tree SameRows }
-    ensures hashed { handle.tree ≢ None → Changes handle.tree result.0.tree (IsHashed bytes_of) }
-    ensures no_tree { handle.tree ≡ None → result.0.tree ≡ None }
-    ensures argument { (result.1 ≡ Err 4) ↔ (handle.tree ≡ None) }
-    ensures refused { IfErr result.1 (λ status. (status ≡ 1) ⊎ (status ≡ 4)) }
-{
-    let Some(mut held) = handle.into_box() else {
-        return (MstTree::empty(alloc), Err(ARGUMENT));
-    };
-    match held.page_ranges_len() {
-        Ok(len) => (MstTree::of_box(held), Ok(len)),
-        Err(_) => (MstTree::of_box(held), Err(MEMORY)),
-    }
-}
-
-fn page_ranges(handle: MstTree, alloc: Global) -> (MstTree, Result<Vec<u8>, u32>)
-    ensures ranges { IfOk result.1 (λ out. HasTree result.0.tree (λ s. ArePageRanges out.items (page_ranges_of s))) }
-    ensures kept { handle.tree ≢ None → Changes handle.tree result.0.tree SameRows }
-    ensures hashed { handle.tree ≢ None → Changes handle.tree result.0.tree (IsHashed bytes_of) }
-    ensures no_tree { handle.tree ≡ None → result.0.tree ≡ None }
-    ensures argument { (result.1 ≡ Err 4) ↔ (handle.tree ≡ None) }
-    ensures refused { IfErr result.1 (λ status. (status ≡ 1) ⊎ (status ≡ 4)) }
-{
-    let Some(mut held) = handle.into_box() else {
-        return (MstTree::empty(alloc), Err(ARGUMENT));
-    };
-    match held.page_ranges(alloc) {
-        Ok(bytes) => (MstTree::of_box(held), Ok(bytes)),
-        Err(_) => (MstTree::of_box(held), Err(MEMORY)),
+        Err(_) => MEMORY,
     }
 }
 
@@ -144,24 +99,14 @@ pub extern "C" fn mst_proved_tree_digests(
     ensures argument { (result ≡ 4) ↔ (handle.old.tree ≡ None) }
     ensures status { (result ≡ 0) ⊎ (result ≡ 1) ⊎ (result ≡ 3) ⊎ (result ≡ 4) }
 {
-    match mem::replace_with(handle, alloc, digests) {
-        Ok(bytes) => put_bytes(bytes.as_slice(), out, needed),
-        Err(why) => why,
-    }
-}
-
-fn digests(handle: MstTree, alloc: Global) -> (MstTree, Result<Vec<u8>, u32>)
-    ensures digests { IfOk result.1 (λ out. HasTree handle.tree (λ s. out.items ≡ digests_bytes (rows_of s))) }
-    ensures tree { result.0.tree ≡ handle.tree }
-    ensures argument { (result.1 ≡ Err 4) ↔ (handle.tree ≡ None) }
-    ensures refused { IfErr result.1 (λ status. (status ≡ 1) ⊎ (status ≡ 4)) }
-{
-    let Some(held) = handle.into_box() else {
-        return (MstTree::empty(alloc), Err(ARGUMENT));
+    let Some(held) = take_out(alloc, handle) else {
+        return ARGUMENT;
     };
-    match held.digests(alloc) {
-        Ok(bytes) => (MstTree::of_box(held), Ok(bytes)),
-        Err(_) => (MstTree::of_box(held), Err(MEMORY)),
+    let bytes = held.digests(alloc);
+    put_back(handle, held);
+    match bytes {
+        Ok(bytes) => put_bytes(bytes.as_slice(), out, needed),
+        Err(_) => MEMORY,
     }
 }
 
@@ -184,24 +129,14 @@ pub extern "C" fn mst_proved_tree_pages(
     ensures argument { (result ≡ 4) ↔ (handle.old.tree ≡ None) }
     ensures status { (result ≡ 0) ⊎ (result ≡ 1) ⊎ (result ≡ 3) ⊎ (result ≡ 4) }
 {
-    match mem::replace_with(handle, alloc, pages) {
-        Ok(bytes) => put_bytes(bytes.as_slice(), out, needed),
-        Err(why) => why,
-    }
-}
-
-fn pages(handle: MstTree, alloc: Global) -> (MstTree, Result<Vec<u8>, u32>)
-    ensures pages { IfOk result.1 (λ out. HasTree handle.tree (λ s. out.items ≡ pages_bytes s.root)) }
-    ensures tree { result.0.tree ≡ handle.tree }
-    ensures argument { (result.1 ≡ Err 4) ↔ (handle.tree ≡ None) }
-    ensures refused { IfErr result.1 (λ status. (status ≡ 1) ⊎ (status ≡ 4)) }
-{
-    let Some(held) = handle.into_box() else {
-        return (MstTree::empty(alloc), Err(ARGUMENT));
+    let Some(held) = take_out(alloc, handle) else {
+        return ARGUMENT;
     };
-    match held.pages(alloc) {
-        Ok(bytes) => (MstTree::of_box(held), Ok(bytes)),
-        Err(_) => (MstTree::of_box(held), Err(MEMORY)),
+    let bytes = held.pages(alloc);
+    put_back(handle, held);
+    match bytes {
+        Ok(bytes) => put_bytes(bytes.as_slice(), out, needed),
+        Err(_) => MEMORY,
     }
 }
 

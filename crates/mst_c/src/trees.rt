@@ -7,10 +7,9 @@ ghost use Rattle.mst_c.specs.Handles.{Changes, HasAt, HasNewTree, HasTree, Makes
 ghost use Rattle.mst_c.specs.Trees.{IsCopied, rows_of};
 
 use crate::byte_tree::ByteTree;
-use crate::handle::MstTree;
+use crate::handle::{MstTree, put_back, take_out};
 use c_values::MstBytes16;
 use c_values::status::{ABSENT, ARGUMENT, DONE, MEMORY};
-use core::mem;
 use merkle_search_tree::builder::PageFormat;
 use std::alloc::Global;
 use std::num::NonZeroU8;
@@ -52,24 +51,40 @@ pub extern "C" fn mst_proved_tree_new(
         return ARGUMENT;
     };
     let tree = ByteTree::new(alloc, &key.bytes, key_feed, base, format);
-    mem::replace_with(handle, (alloc, tree), give)
+    give(alloc, handle, tree)
 }
 
 /// Gives a handle that has no tree this one.
-fn give(handle: MstTree, asked: (Global, ByteTree)) -> (MstTree, u32)
-    ensures done { result.1 ≡ 0 → HasTree result.0.tree (λ s. s ≡ asked.1.tree) }
-    ensures empty { result.1 ≢ 4 → handle.tree ≡ None }
-    ensures unchanged { result.1 ≢ 0 → result.0.tree ≡ handle.tree }
-    ensures argument { result.1 ≡ 4 → handle.tree ≢ None }
-    ensures status { (result.1 ≡ 0) ⊎ (result.1 ≡ 1) ⊎ (result.1 ≡ 4) }
+fn give(alloc: Global, handle: &mut MstTree, tree: ByteTree) -> u32
+    ensures done { result ≡ 0 → HasTree handle.new.tree (λ s. s ≡ tree.tree) }
+    ensures empty { result ≢ 4 → handle.old.tree ≡ None }
+    ensures unchanged { result ≢ 0 → handle.new.tree ≡ handle.old.tree }
+    ensures argument { result ≡ 4 → handle.old.tree ≢ None }
+    ensures status { (result ≡ 0) ⊎ (result ≡ 1) ⊎ (result ≡ 4) }
 {
-    let (alloc, tree) = asked;
-    if let Some(held) = handle.into_box() {
-        return (MstTree::of_box(held), ARGUMENT);
+    if has_tree(alloc, handle) {
+        return ARGUMENT;
     }
     match Box::new(alloc, tree) {
-        Ok(boxed) => (MstTree::of_box(boxed), DONE),
-        Err(_) => (MstTree::empty(alloc), MEMORY),
+        Ok(boxed) => {
+            put_back(handle, boxed);
+            DONE
+        }
+        Err(_) => MEMORY,
+    }
+}
+
+/// Whether a handle has a tree.
+fn has_tree(alloc: Global, handle: &mut MstTree) -> bool
+    ensures held { (result ≡ true) ↔ (handle.old.tree ≢ None) }
+    ensures kept { handle.new.tree ≡ handle.old.tree }
+{
+    match take_out(alloc, handle) {
+        Some(held) => {
+            put_back(handle, held);
+            true
+        }
+        None => false,
     }
 }
 
@@ -91,39 +106,17 @@ pub extern "C" fn mst_proved_tree_clone(
     ensures held { copy.old.tree ≢ None → result ≡ 4 }
     ensures status { (result ≡ 0) ⊎ (result ≡ 1) ⊎ (result ≡ 4) }
 {
-    if mem::replace_with(copy, alloc, has_tree) {
+    if has_tree(alloc, copy) {
         return ARGUMENT;
     }
-    match mem::replace_with(handle, alloc, copy_of) {
-        Ok(tree) => mem::replace_with(copy, (alloc, tree), give),
-        Err(status) => status,
-    }
-}
-
-/// Whether a handle has a tree.
-fn has_tree(handle: MstTree, alloc: Global) -> (MstTree, bool)
-    ensures held { (result.1 ≡ true) ↔ (handle.tree ≢ None) }
-    ensures kept { result.0.tree ≡ handle.tree }
-{
-    match handle.into_box() {
-        Some(held) => (MstTree::of_box(held), true),
-        None => (MstTree::empty(alloc), false),
-    }
-}
-
-/// A copy of the tree of a handle.
-fn copy_of(handle: MstTree, alloc: Global) -> (MstTree, Result<ByteTree, u32>)
-    ensures copied { IfOk result.1 (λ copy. HasTree handle.tree (λ s. IsCopied s copy.tree)) }
-    ensures original { result.0.tree ≡ handle.tree }
-    ensures argument { (result.1 ≡ Err 4) ↔ (handle.tree ≡ None) }
-    ensures refused { IfErr result.1 (λ status. (status ≡ 1) ⊎ (status ≡ 4)) }
-{
-    let Some(held) = handle.into_box() else {
-        return (MstTree::empty(alloc), Err(ARGUMENT));
+    let Some(held) = take_out(alloc, handle) else {
+        return ARGUMENT;
     };
-    match held.try_clone() {
-        Ok(copy) => (MstTree::of_box(held), Ok(copy)),
-        Err(_) => (MstTree::of_box(held), Err(MEMORY)),
+    let made = held.try_clone();
+    put_back(handle, held);
+    match made {
+        Ok(tree) => give(alloc, copy, tree),
+        Err(_) => MEMORY,
     }
 }
 
@@ -132,14 +125,7 @@ fn copy_of(handle: MstTree, alloc: Global) -> (MstTree, Result<ByteTree, u32>)
 pub extern "C" fn mst_proved_tree_free(alloc: Global, handle: &mut MstTree)
     ensures { handle.new.tree ≡ None }
 {
-    mem::replace_with(handle, alloc, free);
-}
-
-fn free(handle: MstTree, alloc: Global) -> (MstTree, ())
-    ensures { result.0.tree ≡ None }
-{
-    drop(handle.into_box());
-    (MstTree::empty(alloc), ())
+    drop(take_out(alloc, handle));
 }
 
 /// Writes how many keys a tree has, at most `usize::MAX`.
@@ -153,26 +139,18 @@ pub extern "C" fn mst_proved_tree_len(alloc: Global, handle: &mut MstTree, count
     ensures argument { (result ≡ 4) ↔ (handle.old.tree ≡ None) }
     ensures status { (result ≡ 0) ⊎ (result ≡ 1) ⊎ (result ≡ 4) }
 {
-    match mem::replace_with(handle, alloc, count_of) {
-        Ok(found) => {
-            *count = found;
+    let Some(held) = take_out(alloc, handle) else {
+        return ARGUMENT;
+    };
+    let found = held.count();
+    put_back(handle, held);
+    match found {
+        Ok(keys) => {
+            *count = keys;
             DONE
         }
-        Err(status) => status,
+        Err(_) => MEMORY,
     }
-}
-
-fn count_of(handle: MstTree, alloc: Global) -> (MstTree, Result<usize, u32>)
-    ensures count { IfOk result.1 (λ count. HasTree handle.tree (λ s. count ≡ row_count (rows_of s))) }
-    ensures tree { result.0.tree ≡ handle.tree }
-    ensures argument { (result.1 ≡ Err 4) ↔ (handle.tree ≡ None) }
-    ensures refused { IfErr result.1 (λ status. (status ≡ 1) ⊎ (status ≡ 4)) }
-{
-    let Some(held) = handle.into_box() else {
-        return (MstTree::empty(alloc), Err(ARGUMENT));
-    };
-    let count = held.count().map_err(|_| MEMORY);
-    (MstTree::of_box(held), count)
 }
 
 /// Writes the digest of the value at a key.
@@ -193,25 +171,17 @@ pub extern "C" fn mst_proved_tree_find(
     ensures argument { (result ≡ 4) ↔ (handle.old.tree ≡ None) }
     ensures status { (result ≡ 0) ⊎ (result ≡ 1) ⊎ (result ≡ 4) ⊎ (result ≡ 5) }
 {
-    match mem::replace_with(handle, (alloc, key), find) {
+    let Some(held) = take_out(alloc, handle) else {
+        return ARGUMENT;
+    };
+    let found = held.find(alloc, key);
+    put_back(handle, held);
+    match found {
         Ok(Some(bytes)) => {
             digest.bytes = bytes;
             DONE
         }
         Ok(None) => ABSENT,
-        Err(status) => status,
+        Err(_) => MEMORY,
     }
-}
-
-fn find(handle: MstTree, asked: (Global, &[u8])) -> (MstTree, Result<Option<[u8; 16]>, u32>)
-    ensures found { IfOk result.1 (HasAt handle.tree asked.entry.1.now) }
-    ensures tree { result.0.tree ≡ handle.tree }
-    ensures argument { (result.1 ≡ Err 4) ↔ (handle.tree ≡ None) }
-    ensures refused { IfErr result.1 (λ status. (status ≡ 1) ⊎ (status ≡ 4)) }
-{
-    let Some(held) = handle.into_box() else {
-        return (MstTree::empty(asked.0), Err(ARGUMENT));
-    };
-    let found = held.find(asked.0, asked.1).map_err(|_| MEMORY);
-    (MstTree::of_box(held), found)
 }

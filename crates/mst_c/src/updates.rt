@@ -1,16 +1,15 @@
 //! Calls that change the map of a tree.
-ghost use Rattle.std.specs.Prelude.{◌≡◌, ◌≢◌, ◌↔◌, ◌⊎◌, ℕ, List, None, Err, IfErr, IfOk, OnErr, true, false};
+ghost use Rattle.std.specs.Prelude.{◌≡◌, ◌≢◌, ◌↔◌, ◌⊎◌, ℕ, List, None, true, false};
 ghost use Rattle.merkle_tree_theory.specs.Dropped.{RemovalDropsFew};
 ghost use Rattle.mst_c.specs.Handles.{Changes};
 ghost use Rattle.mst_c.specs.Lists.{AllSet, AreDigests, AreLoaded, AreRows, FirstSet, IsLoaded};
 ghost use Rattle.mst_c.specs.Trees.{IsSet, IsSetTo, SetDropsFew, IsDel};
 ghost use Rattle.mst_c.specs.Wire.{rows_bytes};
 
-use crate::handle::MstTree;
+use crate::handle::{MstTree, put_back, take_out};
 use crate::reading::ReadError;
 use c_values::MstBytes16;
 use c_values::status::{ABSENT, ARGUMENT, DONE, MALFORMED, MEMORY};
-use core::mem;
 use std::alloc::Global;
 
 /// Sets a key to the digest of a value.
@@ -29,23 +28,15 @@ pub extern "C" fn mst_proved_tree_upsert(
     ensures argument { (result ≡ 4) ↔ (handle.old.tree ≡ None) }
     ensures status { (result ≡ 0) ⊎ (result ≡ 1) ⊎ (result ≡ 4) }
 {
-    mem::replace_with(handle, (alloc, key, value), upsert)
-}
-
-fn upsert(handle: MstTree, row: (Global, &[u8], &[u8])) -> (MstTree, u32)
-    ensures done { result.1 ≡ 0 → Changes handle.tree result.0.tree (IsSet row.entry.1.now row.entry.2.now) }
-    ensures few_more { result.1 ≡ 0 → Changes handle.tree result.0.tree (SetDropsFew row.entry.1.now) }
-    ensures unchanged { result.1 ≢ 0 → result.0.tree ≡ handle.tree }
-    ensures argument { (result.1 ≡ 4) ↔ (handle.tree ≡ None) }
-    ensures status { (result.1 ≡ 0) ⊎ (result.1 ≡ 1) ⊎ (result.1 ≡ 4) }
-{
-    let Some(mut held) = handle.into_box() else {
-        return (MstTree::empty(row.0), ARGUMENT);
+    let Some(mut held) = take_out(alloc, handle) else {
+        return ARGUMENT;
     };
-    match held.upsert(row.0, row.1, row.2) {
-        Ok(()) => (MstTree::of_box(held), DONE),
-        Err(_) => (MstTree::of_box(held), MEMORY),
-    }
+    let status = match held.upsert(alloc, key, value) {
+        Ok(()) => DONE,
+        Err(_) => MEMORY,
+    };
+    put_back(handle, held);
+    status
 }
 
 /// Sets a key to this digest of a value.
@@ -64,23 +55,15 @@ pub extern "C" fn mst_proved_tree_upsert_digest(
     ensures argument { (result ≡ 4) ↔ (handle.old.tree ≡ None) }
     ensures status { (result ≡ 0) ⊎ (result ≡ 1) ⊎ (result ≡ 4) }
 {
-    mem::replace_with(handle, (alloc, key, &digest.bytes), upsert_digest)
-}
-
-fn upsert_digest(handle: MstTree, row: (Global, &[u8], &[u8; 16])) -> (MstTree, u32)
-    ensures done { result.1 ≡ 0 → Changes handle.tree result.0.tree (IsSetTo row.entry.1.now row.entry.2.now) }
-    ensures few_more { result.1 ≡ 0 → Changes handle.tree result.0.tree (SetDropsFew row.entry.1.now) }
-    ensures unchanged { result.1 ≢ 0 → result.0.tree ≡ handle.tree }
-    ensures argument { (result.1 ≡ 4) ↔ (handle.tree ≡ None) }
-    ensures status { (result.1 ≡ 0) ⊎ (result.1 ≡ 1) ⊎ (result.1 ≡ 4) }
-{
-    let Some(mut held) = handle.into_box() else {
-        return (MstTree::empty(row.0), ARGUMENT);
+    let Some(mut held) = take_out(alloc, handle) else {
+        return ARGUMENT;
     };
-    match held.upsert_digest(row.0, row.1, row.2) {
-        Ok(()) => (MstTree::of_box(held), DONE),
-        Err(_) => (MstTree::of_box(held), MEMORY),
-    }
+    let status = match held.upsert_digest(alloc, key, &digest.bytes) {
+        Ok(()) => DONE,
+        Err(_) => MEMORY,
+    };
+    put_back(handle, held);
+    status
 }
 
 /// Takes a key out.
@@ -96,25 +79,16 @@ pub extern "C" fn mst_proved_tree_remove(alloc: Global, handle: &mut MstTree, ke
     ensures argument { (result ≡ 4) ↔ (handle.old.tree ≡ None) }
     ensures status { (result ≡ 0) ⊎ (result ≡ 1) ⊎ (result ≡ 4) ⊎ (result ≡ 5) }
 {
-    mem::replace_with(handle, (alloc, key), remove)
-}
-
-fn remove(handle: MstTree, asked: (Global, &[u8])) -> (MstTree, u32)
-    ensures done { result.1 ≡ 0 → Changes handle.tree result.0.tree (IsDel asked.entry.1.now true) }
-    ensures few_more { result.1 ≡ 0 → Changes handle.tree result.0.tree RemovalDropsFew }
-    ensures absent { result.1 ≡ 5 → Changes handle.tree result.0.tree (IsDel asked.entry.1.now false) }
-    ensures unchanged { result.1 ≢ 0 → result.0.tree ≡ handle.tree }
-    ensures argument { (result.1 ≡ 4) ↔ (handle.tree ≡ None) }
-    ensures status { (result.1 ≡ 0) ⊎ (result.1 ≡ 1) ⊎ (result.1 ≡ 4) ⊎ (result.1 ≡ 5) }
-{
-    let Some(mut held) = handle.into_box() else {
-        return (MstTree::empty(asked.0), ARGUMENT);
+    let Some(mut held) = take_out(alloc, handle) else {
+        return ARGUMENT;
     };
-    match held.remove(asked.0, asked.1) {
-        Ok(true) => (MstTree::of_box(held), DONE),
-        Ok(false) => (MstTree::of_box(held), ABSENT),
-        Err(_) => (MstTree::of_box(held), MEMORY),
-    }
+    let status = match held.remove(alloc, key) {
+        Ok(true) => DONE,
+        Ok(false) => ABSENT,
+        Err(_) => MEMORY,
+    };
+    put_back(handle, held);
+    status
 }
 
 /// Sets the rows of a list one after the other, whatever the order of their keys, and writes how many were set.
@@ -135,30 +109,16 @@ pub extern "C" fn mst_proved_tree_upsert_rows(
     ensures argument { (result ≡ 4) ↔ (handle.old.tree ≡ None) }
     ensures status { (result ≡ 0) ⊎ (result ≡ 1) ⊎ (result ≡ 2) ⊎ (result ≡ 4) }
 {
-    match mem::replace_with(handle, (alloc, list), upsert_rows) {
-        Ok((count, is_all)) => {
-            *done = count;
-            if is_all { DONE } else { MEMORY }
-        }
-        Err(status) => status,
-    }
-}
-
-fn upsert_rows(handle: MstTree, asked: (Global, &[u8])) -> (MstTree, Result<(usize, bool), u32>)
-    ensures all { IfOk result.1 (λ set. set.1 ≡ true → Changes handle.tree result.0.tree (AllSet asked.entry.1.now set.0)) }
-    ensures first { IfOk result.1 (λ set. set.1 ≡ false → Changes handle.tree result.0.tree (FirstSet asked.entry.1.now set.0)) }
-    ensures malformed { result.1 ≡ Err 2 → (given : List (List ℕ × List ℕ)) → asked.entry.1.now ≢ rows_bytes given }
-    ensures unchanged { OnErr result.1 (result.0.tree ≡ handle.tree) }
-    ensures argument { (result.1 ≡ Err 4) ↔ (handle.tree ≡ None) }
-    ensures refused { IfErr result.1 (λ status. (status ≡ 2) ⊎ (status ≡ 4)) }
-{
-    let Some(mut held) = handle.into_box() else {
-        return (MstTree::empty(asked.0), Err(ARGUMENT));
+    let Some(mut held) = take_out(alloc, handle) else {
+        return ARGUMENT;
     };
-    match held.upsert_rows(asked.0, asked.1) {
-        Some(set) => (MstTree::of_box(held), Ok(set)),
-        None => (MstTree::of_box(held), Err(MALFORMED)),
-    }
+    let set = held.upsert_rows(alloc, list);
+    put_back(handle, held);
+    let Some((count, is_all)) = set else {
+        return MALFORMED;
+    };
+    *done = count;
+    if is_all { DONE } else { MEMORY }
 }
 
 /// Makes these rows the map of a tree, in place of the map that it has.
@@ -173,24 +133,16 @@ pub extern "C" fn mst_proved_tree_load(alloc: Global, handle: &mut MstTree, rows
     ensures argument { (result ≡ 4) ↔ (handle.old.tree ≡ None) }
     ensures status { (result ≡ 0) ⊎ (result ≡ 1) ⊎ (result ≡ 2) ⊎ (result ≡ 4) }
 {
-    mem::replace_with(handle, (alloc, rows), load)
-}
-
-fn load(handle: MstTree, asked: (Global, &[u8])) -> (MstTree, u32)
-    ensures done { result.1 ≡ 0 → Changes handle.tree result.0.tree (IsLoaded asked.entry.1.now) }
-    ensures malformed { result.1 ≡ 2 → (given : List (List ℕ × List ℕ)) → ¬ (AreRows asked.entry.1.now given) }
-    ensures unchanged { result.1 ≢ 0 → result.0.tree ≡ handle.tree }
-    ensures argument { (result.1 ≡ 4) ↔ (handle.tree ≡ None) }
-    ensures status { (result.1 ≡ 0) ⊎ (result.1 ≡ 1) ⊎ (result.1 ≡ 2) ⊎ (result.1 ≡ 4) }
-{
-    let Some(mut held) = handle.into_box() else {
-        return (MstTree::empty(asked.0), ARGUMENT);
+    let Some(mut held) = take_out(alloc, handle) else {
+        return ARGUMENT;
     };
-    match held.load(asked.0, asked.1) {
-        Ok(()) => (MstTree::of_box(held), DONE),
-        Err(ReadError::Memory) => (MstTree::of_box(held), MEMORY),
-        Err(ReadError::Malformed) => (MstTree::of_box(held), MALFORMED),
-    }
+    let status = match held.load(alloc, rows) {
+        Ok(()) => DONE,
+        Err(ReadError::Memory) => MEMORY,
+        Err(ReadError::Malformed) => MALFORMED,
+    };
+    put_back(handle, held);
+    status
 }
 
 /// Makes these keys with digests the map of a tree, in place of the map that it has.
@@ -209,22 +161,14 @@ pub extern "C" fn mst_proved_tree_load_digests(
     ensures argument { (result ≡ 4) ↔ (handle.old.tree ≡ None) }
     ensures status { (result ≡ 0) ⊎ (result ≡ 1) ⊎ (result ≡ 2) ⊎ (result ≡ 4) }
 {
-    mem::replace_with(handle, (alloc, list), load_digests)
-}
-
-fn load_digests(handle: MstTree, asked: (Global, &[u8])) -> (MstTree, u32)
-    ensures done { result.1 ≡ 0 → Changes handle.tree result.0.tree (AreLoaded asked.entry.1.now) }
-    ensures malformed { result.1 ≡ 2 → (given : List (List ℕ × List ℕ)) → ¬ (AreDigests asked.entry.1.now given) }
-    ensures unchanged { result.1 ≢ 0 → result.0.tree ≡ handle.tree }
-    ensures argument { (result.1 ≡ 4) ↔ (handle.tree ≡ None) }
-    ensures status { (result.1 ≡ 0) ⊎ (result.1 ≡ 1) ⊎ (result.1 ≡ 2) ⊎ (result.1 ≡ 4) }
-{
-    let Some(mut held) = handle.into_box() else {
-        return (MstTree::empty(asked.0), ARGUMENT);
+    let Some(mut held) = take_out(alloc, handle) else {
+        return ARGUMENT;
     };
-    match held.load_digests(asked.0, asked.1) {
-        Ok(()) => (MstTree::of_box(held), DONE),
-        Err(ReadError::Memory) => (MstTree::of_box(held), MEMORY),
-        Err(ReadError::Malformed) => (MstTree::of_box(held), MALFORMED),
-    }
+    let status = match held.load_digests(alloc, list) {
+        Ok(()) => DONE,
+        Err(ReadError::Memory) => MEMORY,
+        Err(ReadError::Malformed) => MALFORMED,
+    };
+    put_back(handle, held);
+    status
 }
