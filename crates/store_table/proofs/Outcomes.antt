@@ -27,7 +27,7 @@ to_on_err (Err e) P Q f h = f e h
 
 -- what a call found is so of the settled result
 pub settled_ok : {S A E : Type 0} (C : S → Type 0) (mid new : S) (r done : Result A E) (Q P : A → Type 0) (B : Type 0) → r ≡ done → OnOk r (new ≡ mid) → C new
-    → IfOk done (λ x. C mid → Q x) → OnOk done (C mid → B) → ((x : A) → C mid → Q x → B → P x) → IfOk r P
+    → (C mid → IfOk done Q) → OnOk done (C mid → B) → ((x : A) → C mid → Q x → B → P x) → IfOk r P
 settled_ok C mid new r (Ok x) Q P B is same clean found sound f =
     let early = subst C (subst (λ t. OnOk t (new ≡ mid)) is same) clean in
     subst (λ t. IfOk t P) (sym is) (f x early (found early) (sound early))

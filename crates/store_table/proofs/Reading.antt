@@ -2,7 +2,6 @@
 use Rattle.std.proofs.Common.{◌≡◌, ◌⊎◌, inl, inr, ◌+◌, Option, Some, None, IsSome, List, [], ◌∷◌, ◌++◌, length, map, sym, ap, subst, ◌∙◌, arith, append_assoc}
 use Rattle.std.specs.List.{cons_option}
 use Rattle.std.proofs.lemmas.List.{append-nil, map-append, length-map, length-append}
-use Rattle.sqlite_disk.specs.Disk.{MoreFaults}
 use Rattle.key_order.specs.Text.{Text as Key}
 use Rattle.sqlite_value.specs.Order.{Row}
 use Rattle.sqlite_value.specs.Keys.{plain}
@@ -12,44 +11,20 @@ use Rattle.sqlite_trees.specs.Tree.{Trees, IsIndex, order_of, sought}
 use Rattle.sqlite_trees.specs.View.{View, with_cursor}
 use Rattle.store_table.specs.declared.register.Register.{Register}
 use Rattle.store_table.specs.declared.reader.Walk.{Walk}
-use Rattle.store_table.specs.Entries.{entry_row}
-use Rattle.store_table.specs.Logs.{IsClean, IsOpen, IsSteady, LeavesNoMore, trees_of}
+use Rattle.store_table.specs.Entries.{entry_row, HoldsEntries}
+use Rattle.store_table.specs.Logs.{IsClean, IsSteady, LeavesNoMore, trees_of}
 use Rattle.store_table.specs.Reading.{Groups, Takes, EndsGroup, grouped, with_entry, last_of, IsRead, IsAtEnd, IsWalked, ReadsOn, ReadsAll}
 use Rattle.store_table.specs.Rows.{AreLatest, HasLatestRows}
 use Rattle.store_table.specs.Walks.{StaysBut}
 use Rattle.store_table.proofs.Grouping.{grouped_more, last_latest}
 use Rattle.store_table.proofs.OrderOfEntries.{ascending_entries}
-use Rattle.store_table.proofs.Walking.{from_none, stays_then}
+use Rattle.store_table.proofs.Walking.{from_none, stays_then, steady_then, no_more_then}
 
 -- after a seek from no key on, the cursor has all rows of the table to give
 pub sought_first : (a b : View) (key : Row) → order_of (a.shape 0) ≡ plain → key ≡ [] → b ≡ with_cursor a 0 (sought (order_of (a.shape 0)) Forward key (a.trees 0)) → b.cursors 0 ≡ Some (a.trees 0)
 sought_first a b key order start is = rw (is, order, start) (ap Some (from_none (a.trees 0)))
 
 module _ {S : Type 0} (g : Ghosts S) where
-  pub steady_then : (a b c : S) → IsSteady g a b → IsSteady g b c → IsSteady g a c
-  steady_then a b c h k = record {
-    clean = omega (arith, h.clean, k.clean);
-    counts = omega (arith, h.counts, k.counts);
-    closes = λ is o. closing (h.closes (omega (arith, k.clean, is)) o) is;
-  }
-    where
-      later : MoreFaults (g.faults a) (g.faults b) → MoreFaults (g.faults a) (g.faults c)
-      later m = omega (arith, m, k.counts)
-
-      sooner : MoreFaults (g.faults b) (g.faults c) → MoreFaults (g.faults a) (g.faults c)
-      sooner m = omega (arith, m, h.counts)
-
-      ending : IsOpen g c ⊎ MoreFaults (g.faults b) (g.faults c) → IsOpen g c ⊎ MoreFaults (g.faults a) (g.faults c)
-      ending (inl o) = inl o
-      ending (inr m) = inr (sooner m)
-
-      closing : IsOpen g b ⊎ MoreFaults (g.faults a) (g.faults b) → IsClean g c → IsOpen g c ⊎ MoreFaults (g.faults a) (g.faults c)
-      closing (inr m) is = inr (later m)
-      closing (inl o) is = ending (k.closes is o)
-
-  pub no_more_then : (a b c : S) → LeavesNoMore g a b → LeavesNoMore g b c → LeavesNoMore g a c
-  no_more_then a b c h k trees left = h trees (k trees left)
-
   some_same : {X : Type 0} (x y : X) → Some x ≡ Some y → x ≡ y
   some_same x y h = let e = h in cc
 
@@ -63,8 +38,8 @@ module _ {S : Type 0} (g : Ghosts S) where
     live = live;
     passed = λ clean. by found (taken clean) (was.passed (early clean));
     same = λ clean. stays_then (g.view start) (g.view old) (g.view new) (was.same (early clean)) (same clean);
-    steady = steady_then start old new was.steady steady;
-    crash = no_more_then start old new was.crash no_more;
+    steady = steady_then g start old new was.steady steady;
+    crash = no_more_then g start old new was.crash no_more;
   }
     where
       early : IsClean g new → IsClean g old
@@ -81,7 +56,7 @@ module _ {S : Type 0} (g : Ghosts S) where
           (took.0, took.2, passed.2 ∙ ap (λ left. map entry_row entries ++ left) same ∙ more)
 
   -- at its end a walk has read all entries
-  pub reads_all : (old new : S) → Takes (g.view old) (g.view new) None → IsClean g old → IsIndex plain (trees_of g old 0) → ReadsAll g old new
+  pub reads_all : (old new : S) → Takes (g.view old) (g.view new) None → IsClean g old → IsIndex plain (trees_of g old 0) → (start : S) (entries : List (Key × Register)) → IsRead g start old entries → HoldsEntries (trees_of g start) entries
   reads_all old new took clean shaped start entries was =
       let passed = was.passed clean in
       let same = some_same passed.0 [] (sym passed.1 ∙ took.0) in
@@ -124,11 +99,11 @@ module _ {S : Type 0} (g : Ghosts S) where
   }
 
   -- where none is left, all were handed out
-  pub walks_all : (start old new : S) (before : Walk) (given : List (Key × Register)) → IsClean g old → ReadsAll g old new → before.ahead ≡ None
+  pub walks_all : (start old new : S) (before : Walk) (given : List (Key × Register)) → IsClean g new → IsSteady g old new → ReadsAll g old new → before.ahead ≡ None
       → IsWalked g start old before given → HasLatestRows (trees_of g start) given × (before.count ≡ length (trees_of g start 0))
-  walks_all start old new before given clean all none was =
-      let held = all start was.seen was.read in
-      let is : given ≡ last_of (grouped was.seen) = sym (append-nil given) ∙ ap (λ (o : Option (Key × Register)). given ++ cons_option o []) (sym none) ∙ handed_out start old before given was clean in (
+  walks_all start old new before given clean steady all none was =
+      let held = all clean start was.seen was.read in
+      let is : given ≡ last_of (grouped was.seen) = sym (append-nil given) ∙ ap (λ (o : Option (Key × Register)). given ++ cons_option o []) (sym none) ∙ handed_out start old before given was (omega (arith, steady.clean, clean)) in (
         (was.seen, held, subst (AreLatest was.seen) (sym is) (last_latest was.seen held.ascending)),
         was.count ∙ sym (length-map was.seen entry_row) ∙ ap length (sym held.rows),
       )

@@ -1,13 +1,15 @@
 -- Walks through the rows of a tree, and what calls in a row leave.
-use Rattle.std.proofs.Common.{◌≡◌, ◌⊎◌, inl, inr, ℕ, Bool, true, false, not, Some, List, [], ◌∷◌, ◌++◌, refl, sym, ap, ◌∙◌, IsTrue, arith, append_assoc}
+use Rattle.std.proofs.Common.{◌≡◌, ◌⊎◌, inl, inr, ℕ, Bool, true, false, not, Some, List, [], ◌∷◌, ◌++◌, refl, sym, ap, ◌∙◌, arith, append_assoc}
 use Rattle.std.proofs.lemmas.List.{append-nil}
 use Rattle.sqlite_disk.specs.Disk.{MoreFaults}
 use Rattle.sqlite_value.specs.Order.{Row}
 use Rattle.sqlite_value.specs.Keys.{plain}
 use Rattle.sqlite_trees.specs.declared.store.Direction.TheVariants.{Forward}
-use Rattle.sqlite_trees.specs.Tree.{Trees, from_key, order_of, sought}
-use Rattle.sqlite_trees.specs.View.{View, doubt, KeepsSchema, KeepsCommitted, IsQuiet, OnlyWrites, Advances, with_cursor}
-use Rattle.store_table.specs.Logs.{HasTables}
+use Rattle.sqlite_trees.specs.declared.store.Store.{Ghosts}
+use Rattle.sqlite_trees.specs.Tree.{from_key, order_of, sought}
+use Rattle.sqlite_trees.specs.View.{View, KeepsSchema, KeepsCommitted, OnlyWrites, Advances, with_cursor}
+use Rattle.store_table.specs.Logs.{HasTables, IsClean, IsOpen, IsSteady, LeavesNoMore}
+use Rattle.store_table.specs.Transactions.{StaysQuiet, CommitsNothing}
 use Rattle.store_table.specs.Walks.{Gives, StaysBut}
 
 -- a walk from no key on has all rows to give
@@ -23,7 +25,7 @@ gives_none rows row true is h = absurd (let k = is in cc)
 gives_none rows row false is h = h
 
 module _ (a b c : View) where
-  pub schema_then : KeepsSchema a b → KeepsSchema b c → KeepsSchema a c
+  schema_then : KeepsSchema a b → KeepsSchema b c → KeepsSchema a c
   schema_then h k = record {
     shape = k.shape ∙ h.shape;
     reals = k.reals ∙ h.reals;
@@ -32,7 +34,7 @@ module _ (a b c : View) where
     numbered = k.numbered ∙ h.numbered;
   }
 
-  pub kept_then : KeepsCommitted a b → KeepsCommitted b c → KeepsCommitted a c
+  kept_then : KeepsCommitted a b → KeepsCommitted b c → KeepsCommitted a c
   kept_then h k = record {
     shape = k.shape ∙ h.shape;
     reals = k.reals ∙ h.reals;
@@ -91,29 +93,50 @@ given_last rows seen row false a b is passed went =
     let same : Some passed.0 ≡ Some [] = sym passed.1 ∙ went.0 in
     passed.2 ∙ ap (λ left. seen ++ left) (some_same same) ∙ append-nil seen
 
-module _ {S : Type 0} (view : S → View) (faults : S → ℕ) (recovers : S → Trees → Type 0) (Shielded : S → Type 0) (a b c : S) where
-  pub quiet_then : IsQuiet view faults recovers Shielded a b → IsQuiet view faults recovers Shielded b c → IsQuiet view faults recovers Shielded a c
-  quiet_then h k = record {
-    shield = λ s. k.shield (h.shield s);
+module _ {S : Type 0} (g : Ghosts S) (a b c : S) where
+  pub steady_then : IsSteady g a b → IsSteady g b c → IsSteady g a c
+  steady_then h k = record {
     clean = omega (arith, h.clean, k.clean);
     counts = omega (arith, h.counts, k.counts);
     closes = λ is o. closing (h.closes (omega (arith, k.clean, is)) o) is;
-    outcomes = λ db r. h.outcomes db (k.outcomes db r);
   }
     where
-      later : MoreFaults (faults a) (faults b) → MoreFaults (faults a) (faults c)
+      later : MoreFaults (g.faults a) (g.faults b) → MoreFaults (g.faults a) (g.faults c)
       later m = omega (arith, m, k.counts)
 
-      sooner : MoreFaults (faults b) (faults c) → MoreFaults (faults a) (faults c)
+      sooner : MoreFaults (g.faults b) (g.faults c) → MoreFaults (g.faults a) (g.faults c)
       sooner m = omega (arith, m, h.counts)
 
-      closing : IsTrue (view b).is_open ⊎ MoreFaults (faults a) (faults b) → doubt (view c).is_clean ≡ 0 → IsTrue (view c).is_open ⊎ MoreFaults (faults a) (faults c)
+      ending : IsOpen g c ⊎ MoreFaults (g.faults b) (g.faults c) → IsOpen g c ⊎ MoreFaults (g.faults a) (g.faults c)
+      ending (inl o) = inl o
+      ending (inr m) = inr (sooner m)
+
+      closing : IsOpen g b ⊎ MoreFaults (g.faults a) (g.faults b) → IsClean g c → IsOpen g c ⊎ MoreFaults (g.faults a) (g.faults c)
       closing (inr m) is = inr (later m)
       closing (inl o) is = ending (k.closes is o)
-        where
-          ending : IsTrue (view c).is_open ⊎ MoreFaults (faults b) (faults c) → IsTrue (view c).is_open ⊎ MoreFaults (faults a) (faults c)
-          ending (inl o) = inl o
-          ending (inr m) = inr (sooner m)
+
+  pub no_more_then : LeavesNoMore g a b → LeavesNoMore g b c → LeavesNoMore g a c
+  no_more_then h k trees left = h trees (k trees left)
+
+-- what stays quiet is steady
+pub quiet_steady : {S : Type 0} (g : Ghosts S) (a b : S) → StaysQuiet g a b → IsSteady g a b
+quiet_steady g a b h = record { clean = h.clean; counts = h.counts; closes = h.closes }
+
+-- a step behind another that commits nothing
+pub uncommitted_then : {S : Type 0} (g : Ghosts S) (a b c : S) → CommitsNothing g a b → CommitsNothing g b c → CommitsNothing g a c
+uncommitted_then g a b c h k =
+    let steady = steady_then g a b c (quiet_steady g a b h.quiet) (quiet_steady g b c k.quiet) in
+    record {
+      schema = schema_then (g.view a) (g.view b) (g.view c) h.schema k.schema;
+      kept = λ clean. kept_then (g.view a) (g.view b) (g.view c) (h.kept (omega (arith, k.quiet.clean, clean))) (k.kept clean);
+      quiet = record {
+        shield = λ s. k.quiet.shield (h.quiet.shield s);
+        clean = steady.clean;
+        counts = steady.counts;
+        closes = steady.closes;
+        outcomes = no_more_then g a b c h.quiet.outcomes k.quiet.outcomes;
+      };
+    }
 
 pub isn't : (b : Bool) → not b ≡ true → b ≡ false
 isn't true h = absurd (let k = h in cc)

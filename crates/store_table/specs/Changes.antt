@@ -2,8 +2,8 @@
 use Rattle.std.specs.Prelude.{◌≡◌, [], ◌∷◌, List, ℕ, ℤ, map}
 use Rattle.key_order.specs.Text.{Text as Key}
 use Rattle.sqlite_value.specs.Order.{Row}
-use Rattle.sqlite_trees.specs.Tree.{Trees}
-use Rattle.store_table.specs.Entries.{entry_row, entry_row_of, with_rows, IsNoted}
+use Rattle.sqlite_trees.specs.Tree.{Trees, put_row}
+use Rattle.store_table.specs.Entries.{entry_row, entry_row_of, note_row, with_rows, IsNoted}
 use Rattle.store_table.specs.declared.register.Register.{Register}
 
 -- no entry, and nothing noted
@@ -15,6 +15,15 @@ pub record IsBlank (trees : Trees) : Type 0 where
 pub record IsNewStore (format : ℤ) (writer : List ℕ) (trees : Trees) : Type 0 where
   pub entries : trees 0 ≡ []
   pub about : IsNoted trees format writer
+
+-- the notes are as they were
+abbrev pub KeepsNotes : Trees → Trees → Type 0
+KeepsNotes old new = new 1 ≡ old 1
+
+-- the note of this format and this writer is put among the notes, and no entry has changed
+pub record HasNoteMore (format : ℤ) (writer : List ℕ) (old new : Trees) : Type 0 where
+  pub entries : new 0 ≡ old 0
+  pub about : new 1 ≡ put_row (note_row format writer) (old 1)
 
 module _ (rows : List Row) (old new : Trees) where
   -- the table of entries has these rows too, and nothing else has changed

@@ -1,5 +1,5 @@
 -- The latest register that the table has for a key.
-use Rattle.std.specs.Prelude.{◌≡◌, ◌≤◌, ◌^◌, ℕ, Bool, List, [], ◌∷◌, Option, None, is_some, option_map, option_and_then, IsTrue}
+use Rattle.std.specs.Prelude.{◌≡◌, ◌≤◌, ◌^◌, if◌then◌else◌, ℕ, Bool, List, [], ◌∷◌, Option, Some, None, is_some, option_map, option_and_then, IsTrue}
 use Rattle.std.specs.List.{filter, last_or}
 use Rattle.std.specs.Ordering.{is_eq}
 use Rattle.key_order.specs.Text.{Text as Key}
@@ -14,6 +14,10 @@ use Rattle.store_table.specs.declared.register.Register.{Register}
 -- the rows of a key, which is the first column
 abbrev pub rows_of : List ℕ → List Row → List Row
 rows_of key rows = filter (λ row. is_eq (value_cmp (column row 0) (Words key))) rows
+
+-- where a last row of the key was found it is this one, of those of the table
+abbrev pub IsLastRow : Trees → List ℕ → Row → Bool → Type 0
+IsLastRow trees key row found = last_or None (rows_of key (trees 0)) ≡ (if found then Some row else None)
 
 -- of the table's rows of the key, which ascend by the registers, the last has this register, or it has none
 abbrev pub IsLatestAt : Trees → List ℕ → Option Register → Type 0

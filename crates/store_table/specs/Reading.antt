@@ -65,15 +65,15 @@ module _ {S : Type 0} (g : Ghosts S) (old new : S) where
   abbrev pub ReadsOn : Option (Key × Register) → Type 0
   ReadsOn found = (start : S) (entries : List (Key × Register)) → IsRead g start old entries → IsRead g start new (entries ++ cons_option found [])
 
-  -- each walk that was in `old` has read all entries
+  -- over a clean disk each walk that was in `old` has read all entries
   abbrev pub ReadsAll : Type 0
-  ReadsAll = (start : S) (entries : List (Key × Register)) → IsRead g start old entries → HoldsEntries (trees_of g start) entries
+  ReadsAll = IsClean g new → (start : S) (entries : List (Key × Register)) → IsRead g start old entries → HoldsEntries (trees_of g start) entries
 
   module _ (before after : Walk) where
     -- each walk that was in `old` has handed out this row too, where there is one
     abbrev pub WalksOn : Option (Key × Register) → Type 0
     WalksOn found = (start : S) (given : List (Key × Register)) → IsWalked g start old before given → IsWalked g start new after (given ++ cons_option found [])
 
-    -- each walk that was in `old` has handed out all latest rows, and has counted all rows
+    -- over a clean disk each walk that was in `old` has handed out all latest rows, and has counted all rows
     abbrev pub WalksAll : Type 0
-    WalksAll = (start : S) (given : List (Key × Register)) → IsWalked g start old before given → HasLatestRows (trees_of g start) given × (after.count ≡ length (trees_of g start 0))
+    WalksAll = IsClean g new → (start : S) (given : List (Key × Register)) → IsWalked g start old before given → HasLatestRows (trees_of g start) given × (after.count ≡ length (trees_of g start 0))

@@ -2,9 +2,20 @@
 use Rattle.std.specs.Prelude.{◌≡◌, Result, OnOk, OnErr}
 use Rattle.sqlite_trees.specs.declared.store.Store.{Ghosts}
 use Rattle.sqlite_trees.specs.Tree.{Trees}
+use Rattle.sqlite_trees.specs.View.{KeepsSchema, KeepsCommitted, IsQuiet}
 use Rattle.store_table.specs.Logs.{HasTables, IsClean, IsOpen, IsLog, IsSteady, Leaves, Makes}
 
 module _ {S : Type 0} (g : Ghosts S) where
+  -- no fault is forgotten, only a fault shuts it, and a crash may leave no more than before
+  abbrev pub StaysQuiet : S → S → Type 0
+  StaysQuiet old new = IsQuiet g.view g.faults g.recovers g.is_shielded old new
+
+  -- nothing is committed: the tables are the same ones, what the old one had committed is still so, and it stays quiet
+  pub record CommitsNothing (old new : S) : Type 0 where
+    pub schema : KeepsSchema (g.view old) (g.view new)
+    pub kept : IsClean g new → KeepsCommitted (g.view old) (g.view new)
+    pub quiet : StaysQuiet old new
+
   -- what the old one had committed is still so, and can be gone back to
   pub record CanGoBack (old new : S) : Type 0 where
     pub tables : IsClean g new → HasTables (g.view new)

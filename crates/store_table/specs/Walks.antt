@@ -1,13 +1,39 @@
 -- What a walk through rows gives, and what it leaves.
-use Rattle.std.specs.Prelude.{◌≡◌, Bool, true, false, List, [], ◌∷◌}
+use Rattle.std.specs.Prelude.{◌≡◌, Bool, true, false, List, [], ◌∷◌, Some, Result, IfOk, OnOk}
 use Rattle.sqlite_value.specs.Order.{Row}
+use Rattle.sqlite_value.specs.Keys.{plain}
+use Rattle.sqlite_trees.specs.declared.store.Direction.{Direction}
+use Rattle.sqlite_trees.specs.declared.store.Store.{Ghosts}
+use Rattle.sqlite_trees.specs.Tree.{Trees, sought}
 use Rattle.sqlite_trees.specs.View.{View}
+use Rattle.store_table.specs.Logs.{IsClean}
 
 -- the first of the rows, or that there is none
 abbrev pub Gives : List Row → Row → Bool → Type 0
 Gives rows row true = (left : List Row) × (rows ≡ row ∷ left)
 Gives rows row false = rows ≡ []
 
+-- this is the first row that a seek of the key gives in the table of entries, or there is none
+abbrev pub IsSought : Trees → Row → Direction → Row → Bool → Type 0
+IsSought trees key direction row found = Gives (sought plain direction key (trees 0)) row found
+
 -- only cursors may have moved
 abbrev pub StaysBut : View → View → Type 0
 StaysBut old new = new ≡ record old { cursors = new.cursors }
+
+-- the old one was not broken
+abbrev pub WasSound : View → View → Type 0
+WasSound old new = old.is_broken ≡ false
+
+-- the cursor has all rows of the table of entries to give
+abbrev pub GivesAll : View → View → Type 0
+GivesAll old new = new.cursors 0 ≡ Some (old.trees 0)
+
+module _ {S : Type 0} (g : Ghosts S) {A E : Type 0} (old new : S) (result : Result A E) where
+  -- a call that is `Ok` makes, over a clean disk, a view that is so of the old one
+  abbrev pub MakesView : (View → View → Type 0) → Type 0
+  MakesView Is = OnOk result (IsClean g new → Is (g.view old) (g.view new))
+
+  -- it makes, over a clean disk, a view that is so of the old one and of the answer
+  abbrev pub MakesViewAndFinds : (View → View → A → Type 0) → Type 0
+  MakesViewAndFinds Is = IfOk result (λ found. IsClean g new → Is (g.view old) (g.view new) found)

@@ -1,15 +1,14 @@
 //! The format of a store's file: how it is made, and how it is recognised.
-ghost use Rattle.std.specs.Prelude.{◌≡◌, ◌≢◌, [], ◌∷◌, true, false, length, map, string_bytes, IfOk, IfErr, OnOk, IsErrOf};
-ghost use Rattle.sqlite_trees.specs.Tree.{put_row};
-ghost use Rattle.sqlite_trees.specs.View.{KeepsSchema, KeepsCommitted, IsQuiet, OnlyWrites};
+ghost use Rattle.std.specs.Prelude.{◌≡◌, [], ◌∷◌, true, false, string_bytes, IfOk, IfErr, OnOk};
+ghost use Rattle.sqlite_trees.specs.View.{OnlyWrites};
 ghost use Rattle.sqlite_value.specs.Value.{owned};
 ghost use Rattle.sqlite_value.specs.declared.value.Value.TheVariants.{Int, Text};
-ghost use Rattle.store_table.specs.Changes.{IsBlank, IsNewStore};
+ghost use Rattle.store_table.specs.Changes.{IsBlank, IsNewStore, HasNoteMore};
 ghost use Rattle.store_table.specs.Entries.{noted, note_row, IsNoted};
 ghost use Rattle.store_table.specs.Faults.{IsFailure, IsForeign};
-ghost use Rattle.store_table.specs.Logs.{HasTables, IsLog, IsClean, IsSteady, trees_of, Finds, Makes, Refuses, StaysInOk, StaysInErr, Leaves, LeavesNoMore};
-ghost use Rattle.store_table.specs.Transactions.{IsTransaction};
-ghost use Rattle.store_table.specs.Walks.{StaysBut};
+ghost use Rattle.store_table.specs.Logs.{HasTables, IsLog, IsClean, IsSteady, Finds, Makes, Refuses, StaysInOk, StaysInErr, Leaves, LeavesNoMore};
+ghost use Rattle.store_table.specs.Transactions.{CommitsNothing, IsTransaction};
+ghost use Rattle.store_table.specs.Walks.{StaysBut, MakesView};
 
 use crate::entry::text_in;
 use crate::fault::StoreFault;
@@ -33,12 +32,10 @@ fn only_note<S: Store>(
 ) -> Result<bool, StoreError>
     requires tables { IsClean S.Store trees.old → HasTables (S.Store.view trees.old) }
     requires none { none.now ≡ [] }
-    ensures one { IfOk result (λ one. IsClean S.Store trees.new → one ≡ true → trees_of S.Store trees.old 1 ≡ first.new ∷ []) }
-    ensures more { IfOk result (λ one. IsClean S.Store trees.new → one ≡ false → length (trees_of S.Store trees.old 1) ≢ 1) }
-    ensures same { OnOk result (IsClean S.Store trees.new → StaysBut (S.Store.view trees.old) (S.Store.view trees.new)) }
-    ensures schema { KeepsSchema (S.Store.view trees.old) (S.Store.view trees.new) }
-    ensures kept { IsClean S.Store trees.new → KeepsCommitted (S.Store.view trees.old) (S.Store.view trees.new) }
-    ensures quiet { IsQuiet S.Store.view S.Store.faults S.Store.recovers S.Store.is_shielded trees.old trees.new }
+    ensures one { Finds S.Store trees.old trees.new result (λ old one. one ≡ true → old 1 ≡ first.new ∷ []) }
+    ensures more { Finds S.Store trees.old trees.new result (λ old one. one ≡ false → IsForeign old) }
+    ensures same { MakesView S.Store trees.old trees.new result StaysBut }
+    ensures uncommitted { CommitsNothing S.Store trees.old trees.new }
 {
     trees.seek(CURSOR, ABOUT, none, Direction::Forward)?;
     if !trees.next(CURSOR, first)? {
@@ -71,12 +68,10 @@ fn note_of(alloc: Global, row: &Row) -> Result<(i64, String), StoreFault>
 /// The note.
 fn read_note<S: Store>(alloc: Global, trees: &mut S) -> Result<(i64, String), StoreFault>
     requires tables { IsClean S.Store trees.old → HasTables (S.Store.view trees.old) }
-    ensures noted { IfOk result (λ note. IsClean S.Store trees.new → IsNoted (trees_of S.Store trees.old) note.0 (string_bytes note.1)) }
-    ensures foreign { IsClean S.Store trees.new → IsErrOf result StoreFault.Foreign → IsForeign (trees_of S.Store trees.old) }
-    ensures same { OnOk result (IsClean S.Store trees.new → StaysBut (S.Store.view trees.old) (S.Store.view trees.new)) }
-    ensures schema { KeepsSchema (S.Store.view trees.old) (S.Store.view trees.new) }
-    ensures kept { IsClean S.Store trees.new → KeepsCommitted (S.Store.view trees.old) (S.Store.view trees.new) }
-    ensures quiet { IsQuiet S.Store.view S.Store.faults S.Store.recovers S.Store.is_shielded trees.old trees.new }
+    ensures noted { Finds S.Store trees.old trees.new result (λ old note. IsNoted old note.0 (string_bytes note.1)) }
+    ensures foreign { Refuses S.Store trees.old trees.new result StoreFault.Foreign IsForeign }
+    ensures same { MakesView S.Store trees.old trees.new result StaysBut }
+    ensures uncommitted { CommitsNothing S.Store trees.old trees.new }
 {
     let none = Row::new(alloc);
     let mut first = Row::new(alloc);
@@ -141,12 +136,10 @@ fn fill_note(row: &mut Row, writer: &str) -> Result<(), StoreFault>
 fn is_blank<S: Store>(trees: &mut S, none: &Row, row: &mut Row) -> Result<bool, StoreError>
     requires tables { IsClean S.Store trees.old → HasTables (S.Store.view trees.old) }
     requires none { none.now ≡ [] }
-    ensures blank { IfOk result (λ blank. IsClean S.Store trees.new → blank ≡ true → IsBlank (trees_of S.Store trees.old)) }
-    ensures other { IfOk result (λ blank. IsClean S.Store trees.new → blank ≡ false → ¬ IsBlank (trees_of S.Store trees.old)) }
-    ensures same { OnOk result (IsClean S.Store trees.new → StaysBut (S.Store.view trees.old) (S.Store.view trees.new)) }
-    ensures schema { KeepsSchema (S.Store.view trees.old) (S.Store.view trees.new) }
-    ensures kept { IsClean S.Store trees.new → KeepsCommitted (S.Store.view trees.old) (S.Store.view trees.new) }
-    ensures quiet { IsQuiet S.Store.view S.Store.faults S.Store.recovers S.Store.is_shielded trees.old trees.new }
+    ensures blank { Finds S.Store trees.old trees.new result (λ old blank. blank ≡ true → IsBlank old) }
+    ensures other { Finds S.Store trees.old trees.new result (λ old blank. blank ≡ false → ¬ IsBlank old) }
+    ensures same { MakesView S.Store trees.old trees.new result StaysBut }
+    ensures uncommitted { CommitsNothing S.Store trees.old trees.new }
 {
     if look(trees, none, Direction::Forward, row)? {
         return Ok(false);
@@ -158,13 +151,10 @@ fn is_blank<S: Store>(trees: &mut S, none: &Row, row: &mut Row) -> Result<bool, 
 /// Writes the note.
 fn write_note<S: Store>(trees: &mut S, row: &mut Row, writer: &str) -> Result<(), StoreFault>
     requires tables { IsClean S.Store trees.old → HasTables (S.Store.view trees.old) }
-    ensures about { OnOk result (IsClean S.Store trees.new → trees_of S.Store trees.new 1 ≡ put_row (note_row FORMAT writer.now) (trees_of S.Store trees.old 1)) }
-    ensures entries { OnOk result (IsClean S.Store trees.new → trees_of S.Store trees.new 0 ≡ trees_of S.Store trees.old 0) }
+    ensures written { Makes S.Store trees.old trees.new result (HasNoteMore FORMAT writer.now) }
     ensures failed { IfErr result IsFailure }
-    ensures frame { OnOk result (IsClean S.Store trees.new → OnlyWrites (S.Store.view trees.old) (S.Store.view trees.new)) }
-    ensures schema { KeepsSchema (S.Store.view trees.old) (S.Store.view trees.new) }
-    ensures kept { IsClean S.Store trees.new → KeepsCommitted (S.Store.view trees.old) (S.Store.view trees.new) }
-    ensures quiet { IsQuiet S.Store.view S.Store.faults S.Store.recovers S.Store.is_shielded trees.old trees.new }
+    ensures frame { MakesView S.Store trees.old trees.new result OnlyWrites }
+    ensures uncommitted { CommitsNothing S.Store trees.old trees.new }
 {
     fill_note(row, writer)?;
     trees.put(ABOUT, row)?;
@@ -174,12 +164,10 @@ fn write_note<S: Store>(trees: &mut S, row: &mut Row, writer: &str) -> Result<()
 /// Writes the note where there is nothing yet.
 fn begin<S: Store>(alloc: Global, trees: &mut S, writer: &str) -> Result<(), StoreFault>
     requires tables { IsClean S.Store trees.old → HasTables (S.Store.view trees.old) }
-    ensures begun { OnOk result (IsClean S.Store trees.new → IsNewStore FORMAT writer.now (trees_of S.Store trees.new)) }
-    ensures foreign { IsClean S.Store trees.new → IsErrOf result StoreFault.Foreign → ¬ IsBlank (trees_of S.Store trees.old) }
-    ensures frame { OnOk result (IsClean S.Store trees.new → OnlyWrites (S.Store.view trees.old) (S.Store.view trees.new)) }
-    ensures schema { KeepsSchema (S.Store.view trees.old) (S.Store.view trees.new) }
-    ensures kept { IsClean S.Store trees.new → KeepsCommitted (S.Store.view trees.old) (S.Store.view trees.new) }
-    ensures quiet { IsQuiet S.Store.view S.Store.faults S.Store.recovers S.Store.is_shielded trees.old trees.new }
+    ensures begun { Makes S.Store trees.old trees.new result (λ _. IsNewStore FORMAT writer.now) }
+    ensures foreign { Refuses S.Store trees.old trees.new result StoreFault.Foreign (λ old. ¬ IsBlank old) }
+    ensures frame { MakesView S.Store trees.old trees.new result OnlyWrites }
+    ensures uncommitted { CommitsNothing S.Store trees.old trees.new }
 {
     let none = Row::new(alloc);
     let mut row = Row::new(alloc);
@@ -193,7 +181,7 @@ fn begin<S: Store>(alloc: Global, trees: &mut S, writer: &str) -> Result<(), Sto
 fn commit_note<S: Store>(alloc: Global, trees: &mut S, writer: &str) -> Result<(), StoreFault>
     requires { IsLog S.Store trees.old }
     ensures done { IsTransaction S.Store trees.old trees.new result (λ _. IsNewStore FORMAT writer.now) }
-    ensures foreign { IsClean S.Store trees.new → IsErrOf result StoreFault.Foreign → ¬ IsBlank (trees_of S.Store trees.old) }
+    ensures foreign { Refuses S.Store trees.old trees.new result StoreFault.Foreign (λ old. ¬ IsBlank old) }
 {
     begin(alloc, trees, writer)?;
     trees.commit()?;

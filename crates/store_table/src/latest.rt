@@ -1,15 +1,14 @@
 //! The latest register of a key, found in the log without a tree in memory, and writes over it.
-ghost use Rattle.std.specs.Prelude.{◌≡◌, ◌≤◌, ◌^◌, is_some, false, if◌then◌else◌, Some, None, IfOk, IfErr, OnOk, IsErrOf};
-ghost use Rattle.std.specs.List.{last_or};
+ghost use Rattle.std.specs.Prelude.{◌≡◌, ◌≤◌, ◌^◌, is_some, false, Some, None, IfOk, IfErr, IsErrOf};
 ghost use Rattle.std.specs.Ordering.{is_eq};
-ghost use Rattle.sqlite_trees.specs.View.{KeepsSchema, KeepsCommitted, IsQuiet};
 ghost use Rattle.sqlite_value.specs.Order.{column, value_cmp};
 ghost use Rattle.sqlite_value.specs.declared.value.Value.TheVariants.{Text as Words};
 ghost use Rattle.store_table.specs.Faults.{IsFailure, IsUnwritten};
-ghost use Rattle.store_table.specs.Latest.{rows_of, text_of, IsLatestAt, IsThere, IsWrittenLate, HasWriteOver, WritesOver, Removes};
-ghost use Rattle.store_table.specs.Logs.{IsLog, IsClean, IsSteady, trees_of, Finds, Makes, MakesAndFinds, Refuses, StaysInOk, StaysInErr, Leaves, LeavesNoMore};
+ghost use Rattle.store_table.specs.Latest.{text_of, IsLastRow, IsLatestAt, IsThere, IsWrittenLate, HasWriteOver, WritesOver, Removes};
+ghost use Rattle.store_table.specs.Logs.{IsLog, IsSteady, Finds, Makes, MakesAndFinds, Refuses, StaysInOk, StaysInErr, Leaves, LeavesNoMore};
 ghost use Rattle.store_table.specs.Registers.{time_after, HasLastTime};
-ghost use Rattle.store_table.specs.Walks.{StaysBut};
+ghost use Rattle.store_table.specs.Transactions.{CommitsNothing};
+ghost use Rattle.store_table.specs.Walks.{StaysBut, MakesView};
 
 use crate::entry::entry_of;
 use crate::fault::StoreFault;
@@ -38,12 +37,10 @@ fn last_row<S: Store>(
     row: &mut Row,
 ) -> Result<bool, StoreFault>
     requires log { IsLog S.Store trees.old }
-    ensures last { IfOk result (λ found. IsClean S.Store trees.new → last_or None (rows_of key.now (trees_of S.Store trees.old 0)) ≡ (if found then Some row.new else None)) }
+    ensures last { Finds S.Store trees.old trees.new result (λ old. IsLastRow old key.now row.new) }
     ensures failed { IfErr result IsFailure }
-    ensures same { OnOk result (IsClean S.Store trees.new → StaysBut (S.Store.view trees.old) (S.Store.view trees.new)) }
-    ensures schema { KeepsSchema (S.Store.view trees.old) (S.Store.view trees.new) }
-    ensures kept { IsClean S.Store trees.new → KeepsCommitted (S.Store.view trees.old) (S.Store.view trees.new) }
-    ensures quiet { IsQuiet S.Store.view S.Store.faults S.Store.recovers S.Store.is_shielded trees.old trees.new }
+    ensures same { MakesView S.Store trees.old trees.new result StaysBut }
+    ensures uncommitted { CommitsNothing S.Store trees.old trees.new }
 {
     let mut bound = Row::new(alloc);
     bound.push(ValueRef::Text(key.as_bytes()))?;
@@ -60,12 +57,10 @@ fn last_register<S: Store>(
     key: &str,
 ) -> Result<Option<Register>, StoreFault>
     requires log { IsLog S.Store trees.old }
-    ensures latest { IfOk result (λ found. IsClean S.Store trees.new → IsLatestAt (trees_of S.Store trees.old) key.now found) }
+    ensures latest { Finds S.Store trees.old trees.new result (λ old. IsLatestAt old key.now) }
     ensures failed { IfErr result IsFailure }
-    ensures same { OnOk result (IsClean S.Store trees.new → StaysBut (S.Store.view trees.old) (S.Store.view trees.new)) }
-    ensures schema { KeepsSchema (S.Store.view trees.old) (S.Store.view trees.new) }
-    ensures kept { IsClean S.Store trees.new → KeepsCommitted (S.Store.view trees.old) (S.Store.view trees.new) }
-    ensures quiet { IsQuiet S.Store.view S.Store.faults S.Store.recovers S.Store.is_shielded trees.old trees.new }
+    ensures same { MakesView S.Store trees.old trees.new result StaysBut }
+    ensures uncommitted { CommitsNothing S.Store trees.old trees.new }
 {
     let mut row = Row::new(alloc);
     if !last_row(alloc, trees, key, &mut row)? {

@@ -1,7 +1,8 @@
 //! The log of a store over the trees of a file.
 ghost use Rattle.std.specs.Prelude.{◌≡◌, OnOk, OnErr};
-ghost use Rattle.sqlite_trees.specs.View.{IsRolledBack, IsQuiet};
+ghost use Rattle.sqlite_trees.specs.View.{IsRolledBack};
 ghost use Rattle.store_table.specs.Logs.{IsLog};
+ghost use Rattle.store_table.specs.Transactions.{StaysQuiet};
 
 use crate::fault::StoreFault;
 use sqlite_trees::store::Store;
@@ -60,7 +61,7 @@ pub(crate) fn settled<S: Store, A>(
     ensures same { result ≡ done }
     ensures kept { OnOk result (trees.new ≡ trees.old) }
     ensures undone { OnErr result (IsRolledBack (S.Store.view trees.old) (S.Store.view trees.new)) }
-    ensures quiet { OnErr result (IsQuiet S.Store.view S.Store.faults S.Store.recovers S.Store.is_shielded trees.old trees.new) }
+    ensures quiet { OnErr result (StaysQuiet S.Store trees.old trees.new) }
 {
     if done.is_err() {
         trees.rollback();

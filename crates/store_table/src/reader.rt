@@ -1,10 +1,10 @@
 //! The entries of a log, and the latest of each key, one after the other, in the memory of a few rows.
-ghost use Rattle.std.specs.Prelude.{◌≡◌, ◌+◌, [], false, Some, None, IsSome, IfOk, IfErr, OnOk};
-ghost use Rattle.sqlite_trees.specs.View.{KeepsSchema, KeepsCommitted, IsQuiet};
+ghost use Rattle.std.specs.Prelude.{◌≡◌, ◌+◌, [], None, IsSome, IfOk, IfErr, OnOk};
 ghost use Rattle.store_table.specs.Faults.{IsFailure};
-ghost use Rattle.store_table.specs.Logs.{HasTables, IsClean, IsSteady, trees_of, StaysInErr, LeavesNoMore};
+ghost use Rattle.store_table.specs.Logs.{HasTables, IsClean, IsSteady, StaysInErr, LeavesNoMore};
 ghost use Rattle.store_table.specs.Reading.{Takes, EndsGroup, IsWalked, ReadsOn, ReadsAll, WalksOn, WalksAll};
-ghost use Rattle.store_table.specs.Walks.{StaysBut};
+ghost use Rattle.store_table.specs.Transactions.{CommitsNothing};
+ghost use Rattle.store_table.specs.Walks.{StaysBut, WasSound, GivesAll, MakesView, MakesViewAndFinds};
 
 use crate::entry::entry_of;
 use crate::fault::StoreFault;
@@ -37,13 +37,11 @@ impl Walk {
 /// Places the cursor before the first row.
 fn seek_first<S: Store>(alloc: Global, trees: &mut S) -> Result<(), StoreFault>
     requires tables { IsClean S.Store trees.old → HasTables (S.Store.view trees.old) }
-    ensures begun { OnOk result (IsClean S.Store trees.new → (S.Store.view trees.new).cursors 0 ≡ Some (trees_of S.Store trees.old 0)) }
+    ensures begun { MakesView S.Store trees.old trees.new result GivesAll }
     ensures live { OnOk result (IsSome ((S.Store.view trees.new).cursors 0)) }
     ensures failed { IfErr result IsFailure }
-    ensures same { OnOk result (IsClean S.Store trees.new → StaysBut (S.Store.view trees.old) (S.Store.view trees.new)) }
-    ensures schema { KeepsSchema (S.Store.view trees.old) (S.Store.view trees.new) }
-    ensures kept { IsClean S.Store trees.new → KeepsCommitted (S.Store.view trees.old) (S.Store.view trees.new) }
-    ensures quiet { IsQuiet S.Store.view S.Store.faults S.Store.recovers S.Store.is_shielded trees.old trees.new }
+    ensures same { MakesView S.Store trees.old trees.new result StaysBut }
+    ensures uncommitted { CommitsNothing S.Store trees.old trees.new }
 {
     trees.seek(CURSOR, ENTRIES, &Row::new(alloc), Direction::Forward)?;
     Ok(())
@@ -78,14 +76,12 @@ fn take_entry<S: Store>(
     row: &mut Row,
 ) -> Result<Option<(String, Register)>, StoreFault>
     requires live { IsSome ((S.Store.view trees.old).cursors 0) }
-    ensures taken { IfOk result (λ found. IsClean S.Store trees.new → Takes (S.Store.view trees.old) (S.Store.view trees.new) found) }
+    ensures taken { MakesViewAndFinds S.Store trees.old trees.new result Takes }
     ensures live { OnOk result (IsSome ((S.Store.view trees.new).cursors 0)) }
     ensures failed { IfErr result IsFailure }
-    ensures same { OnOk result (IsClean S.Store trees.new → StaysBut (S.Store.view trees.old) (S.Store.view trees.new)) }
-    ensures sound { OnOk result (IsClean S.Store trees.new → (S.Store.view trees.old).is_broken ≡ false) }
-    ensures schema { KeepsSchema (S.Store.view trees.old) (S.Store.view trees.new) }
-    ensures kept { IsClean S.Store trees.new → KeepsCommitted (S.Store.view trees.old) (S.Store.view trees.new) }
-    ensures quiet { IsQuiet S.Store.view S.Store.faults S.Store.recovers S.Store.is_shielded trees.old trees.new }
+    ensures same { MakesView S.Store trees.old trees.new result StaysBut }
+    ensures sound { MakesView S.Store trees.old trees.new result WasSound }
+    ensures uncommitted { CommitsNothing S.Store trees.old trees.new }
 {
     if !trees.next(CURSOR, row)? {
         return Ok(None);
@@ -100,12 +96,12 @@ fn next_entry<S: Store>(
     row: &mut Row,
 ) -> Result<Option<(String, Register)>, StoreFault>
     requires live { IsSome ((S.Store.view log.old).cursors 0) }
-    ensures taken { IfOk result (λ found. IsClean S.Store log.new → Takes (S.Store.view log.old) (S.Store.view log.new) found) }
+    ensures taken { MakesViewAndFinds S.Store log.old log.new result Takes }
     ensures read { IfOk result (λ found. ReadsOn S.Store log.old log.new found) }
-    ensures all { IfOk result (λ found. found ≡ None → IsClean S.Store log.new → ReadsAll S.Store log.old log.new) }
+    ensures all { IfOk result (λ found. found ≡ None → ReadsAll S.Store log.old log.new) }
     ensures failed { IfErr result IsFailure }
     ensures live { OnOk result (IsSome ((S.Store.view log.new).cursors 0)) }
-    ensures same { OnOk result (IsClean S.Store log.new → StaysBut (S.Store.view log.old) (S.Store.view log.new)) }
+    ensures same { MakesView S.Store log.old log.new result StaysBut }
     ensures refused { StaysInErr S.Store log.old log.new result }
     ensures steady { IsSteady S.Store log.old log.new }
     ensures crash { LeavesNoMore S.Store log.old log.new }
@@ -156,10 +152,10 @@ pub fn next_latest<S: Store>(
 ) -> Result<Option<(String, Register)>, StoreFault>
     requires live { IsSome ((S.Store.view log.old).cursors 0) }
     ensures walked { IfOk result (λ found. WalksOn S.Store log.old log.new walk.old walk.new found) }
-    ensures all { IfOk result (λ found. found ≡ None → IsClean S.Store log.new → WalksAll S.Store log.old log.new walk.old walk.new) }
+    ensures all { IfOk result (λ found. found ≡ None → WalksAll S.Store log.old log.new walk.old walk.new) }
     ensures failed { IfErr result IsFailure }
     ensures live { OnOk result (IsSome ((S.Store.view log.new).cursors 0)) }
-    ensures same { OnOk result (IsClean S.Store log.new → StaysBut (S.Store.view log.old) (S.Store.view log.new)) }
+    ensures same { MakesView S.Store log.old log.new result StaysBut }
     ensures refused { StaysInErr S.Store log.old log.new result }
     ensures steady { IsSteady S.Store log.old log.new }
     ensures crash { LeavesNoMore S.Store log.old log.new }

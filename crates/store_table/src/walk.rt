@@ -1,14 +1,15 @@
 //! Walks through the rows of the table of entries, which are one transaction with what a caller does next.
-ghost use Rattle.std.specs.Prelude.{◌≡◌, ◌≤◌, ◌^◌, [], ◌∷◌, ◌++◌, map, false, IfOk, IfErr, OnOk, IsErrOf};
+ghost use Rattle.std.specs.Prelude.{◌≡◌, ◌≤◌, ◌^◌, [], ◌∷◌, ◌++◌, map, false, IfErr, OnOk, IsErrOf};
 ghost use Rattle.std.specs.Ordering.{is_gt};
-ghost use Rattle.sqlite_trees.specs.Tree.{sought, insert_entry};
-ghost use Rattle.sqlite_trees.specs.View.{KeepsSchema, KeepsCommitted, IsQuiet, OnlyWrites};
+ghost use Rattle.sqlite_trees.specs.View.{OnlyWrites};
 ghost use Rattle.sqlite_value.specs.Keys.{plain, entry_cmp};
-ghost use Rattle.store_table.specs.Entries.{entry_row, entry_row_of, with_rows};
+ghost use Rattle.store_table.specs.Changes.{KeepsNotes, HasInstead, HasOneMore, HasEntriesMore, HasEntriesInstead};
+ghost use Rattle.store_table.specs.Entries.{entry_row};
 ghost use Rattle.store_table.specs.Faults.{IsFailure, IsUnwritten};
-ghost use Rattle.store_table.specs.Logs.{HasTables, IsClean, trees_of};
+ghost use Rattle.store_table.specs.Logs.{HasTables, IsClean, Finds, Makes, MakesAndFinds};
 ghost use Rattle.store_table.specs.Registers.{HaveLateTime};
-ghost use Rattle.store_table.specs.Walks.{Gives, StaysBut};
+ghost use Rattle.store_table.specs.Transactions.{CommitsNothing};
+ghost use Rattle.store_table.specs.Walks.{IsSought, StaysBut, WasSound, MakesView};
 
 use crate::entry::{Entries, entry_of, fill_row};
 use crate::fault::StoreFault;
@@ -28,12 +29,10 @@ pub(crate) fn look<S: Store>(
     row: &mut Row,
 ) -> Result<bool, StoreError>
     requires tables { IsClean S.Store trees.old → HasTables (S.Store.view trees.old) }
-    ensures found { IfOk result (λ found. IsClean S.Store trees.new → Gives (sought plain direction key.now (trees_of S.Store trees.old 0)) row.new found) }
-    ensures same { OnOk result (IsClean S.Store trees.new → StaysBut (S.Store.view trees.old) (S.Store.view trees.new)) }
-    ensures sound { OnOk result (IsClean S.Store trees.new → (S.Store.view trees.old).is_broken ≡ false) }
-    ensures schema { KeepsSchema (S.Store.view trees.old) (S.Store.view trees.new) }
-    ensures kept { IsClean S.Store trees.new → KeepsCommitted (S.Store.view trees.old) (S.Store.view trees.new) }
-    ensures quiet { IsQuiet S.Store.view S.Store.faults S.Store.recovers S.Store.is_shielded trees.old trees.new }
+    ensures found { Finds S.Store trees.old trees.new result (λ old. IsSought old key.now direction row.new) }
+    ensures same { MakesView S.Store trees.old trees.new result StaysBut }
+    ensures sound { MakesView S.Store trees.old trees.new result WasSound }
+    ensures uncommitted { CommitsNothing S.Store trees.old trees.new }
 {
     trees.seek(CURSOR, ENTRIES, key, direction)?;
     trees.next(CURSOR, row)
@@ -54,13 +53,11 @@ fn push_entry(alloc: Global, row: &Row, entries: &mut Entries) -> Result<(), Sto
 /// All entries.
 pub(crate) fn all_entries<S: Store>(alloc: Global, trees: &mut S) -> Result<Entries, StoreFault>
     requires tables { IsClean S.Store trees.old → HasTables (S.Store.view trees.old) }
-    ensures found { IfOk result (λ entries. IsClean S.Store trees.new → trees_of S.Store trees.old 0 ≡ map entry_row entries.items) }
+    ensures found { Finds S.Store trees.old trees.new result (λ old entries. old 0 ≡ map entry_row entries.items) }
     ensures failed { IfErr result IsFailure }
-    ensures same { OnOk result (IsClean S.Store trees.new → StaysBut (S.Store.view trees.old) (S.Store.view trees.new)) }
-    ensures sound { OnOk result (IsClean S.Store trees.new → (S.Store.view trees.old).is_broken ≡ false) }
-    ensures schema { KeepsSchema (S.Store.view trees.old) (S.Store.view trees.new) }
-    ensures kept { IsClean S.Store trees.new → KeepsCommitted (S.Store.view trees.old) (S.Store.view trees.new) }
-    ensures quiet { IsQuiet S.Store.view S.Store.faults S.Store.recovers S.Store.is_shielded trees.old trees.new }
+    ensures same { MakesView S.Store trees.old trees.new result StaysBut }
+    ensures sound { MakesView S.Store trees.old trees.new result WasSound }
+    ensures uncommitted { CommitsNothing S.Store trees.old trees.new }
 {
     let mut entries = Vec::new(alloc);
     let mut row = Row::new(alloc);
@@ -78,13 +75,11 @@ pub(crate) fn all_entries<S: Store>(alloc: Global, trees: &mut S) -> Result<Entr
 fn remove_first<S: Store>(trees: &mut S, none: &Row, row: &mut Row) -> Result<bool, StoreError>
     requires tables { IsClean S.Store trees.old → HasTables (S.Store.view trees.old) }
     requires none { none.now ≡ [] }
-    ensures last { IfOk result (λ more. IsClean S.Store trees.new → more ≡ false → trees_of S.Store trees.new 0 ≡ []) }
-    ensures others { OnOk result (IsClean S.Store trees.new → trees_of S.Store trees.new 1 ≡ trees_of S.Store trees.old 1) }
-    ensures frame { OnOk result (IsClean S.Store trees.new → OnlyWrites (S.Store.view trees.old) (S.Store.view trees.new)) }
-    ensures sound { OnOk result (IsClean S.Store trees.new → (S.Store.view trees.old).is_broken ≡ false) }
-    ensures schema { KeepsSchema (S.Store.view trees.old) (S.Store.view trees.new) }
-    ensures kept { IsClean S.Store trees.new → KeepsCommitted (S.Store.view trees.old) (S.Store.view trees.new) }
-    ensures quiet { IsQuiet S.Store.view S.Store.faults S.Store.recovers S.Store.is_shielded trees.old trees.new }
+    ensures last { MakesAndFinds S.Store trees.old trees.new result (λ _ new more. more ≡ false → new 0 ≡ []) }
+    ensures others { Makes S.Store trees.old trees.new result KeepsNotes }
+    ensures frame { MakesView S.Store trees.old trees.new result OnlyWrites }
+    ensures sound { MakesView S.Store trees.old trees.new result WasSound }
+    ensures uncommitted { CommitsNothing S.Store trees.old trees.new }
 {
     if !look(trees, none, Direction::Forward, row)? {
         return Ok(false);
@@ -103,14 +98,11 @@ fn is_above(row: &Row, other: &Row) -> bool
 /// Takes out all rows, each above the one before: in a damaged tree a row may stay that is taken out, and the walk ends there.
 pub(crate) fn clear<S: Store>(alloc: Global, trees: &mut S) -> Result<(), StoreFault>
     requires tables { IsClean S.Store trees.old → HasTables (S.Store.view trees.old) }
-    ensures cleared { OnOk result (IsClean S.Store trees.new → trees_of S.Store trees.new 0 ≡ []) }
-    ensures others { OnOk result (IsClean S.Store trees.new → trees_of S.Store trees.new 1 ≡ trees_of S.Store trees.old 1) }
+    ensures cleared { Makes S.Store trees.old trees.new result (HasInstead []) }
     ensures failed { IfErr result IsFailure }
-    ensures frame { OnOk result (IsClean S.Store trees.new → OnlyWrites (S.Store.view trees.old) (S.Store.view trees.new)) }
-    ensures sound { OnOk result (IsClean S.Store trees.new → (S.Store.view trees.old).is_broken ≡ false) }
-    ensures schema { KeepsSchema (S.Store.view trees.old) (S.Store.view trees.new) }
-    ensures kept { IsClean S.Store trees.new → KeepsCommitted (S.Store.view trees.old) (S.Store.view trees.new) }
-    ensures quiet { IsQuiet S.Store.view S.Store.faults S.Store.recovers S.Store.is_shielded trees.old trees.new }
+    ensures frame { MakesView S.Store trees.old trees.new result OnlyWrites }
+    ensures sound { MakesView S.Store trees.old trees.new result WasSound }
+    ensures uncommitted { CommitsNothing S.Store trees.old trees.new }
 {
     let none = Row::new(alloc);
     let mut row = Row::new(alloc);
@@ -135,15 +127,12 @@ pub(crate) fn insert<S: Store>(
     register: &Register,
 ) -> Result<(), StoreFault>
     requires tables { IsClean S.Store trees.old → HasTables (S.Store.view trees.old) }
-    ensures added { OnOk result (IsClean S.Store trees.new → trees_of S.Store trees.new 0 ≡ insert_entry plain (entry_row_of key.now register.now) (trees_of S.Store trees.old 0)) }
-    ensures others { OnOk result (IsClean S.Store trees.new → trees_of S.Store trees.new 1 ≡ trees_of S.Store trees.old 1) }
+    ensures added { Makes S.Store trees.old trees.new result (HasOneMore key.now register.now) }
     ensures late { IsErrOf result StoreFault.Time → 2 ^ 63 ≤ register.now.time }
     ensures faults { IfErr result IsUnwritten }
-    ensures frame { OnOk result (IsClean S.Store trees.new → OnlyWrites (S.Store.view trees.old) (S.Store.view trees.new)) }
-    ensures sound { OnOk result (IsClean S.Store trees.new → (S.Store.view trees.old).is_broken ≡ false) }
-    ensures schema { KeepsSchema (S.Store.view trees.old) (S.Store.view trees.new) }
-    ensures kept { IsClean S.Store trees.new → KeepsCommitted (S.Store.view trees.old) (S.Store.view trees.new) }
-    ensures quiet { IsQuiet S.Store.view S.Store.faults S.Store.recovers S.Store.is_shielded trees.old trees.new }
+    ensures frame { MakesView S.Store trees.old trees.new result OnlyWrites }
+    ensures sound { MakesView S.Store trees.old trees.new result WasSound }
+    ensures uncommitted { CommitsNothing S.Store trees.old trees.new }
 {
     fill_row(row, key, register)?;
     trees.insert(ENTRIES, row)?;
@@ -157,14 +146,11 @@ pub(crate) fn insert_all<S: Store>(
     entries: &[(String, Register)],
 ) -> Result<(), StoreFault>
     requires tables { IsClean S.Store trees.old → HasTables (S.Store.view trees.old) }
-    ensures added { OnOk result (IsClean S.Store trees.new → trees_of S.Store trees.new 0 ≡ with_rows (trees_of S.Store trees.old 0) (map entry_row entries.now)) }
-    ensures others { OnOk result (IsClean S.Store trees.new → trees_of S.Store trees.new 1 ≡ trees_of S.Store trees.old 1) }
+    ensures added { Makes S.Store trees.old trees.new result (HasEntriesMore entries.now) }
     ensures late { IsErrOf result StoreFault.Time → HaveLateTime entries.now }
     ensures faults { IfErr result IsUnwritten }
-    ensures frame { OnOk result (IsClean S.Store trees.new → OnlyWrites (S.Store.view trees.old) (S.Store.view trees.new)) }
-    ensures schema { KeepsSchema (S.Store.view trees.old) (S.Store.view trees.new) }
-    ensures kept { IsClean S.Store trees.new → KeepsCommitted (S.Store.view trees.old) (S.Store.view trees.new) }
-    ensures quiet { IsQuiet S.Store.view S.Store.faults S.Store.recovers S.Store.is_shielded trees.old trees.new }
+    ensures frame { MakesView S.Store trees.old trees.new result OnlyWrites }
+    ensures uncommitted { CommitsNothing S.Store trees.old trees.new }
 {
     let mut row = Row::new(alloc);
     'entries: for entry in entries {
@@ -180,14 +166,11 @@ pub(crate) fn replace<S: Store>(
     entries: &[(String, Register)],
 ) -> Result<(), StoreFault>
     requires tables { IsClean S.Store trees.old → HasTables (S.Store.view trees.old) }
-    ensures added { OnOk result (IsClean S.Store trees.new → trees_of S.Store trees.new 0 ≡ with_rows [] (map entry_row entries.now)) }
-    ensures others { OnOk result (IsClean S.Store trees.new → trees_of S.Store trees.new 1 ≡ trees_of S.Store trees.old 1) }
+    ensures replaced { Makes S.Store trees.old trees.new result (HasEntriesInstead entries.now) }
     ensures late { IsErrOf result StoreFault.Time → HaveLateTime entries.now }
     ensures faults { IfErr result IsUnwritten }
-    ensures frame { OnOk result (IsClean S.Store trees.new → OnlyWrites (S.Store.view trees.old) (S.Store.view trees.new)) }
-    ensures schema { KeepsSchema (S.Store.view trees.old) (S.Store.view trees.new) }
-    ensures kept { IsClean S.Store trees.new → KeepsCommitted (S.Store.view trees.old) (S.Store.view trees.new) }
-    ensures quiet { IsQuiet S.Store.view S.Store.faults S.Store.recovers S.Store.is_shielded trees.old trees.new }
+    ensures frame { MakesView S.Store trees.old trees.new result OnlyWrites }
+    ensures uncommitted { CommitsNothing S.Store trees.old trees.new }
 {
     clear(alloc, trees)?;
     insert_all(alloc, trees, entries)

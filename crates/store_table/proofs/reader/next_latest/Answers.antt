@@ -6,8 +6,8 @@ use Rattle.store_table.specs.declared.reader.Walk.{Walk}
 use Rattle.store_table.specs.declared.register.Register.{Register}
 use Rattle.store_table.specs.Logs.{IsClean}
 use Rattle.store_table.specs.Reading.{Takes, EndsGroup, ReadsOn, IsWalked}
-use Rattle.store_table.proofs.Reading.{steady_then, no_more_then, walks_on, walks_out, walks_all}
-use Rattle.store_table.proofs.Walking.{stays_then}
+use Rattle.store_table.proofs.Reading.{walks_on, walks_out, walks_all}
+use Rattle.store_table.proofs.Walking.{stays_then, steady_then, no_more_then}
 use Rattle.store_table.proofs.reader.next_latest.Goals as goal
 
 pub returns-in_default-clause-walked : goal.returns-in_default-clause-walked
@@ -26,8 +26,7 @@ returns-in_default-clause-all g c none clean start given was =
     let s = g.S.Store in
     let old = c.entries.log in
     let new = c.next_entry.new.log in
-    let early : IsClean s old = omega (arith, c.next_entry.ensures.steady.clean, clean) in
-    walks_all s start old new c.entries.walk given early (c.in_ok-entry.ensures.all c.in_default.is clean) (sym c.take.ensures.value ∙ none) (c.entries.invariant.walked start given was)
+    walks_all s start old new c.entries.walk given clean c.next_entry.ensures.steady (c.in_ok-entry.ensures.all c.in_default.is) (sym c.take.ensures.value ∙ none) (c.entries.invariant.walked start given was)
 
 pub returns-in-Some-take_in-clause-walked : goal.returns-in-Some-take_in-clause-walked
 returns-in-Some-take_in-clause-walked g c start given was =

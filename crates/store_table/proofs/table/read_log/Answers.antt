@@ -14,7 +14,7 @@ returns-clause-held g c clean =
     let old = c.log.inside.trees in
     let mid = c.all_entries-read.new.trees in
     let read = c.all_entries-read.ensures in
-    let early : IsClean s mid → IsClean s old = λ clean. omega (arith, read.quiet.clean, clean) in
+    let early : IsClean s mid → IsClean s old = λ clean. omega (arith, read.uncommitted.quiet.clean, clean) in
     rw (sym c.log.view_is) (settled_ok (IsClean s) mid c.settled.new.trees c.settled.result c.all_entries-read.result
     (λ entries. trees_of s old 0 ≡ map entry_row entries.items) (λ entries. HoldsEntries (trees_of s old) entries.items) ((s.view old).is_broken ≡ false)
     c.settled.ensures.same c.settled.ensures.kept clean read.found read.sound

@@ -2,7 +2,7 @@ use Rattle.std.proofs.Common.{ap, map, arith, rules}
 use Rattle.sqlite_trees.specs.Tree.{order_of}
 use Rattle.store_table.specs.Entries.{entry_row}
 use Rattle.store_table.specs.Logs.{IsClean, trees_of}
-use Rattle.store_table.proofs.Walking.{schema_then, kept_then, quiet_then, stays_then, stays_kept, sought_all, given_more}
+use Rattle.store_table.proofs.Walking.{uncommitted_then, stays_then, stays_kept, sought_all, given_more}
 use Rattle.store_table.proofs.walk.all_entries.Goals as goal
 
 pub rows-init : goal.rows-init
@@ -17,9 +17,7 @@ rows-init g c =
       passed = λ clean. rw c.new-entries.ensures.items (sought_all (view old) (view new) 0 _ (ap order_of (c.requires.tables (early clean)).entries) (search rules) (did.ok clean));
       sound = λ clean. did.sound clean;
       same = λ clean. search rules;
-      schema = c.seek.ensures.schema;
-      kept = λ clean. search rules;
-      quiet = c.seek.ensures.quiet;
+      uncommitted = record { schema = c.seek.ensures.schema; kept = λ clean. search rules; quiet = c.seek.ensures.quiet };
     }
 
 pub rows-preserved : goal.rows-preserved
@@ -36,7 +34,6 @@ rows-preserved g c =
       passed = λ clean. given_more (trees_of g.S.Store old 0) (map entry_row c.rows.entries.items) (map entry_row c.push_entry.new.entries.items) _ _ (view mid) (view new) (search rules) (was.passed (early clean)) (did.ok clean) c.in_ok-push_entry.ensures.pushed;
       sound = λ clean. was.sound (early clean);
       same = λ clean. stays_then (view old) (view mid) (view new) (was.same (early clean)) (did.moves clean).same;
-      schema = schema_then (view old) (view mid) (view new) was.schema c.next.ensures.schema;
-      kept = λ clean. kept_then (view old) (view mid) (view new) (was.kept (early clean)) (stays_kept (view mid) (view new) (did.moves clean).same);
-      quiet = quiet_then view g.S.Store.faults g.S.Store.recovers g.S.Store.is_shielded old mid new was.quiet c.next.ensures.quiet;
+      uncommitted = uncommitted_then g.S.Store old mid new was.uncommitted
+          (record { schema = c.next.ensures.schema; kept = λ clean. stays_kept (view mid) (view new) (did.moves clean).same; quiet = c.next.ensures.quiet });
     }

@@ -1,8 +1,8 @@
 use Rattle.std.proofs.Common.{◌≡◌, ◌++◌, List, map, false, Some, IsSome}
 use Rattle.sqlite_value.specs.Order.{Row}
-use Rattle.sqlite_trees.specs.View.{KeepsSchema, KeepsCommitted, IsQuiet}
 use Rattle.store_table.specs.Entries.{entry_row}
 use Rattle.store_table.specs.Logs.{IsClean, trees_of}
+use Rattle.store_table.specs.Transactions.{CommitsNothing}
 use Rattle.store_table.specs.Walks.{StaysBut}
 use Rattle.store_table.proofs.walk.all_entries.Given as goal
 
@@ -14,7 +14,5 @@ invariant-rows g l =
       passed : clean → (left : List Row) × ((view l.trees).cursors 0 ≡ Some left) × (trees_of g.S.Store l.fn.trees 0 ≡ map entry_row l.entries.items ++ left);
       sound : clean → (view l.fn.trees).is_broken ≡ false;
       same : clean → StaysBut (view l.fn.trees) (view l.trees);
-      schema : KeepsSchema (view l.fn.trees) (view l.trees);
-      kept : clean → KeepsCommitted (view l.fn.trees) (view l.trees);
-      quiet : IsQuiet view g.S.Store.faults g.S.Store.recovers g.S.Store.is_shielded l.fn.trees l.trees;
+      uncommitted : CommitsNothing g.S.Store l.fn.trees l.trees;
     }

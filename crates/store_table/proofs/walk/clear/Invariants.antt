@@ -1,6 +1,7 @@
-use Rattle.std.proofs.Common.{◌≡◌}
-use Rattle.sqlite_trees.specs.View.{KeepsSchema, KeepsCommitted, IsQuiet, OnlyWrites}
+use Rattle.sqlite_trees.specs.View.{OnlyWrites}
+use Rattle.store_table.specs.Changes.{KeepsNotes}
 use Rattle.store_table.specs.Logs.{HasTables, IsClean, trees_of}
+use Rattle.store_table.specs.Transactions.{CommitsNothing}
 use Rattle.store_table.proofs.walk.clear.Given as goal
 
 abbrev pub invariant-rows : goal.invariant-rows
@@ -8,9 +9,7 @@ invariant-rows g l =
     let view = g.S.Store.view in
     let clean = IsClean g.S.Store l.trees in record {
       tables : clean → HasTables (view l.trees);
-      others : clean → trees_of g.S.Store l.trees 1 ≡ trees_of g.S.Store l.fn.trees 1;
+      others : clean → KeepsNotes (trees_of g.S.Store l.fn.trees) (trees_of g.S.Store l.trees);
       frame : clean → OnlyWrites (view l.fn.trees) (view l.trees);
-      schema : KeepsSchema (view l.fn.trees) (view l.trees);
-      kept : clean → KeepsCommitted (view l.fn.trees) (view l.trees);
-      quiet : IsQuiet view g.S.Store.faults g.S.Store.recovers g.S.Store.is_shielded l.fn.trees l.trees;
+      uncommitted : CommitsNothing g.S.Store l.fn.trees l.trees;
     }

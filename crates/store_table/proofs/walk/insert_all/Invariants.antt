@@ -1,7 +1,8 @@
-use Rattle.std.proofs.Common.{◌≡◌, map, take}
-use Rattle.sqlite_trees.specs.View.{KeepsSchema, KeepsCommitted, IsQuiet, OnlyWrites}
-use Rattle.store_table.specs.Entries.{entry_row, with_rows}
+use Rattle.std.proofs.Common.{take}
+use Rattle.sqlite_trees.specs.View.{OnlyWrites}
+use Rattle.store_table.specs.Changes.{HasEntriesMore}
 use Rattle.store_table.specs.Logs.{HasTables, IsClean, trees_of}
+use Rattle.store_table.specs.Transactions.{CommitsNothing}
 use Rattle.store_table.proofs.walk.insert_all.Given as goal
 
 abbrev pub invariant-entries : goal.invariant-entries
@@ -9,10 +10,7 @@ invariant-entries g l =
     let view = g.S.Store.view in
     let clean = IsClean g.S.Store l.trees in record {
       tables : clean → HasTables (view l.trees);
-      added : clean → trees_of g.S.Store l.trees 0 ≡ with_rows (trees_of g.S.Store l.fn.trees 0) (map entry_row (take l.entry-index l.fn.entries));
-      others : clean → trees_of g.S.Store l.trees 1 ≡ trees_of g.S.Store l.fn.trees 1;
+      added : clean → HasEntriesMore (take l.entry-index l.fn.entries) (trees_of g.S.Store l.fn.trees) (trees_of g.S.Store l.trees);
       frame : clean → OnlyWrites (view l.fn.trees) (view l.trees);
-      schema : KeepsSchema (view l.fn.trees) (view l.trees);
-      kept : clean → KeepsCommitted (view l.fn.trees) (view l.trees);
-      quiet : IsQuiet view g.S.Store.faults g.S.Store.recovers g.S.Store.is_shielded l.fn.trees l.trees;
+      uncommitted : CommitsNothing g.S.Store l.fn.trees l.trees;
     }
