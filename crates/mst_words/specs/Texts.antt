@@ -1,7 +1,7 @@
 -- What is said of a wrong command line.
 use Rattle.std.specs.Prelude.{ℕ, List, ◌++◌, codes}
 use Rattle.mst_words.specs.declared.wrong.Wrong.{Wrong}
-use Rattle.mst_words.specs.declared.wrong.Wrong.TheVariants.{NoCommand, NoSuchCommand, NoSuchOption, NoValue, HasValue, NoNumber, NoSpan, LeftOver, Missing}
+use Rattle.mst_words.specs.declared.wrong.Wrong.TheVariants.{NoCommand, NoSuchCommand, NoSuchOption, NoValue, HasValue, NoNumber, NoSpan, LeftOver, Missing, NoLog, NotText}
 
 -- why a command line is wrong
 abbrev pub wrong_text : Wrong → List ℕ
@@ -14,3 +14,5 @@ wrong_text (NoNumber word) = word.now ++ codes " is no number"
 wrong_text (NoSpan word) = word.now ++ codes " is no span of time, as 30d, 12h, 15m or 90s are"
 wrong_text (LeftOver word) = word.now ++ codes " is a word too many"
 wrong_text (Missing name) = name.now ++ codes " is missing"
+wrong_text (NoLog name) = name.now ++ codes " says nothing without --log"
+wrong_text NotText = codes "a word is no text in UTF-8"

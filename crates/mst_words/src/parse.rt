@@ -208,6 +208,11 @@ fn name_of(places: &'static [Place], at: usize) -> &'static str {
     }
 }
 
+/// Whether entries may be ahead of the clock where a command takes none of another copy, as an import without a log does.
+fn is_alone(given: &Given<'_>, form: &Form) -> bool {
+    given.ahead && !given.log && form.settings.contains(&Setting::Log)
+}
+
 /// The file and what is given, once all words are taken.
 fn finish<'a>(taken: Taken<'a>, form: &Form) -> Result<(&'a str, Given<'a>), Wrong<'a>> {
     if taken.pending.is_some() {
@@ -218,6 +223,9 @@ fn finish<'a>(taken: Taken<'a>, form: &Form) -> Result<(&'a str, Given<'a>), Wro
     };
     if taken.places < form.least {
         return Err(Wrong::Missing(name_of(form.places, taken.places)));
+    }
+    if is_alone(&taken.given, form) {
+        return Err(Wrong::NoLog("--allow-ahead"));
     }
     Ok((file, taken.given))
 }

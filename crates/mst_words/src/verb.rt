@@ -128,12 +128,12 @@ as \\t, \\n, \\r and \\\\. With --json each line is an object with the names key
 ";
 
 const IMPORT_HELP: &str = "\
-usage: mst import FILE [--log] [--allow-ahead]
+usage: mst import FILE [--log [--allow-ahead]]
 
 Writes the records of the CSV on standard input, all or none. Its first line is key,value. Of records with one key the last counts.
 With --log it takes the entries of an export with --log, each at its own time and by its own writer.
 
-  --allow-ahead  takes entries whose time is more than a day ahead of this clock, too
+  --allow-ahead  of a log, takes entries whose time is more than a day ahead of this clock, too
 ";
 
 const EXPORT_HELP: &str = "\

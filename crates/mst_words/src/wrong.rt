@@ -25,6 +25,10 @@ pub enum Wrong<'a> {
     LeftOver(&'a str),
     /// A word is missing.
     Missing(&'static str),
+    /// An option is of a log, and `--log` isn't there.
+    NoLog(&'static str),
+    /// A word is no text in UTF-8.
+    NotText,
 }
 
 impl fmt::Display for Wrong<'_> {
@@ -47,6 +51,8 @@ impl fmt::Display for Wrong<'_> {
             ),
             Wrong::LeftOver(word) => write!(f, "{word} is a word too many"),
             Wrong::Missing(name) => write!(f, "{name} is missing"),
+            Wrong::NoLog(name) => write!(f, "{name} says nothing without --log"),
+            Wrong::NotText => f.write_str("a word is no text in UTF-8"),
         }
     }
 }
