@@ -24,12 +24,13 @@ ends-for (fault.NoHeader names) f g h = f h
 ends-for (fault.BadLine line why) f g h = g h
 ends-for fault.NotText f g h = g h
 ends-for (fault.Store why) f g h = tt
-ends-for fault.Device f g h = tt
+ends-for (fault.Device error) f g h = tt
 ends-for fault.NoStore f g h = absurd h
 ends-for fault.Exists f g h = absurd h
 ends-for fault.InUse f g h = absurd h
 ends-for fault.NoKey f g h = absurd h
 ends-for (fault.TooLong what) f g h = absurd h
+ends-for fault.Future f g h = absurd h
 ends-for fault.System f g h = absurd h
 
 -- one record more behind those that were reached

@@ -1,7 +1,7 @@
 -- Which texts of CSV an import refuses, and what else ends one.
 use Rattle.std.specs.Prelude.{◌≢◌, ◌≤◌, ◌<◌, ◌^◌, ℕ, Bool, List, [], ◌∷◌, ◌++◌, length, ⊤, ◌⊎◌, Option, IfSome, IsSomeAnd, string_bytes}
 use Rattle.key_order.specs.Text.{Text as Key}
-use Rattle.csv.specs.Reading.{Reached, default_config, strip_bom}
+use Rattle.csv.specs.Reading.{AreRecords, Reached, default_config, strip_bom}
 use Rattle.csv.specs.Records.{AllText}
 use Rattle.csv.specs.declared.error.ErrorKind.{ErrorKind}
 use Rattle.csv.specs.declared.error.ErrorKind.TheVariants as kind
@@ -36,6 +36,10 @@ SaysNoChange fields = (value : Option Key) → SaysValue fields value → IsSome
 abbrev pub HasOtherHeader : Bool → List ℕ → Type 0
 HasOtherHeader is_log text = (first : List (List ℕ)) × Begins text (first ∷ []) × (first ≢ header is_log)
 
+-- a text has no record, or the first one is another than the header
+abbrev pub LacksHeader : Bool → List ℕ → Type 0
+LacksHeader is_log text = AreRecords default_config st.StartRecord (strip_bom text) [] ⊎ HasOtherHeader is_log text
+
 -- behind these records of a text comes one that is not in UTF-8
 abbrev pub GoesOnInNoText : List ℕ → List (List (List ℕ)) → Type 0
 GoesOnInNoText text records = (fields : List (List ℕ)) × Begins text (records ++ fields ∷ []) × ¬ (AllText fields)
@@ -54,7 +58,7 @@ EndsFor first row (fault.NoHeader names) = first
 EndsFor first row (fault.BadLine line why) = row
 EndsFor first row fault.NotText = row
 EndsFor first row (fault.Store why) = ⊤
-EndsFor first row fault.Device = ⊤
+EndsFor first row (fault.Device error) = ⊤
 EndsFor first row _ = ⊥
 
 -- a command ends early for want of memory, the store or a device alone
@@ -63,7 +67,7 @@ IsFailure = EndsFor ⊥ ⊥
 
 -- for its header or a record it ends only where these are wrong, as far as the text is known
 abbrev pub IsImportRefused : Bool → Option (List ℕ) → Fault → Type 0
-IsImportRefused is_log text = EndsFor (IfSome text (HasOtherHeader is_log)) (IfSome text (HasBadRecord is_log))
+IsImportRefused is_log text = EndsFor (IfSome text (LacksHeader is_log)) (IfSome text (HasBadRecord is_log))
 
 -- a read stops at a record that is not in UTF-8, as far as the text is known, or for something else than the text
 abbrev pub StopsReading : {R : Type 0} → (R → Option (List ℕ)) → Reader R → Fault → Type 0

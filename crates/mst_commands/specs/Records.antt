@@ -57,9 +57,9 @@ SayEntries is_log number [] (entry ∷ entries) = ⊥
 SayEntries is_log number (fields ∷ records) [] = ⊥
 SayEntries is_log number (fields ∷ records) (entry ∷ entries) = SaysEntry is_log number fields entry × SayEntries is_log (number + 1) records entries
 
--- the first record is the header, and those behind it say the entries; where there is no record there is no entry
+-- the first record is the header, and those behind it say the entries
 abbrev pub SayAll : Bool → List (List (List ℕ)) → List (Key × Register) → Type 0
-SayAll is_log [] entries = entries ≡ []
+SayAll is_log [] entries = ⊥
 SayAll is_log (first ∷ records) entries = (first ≡ header is_log) × SayEntries is_log 1 records entries
 
 -- a text of CSV has these entries, in their order

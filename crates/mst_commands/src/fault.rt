@@ -27,10 +27,12 @@ pub enum Fault {
     NoHeader(&'static str),
     /// A line of an import is wrong, for this reason.
     BadLine(u64, &'static str),
+    /// An import of a log has an entry whose time is too far ahead of the clock.
+    Future,
     /// The store refused or failed.
     Store(StoreFault),
     /// Standard input or output failed.
-    Device,
+    Device(io::Error),
     /// The clock or the source of randomness failed.
     System,
 }
@@ -70,10 +72,10 @@ impl<T: Drop> From<AllocFailed<T>> for Fault {
 impl From<io::Error> for Fault {
     ghost use Rattle.mst_commands.specs.declared.fault.Fault.TheVariants.{Device};
 
-    ghost from_gives = { λ _ made. made ≡ Device };
+    ghost from_gives = { λ error made. made ≡ Device error };
 
-    fn from(_error: io::Error) -> Self {
-        Fault::Device
+    fn from(error: io::Error) -> Self {
+        Fault::Device(error)
     }
 }
 
@@ -87,7 +89,7 @@ pub fn read_fault(error: &csv::Error) -> Fault
             None => Fault::NotText,
         },
         ErrorKind::OutOfMemory => Fault::Store(StoreFault::Memory),
-        _ => Fault::Device,
+        other => Fault::Device(device_error(other)),
     }
 }
 
@@ -97,7 +99,15 @@ pub fn write_fault(error: &csv::Error) -> Fault
 {
     match error.kind() {
         ErrorKind::OutOfMemory => Fault::Store(StoreFault::Memory),
-        _ => Fault::Device,
+        other => Fault::Device(device_error(other)),
+    }
+}
+
+/// The error of the device from which CSV is read, or to which it is written.
+fn device_error(kind: &ErrorKind) -> io::Error {
+    match kind {
+        ErrorKind::Io(error) => *error,
+        _ => io::ErrorKind::InvalidData.into(),
     }
 }
 
@@ -110,10 +120,19 @@ impl fmt::Display for Fault {
             Fault::NoKey => f.write_str("no such key"),
             Fault::TooLong(what) => write!(f, "{what} has more than 1 MiB"),
             Fault::NotText => f.write_str("standard input is no text in UTF-8"),
-            Fault::NoHeader(header) => write!(f, "line 1 is not {header}: nothing is imported"),
-            Fault::BadLine(line, why) => write!(f, "line {line}: {why}: nothing is imported"),
+            Fault::NoHeader(header) => write!(
+                f,
+                "line 1 of the input is missing, or is not {header}: nothing is imported"
+            ),
+            Fault::BadLine(line, why) => write!(
+                f,
+                "line {line} of the input: {why}: nothing is imported"
+            ),
+            Fault::Future => f.write_str(
+                "the input has an entry from the future: nothing is imported",
+            ),
             Fault::Store(fault) => write!(f, "{fault}"),
-            Fault::Device => f.write_str("standard input or output failed"),
+            Fault::Device(error) => write!(f, "standard input or output failed: {error}"),
             Fault::System => f.write_str("the clock or the source of randomness failed"),
         }
     }

@@ -93,6 +93,11 @@ fn expect_log_header(row: &StringRecord) -> Result<(), Fault>
     Ok(())
 }
 
+/// The first line of a log, or of keys and values.
+fn header_of(is_log: bool) -> &'static str {
+    if is_log { LOG_HEADER } else { HEADER }
+}
+
 /// Refuses a first record that is no header.
 fn expect_header(row: &StringRecord, is_log: bool) -> Result<(), Fault>
     ensures same { OnOk result (fields_of row.now ≡ header is_log) }
@@ -215,7 +220,7 @@ pub fn read_entries<R: Read + Drop>(alloc: Global, from: R, is_log: bool) -> Res
     let mut reader = reader_of(alloc, from);
     let mut record = StringRecord::new(alloc);
     if !read_next(&mut reader, &mut record)? {
-        return Ok(entries);
+        return Err(Fault::NoHeader(header_of(is_log)));
     }
     expect_header(&record, is_log)?;
     'records: for number in 1..u64::MAX {

@@ -6,7 +6,8 @@ use crate::reading::{count, export, export_log, get, list, status};
 use crate::writing::{del, import, put_text, read_text};
 use mst_words::{Given, Verb};
 use sqlite_trees::store::Store;
-use std::io::{self, BufWriter, Write};
+use std::io::{self, BufWriter, ErrorKind, Write};
+use store_table::StoreFault;
 use store_table::log::Log;
 use store_table::rows::compact;
 
@@ -55,6 +56,14 @@ fn print_list<S: Store>(
     Ok(())
 }
 
+/// What was printed. A reader who has gone wanted no more, so that it is no failure.
+fn unless_gone(printed: Result<(), Fault>) -> Result<(), Fault> {
+    match printed {
+        Err(Fault::Device(error)) if error.kind() == ErrorKind::BrokenPipe => Ok(()),
+        printed => printed,
+    }
+}
+
 /// Prints how many keys there are.
 fn print_count<S: Store>(rt: &HostRuntime, log: &mut Log<S>) -> Result<(), Fault> {
     let mut out = BufWriter::new(rt.alloc(), io::writer(rt))?;
@@ -96,7 +105,11 @@ fn import_given<S: Store>(
     } else {
         None
     };
-    import(rt.alloc(), log, writer, time, rt.stdin(), limit)
+    match import(rt.alloc(), log, writer, time, rt.stdin(), limit) {
+        // What came is the input's, and of no peer.
+        Err(Fault::Store(StoreFault::Future)) => Err(Fault::Future),
+        done => done,
+    }
 }
 
 /// Leaves one row for each key, and drops removals that are older than so many milliseconds.
@@ -124,13 +137,13 @@ pub fn run<S: Store>(
     let alloc = rt.alloc();
     match verb {
         Verb::Put => put_given(rt, log, writer, given),
-        Verb::Get => print_value(rt, log, given.key),
+        Verb::Get => unless_gone(print_value(rt, log, given.key)),
         Verb::Del => del(alloc, log, writer, now(rt)?, given.key),
-        Verb::List => print_list(rt, log, given),
+        Verb::List => unless_gone(print_list(rt, log, given)),
         Verb::Count => print_count(rt, log),
         Verb::Status => print_status(rt, log, writer),
         Verb::Import => import_given(rt, log, writer, given),
-        Verb::Export => print_csv(rt, log, given.log),
+        Verb::Export => unless_gone(print_csv(rt, log, given.log)),
         Verb::Compact => compact_given(rt, log, given.forget),
         _ => Ok(()),
     }
