@@ -5,6 +5,7 @@ use mst_commands::Fault;
 use sqlite_std_file::OpenError;
 use sqlite_trees::error::StoreError;
 use std::alloc::AllocError;
+use std::io::ErrorKind;
 use std::{fmt, io};
 use store_file::OpenFault;
 use store_table::StoreFault;
@@ -64,8 +65,8 @@ impl From<AllocError> for Failure {
 }
 
 impl From<io::Error> for Failure {
-    fn from(_error: io::Error) -> Self {
-        Failure::Command(Fault::Device)
+    fn from(error: io::Error) -> Self {
+        Failure::Command(Fault::Device(error))
     }
 }
 
@@ -85,9 +86,12 @@ impl fmt::Display for Failure {
     fn fmt<W: fmt::Write>(&self, f: &mut fmt::Formatter<W>) -> fmt::Result {
         match self {
             Failure::Command(fault) => write!(f, "{fault}"),
+            Failure::Path(OpenError::Io(error)) if error.kind() == ErrorKind::Unsupported =>
+                f.write_str("the file, or its log beside it, is no plain file with one name"),
             Failure::Path(error) => write!(f, "{error}"),
             Failure::File(fault) => write!(f, "{fault}"),
             Failure::Pull(fault) => write!(f, "{fault}"),
+            Failure::Lines(1) => f.write_str("1 command failed"),
             Failure::Lines(count) => write!(f, "{count} commands failed"),
         }
     }

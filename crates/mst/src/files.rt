@@ -8,8 +8,10 @@ use sqlite_std_file::{File, OpenError, Unknown};
 use sqlite_store::FileStore;
 use sqlite_trees::error::StoreError;
 use sqlite_trees::store::Store;
-use std::fs;
+use std::fs::{self, OpenOptions};
 use std::hash::{BuildHasher, RandomState};
+use std::io::ErrorKind;
+use std::os::unix::fs::OpenOptionsExt;
 use std::thread::sleep;
 use std::time::Duration;
 use store_file::Unsure;
@@ -35,11 +37,8 @@ impl Closing for Log<FileTrees> {
 }
 
 /// Whether there is such a file.
-fn is_there(rt: &HostRuntime, path: &str) -> Result<bool, Fault> {
-    match fs::exists(rt, path) {
-        Ok(there) => Ok(there),
-        Err(_) => Err(Fault::System),
-    }
+fn is_there(rt: &HostRuntime, path: &str) -> Result<bool, OpenError> {
+    Ok(fs::exists(rt, path)?)
 }
 
 /// How many times a second a file is tried that another process has.
@@ -110,13 +109,41 @@ where
     Ok(made?)
 }
 
-/// Makes a store in a new file.
-pub fn make_store(rt: &HostRuntime, path: &str, writer: Option<&str>) -> Result<(), Failure> {
-    if is_there(rt, path)? {
-        return Err(Failure::Command(Fault::Exists));
-    }
-    let writer = name_of_copy(rt, writer)?;
+/// Makes a store in a file without bytes.
+fn fill_file(rt: &HostRuntime, path: &str, writer: &str) -> Result<(), Failure> {
     let files = files_at(rt, path)?;
     let log = Log::over(store_file::create(rt.alloc(), files)?);
-    create_on(rt, log, writer.as_str())
+    create_on(rt, log, writer)
+}
+
+/// Makes a file without bytes, where there is none.
+fn make_file(rt: &HostRuntime, path: &str) -> Result<(), Failure> {
+    let made = OpenOptions::new()
+        .write(true)
+        .create_new(true)
+        .mode(0o644)
+        .open(rt, path);
+    match made {
+        Ok(_file) => Ok(()),
+        Err(error) if error.kind() == ErrorKind::AlreadyExists => {
+            Err(Failure::Command(Fault::Exists))
+        }
+        Err(error) => Err(Failure::Path(OpenError::Io(error))),
+    }
+}
+
+/// Makes a store in a new file. Where that fails, what it made is taken away: the file, and the log unless one was there.
+pub fn make_store(rt: &HostRuntime, path: &str, writer: Option<&str>) -> Result<(), Failure> {
+    let writer = name_of_copy(rt, writer)?;
+    let log = format!(in rt.alloc(); "{path}-wal")?;
+    let had_log = is_there(rt, log.as_str())?;
+    make_file(rt, path)?;
+    let filled = fill_file(rt, path, writer.as_str());
+    if filled.is_err() {
+        let _ = fs::remove_file(rt, path);
+        if !had_log {
+            let _ = fs::remove_file(rt, log.as_str());
+        }
+    }
+    filled
 }

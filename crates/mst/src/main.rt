@@ -12,32 +12,17 @@ mod tasks;
 
 use fault::Failure;
 use mst_commands::Fault;
+use mst_commands::escape::escape;
 use mst_words::verb::{HELP, VERSION, form_of};
-use mst_words::{Asked, read_words};
+use mst_words::{Asked, Wrong, read_words};
 use std::env;
+use std::io::ErrorKind;
 use std::process::ExitCode;
 
-/// The words of the command line, without the name of the program.
-fn words(rt: &HostRuntime) -> Result<Vec<String>, Failure> {
-    match env::args(rt) {
-        Ok(words) => Ok(words.skip(1).collect(rt.alloc())?),
-        Err(_) => Err(Failure::Command(Fault::System)),
-    }
-}
-
-/// Runs the words.
-fn run(rt: &HostRuntime, words: &[String]) -> Result<ExitCode, Failure> {
-    match read_words(words) {
-        Ok(Asked::Help) => print!(rt; "{HELP}")?,
-        Ok(Asked::HelpOf(verb)) => print!(rt; "{}", form_of(verb).help)?,
-        Ok(Asked::Version) => print!(rt; "{VERSION}")?,
-        Ok(Asked::Run(verb, file, given)) => tasks::run(rt, verb, file, &given)?,
-        Err(wrong) => {
-            eprintln!(rt; "mst: {wrong}: mst --help tells the commands")?;
-            return Ok(ExitCode::from(2));
-        }
-    }
-    Ok(ExitCode::SUCCESS)
+/// Says that the command line is none.
+fn refused(rt: &HostRuntime, wrong: &Wrong<'_>) -> ExitCode {
+    let _ = eprintln!(rt; "mst: {wrong}: mst --help tells the commands");
+    ExitCode::from(2)
 }
 
 /// Says why the program ends early.
@@ -46,13 +31,44 @@ fn failed(rt: &HostRuntime, failure: &Failure) -> ExitCode {
     ExitCode::FAILURE
 }
 
-fn main(rt: HostRuntime) -> ExitCode {
-    let words = match words(&rt) {
-        Ok(words) => words,
-        Err(failure) => return failed(&rt, &failure),
+/// Says why a command on a file ends early. The name of the file stands in one line, as a key does in a list.
+fn failed_on(rt: &HostRuntime, file: &str, failure: &Failure) -> ExitCode {
+    let Ok(name) = escape(rt.alloc(), file) else {
+        return failed(rt, failure);
     };
-    match run(&rt, &words) {
-        Ok(status) => status,
-        Err(failure) => failed(&rt, &failure),
+    let _ = eprintln!(rt; "mst: {name}: {failure}");
+    ExitCode::FAILURE
+}
+
+/// Prints a text.
+fn show(rt: &HostRuntime, text: &str) -> ExitCode {
+    match print!(rt; "{text}") {
+        Ok(()) => ExitCode::SUCCESS,
+        Err(error) => failed(rt, &Failure::from(error)),
+    }
+}
+
+/// Runs the words of the command line, without the name of the program.
+fn run(rt: &HostRuntime, words: &[String]) -> ExitCode {
+    match read_words(words) {
+        Ok(Asked::Help) => show(rt, HELP),
+        Ok(Asked::HelpOf(verb)) => show(rt, form_of(verb).help),
+        Ok(Asked::Version) => show(rt, VERSION),
+        Ok(Asked::Run(verb, file, given)) => match tasks::run(rt, verb, file, &given) {
+            Ok(()) => ExitCode::SUCCESS,
+            Err(failure) => failed_on(rt, file, &failure),
+        },
+        Err(wrong) => refused(rt, &wrong),
+    }
+}
+
+fn main(rt: HostRuntime) -> ExitCode {
+    match env::args(&rt) {
+        Ok(words) => match words.skip(1).collect::<Vec<String>>(rt.alloc()) {
+            Ok(words) => run(&rt, &words),
+            Err(error) => failed(&rt, &Failure::from(error)),
+        },
+        Err(error) if error.kind() == ErrorKind::InvalidData => refused(&rt, &Wrong::NotText),
+        Err(_) => failed(&rt, &Failure::Command(Fault::System)),
     }
 }

@@ -37,13 +37,20 @@ fn lines_of(rt: &HostRuntime) -> Lines<'_> {
     }
 }
 
+/// The words for one of something, or for another number of them.
+fn words_for(count: usize, one: &'static str, more: &'static str) -> &'static str {
+    if count == 1 { one } else { more }
+}
+
 /// Says on standard error what a pull brought.
 pub fn tell(rt: &HostRuntime, brought: &Brought) -> Result<(), Failure> {
     eprintln!(rt;
-        "mst: {} entries were news, of {} that came, in {} rounds, {} bytes sent, {} came",
+        "mst: {} {} news, of {} that came, in {} {}, {} bytes sent, {} came",
         brought.news,
+        words_for(brought.news, "entry was", "entries were"),
         brought.entries,
         brought.traffic.messages,
+        words_for(brought.traffic.messages, "round", "rounds"),
         brought.traffic.sent,
         brought.traffic.came
     )?;

@@ -5,6 +5,7 @@ use mst_commands::Fault;
 use mst_words::verb::{HELP, verb_of};
 use mst_words::{Given, NoWords, Verb, given_of, words_of};
 use sqlite_trees::store::Store;
+use std::io::{self, ErrorKind};
 use store_table::StoreFault;
 use store_table::log::Log;
 
@@ -84,6 +85,22 @@ fn run_line<S: Store>(
     }
 }
 
+/// Runs a line that was read, and answers whether it succeeded.
+fn run_read<S: Store>(
+    rt: &HostRuntime,
+    log: &mut Log<S>,
+    writer: &str,
+    read: io::Result<String>,
+) -> Result<bool, Failure> {
+    match read {
+        Ok(line) => run_line(rt, log, writer, line.as_str()),
+        Err(error) if error.kind() == ErrorKind::InvalidData => {
+            refuse(rt, "the line is no text in UTF-8")
+        }
+        Err(error) => Err(Failure::from(error)),
+    }
+}
+
 /// Runs the lines of standard input.
 ///
 /// # Errors
@@ -96,8 +113,7 @@ pub fn run_lines<S: Store>(
 ) -> Result<(), Failure> {
     let mut failed = 0u64;
     for line in rt.lines(rt.alloc()) {
-        let line = line?;
-        if !run_line(rt, log, writer, line.as_str())? {
+        if !run_read(rt, log, writer, line)? {
             failed = failed.saturating_add(1);
         }
     }

@@ -8,6 +8,7 @@ use merkle_store::upkeep::read_replica;
 use mst_commands::clock::now;
 use mst_commands::run;
 use mst_words::{Given, Verb};
+use sqlite_std_file::OpenError;
 use sqlite_trees::store::Store as Trees;
 use std::fs;
 use store_table::format::recognise;
@@ -116,7 +117,10 @@ where
 
 /// Prints how many bytes a file has.
 fn print_size(rt: &HostRuntime, path: &str) -> Result<(), Failure> {
-    let bytes = fs::metadata(rt, path)?.len();
+    let bytes = match fs::metadata(rt, path) {
+        Ok(found) => found.len(),
+        Err(error) => return Err(Failure::Path(OpenError::Io(error))),
+    };
     println!(rt; "bytes {bytes}")?;
     Ok(())
 }
