@@ -5,7 +5,7 @@ use merkle_search_tree::Gap;
 use merkle_search_tree::builder::{Builder, PageFormat};
 use std::alloc::{AllocError, Global};
 use std::test::Fail;
-use testing::{LevelHasher, Random, number_key};
+use testing::{LevelHasher, Random, have_values, number_hasher, number_key};
 
 /// A map of number keys on given levels.
 type Numbers = Replica<[u8; 2], u64, LevelHasher<[u8; 2]>, 32>;
@@ -19,9 +19,7 @@ const LEVELS: [u8; 8] = [0, 0, 0, 0, 1, 1, 2, 3];
 /// A level for each key.
 fn levels_of(random: &mut Random) -> [u8; COUNT] {
     let mut levels = [0; COUNT];
-    for level in &mut levels {
-        *level = LEVELS.get(random.below(8) as usize).copied().unwrap_or(0);
-    }
+    random.choose(&LEVELS, &mut levels);
     levels
 }
 
@@ -58,15 +56,6 @@ fn both_ways(a: &mut Numbers, b: &mut Numbers) -> bool {
     catch_up_both(a, b).is_ok()
 }
 
-/// The hasher that puts each key on its level.
-fn hasher(alloc: Global, levels: &[u8; COUNT]) -> Result<LevelHasher<[u8; 2]>, AllocError> {
-    let mut keys = Vec::with_capacity(alloc, COUNT)?;
-    for (number, level) in levels.iter().enumerate() {
-        keys.push((number_key(number as u16), *level))?;
-    }
-    Ok(LevelHasher::new(keys))
-}
-
 /// The map of these values, with a tree in a page format.
 fn numbers(
     alloc: Global,
@@ -97,20 +86,6 @@ fn joined(a: &[u64; COUNT], b: &[u64; COUNT]) -> ([u64; COUNT], usize) {
     (both, lacked)
 }
 
-/// Whether the replica has these values and no others.
-fn has_values(replica: &Numbers, values: &[u64; COUNT]) -> bool {
-    let mut at = 0;
-    for (number, value) in values.iter().enumerate() {
-        if *value > 0 {
-            match replica.rows().get(at) {
-                Some(row) if row.0 == number_key(number as u16) && row.1 == *value => at += 1,
-                _ => return false,
-            }
-        }
-    }
-    at == replica.rows().len()
-}
-
 /// How many rows a catch-up joined, and in how many rounds; none where memory was refused.
 fn joined_by(answer: Result<CaughtUp, CatchUpError>) -> Option<(usize, usize)> {
     match answer {
@@ -130,9 +105,9 @@ fn catch_ups_join(
     let (_, lacked_back) = joined(theirs, &both);
     let there = joined_by(catch_up(a, b));
     let is_there = there.is_some_and(|(rows, rounds)| rows == lacked && rounds <= 5);
-    let are_there = has_values(a, &both) && has_values(b, theirs);
+    let are_there = have_values(a.rows(), &both) && have_values(b.rows(), theirs);
     let back = joined_by(catch_up(b, a));
-    let is_back = back.is_some_and(|(rows, _)| rows == lacked_back) && has_values(b, &both);
+    let is_back = back.is_some_and(|(rows, _)| rows == lacked_back) && have_values(b.rows(), &both);
     is_there && are_there && is_back && joined_by(catch_up(a, b)) == Some((0, 0))
 }
 
@@ -144,8 +119,8 @@ fn values_meet(
     ours: &[u64; COUNT],
     theirs: &[u64; COUNT],
 ) -> Result<bool, AllocError> {
-    let mut a = numbers(alloc, format, ours, hasher(alloc, levels)?)?;
-    let mut b = numbers(alloc, format, theirs, hasher(alloc, levels)?)?;
+    let mut a = numbers(alloc, format, ours, number_hasher(alloc, levels)?)?;
+    let mut b = numbers(alloc, format, theirs, number_hasher(alloc, levels)?)?;
     Ok(catch_ups_join(&mut a, &mut b, ours, theirs))
 }
 
@@ -233,7 +208,7 @@ fn steps_join(
     let mut keys = keys_to_ask(alloc, a, b)?;
     keys.sort_unstable();
     join_rows_at(alloc, a, b, &keys)?;
-    Ok(keys.len() == lacked && has_values(a, &both))
+    Ok(keys.len() == lacked && have_values(a.rows(), &both))
 }
 
 /// The same of maps of these values, with keys on these levels.
@@ -243,8 +218,8 @@ fn steps_meet(
     ours: &[u64; COUNT],
     theirs: &[u64; COUNT],
 ) -> Result<bool, Fail> {
-    let mut a = numbers(alloc, PageFormat::V2, ours, hasher(alloc, levels)?)?;
-    let mut b = numbers(alloc, PageFormat::V2, theirs, hasher(alloc, levels)?)?;
+    let mut a = numbers(alloc, PageFormat::V2, ours, number_hasher(alloc, levels)?)?;
+    let mut b = numbers(alloc, PageFormat::V2, theirs, number_hasher(alloc, levels)?)?;
     steps_join(alloc, &mut a, &mut b, ours, theirs)
 }
 
@@ -271,12 +246,17 @@ fn catch_ups_in_both_directions_join_both(rt: HostRuntime) -> Result<(), Fail> {
         let levels = levels_of(&mut random);
         let ours = values_of(&mut random);
         let theirs = values_of(&mut random);
-        let mut a = numbers(alloc, PageFormat::V2, &ours, hasher(alloc, &levels)?)?;
-        let mut b = numbers(alloc, PageFormat::V1, &theirs, hasher(alloc, &levels)?)?;
+        let mut a = numbers(alloc, PageFormat::V2, &ours, number_hasher(alloc, &levels)?)?;
+        let mut b = numbers(
+            alloc,
+            PageFormat::V1,
+            &theirs,
+            number_hasher(alloc, &levels)?,
+        )?;
         let (both, _) = joined(&ours, &theirs);
         assert!(rt; both_ways(&mut a, &mut b), "turn {turn}");
-        assert!(rt; has_values(&a, &both), "turn {turn}");
-        assert!(rt; has_values(&b, &both), "turn {turn}");
+        assert!(rt; have_values(a.rows(), &both), "turn {turn}");
+        assert!(rt; have_values(b.rows(), &both), "turn {turn}");
     }
     Ok(())
 }

@@ -5,7 +5,7 @@ use merkle_replica::{Replica, catch_up_all};
 use merkle_search_tree::builder::Builder;
 use std::alloc::{AllocError, Global};
 use std::test::Fail;
-use testing::{Random, number_key};
+use testing::{Random, have_values, number_key, raise};
 
 /// A map of number keys.
 type Numbers = Replica<[u8; 2], u64, SipHasher, 16>;
@@ -41,31 +41,6 @@ fn numbers(alloc: Global, values: &[u64; COUNT]) -> Result<Numbers, AllocError> 
     Ok(replica)
 }
 
-/// Whether the map has these values and no other rows.
-fn holds(replica: &Numbers, values: &[u64; COUNT]) -> bool {
-    let mut rows = replica.rows().iter();
-    for (number, value) in (0u16..64).zip(values.iter()) {
-        if *value > 0 {
-            match rows.next() {
-                None => return false,
-                Some(row) => {
-                    if row.0 != number_key(number) || row.1 != *value {
-                        return false;
-                    }
-                }
-            }
-        }
-    }
-    rows.next().is_none()
-}
-
-/// Takes in the greater value of each key.
-fn raise(joined: &mut [u64; COUNT], values: &[u64; COUNT]) {
-    for (value, other) in joined.iter_mut().zip(values.iter()) {
-        *value = (*value).max(*other);
-    }
-}
-
 /// Whether a hub and so many others come to hold the join of their random maps.
 fn join_through_hub(alloc: Global, others: u64, random: &mut Random) -> Result<bool, AllocError> {
     let mut joined = values_of(random);
@@ -77,9 +52,9 @@ fn join_through_hub(alloc: Global, others: u64, random: &mut Random) -> Result<b
         replicas.push(numbers(alloc, &values)?)?;
     }
     let are_made = all_through(&mut hub, &mut replicas);
-    let mut all_hold = are_made && holds(&hub, &joined);
+    let mut all_hold = are_made && have_values(hub.rows(), &joined);
     for replica in &replicas {
-        all_hold = all_hold && holds(replica, &joined);
+        all_hold = all_hold && have_values(replica.rows(), &joined);
     }
     Ok(all_hold)
 }

@@ -7,7 +7,7 @@ use merkle_replica::{catch_up_all, catch_up_both};
 use merkle_search_tree::builder::{Builder, PageFormat};
 use std::alloc::{AllocError, Global};
 use std::test::Fail;
-use testing::Random;
+use testing::{Random, raise};
 
 /// A map, and the value that it is to have at each of its keys, by their numbers; 0 where it is to lack the key.
 #[derive(Drop)]
@@ -52,13 +52,6 @@ fn holds<K: Kind + Drop>(alloc: Global, map: &Map<K>, values: &[u64]) -> Result<
         }
     }
     Ok(rows.next().is_none())
-}
-
-/// Takes in the greater value of each key.
-fn raise(joined: &mut [u64], values: &[u64]) {
-    for (value, other) in joined.iter_mut().zip(values) {
-        *value = (*value).max(*other);
-    }
 }
 
 /// A map without rows, with a tree in a page format, for so many keys.

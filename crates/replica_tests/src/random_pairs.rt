@@ -4,7 +4,7 @@ use merkle_replica::{Replica, pull_by_turns};
 use merkle_search_tree::builder::{Builder, PageFormat};
 use std::alloc::{AllocError, Global};
 use std::test::Fail;
-use testing::{LevelHasher, Random, number_key};
+use testing::{LevelHasher, Random, have_values, number_hasher, number_key, raise};
 
 /// A map of number keys on given levels.
 type Numbers = Replica<[u8; 2], u64, LevelHasher<[u8; 2]>, 32>;
@@ -12,18 +12,13 @@ type Numbers = Replica<[u8; 2], u64, LevelHasher<[u8; 2]>, 32>;
 /// How many keys there are.
 const COUNT: usize = 8;
 
-/// The numbers of the keys.
-const NUMBERS: [u16; COUNT] = [0, 1, 2, 3, 4, 5, 6, 7];
-
 /// The levels that a key can be on, level 0 twice as often as the others.
 const LEVELS: [u8; 4] = [0, 0, 1, 2];
 
 /// A level for each key.
 fn levels_of(random: &mut Random) -> [u8; COUNT] {
     let mut levels = [0; COUNT];
-    for level in &mut levels {
-        *level = LEVELS.get(random.below(4) as usize).copied().unwrap_or(0);
-    }
+    random.choose(&LEVELS, &mut levels);
     levels
 }
 
@@ -44,15 +39,6 @@ fn four_turns(alloc: Global, a: &mut Numbers, b: &mut Numbers) -> bool {
     pull_by_turns(alloc, a, b, 4).is_ok()
 }
 
-/// The hasher that puts each key on its level.
-fn hasher(alloc: Global, levels: &[u8; COUNT]) -> Result<LevelHasher<[u8; 2]>, AllocError> {
-    let mut keys = Vec::with_capacity(alloc, COUNT)?;
-    for (number, level) in NUMBERS.iter().zip(levels.iter()) {
-        keys.push((number_key(*number), *level))?;
-    }
-    Ok(LevelHasher::new(keys))
-}
-
 /// The map of these values, with a tree in a page format.
 fn numbers(
     alloc: Global,
@@ -62,39 +48,12 @@ fn numbers(
 ) -> Result<Numbers, AllocError> {
     let builder = Builder::default().with_page_format(format);
     let mut replica = Numbers::new(alloc, builder.with_hasher(hasher));
-    for (number, value) in NUMBERS.iter().zip(values.iter()) {
+    for (number, value) in (0..u16::MAX).zip(values.iter()) {
         if *value > 0 {
-            put(&mut replica, *number, *value)?;
+            put(&mut replica, number, *value)?;
         }
     }
     Ok(replica)
-}
-
-/// Whether the map has these values and no other rows.
-fn holds(replica: &Numbers, values: &[u64; COUNT]) -> bool {
-    let mut rows = replica.rows().iter();
-    for (number, value) in NUMBERS.iter().zip(values.iter()) {
-        if *value > 0 {
-            match rows.next() {
-                None => return false,
-                Some(row) => {
-                    if row.0 != number_key(*number) || row.1 != *value {
-                        return false;
-                    }
-                }
-            }
-        }
-    }
-    rows.next().is_none()
-}
-
-/// The greater value of each key.
-fn greatest(a: &[u64; COUNT], b: &[u64; COUNT]) -> [u64; COUNT] {
-    let mut joined = *a;
-    for (value, other) in joined.iter_mut().zip(b.iter()) {
-        *value = (*value).max(*other);
-    }
-    joined
 }
 
 /// Whether four pulls by turns leave two maps of random values in a page format, whose keys are on the same random levels, with the
@@ -104,15 +63,16 @@ fn join_in_four_turns(
     format: PageFormat,
     random: &mut Random,
 ) -> Result<bool, AllocError> {
-    let hasher = hasher(alloc, &levels_of(random))?;
+    let hasher = number_hasher(alloc, &levels_of(random))?;
     let a_values = values_of(random);
     let b_values = values_of(random);
-    let joined = greatest(&a_values, &b_values);
+    let mut joined = a_values;
+    raise(&mut joined, &b_values);
     let mut a = numbers(alloc, format, &a_values, hasher.clone()?)?;
     let mut b = numbers(alloc, format, &b_values, hasher)?;
-    let are_built = holds(&a, &a_values) && holds(&b, &b_values);
+    let are_built = have_values(a.rows(), &a_values) && have_values(b.rows(), &b_values);
     let are_pulled = four_turns(alloc, &mut a, &mut b);
-    let are_joined = holds(&a, &joined) && holds(&b, &joined);
+    let are_joined = have_values(a.rows(), &joined) && have_values(b.rows(), &joined);
     Ok(are_built && are_pulled && are_joined && a.root_hash() == b.root_hash())
 }
 

@@ -27,4 +27,12 @@ impl Random {
             *number = self.below(bound);
         }
     }
+
+    /// Takes one of the choices for each place; 0 where there are none.
+    pub fn choose(&mut self, choices: &[u8], places: &mut [u8]) {
+        for place in places {
+            let choice = self.below(choices.len() as u64);
+            *place = choices.get(choice as usize).copied().unwrap_or(0);
+        }
+    }
 }

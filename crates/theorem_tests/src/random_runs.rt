@@ -8,7 +8,7 @@ use merkle_search_tree::updates::Update;
 use sample_trees::defined::defined_root_hash;
 use std::alloc::{AllocError, Global};
 use std::test::Fail;
-use testing::{LevelHasher, Random, number_key};
+use testing::{LevelHasher, Random, have_values, number_hasher, number_key, raise};
 
 /// An update of a map of number keys.
 type Change = Update<[u8; 2], u64>;
@@ -19,9 +19,6 @@ type Replicated = Outcome<[u8; 2], u64, LevelHasher<[u8; 2]>, 32>;
 /// How many keys there are.
 const COUNT: usize = 12;
 
-/// The numbers of the keys.
-const NUMBERS: [u16; COUNT] = [0, 1, 2, 3, 4, 5, 6, 7, 8, 9, 10, 11];
-
 /// The levels that a key can be on, level 0 twice as often as the others.
 const LEVELS: [u8; 4] = [0, 0, 1, 2];
 
@@ -30,17 +27,14 @@ const UPDATES: usize = 24;
 
 /// The number of a key.
 fn number_of(random: &mut Random) -> u16 {
-    NUMBERS.get(random.below(12) as usize).copied().unwrap_or(0)
+    u16::try_from(random.below(COUNT as u64)).unwrap_or(0)
 }
 
 /// The hasher that puts each key on a random level.
 fn hasher_of(alloc: Global, random: &mut Random) -> Result<LevelHasher<[u8; 2]>, AllocError> {
-    let mut levels = Vec::with_capacity(alloc, COUNT)?;
-    for number in &NUMBERS {
-        let level = LEVELS.get(random.below(4) as usize).copied().unwrap_or(0);
-        levels.push((number_key(*number), level))?;
-    }
-    Ok(LevelHasher::new(levels))
+    let mut levels = [0; COUNT];
+    random.choose(&LEVELS, &mut levels);
+    number_hasher(alloc, &levels)
 }
 
 /// A list of updates, and the value that it leaves at each key; 0 where it leaves none.
@@ -83,15 +77,6 @@ fn set(values: &mut [u64; COUNT], number: u16, value: u64) {
     }
 }
 
-/// The greater value of each key.
-fn greatest(a: &[u64; COUNT], b: &[u64; COUNT]) -> [u64; COUNT] {
-    let mut joined = *a;
-    for (value, other) in joined.iter_mut().zip(b.iter()) {
-        *value = (*value).max(*other);
-    }
-    joined
-}
-
 /// Carries out the updates and the exchange.
 fn run_both(
     alloc: Global,
@@ -132,7 +117,7 @@ fn is_defined(
     Ok(
         are_accepted
             && outcome.before.root_hash_cached() == Some(&first)
-            && holds(replica.rows(), values)
+            && have_values(replica.rows(), values)
             && replica.tree().root_hash_cached() == Some(&last),
     )
 }
@@ -144,30 +129,12 @@ fn pairs(
     values: &[u64; COUNT],
 ) -> Result<Vec<([u8; 2], ValueDigest<32>)>, AllocError> {
     let mut pairs = Vec::new(alloc);
-    for (number, value) in NUMBERS.iter().zip(values.iter()) {
+    for (number, value) in (0..u16::MAX).zip(values.iter()) {
         if *value > 0 {
-            pairs.push((number_key(*number), ValueDigest::new(hasher.hash(value))))?;
+            pairs.push((number_key(number), ValueDigest::new(hasher.hash(value))))?;
         }
     }
     Ok(pairs)
-}
-
-/// Whether the rows have these values and no others.
-fn holds(rows: &[([u8; 2], u64)], values: &[u64; COUNT]) -> bool {
-    let mut rows = rows.iter();
-    for (number, value) in NUMBERS.iter().zip(values.iter()) {
-        if *value > 0 {
-            match rows.next() {
-                None => return false,
-                Some(row) => {
-                    if row.0 != number_key(*number) || row.1 != *value {
-                        return false;
-                    }
-                }
-            }
-        }
-    }
-    rows.next().is_none()
 }
 
 /// One run, and whether both replicas are as they were worked out.
@@ -180,7 +147,8 @@ fn runs_as_defined(
     let hasher = hasher_of(alloc, random)?;
     let (a_updates, a_values) = updates_of(alloc, random)?;
     let (b_updates, b_values) = updates_of(alloc, random)?;
-    let joined = greatest(&a_values, &b_values);
+    let mut joined = a_values;
+    raise(&mut joined, &b_values);
     let builder = Builder::default()
         .with_page_format(format)
         .with_hasher(hasher.clone()?);
