@@ -3,13 +3,11 @@ use Rattle.std.proofs.Common.{◌≡◌, List, [], ◌∷◌, ◌++◌, map, sym
 use Rattle.std.proofs.lemmas.List.{map-append}
 use Rattle.std.specs.declared.cmp.Ordering.{Ordering}
 use Rattle.std.specs.Iterator.{Drains, YieldsFirstBy}
+use Rattle.merkle_digest.specs.declared.PageDigest.{PageDigest}
 use Rattle.merkle_diff.specs.declared.page_range.PageRange.{PageRange}
-use Rattle.merkle_diff.specs.declared.page_range_snapshot.PageRangeSnapshot.{PageRangeSnapshot}
-use Rattle.merkle_diff.specs.declared.page_range_snapshot.SnapshotIter.{SnapshotIter}
 use Rattle.merkle_diff.specs.Entry.{Entry}
 use Rattle.merkle_diff.specs.Iterable.{Gives}
 use Rattle.merkle_diff.specs.PageRange.{entry, entries}
-use Rattle.merkle_diff.specs.PageRangeSnapshot.{entries_left, snapshot_entries}
 use Rattle.merkle_diff.specs.SameEntries.{SameEntry, SameEntries}
 
 module _ {K D : Type 0} (cmp : K → K → Ordering) where
@@ -20,11 +18,10 @@ module _ {K D : Type 0} (cmp : K → K → Ordering) where
   same_entries-push (a ∷ xs) [] x y h e = absurd h
   same_entries-push (a ∷ xs) (b ∷ ys) x y h e = (h.0, same_entries-push xs ys x y h.1 e)
 
-  -- one more range on each side, where `f` and `g` read a range's entry
-  pub same_entries-taken : {A B : Type 0} (f : A → Entry K D) (g : B → Entry K D) (xs : List A) (ys zs : List B) (x : A) (y : B) → zs ≡ ys ++ y ∷ []
-      → SameEntries cmp (map f xs) (map g ys) → SameEntry cmp (f x) (g y) → SameEntries cmp (map f (xs ++ x ∷ [])) (map g zs)
-  same_entries-taken f g xs ys zs x y e h k =
-      rw (e, map-append f xs, map-append g ys) (same_entries-push (map f xs) (map g ys) (f x) (g y) h k)
+  -- one more range, whose entry `f` reads, and one more entry
+  pub same_entries-taken : {A : Type 0} (f : A → Entry K D) (xs : List A) (ys zs : List (Entry K D)) (x : A) (y : Entry K D) → zs ≡ ys ++ y ∷ []
+      → SameEntries cmp (map f xs) ys → SameEntry cmp (f x) y → SameEntries cmp (map f (xs ++ x ∷ [])) zs
+  same_entries-taken f xs ys zs x y e h k = rw (e, map-append f xs) (same_entries-push (map f xs) ys (f x) y h k)
 
 -- what an iterator gave up to its end is what it had left
 pub drained : {S A B : Type 0} (view : A → B) (rest : S → List B) (s : S) (xs : List A) → Drains (YieldsFirstBy view rest) s xs → map view xs ≡ rest s
@@ -33,6 +30,6 @@ drained view rest s (x ∷ xs) d =
     ap (λ ys. view x ∷ ys) (drained view rest d.1.1.0 xs (d.0, (d.1.0, d.1.1.2, d.1.2))) ∙ sym d.1.1.1
 
 -- the ranges that the iterator of a snapshot gives are those of the snapshot
-pub given-by_snapshot : {K o e p : _} (s : PageRangeSnapshot K o e p) (it : SnapshotIter K o e p) (xs : List (PageRange K o e p)) → entries_left it ≡ snapshot_entries s
-    → Gives (λ from made. made ≡ from) (YieldsFirstBy entry entries_left) it xs → entries xs ≡ snapshot_entries s
-given-by_snapshot s it xs e h = drained entry entries_left h.0 xs h.2 ∙ ap entries_left h.1 ∙ e
+pub given-by_snapshot : {K o e p : _} (s it : List (Entry K PageDigest)) (xs : List (PageRange K o e p)) → it ≡ s
+    → Gives (λ from made. made ≡ from) (YieldsFirstBy entry (λ rest. rest)) it xs → entries xs ≡ s
+given-by_snapshot s it xs e h = drained entry (λ rest. rest) h.0 xs h.2 ∙ h.1 ∙ e

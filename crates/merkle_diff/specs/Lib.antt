@@ -4,7 +4,6 @@ pub use Rattle.key_order.specs.Interval
 pub mod Entry
 pub mod SameEntries
 pub mod PageRange
-pub mod OwnedPageRange
 pub mod PageRangeSnapshot
 pub mod SliceIter
 pub mod DiffRange

@@ -1,12 +1,12 @@
--- A range list as the list of its spans.
+-- Spans that are inserted into a list.
 use Rattle.std.specs.Prelude.{◌≡◌, ◌++◌, List, [], ◌∷◌}
+use Rattle.std.specs.Coded.{Coded, coded×, code_by}
+use Rattle.std.proofs.Common.{refl}
 use Rattle.key_order.specs.Interval.{Span}
-use Rattle.merkle_diff.specs.DiffRange.{spans}
-use Rattle.merkle_diff.specs.declared.range_list.RangeList.{RangeList}
 
--- the spans that were inserted, in this order
-abbrev pub inserted : {K o e p : _} → RangeList K o e p → List (Span K)
-inserted list = spans list.ranges.items
+-- the code of spans, by which a proof tells them apart
+abbrev pub span_code : {K : Type 0} → Coded K → Coded (Span K)
+span_code {K} k = code_by (K × K) (coded× k k) (λ s. (s.first, s.last)) (λ p. record { first = p.0; last = p.1 }) (λ _. refl)
 
 -- behind the spans that were there stands the one from `first` to `last`
 abbrev pub Inserts : {K : Type 0} → List (Span K) → K → K → List (Span K) → Type 0

@@ -3,7 +3,6 @@ ghost use Rattle.std.specs.Prelude.{OnErr};
 ghost use Rattle.merkle_diff.specs.Answers.{IfFound, FindsNothing};
 ghost use Rattle.merkle_diff.specs.Difference.{IsAnswer, MayAsk};
 ghost use Rattle.merkle_diff.specs.PageRange.{entries};
-ghost use Rattle.merkle_diff.specs.PageRangeSnapshot.{snapshot_entries};
 
 use crate::diff_range::DiffRange;
 use crate::difference::diff;
@@ -58,9 +57,9 @@ pub fn diff_snapshots<'p, K: Ord>(
     local: &'p PageRangeSnapshot<K>,
     peer: &'p PageRangeSnapshot<K>,
 ) -> Result<Vec<DiffRange<'p, K>>, AllocError>
-    ensures answer { IfFound result (IsAnswer K.cmp (snapshot_entries local.now) (snapshot_entries peer.now)) }
-    ensures memory { OnErr result (MayAsk K.cmp (snapshot_entries local.now) (snapshot_entries peer.now)) }
-    ensures nothing { ¬ (MayAsk K.cmp (snapshot_entries local.now) (snapshot_entries peer.now)) → FindsNothing result }
+    ensures answer { IfFound result (IsAnswer K.cmp local.now peer.now) }
+    ensures memory { OnErr result (MayAsk K.cmp local.now peer.now) }
+    ensures nothing { ¬ (MayAsk K.cmp local.now peer.now) → FindsNothing result }
 {
     diff(alloc, local.iter(), peer.iter())
 }

@@ -1,23 +1,22 @@
 //! The key ranges of pages, with keys of their own.
 ghost use Rattle.std.proofs.Common.{rules};
 ghost use Rattle.std.specs.Cmp.Rules.{comparing};
-ghost use Rattle.std.specs.Ordering.{on};
 ghost use Rattle.std.specs.Prelude.{◌≡◌, ◌↔◌, IfOk, IfSome, IsSome};
 ghost use Rattle.key_order.specs.Order.{Upto};
 
 use crate::page_range::PageRange;
 use merkle_digest::{PageDigest, SameClone};
 use std::alloc::{AllocError, Global};
+use std::marker::Model;
 
 /// A [`PageRange`] that owns its keys: the span of a page, from the least to the greatest key of its subtree, both in it, and
-/// the page's digest. The least key is at most the greatest, always.
+/// the page's digest. The least key is at most the greatest, always. A contract sees the bounds and the digest.
 ///
 /// A [`PageRangeSnapshot`](crate::PageRangeSnapshot) is made of such ranges without a clone of any key.
 pub struct OwnedPageRange<K: Ord> {
     start: K,
     end: K,
     hash: PageDigest,
-    ghost ordered: { Upto K.cmp start end },
 }
 
 // Written out, so that a caller doesn't prove again how each part is dropped.
@@ -31,55 +30,67 @@ impl<K: Ord + Drop> Drop for OwnedPageRange<K> {
     }
 }
 
+impl<K: Ord> Model for OwnedPageRange<K> {
+    ghost use Rattle.std.specs.Prelude.{ℕ, List};
+    ghost use Rattle.std.specs.Coded.{coded_list, coded_ℕ};
+    ghost use Rattle.key_order.specs.Order.{Upto};
+    ghost use Rattle.merkle_diff.specs.Entry.{Entry, entry_code};
+
+    ghost Value = { Entry K (List ℕ) };
+
+    ghost coded = { entry_code K.code (coded_list coded_ℕ) };
+
+    ghost view = { λ r. record { first = r.start; last = r.end; digest = r.hash } };
+
+    ghost invariant = { λ r. Upto K.cmp r.start r.end };
+}
+
 impl<K: Ord> OwnedPageRange<K> {
-    ghost use Rattle.merkle_diff.specs.OwnedPageRange.{owned_entry};
     ghost use Rattle.merkle_diff.specs.PageRange.{entry};
 
     /// The range from `start` to `end` of a page with the digest `hash`. `start` has to be at most `end`, which
     /// [`try_new`](OwnedPageRange::try_new) tests.
     pub fn new(start: K, end: K, hash: PageDigest) -> OwnedPageRange<K>
         requires { Upto K.cmp start end }
-        ensures { owned_entry result ≡ record { first = start; last = end; digest = hash } }
+        ensures { result ≡ record { first = start; last = end; digest = hash } }
     {
         OwnedPageRange { start, end, hash }
     }
 
     /// The least key of the page's subtree.
     pub fn start(&self) -> &K
-        ensures { result.now ≡ (owned_entry self.now).first }
+        ensures { result.now ≡ self.now.first }
     {
         &self.start
     }
 
     /// The greatest key of the page's subtree.
     pub fn end(&self) -> &K
-        ensures { result.now ≡ (owned_entry self.now).last }
+        ensures { result.now ≡ self.now.last }
     {
         &self.end
     }
 
     /// The digest of the page.
     pub fn hash(&self) -> &PageDigest
-        ensures { result.now ≡ (owned_entry self.now).digest }
+        ensures { result.now ≡ self.now.digest }
     {
         &self.hash
     }
 
     /// The same range, with the keys borrowed. It copies the digest, 16 bytes, and takes no memory.
     pub fn as_page_range(&self) -> PageRange<'_, K>
-        ensures { entry result ≡ owned_entry self.now }
+        ensures { entry result ≡ self.now }
     {
-        PageRange::new(self.start(), self.end(), self.hash.clone().unwrap())
+        PageRange::new(&self.start, &self.end, self.hash.clone().unwrap())
     }
 }
 
 impl<K: Ord + Drop> OwnedPageRange<K> {
-    ghost use Rattle.merkle_diff.specs.OwnedPageRange.{owned_entry};
-
     /// The range from `start` to `end` of a page with the digest `hash`, or `None` where `start` is above `end`.
     pub fn try_new(start: K, end: K, hash: PageDigest) -> Option<OwnedPageRange<K>>
         ensures in_order { IsSome result ↔ Upto K.cmp start end }
-        ensures range { IfSome result (λ r. owned_entry r ≡ record { first = start; last = end; digest = hash }) }
+        ensures range { IfSome result (λ r. r ≡ record { first = start; last = end; digest = hash }) }
     {
         if start <= end {
             Some(OwnedPageRange::new(start, end, hash))
@@ -91,7 +102,6 @@ impl<K: Ord + Drop> OwnedPageRange<K> {
 
 impl<K: SameClone> OwnedPageRange<K> {
     ghost use Rattle.merkle_diff.specs.Entry.{SucceedsAtBounds};
-    ghost use Rattle.merkle_diff.specs.OwnedPageRange.{owned_entry};
     ghost use Rattle.merkle_diff.specs.PageRange.{entry};
     ghost use Rattle.merkle_diff.specs.SameEntries.{EqualBothWays, SameEntry};
 
@@ -104,7 +114,7 @@ impl<K: SameClone> OwnedPageRange<K> {
         _alloc: Global,
         range: PageRange<'_, K>,
     ) -> Result<OwnedPageRange<K>, AllocError>
-        ensures same { IfOk result (λ owned. SameEntry K.cmp (entry range.entry) (owned_entry owned)) }
+        ensures same { IfOk result (SameEntry K.cmp (entry range.entry)) }
         ensures succeeds { SucceedsAtBounds K.is_infallible (entry range.entry) result }
     {
         let start = range.start().clone()?;
@@ -122,9 +132,9 @@ impl<K: SameClone> OwnedPageRange<K> {
     ///
     /// `AllocError` where the clone of a key is refused, and only there.
     pub fn try_clone(&self, alloc: Global) -> Result<OwnedPageRange<K>, AllocError>
-        ensures same { IfOk result (λ copy. SameEntry K.cmp (owned_entry self.now) (owned_entry copy)) }
+        ensures same { IfOk result (SameEntry K.cmp self.now) }
         ensures equal { IfOk result (EqualBothWays ⟦<OwnedPageRange<K> as PartialEq>⟧.eq self.now) }
-        ensures succeeds { SucceedsAtBounds K.is_infallible (owned_entry self.now) result }
+        ensures succeeds { SucceedsAtBounds K.is_infallible self.now result }
     {
         OwnedPageRange::from_range(alloc, self.as_page_range())
     }
@@ -132,10 +142,9 @@ impl<K: SameClone> OwnedPageRange<K> {
 
 /// Ranges are equal where their bounds and digests are.
 impl<K: Ord> PartialEq for OwnedPageRange<K> {
-    ghost use Rattle.merkle_diff.specs.OwnedPageRange.{owned_entry};
     ghost use Rattle.merkle_diff.specs.SameEntries.{same_entry};
 
-    ghost eq = { on owned_entry (same_entry K.eq ⟦<PageDigest as PartialEq>⟧.eq) };
+    ghost eq = { same_entry K.eq ⟦<PageDigest as PartialEq>⟧.eq };
 
     ghost laws = { Prim.search (comparing, rules) };
 

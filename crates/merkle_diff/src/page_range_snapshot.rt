@@ -1,16 +1,13 @@
 //! Snapshots of page ranges.
 ghost use Rattle.std.proofs.Common.{rules};
-ghost use Rattle.std.specs.Cmp.{on_equiv, on_per};
 ghost use Rattle.std.specs.Cmp.Lexicographic.{lists_equiv, lists_per};
 ghost use Rattle.std.specs.Cmp.Rules.{comparing};
 ghost use Rattle.std.specs.Iterator.{IsFiniteIterable, UpTo, YieldsFirstBy, item_count};
 ghost use Rattle.std.specs.Iterator.SizeHint.{IsWithinCount};
-ghost use Rattle.std.specs.Ordering.{on};
 ghost use Rattle.std.specs.Prelude.{◌≡◌, IfOk, IfSome, IsOkAnd, length};
 ghost use Rattle.merkle_diff.specs.Iterable.{Gives};
-ghost use Rattle.merkle_diff.specs.OwnedPageRange.{owned_entries};
 ghost use Rattle.merkle_diff.specs.PageRange.{entries, entry};
-ghost use Rattle.merkle_diff.specs.PageRangeSnapshot.{HasClonesOf, IsSnapshotOf, entries_left, snapshot_entries};
+ghost use Rattle.merkle_diff.specs.PageRangeSnapshot.{HasClonesOf};
 ghost use Rattle.merkle_diff.specs.SameEntries.{EqualBothWays, SameEntries, same_entries};
 
 use crate::owned_page_range::OwnedPageRange;
@@ -18,6 +15,7 @@ use crate::page_range::PageRange;
 use merkle_digest::{PageDigest, SameClone};
 use std::alloc::{AllocError, Global};
 use std::iter::FusedIterator;
+use std::marker::Model;
 
 /// The page ranges of a tree at one point in time, with keys of their own: the tree can change while a snapshot of it is kept,
 /// sent to a peer, or compared with another by [`diff_snapshots`](crate::diff_snapshots).
@@ -29,7 +27,7 @@ use std::iter::FusedIterator;
 /// assert!(rt; diff_snapshots(alloc, &copy, &snapshot)?.is_empty());
 /// ```
 ///
-/// It keeps the allocator that it was made with.
+/// A contract sees the list of its ranges, each as its bounds and its digest. It keeps the allocator that it was made with.
 pub struct PageRangeSnapshot<K: Ord> {
     alloc: Global,
     ranges: Vec<OwnedPageRange<K>>,
@@ -45,20 +43,32 @@ impl<K: Ord + Drop> Drop for PageRangeSnapshot<K> {
     }
 }
 
+impl<K: Ord> Model for PageRangeSnapshot<K> {
+    ghost use Rattle.std.specs.Prelude.{ℕ, List};
+    ghost use Rattle.std.specs.Coded.{coded_list, coded_ℕ};
+    ghost use Rattle.merkle_diff.specs.Entry.{Entry, entry_code};
+
+    ghost Value = { List (Entry K (List ℕ)) };
+
+    ghost coded = { coded_list (entry_code K.code (coded_list coded_ℕ)) };
+
+    ghost view = { λ s. s.ranges.items };
+}
+
 impl<K: Ord> PageRangeSnapshot<K> {
     /// The snapshot of `ranges`, in their order. It takes over the vector with its keys, so it always succeeds and takes no memory.
     pub fn from_owned(
         alloc: Global,
         ranges: Vec<OwnedPageRange<K>>,
     ) -> Result<PageRangeSnapshot<K>, AllocError>
-        ensures { IsOkAnd result (λ snapshot. snapshot_entries snapshot ≡ owned_entries ranges.items) }
+        ensures { IsOkAnd result (λ snapshot. snapshot ≡ ranges.items) }
     {
         Ok(PageRangeSnapshot { alloc, ranges })
     }
 
     /// The ranges that the snapshot was made from, in order, with their keys borrowed.
     pub fn iter(&self) -> SnapshotIter<'_, K>
-        ensures { entries_left result ≡ snapshot_entries self.now }
+        ensures { result ≡ self.now }
     {
         SnapshotIter { rest: &self.ranges }
     }
@@ -75,7 +85,7 @@ impl<K: Ord + Drop> PageRangeSnapshot<K> {
     where
         T: IntoIterator<Item = OwnedPageRange<K>>,
         requires ends { IsFiniteIterable T.into_iter_gives T.IntoIter.can_next T.IntoIter.remaining iter }
-        ensures { IfOk result (IsSnapshotOf (Gives T.into_iter_gives T.IntoIter.next_gives iter)) }
+        ensures { IfOk result (Gives T.into_iter_gives T.IntoIter.next_gives iter) }
     {
         Ok(PageRangeSnapshot {
             alloc,
@@ -94,7 +104,7 @@ impl<K: SameClone> PageRangeSnapshot<K> {
         alloc: Global,
         ranges: Vec<PageRange<'_, K>>,
     ) -> Result<PageRangeSnapshot<K>, AllocError>
-        ensures { IfOk result (λ snapshot. SameEntries K.cmp (entries ranges.entry.items) (snapshot_entries snapshot)) }
+        ensures { IfOk result (SameEntries K.cmp (entries ranges.entry.items)) }
     {
         PageRangeSnapshot::collect_ranges(alloc, ranges)
     }
@@ -126,7 +136,7 @@ impl<K: SameClone> PageRangeSnapshot<K> {
     ///
     /// Want of memory, for the snapshot or for the clone of a key. This snapshot stays.
     pub fn try_clone(&self) -> Result<PageRangeSnapshot<K>, AllocError>
-        ensures same { IfOk result (λ copy. SameEntries K.cmp (snapshot_entries self.now) (snapshot_entries copy)) }
+        ensures same { IfOk result (SameEntries K.cmp self.now) }
         ensures equal { IfOk result (EqualBothWays ⟦<PageRangeSnapshot<K> as PartialEq>⟧.eq self.now) }
     {
         PageRangeSnapshot::collect_ranges(self.alloc, self.iter())
@@ -135,9 +145,9 @@ impl<K: SameClone> PageRangeSnapshot<K> {
 
 /// Snapshots are equal where they have as many ranges, and these are equal place by place.
 impl<K: Ord> PartialEq for PageRangeSnapshot<K> {
-    ghost eq = { on snapshot_entries (same_entries K.eq ⟦<PageDigest as PartialEq>⟧.eq) };
+    ghost eq = { same_entries K.eq ⟦<PageDigest as PartialEq>⟧.eq };
 
-    ghost laws = { on_per snapshot_entries (lists_per (Prim.search (comparing, rules))) };
+    ghost laws = { lists_per (Prim.search (comparing, rules)) };
 
     fn eq(&self, other: &Self) -> bool {
         self.ranges == other.ranges
@@ -145,21 +155,33 @@ impl<K: Ord> PartialEq for PageRangeSnapshot<K> {
 }
 
 impl<K: Ord> Eq for PageRangeSnapshot<K> {
-    ghost laws = { on_equiv snapshot_entries (lists_equiv (Prim.search (comparing, rules))) };
+    ghost laws = { lists_equiv (Prim.search (comparing, rules)) };
 }
 
-/// The ranges of a [`PageRangeSnapshot`] that are still to come, in order. It takes no memory.
+/// The ranges of a [`PageRangeSnapshot`] that are still to come, in order. A contract sees the list of them. It takes no memory.
 #[derive(Drop)]
 pub struct SnapshotIter<'a, K: Ord> {
     rest: &'a [OwnedPageRange<K>],
 }
 
+impl<'a, K: Ord> Model for SnapshotIter<'a, K> {
+    ghost use Rattle.std.specs.Prelude.{ℕ, List};
+    ghost use Rattle.std.specs.Coded.{coded_list, coded_ℕ};
+    ghost use Rattle.merkle_diff.specs.Entry.{Entry, entry_code};
+
+    ghost Value = { List (Entry K (List ℕ)) };
+
+    ghost coded = { coded_list (entry_code K.code (coded_list coded_ℕ)) };
+
+    ghost view = { λ it. it.rest.now };
+}
+
 impl<'a, K: Ord> Iterator for SnapshotIter<'a, K> {
     type Item = PageRange<'a, K>;
 
-    ghost next_gives = { YieldsFirstBy entry entries_left };
+    ghost next_gives = { YieldsFirstBy entry (λ rest. rest) };
 
-    ghost remaining = { item_count entries_left };
+    ghost remaining = { item_count (λ rest. rest) };
 
     fn next(&mut self) -> Option<PageRange<'a, K>> {
         let (first, rest) = self.rest.split_first()?;
@@ -168,9 +190,9 @@ impl<'a, K: Ord> Iterator for SnapshotIter<'a, K> {
     }
 
     fn size_hint(&self) -> (usize, Option<usize>)
-        ensures lower { IsWithinCount result.0 (item_count entries_left self.now) }
-        ensures upper { IfSome result.1 (UpTo (item_count entries_left self.now)) }
-        ensures exact { result ≡ (length (entries_left self.now), Some (length (entries_left self.now))) }
+        ensures lower { IsWithinCount result.0 (item_count (λ rest. rest) self.now) }
+        ensures upper { IfSome result.1 (UpTo (item_count (λ rest. rest) self.now)) }
+        ensures exact { result ≡ (length self.now, Some (length self.now)) }
     {
         let len = self.len();
         (len, Some(len))

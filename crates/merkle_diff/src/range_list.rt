@@ -6,8 +6,10 @@ ghost use Rattle.key_order.specs.Order.{Upto};
 use crate::diff_range::DiffRange;
 use crate::merge::merged;
 use std::alloc::{AllocError, Global};
+use std::marker::Model;
 
-/// Ranges in any order, which become one list of ranges that don't meet.
+/// Ranges in any order, which become one list of ranges that don't meet. A contract sees the list of their spans, in the order in which
+/// they were inserted.
 ///
 /// ```rust crates/diff_tests/src/shown.rt
 /// let mut list = RangeList::new(alloc);
@@ -24,14 +26,28 @@ pub struct RangeList<'a, K: Ord> {
     ranges: Vec<DiffRange<'a, K>>,
 }
 
+impl<'a, K: Ord> Model for RangeList<'a, K> {
+    ghost use Rattle.std.specs.Prelude.{List};
+    ghost use Rattle.std.specs.Coded.{coded_list};
+    ghost use Rattle.key_order.specs.Interval.{Span};
+    ghost use Rattle.merkle_diff.specs.DiffRange.{spans};
+    ghost use Rattle.merkle_diff.specs.RangeList.{span_code};
+
+    ghost Value = { List (Span K) };
+
+    ghost coded = { coded_list (span_code K.code) };
+
+    ghost view = { λ list. spans list.ranges.items };
+}
+
 impl<'a, K: Ord> RangeList<'a, K> {
     ghost use Rattle.merkle_diff.specs.DiffRange.{spans};
     ghost use Rattle.merkle_diff.specs.Merge.{CoverSameKeys, IsMerge};
-    ghost use Rattle.merkle_diff.specs.RangeList.{Inserts, inserted};
+    ghost use Rattle.merkle_diff.specs.RangeList.{Inserts};
 
     /// The empty list, which will take its memory from `alloc`.
     pub fn new(alloc: Global) -> RangeList<'a, K>
-        ensures { inserted result ≡ [] }
+        ensures { result ≡ [] }
     {
         RangeList {
             ranges: Vec::new(alloc),
@@ -46,8 +62,8 @@ impl<'a, K: Ord> RangeList<'a, K> {
     /// Want of memory, which leaves the list as it was.
     pub fn insert(&mut self, start: &'a K, end: &'a K) -> Result<(), AllocError>
         requires { Upto K.cmp start.now end.now }
-        ensures ok { OnOk result (Inserts (inserted self.old) start.now end.now (inserted self.new)) }
-        ensures err { OnErr result (inserted self.new ≡ inserted self.old) }
+        ensures ok { OnOk result (Inserts self.old start.now end.now self.new) }
+        ensures err { OnErr result (self.new ≡ self.old) }
     {
         self.ranges.push(DiffRange::new(start, end))?;
         Ok(())
@@ -56,8 +72,8 @@ impl<'a, K: Ord> RangeList<'a, K> {
     /// The merge of the ranges: ascending, those that meet as one, so that the same keys are in it, and no two of its ranges meet. It takes
     /// a sort, and one pass over the ranges. It takes no memory, and always succeeds.
     pub fn into_vec(self) -> Result<Vec<DiffRange<'a, K>>, AllocError>
-        ensures merged { IsOkAnd result (λ ranges. IsMerge K.cmp (inserted self.entry) (spans ranges.items)) }
-        ensures same_keys { IsOkAnd result (λ ranges. CoverSameKeys K.cmp (inserted self.entry) (spans ranges.items)) }
+        ensures merged { IsOkAnd result (λ ranges. IsMerge K.cmp self.entry (spans ranges.items)) }
+        ensures same_keys { IsOkAnd result (λ ranges. CoverSameKeys K.cmp self.entry (spans ranges.items)) }
         ensures apart { IsOkAnd result (λ ranges. IsApart K.cmp (spans ranges.items)) }
     {
         Ok(merged(self.ranges))

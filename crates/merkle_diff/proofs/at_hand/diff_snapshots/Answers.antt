@@ -1,13 +1,12 @@
 use Rattle.merkle_diff.specs.DiffRange.{spans}
 use Rattle.merkle_diff.specs.PageRange.{entry}
-use Rattle.merkle_diff.specs.PageRangeSnapshot.{entries_left, snapshot_entries}
 use Rattle.merkle_diff.proofs.AtHand.{answers, iterator-at_hand}
 use Rattle.merkle_diff.proofs.at_hand.diff_snapshots.Goals as goal
 
 pub returns : goal.returns
 returns g c =
-    let local = snapshot_entries c.args.local.now in
-    let peer = snapshot_entries c.args.peer.now in
+    let local = c.args.local.now in
+    let peer = c.args.peer.now in
     let h = answers g.K.Ord.cmp g.met.K.Ord.total (λ found. spans found.items) entry _ _ _ _ local peer c.diff.result
-    (iterator-at_hand entry entries_left c.iter.result local c.iter.ensures) (iterator-at_hand entry entries_left c.iter-2.result peer c.iter-2.ensures) c.diff.ensures.answer c.diff.ensures.memory in
+    (iterator-at_hand entry (λ rest. rest) c.iter.result local c.iter.ensures) (iterator-at_hand entry (λ rest. rest) c.iter-2.result peer c.iter-2.ensures) c.diff.ensures.answer c.diff.ensures.memory in
     record { answer = h.0; memory = h.1; nothing = h.2 }

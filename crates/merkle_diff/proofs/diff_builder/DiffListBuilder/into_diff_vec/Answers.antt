@@ -5,19 +5,16 @@ use Rattle.key_order.specs.Interval.{IsApart}
 use Rattle.merkle_diff.specs.Cut.{IsExactCut}
 use Rattle.merkle_diff.specs.DiffRange.{span, spans}
 use Rattle.merkle_diff.proofs.Cuts.{cut-out}
-use Rattle.merkle_diff.proofs.Merged.{merge-is_apart}
 use Rattle.merkle_diff.proofs.OnePass.{merge-some}
 use Rattle.merkle_diff.proofs.Ranges.{spans-ordered}
 use Rattle.merkle_diff.proofs.diff_builder.DiffListBuilder.into_diff_vec.Goals as goal
 
 pub cut_apart-requires-clause-bad : goal.cut_apart-requires-clause-bad
-cut_apart-requires-clause-bad g c =
-    merge-is_apart g.K.Ord.cmp g.met.K.Ord.total (spans c.args.self.inconsistent.ranges.items) (spans c.in_ok-bad.bad.items) (spans-ordered c.args.self.inconsistent.ranges.items) c.in_ok-bad.ensures.merged
+cut_apart-requires-clause-bad g c = c.in_ok-bad.ensures.apart
 
 pub cut_apart-requires-clause-good : goal.cut_apart-requires-clause-good
 cut_apart-requires-clause-good g c =
-    subst (λ xs. IsApart g.K.Ord.cmp (spans xs)) (sym c.deref.ensures.value)
-    (merge-is_apart g.K.Ord.cmp g.met.K.Ord.total (spans c.args.self.consistent.ranges.items) (spans c.in_ok-good.good.items) (spans-ordered c.args.self.consistent.ranges.items) c.in_ok-good.ensures.merged)
+    subst (λ xs. IsApart g.K.Ord.cmp (spans xs)) (sym c.deref.ensures.value) c.in_ok-good.ensures.apart
 
 pub returns-clause-cut : goal.returns-clause-cut
 returns-clause-cut g c =
@@ -42,7 +39,7 @@ returns-clause-memory g c =
     (λ h.
     let b : 0 < length (spans c.in_ok-bad.bad.items) = omega (arith, h.0, length-map c.in_ok-bad.bad.items span) in
     let m : 0 < length (spans c.in_ok-good.good.items) = omega (arith, h.1, length-map c.in_ok-good.good.items span, ap length c.deref.ensures.value) in
-    let some_bad = merge-some g.K.Ord.cmp (spans c.args.self.inconsistent.ranges.items) (spans c.in_ok-bad.bad.items) c.in_ok-bad.ensures.merged b in
-    let some_good = merge-some g.K.Ord.cmp (spans c.args.self.consistent.ranges.items) (spans c.in_ok-good.good.items) c.in_ok-good.ensures.merged m in
+    let some_bad = merge-some g.K.Ord.cmp c.args.self.inconsistent (spans c.in_ok-bad.bad.items) c.in_ok-bad.ensures.merged b in
+    let some_good = merge-some g.K.Ord.cmp c.args.self.consistent (spans c.in_ok-good.good.items) c.in_ok-good.ensures.merged m in
     ((λ e. absurd (omega (arith, some_bad, ap length e))), (λ e. absurd (omega (arith, some_good, ap length e)))))
     c.cut_apart.ensures.memory

@@ -5,10 +5,11 @@ use Rattle.merkle_diff.proofs.range_list.RangeList.into_vec.Goals as goal
 
 pub returns-clause-apart : goal.returns-clause-apart
 returns-clause-apart g c =
-    merge-is_apart g.K.Ord.cmp g.met.K.Ord.total (spans c.args.self.ranges.items) (spans c.merged.result.items) (spans-ordered c.args.self.ranges.items) c.merged.ensures
+    merge-is_apart g.K.Ord.cmp g.met.K.Ord.total (spans c.self.inside.ranges.items) (spans c.merged.result.items) (spans-ordered c.self.inside.ranges.items) c.merged.ensures
 
 pub returns-clause-same_keys : goal.returns-clause-same_keys
-returns-clause-same_keys g c = λ k.
-    let items = c.args.self.ranges.items in
+returns-clause-same_keys g c =
+    let items = c.self.inside.ranges.items in
     let new = c.merged.result.items in
-    (merge-to g.K.Ord.cmp g.met.K.Ord.total k (spans items) (spans new) (spans-ordered items) c.merged.ensures, merge-from g.K.Ord.cmp g.met.K.Ord.total k (spans items) (spans new) (spans-ordered items) c.merged.ensures)
+    rw (← c.self.view_is)
+    (λ k. (merge-to g.K.Ord.cmp g.met.K.Ord.total k (spans items) (spans new) (spans-ordered items) c.merged.ensures, merge-from g.K.Ord.cmp g.met.K.Ord.total k (spans items) (spans new) (spans-ordered items) c.merged.ensures))
