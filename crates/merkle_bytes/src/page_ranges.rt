@@ -1,7 +1,6 @@
 //! Page ranges as their first key, their last key and their digest.
 ghost use Rattle.std.specs.Prelude.{◌≡◌, ◌++◌};
 ghost use Rattle.merkle_diff.specs.PageRange.{entry};
-ghost use Rattle.merkle_diff.specs.OwnedPageRange.{owned_entry};
 ghost use Rattle.merkle_bytes.specs.PageRanges.{entry_bytes, IsEntry, entry_some, entry_told};
 
 use crate::decode::Decode;
@@ -25,7 +24,7 @@ impl<K: Ord + Encode> Encode for PageRange<'_, K> {
 
 /// The bytes of its first key, those of its last key, and those of its digest.
 impl<K: Ord + Encode> Encode for OwnedPageRange<K> {
-    ghost encoding = { λ range. entry_bytes K.encoding (owned_entry range) };
+    ghost encoding = { entry_bytes K.encoding };
 
     fn encode(&self, bytes: &mut Vec<u8>) -> Result<(), AllocError> {
         self.start().encode(bytes)?;
@@ -36,11 +35,11 @@ impl<K: Ord + Encode> Encode for OwnedPageRange<K> {
 
 /// Its first key is not above its last.
 impl<K: Ord + Decode> Decode for OwnedPageRange<K> {
-    ghost is_value = { λ range. IsEntry K.is_value K.cmp (owned_entry range) };
+    ghost is_value = { IsEntry K.is_value K.cmp };
 
-    ghost some = { λ range. entry_some K.encoding (owned_entry range) };
+    ghost some = { entry_some K.encoding };
 
-    ghost told = { λ a b. entry_told K.encoding K.eq K.told (owned_entry a) (owned_entry b) };
+    ghost told = { entry_told K.encoding K.eq K.told };
 
     fn decode(reader: &mut Reader<'_>) -> Result<Self, ReadError> {
         let ((first, last), digest) = <((K, K), [u8; 16])>::decode(reader)?;
