@@ -1,19 +1,13 @@
 -- What an iteration over the page ranges of a tree has left.
 use Rattle.std.specs.Prelude.{◌≡◌, ℕ, ◌+◌, ◌<◌, List, [], ◌++◌, Option, Some, None}
-use Rattle.std.specs.Coded.{Coded, coded×, code_by}
 use Rattle.std.specs.List.{AllByRecursion}
 use Rattle.std.specs.declared.cmp.Ordering.{Ordering}
-use Rattle.std.proofs.Common.{refl}
 use denote.Ref.{Bor}
-use Rattle.merkle_diff.specs.Entry.{Entry}
 use Rattle.merkle_tree_theory.specs.Tree.{Tree}
 use Rattle.merkle_tree_theory.specs.Page.{level, pages_in_order, LevelsFall}
 use Rattle.merkle_tree_theory.specs.CachedRanges.{HasRange}
 use Rattle.merkle_search_tree.specs.Path.{pages_left, PathFits}
 use Rattle.merkle_search_tree.specs.declared.path.Visit.{Visit}
-
-abbrev pub entry_code : {K D : Type 0} → Coded K → Coded D → Coded (Entry K D)
-entry_code {K} {D} k d = code_by (K × (K × D)) (coded× k (coded× k d)) (λ e. (e.first, (e.last, e.digest))) (λ p. record { first = p.0; last = p.1.0; digest = p.1.1 }) (λ _. refl)
 
 module _ {K D : Type 0} where
   -- the pages that are left: that which comes next and those below it, and then those of the path

@@ -43,8 +43,7 @@ impl<'a, K: Ord, D> Model for PageRangeIterOf<'a, K, D> {
     ghost use Rattle.std.specs.Prelude.{ℕ, List};
     ghost use Rattle.std.specs.Coded.{coded_list, coded_ℕ};
     ghost use Rattle.std.specs.Vec.{vec_len, vec_capacity};
-    ghost use Rattle.merkle_diff.specs.Entry.{Entry};
-    ghost use Rattle.merkle_search_tree.specs.PagesToCome.{entry_code};
+    ghost use Rattle.merkle_diff.specs.Entry.{Entry, entry_code};
 
     ghost Value = { List (Entry K (List ℕ)) };
 
