@@ -66,7 +66,8 @@ impl<K: Ord> OwnedPageRange<K> {
 
     /// The greatest key of the page's subtree.
     pub fn end(&self) -> &K
-        ensures { result.now ≡ self.now.last }
+        ensures last { result.now ≡ self.now.last }
+        ensures ordered { Upto K.cmp self.now.first self.now.last }
     {
         &self.end
     }
