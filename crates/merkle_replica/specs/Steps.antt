@@ -9,9 +9,7 @@ use Rattle.key_order.specs.Order.{below}
 use Rattle.key_order.specs.Join.{IsJoin}
 use Rattle.merkle_diff.specs.Entry.{Entry}
 use Rattle.merkle_diff.specs.Difference.{IsDifference, SparesAgreed, IsByWalk}
-use Rattle.merkle_diff.specs.PageRangeSnapshot.{snapshot_entries}
 use Rattle.merkle_diff.specs.TreeShape.{IsTreeShaped}
-use Rattle.merkle_diff.specs.declared.page_range_snapshot.PageRangeSnapshot.{PageRangeSnapshot}
 use Rattle.merkle_replica.specs.Laws.{Laws}
 use Rattle.merkle_replica.specs.Answers.{spans_of}
 use Rattle.merkle_replica.specs.Contents.{Contents, Side, side}
@@ -44,8 +42,8 @@ module _ {K V H : Type 0} (laws : Laws K V H) where
     pub exact_walk : IsByWalk laws.cmp local_list theirs found
 
   -- local may ask a peer that sent these page ranges for these ranges
-  abbrev pub MayAskOf : {o e p : _} → Contents K V H → PageRangeSnapshot K o e p → List (K × K) → Type 0
-  MayAskOf local theirs ranges = IsAnswerTo (side local) (snapshot_entries theirs) (spans_of ranges)
+  abbrev pub MayAskOf : Contents K V H → List (Entry K (List ℕ)) → List (K × K) → Type 0
+  MayAskOf local theirs ranges = IsAnswerTo (side local) theirs (spans_of ranges)
 
 module _ {K V : Type 0} (cmp : K → K → Ordering) (eq : V → V → Bool) (join : V → V → V) where
   -- rows that don't ascend are handed back, or memory was refused and the first ones are joined
