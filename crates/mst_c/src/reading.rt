@@ -3,8 +3,6 @@
 ghost use Rattle.std.specs.Prelude.{◌≡◌, ◌≢◌, ◌<◌, ◌^◌, ◌++◌, ℕ, List, None, Err, IfOk, IfSome, length, map};
 ghost use Rattle.std.specs.List.{AllByRecursion, flat_map};
 ghost use Rattle.merkle_diff.specs.Entry.{Entry};
-ghost use Rattle.merkle_diff.specs.OwnedPageRange.{owned_entry, owned_entries};
-ghost use Rattle.merkle_diff.specs.PageRangeSnapshot.{snapshot_entries};
 ghost use Rattle.merkle_search_tree.specs.Loading.{row_count};
 ghost use Rattle.mst_c.specs.Lists.{AreNotBothRanges, AreNotSoManyDigests, AreNotSoManyRanges, AreNotSoManyRows, ArePageRanges};
 ghost use Rattle.mst_c.specs.Lists.{BeginsWithNoDigest, BeginsWithNoRange, BeginsWithRange, DigestsRows, DigestsSoManyRows};
@@ -90,7 +88,7 @@ pub fn body_of<'b>(mark: &[u8; 4], bytes: &'b [u8]) -> Option<(u64, &'b [u8])>
 
 /// The page range at the front, whose keys lie in the bytes, and the bytes behind it.
 fn range_of(bytes: &[u8]) -> Option<(OwnedPageRange<Key<'_>>, &[u8])>
-    ensures range { IfSome result (λ r. BeginsWithRange bytes.now (owned_entry r.0) r.1.now) }
+    ensures range { IfSome result (λ r. BeginsWithRange bytes.now r.0 r.1.now) }
     ensures none { result ≡ None → BeginsWithNoRange bytes.now }
 {
     let (first, last, rest) = pair_of(bytes)?;
@@ -105,9 +103,9 @@ fn ranges_of<'b>(
     count: u64,
     body: &'b [u8],
 ) -> Result<Vec<OwnedPageRange<Key<'b>>>, ReadError>
-    ensures ranges { IfOk result (λ ranges. body.now ≡ flat_map entry_bytes (owned_entries ranges.items)) }
+    ensures ranges { IfOk result (λ ranges. body.now ≡ flat_map entry_bytes ranges.items) }
     ensures counted { IfOk result (λ ranges. length ranges.items ≡ count) }
-    ensures each { IfOk result (λ ranges. AllByRecursion IsPageRange (owned_entries ranges.items)) }
+    ensures each { IfOk result (λ ranges. AllByRecursion IsPageRange ranges.items) }
     ensures malformed { result ≡ Err Malformed → AreNotSoManyRanges count body.now }
 {
     let room = (body.len() / LEAST_RANGE).min(count as usize);
@@ -131,7 +129,7 @@ fn ranges_of<'b>(
 
 /// The page ranges that the bytes spell, whose keys lie in the bytes.
 pub fn decode<'b>(alloc: Global, bytes: &'b [u8]) -> Result<PageRangeSnapshot<Key<'b>>, ReadError>
-    ensures ranges { IfOk result (λ snapshot. ArePageRanges bytes.now (snapshot_entries snapshot)) }
+    ensures ranges { IfOk result (ArePageRanges bytes.now) }
     ensures malformed { result ≡ Err Malformed → (es : List (Entry (List ℕ) (List ℕ))) → ¬ (ArePageRanges bytes.now es) }
 {
     let Some((count, body)) = body_of(&PAGE_RANGES, bytes) else {

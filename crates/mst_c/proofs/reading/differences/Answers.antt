@@ -1,13 +1,12 @@
 use Rattle.std.proofs.Common.{ap, ◌∙◌}
 use Rattle.merkle_diff.specs.DiffRange.{spans}
-use Rattle.merkle_diff.specs.PageRangeSnapshot.{snapshot_entries}
 use Rattle.mst_c.specs.Wire.{key_ranges_bytes}
 use Rattle.mst_c.proofs.reading.differences.Goals as goal
 
 pub returns-clause-answer : goal.returns-clause-answer
 returns-clause-answer c = (
-  snapshot_entries c.in_ok-local.local,
-  snapshot_entries c.in_ok-peer.peer,
+  c.in_ok-local.local,
+  c.in_ok-peer.peer,
   spans c.in_ok-found.found.items,
   c.in_ok-local.ensures.ranges,
   c.in_ok-peer.ensures.ranges,

@@ -1,7 +1,8 @@
-use Rattle.std.proofs.Common.{rules, arith, ◌≡◌, ℕ, ◌<◌, ◌^◌, ◌++◌, false, true, List, length, sym, ap, subst, is_gt, ◌∙◌}
+use Rattle.std.proofs.Common.{rules, arith, ◌≡◌, ℕ, ◌<◌, ◌^◌, ◌++◌, false, true, List, length, refl, sym, ap, subst, is_gt, ◌∙◌}
 use Rattle.std.proofs.lemmas.List.{length-append, take-append-drop}
 use Rattle.merkle_diff.specs.Entry.{Entry}
 use Rattle.key_order.specs.Order.{Upto}
+use Rattle.mst_c.specs.Lists.{IsPageRange}
 use Rattle.mst_c.specs.Trees.{bytes_cmp}
 use Rattle.mst_c.specs.Wire.{entry_bytes, row_bytes}
 use Rattle.mst_c.proofs.Ranges.{as_row}
@@ -39,4 +40,5 @@ returns-clause-range c =
     let parts : c.in_ok-first.rest.now ≡ c.new-3.result ++ rest = sym (take-append-drop 16 c.in_ok-first.rest.now) ∙ (λ i. (sym chunk.0 ∙ sym c.new-3.ensures) i ++ sym chunk.1 i) in
     let spelled : c.args.bytes.now ≡ entry_bytes e ++ rest =
     c.in_ok-first.ensures.pair ∙ (λ i. row_bytes (sym c.new.ensures i, sym c.new-2.ensures i) ++ parts i) ∙ sym (as_row e rest) in
-    (subst (λ x. c.args.bytes.now ≡ entry_bytes x ++ rest) (sym c.in_ok-range.ensures.range) spelled, (search rules, c.in_ok-range.range.ordered))
+    let long : length c.new-3.result ≡ 16 = search rules in
+    subst (λ x. (c.args.bytes.now ≡ entry_bytes x ++ rest) × IsPageRange x) (sym c.in_ok-range.ensures.range) (spelled, (long, c.in_ok-range.ensures.in_order.0 refl))

@@ -1,5 +1,4 @@
 use Rattle.std.proofs.Common.{rules, arith, ◌<◌, ◌^◌, length, sym, ap, ◌∙◌}
-use Rattle.merkle_diff.specs.OwnedPageRange.{owned_entries}
 use Rattle.mst_c.specs.Lists.{IsPageRange}
 use Rattle.mst_c.specs.Wire.{entry_bytes}
 use Rattle.mst_c.proofs.Lists.{one_left, none_left}
@@ -8,14 +7,14 @@ use Rattle.mst_c.proofs.reading.ranges_of.Goals as goal
 
 pub returns-in_default-clause-malformed : goal.returns-in_default-clause-malformed
 returns-in_default-clause-malformed c is es each count e =
-    let kept = c.entries.invariant in let done = owned_entries c.entries.ranges.items in
+    let kept = c.entries.invariant in let done = c.entries.ranges.items in
     let short : length c.args.body.now < 2 ^ 64 = search rules in
     let next = one_left IsPageRange entry_bytes entry_ends es done c.entries.rest.now each kept.each (omega (arith, kept.counted, count)) (omega (arith, ap length e)) (sym e ∙ kept.read) in
     c.range_of.ensures.none c.in_default.is next.0 next.1 next.2 next.3
 
 pub returns-clause-malformed : goal.returns-clause-malformed
 returns-clause-malformed c is es each count e =
-    let kept = c.entries.invariant in let done = owned_entries c.entries.ranges.items in
+    let kept = c.entries.invariant in let done = c.entries.ranges.items in
     let short : length c.args.body.now < 2 ^ 64 = search rules in
     let nothing = none_left IsPageRange entry_bytes entry_ends es done c.entries.rest.now each kept.each (omega (arith, kept.counted, count)) (omega (arith, ap length e)) (sym e ∙ kept.read) in
     absurd (search rules)
