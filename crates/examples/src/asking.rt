@@ -4,7 +4,6 @@ ghost use Rattle.std.specs.List.{AllByRecursion};
 ghost use Rattle.key_order.specs.Text.{text_order};
 ghost use Rattle.merkle_diff.specs.DiffRange.{spans};
 ghost use Rattle.merkle_diff.specs.Difference.{IsInFirst};
-ghost use Rattle.merkle_diff.specs.PageRangeSnapshot.{snapshot_entries};
 
 use merkle_diff::{DiffRange, PageRangeSnapshot, diff_snapshots};
 use std::alloc::{AllocError, Global};
@@ -19,7 +18,7 @@ pub fn ranges_to_fetch<'p>(
     own: &'p PageRangeSnapshot<String>,
     came: &'p PageRangeSnapshot<String>,
 ) -> Result<Vec<DiffRange<'p, String>>, AllocError>
-    ensures { IfOk result (λ found. AllByRecursion (IsInFirst text_order (snapshot_entries came.now)) (spans found.items)) }
+    ensures { IfOk result (λ found. AllByRecursion (IsInFirst text_order came.now) (spans found.items)) }
 {
     diff_snapshots(alloc, own, came)
 }

@@ -3,7 +3,6 @@ ghost use Rattle.std.specs.Prelude.{◌≡◌, ◌<◌, ◌^◌, IfOk, OnOk, Err
 ghost use Rattle.std.specs.List.{AllByRecursion};
 ghost use Rattle.merkle_bytes.specs.Encodings.{list_bytes};
 ghost use Rattle.merkle_diff.specs.PageRange.{entries};
-ghost use Rattle.merkle_diff.specs.PageRangeSnapshot.{snapshot_entries};
 ghost use Rattle.merkle_replica.specs.Answers.{spans_of};
 ghost use Rattle.examples.specs.Wire.{AreNoList, AreNoPageRanges, AreNoRanges, AreNoRows, IsPageRange, IsRow, TellsHowMany, page_range_bytes, range_bytes, row_bytes};
 ghost use Rattle.examples.specs.declared.wire.WireFault.TheVariants.{Malformed};
@@ -58,8 +57,8 @@ pub fn write_page_ranges(
 
 /// The page ranges whose bytes came.
 pub fn read_page_ranges(alloc: Global, bytes: &[u8]) -> Result<PageRangeSnapshot<String>, WireFault>
-    ensures read { IfOk result (λ theirs. bytes.now ≡ list_bytes page_range_bytes (snapshot_entries theirs)) }
-    ensures each { IfOk result (λ theirs. AllByRecursion IsPageRange (snapshot_entries theirs)) }
+    ensures read { IfOk result (λ theirs. bytes.now ≡ list_bytes page_range_bytes theirs) }
+    ensures each { IfOk result (AllByRecursion IsPageRange) }
     ensures malformed { result ≡ Err Malformed → AreNoPageRanges bytes.now }
 {
     let theirs = PageRangeSnapshot::from_owned(alloc, read_list(alloc, bytes)?)?;
