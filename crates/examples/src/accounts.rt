@@ -4,7 +4,7 @@ ghost use Rattle.merkle_replica.specs.Puts.{HasPut};
 ghost use Rattle.merkle_digest.specs.Sip24.{Holds};
 
 use merkle_digest::{HashBytes, KeyBytes, KeyBytesExact, SameClone, Sip24, SipHasher};
-use merkle_replica::{Greatest, Join, Lawful, Replica};
+use merkle_replica::{Greatest, Join, Replica, RowHasher};
 use std::alloc::AllocError;
 
 /// The number of an account: accounts are in the order of its bytes, the first one first.
@@ -69,7 +69,7 @@ pub fn book(
     time: u64,
     balance: u64,
 ) -> Result<(), AllocError>
-    ensures joined { OnOk result (HasPut ⟦<SipHasher as Lawful<16, Account, Greatest<(u64, u64)>>>⟧.laws balances.old
+    ensures joined { OnOk result (HasPut ⟦<SipHasher as RowHasher<16, Account, Greatest<(u64, u64)>>>⟧.laws balances.old
         (account, record { 0 = (time, balance) }) balances.new) }
     ensures unchanged { OnErr result (balances.new ≡ balances.old) }
 {

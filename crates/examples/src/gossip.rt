@@ -6,8 +6,8 @@ ghost use Rattle.merkle_replica.specs.Contents.{side};
 ghost use Rattle.merkle_replica.specs.Faithful.{AreSetAlike};
 ghost use Rattle.examples.specs.Gossip.{AsksWhereTheyDiffer, HaveOneRootHash};
 
-use merkle_digest::{Hasher, Key};
-use merkle_replica::{Join, Lawful, Replica};
+use merkle_digest::Key;
+use merkle_replica::{Join, Replica, RowHasher};
 use merkle_search_tree::laws::{a_map_has_one_tree, every_tree_is_sound};
 use std::alloc::{AllocError, Global};
 
@@ -17,13 +17,13 @@ use std::alloc::{AllocError, Global};
 /// # Errors
 ///
 /// Want of memory, for page ranges alone: the rows stay.
-pub fn ranges_to_ask<K: Key + Drop, V: Join + Drop, H: Hasher<N, K> + Hasher<N, V>, const N: usize>(
+pub fn ranges_to_ask<K: Key + Drop, V: Join + Drop, H: RowHasher<N, K, V>, const N: usize>(
     alloc: Global,
     local: &mut Replica<K, V, H, N>,
     peer: &mut Replica<K, V, H, N>,
 ) -> Result<Vec<(K, K)>, AllocError>
     ensures quiet { HaveOneRootHash K.bytes_of local.old peer.old → IsOkAnd result (λ ranges. ranges.items ≡ []) }
-    ensures answer { AsksWhereTheyDiffer ⟦<H as Lawful<N, K, V>>⟧.laws local.old peer.old result }
+    ensures answer { AsksWhereTheyDiffer H.laws local.old peer.old result }
     ensures rows { local.new.rows ≡ local.old.rows }
     ensures peer_rows { peer.new.rows ≡ peer.old.rows }
     ensures settings { SameSettings local.old.tree local.new.tree }
@@ -44,14 +44,14 @@ pub fn ranges_to_ask<K: Key + Drop, V: Join + Drop, H: Hasher<N, K> + Hasher<N, 
 pub fn equal_maps_ask_for_nothing<
     K: Key + Drop,
     V: Join + Drop,
-    H: Hasher<N, K> + Hasher<N, V>,
+    H: RowHasher<N, K, V>,
     const N: usize,
 >(
     alloc: Global,
     local: &mut Replica<K, V, H, N>,
     peer: &mut Replica<K, V, H, N>,
 ) -> Result<Vec<(K, K)>, AllocError>
-    requires alike { AreSetAlike ⟦<H as Lawful<N, K, V>>⟧.laws (side local.old) (side peer.old) }
+    requires alike { AreSetAlike H.laws (side local.old) (side peer.old) }
     requires equal_maps { SameMap K.cmp (λ d e. d ≡ e) (map_of local.old.tree) (map_of peer.old.tree) }
     ensures nothing { IsOkAnd result (λ ranges. ranges.items ≡ []) }
     ensures rows { local.new.rows ≡ local.old.rows }

@@ -10,7 +10,7 @@ ghost use Rattle.merkle_replica.specs.Contents.{side, with_rows};
 ghost use Rattle.merkle_replica.specs.Faithfully.{ConvergeAfterPuts, ConvergeWhileFaithful};
 
 use merkle_digest::SipHasher;
-use merkle_replica::{CatchUpsError, Lawful, Replica, catch_up_both};
+use merkle_replica::{CatchUpsError, Replica, RowHasher, catch_up_both};
 use merkle_search_tree::builder::Builder;
 use std::alloc::{AllocError, Global};
 
@@ -44,8 +44,8 @@ pub fn raise(numbers: &mut Numbers, name: String, number: u64) -> Result<(), All
 ///
 /// Want of memory: what was joined until then stays.
 pub fn meet(a: &mut Numbers, b: &mut Numbers) -> Result<(), CatchUpsError>
-    ensures join { OnOk result (ConvergeWhileFaithful ⟦<SipHasher as Lawful<16, String, u64>>⟧.laws a.old b.old a.new b.new) }
-    ensures refused { IfErr result (StopCatchingUp ⟦<SipHasher as Lawful<16, String, u64>>⟧.laws a.old b.old a.new b.new) }
+    ensures join { OnOk result (ConvergeWhileFaithful ⟦<SipHasher as RowHasher<16, String, u64>>⟧.laws a.old b.old a.new b.new) }
+    ensures refused { IfErr result (StopCatchingUp ⟦<SipHasher as RowHasher<16, String, u64>>⟧.laws a.old b.old a.new b.new) }
 {
     catch_up_both(a, b)?;
     Ok(())
@@ -65,7 +65,7 @@ pub fn raise_both(
     b_number: u64,
 ) -> anyhow::Result<()>
     // There were two replicas between, each with its number put, and both then hold the join of these.
-    ensures join { OnOk result (ConvergeAfterPuts ⟦<SipHasher as Lawful<16, String, u64>>⟧.laws
+    ensures join { OnOk result (ConvergeAfterPuts ⟦<SipHasher as RowHasher<16, String, u64>>⟧.laws
         a.old (a_name, a_number) b.old (b_name, b_number) a.new b.new) }
 {
     raise(a, a_name, a_number)?;

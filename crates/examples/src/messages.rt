@@ -6,9 +6,9 @@ ghost use Rattle.merkle_replica.specs.Contents.{side};
 ghost use Rattle.examples.specs.GossipMessages.{AllGather, AllSpread, IsGossipJoined, StopsGathering, StopsSpreading, StopsGossip};
 
 use merkle_bytes::Decode;
-use merkle_digest::{Hasher, Key};
+use merkle_digest::Key;
 use merkle_replica::laws::gossip_joins_what_came;
-use merkle_replica::{Join, Lawful, Replica};
+use merkle_replica::{Join, Replica, RowHasher};
 use merkle_wire::{MessagesError, catch_up_by_messages};
 use std::alloc::Global;
 
@@ -36,18 +36,13 @@ pub enum GossipError {
 /// # Errors
 ///
 /// [`GossipError`]: the sessions that were made until then stay.
-pub fn gossip_by_messages<
-    K: Key + Decode,
-    V: Join + Decode,
-    H: Hasher<N, K> + Hasher<N, V>,
-    const N: usize,
->(
+pub fn gossip_by_messages<K: Key + Decode, V: Join + Decode, H: RowHasher<N, K, V>, const N: usize>(
     alloc: Global,
     hub: &mut Replica<K, V, H, N>,
     others: &mut [Replica<K, V, H, N>],
 ) -> Result<(), GossipError>
-    ensures join { OnOk result (IsGossipJoined ⟦<H as Lawful<N, K, V>>⟧.laws hub.old others.old hub.new others.new) }
-    ensures stopped { IfErr result (StopsGossip ⟦<H as Lawful<N, K, V>>⟧.laws hub.old others.old hub.new others.new) }
+    ensures join { OnOk result (IsGossipJoined H.laws hub.old others.old hub.new others.new) }
+    ensures stopped { IfErr result (StopsGossip H.laws hub.old others.old hub.new others.new) }
     ensures len { length others.new ≡ length others.old }
 {
     gossip_joins_what_came::<K, V, H, N>();
@@ -62,14 +57,14 @@ pub fn gossip_by_messages<
 }
 
 /// The hub catches up with each of the others.
-fn gather<K: Key + Decode, V: Join + Decode, H: Hasher<N, K> + Hasher<N, V>, const N: usize>(
+fn gather<K: Key + Decode, V: Join + Decode, H: RowHasher<N, K, V>, const N: usize>(
     alloc: Global,
     hub: &mut Replica<K, V, H, N>,
     others: &mut [Replica<K, V, H, N>],
 ) -> Result<(), Stopped>
-    ensures sessions { OnOk result (AllGather ⟦<H as Lawful<N, K, V>>⟧.laws hub.old others.old hub.new others.new) }
+    ensures sessions { OnOk result (AllGather H.laws hub.old others.old hub.new others.new) }
     ensures ascending { OnOk result (AllByRecursion (λ s. IsMap K.cmp s.rows) (map side others.old)) }
-    ensures stopped { IfErr result (StopsGathering ⟦<H as Lawful<N, K, V>>⟧.laws hub.old others.old hub.new others.new) }
+    ensures stopped { IfErr result (StopsGathering H.laws hub.old others.old hub.new others.new) }
     ensures len { length others.new ≡ length others.old }
 {
     'gathering: for i in 0..others.len() {
@@ -83,13 +78,13 @@ fn gather<K: Key + Decode, V: Join + Decode, H: Hasher<N, K> + Hasher<N, V>, con
 }
 
 /// Each of the others catches up with the hub.
-fn spread<K: Key + Decode, V: Join + Decode, H: Hasher<N, K> + Hasher<N, V>, const N: usize>(
+fn spread<K: Key + Decode, V: Join + Decode, H: RowHasher<N, K, V>, const N: usize>(
     alloc: Global,
     hub: &mut Replica<K, V, H, N>,
     others: &mut [Replica<K, V, H, N>],
 ) -> Result<(), Stopped>
-    ensures sessions { OnOk result (AllSpread ⟦<H as Lawful<N, K, V>>⟧.laws hub.old others.old hub.new others.new) }
-    ensures stopped { IfErr result (StopsSpreading ⟦<H as Lawful<N, K, V>>⟧.laws hub.old others.old hub.new others.new) }
+    ensures sessions { OnOk result (AllSpread H.laws hub.old others.old hub.new others.new) }
+    ensures stopped { IfErr result (StopsSpreading H.laws hub.old others.old hub.new others.new) }
     ensures len { length others.new ≡ length others.old }
 {
     'spreading: for i in 0..others.len() {

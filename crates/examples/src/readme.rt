@@ -8,7 +8,7 @@ ghost use Rattle.examples.specs.Sync.{EndsEarly, SyncsOneRow};
 
 use anyhow::Result;
 use merkle_digest::SipHasher;
-use merkle_replica::{Lawful, Replica, pull_by_turns};
+use merkle_replica::{Replica, RowHasher, pull_by_turns};
 use merkle_search_tree::builder::Builder;
 use std::alloc::Global;
 
@@ -23,8 +23,8 @@ pub fn two_replicas(
     key: String,
     b: &mut Replica<String, u64, SipHasher, 16>,
 ) -> Result<Replica<String, u64, SipHasher, 16>>
-    ensures join { IfOk result (λ a. SyncsOneRow ⟦<SipHasher as Lawful<16, String, u64>>⟧.laws key 42 b.old a b.new) }
-    ensures stopped { OnErr result (EndsEarly ⟦<SipHasher as Lawful<16, String, u64>>⟧.laws key 42 b.old b.new) }
+    ensures join { IfOk result (λ a. SyncsOneRow ⟦<SipHasher as RowHasher<16, String, u64>>⟧.laws key 42 b.old a b.new) }
+    ensures stopped { OnErr result (EndsEarly ⟦<SipHasher as RowHasher<16, String, u64>>⟧.laws key 42 b.old b.new) }
     ensures defaults { IfOk result (λ a. HasSettings (default_settings V1) a.tree) }
     ensures settings { SameSettings b.old.tree b.new.tree }
 {

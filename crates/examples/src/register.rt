@@ -9,7 +9,7 @@ ghost use Rattle.examples.specs.Register.{IsWritten};
 
 use crate::store::Store;
 use merkle_digest::{HashBytes, Sip24, SipHasher};
-use merkle_replica::{Greatest, Join, Lawful};
+use merkle_replica::{Greatest, Join, RowHasher};
 use std::alloc::{AllocError, Global};
 
 /// What was written last: at this time, by this writer, this value. Of two registers the one with the greater time is the later; at
@@ -76,7 +76,7 @@ pub type Stamped = Store<Greatest<(u64, u64)>>;
 ///
 /// Want of memory, which leaves all registers as they were.
 pub fn stamp(registers: &mut Stamped, name: String, time: u64, value: u64) -> Result<(), AllocError>
-    ensures joined { OnOk result (HasPut ⟦<SipHasher as Lawful<16, String, Greatest<(u64, u64)>>>⟧.laws registers.old
+    ensures joined { OnOk result (HasPut ⟦<SipHasher as RowHasher<16, String, Greatest<(u64, u64)>>>⟧.laws registers.old
         (name, record { 0 = (time, value) }) registers.new) }
     ensures unchanged { OnErr result (registers.new ≡ registers.old) }
     ensures settings { SameSettings registers.old.tree registers.new.tree }

@@ -6,7 +6,7 @@ ghost use Rattle.merkle_replica.specs.Puts.{HasPut};
 
 use crate::store::Store;
 use merkle_digest::{HashBytes, Sip24, SipHasher};
-use merkle_replica::{Join, Lawful};
+use merkle_replica::{Join, RowHasher};
 use std::alloc::{AllocError, Global};
 
 /// What was written last: at this time, whether that was a removal, and the value. Of two the one with the greater time is the later; at
@@ -56,7 +56,7 @@ impl Join for Removable {
 ///
 /// Want of memory, which leaves the store as it was.
 pub fn remove(store: &mut Store<Removable>, name: String, time: u64) -> Result<(), AllocError>
-    ensures joined { OnOk result (HasPut ⟦<SipHasher as Lawful<16, String, Removable>>⟧.laws store.old
+    ensures joined { OnOk result (HasPut ⟦<SipHasher as RowHasher<16, String, Removable>>⟧.laws store.old
         (name, record { time = time; removed = true; value = 0 }) store.new) }
     ensures unchanged { OnErr result (store.new ≡ store.old) }
     ensures settings { SameSettings store.old.tree store.new.tree }

@@ -7,9 +7,9 @@ ghost use Rattle.merkle_replica.specs.Faithful.{AreSetAlike};
 ghost use Rattle.examples.specs.Sessions.{AreMostReplies, HaveOneMap, JoinsWhereNothingCollides};
 
 use merkle_bytes::Decode;
-use merkle_digest::{Hasher, Key, KeyBytesExact};
+use merkle_digest::{Key, KeyBytesExact};
 use merkle_replica::laws::{a_pull_has_one_answer, a_replica_in_memory_is_small};
-use merkle_replica::{Join, Lawful, PullError, Replica};
+use merkle_replica::{Join, PullError, Replica, RowHasher};
 use merkle_wire::laws::{an_honest_session_ends, no_collision_makes_a_session_faithful};
 use merkle_wire::{MessagesError, catch_up_by_messages};
 use std::alloc::Global;
@@ -23,17 +23,17 @@ use std::alloc::Global;
 pub fn catch_up_exact<
     K: Key + KeyBytesExact + Decode,
     V: Join + Decode,
-    H: Hasher<N, K> + Hasher<N, V>,
+    H: RowHasher<N, K, V>,
     const N: usize,
 >(
     alloc: Global,
     replica: &mut Replica<K, V, H, N>,
     peer: &mut Replica<K, V, H, N>,
 ) -> Result<usize, MessagesError>
-    requires alike { AreSetAlike ⟦<H as Lawful<N, K, V>>⟧.laws (side replica.old) (side peer.old) }
-    requires one_digest { GiveOneDigest ⟦<H as Lawful<N, K, V>>⟧.laws (side replica.old) (side peer.old) }
+    requires alike { AreSetAlike H.laws (side replica.old) (side peer.old) }
+    requires one_digest { GiveOneDigest H.laws (side replica.old) (side peer.old) }
     requires format_2 { replica.old.tree.format ≡ V2 }
-    ensures join { OnOk result (JoinsWhereNothingCollides ⟦<H as Lawful<N, K, V>>⟧.laws N replica.old peer.old replica.new) }
+    ensures join { OnOk result (JoinsWhereNothingCollides H.laws N replica.old peer.old replica.new) }
     ensures peer_rows { peer.new.rows ≡ peer.old.rows }
 {
     no_collision_makes_a_session_faithful::<K, V, H, N>();
@@ -42,13 +42,10 @@ pub fn catch_up_exact<
 
 /// How many replies of a peer ask on at most, in a session of whoever catches up with it: so a server knows how long to serve.
 /// It looks at the bytes of each key of the peer, and takes no memory.
-pub fn most_replies<
-    K: Key + Decode,
-    V: Join + Decode,
-    H: Hasher<N, K> + Hasher<N, V>,
-    const N: usize,
->(peer: &Replica<K, V, H, N>) -> u128
-    ensures { AreMostReplies ⟦<H as Lawful<N, K, V>>⟧.laws N K.encoding V.encoding peer.now result }
+pub fn most_replies<K: Key + Decode, V: Join + Decode, H: RowHasher<N, K, V>, const N: usize>(
+    peer: &Replica<K, V, H, N>,
+) -> u128
+    ensures { AreMostReplies H.laws N K.encoding V.encoding peer.now result }
 {
     an_honest_session_ends::<K, V, H, N>();
     a_replica_in_memory_is_small(peer);
@@ -60,18 +57,13 @@ pub fn most_replies<
 /// # Errors
 ///
 /// Want of memory: the first may have pulled then, and the copy not.
-pub fn pull_with_copy<
-    K: Key + Drop,
-    V: Join + Drop,
-    H: Hasher<N, K> + Hasher<N, V>,
-    const N: usize,
->(
+pub fn pull_with_copy<K: Key + Drop, V: Join + Drop, H: RowHasher<N, K, V>, const N: usize>(
     replica: &mut Replica<K, V, H, N>,
     copy: &mut Replica<K, V, H, N>,
     peer: &mut Replica<K, V, H, N>,
 ) -> Result<(), PullError<K>>
     requires copied { side copy.old ≡ side replica.old }
-    ensures { OnOk result (HaveOneMap ⟦<H as Lawful<N, K, V>>⟧.laws replica.new copy.new) }
+    ensures { OnOk result (HaveOneMap H.laws replica.new copy.new) }
 {
     a_pull_has_one_answer::<K, V, H, N>();
     replica.pull(peer)?;

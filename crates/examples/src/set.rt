@@ -7,7 +7,7 @@ ghost use Rattle.examples.specs.Set.{IsUnion, SyncsToTheUnion};
 use crate::store::Store;
 use crate::sync::sync;
 use merkle_digest::SipHasher;
-use merkle_replica::{Lawful, TurnsError};
+use merkle_replica::{RowHasher, TurnsError};
 use std::alloc::{AllocError, Global};
 
 /// A set of names.
@@ -32,8 +32,8 @@ pub fn add(names: &mut Names, name: String) -> Result<(), AllocError>
 ///
 /// Want of memory: no name is lost.
 pub fn unite(alloc: Global, a: &mut Names, b: &mut Names) -> Result<(), TurnsError<String>>
-    ensures union { OnOk result (SyncsToTheUnion ⟦<SipHasher as Lawful<16, String, ()>>⟧.laws a.old b.old a.new b.new) }
-    ensures stopped { IfErr result (StopInTurns ⟦<SipHasher as Lawful<16, String, ()>>⟧.laws a.old b.old a.new b.new) }
+    ensures union { OnOk result (SyncsToTheUnion ⟦<SipHasher as RowHasher<16, String, ()>>⟧.laws a.old b.old a.new b.new) }
+    ensures stopped { IfErr result (StopInTurns ⟦<SipHasher as RowHasher<16, String, ()>>⟧.laws a.old b.old a.new b.new) }
     ensures a_settings { SameSettings a.old.tree a.new.tree }
     ensures b_settings { SameSettings b.old.tree b.new.tree }
 {

@@ -7,9 +7,9 @@ ghost use Rattle.merkle_replica.specs.Contents.{side};
 ghost use Rattle.merkle_replica.specs.Faithful.{AreSetAlike};
 ghost use Rattle.examples.specs.Sync.{ExactlySyncsToTheJoin, SyncsToTheJoin};
 
-use merkle_digest::{Hasher, Key, KeyBytesExact};
+use merkle_digest::{Key, KeyBytesExact};
 use merkle_replica::laws::no_collision_is_enough;
-use merkle_replica::{Join, Lawful, Replica, TurnsError, pull_by_turns};
+use merkle_replica::{Join, Replica, RowHasher, TurnsError, pull_by_turns};
 use std::alloc::Global;
 
 /// Brings two replicas to the same map, the join of both: while digests are faithful in what is met before each of the four pulls.
@@ -17,13 +17,13 @@ use std::alloc::Global;
 /// # Errors
 ///
 /// Want of memory: each pull that was made until then stays.
-pub fn sync<K: Key + Drop, V: Join + Drop, H: Hasher<N, K> + Hasher<N, V>, const N: usize>(
+pub fn sync<K: Key + Drop, V: Join + Drop, H: RowHasher<N, K, V>, const N: usize>(
     alloc: Global,
     a: &mut Replica<K, V, H, N>,
     b: &mut Replica<K, V, H, N>,
 ) -> Result<(), TurnsError<K>>
-    ensures same { OnOk result (SyncsToTheJoin ⟦<H as Lawful<N, K, V>>⟧.laws a.old b.old a.new b.new) }
-    ensures stopped { IfErr result (StopInTurns ⟦<H as Lawful<N, K, V>>⟧.laws a.old b.old a.new b.new) }
+    ensures same { OnOk result (SyncsToTheJoin H.laws a.old b.old a.new b.new) }
+    ensures stopped { IfErr result (StopInTurns H.laws a.old b.old a.new b.new) }
     ensures a_settings { SameSettings a.old.tree a.new.tree }
     ensures b_settings { SameSettings b.old.tree b.new.tree }
 {
@@ -41,17 +41,17 @@ pub fn sync<K: Key + Drop, V: Join + Drop, H: Hasher<N, K> + Hasher<N, V>, const
 pub fn sync_exact<
     K: Key + KeyBytesExact + Drop,
     V: Join + Drop,
-    H: Hasher<N, K> + Hasher<N, V>,
+    H: RowHasher<N, K, V>,
     const N: usize,
 >(
     alloc: Global,
     a: &mut Replica<K, V, H, N>,
     b: &mut Replica<K, V, H, N>,
 ) -> Result<(), TurnsError<K>>
-    requires alike { AreSetAlike ⟦<H as Lawful<N, K, V>>⟧.laws (side a.old) (side b.old) }
+    requires alike { AreSetAlike H.laws (side a.old) (side b.old) }
     requires format_2 { a.old.tree.format ≡ V2 }
-    ensures same { OnOk result (ExactlySyncsToTheJoin ⟦<H as Lawful<N, K, V>>⟧.laws N a.old b.old a.new b.new) }
-    ensures stopped { IfErr result (StopInTurns ⟦<H as Lawful<N, K, V>>⟧.laws a.old b.old a.new b.new) }
+    ensures same { OnOk result (ExactlySyncsToTheJoin H.laws N a.old b.old a.new b.new) }
+    ensures stopped { IfErr result (StopInTurns H.laws a.old b.old a.new b.new) }
     ensures a_settings { SameSettings a.old.tree a.new.tree }
     ensures b_settings { SameSettings b.old.tree b.new.tree }
 {

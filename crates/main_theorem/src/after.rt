@@ -5,8 +5,8 @@ ghost use Rattle.merkle_tree_theory.specs.State.{HasSettings, SameSettings};
 ghost use Rattle.main_theorem.specs.After.{FreeAreAccepted, HasRootHashOf, IsAcceptedBy, IsCarriedOut, IsDefinedTreeOf, IsHashedLast, rows_after};
 ghost use Rattle.merkle_replica.specs.Agreeing.{AreEqual};
 
-use merkle_digest::{Hasher, Key};
-use merkle_replica::{Join, Lawful, Replica};
+use merkle_digest::Key;
+use merkle_replica::{Join, Replica, RowHasher};
 use merkle_search_tree::MerkleSearchTree;
 use merkle_search_tree::builder::Builder;
 use merkle_search_tree::laws::{
@@ -23,9 +23,9 @@ fn carry_out<K, V, H, const N: usize>(
 where
     K: Key + Drop,
     V: Join + Drop,
-    H: Hasher<N, K> + Hasher<N, V>,
-    ensures rows { IsCarriedOut ⟦<H as Lawful<N, K, V>>⟧.laws update result replica.old.rows replica.new.rows }
-    ensures free { IsAcceptedBy ⟦<H as Lawful<N, K, V>>⟧.laws replica.old update result }
+    H: RowHasher<N, K, V>,
+    ensures rows { IsCarriedOut H.laws update result replica.old.rows replica.new.rows }
+    ensures free { IsAcceptedBy H.laws replica.old update result }
     ensures settings { SameSettings replica.old.tree replica.new.tree }
 {
     a_map_has_one_tree::<K, H, N>();
@@ -50,12 +50,12 @@ pub(crate) fn after<K, V, H, const N: usize>(
 where
     K: Key + Drop,
     V: Join + Drop,
-    H: Hasher<N, K> + Hasher<N, V> + Drop,
+    H: RowHasher<N, K, V> + Drop,
     ensures answers { IfOk result (λ r. length r.1.items ≡ length updates.items) }
-    ensures free { IfOk result (λ r. FreeAreAccepted ⟦<H as Lawful<N, K, V>>⟧.laws builder [] updates.items r.1.items) }
+    ensures free { IfOk result (λ r. FreeAreAccepted H.laws builder [] updates.items r.1.items) }
     ensures rows { IfOk result (λ r. AreEqual K.cmp V.eq r.0.rows (rows_after K.cmp V.join_of updates.items r.1.items)) }
     ensures settings { IfOk result (λ r. HasSettings builder r.0.tree) }
-    ensures root_hash { IfOk result (λ r. HasRootHashOf ⟦<H as Lawful<N, K, V>>⟧.laws builder r.0.rows r.0.tree) }
+    ensures root_hash { IfOk result (λ r. HasRootHashOf H.laws builder r.0.rows r.0.tree) }
 {
     let mut accepted = Vec::with_capacity(alloc, updates.len())?;
     let mut replica = Replica::new(alloc, builder);
@@ -71,10 +71,10 @@ pub(crate) fn hash_last<K, V, H, const N: usize>(replica: &mut Replica<K, V, H, 
 where
     K: Key,
     V: Join,
-    H: Hasher<N, K> + Hasher<N, V>,
+    H: RowHasher<N, K, V>,
     ensures rows { replica.new.rows ≡ replica.old.rows }
     ensures settings { SameSettings replica.old.tree replica.new.tree }
-    ensures root_hash { IsHashedLast ⟦<H as Lawful<N, K, V>>⟧.laws replica.old replica.new }
+    ensures root_hash { IsHashedLast H.laws replica.old replica.new }
 {
     a_map_has_one_tree::<K, H, N>();
     every_tree_is_sound(replica.tree());
@@ -88,9 +88,9 @@ pub(crate) fn copy_of_tree<K, V, H, const N: usize>(
 where
     K: Key + Drop,
     V: Join,
-    H: Hasher<N, K> + Hasher<N, V> + Clone + Drop,
+    H: RowHasher<N, K, V> + Clone + Drop,
     requires hashers { (x y : H) → H.is_clone x y → y ≡ x }
-    ensures { IfOk result (IsDefinedTreeOf ⟦<H as Lawful<N, K, V>>⟧.laws replica.now) }
+    ensures { IfOk result (IsDefinedTreeOf H.laws replica.now) }
 {
     a_map_has_one_tree::<K, H, N>();
     equal_pages_have_equal_maps::<K>();

@@ -4,9 +4,9 @@ ghost use Rattle.key_order.specs.Order.{Same};
 ghost use Rattle.merkle_tree_theory.specs.State.{SameSettings};
 ghost use Rattle.main_theorem.specs.Course.{ComeTogether, IsDone, IsStopped};
 
-use merkle_digest::{Hasher, Key};
+use merkle_digest::Key;
 use merkle_replica::{
-    CatchUpsError, CaughtUp, Join, Lawful, Pulled, Replica, TurnsError, catch_up_both,
+    CatchUpsError, CaughtUp, Join, Pulled, Replica, RowHasher, TurnsError, catch_up_both,
     pull_by_turns,
 };
 use std::alloc::Global;
@@ -45,19 +45,14 @@ pub enum RunRefused<K> {
 }
 
 /// Brings two replicas together.
-pub(crate) fn come_together<
-    K: Key + Drop,
-    V: Join + Drop,
-    H: Hasher<N, K> + Hasher<N, V>,
-    const N: usize,
->(
+pub(crate) fn come_together<K: Key + Drop, V: Join + Drop, H: RowHasher<N, K, V>, const N: usize>(
     alloc: Global,
     a: &mut Replica<K, V, H, N>,
     b: &mut Replica<K, V, H, N>,
     exchange: Exchange,
 ) -> Result<Exchanged<K>, RunRefused<K>>
     ensures done { IfOk result (λ exchanged. IsDone exchange exchanged) }
-    ensures converges { IfOk result (ComeTogether ⟦<H as Lawful<N, K, V>>⟧.laws exchange a.old b.old a.new b.new) }
+    ensures converges { IfOk result (ComeTogether H.laws exchange a.old b.old a.new b.new) }
     ensures stopped { IfErr result (λ refused. IsStopped exchange refused) }
     ensures a_settings { SameSettings a.old.tree a.new.tree }
     ensures b_settings { SameSettings b.old.tree b.new.tree }

@@ -8,7 +8,7 @@ ghost use Rattle.main_theorem.specs.declared.course.Exchange.TheVariants.{Apart}
 use crate::after::{after, copy_of_tree, hash_last};
 use crate::course::{Exchange, Exchanged, RunRefused, come_together};
 use merkle_digest::{Hasher, Key};
-use merkle_replica::{Join, Lawful, Replica, ValueHasher};
+use merkle_replica::{Join, Replica, RowHasher, ValueHasher};
 use merkle_search_tree::MerkleSearchTree;
 use merkle_search_tree::builder::Builder;
 use merkle_search_tree::laws::{
@@ -63,32 +63,32 @@ pub fn converge<K, V, H, const N: usize>(
 where
     K: Key + Drop,
     V: Join + Drop,
-    H: Hasher<N, K> + Hasher<N, V> + Clone + Drop,
+    H: RowHasher<N, K, V> + Clone + Drop,
     // A clone of the hasher is the hasher.
     requires hashers { (x y : H) → H.is_clone x y → y ≡ x }
 
     // Each update is answered, and accepted where it takes no memory.
     ensures answers { IfOk result (λ r. AreAnswered a_updates.items r.a × AreAnswered b_updates.items r.b) }
-    ensures free { IfOk result (AcceptTheFree ⟦<H as Lawful<N, K, V>>⟧.laws builder a_updates.items b_updates.items) }
+    ensures free { IfOk result (AcceptTheFree H.laws builder a_updates.items b_updates.items) }
 
     // Between the updates and the exchange, whichever it is, each tree is the one that the map of the accepted updates defines: its pages
     // apart from caches, its page ranges and its root hash.
-    ensures before { IfOk result (HadTheDefinedTrees ⟦<H as Lawful<N, K, V>>⟧.laws builder a_updates.items b_updates.items) }
+    ensures before { IfOk result (HadTheDefinedTrees H.laws builder a_updates.items b_updates.items) }
 
     // Where there is no exchange, the rows at the end are the maps of the accepted updates.
-    ensures rows { exchange ≡ Apart → IfOk result (HaveTheirMaps ⟦<H as Lawful<N, K, V>>⟧.laws a_updates.items b_updates.items) }
+    ensures rows { exchange ≡ Apart → IfOk result (HaveTheirMaps H.laws a_updates.items b_updates.items) }
 
     // Whatever map the rows of a replica are, its pages are the one tree that the map defines, apart from caches, and its page ranges
     // and root hash are the defined ones.
-    ensures a_defined { IfOk result (λ r. HasTheDefinedTree ⟦<H as Lawful<N, K, V>>⟧.laws builder r.a) }
-    ensures b_defined { IfOk result (λ r. HasTheDefinedTree ⟦<H as Lawful<N, K, V>>⟧.laws builder r.b) }
+    ensures a_defined { IfOk result (λ r. HasTheDefinedTree H.laws builder r.a) }
+    ensures b_defined { IfOk result (λ r. HasTheDefinedTree H.laws builder r.b) }
 
     // The exchange that was asked for led from the two maps to the rows at the end.
     ensures exchanged { IfOk result (λ r. IsDone exchange r.exchanged) }
 
     // While digests are faithful in what was met on the way, four pulls by turns or more, or a catch-up each way, leave both replicas with
     // the join of the two maps, and one root hash.
-    ensures converges { IfOk result (Converge ⟦<H as Lawful<N, K, V>>⟧.laws builder a_updates.items b_updates.items exchange) }
+    ensures converges { IfOk result (Converge H.laws builder a_updates.items b_updates.items exchange) }
 
     // A run is refused before the exchange, or in the one that was asked for.
     ensures refused { IfErr result (λ refused. IsStopped exchange refused) }

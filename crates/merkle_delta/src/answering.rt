@@ -8,8 +8,8 @@ ghost use Rattle.merkle_wire.specs.Questions.{AsksNothing};
 use crate::delta::add_delta;
 use crate::message::{ASKS, TELLS, behind};
 use merkle_bytes::{Decode, Encode, Reader, decode_list};
-use merkle_digest::{Hasher, Key};
-use merkle_replica::{Join, Lawful, Replica};
+use merkle_digest::Key;
+use merkle_replica::{Join, Replica, RowHasher};
 use merkle_wire::{AnswerError, MOST_BYTES};
 use std::alloc::Global;
 
@@ -19,16 +19,15 @@ use std::alloc::Global;
 /// # Errors
 ///
 /// [`AnswerError`]
-pub fn answer<
-    K: Key + Decode,
-    V: Join + Encode + Drop,
-    H: Hasher<N, K> + Hasher<N, V>,
-    const N: usize,
->(alloc: Global, replica: &mut Replica<K, V, H, N>, message: &[u8]) -> Result<Vec<u8>, AnswerError>
-    ensures answered { IfOk result (IsAnswered ⟦<H as Lawful<N, K, V>>⟧.laws N K.encoding V.encoding replica.old replica.new message.now) }
+pub fn answer<K: Key + Decode, V: Join + Encode + Drop, H: RowHasher<N, K, V>, const N: usize>(
+    alloc: Global,
+    replica: &mut Replica<K, V, H, N>,
+    message: &[u8],
+) -> Result<Vec<u8>, AnswerError>
+    ensures answered { IfOk result (IsAnswered H.laws N K.encoding V.encoding replica.old replica.new message.now) }
     ensures within { IfOk result (AnswersWithin K.encoding V.encoding 67108864 message.now) }
     ensures malformed { IfErr result (λ error. IsUnread error → AsksNoneOf (AsksNothing K.encoding K.is_value) message.now) }
-    ensures other_settings { IfErr result (RefusesOthers ⟦<H as Lawful<N, K, V>>⟧.laws N K.encoding replica.new.tree message.now) }
+    ensures other_settings { IfErr result (RefusesOthers H.laws N K.encoding replica.new.tree message.now) }
     ensures rows { replica.new.rows ≡ replica.old.rows }
     ensures settings { SameSettings replica.old.tree replica.new.tree }
 {
@@ -46,7 +45,7 @@ pub fn answer<
 pub fn answer_within<
     K: Key + Decode,
     V: Join + Encode + Drop,
-    H: Hasher<N, K> + Hasher<N, V>,
+    H: RowHasher<N, K, V>,
     const N: usize,
 >(
     alloc: Global,
@@ -54,10 +53,10 @@ pub fn answer_within<
     message: &[u8],
     most_bytes: usize,
 ) -> Result<Vec<u8>, AnswerError>
-    ensures answered { IfOk result (IsAnswered ⟦<H as Lawful<N, K, V>>⟧.laws N K.encoding V.encoding replica.old replica.new message.now) }
+    ensures answered { IfOk result (IsAnswered H.laws N K.encoding V.encoding replica.old replica.new message.now) }
     ensures within { IfOk result (AnswersWithin K.encoding V.encoding most_bytes message.now) }
     ensures malformed { IfErr result (λ error. IsUnread error → AsksNoneOf (AsksNothing K.encoding K.is_value) message.now) }
-    ensures other_settings { IfErr result (RefusesOthers ⟦<H as Lawful<N, K, V>>⟧.laws N K.encoding replica.new.tree message.now) }
+    ensures other_settings { IfErr result (RefusesOthers H.laws N K.encoding replica.new.tree message.now) }
     ensures rows { replica.new.rows ≡ replica.old.rows }
     ensures settings { SameSettings replica.old.tree replica.new.tree }
 {

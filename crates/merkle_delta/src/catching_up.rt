@@ -17,7 +17,7 @@ use crate::message::{TELLS, behind, encode_asking};
 use crate::patch::{PatchError, patch};
 use merkle_bytes::{Decode, Reader};
 use merkle_digest::{Hasher, Key};
-use merkle_replica::{Join, Lawful, Replica};
+use merkle_replica::{Join, Replica, RowHasher};
 use merkle_wire::{AnswerError, SessionError};
 use std::alloc::{AllocError, Global};
 use std::marker::Model;
@@ -105,7 +105,7 @@ impl<K: Key + Decode, V: Join + Decode> CatchingUp<K, V> {
     /// # Errors
     ///
     /// Want of memory.
-    pub fn begin<H: Hasher<N, K> + Hasher<N, V>, const N: usize>(
+    pub fn begin<H: RowHasher<N, K, V>, const N: usize>(
         alloc: Global,
         replica: &Replica<K, V, H, N>,
     ) -> Result<(Self, Vec<u8>), AllocError>
@@ -141,14 +141,14 @@ impl<K: Key + Decode, V: Join + Decode> CatchingUp<K, V> {
     /// # Errors
     ///
     /// [`SessionError`]
-    pub fn take<H: Hasher<N, K> + Hasher<N, V>, const N: usize>(
+    pub fn take<H: RowHasher<N, K, V>, const N: usize>(
         self,
         replica: &mut Replica<K, V, H, N>,
         reply: &[u8],
     ) -> Result<Next<K, V>, SessionError>
-        ensures next { IfOk result (Takes ⟦<H as Lawful<N, K, V>>⟧.laws N K.encoding V.encoding replica.old self reply.now) }
+        ensures next { IfOk result (Takes H.laws N K.encoding V.encoding replica.old self reply.now) }
         ensures asked_for { IfOk result (OnlyAskedFor K.cmp self) }
-        ensures ended { IfErr result (IsStopped ⟦<H as Lawful<N, K, V>>⟧.laws N K.encoding V.encoding K.is_value V.is_value
+        ensures ended { IfErr result (IsStopped H.laws N K.encoding V.encoding K.is_value V.is_value
             (side replica.old) self reply.now) }
         ensures rows { replica.new.rows ≡ replica.old.rows }
         ensures settings { SameSettings replica.old.tree replica.new.tree }
@@ -204,7 +204,7 @@ fn is_shorter(told: &Told, delta: &[u8], plain: &[u8]) -> bool {
 }
 
 /// Goes on as the plain catch-up does.
-fn go_on<K: Key + Decode, V: Join + Decode, H: Hasher<N, K> + Hasher<N, V>, const N: usize>(
+fn go_on<K: Key + Decode, V: Join + Decode, H: RowHasher<N, K, V>, const N: usize>(
     alloc: Global,
     replica: &mut Replica<K, V, H, N>,
     next: merkle_wire::Next<K, V>,
@@ -240,7 +240,7 @@ fn go_on<K: Key + Decode, V: Join + Decode, H: Hasher<N, K> + Hasher<N, V>, cons
 }
 
 /// The chunks of this side's own reply to a question, where they are worth telling.
-fn own_chunks<K: Key + Decode, V: Join + Decode, H: Hasher<N, K> + Hasher<N, V>, const N: usize>(
+fn own_chunks<K: Key + Decode, V: Join + Decode, H: RowHasher<N, K, V>, const N: usize>(
     alloc: Global,
     replica: &mut Replica<K, V, H, N>,
     question: &[u8],

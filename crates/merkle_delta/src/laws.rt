@@ -5,8 +5,8 @@ ghost use Rattle.merkle_delta.specs.Exchanges.{RepliesBring};
 ghost use Rattle.merkle_delta.specs.Sessions.{AnswersTell, ExchangesArePlain, SessionsArePlain};
 
 use merkle_bytes::Decode;
-use merkle_digest::{Hasher, Key};
-use merkle_replica::{Join, Lawful};
+use merkle_digest::Key;
+use merkle_replica::{Join, RowHasher};
 use merkle_wire::laws::a_session_is_a_catch_up;
 
 /// A session by deltas is a plain one, whatever carries the messages: where each message is answered as [`answer`](crate::answer) does, each reply taken as
@@ -18,12 +18,12 @@ use merkle_wire::laws::a_session_is_a_catch_up;
 pub fn a_session_by_deltas_is_a_session<
     K: Key + Decode,
     V: Join + Decode,
-    H: Hasher<N, K> + Hasher<N, V>,
+    H: RowHasher<N, K, V>,
     const N: usize,
 >()
-    ensures answers { AnswersTell ⟦<H as Lawful<N, K, V>>⟧.laws N K.encoding V.encoding }
-    ensures exchanges { ExchangesArePlain ⟦<H as Lawful<N, K, V>>⟧.laws N K.encoding V.encoding }
-    ensures sessions { SessionsArePlain ⟦<H as Lawful<N, K, V>>⟧.laws N K.encoding V.encoding }
+    ensures answers { AnswersTell H.laws N K.encoding V.encoding }
+    ensures exchanges { ExchangesArePlain H.laws N K.encoding V.encoding }
+    ensures sessions { SessionsArePlain H.laws N K.encoding V.encoding }
 {}
 
 /// A catch-up brings what is lacked, whatever carries its messages: where the first is that of [`begin`](crate::CatchingUp::begin), each is replied to as
@@ -32,10 +32,10 @@ pub fn a_session_by_deltas_is_a_session<
 pub fn replies_bring_what_is_lacked<
     K: Key + Decode,
     V: Join + Decode,
-    H: Hasher<N, K> + Hasher<N, V>,
+    H: RowHasher<N, K, V>,
     const N: usize,
 >()
-    ensures { RepliesBring ⟦<H as Lawful<N, K, V>>⟧.laws N K.encoding V.encoding }
+    ensures { RepliesBring H.laws N K.encoding V.encoding }
 {
     a_session_is_a_catch_up::<K, V, H, N>();
 }

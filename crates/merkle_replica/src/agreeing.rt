@@ -5,23 +5,23 @@ ghost use Rattle.merkle_replica.specs.Contents.{side};
 ghost use Rattle.merkle_replica.specs.Agreeing.{AreEqualWhileFaithful, IsTrueWhereEqual};
 
 use crate::join::Join;
-use crate::lawful::Lawful;
 use crate::replica::Replica;
-use merkle_digest::{Hasher, Key};
+use crate::row_hasher::RowHasher;
+use merkle_digest::Key;
 use merkle_search_tree::laws::{a_map_has_one_tree, every_tree_is_sound};
 
 /// Whether two replicas have one root hash: both are hashed for it, and their rows stay. True means that their rows are equal, as long as
 /// pages and values that differ have digests that differ. False means that their rows differ, where both digest alike: by one hasher, level
 /// base and page format. It costs what [`Replica::root_hash`] costs of both.
-pub fn agree<K: Key + Drop, V: Join + Drop, H: Hasher<N, K> + Hasher<N, V>, const N: usize>(
+pub fn agree<K: Key + Drop, V: Join + Drop, H: RowHasher<N, K, V>, const N: usize>(
     a: &mut Replica<K, V, H, N>,
     b: &mut Replica<K, V, H, N>,
 ) -> bool
     // While digests are faithful, replicas with one root hash have equal rows.
-    ensures told { IsTrue result → AreEqualWhileFaithful ⟦<H as Lawful<N, K, V>>⟧.laws (side a.old) (side b.old) }
+    ensures told { IsTrue result → AreEqualWhileFaithful H.laws (side a.old) (side b.old) }
 
     // Replicas that digest alike and have equal rows have one root hash.
-    ensures alike { IsTrueWhereEqual ⟦<H as Lawful<N, K, V>>⟧.laws (side a.old) (side b.old) result }
+    ensures alike { IsTrueWhereEqual H.laws (side a.old) (side b.old) result }
 
     ensures a_rows { a.new.rows ≡ a.old.rows }
     ensures b_rows { b.new.rows ≡ b.old.rows }

@@ -6,9 +6,9 @@ ghost use Rattle.merkle_replica.specs.Faithfully.{ConvergeWhileFaithful};
 
 use crate::catch_up::{CatchUpError, CaughtUp};
 use crate::join::Join;
-use crate::lawful::Lawful;
 use crate::replica::Replica;
-use merkle_digest::{Hasher, Key};
+use crate::row_hasher::RowHasher;
+use merkle_digest::Key;
 
 /// Why catch-ups in both directions stopped: memory was refused.
 #[derive(Clone, Copy, Debug, PartialEq, Eq)]
@@ -31,16 +31,16 @@ pub enum CatchUpsError {
 /// # Errors
 ///
 /// [`CatchUpsError`] where memory is refused: then stands what the fault says.
-pub fn catch_up_both<K: Key + Drop, V: Join + Drop, H: Hasher<N, K> + Hasher<N, V>, const N: usize>(
+pub fn catch_up_both<K: Key + Drop, V: Join + Drop, H: RowHasher<N, K, V>, const N: usize>(
     a: &mut Replica<K, V, H, N>,
     b: &mut Replica<K, V, H, N>,
 ) -> Result<(CaughtUp, CaughtUp), CatchUpsError>
-    ensures done { IfOk result (HaveCaughtUp ⟦<H as Lawful<N, K, V>>⟧.laws a.old b.old a.new b.new) }
+    ensures done { IfOk result (HaveCaughtUp H.laws a.old b.old a.new b.new) }
 
     // While digests are faithful before each of them, both then hold the join.
-    ensures join { OnOk result (ConvergeWhileFaithful ⟦<H as Lawful<N, K, V>>⟧.laws a.old b.old a.new b.new) }
+    ensures join { OnOk result (ConvergeWhileFaithful H.laws a.old b.old a.new b.new) }
 
-    ensures refused { IfErr result (StopCatchingUp ⟦<H as Lawful<N, K, V>>⟧.laws a.old b.old a.new b.new) }
+    ensures refused { IfErr result (StopCatchingUp H.laws a.old b.old a.new b.new) }
 
     ensures a_settings { SameSettings a.old.tree a.new.tree }
     ensures b_settings { SameSettings b.old.tree b.new.tree }

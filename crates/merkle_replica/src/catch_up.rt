@@ -9,10 +9,10 @@ ghost use Rattle.merkle_replica.specs.Descent.{whole_of};
 ghost use Rattle.merkle_replica.specs.Faithfully.{JoinsWhileFaithful};
 
 use crate::join::Join;
-use crate::lawful::Lawful;
 use crate::replica::Replica;
+use crate::row_hasher::RowHasher;
 use crate::wanted::in_order;
-use merkle_digest::{Hasher, Key};
+use merkle_digest::Key;
 use merkle_search_tree::OutlineItem;
 use merkle_search_tree::laws::{
     equal_keys_are_on_one_level, every_tree_is_sound, outlines_lead_down,
@@ -49,12 +49,7 @@ struct Lacked<'a, K> {
     rounds: usize,
 }
 
-impl<K: Key + Drop, V: Join + Drop, H: Hasher<N, K> + Hasher<N, V>, const N: usize> Replica<
-    K,
-    V,
-    H,
-    N,
-> {
+impl<K: Key + Drop, V: Join + Drop, H: RowHasher<N, K, V>, const N: usize> Replica<K, V, H, N> {
     /// Joins exactly those rows of the peer whose key this side lacks or has with another digest, so that its rows are then the join of
     /// both sides' rows, while digests are faithful. The peer's rows stay.
     ///
@@ -75,15 +70,15 @@ impl<K: Key + Drop, V: Join + Drop, H: Hasher<N, K> + Hasher<N, V>, const N: usi
     /// [`CatchUpError`] where memory is refused, by which no row is joined, or the first ones in key order and not all.
     pub fn catch_up(&mut self, peer: &mut Replica<K, V, H, N>) -> Result<CaughtUp, CatchUpError>
         // The rows are the join with the peer's rows at the keys that this side lacked.
-        ensures done { IfOk result (HasCaughtUp ⟦<H as Lawful<N, K, V>>⟧.laws self.old peer.old self.new) }
+        ensures done { IfOk result (HasCaughtUp H.laws self.old peer.old self.new) }
 
         // While digests are faithful, that is the join of both sides' rows.
-        ensures join { OnOk result (JoinsWhileFaithful ⟦<H as Lawful<N, K, V>>⟧.laws (side self.old) (side peer.old) self.new.rows) }
+        ensures join { OnOk result (JoinsWhileFaithful H.laws (side self.old) (side peer.old) self.new.rows) }
 
         ensures few { IfOk result (λ caught. caught.rounds ≤ level peer.old.tree.root + 1) }
 
         // Refused, it has joined no row, or the first ones.
-        ensures refused { IfErr result (StopsCatchingUp ⟦<H as Lawful<N, K, V>>⟧.laws self.old peer.old self.new) }
+        ensures refused { IfErr result (StopsCatchingUp H.laws self.old peer.old self.new) }
 
         ensures peer_rows { peer.new.rows ≡ peer.old.rows }
         ensures settings { SameSettings self.old.tree self.new.tree }
@@ -111,7 +106,7 @@ impl<K: Key + Drop, V: Join + Drop, H: Hasher<N, K> + Hasher<N, V>, const N: usi
     /// Copies of the rows of a peer that this side lacks, and how many times outlines were asked for.
     fn lacked_rows(&self, peer: &Replica<K, V, H, N>) -> Result<(Vec<(K, V)>, usize), AllocError>
         requires hashed { IsSome peer.now.tree.root_hash }
-        ensures rows { IfOk result (λ found. LacksRows ⟦<H as Lawful<N, K, V>>⟧.laws self.now peer.now found.0.items) }
+        ensures rows { IfOk result (λ found. LacksRows H.laws self.now peer.now found.0.items) }
         ensures few { IfOk result (λ found. found.1 ≤ level peer.now.tree.root + 1) }
     {
         let lacked = lacked_keys(self.alloc, self, peer)?;
@@ -122,13 +117,13 @@ impl<K: Key + Drop, V: Join + Drop, H: Hasher<N, K> + Hasher<N, V>, const N: usi
 }
 
 /// The keys that `local` lacks of `peer`, where both are hashed, and how many times outlines were asked for.
-fn lacked_keys<'a, K: Key + Drop, V: Join + Drop, H: Hasher<N, K> + Hasher<N, V>, const N: usize>(
+fn lacked_keys<'a, K: Key + Drop, V: Join + Drop, H: RowHasher<N, K, V>, const N: usize>(
     alloc: Global,
     local: &Replica<K, V, H, N>,
     peer: &'a Replica<K, V, H, N>,
 ) -> Result<Lacked<'a, K>, AllocError>
     requires { IsSome peer.now.tree.root_hash }
-    ensures found { IfOk result (λ found. LacksKeys ⟦<H as Lawful<N, K, V>>⟧.laws local.now peer.now found.keys.items) }
+    ensures found { IfOk result (λ found. LacksKeys H.laws local.now peer.now found.keys.items) }
     ensures few { IfOk result (λ lacked. lacked.rounds ≤ level peer.now.tree.root + 1) }
 {
     local.rows_ascend();
@@ -154,7 +149,7 @@ fn lacked_keys<'a, K: Key + Drop, V: Join + Drop, H: Hasher<N, K> + Hasher<N, V>
 }
 
 /// The whole tree of a hashed replica as one item, or none where it has no row.
-fn root_items<'a, K: Key + Drop, V: Join + Drop, H: Hasher<N, K> + Hasher<N, V>, const N: usize>(
+fn root_items<'a, K: Key + Drop, V: Join + Drop, H: RowHasher<N, K, V>, const N: usize>(
     alloc: Global,
     replica: &'a Replica<K, V, H, N>,
 ) -> Result<Vec<OutlineItem<'a, N, K>>, AllocError>

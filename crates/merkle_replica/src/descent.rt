@@ -7,9 +7,9 @@ ghost use Rattle.merkle_replica.specs.Contents.{side, tree_map};
 ghost use Rattle.merkle_replica.specs.Descent.{LeaveToAsk, AddsToAsk, GivesOutlines, HasDigestAt, HasPage};
 
 use crate::join::Join;
-use crate::lawful::Lawful;
 use crate::replica::Replica;
-use merkle_digest::{Hasher, Key, PageDigest, ValueDigest};
+use crate::row_hasher::RowHasher;
+use merkle_digest::{Key, PageDigest, ValueDigest};
 use merkle_search_tree::laws::every_tree_is_sound;
 use merkle_search_tree::{Gap, OutlineItem};
 use std::alloc::AllocError;
@@ -23,12 +23,7 @@ pub struct ToAsk<'a, K> {
     pub keys: Vec<&'a K>,
 }
 
-impl<K: Key + Drop, V: Join + Drop, H: Hasher<N, K> + Hasher<N, V>, const N: usize> Replica<
-    K,
-    V,
-    H,
-    N,
-> {
+impl<K: Key + Drop, V: Join + Drop, H: RowHasher<N, K, V>, const N: usize> Replica<K, V, H, N> {
     /// The peer's step of a catch-up: the outlines over these gaps, one behind the other, as
     /// [`MerkleSearchTree::outline`](merkle_search_tree::MerkleSearchTree::outline) gives them; `None` where the tree isn't hashed. Any gaps
     /// will do: those that no page fills, that overlap, or that have no key.
@@ -80,7 +75,7 @@ impl<K: Key + Drop, V: Join + Drop, H: Hasher<N, K> + Hasher<N, V>, const N: usi
     ///
     /// `AllocError` where memory is refused for the lists.
     pub fn sort_out<'a>(&self, came: &[OutlineItem<'a, N, K>]) -> Result<ToAsk<'a, K>, AllocError>
-        ensures { IfOk result (LeaveToAsk ⟦<H as Lawful<N, K, V>>⟧.laws (side self.now) came.now) }
+        ensures { IfOk result (LeaveToAsk H.laws (side self.now) came.now) }
     {
         let mut asked = ToAsk {
             gaps: Vec::new(self.alloc),
@@ -98,7 +93,7 @@ impl<K: Key + Drop, V: Join + Drop, H: Hasher<N, K> + Hasher<N, V>, const N: usi
         item: &OutlineItem<'a, N, K>,
         asked: &mut ToAsk<'a, K>,
     ) -> Result<(), AllocError>
-        ensures { OnOk result (AddsToAsk ⟦<H as Lawful<N, K, V>>⟧.laws (side self.now) item.now asked.old asked.new) }
+        ensures { OnOk result (AddsToAsk H.laws (side self.now) item.now asked.old asked.new) }
     {
         match item {
             OutlineItem::Node(key, digest) => {
@@ -127,14 +122,14 @@ impl<K: Key + Drop, V: Join + Drop, H: Hasher<N, K> + Hasher<N, V>, const N: usi
     /// }
     /// ```
     pub fn value_hash(&self, key: &K) -> Option<&ValueDigest<N>>
-        ensures { option_map (λ digest. digest.now) result ≡ get K.cmp (tree_map ⟦<H as Lawful<N, K, V>>⟧.laws (side self.now)) key.now }
+        ensures { option_map (λ digest. digest.now) result ≡ get K.cmp (tree_map H.laws (side self.now)) key.now }
     {
         self.tree().value_hash(key)
     }
 
     /// Whether the key is there with this digest of its value.
     fn has_digest(&self, key: &K, digest: &ValueDigest<N>) -> bool
-        ensures { IsTrue result ↔ HasDigestAt ⟦<H as Lawful<N, K, V>>⟧.laws (side self.now) key.now digest.now }
+        ensures { IsTrue result ↔ HasDigestAt H.laws (side self.now) key.now digest.now }
     {
         match self.value_hash(key) {
             Some(own) => *own == *digest,
@@ -151,7 +146,7 @@ impl<K: Key + Drop, V: Join + Drop, H: Hasher<N, K> + Hasher<N, V>, const N: usi
     /// }
     /// ```
     pub fn has_page(&self, gap: &Gap<'_, K>, digest: &PageDigest) -> bool
-        ensures { IsTrue result → HasPage ⟦<H as Lawful<N, K, V>>⟧.laws (side self.now) digest.now }
+        ensures { IsTrue result → HasPage H.laws (side self.now) digest.now }
     {
         every_tree_is_sound(self.tree());
         self.tree().has_page(gap, digest)

@@ -5,9 +5,9 @@ ghost use Rattle.merkle_replica.specs.Gossip.{AllCatchUp, StopsCatchUps};
 
 use crate::catch_up::CatchUpError;
 use crate::join::Join;
-use crate::lawful::Lawful;
 use crate::replica::Replica;
-use merkle_digest::{Hasher, Key};
+use crate::row_hasher::RowHasher;
+use merkle_digest::Key;
 
 /// Why catch-ups of all stopped: memory was refused.
 #[derive(Clone, Copy, Debug, PartialEq, Eq)]
@@ -43,17 +43,17 @@ pub enum CatchUpAllError {
 /// # Errors
 ///
 /// [`CatchUpAllError`] where memory is refused: the catch-ups that were made until then stay.
-pub fn catch_up_all<K: Key + Drop, V: Join + Drop, H: Hasher<N, K> + Hasher<N, V>, const N: usize>(
+pub fn catch_up_all<K: Key + Drop, V: Join + Drop, H: RowHasher<N, K, V>, const N: usize>(
     hub: &mut Replica<K, V, H, N>,
     others: &mut [Replica<K, V, H, N>],
 ) -> Result<(), CatchUpAllError>
 
     // The hub caught up with each of the others, and then each of them with the hub. While digests are faithful in what is met before each
     // catch-up, all then hold the join of all maps.
-    ensures join { OnOk result (AllCatchUp ⟦<H as Lawful<N, K, V>>⟧.laws hub.old others.old hub.new others.new) }
+    ensures join { OnOk result (AllCatchUp H.laws hub.old others.old hub.new others.new) }
 
     // Stopped, the first of these catch-ups were made, and then stands what the fault says.
-    ensures stopped { IfErr result (StopsCatchUps ⟦<H as Lawful<N, K, V>>⟧.laws hub.old others.old hub.new others.new) }
+    ensures stopped { IfErr result (StopsCatchUps H.laws hub.old others.old hub.new others.new) }
     ensures len { length others.new ≡ length others.old }
 {
     hub.rows_ascend();

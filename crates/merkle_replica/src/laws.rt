@@ -11,9 +11,9 @@ ghost use Rattle.merkle_replica.specs.LieWithin.{OutlinesLieWithin, SortedOutGap
 ghost use Rattle.merkle_replica.specs.PullSteps.{AnswersAreThoseOfAPull, PullsHaveOneAnswer, PullsLeaveOneMap, StepsAreAPull};
 
 use crate::join::Join;
-use crate::lawful::Lawful;
 use crate::replica::Replica;
-use merkle_digest::{Hasher, Key, KeyBytes, KeyBytesExact};
+use crate::row_hasher::RowHasher;
+use merkle_digest::{Key, KeyBytes, KeyBytesExact};
 use merkle_search_tree::laws::{
     a_map_has_one_tree, a_tree_in_memory_is_small, equal_keys_have_equal_bytes,
     exact_keys_make_pages_faithful, outlines_lead_down, page_ranges_of_a_map,
@@ -25,20 +25,20 @@ use merkle_search_tree::laws::{
 pub fn no_collision_is_enough<
     K: Ord + KeyBytesExact,
     V: Join,
-    H: Hasher<N, K> + Hasher<N, V>,
+    H: RowHasher<N, K, V>,
     const N: usize,
 >()
     // Two sides without collision have faithful digests.
-    ensures faithful { CollisionFreeIsFaithful ⟦<H as Lawful<N, K, V>>⟧.laws N }
+    ensures faithful { CollisionFreeIsFaithful H.laws N }
 
     // So have all that pulls by turns meet.
-    ensures all_faithful { CollisionFreeTurnsAreFaithful ⟦<H as Lawful<N, K, V>>⟧.laws N }
+    ensures all_faithful { CollisionFreeTurnsAreFaithful H.laws N }
 
     // Coverage: where no streams collide and the peer's keys span the local ones, the ranges to ask the peer for miss no key.
-    ensures covers { CollisionFreePullsCover ⟦<H as Lawful<N, K, V>>⟧.laws N }
+    ensures covers { CollisionFreePullsCover H.laws N }
 
     // Convergence: four pulls by turns or more, without collision in the sides met, leave both with the join of their maps.
-    ensures converges { CollisionFreeTurnsConverge ⟦<H as Lawful<N, K, V>>⟧.laws N }
+    ensures converges { CollisionFreeTurnsConverge H.laws N }
 {
     exact_keys_make_pages_faithful::<K, H, N>();
     page_ranges_of_a_map::<K, H, N>();
@@ -46,13 +46,10 @@ pub fn no_collision_is_enough<
 
 /// The map of a replica in memory is small: its keys have fewer than 2^64 bytes, the digests of its values `N` bytes, and each page of a
 /// tree of the map has fewer than 2^64 nodes. It looks at the bytes of each key.
-pub fn a_replica_in_memory_is_small<
-    K: Key,
-    V: Join,
-    H: Hasher<N, K> + Hasher<N, V>,
-    const N: usize,
->(replica: &Replica<K, V, H, N>)
-    ensures { HasSmallMap ⟦<H as Lawful<N, K, V>>⟧.laws N (side replica.now) }
+pub fn a_replica_in_memory_is_small<K: Key, V: Join, H: RowHasher<N, K, V>, const N: usize>(
+    replica: &Replica<K, V, H, N>,
+)
+    ensures { HasSmallMap H.laws N (side replica.now) }
 {
     equal_keys_have_equal_bytes::<K>();
     a_tree_in_memory_is_small(replica.tree());
@@ -62,16 +59,11 @@ pub fn a_replica_in_memory_is_small<
 /// to equal keys and equal values, as it is where it was turned to bytes and read again. So coverage and convergence hold of such steps as
 /// of pulls, under any hashers, level bases and page formats. Nothing has to be known of the messages but that: where what came is what was
 /// sent, the lemmas `same_entries-own`, `same_spans-own` and `equal_rows-own` (of `merkle_diff` and `key_order`) say so.
-pub fn steps_are_a_pull<
-    K: Ord + KeyBytes,
-    V: Join,
-    H: Hasher<N, K> + Hasher<N, V>,
-    const N: usize,
->()
+pub fn steps_are_a_pull<K: Ord + KeyBytes, V: Join, H: RowHasher<N, K, V>, const N: usize>()
     // Ranges that answer the list of the peer's tree, up to equal keys, are those of a pull.
-    ensures answer { AnswersAreThoseOfAPull ⟦<H as Lawful<N, K, V>>⟧.laws }
+    ensures answer { AnswersAreThoseOfAPull H.laws }
 
-    ensures pull { StepsAreAPull ⟦<H as Lawful<N, K, V>>⟧.laws }
+    ensures pull { StepsAreAPull H.laws }
 {
     page_ranges_of_a_map::<K, H, N>();
 }
@@ -79,14 +71,9 @@ pub fn steps_are_a_pull<
 /// A pull has one answer, up to equal keys and equal values: of the same two sides any two answers have the same ranges, and any two pulls
 /// join as many rows and leave the same ones. So the ranges that a list of page ranges is answered with, by
 /// [`Replica::ranges_to_ask_of`](crate::Replica::ranges_to_ask_of), are those of a pull, where the list is that of the peer's tree.
-pub fn a_pull_has_one_answer<
-    K: Ord + KeyBytes,
-    V: Join,
-    H: Hasher<N, K> + Hasher<N, V>,
-    const N: usize,
->()
-    ensures ranges { PullsHaveOneAnswer ⟦<H as Lawful<N, K, V>>⟧.laws }
-    ensures pulls { PullsLeaveOneMap ⟦<H as Lawful<N, K, V>>⟧.laws }
+pub fn a_pull_has_one_answer<K: Ord + KeyBytes, V: Join, H: RowHasher<N, K, V>, const N: usize>()
+    ensures ranges { PullsHaveOneAnswer H.laws }
+    ensures pulls { PullsLeaveOneMap H.laws }
 {
     a_map_has_one_tree::<K, H, N>();
 }
@@ -95,15 +82,10 @@ pub fn a_pull_has_one_answer<
 /// by round, the outlines that the peer has over the gaps that were left, and the peer's rows at the keys that they left, each once, were
 /// joined; each message read on the other side as what was sent, up to equal keys and equal values. The rounds are few, and while digests
 /// are faithful the rows are then the join of both sides' rows. It holds of any two hashers, level bases and page formats.
-pub fn steps_are_a_catch_up<
-    K: Ord + KeyBytes,
-    V: Join,
-    H: Hasher<N, K> + Hasher<N, V>,
-    const N: usize,
->()
-    ensures catch_up { StepsAreACatchUp ⟦<H as Lawful<N, K, V>>⟧.laws }
-    ensures few { RoundsAreFew ⟦<H as Lawful<N, K, V>>⟧.laws }
-    ensures joins { CatchUpsJoin ⟦<H as Lawful<N, K, V>>⟧.laws }
+pub fn steps_are_a_catch_up<K: Ord + KeyBytes, V: Join, H: RowHasher<N, K, V>, const N: usize>()
+    ensures catch_up { StepsAreACatchUp H.laws }
+    ensures few { RoundsAreFew H.laws }
+    ensures joins { CatchUpsJoin H.laws }
 {
     outlines_lead_down::<K, H, N>();
 }
@@ -112,15 +94,10 @@ pub fn steps_are_a_catch_up<
 /// catch-up: the whole tree lies within the gap that has all keys, outlines over ascending gaps that pages of the tree fill lie within
 /// these, and items that lie within any gaps leave ascending gaps when they are sorted out. That pages fill the gaps of outlines says
 /// [`outlines_lead_down`](merkle_search_tree::laws::outlines_lead_down).
-pub fn outlines_lie_within<
-    K: Ord + KeyBytes,
-    V: Join,
-    H: Hasher<N, K> + Hasher<N, V>,
-    const N: usize,
->()
+pub fn outlines_lie_within<K: Ord + KeyBytes, V: Join, H: RowHasher<N, K, V>, const N: usize>()
     ensures whole { WholeTreesLieWithin K.cmp K.bytes_of }
     ensures outlines { OutlinesLieWithin K.cmp K.bytes_of }
-    ensures left { SortedOutGapsAscend ⟦<H as Lawful<N, K, V>>⟧.laws }
+    ensures left { SortedOutGapsAscend H.laws }
 {
     outlines_lead_down::<K, H, N>();
 }
@@ -129,13 +106,8 @@ pub fn outlines_lie_within<
 /// join of the rows of those whose news came to it, by a chain of catch-ups, while digests are faithful in what is met before each. So
 /// all hold the join of all maps as soon as the news of each has come to each: through a hub, round a ring and back, or in any other way. It
 /// holds of any hashers, level bases and page formats.
-pub fn gossip_joins_what_came<
-    K: Ord + KeyBytes,
-    V: Join,
-    H: Hasher<N, K> + Hasher<N, V>,
-    const N: usize,
->()
-    ensures joins { GossipJoins ⟦<H as Lawful<N, K, V>>⟧.laws }
+pub fn gossip_joins_what_came<K: Ord + KeyBytes, V: Join, H: RowHasher<N, K, V>, const N: usize>()
+    ensures joins { GossipJoins H.laws }
 
     // The order in which maps are joined doesn't matter, nor how often each is.
     ensures same { OrderIsIndifferent K.cmp V.eq V.join_of }

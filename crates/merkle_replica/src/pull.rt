@@ -10,10 +10,10 @@ ghost use Rattle.merkle_replica.specs.Answers.{spans_of, MayAsk, HasPulled, Stop
 ghost use Rattle.merkle_replica.specs.Steps.{MayAskOf};
 
 use crate::join::Join;
-use crate::lawful::Lawful;
 use crate::replica::Replica;
+use crate::row_hasher::RowHasher;
 use merkle_diff::{DiffRange, PageRangeSnapshot, diff};
-use merkle_digest::{Hasher, Key, SameClone};
+use merkle_digest::{Key, SameClone};
 use merkle_search_tree::laws::{every_tree_is_sound, page_ranges_of_a_map};
 use std::alloc::{AllocError, Global};
 
@@ -40,12 +40,7 @@ pub enum PullError<K> {
     },
 }
 
-impl<K: Key + Drop, V: Join + Drop, H: Hasher<N, K> + Hasher<N, V>, const N: usize> Replica<
-    K,
-    V,
-    H,
-    N,
-> {
+impl<K: Key + Drop, V: Join + Drop, H: RowHasher<N, K, V>, const N: usize> Replica<K, V, H, N> {
     /// The ranges of keys that a pull from the peer asks for: ascending, each with its first and its last key, in which the two trees
     /// differ. It hashes the pages of both trees that lack a digest, walks over the pages of both once, and copies the bounds of the
     /// ranges.
@@ -61,7 +56,7 @@ impl<K: Key + Drop, V: Join + Drop, H: Hasher<N, K> + Hasher<N, V>, const N: usi
         &mut self,
         peer: &mut Replica<K, V, H, N>,
     ) -> Result<Vec<(K, K)>, AllocError>
-        ensures answer { IfOk result (λ ranges. MayAsk ⟦<H as Lawful<N, K, V>>⟧.laws self.old peer.old ranges.items) }
+        ensures answer { IfOk result (λ ranges. MayAsk H.laws self.old peer.old ranges.items) }
         ensures rows { self.new.rows ≡ self.old.rows }
         ensures peer_rows { peer.new.rows ≡ peer.old.rows }
 
@@ -92,15 +87,15 @@ impl<K: Key + Drop, V: Join + Drop, H: Hasher<N, K> + Hasher<N, V>, const N: usi
     /// [`PullError`] where memory is refused, by which no row is joined, or the first ones in key order and not all.
     pub fn pull(&mut self, peer: &mut Replica<K, V, H, N>) -> Result<Pulled<K>, PullError<K>>
         // The rows are the join with the peer's rows in the ranges.
-        ensures done { IfOk result (HasPulled ⟦<H as Lawful<N, K, V>>⟧.laws self.old peer.old self.new) }
+        ensures done { IfOk result (HasPulled H.laws self.old peer.old self.new) }
 
         // Refused, it has joined no row, or the first ones.
-        ensures refused { IfErr result (StopsPulling ⟦<H as Lawful<N, K, V>>⟧.laws self.old peer.old self.new) }
+        ensures refused { IfErr result (StopsPulling H.laws self.old peer.old self.new) }
 
         // Coverage: where pages with equal digests have equal maps, and the peer's keys span the replica's, the ranges miss no key, also
         // where the pull stopped behind the first rows.
-        ensures covers { IfOk result (CoversWhileFaithful ⟦<H as Lawful<N, K, V>>⟧.laws (side self.old) (side peer.old)) }
-        ensures part_covers { IfErr result (CoverInPartWhileFaithful ⟦<H as Lawful<N, K, V>>⟧.laws (side self.old) (side peer.old)) }
+        ensures covers { IfOk result (CoversWhileFaithful H.laws (side self.old) (side peer.old)) }
+        ensures part_covers { IfErr result (CoverInPartWhileFaithful H.laws (side self.old) (side peer.old)) }
 
         ensures peer_rows { peer.new.rows ≡ peer.old.rows }
         ensures peer_tree { peer.new.tree ≡ hashed_tree K.bytes_of peer.old.tree }
@@ -139,14 +134,14 @@ pub(crate) struct Stopped {
 }
 
 /// The ranges that `local` may ask of `peer`, where both are hashed, with bounds of their own.
-fn ask<K: Key + Drop, V: Join + Drop, H: Hasher<N, K> + Hasher<N, V>, const N: usize>(
+fn ask<K: Key + Drop, V: Join + Drop, H: RowHasher<N, K, V>, const N: usize>(
     alloc: Global,
     local: &Replica<K, V, H, N>,
     peer: &Replica<K, V, H, N>,
 ) -> Result<Vec<(K, K)>, AllocError>
     requires local_hashed { IsSome local.now.tree.root_hash }
     requires peer_hashed { IsSome peer.now.tree.root_hash }
-    ensures { IfOk result (λ ranges. MayAsk ⟦<H as Lawful<N, K, V>>⟧.laws local.now peer.now ranges.items) }
+    ensures { IfOk result (λ ranges. MayAsk H.laws local.now peer.now ranges.items) }
 {
     every_tree_is_sound(local.tree());
     every_tree_is_sound(peer.tree());
@@ -163,13 +158,13 @@ fn ask<K: Key + Drop, V: Join + Drop, H: Hasher<N, K> + Hasher<N, V>, const N: u
 }
 
 /// The ranges that `local`, which is hashed, may ask of a peer that sent these page ranges, with bounds of their own.
-pub(crate) fn ask_of<K: Key + Drop, V: Join + Drop, H: Hasher<N, K> + Hasher<N, V>, const N: usize>(
+pub(crate) fn ask_of<K: Key + Drop, V: Join + Drop, H: RowHasher<N, K, V>, const N: usize>(
     alloc: Global,
     local: &Replica<K, V, H, N>,
     theirs: &PageRangeSnapshot<K>,
 ) -> Result<Vec<(K, K)>, AllocError>
     requires hashed { IsSome local.now.tree.root_hash }
-    ensures { IfOk result (λ ranges. MayAskOf ⟦<H as Lawful<N, K, V>>⟧.laws local.now theirs.now ranges.items) }
+    ensures { IfOk result (λ ranges. MayAskOf H.laws local.now theirs.now ranges.items) }
 {
     every_tree_is_sound(local.tree());
     let ours = match local.tree().page_range_iter()? {

@@ -11,6 +11,7 @@ ghost use Rattle.merkle_replica.specs.Puts.{PutDropsFew};
 use crate::join::Join;
 use crate::merge::{join_all, join_owned};
 use crate::pull::Stopped;
+use crate::row_hasher::RowHasher;
 use crate::value_hasher::ValueHasher;
 use merkle_digest::{Hasher, Key, RootHash};
 use merkle_search_tree::builder::Builder;
@@ -31,14 +32,14 @@ use std::marker::Model;
 ///
 /// A contract sees the rows, and the tree as its hasher, its level base, its page format, its root page with all caches, and its cached
 /// root hash. The replica keeps the allocator that it was made with.
-pub struct Replica<K: Key, V: Join, H: Hasher<N, K> + ValueHasher<N, V>, const N: usize> {
+pub struct Replica<K: Key, V: Eq, H: Hasher<N, K> + ValueHasher<N, V>, const N: usize> {
     pub(crate) alloc: Global,
     rows: Vec<(K, V)>,
     tree: MerkleSearchTree<K, V, H, N>,
 }
 
 // Written out, so that a caller doesn't prove again how each part is dropped.
-impl<K: Key + Drop, V: Join + Drop, H: Hasher<N, K> + ValueHasher<N, V> + Drop, const N: usize> Drop
+impl<K: Key + Drop, V: Eq + Drop, H: Hasher<N, K> + ValueHasher<N, V> + Drop, const N: usize> Drop
     for Replica<K, V, H, N> {
     fn drop(self) {
         let Replica {
@@ -49,7 +50,7 @@ impl<K: Key + Drop, V: Join + Drop, H: Hasher<N, K> + ValueHasher<N, V> + Drop, 
     }
 }
 
-impl<K: Key, V: Join, H: Hasher<N, K> + ValueHasher<N, V>, const N: usize> Model
+impl<K: Key, V: Eq, H: Hasher<N, K> + ValueHasher<N, V>, const N: usize> Model
     for Replica<K, V, H, N> {
     ghost use Rattle.merkle_replica.specs.Contents.{Contents, contents_code, IsKept};
 
@@ -62,7 +63,7 @@ impl<K: Key, V: Join, H: Hasher<N, K> + ValueHasher<N, V>, const N: usize> Model
     ghost invariant = { λ r. IsKept K.cmp H.value_digest (record { rows = r.rows.items; tree = r.tree }) };
 }
 
-impl<K: Key, V: Join, H: Hasher<N, K> + Hasher<N, V>, const N: usize> Replica<K, V, H, N> {
+impl<K: Key, V: Eq, H: Hasher<N, K> + Hasher<N, V>, const N: usize> Replica<K, V, H, N> {
     /// A replica without rows, whose tree has the builder's hasher, level base and page format. It takes no memory.
     pub fn new(alloc: Global, builder: Builder<H>) -> Self
         ensures { IsEmpty builder.hasher builder.base builder.format result }
@@ -105,7 +106,7 @@ impl<K: Key, V: Join, H: Hasher<N, K> + Hasher<N, V>, const N: usize> Replica<K,
     }
 }
 
-impl<K: Key, V: Join, H: Hasher<N, K> + ValueHasher<N, V>, const N: usize> Replica<K, V, H, N> {
+impl<K: Key, V: Eq, H: Hasher<N, K> + ValueHasher<N, V>, const N: usize> Replica<K, V, H, N> {
     ghost use Rattle.std.specs.Prelude.{◌≡◌};
     ghost use Rattle.merkle_tree_theory.specs.Stream.{page_digest};
     ghost use Rattle.merkle_tree_theory.specs.Hashed.{hashed_tree};
@@ -129,7 +130,7 @@ impl<K: Key, V: Join, H: Hasher<N, K> + ValueHasher<N, V>, const N: usize> Repli
     /// a.root_hash() == b.root_hash()
     /// ```
     pub fn root_hash(&mut self) -> &RootHash
-        ensures* hashed { sem 𝓛 (ends_hashed K.row V.row H.row N K.Ord.own K.PartialEq K.PartialOrd.own K.Clone K.KeyBytes.own V.Join.own
+        ensures* hashed { sem 𝓛 (ends_hashed K.row V.row H.row N K.Ord.own K.PartialEq K.PartialOrd.own K.Clone K.KeyBytes.own
             V.PartialEq H.Hasher H.ValueHasher self.entry) }
         ensures digest { result.now ≡ page_digest self.old.tree.format K.bytes_of self.old.tree.root }
     {
@@ -141,12 +142,7 @@ impl<K: Key, V: Join, H: Hasher<N, K> + ValueHasher<N, V>, const N: usize> Repli
     }
 }
 
-impl<K: Key + Drop, V: Join + Drop, H: Hasher<N, K> + Hasher<N, V>, const N: usize> Replica<
-    K,
-    V,
-    H,
-    N,
-> {
+impl<K: Key + Drop, V: Join + Drop, H: RowHasher<N, K, V>, const N: usize> Replica<K, V, H, N> {
     /// Joins a row: a new key is added, and a key that is there holds the join of both values. It finds the key's place by
     /// halving, and moves the rows behind a new one up by one: at a random place half of them. [`put_all`](Self::put_all) is for many
     /// rows. The tree then takes the value's digest, as [`MerkleSearchTree::upsert`] says.
@@ -192,12 +188,7 @@ impl<K: Key + Drop, V: Join + Drop, H: Hasher<N, K> + Hasher<N, V>, const N: usi
     }
 }
 
-impl<K: Key + Drop, V: Join + Drop, H: Hasher<N, K> + ValueHasher<N, V>, const N: usize> Replica<
-    K,
-    V,
-    H,
-    N,
-> {
+impl<K: Key + Drop, V: Join + Drop, H: RowHasher<N, K, V>, const N: usize> Replica<K, V, H, N> {
     ghost use Rattle.std.specs.Prelude.{IsOk, true, false};
     ghost use Rattle.key_order.specs.Map.{has_key, del};
     ghost use Rattle.merkle_tree_theory.specs.Remove.{HasFreeGap};
@@ -250,12 +241,7 @@ pub struct RowsRefused<K, V> {
     pub why: LoadRefused,
 }
 
-impl<K: Key + Drop, V: Join, H: Hasher<N, K> + Hasher<N, V> + Drop, const N: usize> Replica<
-    K,
-    V,
-    H,
-    N,
-> {
+impl<K: Key + Drop, V: Join, H: RowHasher<N, K, V> + Drop, const N: usize> Replica<K, V, H, N> {
     ghost use Rattle.merkle_search_tree.specs.Loading.{LoadFails, BeginsWith};
 
     /// A replica of rows that ascend strictly by key, whose tree has the builder's hasher, level base and page format. It takes the rows
@@ -294,12 +280,7 @@ impl<K: Key + Drop, V: Join, H: Hasher<N, K> + Hasher<N, V> + Drop, const N: usi
     }
 }
 
-impl<K: Key + Drop, V: Join + Drop, H: Hasher<N, K> + Hasher<N, V>, const N: usize> Replica<
-    K,
-    V,
-    H,
-    N,
-> {
+impl<K: Key + Drop, V: Join + Drop, H: RowHasher<N, K, V>, const N: usize> Replica<K, V, H, N> {
     ghost use Rattle.std.specs.List.{AllByRecursion};
     ghost use Rattle.key_order.specs.Interval.{IsApart, IsOrdered};
     ghost use Rattle.merkle_replica.specs.Answers.{spans_of, JoinsWithin, JoinsPartly};

@@ -8,13 +8,13 @@ ghost use Rattle.merkle_replica.specs.Answers.{spans_of};
 ghost use Rattle.merkle_replica.specs.Steps.{AreRanges, IsJoinRefused, MayAskOf};
 
 use crate::join::Join;
-use crate::lawful::Lawful;
 use crate::pull::ask_of;
 use crate::replica::Replica;
+use crate::row_hasher::RowHasher;
 use crate::rows_within::{RowsWithin, are_ranges};
 use key_order::is_below;
 use merkle_diff::PageRangeSnapshot;
-use merkle_digest::{Hasher, Key};
+use merkle_digest::Key;
 use std::alloc::AllocError;
 
 /// Why rows that came were not all joined.
@@ -26,12 +26,7 @@ pub enum JoinRefused<K, V> {
     Memory(usize),
 }
 
-impl<K: Key + Drop, V: Join + Drop, H: Hasher<N, K> + Hasher<N, V>, const N: usize> Replica<
-    K,
-    V,
-    H,
-    N,
-> {
+impl<K: Key + Drop, V: Join + Drop, H: RowHasher<N, K, V>, const N: usize> Replica<K, V, H, N> {
     /// The first step of a pull: the ranges of keys to ask a peer for that sent these page ranges, ascending, each with its first and
     /// its last key. Any list will do; where it is that of the peer's tree, the ranges are those of a pull.
     ///
@@ -50,7 +45,7 @@ impl<K: Key + Drop, V: Join + Drop, H: Hasher<N, K> + Hasher<N, V>, const N: usi
         &mut self,
         theirs: &PageRangeSnapshot<K>,
     ) -> Result<Vec<(K, K)>, AllocError>
-        ensures answer { IfOk result (λ ranges. MayAskOf ⟦<H as Lawful<N, K, V>>⟧.laws self.old theirs.now ranges.items) }
+        ensures answer { IfOk result (λ ranges. MayAskOf H.laws self.old theirs.now ranges.items) }
         ensures rows { self.new.rows ≡ self.old.rows }
 
         // The tree is hashed, whatever it answers.

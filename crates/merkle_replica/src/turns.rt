@@ -4,10 +4,10 @@ ghost use Rattle.merkle_tree_theory.specs.State.{SameSettings};
 ghost use Rattle.merkle_replica.specs.ByTurns.{IsTurn, IsTurnRefused, HavePulledByTurns, StopInTurns};
 
 use crate::join::Join;
-use crate::lawful::Lawful;
 use crate::pull::{PullError, Pulled};
 use crate::replica::Replica;
-use merkle_digest::{Hasher, Key};
+use crate::row_hasher::RowHasher;
+use merkle_digest::Key;
 use merkle_search_tree::laws::page_ranges_of_a_map;
 use std::alloc::Global;
 
@@ -21,13 +21,13 @@ pub struct TurnsError<K> {
 }
 
 /// One turn: a pull by `a`, or one by `b`.
-fn turn<K: Key + Drop, V: Join + Drop, H: Hasher<N, K> + Hasher<N, V>, const N: usize>(
+fn turn<K: Key + Drop, V: Join + Drop, H: RowHasher<N, K, V>, const N: usize>(
     a: &mut Replica<K, V, H, N>,
     b: &mut Replica<K, V, H, N>,
     a_pulls: bool,
 ) -> Result<Pulled<K>, PullError<K>>
-    ensures done { IfOk result (IsTurn ⟦<H as Lawful<N, K, V>>⟧.laws a_pulls a.old b.old a.new b.new) }
-    ensures refused { IfErr result (IsTurnRefused ⟦<H as Lawful<N, K, V>>⟧.laws a_pulls a.old b.old a.new b.new) }
+    ensures done { IfOk result (IsTurn H.laws a_pulls a.old b.old a.new b.new) }
+    ensures refused { IfErr result (IsTurnRefused H.laws a_pulls a.old b.old a.new b.new) }
     ensures a_settings { SameSettings a.old.tree a.new.tree }
     ensures b_settings { SameSettings b.old.tree b.new.tree }
 {
@@ -54,7 +54,7 @@ fn turn<K: Key + Drop, V: Join + Drop, H: Hasher<N, K> + Hasher<N, V>, const N: 
 ///
 /// [`TurnsError`] where memory is refused: the pulls that were made, and what came in place of the next one. Where the list of answers
 /// is refused, no pull is made, and the fault is [`PullError::Memory`].
-pub fn pull_by_turns<K: Key + Drop, V: Join + Drop, H: Hasher<N, K> + Hasher<N, V>, const N: usize>(
+pub fn pull_by_turns<K: Key + Drop, V: Join + Drop, H: RowHasher<N, K, V>, const N: usize>(
     alloc: Global,
     a: &mut Replica<K, V, H, N>,
     b: &mut Replica<K, V, H, N>,
@@ -64,10 +64,10 @@ pub fn pull_by_turns<K: Key + Drop, V: Join + Drop, H: Hasher<N, K> + Hasher<N, 
 
     // The pulls by turns were made, and, convergence: where digests are faithful in the sides that were met, four turns or more leave
     // both with the join of their maps, whatever their hashers, level bases and page formats.
-    ensures turns { IfOk result (HavePulledByTurns ⟦<H as Lawful<N, K, V>>⟧.laws a.old b.old a.new b.new n) }
+    ensures turns { IfOk result (HavePulledByTurns H.laws a.old b.old a.new b.new n) }
 
     // Stopped, it has made the pulls of `finished`, and then stands what the fault says.
-    ensures stopped { IfErr result (StopInTurns ⟦<H as Lawful<N, K, V>>⟧.laws a.old b.old a.new b.new) }
+    ensures stopped { IfErr result (StopInTurns H.laws a.old b.old a.new b.new) }
     ensures fewer { IfErr result (λ error. length error.finished.items < n) }
 
     ensures a_settings { SameSettings a.old.tree a.new.tree }

@@ -15,8 +15,8 @@ use crate::rows_at::tell_values;
 use crate::rows_in::tell_rows;
 use crate::settings::agree;
 use merkle_bytes::{Decode, Encode, ReadError, encode_count};
-use merkle_digest::{Hasher, Key, PageDigest};
-use merkle_replica::{Join, Lawful, Replica};
+use merkle_digest::{Key, PageDigest};
+use merkle_replica::{Join, Replica, RowHasher};
 use merkle_search_tree::OutlineItem;
 use std::alloc::{AllocError, AllocFailed, Global};
 use std::fmt;
@@ -92,17 +92,16 @@ impl fmt::Display for AnswerError {
 /// # Errors
 ///
 /// [`AnswerError`]
-pub fn answer<
-    K: Key + Decode,
-    V: Join + Encode + Drop,
-    H: Hasher<N, K> + Hasher<N, V>,
-    const N: usize,
->(alloc: Global, replica: &mut Replica<K, V, H, N>, message: &[u8]) -> Result<Vec<u8>, AnswerError>
+pub fn answer<K: Key + Decode, V: Join + Encode + Drop, H: RowHasher<N, K, V>, const N: usize>(
+    alloc: Global,
+    replica: &mut Replica<K, V, H, N>,
+    message: &[u8],
+) -> Result<Vec<u8>, AnswerError>
     // The message asks, and the reply is that of the rows and the tree.
-    ensures answered { IfOk result (IsAnsweredBy ⟦<H as Lawful<N, K, V>>⟧.laws N K.encoding V.encoding replica.old replica.new message.now) }
+    ensures answered { IfOk result (IsAnsweredBy H.laws N K.encoding V.encoding replica.old replica.new message.now) }
     ensures within { IfOk result (IsAnsweredWithin K.encoding V.encoding 67108864 message.now) }
     ensures malformed { IfErr result (λ error. IsUnread error → AsksNothing K.encoding K.is_value message.now) }
-    ensures other_settings { IfErr result (RefusesOthers ⟦<H as Lawful<N, K, V>>⟧.laws N K.encoding replica.new.tree message.now) }
+    ensures other_settings { IfErr result (RefusesOthers H.laws N K.encoding replica.new.tree message.now) }
     ensures rows { replica.new.rows ≡ replica.old.rows }
     ensures settings { SameSettings replica.old.tree replica.new.tree }
 {
@@ -118,7 +117,7 @@ pub fn answer<
 pub fn answer_within<
     K: Key + Decode,
     V: Join + Encode + Drop,
-    H: Hasher<N, K> + Hasher<N, V>,
+    H: RowHasher<N, K, V>,
     const N: usize,
 >(
     alloc: Global,
@@ -126,10 +125,10 @@ pub fn answer_within<
     message: &[u8],
     most_bytes: usize,
 ) -> Result<Vec<u8>, AnswerError>
-    ensures answered { IfOk result (IsAnsweredBy ⟦<H as Lawful<N, K, V>>⟧.laws N K.encoding V.encoding replica.old replica.new message.now) }
+    ensures answered { IfOk result (IsAnsweredBy H.laws N K.encoding V.encoding replica.old replica.new message.now) }
     ensures within { IfOk result (IsAnsweredWithin K.encoding V.encoding most_bytes message.now) }
     ensures malformed { IfErr result (λ error. IsUnread error → AsksNothing K.encoding K.is_value message.now) }
-    ensures other_settings { IfErr result (RefusesOthers ⟦<H as Lawful<N, K, V>>⟧.laws N K.encoding replica.new.tree message.now) }
+    ensures other_settings { IfErr result (RefusesOthers H.laws N K.encoding replica.new.tree message.now) }
     ensures rows { replica.new.rows ≡ replica.old.rows }
     ensures settings { SameSettings replica.old.tree replica.new.tree }
 {
@@ -139,22 +138,17 @@ pub fn answer_within<
 }
 
 /// The reply to a question, where the tree is hashed.
-fn reply_to<
-    K: Key + Decode,
-    V: Join + Encode + Drop,
-    H: Hasher<N, K> + Hasher<N, V>,
-    const N: usize,
->(
+fn reply_to<K: Key + Decode, V: Join + Encode + Drop, H: RowHasher<N, K, V>, const N: usize>(
     alloc: Global,
     replica: &Replica<K, V, H, N>,
     question: &Question<K>,
     most_bytes: usize,
 ) -> Result<Vec<u8>, AnswerError>
     requires hashed { IsSome replica.now.tree.root_hash }
-    ensures reply { IfOk result (Replies ⟦<H as Lawful<N, K, V>>⟧.laws N K.encoding V.encoding replica.now question.now) }
+    ensures reply { IfOk result (Replies H.laws N K.encoding V.encoding replica.now question.now) }
     ensures within { IfOk result (λ reply. EndsWithin K.encoding V.encoding most_bytes question.now reply.items) }
     ensures read { IfErr result (λ error. ¬ IsUnread error) }
-    ensures others { IfErr result (RefusesQuestionOfOthers ⟦<H as Lawful<N, K, V>>⟧.laws N replica.now.tree question.now) }
+    ensures others { IfErr result (RefusesQuestionOfOthers H.laws N replica.now.tree question.now) }
 {
     match question {
         Question::Root(settings) => {
@@ -193,7 +187,7 @@ fn reply_to<
 }
 
 /// The number of rows, and the digest of the root page, or none.
-fn root_reply<K: Key + Encode, V: Join + Encode, H: Hasher<N, K> + Hasher<N, V>, const N: usize>(
+fn root_reply<K: Key + Encode, V: Join + Encode, H: RowHasher<N, K, V>, const N: usize>(
     alloc: Global,
     replica: &Replica<K, V, H, N>,
 ) -> Result<Vec<u8>, AllocError>
@@ -207,7 +201,7 @@ fn root_reply<K: Key + Encode, V: Join + Encode, H: Hasher<N, K> + Hasher<N, V>,
 }
 
 /// The digest of the root page, where there is a row.
-fn root_digest<K: Key, V: Join, H: Hasher<N, K> + Hasher<N, V>, const N: usize>(
+fn root_digest<K: Key, V: Join, H: RowHasher<N, K, V>, const N: usize>(
     replica: &Replica<K, V, H, N>,
 ) -> Option<&PageDigest>
     requires hashed { IsSome replica.now.tree.root_hash }

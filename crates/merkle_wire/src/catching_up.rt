@@ -27,7 +27,7 @@ use crate::within::rows_ascend;
 use crate::work::Work;
 use merkle_bytes::{Decode, Reader};
 use merkle_digest::{Hasher, Key, PageDigest};
-use merkle_replica::{Join, Lawful, Replica};
+use merkle_replica::{Join, Replica, RowHasher};
 use merkle_search_tree::Gap;
 use std::alloc::{AllocError, Global};
 use std::cmp::Ordering;
@@ -99,7 +99,7 @@ impl<K: Key + Decode, V: Join + Decode> CatchingUp<K, V> {
     /// # Errors
     ///
     /// Want of memory.
-    pub fn begin<H: Hasher<N, K> + Hasher<N, V>, const N: usize>(
+    pub fn begin<H: RowHasher<N, K, V>, const N: usize>(
         alloc: Global,
         replica: &Replica<K, V, H, N>,
     ) -> Result<(Self, Vec<u8>), AllocError>
@@ -135,12 +135,12 @@ impl<K: Key + Decode, V: Join + Decode> CatchingUp<K, V> {
     /// # Errors
     ///
     /// [`SessionError`]
-    pub fn take<H: Hasher<N, K> + Hasher<N, V>, const N: usize>(
+    pub fn take<H: RowHasher<N, K, V>, const N: usize>(
         self,
         replica: &mut Replica<K, V, H, N>,
         reply: &[u8],
     ) -> Result<Next<K, V>, SessionError>
-        ensures next { IfOk result (Takes ⟦<H as Lawful<N, K, V>>⟧.laws N K.encoding V.encoding replica.old self reply.now) }
+        ensures next { IfOk result (Takes H.laws N K.encoding V.encoding replica.old self reply.now) }
         ensures few { IfOk result AsksFew }
 
         // What is added to the rows that were found lies in the gaps, or at the keys, that were asked for.
@@ -148,7 +148,7 @@ impl<K: Key + Decode, V: Join + Decode> CatchingUp<K, V> {
 
         // A reply to what was asked is taken, but for want of memory, or where the catch-up doesn't go on behind it: where outlines are to be asked
         // for after 256 rounds of them, or two of the rows that were found have equal keys.
-        ensures ended { IfErr result (IsStopped ⟦<H as Lawful<N, K, V>>⟧.laws N K.encoding V.encoding K.is_value V.is_value
+        ensures ended { IfErr result (IsStopped H.laws N K.encoding V.encoding K.is_value V.is_value
             (side replica.old) self reply.now) }
 
         ensures rows { replica.new.rows ≡ replica.old.rows }
@@ -170,14 +170,14 @@ impl<K: Key + Decode, V: Join + Decode> CatchingUp<K, V> {
 }
 
 /// Takes a reply to a question, and answers what of it is to be asked again.
-fn take_reply<K: Key + Decode, V: Join + Decode, H: Hasher<N, K> + Hasher<N, V>, const N: usize>(
+fn take_reply<K: Key + Decode, V: Join + Decode, H: RowHasher<N, K, V>, const N: usize>(
     alloc: Global,
     replica: &Replica<K, V, H, N>,
     asked: Question<K>,
     reply: &[u8],
     work: &mut Work<K, V>,
 ) -> Result<Option<Question<K>>, SessionError>
-    ensures taken { IfOk result (HasTaken ⟦<H as Lawful<N, K, V>>⟧.laws N K.encoding V.encoding (side replica.now) asked
+    ensures taken { IfOk result (HasTaken H.laws N K.encoding V.encoding (side replica.now) asked
         reply.now work.old work.new) }
     ensures refused { IfErr result (RefusesReply K.cmp K.is_value V.is_value K.encoding V.encoding N asked reply.now) }
 {
@@ -218,13 +218,13 @@ fn take_reply<K: Key + Decode, V: Join + Decode, H: Hasher<N, K> + Hasher<N, V>,
 }
 
 /// Takes the number of the peer's rows and the digest of its root page.
-fn take_root<K: Key + Decode, V: Join + Decode, H: Hasher<N, K> + Hasher<N, V>, const N: usize>(
+fn take_root<K: Key + Decode, V: Join + Decode, H: RowHasher<N, K, V>, const N: usize>(
     alloc: Global,
     replica: &Replica<K, V, H, N>,
     reply: &[u8],
     work: &mut Work<K, V>,
 ) -> Result<(), SessionError>
-    ensures taken { OnOk result (TakesRoot ⟦<H as Lawful<N, K, V>>⟧.laws replica.now reply.now work.old work.new) }
+    ensures taken { OnOk result (TakesRoot H.laws replica.now reply.now work.old work.new) }
     ensures refused { IfErr result (IsRefusedFor (SaysNot root_kind SaysRoot reply.now)) }
 {
     let (rows, digest) = decode_root(alloc, reply)?;

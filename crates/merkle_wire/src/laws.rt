@@ -4,9 +4,9 @@ ghost use Rattle.merkle_wire.specs.Sessions.{BroughtRowsCatchUp, BroughtRowsJoin
 ghost use Rattle.merkle_wire.specs.Steady.{AnswersAreTaken, SessionsEnd};
 
 use merkle_bytes::Decode;
-use merkle_digest::{Hasher, Key, KeyBytesExact};
+use merkle_digest::{Key, KeyBytesExact};
 use merkle_replica::laws::no_collision_is_enough;
-use merkle_replica::{Join, Lawful};
+use merkle_replica::{Join, RowHasher};
 use merkle_search_tree::laws::a_map_has_one_tree;
 
 /// A session of messages is a catch-up, whatever carries the messages: where the first of them asks for the root, each is answered as
@@ -17,12 +17,12 @@ use merkle_search_tree::laws::a_map_has_one_tree;
 pub fn a_session_is_a_catch_up<
     K: Key + Decode,
     V: Join + Decode,
-    H: Hasher<N, K> + Hasher<N, V>,
+    H: RowHasher<N, K, V>,
     const N: usize,
 >()
-    ensures brings { SessionsBring ⟦<H as Lawful<N, K, V>>⟧.laws N K.encoding V.encoding }
-    ensures catch_up { BroughtRowsCatchUp ⟦<H as Lawful<N, K, V>>⟧.laws }
-    ensures joins { BroughtRowsJoin ⟦<H as Lawful<N, K, V>>⟧.laws }
+    ensures brings { SessionsBring H.laws N K.encoding V.encoding }
+    ensures catch_up { BroughtRowsCatchUp H.laws }
+    ensures joins { BroughtRowsJoin H.laws }
 {
     a_map_has_one_tree::<K, H, N>();
 }
@@ -35,11 +35,11 @@ pub fn a_session_is_a_catch_up<
 pub fn an_honest_session_ends<
     K: Key + Decode,
     V: Join + Decode,
-    H: Hasher<N, K> + Hasher<N, V>,
+    H: RowHasher<N, K, V>,
     const N: usize,
 >()
-    ensures taken { AnswersAreTaken ⟦<H as Lawful<N, K, V>>⟧.laws N K.encoding V.encoding K.is_value V.is_value }
-    ensures ends { SessionsEnd ⟦<H as Lawful<N, K, V>>⟧.laws N K.encoding V.encoding }
+    ensures taken { AnswersAreTaken H.laws N K.encoding V.encoding K.is_value V.is_value }
+    ensures ends { SessionsEnd H.laws N K.encoding V.encoding }
 {
     a_map_has_one_tree::<K, H, N>();
 }
@@ -49,10 +49,10 @@ pub fn an_honest_session_ends<
 pub fn no_collision_makes_a_session_faithful<
     K: Ord + KeyBytesExact,
     V: Join,
-    H: Hasher<N, K> + Hasher<N, V>,
+    H: RowHasher<N, K, V>,
     const N: usize,
 >()
-    ensures { NoCollisionIsFaithful ⟦<H as Lawful<N, K, V>>⟧.laws N }
+    ensures { NoCollisionIsFaithful H.laws N }
 {
     no_collision_is_enough::<K, V, H, N>();
 }

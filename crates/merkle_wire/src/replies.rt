@@ -14,8 +14,8 @@ use crate::taking::{take_outline, take_part, take_value};
 use crate::wanted::Wanted;
 use crate::work::Work;
 use merkle_bytes::{Decode, Reader};
-use merkle_digest::{Hasher, Key};
-use merkle_replica::{Join, Lawful, Replica};
+use merkle_digest::Key;
+use merkle_replica::{Join, Replica, RowHasher};
 use std::alloc::Global;
 
 /// Reads the front of a reply of this kind.
@@ -51,7 +51,7 @@ fn reader_of<'a>(alloc: Global, reply: &'a [u8], kind: Kind) -> Result<Reader<'a
 pub(crate) fn take_outlines<
     K: Key + Decode,
     V: Join + Decode,
-    H: Hasher<N, K> + Hasher<N, V>,
+    H: RowHasher<N, K, V>,
     const N: usize,
 >(
     alloc: Global,
@@ -62,7 +62,7 @@ pub(crate) fn take_outlines<
     reply: &[u8],
     work: &mut Work<K, V>,
 ) -> Result<Vec<OwnedGap<K>>, SessionError>
-    ensures taken { IfOk result (TakesOutlines ⟦<H as Lawful<N, K, V>>⟧.laws N K.encoding V.encoding replica.now kind gaps
+    ensures taken { IfOk result (TakesOutlines H.laws N K.encoding V.encoding replica.now kind gaps
         reply.now work.old work.new) }
     ensures refused { IfErr result (RefusesOutlines K.cmp K.is_value V.is_value K.encoding V.encoding N with_pages kind gaps reply.now) }
 {
@@ -74,19 +74,14 @@ pub(crate) fn take_outlines<
 }
 
 /// Takes what came of the pages over the first of the gaps, as far as bytes came, and answers how many these are.
-fn take_first_outlines<
-    K: Key + Decode,
-    V: Join + Decode,
-    H: Hasher<N, K> + Hasher<N, V>,
-    const N: usize,
->(
+fn take_first_outlines<K: Key + Decode, V: Join + Decode, H: RowHasher<N, K, V>, const N: usize>(
     reader: &mut Reader<'_>,
     replica: &Replica<K, V, H, N>,
     with_pages: bool,
     gaps: &[OwnedGap<K>],
     work: &mut Work<K, V>,
 ) -> Result<usize, SessionError>
-    ensures taken { IfOk result (TakesOutlinesOf ⟦<H as Lawful<N, K, V>>⟧.laws N K.encoding V.encoding replica.now gaps.now
+    ensures taken { IfOk result (TakesOutlinesOf H.laws N K.encoding V.encoding replica.now gaps.now
         reader.old reader.new work.old work.new) }
     ensures all { IfOk result (λ count. reader.new.left.now ≢ [] → count ≡ length gaps.now) }
     ensures refused { IfErr result (RefusesOutlinesOf K.cmp K.is_value V.is_value K.encoding V.encoding N with_pages gaps.now reader.old) }
@@ -103,19 +98,14 @@ fn take_first_outlines<
 }
 
 /// Takes the values at the first of the keys, or at all of them, and answers the others.
-pub(crate) fn take_values<
-    K: Key + Decode,
-    V: Join + Decode,
-    H: Hasher<N, K> + Hasher<N, V>,
-    const N: usize,
->(
+pub(crate) fn take_values<K: Key + Decode, V: Join + Decode, H: RowHasher<N, K, V>, const N: usize>(
     alloc: Global,
     replica: &Replica<K, V, H, N>,
     keys: Vec<Wanted<K>>,
     reply: &[u8],
     work: &mut Work<K, V>,
 ) -> Result<Vec<Wanted<K>>, SessionError>
-    ensures taken { IfOk result (TakesValues ⟦<H as Lawful<N, K, V>>⟧.laws N K.encoding V.encoding replica.now keys reply.now work.old work.new) }
+    ensures taken { IfOk result (TakesValues H.laws N K.encoding V.encoding replica.now keys reply.now work.old work.new) }
     ensures refused { IfErr result (RefusesValues V.is_value V.encoding keys reply.now) }
 {
     let mut reader = reader_of(alloc, reply, Kind::RowsAt)?;
@@ -132,19 +122,14 @@ pub(crate) fn take_values<
 }
 
 /// Takes the rows in the first of the gaps, or in all of them, and answers the others, with what is left of a gap of which not all rows came.
-pub(crate) fn take_parts<
-    K: Key + Decode,
-    V: Join + Decode,
-    H: Hasher<N, K> + Hasher<N, V>,
-    const N: usize,
->(
+pub(crate) fn take_parts<K: Key + Decode, V: Join + Decode, H: RowHasher<N, K, V>, const N: usize>(
     alloc: Global,
     replica: &Replica<K, V, H, N>,
     gaps: Vec<OwnedGap<K>>,
     reply: &[u8],
     work: &mut Work<K, V>,
 ) -> Result<Vec<OwnedGap<K>>, SessionError>
-    ensures taken { IfOk result (TakesParts ⟦<H as Lawful<N, K, V>>⟧.laws N K.encoding V.encoding replica.now gaps reply.now work.old work.new) }
+    ensures taken { IfOk result (TakesParts H.laws N K.encoding V.encoding replica.now gaps reply.now work.old work.new) }
     ensures refused { IfErr result (RefusesParts K.cmp K.is_value V.is_value K.encoding V.encoding gaps reply.now) }
 {
     let mut gaps = gaps;
@@ -159,19 +144,14 @@ pub(crate) fn take_parts<
 
 /// Takes the rows in the first of the gaps, as far as bytes came, adds what is left of a gap of which not all rows came, and answers how many
 /// gaps these are.
-fn take_first_parts<
-    K: Key + Decode,
-    V: Join + Decode,
-    H: Hasher<N, K> + Hasher<N, V>,
-    const N: usize,
->(
+fn take_first_parts<K: Key + Decode, V: Join + Decode, H: RowHasher<N, K, V>, const N: usize>(
     reader: &mut Reader<'_>,
     replica: &Replica<K, V, H, N>,
     gaps: &[OwnedGap<K>],
     left: &mut Vec<OwnedGap<K>>,
     work: &mut Work<K, V>,
 ) -> Result<usize, SessionError>
-    ensures taken { IfOk result (TakesPartsOf ⟦<H as Lawful<N, K, V>>⟧.laws N K.encoding V.encoding replica.now gaps.now reader.old reader.new
+    ensures taken { IfOk result (TakesPartsOf H.laws N K.encoding V.encoding replica.now gaps.now reader.old reader.new
         left.old left.new work.old work.new) }
     ensures all { IfOk result (λ count. reader.new.left.now ≢ [] → count ≡ length gaps.now) }
     ensures refused { IfErr result (RefusesPartsOf K.cmp K.is_value V.is_value K.encoding V.encoding gaps.now reader.old) }

@@ -11,9 +11,9 @@ use crate::answering::{AnswerError, answer};
 use crate::catching_up::{CatchingUp, Next};
 use crate::session_error::SessionError;
 use merkle_bytes::Decode;
-use merkle_digest::{Hasher, Key};
+use merkle_digest::Key;
 use merkle_replica::laws::a_replica_in_memory_is_small;
-use merkle_replica::{Join, JoinRefused, Lawful, Replica};
+use merkle_replica::{Join, JoinRefused, Replica, RowHasher};
 use merkle_search_tree::laws::{a_map_has_one_tree, every_tree_is_sound};
 use std::alloc::Global;
 
@@ -36,7 +36,7 @@ pub enum MessagesError {
 pub fn catch_up_by_messages<
     K: Key + Decode,
     V: Join + Decode,
-    H: Hasher<N, K> + Hasher<N, V>,
+    H: RowHasher<N, K, V>,
     const N: usize,
 >(
     alloc: Global,
@@ -44,17 +44,17 @@ pub fn catch_up_by_messages<
     peer: &mut Replica<K, V, H, N>,
 ) -> Result<usize, MessagesError>
     // New rows of the peer are joined; while digests are faithful, all that this side lacked.
-    ensures joined { IfOk result (JoinsNewRows ⟦<H as Lawful<N, K, V>>⟧.laws replica.old peer.old replica.new) }
+    ensures joined { IfOk result (JoinsNewRows H.laws replica.old peer.old replica.new) }
 
     // So it is a catch-up then, and leaves the join of both sides' rows.
-    ensures catch_up { IfOk result (CatchesUpWhileFaithful ⟦<H as Lawful<N, K, V>>⟧.laws replica.old peer.old replica.new) }
-    ensures join { OnOk result (JoinsWhileFaithful ⟦<H as Lawful<N, K, V>>⟧.laws replica.old peer.old replica.new) }
+    ensures catch_up { IfOk result (CatchesUpWhileFaithful H.laws replica.old peer.old replica.new) }
+    ensures join { OnOk result (JoinsWhileFaithful H.laws replica.old peer.old replica.new) }
 
     // Refused, it has joined no row, or the first ones. For its settings it is refused only where the two are not set alike.
-    ensures refused { IfErr result (EndsEarly ⟦<H as Lawful<N, K, V>>⟧.laws replica.old peer.old replica.new) }
+    ensures refused { IfErr result (EndsEarly H.laws replica.old peer.old replica.new) }
 
     // Between sides that are set alike and whose rows can be told it ends early for want of memory alone.
-    ensures memory { IfErr result (LacksMemory ⟦<H as Lawful<N, K, V>>⟧.laws replica.old peer.old K.is_value V.is_value) }
+    ensures memory { IfErr result (LacksMemory H.laws replica.old peer.old K.is_value V.is_value) }
 
     ensures peer_rows { peer.new.rows ≡ peer.old.rows }
     ensures settings { SameSettings replica.old.tree replica.new.tree }
@@ -92,19 +92,19 @@ pub enum BothMessagesError {
 pub fn catch_up_both_by_messages<
     K: Key + Decode,
     V: Join + Decode,
-    H: Hasher<N, K> + Hasher<N, V>,
+    H: RowHasher<N, K, V>,
     const N: usize,
 >(
     alloc: Global,
     a: &mut Replica<K, V, H, N>,
     b: &mut Replica<K, V, H, N>,
 ) -> Result<(usize, usize), BothMessagesError>
-    ensures joined { IfOk result (HaveJoined ⟦<H as Lawful<N, K, V>>⟧.laws a.old b.old a.new b.new) }
+    ensures joined { IfOk result (HaveJoined H.laws a.old b.old a.new b.new) }
 
     // While digests are faithful before each of them, both then hold the join.
-    ensures join { OnOk result (HoldTheJoinWhileFaithful ⟦<H as Lawful<N, K, V>>⟧.laws a.old b.old a.new b.new) }
+    ensures join { OnOk result (HoldTheJoinWhileFaithful H.laws a.old b.old a.new b.new) }
 
-    ensures refused { IfErr result (AreBothRefused ⟦<H as Lawful<N, K, V>>⟧.laws a.old b.old a.new b.new) }
+    ensures refused { IfErr result (AreBothRefused H.laws a.old b.old a.new b.new) }
     ensures a_settings { SameSettings a.old.tree a.new.tree }
     ensures b_settings { SameSettings b.old.tree b.new.tree }
 {
@@ -119,19 +119,14 @@ pub fn catch_up_both_by_messages<
 }
 
 /// The rows of a peer that a replica lacks, by the messages of a session.
-fn rows_by_messages<
-    K: Key + Decode,
-    V: Join + Decode,
-    H: Hasher<N, K> + Hasher<N, V>,
-    const N: usize,
->(
+fn rows_by_messages<K: Key + Decode, V: Join + Decode, H: RowHasher<N, K, V>, const N: usize>(
     alloc: Global,
     replica: &mut Replica<K, V, H, N>,
     peer: &mut Replica<K, V, H, N>,
 ) -> Result<Vec<(K, V)>, MessagesError>
-    ensures brought { IfOk result (BringsRows ⟦<H as Lawful<N, K, V>>⟧.laws replica.old peer.old) }
-    ensures early { IfErr result (IsEarly ⟦<H as Lawful<N, K, V>>⟧.laws (side replica.old) (side peer.old)) }
-    ensures memory { IfErr result (LacksMemory ⟦<H as Lawful<N, K, V>>⟧.laws replica.old peer.old K.is_value V.is_value) }
+    ensures brought { IfOk result (BringsRows H.laws replica.old peer.old) }
+    ensures early { IfErr result (IsEarly H.laws (side replica.old) (side peer.old)) }
+    ensures memory { IfErr result (LacksMemory H.laws replica.old peer.old K.is_value V.is_value) }
     ensures rows { replica.new.rows ≡ replica.old.rows }
     ensures settings { SameSettings replica.old.tree replica.new.tree }
     ensures peer_rows { peer.new.rows ≡ peer.old.rows }
@@ -155,7 +150,7 @@ fn rows_by_messages<
 }
 
 /// One exchange of messages: the peer's reply is taken. What comes next covers what the catch-up covered, by any tree of the peer's map.
-fn exchange<K: Key + Decode, V: Join + Decode, H: Hasher<N, K> + Hasher<N, V>, const N: usize>(
+fn exchange<K: Key + Decode, V: Join + Decode, H: RowHasher<N, K, V>, const N: usize>(
     alloc: Global,
     replica: &mut Replica<K, V, H, N>,
     peer: &mut Replica<K, V, H, N>,
@@ -163,15 +158,15 @@ fn exchange<K: Key + Decode, V: Join + Decode, H: Hasher<N, K> + Hasher<N, V>, c
     message: Vec<u8>,
 ) -> Result<Next<K, V>, MessagesError>
     requires asks { message.items ≡ question_bytes K.encoding session.asked }
-    requires own { TellsOwn ⟦<H as Lawful<N, K, V>>⟧.laws N (side replica.now) session.asked }
-    requires keys { HasKeysOfSides ⟦<H as Lawful<N, K, V>>⟧.laws (side replica.now) (side peer.now) session }
-    ensures own { IfOk result (TellsOwnNext ⟦<H as Lawful<N, K, V>>⟧.laws N (side replica.old)) }
-    ensures covers { IfOk result (GoesOnCovering ⟦<H as Lawful<N, K, V>>⟧.laws N K.encoding replica.old peer.old session) }
-    ensures keys { IfOk result (KeepsKeys ⟦<H as Lawful<N, K, V>>⟧.laws N (side peer.old) (side replica.old)) }
-    ensures steady { IfOk result (StaysSteady ⟦<H as Lawful<N, K, V>>⟧.laws N (side peer.old) session) }
-    ensures less { IfOk result (GoesDown ⟦<H as Lawful<N, K, V>>⟧.laws N (side peer.old) session) }
-    ensures early { IfErr result (IsEarly ⟦<H as Lawful<N, K, V>>⟧.laws (side replica.old) (side peer.old)) }
-    ensures memory { IfErr result (EndsForMemory ⟦<H as Lawful<N, K, V>>⟧.laws N peer.old replica.old K.is_value V.is_value session) }
+    requires own { TellsOwn H.laws N (side replica.now) session.asked }
+    requires keys { HasKeysOfSides H.laws (side replica.now) (side peer.now) session }
+    ensures own { IfOk result (TellsOwnNext H.laws N (side replica.old)) }
+    ensures covers { IfOk result (GoesOnCovering H.laws N K.encoding replica.old peer.old session) }
+    ensures keys { IfOk result (KeepsKeys H.laws N (side peer.old) (side replica.old)) }
+    ensures steady { IfOk result (StaysSteady H.laws N (side peer.old) session) }
+    ensures less { IfOk result (GoesDown H.laws N (side peer.old) session) }
+    ensures early { IfErr result (IsEarly H.laws (side replica.old) (side peer.old)) }
+    ensures memory { IfErr result (EndsForMemory H.laws N peer.old replica.old K.is_value V.is_value session) }
     ensures rows { replica.new.rows ≡ replica.old.rows }
     ensures settings { SameSettings replica.old.tree replica.new.tree }
     ensures peer_rows { peer.new.rows ≡ peer.old.rows }

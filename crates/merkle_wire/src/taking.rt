@@ -17,8 +17,8 @@ use crate::wanted::Wanted;
 use crate::within::{keys_lie_in, rows_lie_in};
 use crate::work::Work;
 use merkle_bytes::{Decode, Expected, KeyRun, Reader, decode_run};
-use merkle_digest::{Hasher, Key, PageDigest};
-use merkle_replica::{Join, Lawful, Replica};
+use merkle_digest::{Key, PageDigest};
+use merkle_replica::{Join, Replica, RowHasher};
 use merkle_search_tree::Gap;
 use std::alloc::AllocError;
 
@@ -26,7 +26,7 @@ use std::alloc::AllocError;
 pub(crate) fn take_outline<
     K: Key + Decode,
     V: Join + Decode,
-    H: Hasher<N, K> + Hasher<N, V>,
+    H: RowHasher<N, K, V>,
     const N: usize,
 >(
     reader: &mut Reader<'_>,
@@ -35,7 +35,7 @@ pub(crate) fn take_outline<
     gap: &OwnedGap<K>,
     work: &mut Work<K, V>,
 ) -> Result<(), SessionError>
-    ensures taken { OnOk result (TakesOutline ⟦<H as Lawful<N, K, V>>⟧.laws N K.encoding V.encoding replica.now gap.now
+    ensures taken { OnOk result (TakesOutline H.laws N K.encoding V.encoding replica.now gap.now
         reader.old reader.new work.old work.new) }
     ensures refused { IfErr result (RefusesOutline K.cmp K.is_value V.is_value K.encoding V.encoding N with_pages gap.now reader.old) }
 {
@@ -57,14 +57,14 @@ pub(crate) fn take_outline<
 }
 
 /// Takes rows in a gap.
-fn take_rows<K: Key + Decode, V: Join + Decode, H: Hasher<N, K> + Hasher<N, V>, const N: usize>(
+fn take_rows<K: Key + Decode, V: Join + Decode, H: RowHasher<N, K, V>, const N: usize>(
     reader: &mut Reader<'_>,
     replica: &Replica<K, V, H, N>,
     gap: &OwnedGap<K>,
     run: &mut KeyRun,
     work: &mut Work<K, V>,
 ) -> Result<(), SessionError>
-    ensures taken { OnOk result (TakesRows ⟦<H as Lawful<N, K, V>>⟧.laws K.encoding V.encoding replica.now run.old gap.now
+    ensures taken { OnOk result (TakesRows H.laws K.encoding V.encoding replica.now run.old gap.now
         reader.old reader.new work.old work.new) }
     ensures refused { IfErr result (RefusesRows K.cmp K.is_value V.is_value K.encoding V.encoding run.old gap.now reader.old) }
 {
@@ -79,12 +79,12 @@ fn take_rows<K: Key + Decode, V: Join + Decode, H: Hasher<N, K> + Hasher<N, V>, 
 }
 
 /// Takes those of the rows that this side doesn't have.
-fn take_all<K: Key + Drop, V: Join + Drop, H: Hasher<N, K> + Hasher<N, V>, const N: usize>(
+fn take_all<K: Key + Drop, V: Join + Drop, H: RowHasher<N, K, V>, const N: usize>(
     replica: &Replica<K, V, H, N>,
     rows: Vec<(K, V)>,
     work: &mut Work<K, V>,
 ) -> Result<(), AllocError>
-    ensures { OnOk result (AddsRows ⟦<H as Lawful<N, K, V>>⟧.laws (side replica.now) rows.items work.old work.new) }
+    ensures { OnOk result (AddsRows H.laws (side replica.now) rows.items work.old work.new) }
 {
     'rows: for row in rows {
         let is_there = has_value(replica, &row.0, &row.1);
@@ -94,14 +94,14 @@ fn take_all<K: Key + Drop, V: Join + Drop, H: Hasher<N, K> + Hasher<N, V>, const
 }
 
 /// Takes keys in a gap, with the digests of their values.
-fn take_digests<K: Key + Decode, V: Join + Drop, H: Hasher<N, K> + Hasher<N, V>, const N: usize>(
+fn take_digests<K: Key + Decode, V: Join + Drop, H: RowHasher<N, K, V>, const N: usize>(
     reader: &mut Reader<'_>,
     replica: &Replica<K, V, H, N>,
     gap: &OwnedGap<K>,
     run: &mut KeyRun,
     work: &mut Work<K, V>,
 ) -> Result<(), SessionError>
-    ensures taken { OnOk result (TakesDigests ⟦<H as Lawful<N, K, V>>⟧.laws N K.encoding replica.now run.old gap.now
+    ensures taken { OnOk result (TakesDigests H.laws N K.encoding replica.now run.old gap.now
         reader.old reader.new work.old work.new) }
     ensures refused { IfErr result (RefusesNodes K.cmp K.is_value K.encoding N run.old gap.now reader.old) }
 {
@@ -114,13 +114,13 @@ fn take_digests<K: Key + Decode, V: Join + Drop, H: Hasher<N, K> + Hasher<N, V>,
 }
 
 /// Takes those of the keys that this side doesn't have with the digest that comes for each.
-fn take_nodes<K: Key + Drop, V: Join + Drop, H: Hasher<N, K> + Hasher<N, V>, const N: usize>(
+fn take_nodes<K: Key + Drop, V: Join + Drop, H: RowHasher<N, K, V>, const N: usize>(
     reader: &mut Reader<'_>,
     replica: &Replica<K, V, H, N>,
     keys: Vec<Wanted<K>>,
     work: &mut Work<K, V>,
 ) -> Result<(), SessionError>
-    ensures taken { OnOk result (TakesNodes ⟦<H as Lawful<N, K, V>>⟧.laws replica.now N keys.items reader.old reader.new work.old work.new) }
+    ensures taken { OnOk result (TakesNodes H.laws replica.now N keys.items reader.old reader.new work.old work.new) }
     ensures refused { IfErr result (IsRefusedFor (NoDigests N (length keys.items) reader.old.left.now)) }
 {
     'keys: for wanted in keys {
@@ -132,14 +132,14 @@ fn take_nodes<K: Key + Drop, V: Join + Drop, H: Hasher<N, K> + Hasher<N, V>, con
 }
 
 /// Takes a page that has others below it.
-fn take_page<K: Key + Decode, V: Join + Drop, H: Hasher<N, K> + Hasher<N, V>, const N: usize>(
+fn take_page<K: Key + Decode, V: Join + Drop, H: RowHasher<N, K, V>, const N: usize>(
     reader: &mut Reader<'_>,
     replica: &Replica<K, V, H, N>,
     gap: &OwnedGap<K>,
     run: &mut KeyRun,
     work: &mut Work<K, V>,
 ) -> Result<(), SessionError>
-    ensures taken { OnOk result (TakesPage ⟦<H as Lawful<N, K, V>>⟧.laws N K.encoding replica.now run.old gap.now
+    ensures taken { OnOk result (TakesPage H.laws N K.encoding replica.now run.old gap.now
         reader.old reader.new work.old work.new) }
     ensures refused { IfErr result (IsRefusedFor (NoPage K.cmp K.is_value K.encoding run.old gap.now reader.old.left.now)) }
 {
@@ -164,14 +164,14 @@ fn take_page<K: Key + Decode, V: Join + Drop, H: Hasher<N, K> + Hasher<N, V>, co
 }
 
 /// Takes the digests of the pages before the keys and behind the last of them.
-fn take_pages<K: Key + Decode, V: Join + Drop, H: Hasher<N, K> + Hasher<N, V>, const N: usize>(
+fn take_pages<K: Key + Decode, V: Join + Drop, H: RowHasher<N, K, V>, const N: usize>(
     reader: &mut Reader<'_>,
     replica: &Replica<K, V, H, N>,
     gap: &OwnedGap<K>,
     keys: &[Wanted<K>],
     work: &mut Work<K, V>,
 ) -> Result<(), SessionError>
-    ensures taken { OnOk result (TakesPages ⟦<H as Lawful<N, K, V>>⟧.laws replica.now gap.now keys.now reader.old reader.new work.old work.new) }
+    ensures taken { OnOk result (TakesPages H.laws replica.now gap.now keys.now reader.old reader.new work.old work.new) }
     ensures refused { IfErr result (IsRefusedFor (NoPageDigests (length keys.now + 1) reader.old.left.now)) }
 {
     let mut after = gap.after.as_ref();
@@ -184,14 +184,14 @@ fn take_pages<K: Key + Decode, V: Join + Drop, H: Hasher<N, K> + Hasher<N, V>, c
 }
 
 /// Adds the gap between two bounds, where the page that fills it is one that this side doesn't have.
-fn take_below<K: Key + Drop, V: Join + Drop, H: Hasher<N, K> + Hasher<N, V>, const N: usize>(
+fn take_below<K: Key + Drop, V: Join + Drop, H: RowHasher<N, K, V>, const N: usize>(
     reader: &mut Reader<'_>,
     replica: &Replica<K, V, H, N>,
     after: Option<&K>,
     before: Option<&K>,
     work: &mut Work<K, V>,
 ) -> Result<(), SessionError>
-    ensures taken { OnOk result (TakesBelow ⟦<H as Lawful<N, K, V>>⟧.laws replica.now (between after.entry before.entry)
+    ensures taken { OnOk result (TakesBelow H.laws replica.now (between after.entry before.entry)
         reader.old reader.new work.old work.new) }
     ensures refused { IfErr result (IsRefusedFor (NoPageDigest reader.old.left.now)) }
 {
@@ -208,18 +208,13 @@ fn take_below<K: Key + Drop, V: Join + Drop, H: Hasher<N, K> + Hasher<N, V>, con
 }
 
 /// Takes the value at a key that was asked for, where the peer has it and this side doesn't.
-pub(crate) fn take_value<
-    K: Key + Decode,
-    V: Join + Decode,
-    H: Hasher<N, K> + Hasher<N, V>,
-    const N: usize,
->(
+pub(crate) fn take_value<K: Key + Decode, V: Join + Decode, H: RowHasher<N, K, V>, const N: usize>(
     reader: &mut Reader<'_>,
     replica: &Replica<K, V, H, N>,
     wanted: Wanted<K>,
     work: &mut Work<K, V>,
 ) -> Result<(), SessionError>
-    ensures taken { OnOk result (TakesValue ⟦<H as Lawful<N, K, V>>⟧.laws replica.now V.encoding wanted reader.old reader.new work.old work.new) }
+    ensures taken { OnOk result (TakesValue H.laws replica.now V.encoding wanted reader.old reader.new work.old work.new) }
     ensures refused { IfErr result (IsRefusedFor (NoValue V.is_value V.encoding reader.old.left.now)) }
 {
     let Some(value) = Option::<V>::decode(reader)? else {
@@ -231,19 +226,14 @@ pub(crate) fn take_value<
 }
 
 /// Takes the rows in a gap, or the first of them, and adds the gap behind these, where there are more.
-pub(crate) fn take_part<
-    K: Key + Decode,
-    V: Join + Decode,
-    H: Hasher<N, K> + Hasher<N, V>,
-    const N: usize,
->(
+pub(crate) fn take_part<K: Key + Decode, V: Join + Decode, H: RowHasher<N, K, V>, const N: usize>(
     reader: &mut Reader<'_>,
     replica: &Replica<K, V, H, N>,
     gap: &OwnedGap<K>,
     left: &mut Vec<OwnedGap<K>>,
     work: &mut Work<K, V>,
 ) -> Result<(), SessionError>
-    ensures taken { OnOk result (TakesPart ⟦<H as Lawful<N, K, V>>⟧.laws N K.encoding V.encoding replica.now gap.now reader.old reader.new
+    ensures taken { OnOk result (TakesPart H.laws N K.encoding V.encoding replica.now gap.now reader.old reader.new
         left.old left.new work.old work.new) }
     ensures refused { IfErr result (RefusesPart K.cmp K.is_value V.is_value K.encoding V.encoding gap.now reader.old) }
 {

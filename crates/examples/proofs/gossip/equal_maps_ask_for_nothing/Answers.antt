@@ -9,7 +9,7 @@ pub returns : goal.returns
 returns g c =
     let a = c.args.local.now.tree in
     let b = c.args.peer.now.tree in
-    let alike = c.requires.alike in
+    let alike = rw g.met.H.RowHasher.laws_are at c.requires.alike in
     let one = c.a_map_has_one_tree.ensures in
     let here = rw c.tree.ensures.tree at c.every_tree_is_sound.ensures.digest in
     let there = rw c.tree-2.ensures.tree at c.every_tree_is_sound-2.ensures.digest in

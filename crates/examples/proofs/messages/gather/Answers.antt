@@ -3,14 +3,14 @@ use Rattle.std.proofs.lemmas.List.{get_or_default}
 use Rattle.key_order.specs.Map.{IsMap}
 use Rattle.merkle_replica.specs.Contents.{Contents}
 use Rattle.merkle_replica.specs.Gossip.{gathering}
-use Rattle.merkle_replica.proofs.Sides.{laws_of, same_side, rows_alone}
+use Rattle.merkle_replica.proofs.Sides.{same_side, rows_alone}
 use Rattle.examples.specs.GossipMessages.{AreMade}
 use Rattle.examples.proofs.GossipSessions.{gathers, gathering_stops, stay_more, ascend_more}
 use Rattle.examples.proofs.messages.gather.Goals as goal
 
 pub gathering-preserved : goal.gathering-preserved
 gathering-preserved g c =
-    let laws = laws_of g.K.Ord.cmp g.K.KeyBytes.bytes_of g.H.Hasher-1.digest_of g.V.PartialEq.eq g.V.Join.join_of g.H.Hasher-2.digest_of in
+    let laws = g.H.RowHasher.laws in
     let xs = c.gathering.others in
     let i = c.gathering.i in
     let d = c.index-others-i-in-gathering.result in
@@ -29,7 +29,7 @@ gathering-preserved g c =
 
 pub returns-in-Err-clause-stopped : goal.returns-in-Err-clause-stopped
 returns-in-Err-clause-stopped g c =
-    let laws = laws_of g.K.Ord.cmp g.K.KeyBytes.bytes_of g.H.Hasher-1.digest_of g.V.PartialEq.eq g.V.Join.join_of g.H.Hasher-2.digest_of in
+    let laws = g.H.RowHasher.laws in
     let xs = c.gathering.others in
     let i = c.gathering.i in
     let d = c.index-others-i-in-gathering.result in
@@ -45,6 +45,6 @@ returns-in-Err-clause-stopped g c =
 
 pub returns-clause-sessions : goal.returns-clause-sessions
 returns-clause-sessions g c =
-    let laws = laws_of g.K.Ord.cmp g.K.KeyBytes.bytes_of g.H.Hasher-1.digest_of g.V.PartialEq.eq g.V.Join.join_of g.H.Hasher-2.digest_of in
+    let laws = g.H.RowHasher.laws in
     let all : c.gathering.i ≡ length c.args.others.now = let t = c.gathering-test.false in omega arith in
     subst (λ n. AreMade laws c.args.hub.now c.args.others.now c.gathering.hub c.gathering.others (gathering n)) all c.gathering.invariant.made

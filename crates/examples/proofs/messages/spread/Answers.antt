@@ -1,13 +1,13 @@
 use Rattle.std.proofs.Common.{◌≡◌, ◌<◌, length, get_or, subst, arith}
 use Rattle.merkle_replica.specs.Gossip.{spreading}
-use Rattle.merkle_replica.proofs.Sides.{laws_of, same_side, rows_alone}
+use Rattle.merkle_replica.proofs.Sides.{same_side, rows_alone}
 use Rattle.examples.specs.GossipMessages.{AreMade}
 use Rattle.examples.proofs.GossipSessions.{spreads, spreading_stops}
 use Rattle.examples.proofs.messages.spread.Goals as goal
 
 pub spreading-preserved : goal.spreading-preserved
 spreading-preserved g c =
-    let laws = laws_of g.K.Ord.cmp g.K.KeyBytes.bytes_of g.H.Hasher-1.digest_of g.V.PartialEq.eq g.V.Join.join_of g.H.Hasher-2.digest_of in
+    let laws = g.H.RowHasher.laws in
     let xs = c.spreading.others in
     let i = c.spreading.i in
     let d = c.index-others-i.result in
@@ -21,7 +21,7 @@ spreading-preserved g c =
 
 pub returns-in-Err-clause-stopped : goal.returns-in-Err-clause-stopped
 returns-in-Err-clause-stopped g c =
-    let laws = laws_of g.K.Ord.cmp g.K.KeyBytes.bytes_of g.H.Hasher-1.digest_of g.V.PartialEq.eq g.V.Join.join_of g.H.Hasher-2.digest_of in
+    let laws = g.H.RowHasher.laws in
     let xs = c.spreading.others in
     let i = c.spreading.i in
     let d = c.index-others-i.result in
@@ -37,6 +37,6 @@ returns-in-Err-clause-stopped g c =
 
 pub returns-clause-sessions : goal.returns-clause-sessions
 returns-clause-sessions g c =
-    let laws = laws_of g.K.Ord.cmp g.K.KeyBytes.bytes_of g.H.Hasher-1.digest_of g.V.PartialEq.eq g.V.Join.join_of g.H.Hasher-2.digest_of in
+    let laws = g.H.RowHasher.laws in
     let all : c.spreading.i ≡ length c.args.others.now = let t = c.spreading-test.false in omega arith in
     subst (λ n. AreMade laws c.args.hub.now c.args.others.now c.spreading.hub c.spreading.others (spreading n)) all c.spreading.invariant

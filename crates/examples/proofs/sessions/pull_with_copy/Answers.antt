@@ -2,13 +2,12 @@ use Rattle.std.proofs.Common.{◌≡◌, subst}
 use Rattle.merkle_replica.specs.Answers.{answer_of}
 use Rattle.merkle_replica.specs.Contents.{Side, side}
 use Rattle.merkle_replica.specs.Pulls.{IsPull}
-use Rattle.merkle_replica.proofs.Sides.{laws_of}
 use Rattle.examples.proofs.sessions.pull_with_copy.Goals as goal
 
 -- the peer is the same side before both pulls
 pub returns : goal.returns
 returns g c =
-    let laws = laws_of g.K.Ord.cmp g.K.KeyBytes.bytes_of g.H.Hasher-1.digest_of g.V.PartialEq.eq g.V.Join.join_of g.H.Hasher-2.digest_of in
+    let laws = g.H.RowHasher.laws in
     let first = c.in_ok-pull.ensures in
     let second = c.in_ok-pull-2.ensures in
     let kept = first.peer_settings in

@@ -6,8 +6,8 @@ use Rattle.examples.proofs.sync.sync.Goals as goal
 
 -- two joins of the same maps are the same map
 pub returns : goal.returns
-returns g c =
-    let (met, turns, all) = c.in_ok-pull_by_turns.ensures.turns in record {
+returns g c = rw g.met.H.RowHasher.laws_are (
+    let (met, turns, all) = (rw g.met.H.RowHasher.laws_are at c.in_ok-pull_by_turns.ensures.turns) in record {
       same = record {
         answers = map answer_of c.in_ok-pull_by_turns.field-0.items;
         met = met;
@@ -23,4 +23,4 @@ returns g c =
       stopped = tt;
       a_settings = c.in_ok-pull_by_turns.ensures.a_settings;
       b_settings = c.in_ok-pull_by_turns.ensures.b_settings;
-    }
+    })

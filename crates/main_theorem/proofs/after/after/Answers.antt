@@ -28,10 +28,10 @@ updates-preserved g c =
           omega arith;
       answers = ap length c.in_ok-push.ensures.items ∙ length-append c.updates.accepted.items (c.carry_out.result ∷ []) ∙ ap (λ (n : ℕ). n + 1) kept.answers ∙ sym (length-append c.updates.yielded (u ∷ []));
       free = subst (FreeAreAccepted laws c.args.builder [] (c.updates.yielded ++ u ∷ [])) (sym c.in_ok-push.ensures.items)
-          (free_more laws c.args.builder [] c.updates.yielded u c.updates.accepted.items c.carry_out.result kept.answers kept.free (c.carry_out.ensures.free c.args.builder _ (kept.hasher, kept.base, kept.format) kept.rows));
+          (free_more laws c.args.builder [] c.updates.yielded u c.updates.accepted.items c.carry_out.result kept.answers kept.free ((rw g.met.H.RowHasher.laws_are at c.carry_out.ensures.free) c.args.builder _ (kept.hasher, kept.base, kept.format) kept.rows));
       rows = subst (λ (bs : List _). AreEqual cmp g.V.PartialEq.eq c.carry_out.new.replica.rows (rows_after cmp join (c.updates.yielded ++ u ∷ []) bs)) (sym c.in_ok-push.ensures.items)
           (subst (AreEqual cmp g.V.PartialEq.eq c.carry_out.new.replica.rows) (sym (one_more cmp join [] c.updates.yielded u c.updates.accepted.items c.carry_out.result kept.answers))
-          (c.carry_out.ensures.rows _ kept.rows));
+          ((rw g.met.H.RowHasher.laws_are at c.carry_out.ensures.rows) _ kept.rows));
       hasher = c.carry_out.ensures.settings.0 ∙ kept.hasher;
       base = c.carry_out.ensures.settings.1 ∙ kept.base;
       format = c.carry_out.ensures.settings.2 ∙ kept.format;
@@ -43,9 +43,9 @@ returns-clause-answers g c =
     c.updates.invariant.answers ∙ ap length done
 
 pub returns-clause-free : goal.returns-clause-free
-returns-clause-free g c =
+returns-clause-free g c = rw g.met.H.RowHasher.laws_are (
     let laws = laws_of g.K.Ord.cmp g.K.KeyBytes.bytes_of g.H.Hasher-1.digest_of g.V.PartialEq.eq g.V.Join.join_of g.H.Hasher-2.digest_of in
-    subst (λ (us : List _). FreeAreAccepted laws c.args.builder [] us c.updates.accepted.items) (all_done _ _ _ c.updates.invariant.left (sym c.updates.invariant.count ∙ c.in-None.ensures.steps.0)) c.updates.invariant.free
+    subst (λ (us : List _). FreeAreAccepted laws c.args.builder [] us c.updates.accepted.items) (all_done _ _ _ c.updates.invariant.left (sym c.updates.invariant.count ∙ c.in-None.ensures.steps.0)) c.updates.invariant.free)
 
 pub returns-clause-rows : goal.returns-clause-rows
 returns-clause-rows g c =
@@ -59,11 +59,11 @@ returns-clause-settings g c =
     (s.0 ∙ c.updates.invariant.hasher, s.1 ∙ c.updates.invariant.base, s.2 ∙ c.updates.invariant.format)
 
 pub returns-clause-root_hash : goal.returns-clause-root_hash
-returns-clause-root_hash g c =
+returns-clause-root_hash g c = rw g.met.H.RowHasher.laws_are (
     let b = c.args.builder in
     let d = g.H.Hasher-1.digest_of in
     let v = g.H.Hasher-2.digest_of in
     let old = c.updates.replica in
-    c.hash_last.ensures.root_hash
+    (rw g.met.H.RowHasher.laws_are at c.hash_last.ensures.root_hash)
     ∙ ap Some (root_as g.K.Ord.cmp d g.K.KeyBytes.bytes_of v b old.tree old.rows c.updates.invariant.hasher c.updates.invariant.base c.updates.invariant.format)
-    ∙ ap (λ rows. Some (page_digest b.format g.K.KeyBytes.bytes_of (defined_tree (d b.hasher) b.base (digests (v b.hasher) rows)))) (sym c.hash_last.ensures.rows)
+    ∙ ap (λ rows. Some (page_digest b.format g.K.KeyBytes.bytes_of (defined_tree (d b.hasher) b.base (digests (v b.hasher) rows)))) (sym c.hash_last.ensures.rows))

@@ -8,7 +8,7 @@ use Rattle.main_theorem.proofs.Roots.{followed, is_defined}
 use Rattle.main_theorem.proofs.after.copy_of_tree.Goals as goal
 
 pub returns : goal.returns
-returns g c s m set root h =
+returns g c = rw g.met.H.RowHasher.laws_are (λ s m set root h.
     let laws = laws_of g.K.Ord.cmp g.K.KeyBytes.bytes_of g.H.Hasher-1.digest_of g.V.PartialEq.eq g.V.Join.join_of g.H.Hasher-2.digest_of in
     let o = g.met.K.Ord.total in
     let one = c.a_map_has_one_tree.ensures in
@@ -23,4 +23,4 @@ returns g c s m set root h =
     is_defined laws o g.met.H.Hasher-2.respects_eq one.defined one.only one.digests c.equal_pages_have_equal_maps.ensures.ranges s copy rows m
     (hasher ∙ set.0, copied.base ∙ ap (λ (t : State _ _). t.base) lent ∙ set.1, copied.format ∙ ap (λ (t : State _ _). t.format) lent ∙ set.2) c.every_tree_is_sound.ensures.sound
     (subst (λ x. SameMap laws.cmp (λ d e. d ≡ e) (map_of copy) (digests (laws.value_digest x) rows)) (sym hasher) own)
-    (copied.root_hash ∙ ap (λ (t : State _ _). t.root_hash) lent ∙ root) h
+    (copied.root_hash ∙ ap (λ (t : State _ _). t.root_hash) lent ∙ root) h)

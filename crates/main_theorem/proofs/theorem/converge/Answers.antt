@@ -15,7 +15,7 @@ use Rattle.main_theorem.proofs.Roots.{is_defined, root_last, settings_stay}
 use Rattle.main_theorem.proofs.theorem.converge.Goals as goal
 
 pub returns-clause-before : goal.returns-clause-before
-returns-clause-before g c =
+returns-clause-before g c = rw g.met.H.RowHasher.laws_are (
     let laws : Laws g.row.K.Denot g.row.V.Denot g.row.H.Denot = record { cmp = g.K.Ord.cmp; bytes_of = g.K.KeyBytes.bytes_of; key_digest = g.H.Hasher-1.digest_of; eq = g.V.PartialEq.eq; join = g.V.Join.join_of; value_digest = g.H.Hasher-2.digest_of } in
     let cloned = c.in-Ok.ensures in
     let hasher = c.requires.hashers _ _ cloned.hasher in
@@ -23,24 +23,24 @@ returns-clause-before g c =
     let same : other ≡ c.args.builder = λ i. record { hasher = hasher i; base = cloned.base i; format = cloned.format i } in
     let a = c.in-Ok-after.ensures in
     let b = c.in-Ok-after-2.ensures in (
-      c.in-Ok-Ok.ensures c.args.builder _ a.settings a.root_hash a.rows,
+      (rw g.met.H.RowHasher.laws_are at c.in-Ok-Ok.ensures) c.args.builder _ a.settings (rw g.met.H.RowHasher.laws_are at a.root_hash) a.rows,
       subst (λ s. IsDefinedBy laws s (rows_after laws.cmp laws.join c.args.b_updates.items c.in-Ok-after-2.second.1.items) c.in-Ok-Ok.b_before) same
-          (c.in-Ok-Ok.ensures' other _ b.settings b.root_hash b.rows),
-    )
+          ((rw g.met.H.RowHasher.laws_are at c.in-Ok-Ok.ensures') other _ b.settings (rw g.met.H.RowHasher.laws_are at b.root_hash) b.rows),
+    ))
 
 pub returns-clause-rows : goal.returns-clause-rows
-returns-clause-rows g c apart =
+returns-clause-rows g c = rw g.met.H.RowHasher.laws_are (λ apart.
     let laws : Laws g.row.K.Denot g.row.V.Denot g.row.H.Denot = record { cmp = g.K.Ord.cmp; bytes_of = g.K.KeyBytes.bytes_of; key_digest = g.H.Hasher-1.digest_of; eq = g.V.PartialEq.eq; join = g.V.Join.join_of; value_digest = g.H.Hasher-2.digest_of } in
     let a = c.in-Ok-after.first.0 in
     let b = c.in-Ok-after-2.second.0 in
-    let (met, made, _) = c.in-Ok-come_together.ensures.converges in
+    let (met, made, _) = (rw g.met.H.RowHasher.laws_are at c.in-Ok-come_together.ensures.converges) in
     let (x, y) = apart_stay laws (side a) (side b) c.come_together.new.a.rows c.come_together.new.b.rows met c.args.exchange c.in-Ok-come_together.exchanged apart c.in-Ok-come_together.ensures.done made in (
       subst (λ rows. AreEqual laws.cmp laws.eq rows (rows_after laws.cmp laws.join c.args.a_updates.items c.in-Ok-after.first.1.items)) (sym (c.hash_last.ensures.rows ∙ x)) c.in-Ok-after.ensures.rows,
       subst (λ rows. AreEqual laws.cmp laws.eq rows (rows_after laws.cmp laws.join c.args.b_updates.items c.in-Ok-after-2.second.1.items)) (sym (c.hash_last-2.ensures.rows ∙ y)) c.in-Ok-after-2.ensures.rows,
-    )
+    ))
 
 pub returns-clause-a_defined : goal.returns-clause-a_defined
-returns-clause-a_defined g c m h =
+returns-clause-a_defined g c = rw g.met.H.RowHasher.laws_are (λ m h.
     let laws : Laws g.row.K.Denot g.row.V.Denot g.row.H.Denot = record { cmp = g.K.Ord.cmp; bytes_of = g.K.KeyBytes.bytes_of; key_digest = g.H.Hasher-1.digest_of; eq = g.V.PartialEq.eq; join = g.V.Join.join_of; value_digest = g.H.Hasher-2.digest_of } in
     let one = c.a_map_has_one_tree.ensures in
     let s = c.args.builder in
@@ -50,10 +50,10 @@ returns-clause-a_defined g c m h =
     let sound = subst (λ (t : State _ _). IsSound laws.cmp laws.key_digest laws.bytes_of t) c.tree.ensures.tree c.every_tree_is_sound.ensures.sound in
     is_defined laws g.met.K.Ord.total g.met.H.Hasher-2.respects_eq one.defined one.only one.digests c.equal_pages_have_equal_maps.ensures.ranges s last.tree last.rows m
     (settings_stay s come.tree last.tree set c.hash_last.ensures.settings) sound c.tree.ensures.digests
-    (root_last laws g.met.K.Ord.total g.met.H.Hasher-2.respects_eq one.defined one.only one.digests c.equal_pages_have_equal_maps.ensures.ranges s come.tree come.rows last.rows last.tree.root_hash set c.hash_last.ensures.rows c.hash_last.ensures.root_hash) h
+    (root_last laws g.met.K.Ord.total g.met.H.Hasher-2.respects_eq one.defined one.only one.digests c.equal_pages_have_equal_maps.ensures.ranges s come.tree come.rows last.rows last.tree.root_hash set c.hash_last.ensures.rows (rw g.met.H.RowHasher.laws_are at c.hash_last.ensures.root_hash)) h)
 
 pub returns-clause-b_defined : goal.returns-clause-b_defined
-returns-clause-b_defined g c m h =
+returns-clause-b_defined g c = rw g.met.H.RowHasher.laws_are (λ m h.
     let laws : Laws g.row.K.Denot g.row.V.Denot g.row.H.Denot = record { cmp = g.K.Ord.cmp; bytes_of = g.K.KeyBytes.bytes_of; key_digest = g.H.Hasher-1.digest_of; eq = g.V.PartialEq.eq; join = g.V.Join.join_of; value_digest = g.H.Hasher-2.digest_of } in
     let one = c.a_map_has_one_tree.ensures in
     let s = c.args.builder in
@@ -65,10 +65,10 @@ returns-clause-b_defined g c m h =
     let sound = subst (λ (t : State _ _). IsSound laws.cmp laws.key_digest laws.bytes_of t) c.tree-2.ensures.tree c.every_tree_is_sound-2.ensures.sound in
     is_defined laws g.met.K.Ord.total g.met.H.Hasher-2.respects_eq one.defined one.only one.digests c.equal_pages_have_equal_maps.ensures.ranges s last.tree last.rows m
     (settings_stay s come.tree last.tree set c.hash_last-2.ensures.settings) sound c.tree-2.ensures.digests
-    (root_last laws g.met.K.Ord.total g.met.H.Hasher-2.respects_eq one.defined one.only one.digests c.equal_pages_have_equal_maps.ensures.ranges s come.tree come.rows last.rows last.tree.root_hash set c.hash_last-2.ensures.rows c.hash_last-2.ensures.root_hash) h
+    (root_last laws g.met.K.Ord.total g.met.H.Hasher-2.respects_eq one.defined one.only one.digests c.equal_pages_have_equal_maps.ensures.ranges s come.tree come.rows last.rows last.tree.root_hash set c.hash_last-2.ensures.rows (rw g.met.H.RowHasher.laws_are at c.hash_last-2.ensures.root_hash)) h)
 
 pub returns-clause-converges : goal.returns-clause-converges
-returns-clause-converges g c =
+returns-clause-converges g c = rw g.met.H.RowHasher.laws_are (
     let laws : Laws g.row.K.Denot g.row.V.Denot g.row.H.Denot = record { cmp = g.K.Ord.cmp; bytes_of = g.K.KeyBytes.bytes_of; key_digest = g.H.Hasher-1.digest_of; eq = g.V.PartialEq.eq; join = g.V.Join.join_of; value_digest = g.H.Hasher-2.digest_of } in
     let o = g.met.K.Ord.total in
     let e = g.met.V.Eq.laws in
@@ -84,7 +84,7 @@ returns-clause-converges g c =
     let began = c.in-Ok-after-2.ensures.settings in
     let first : HasSettings s b.tree = (began.0 ∙ c.requires.hashers _ _ c.in-Ok.ensures.hasher, began.1 ∙ c.in-Ok.ensures.base, began.2 ∙ c.in-Ok.ensures.format) in
     let of_a = c.in-Ok-after.ensures.settings in
-    let (met, made, all) = c.in-Ok-come_together.ensures.converges in (
+    let (met, made, all) = (rw g.met.H.RowHasher.laws_are at c.in-Ok-come_together.ensures.converges) in (
       met,
       record {
         a = side a;
@@ -102,14 +102,14 @@ returns-clause-converges g c =
             a_joins = joins_a;
             b_joins = joins_b;
             root_hash = root_hash_under laws s b'.rows;
-            of_a = (returns-clause-a_defined g c b'.rows (same_joins laws.cmp o laws.eq e laws.join j m n a'.rows b'.rows joins_a joins_b)).root_hash;
-            of_b = (returns-clause-b_defined g c b'.rows (equal_itself laws.cmp o laws.eq e laws.join j b'.rows)).root_hash;
+            of_a = ((rw g.met.H.RowHasher.laws_are at (returns-clause-a_defined g c)) b'.rows (same_joins laws.cmp o laws.eq e laws.join j m n a'.rows b'.rows joins_a joins_b)).root_hash;
+            of_b = ((rw g.met.H.RowHasher.laws_are at (returns-clause-b_defined g c)) b'.rows (equal_itself laws.cmp o laws.eq e laws.join j b'.rows)).root_hash;
           },
-    )
+    ))
 
 -- the second has the same settings
 pub returns-clause-free : goal.returns-clause-free
 returns-clause-free g c =
-    let laws : Laws g.row.K.Denot g.row.V.Denot g.row.H.Denot = record { cmp = g.K.Ord.cmp; bytes_of = g.K.KeyBytes.bytes_of; key_digest = g.H.Hasher-1.digest_of; eq = g.V.PartialEq.eq; join = g.V.Join.join_of; value_digest = g.H.Hasher-2.digest_of } in
+    let laws = g.H.RowHasher.laws in
     let same : c.in-Ok.other ≡ c.args.builder = λ i. record { hasher = c.requires.hashers _ _ c.in-Ok.ensures.hasher i; base = c.in-Ok.ensures.base i; format = c.in-Ok.ensures.format i } in
     (c.in-Ok-after.ensures.free, subst (λ s. FreeAreAccepted laws s [] c.args.b_updates.items c.in-Ok-after-2.second.1.items) same c.in-Ok-after-2.ensures.free)

@@ -9,7 +9,7 @@ use Rattle.merkle_replica.proofs.agreeing.agree.Goals as goal
 
 -- the root pages are pages of the trees of both maps
 pub returns-clause-told : goal.returns-clause-told
-returns-clause-told g c = λ same faithful.
+returns-clause-told g c = rw g.met.H.RowHasher.laws_are (λ same faithful.
     let laws = laws_of g.K.Ord.cmp g.K.KeyBytes.bytes_of g.H.Hasher-1.digest_of g.V.PartialEq.eq g.V.Join.join_of g.H.Hasher-2.digest_of in
     let a = c.args.a.now in
     let b = c.args.b.now in
@@ -17,11 +17,11 @@ returns-clause-told g c = λ same faithful.
     let sound_b = rw c.tree-2.ensures.tree at c.every_tree_is_sound-2.ensures.sound in
     let one = sym c.root_hash.ensures.digest ∙ same_text _ _ (sym same ∙ c.eq.ensures) ∙ c.root_hash-2.ensures.digest in
     equal_by_root laws (side a) (side b) g.met.K.Ord.total faithful c.rows.ensures.ascending c.rows-2.ensures.ascending a.tree.root b.tree.root
-    (sound_a.canonical, c.tree.ensures.digests) (sound_b.canonical, c.tree-2.ensures.digests) one
+    (sound_a.canonical, c.tree.ensures.digests) (sound_b.canonical, c.tree-2.ensures.digests) one)
 
 -- each root page has the digest of the tree of its map, and the maps are one map
 pub returns-clause-alike : goal.returns-clause-alike
-returns-clause-alike g c = λ alike one_digest rows.
+returns-clause-alike g c = rw g.met.H.RowHasher.laws_are (λ alike one_digest rows.
     let laws = laws_of g.K.Ord.cmp g.K.KeyBytes.bytes_of g.H.Hasher-1.digest_of g.V.PartialEq.eq g.V.Join.join_of g.H.Hasher-2.digest_of in
     let a = side c.args.a.now in
     let b = side c.args.b.now in
@@ -33,4 +33,4 @@ returns-clause-alike g c = λ alike one_digest rows.
     let here = law.digests a.hasher a.base a.format (tree_map laws a) m c.args.a.now.tree.root _ maps (sound_a.canonical, c.tree.ensures.digests) (law.defined a.hasher a.base m) in
     let there = law.digests b.hasher b.base b.format m m c.args.b.now.tree.root _ (same_map-own laws.cmp g.met.K.Ord.total m) (sound_b.canonical, c.tree-2.ensures.digests) (law.defined b.hasher b.base m) in
     let hashes = c.root_hash.ensures.digest ∙ here ∙ one_root laws a b alike m ∙ sym there ∙ sym c.root_hash-2.ensures.digest in
-    c.eq.ensures ∙ subst (λ d. pointwise nat_eq c.root_hash.result.now d ≡ true) hashes (nat_list_eq_equiv.refl c.root_hash.result.now)
+    c.eq.ensures ∙ subst (λ d. pointwise nat_eq c.root_hash.result.now d ≡ true) hashes (nat_list_eq_equiv.refl c.root_hash.result.now))

@@ -27,7 +27,7 @@ rounds-init g c =
       underway = subst (λ m. IsUnderway laws local peer m (gaps_of asked.gaps.items) (keys_of asked.keys.items)) n
           (starts laws o local peer (premises_from laws o local peer (rw c.tree.ensures.tree at c.every_tree_is_sound.ensures.sound).ascending (rw c.tree.ensures.tree at c.every_tree_is_sound.ensures.sound).canonical c.tree.ensures.digests c.rows_ascend.ensures
           c.outlines_lead_down.ensures.opens c.outlines_lead_down.ensures.outline c.outlines_lead_down.ensures.whole c.outlines_lead_down.ensures.gap c.outlines_lead_down.ensures.page) (items c.in_ok-first.first.items) (gaps_of asked.gaps.items) (keys_of asked.keys.items) c.in_ok-first.ensures
-          (subst (λ es. AreSortedOut laws (side local) (items es) (gaps_of asked.gaps.items) (keys_of asked.keys.items)) c.deref.ensures.value c.in_ok-first_asked.ensures));
+          (subst (λ es. AreSortedOut laws (side local) (items es) (gaps_of asked.gaps.items) (keys_of asked.keys.items)) c.deref.ensures.value (rw g.met.H.RowHasher.laws_are at c.in_ok-first_asked.ensures)));
     }
 
 pub overflow_add-rounds : goal.overflow_add-rounds
@@ -71,18 +71,18 @@ rounds-preserved g c =
           (goes_on laws o local peer (premises_from laws o local peer (rw c.tree.ensures.tree at c.every_tree_is_sound.ensures.sound).ascending (rw c.tree.ensures.tree at c.every_tree_is_sound.ensures.sound).canonical c.tree.ensures.digests c.rows_ascend.ensures
           c.outlines_lead_down.ensures.opens c.outlines_lead_down.ensures.outline c.outlines_lead_down.ensures.whole c.outlines_lead_down.ensures.gap c.outlines_lead_down.ensures.page) n m (gaps_of c.rounds.gaps.items) (gaps_of asked.gaps.items) (keys_of c.rounds.keys.items) (keys_of asked.keys.items) le c.rounds.invariant.underway
           (subst (λ es. AreSortedOut laws (side local) es (gaps_of asked.gaps.items) (keys_of asked.keys.items)) ((rw c.in-Some.is at c.in_ok-outlines.ensures) ∙ ap (λ gs. flat_map (outline_over peer.tree.format laws.bytes_of laws.cmp peer.tree.root) (gaps_of gs)) c.deref-in-rounds.ensures.value)
-          (subst (λ es. AreSortedOut laws (side local) (items es) (gaps_of asked.gaps.items) (keys_of asked.keys.items)) c.deref-in-rounds-2.ensures.value c.in_ok-asked.ensures)));
+          (subst (λ es. AreSortedOut laws (side local) (items es) (gaps_of asked.gaps.items) (keys_of asked.keys.items)) c.deref-in-rounds-2.ensures.value (rw g.met.H.RowHasher.laws_are at c.in_ok-asked.ensures))));
     }
 
 pub returns-clause-found : goal.returns-clause-found
-returns-clause-found g c =
+returns-clause-found g c = rw g.met.H.RowHasher.laws_are (
     let laws = laws_of g.K.Ord.cmp g.K.KeyBytes.bytes_of g.H.Hasher-1.digest_of g.V.PartialEq.eq g.V.Join.join_of g.H.Hasher-2.digest_of in
     let o = g.met.K.Ord.total in
     let local = c.args.local.now in
     let peer = c.args.peer.now in
     ends laws o local peer (premises_from laws o local peer (rw c.tree.ensures.tree at c.every_tree_is_sound.ensures.sound).ascending (rw c.tree.ensures.tree at c.every_tree_is_sound.ensures.sound).canonical c.tree.ensures.digests c.rows_ascend.ensures
     c.outlines_lead_down.ensures.opens c.outlines_lead_down.ensures.outline c.outlines_lead_down.ensures.whole c.outlines_lead_down.ensures.gap c.outlines_lead_down.ensures.page) (level peer.tree.root + 1 - c.rounds.rounds) (gaps_of c.rounds.gaps.items) (keys_of c.rounds.keys.items)
-    (no_gaps c.rounds.gaps.items (sym c.rounds.gaps.ok.0 ∙ eqb-true (vec_len c.rounds.gaps) 0 (sym c.is_empty.ensures ∙ c.rounds-test.false))) c.rounds.invariant.underway
+    (no_gaps c.rounds.gaps.items (sym c.rounds.gaps.ok.0 ∙ eqb-true (vec_len c.rounds.gaps) 0 (sym c.is_empty.ensures ∙ c.rounds-test.false))) c.rounds.invariant.underway)
 
 pub returns-clause-few : goal.returns-clause-few
 returns-clause-few g c = c.rounds.invariant.few

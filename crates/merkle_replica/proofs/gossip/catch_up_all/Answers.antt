@@ -27,7 +27,7 @@ module _ {K V H : Type 0} where
     put_back x' s = map-set_same side xs i x' d s
 
 pub gathering-preserved : goal.gathering-preserved
-gathering-preserved g c =
+gathering-preserved g c = rw g.met.H.RowHasher.laws_are (
     let laws = laws_of g.K.Ord.cmp g.K.KeyBytes.bytes_of g.H.Hasher-1.digest_of g.V.PartialEq.eq g.V.Join.join_of g.H.Hasher-2.digest_of in
     let xs = c.gathering.others in
     let i = c.gathering.i in
@@ -38,12 +38,12 @@ gathering-preserved g c =
     let hub' = c.catch_up.new.self in
     let x' = c.catch_up.new.peer in
     gathers laws g.met.K.Ord.total g.met.V.Eq.laws g.met.V.Join.joining (side c.args.hub.now) (map side c.args.others.now) i (side hub) (side hub') (map side xs) (map side (set xs i x')) (side x)
-    (in_range xs i d f) (side_there xs i d f) c.gathering.invariant c.in-Ok.field-0.joined (rows_alone hub hub' c.catch_up.ensures.settings)
-    (put_back xs i d f x' (same_side x x' c.catch_up.ensures.peer_rows c.catch_up.ensures.peer_settings)) c.in-Ok.ensures.done c.in-Ok.ensures.join
-    (subst (λ (y : Contents _ _ _). IsMap g.K.Ord.cmp y.rows) (same_place xs i c.index-others-i.result d f) c.rows_ascend-in-gathering.ensures)
+    (in_range xs i d f) (side_there xs i d f) (rw g.met.H.RowHasher.laws_are at c.gathering.invariant) c.in-Ok.field-0.joined (rows_alone hub hub' c.catch_up.ensures.settings)
+    (put_back xs i d f x' (same_side x x' c.catch_up.ensures.peer_rows c.catch_up.ensures.peer_settings)) (rw g.met.H.RowHasher.laws_are at c.in-Ok.ensures.done) (rw g.met.H.RowHasher.laws_are at c.in-Ok.ensures.join)
+    (subst (λ (y : Contents _ _ _). IsMap g.K.Ord.cmp y.rows) (same_place xs i c.index-others-i.result d f) c.rows_ascend-in-gathering.ensures))
 
 pub returns-in-Err-clause-stopped : goal.returns-in-Err-clause-stopped
-returns-in-Err-clause-stopped g c =
+returns-in-Err-clause-stopped g c = rw g.met.H.RowHasher.laws_are (
     let laws = laws_of g.K.Ord.cmp g.K.KeyBytes.bytes_of g.H.Hasher-1.digest_of g.V.PartialEq.eq g.V.Join.join_of g.H.Hasher-2.digest_of in
     let xs = c.gathering.others in
     let i = c.gathering.i in
@@ -56,18 +56,18 @@ returns-in-Err-clause-stopped g c =
     let first = side c.args.hub.now in
     subst (λ n. StopsGossip laws i c.in-Err.fault (through_hub n) (numbered first (first ∷ map side c.args.others.now)) (numbered first (side hub' ∷ map side (set xs i x')))) (length-map c.args.others.now side)
     (gathering_stops laws g.met.K.Ord.total g.met.V.Eq.laws g.met.V.Join.joining first (map side c.args.others.now) i (side hub) (side hub') (map side xs) (map side (set xs i x')) (side x)
-    (in_range xs i d f) (side_there xs i d f) c.gathering.invariant c.in-Err.fault (rows_alone hub hub' c.catch_up.ensures.settings)
-    (put_back xs i d f x' (same_side x x' c.catch_up.ensures.peer_rows c.catch_up.ensures.peer_settings)) c.in-Err.ensures.refused)
+    (in_range xs i d f) (side_there xs i d f) (rw g.met.H.RowHasher.laws_are at c.gathering.invariant) c.in-Err.fault (rows_alone hub hub' c.catch_up.ensures.settings)
+    (put_back xs i d f x' (same_side x x' c.catch_up.ensures.peer_rows c.catch_up.ensures.peer_settings)) (rw g.met.H.RowHasher.laws_are at c.in-Err.ensures.refused)))
 
 pub spreading-init : goal.spreading-init
-spreading-init g c =
+spreading-init g c = rw g.met.H.RowHasher.laws_are (
     let laws = laws_of g.K.Ord.cmp g.K.KeyBytes.bytes_of g.H.Hasher-1.digest_of g.V.PartialEq.eq g.V.Join.join_of g.H.Hasher-2.digest_of in
     let l = length-map c.args.others.now (side {K = g.row.K.Denot} {V = g.row.V.Denot} {H = g.row.H.Denot}) in
     let all : c.gathering.i ≡ length (map side c.args.others.now) = let t = c.gathering-test.false in omega arith in
-    turns_back laws g.met.K.Ord.total g.met.V.Eq.laws g.met.V.Join.joining (side c.args.hub.now) (map side c.args.others.now) c.gathering.i (side c.gathering.hub) (map side c.gathering.others) all c.gathering.invariant
+    turns_back laws g.met.K.Ord.total g.met.V.Eq.laws g.met.V.Join.joining (side c.args.hub.now) (map side c.args.others.now) c.gathering.i (side c.gathering.hub) (map side c.gathering.others) all (rw g.met.H.RowHasher.laws_are at c.gathering.invariant))
 
 pub spreading-preserved : goal.spreading-preserved
-spreading-preserved g c =
+spreading-preserved g c = rw g.met.H.RowHasher.laws_are (
     let laws = laws_of g.K.Ord.cmp g.K.KeyBytes.bytes_of g.H.Hasher-1.digest_of g.V.PartialEq.eq g.V.Join.join_of g.H.Hasher-2.digest_of in
     let xs = c.spreading.others in
     let i = c.spreading.i in
@@ -82,11 +82,11 @@ spreading-preserved g c =
     let m = length-map xs (side {K = g.row.K.Denot} {V = g.row.V.Denot} {H = g.row.H.Denot}) in
     let q : length (map side xs) ≡ length (map side c.args.others.now) = omega arith in
     spreads laws g.met.K.Ord.total g.met.V.Eq.laws g.met.V.Join.joining (side c.args.hub.now) (map side c.args.others.now) i (side hub) (side hub') (map side xs) (map side (set xs i x')) (side x) (side x')
-    (in_range xs i d f) q (side_there xs i d f) c.spreading.invariant c.in-Ok-catch_up.field-0.joined (same_side hub hub' e.peer_rows e.peer_settings) (rows_alone x x' e.settings)
-    (map-set side xs i x') c.in-Ok-catch_up.ensures.done c.in-Ok-catch_up.ensures.join
+    (in_range xs i d f) q (side_there xs i d f) (rw g.met.H.RowHasher.laws_are at c.spreading.invariant) c.in-Ok-catch_up.field-0.joined (same_side hub hub' e.peer_rows e.peer_settings) (rows_alone x x' e.settings)
+    (map-set side xs i x') (rw g.met.H.RowHasher.laws_are at c.in-Ok-catch_up.ensures.done) (rw g.met.H.RowHasher.laws_are at c.in-Ok-catch_up.ensures.join))
 
 pub returns-in-Err-catch_up-clause-stopped : goal.returns-in-Err-catch_up-clause-stopped
-returns-in-Err-catch_up-clause-stopped g c =
+returns-in-Err-catch_up-clause-stopped g c = rw g.met.H.RowHasher.laws_are (
     let laws = laws_of g.K.Ord.cmp g.K.KeyBytes.bytes_of g.H.Hasher-1.digest_of g.V.PartialEq.eq g.V.Join.join_of g.H.Hasher-2.digest_of in
     let xs = c.spreading.others in
     let i = c.spreading.i in
@@ -103,5 +103,5 @@ returns-in-Err-catch_up-clause-stopped g c =
     let q : length (map side xs) ≡ length (map side c.args.others.now) = omega arith in
     subst (λ n. StopsGossip laws (n + i) c.in-Err-catch_up.fault (through_hub n) (numbered first (first ∷ map side c.args.others.now)) (numbered first (side hub' ∷ map side (set xs i x')))) l
     (spreading_stops laws g.met.K.Ord.total g.met.V.Eq.laws g.met.V.Join.joining first (map side c.args.others.now) i (side hub) (side hub') (map side xs) (map side (set xs i x')) (side x) (side x')
-    (in_range xs i d f) q (side_there xs i d f) c.spreading.invariant c.in-Err-catch_up.fault (same_side hub hub' e.peer_rows e.peer_settings) (rows_alone x x' e.settings)
-    (map-set side xs i x') c.in-Err-catch_up.ensures.refused)
+    (in_range xs i d f) q (side_there xs i d f) (rw g.met.H.RowHasher.laws_are at c.spreading.invariant) c.in-Err-catch_up.fault (same_side hub hub' e.peer_rows e.peer_settings) (rows_alone x x' e.settings)
+    (map-set side xs i x') (rw g.met.H.RowHasher.laws_are at c.in-Err-catch_up.ensures.refused)))

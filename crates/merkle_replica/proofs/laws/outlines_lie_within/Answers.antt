@@ -10,5 +10,5 @@ returns-clause-outlines g c format t gaps up ascend filled =
     outlines_lie g.K.Ord.cmp g.met.K.Ord.total format g.K.KeyBytes.bytes_of t up (λ page gap fills. c.outlines_lead_down.ensures.opens t page gap up fills) gaps ascend filled
 
 pub returns-clause-left : goal.returns-clause-left
-returns-clause-left g c local asked gaps came keys within sorted =
-    gaps_left-ascend (laws_of g.K.Ord.cmp g.K.KeyBytes.bytes_of g.H.Hasher-1.digest_of g.V.PartialEq.eq g.V.Join.join_of g.H.Hasher-2.digest_of) g.met.K.Ord.total local asked came gaps keys within sorted
+returns-clause-left g c = rw g.met.H.RowHasher.laws_are (λ local asked gaps came keys within sorted.
+    gaps_left-ascend (laws_of g.K.Ord.cmp g.K.KeyBytes.bytes_of g.H.Hasher-1.digest_of g.V.PartialEq.eq g.V.Join.join_of g.H.Hasher-2.digest_of) g.met.K.Ord.total local asked came gaps keys within sorted)

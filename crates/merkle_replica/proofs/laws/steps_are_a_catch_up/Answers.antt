@@ -17,7 +17,7 @@ use Rattle.merkle_replica.proofs.Sides.{laws_of}
 use Rattle.merkle_replica.proofs.laws.steps_are_a_catch_up.Goals as goal
 
 pub returns-clause-catch_up : goal.returns-clause-catch_up
-returns-clause-catch_up g c local peer root keys after up up_peer tree s =
+returns-clause-catch_up g c = rw g.met.H.RowHasher.laws_are (λ local peer root keys after up up_peer tree s.
     let laws = laws_of g.K.Ord.cmp g.K.KeyBytes.bytes_of g.H.Hasher-1.digest_of g.V.PartialEq.eq g.V.Join.join_of g.H.Hasher-2.digest_of in
     let o = g.met.K.Ord.total in
     let law = c.outlines_lead_down.ensures in
@@ -31,10 +31,10 @@ returns-clause-catch_up g c local peer root keys after up up_peer tree s =
       found = found_once laws o local peer left keys (once-alike laws.cmp o s.left left keys keys (same_keys-back laws.cmp o left s.left same) (same_keys-own laws.cmp o keys) s.once) (descended laws o l p premises rounds left d).0;
       joins = joins-came laws.cmp o laws.eq g.met.V.Eq.laws laws.join g.met.V.Join.joining local.rows (rows_in laws.cmp (points keys) peer.rows) s.rows after
           (subst (λ rows. SameMap laws.cmp (λ x y. laws.eq x y ≡ true) rows s.rows) (sym (rows_in-alike laws.cmp o (points keys) s.asked s.asked_came peer.rows)) s.rows_came) s.joins;
-    }
+    })
 
 pub returns-clause-few : goal.returns-clause-few
-returns-clause-few g c local peer root first rounds left up up_peer tree begins descends =
+returns-clause-few g c = rw g.met.H.RowHasher.laws_are (λ local peer root first rounds left up up_peer tree begins descends.
     let laws = laws_of g.K.Ord.cmp g.K.KeyBytes.bytes_of g.H.Hasher-1.digest_of g.V.PartialEq.eq g.V.Join.join_of g.H.Hasher-2.digest_of in
     let o = g.met.K.Ord.total in
     let law = c.outlines_lead_down.ensures in
@@ -43,9 +43,9 @@ returns-clause-few g c local peer root first rounds left up up_peer tree begins 
     let ascending = ascends laws.cmp o (λ d e. d ≡ e) (pairs root) (tree_map laws peer) tree.1 (ascending_digests laws.cmp o (laws.value_digest peer.hasher) peer.rows up_peer) in
     let premises = premises_from laws o l p ascending tree.0 tree.1 up law.opens law.outline law.whole law.gap law.page in
     let (rounds', left', d, n, same) = exact_descent laws o local peer root (whole_item peer.format laws.bytes_of root) first rounds left begins descends in
-    subst (λ (m : ℕ). m ≤ level root + 1) n (descended laws o l p premises rounds' left' d).1
+    subst (λ (m : ℕ). m ≤ level root + 1) n (descended laws o l p premises rounds' left' d).1)
 
 pub returns-clause-joins : goal.returns-clause-joins
-returns-clause-joins g c local peer keys after faith caught =
+returns-clause-joins g c = rw g.met.H.RowHasher.laws_are (λ local peer keys after faith caught.
     let laws = laws_of g.K.Ord.cmp g.K.KeyBytes.bytes_of g.H.Hasher-1.digest_of g.V.PartialEq.eq g.V.Join.join_of g.H.Hasher-2.digest_of in
-    all_joined laws g.met.K.Ord.total local peer g.met.V.Eq.laws g.met.V.Join.joining keys after faith caught
+    all_joined laws g.met.K.Ord.total local peer g.met.V.Eq.laws g.met.V.Join.joining keys after faith caught)

@@ -10,7 +10,7 @@ use Rattle.merkle_replica.proofs.Sides.{laws_of}
 use Rattle.merkle_replica.proofs.pull.ask.Goals as goal
 
 pub returns : goal.returns
-returns g c =
+returns g c = rw g.met.H.RowHasher.laws_are (
     let h = c.in_ok-found.ensures.answer in
     let e = drained entry (λ es. es) h.2.0 h.0 h.2.2 ∙ h.2.1 ∙ (rw c.in-Some.is at c.in_ok-ours.ensures.ranges) in
     let f = drained entry (λ es. es) h.3.0 h.1 h.3.2 ∙ h.3.1 ∙ (rw c.in-Some-2.is at c.in_ok-theirs.ensures.ranges) in
@@ -20,4 +20,4 @@ returns g c =
     (rw c.tree.ensures.tree at c.every_tree_is_sound.ensures.sound) (rw c.tree-2.ensures.tree at c.every_tree_is_sound-2.ensures.sound)
     (rw c.tree-3.ensures.tree at e) (rw c.tree-4.ensures.tree at f) h.4
     (subst (λ w. SameSpans g.K.Ord.cmp (spans w) (spans_of r.items)) c.deref.ensures.value s))
-    c.own_bounds.ensures
+    c.own_bounds.ensures)

@@ -10,5 +10,5 @@ returns-clause-answered g c =
     IfOk-weaker c.reply_to.result _ _ (λ reply is. (
       question,
       c.in_ok-question.ensures.asks,
-      subst (λ rows. IsReply g.K.Ord.cmp g.K.KeyBytes.bytes_of g.K.Encode.encoding g.V.Encode.encoding (g.H.Hasher-1.digest_of tree.hasher) g.row.N rows tree question reply.items) c.hash.ensures.rows is,
+      subst (λ rows. IsReply g.H.RowHasher.laws.cmp g.H.RowHasher.laws.bytes_of g.K.Encode.encoding g.V.Encode.encoding (g.H.RowHasher.laws.key_digest tree.hasher) g.row.N rows tree question reply.items) c.hash.ensures.rows is,
     )) c.reply_to.ensures.reply

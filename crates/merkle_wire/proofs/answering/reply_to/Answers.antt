@@ -1,4 +1,4 @@
-use Rattle.std.proofs.Common.{subst, sym}
+use Rattle.std.proofs.Common.{rules, subst, sym}
 use Rattle.merkle_wire.specs.Replies.{EndsWithin, OutlinesFit, PartsFit, ValuesFit}
 use Rattle.merkle_wire.proofs.answering.reply_to.Goals as goal
 
@@ -25,3 +25,9 @@ returns-in_ok-tell_rows-in-RowsIn-clause-within g c =
     subst (λ question. EndsWithin g.K.Encode.encoding g.V.Encode.encoding c.args.most_bytes question c.in_ok-tell_rows-in-RowsIn.field-0.items) (sym c.in-RowsIn.is)
     (subst (λ begun. PartsFit g.K.Encode.encoding g.V.Encode.encoding c.args.most_bytes begun c.in_ok-tell_rows-in-RowsIn.field-0.items)
     c.in_ok-begun-in-RowsIn.ensures c.in_ok-tell_rows-in-RowsIn.ensures.fits)
+
+pub returns-in_ok-tell_pages-in-Outlines-clause-reply : goal.returns-in_ok-tell_pages-in-Outlines-clause-reply
+returns-in_ok-tell_pages-in-Outlines-clause-reply g c = rw g.met.H.RowHasher.laws_are (search rules)
+
+pub returns-in_ok-tell_pages-in-Nodes-clause-reply : goal.returns-in_ok-tell_pages-in-Nodes-clause-reply
+returns-in_ok-tell_pages-in-Nodes-clause-reply g c = rw g.met.H.RowHasher.laws_are (search rules)

@@ -2,7 +2,6 @@ use Rattle.std.proofs.Common.{◌+◌, ◌∷◌, [], ◌++◌, take, drop, refl
 use Rattle.std.proofs.lemmas.Result.{err_from_is_err_and}
 use Rattle.merkle_bytes.specs.Runs.{bound_key}
 use Rattle.merkle_replica.specs.Contents.{side}
-use Rattle.merkle_replica.proofs.Sides.{laws_of}
 use Rattle.merkle_wire.specs.Fit.{IsOutlineIn}
 use Rattle.merkle_wire.specs.Gaps.{owned_gap}
 use Rattle.merkle_wire.specs.Outlines.{outline_bytes}
@@ -22,7 +21,7 @@ gaps-init g c = ([], refl, read_none _ _ c.args.gaps.now c.args.reader.now.left.
 
 pub gaps-preserved : goal.gaps-preserved
 gaps-preserved g c =
-    let laws = laws_of g.K.Ord.cmp g.K.KeyBytes.bytes_of g.H.Hasher-1.digest_of g.V.PartialEq.eq g.V.Join.join_of g.H.Hasher-2.digest_of in
+    let laws = g.H.RowHasher.laws in
     let kept = c.gaps.invariant in
     let came = c.in_ok-take_outline.ensures.taken in
     let x = c.gap-item.result in
@@ -49,7 +48,7 @@ returns-then-is_empty-clause-all g c = λ some. absurd (some (sym c.left.ensures
 pub returns-in_err-take_outline-clause-refused : goal.returns-in_err-take_outline-clause-refused
 returns-in_err-take_outline-clause-refused g c =
     let p = err_from_is_err_and c.from_residual.result c.from_residual.ensures.1 in
-    let laws = laws_of g.K.Ord.cmp g.K.KeyBytes.bytes_of g.H.Hasher-1.digest_of g.V.PartialEq.eq g.V.Join.join_of g.H.Hasher-2.digest_of in
+    let laws = g.H.RowHasher.laws in
     let kept = c.gaps.invariant in
     let gaps = c.args.gaps.now in
     let next = c.gap-item.result in

@@ -4,7 +4,6 @@ use Rattle.std.proofs.lemmas.Result.{err_from_is_err_and}
 use Rattle.std.specs.List.{flat_map}
 use Rattle.merkle_bytes.specs.Runs.{bound_key}
 use Rattle.merkle_replica.specs.Contents.{side}
-use Rattle.merkle_replica.proofs.Sides.{laws_of}
 use Rattle.merkle_wire.specs.Coming.{AscendIn}
 use Rattle.merkle_wire.specs.Fit.{IsPartIn}
 use Rattle.merkle_wire.specs.Gaps.{owned_gap}
@@ -33,7 +32,7 @@ gaps-init g c = (
 
 pub gaps-preserved : goal.gaps-preserved
 gaps-preserved g c =
-    let laws = laws_of g.K.Ord.cmp g.K.KeyBytes.bytes_of g.H.Hasher-1.digest_of g.V.PartialEq.eq g.V.Join.join_of g.H.Hasher-2.digest_of in
+    let laws = g.H.RowHasher.laws in
     let kept = c.gaps.invariant in
     let came = c.in_ok-take_part.ensures.taken in
     let x = c.gap-item.result in
@@ -69,10 +68,10 @@ returns-in_err-take_part-clause-refused g c =
     let gaps = c.args.gaps.now in
     let next = c.gap-item.result in
     rw (p.1, p.2) (refused_for _ _ c.in_err-take_part.field-0.0 (λ none told others begins each.
-    none_next (λ t. part_bytes g.K.Encode.encoding g.V.Encode.encoding (bound_key g.K.Encode.encoding [] t.0.after) t.1) (λ t. AscendIn g.K.Ord.cmp (owned_gap t.0) (map (λ r. r.0) t.1.rows)) (λ t. IsPartIn g.K.Ord.cmp g.K.Decode.is_value g.V.Decode.is_value (owned_gap t.0) t.1)
+    none_next (λ t. part_bytes g.K.Encode.encoding g.V.Encode.encoding (bound_key g.K.Encode.encoding [] t.0.after) t.1) (λ t. AscendIn g.H.RowHasher.laws.cmp (owned_gap t.0) (map (λ r. r.0) t.1.rows)) (λ t. IsPartIn g.K.Ord.cmp g.K.Decode.is_value g.V.Decode.is_value (owned_gap t.0) t.1)
     (λ t. part_some g.K.Ord.cmp g.V.PartialEq.eq g.K.Encode.encoding g.V.Encode.encoding (key_tells g.K.Ord.cmp g.K.Encode.encoding g.K.PartialEq.eq g.met.K.Ord.matches_eq g.met.K.Decode.told) g.met.V.Decode.told (bound_key g.K.Encode.encoding [] t.0.after) t.1) (λ gap y z r s _ _ e. parts_end g.K.Ord.cmp g.V.PartialEq.eq g.K.Encode.encoding g.V.Encode.encoding (key_tells g.K.Ord.cmp g.K.Encode.encoding g.K.PartialEq.eq g.met.K.Ord.matches_eq g.met.K.Decode.told) g.met.V.Decode.told gap y z r s e)
     kept.0 gaps c.args.reader.now.left.now c.gaps.reader.left.now kept.3.each kept.3.is
     (λ e. some_bytes c.left.result.now (sym c.is_empty.ensures ∙ c.if-is_empty.false) (c.left.ensures ∙ e))
-    next (drop (c.gaps.gap-index + 1) gaps) (next_of (λ t. part_bytes g.K.Encode.encoding g.V.Encode.encoding (bound_key g.K.Encode.encoding [] t.0.after) t.1) (λ t. AscendIn g.K.Ord.cmp (owned_gap t.0) (map (λ r. r.0) t.1.rows)) (λ t. IsPartIn g.K.Ord.cmp g.K.Decode.is_value g.V.Decode.is_value (owned_gap t.0) t.1)
+    next (drop (c.gaps.gap-index + 1) gaps) (next_of (λ t. part_bytes g.K.Encode.encoding g.V.Encode.encoding (bound_key g.K.Encode.encoding [] t.0.after) t.1) (λ t. AscendIn g.H.RowHasher.laws.cmp (owned_gap t.0) (map (λ r. r.0) t.1.rows)) (λ t. IsPartIn g.K.Ord.cmp g.K.Decode.is_value g.V.Decode.is_value (owned_gap t.0) t.1)
     (λ t. part_some g.K.Ord.cmp g.V.PartialEq.eq g.K.Encode.encoding g.V.Encode.encoding (key_tells g.K.Ord.cmp g.K.Encode.encoding g.K.PartialEq.eq g.met.K.Ord.matches_eq g.met.K.Decode.told) g.met.V.Decode.told (bound_key g.K.Encode.encoding [] t.0.after) t.1) (λ gap y z r s _ _ e. parts_end g.K.Ord.cmp g.V.PartialEq.eq g.K.Encode.encoding g.V.Encode.encoding (key_tells g.K.Ord.cmp g.K.Encode.encoding g.K.PartialEq.eq g.met.K.Ord.matches_eq g.met.K.Decode.told) g.met.V.Decode.told gap y z r s e) _ gaps c.args.reader.now.left.now c.gaps.reader.left.now c.gaps.gap-index kept.0 next kept.3 c.gaps-test.true c.gap-item.is)
     none told others begins each) c.in_err-take_part.ensures.refused)

@@ -3,7 +3,6 @@ use Rattle.std.proofs.lemmas.List.{take_all}
 use Rattle.std.proofs.lemmas.Result.{err_from_is_err_and}
 use Rattle.merkle_bytes.specs.Runs.{bound_key}
 use Rattle.merkle_replica.specs.Contents.{side}
-use Rattle.merkle_replica.proofs.Sides.{laws_of}
 use Rattle.merkle_wire.specs.Fit.{IsOutlineIn}
 use Rattle.merkle_wire.specs.Gaps.{owned_gap}
 use Rattle.merkle_wire.specs.Messages.{front}
@@ -42,7 +41,7 @@ returns-in_err-reader-clause-refused g c =
 pub returns-in_err-end-clause-refused : goal.returns-in_err-end-clause-refused
 returns-in_err-end-clause-refused g c =
     let p = err_from_is_err_and c.from_residual-in_err-end.result c.from_residual-in_err-end.ensures.1 in
-    let laws = laws_of g.K.Ord.cmp g.K.KeyBytes.bytes_of g.H.Hasher-1.digest_of g.V.PartialEq.eq g.V.Join.join_of g.H.Hasher-2.digest_of in
+    let laws = g.H.RowHasher.laws in
     let came = rw c.deref.ensures.value at c.in_ok-count.ensures.taken in
     let told = came.1.0 in
     let gaps = c.args.gaps.items in

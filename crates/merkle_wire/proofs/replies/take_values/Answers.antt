@@ -6,7 +6,6 @@ use Rattle.std.specs.List.{flat_map}
 use Rattle.std.specs.Vec.Iter.{into_iter_items}
 use Rattle.merkle_bytes.specs.Options.{IsOption, option_bytes}
 use Rattle.merkle_replica.specs.Contents.{side}
-use Rattle.merkle_replica.proofs.Sides.{laws_of}
 use Rattle.merkle_wire.specs.Messages.{front}
 use Rattle.merkle_wire.specs.Replies.{values_bytes}
 use Rattle.merkle_wire.specs.Taking.{new_rows, value_row}
@@ -53,7 +52,7 @@ keys-preserved-in-Continue-branch-2 g c =
 
 pub keys-preserved : goal.keys-preserved
 keys-preserved g c =
-    let laws = laws_of g.K.Ord.cmp g.K.KeyBytes.bytes_of g.H.Hasher-1.digest_of g.V.PartialEq.eq g.V.Join.join_of g.H.Hasher-2.digest_of in
+    let laws = g.H.RowHasher.laws in
     let w = c.in-Some.wanted in
     let kept = c.keys.invariant in
     let came = c.in_ok-take_value.ensures.taken in

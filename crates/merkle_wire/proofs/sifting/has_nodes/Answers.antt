@@ -16,7 +16,7 @@ keys-init g c = ([], refl, c.new-sip.ensures)
 
 pub keys-preserved : goal.keys-preserved
 keys-preserved g c =
-    let laws = laws_of g.K.Ord.cmp g.K.KeyBytes.bytes_of g.H.Hasher-1.digest_of g.V.PartialEq.eq g.V.Join.join_of g.H.Hasher-2.digest_of in
+    let laws = g.H.RowHasher.laws in
     let at = get g.K.Ord.cmp (tree_map laws (side c.args.replica.now)) in
     let ds = c.keys.invariant.0 in
     let own = c.in-Some.own.now in
@@ -29,10 +29,10 @@ keys-preserved g c =
     )
 
 pub returns : goal.returns
-returns g c = λ t.
+returns g c = rw g.met.H.RowHasher.laws_are (λ t.
     let laws = laws_of g.K.Ord.cmp g.K.KeyBytes.bytes_of g.H.Hasher-1.digest_of g.V.PartialEq.eq g.V.Join.join_of g.H.Hasher-2.digest_of in
     let all = ap (λ xs. map (get g.K.Ord.cmp (tree_map laws (side c.args.replica.now))) (map (λ w. w.key) xs)) (take_all c.keys.wanted-index c.args.keys.now c.keys-test.false) in (
       c.keys.invariant.0,
-      sym all ∙ c.keys.invariant.1,
+      sym all ∙ (rw g.met.H.RowHasher.laws_are at c.keys.invariant.1),
       sym (c.finish128.ensures zero_key (flat_map (λ d. d) c.keys.invariant.0) c.keys.invariant.2) ∙ (bytes_decides c.finish128.result c.args.digest.now).0 (sym c.eq.ensures ∙ t),
-    )
+    ))

@@ -4,12 +4,11 @@ use Rattle.key_order.specs.Map.{get}
 use Rattle.merkle_digest.specs.SipHash.{zero_key}
 use Rattle.merkle_digest.specs.Sip24.{Holds}
 use Rattle.merkle_replica.specs.Contents.{side, tree_map}
-use Rattle.merkle_replica.proofs.Sides.{laws_of}
 use Rattle.merkle_wire.proofs.sifting.has_nodes.Given as goal
 
 -- the first keys are there, and their digests are written
 abbrev pub invariant-keys : goal.invariant-keys
 invariant-keys g l =
-    let laws = laws_of g.K.Ord.cmp g.K.KeyBytes.bytes_of g.H.Hasher-1.digest_of g.V.PartialEq.eq g.V.Join.join_of g.H.Hasher-2.digest_of in
+    let laws = g.H.RowHasher.laws in
     (ds : List (List ℕ)) × (map (get g.K.Ord.cmp (tree_map laws (side l.replica))) (map (λ w. w.key) (take l.wanted-index l.keys)) ≡ map Some ds)
     × Holds l.sip zero_key (flat_map (λ d. d) ds)

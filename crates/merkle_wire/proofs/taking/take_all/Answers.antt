@@ -1,7 +1,6 @@
 use Rattle.std.proofs.Common.{◌≡◌, ◌++◌, ◌∷◌, [], length, append_assoc, append-nil, arith, ap, sym, ◌∙◌, rules}
 use Rattle.std.specs.Vec.Iter.{into_iter_items}
 use Rattle.merkle_replica.specs.Contents.{side}
-use Rattle.merkle_replica.proofs.Sides.{laws_of}
 use Rattle.merkle_wire.specs.Taking.{new_rows}
 use Rattle.merkle_wire.proofs.TakenMore.{rows-more, all_yielded}
 use Rattle.merkle_wire.proofs.taking.take_all.Goals as goal
@@ -15,7 +14,7 @@ rows-init g c = record {
 
 pub rows-preserved : goal.rows-preserved
 rows-preserved g c =
-    let laws = laws_of g.K.Ord.cmp g.K.KeyBytes.bytes_of g.H.Hasher-1.digest_of g.V.PartialEq.eq g.V.Join.join_of g.H.Hasher-2.digest_of in
+    let laws = g.H.RowHasher.laws in
     let r = c.in-Some.row in
     let kept = c.rows.invariant in
     let steps : into_iter_items c.rows.row-iterator ≡ r ∷ into_iter_items c.next.new.self = c.in-Some.ensures.steps.0 in
@@ -31,6 +30,6 @@ rows-preserved g c =
 
 pub returns : goal.returns
 returns g c =
-    let laws = laws_of g.K.Ord.cmp g.K.KeyBytes.bytes_of g.H.Hasher-1.digest_of g.V.PartialEq.eq g.V.Join.join_of g.H.Hasher-2.digest_of in
+    let laws = g.H.RowHasher.laws in
     let done = all_yielded c.rows.yielded (into_iter_items c.rows.row-iterator) c.args.rows.items c.rows.invariant.left (sym c.rows.invariant.count ∙ c.in-None.ensures.steps.0) in
     c.rows.invariant.taken ∙ ap (λ rs. record c.args.work.now { rows = c.args.work.now.rows ++ new_rows laws (side c.args.replica.now) rs }) done

@@ -1,7 +1,6 @@
 use Rattle.std.proofs.Common.{◌≡◌, ◌++◌, length}
 use Rattle.std.specs.Vec.Iter.{into_iter_items, into_iter_len}
 use Rattle.merkle_replica.specs.Contents.{side}
-use Rattle.merkle_replica.proofs.Sides.{laws_of}
 use Rattle.merkle_wire.specs.Taking.{new_rows}
 use Rattle.merkle_wire.proofs.taking.take_all.Given as goal
 
@@ -10,5 +9,5 @@ abbrev pub invariant-rows : goal.invariant-rows
 invariant-rows g l = record {
   left : l.yielded ++ into_iter_items l.row-iterator ≡ l.fn.rows.items;
   count : into_iter_len l.row-iterator ≡ length (into_iter_items l.row-iterator);
-  taken : l.work ≡ record l.fn.work { rows = l.fn.work.rows ++ new_rows (laws_of g.K.Ord.cmp g.K.KeyBytes.bytes_of g.H.Hasher-1.digest_of g.V.PartialEq.eq g.V.Join.join_of g.H.Hasher-2.digest_of) (side l.replica) l.yielded };
+  taken : l.work ≡ record l.fn.work { rows = l.fn.work.rows ++ new_rows g.H.RowHasher.laws (side l.replica) l.yielded };
 }

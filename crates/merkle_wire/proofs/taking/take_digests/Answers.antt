@@ -13,8 +13,8 @@ use Rattle.merkle_wire.proofs.Unfit.{no_keys, no_nodes, no_nodes-digests, no_nod
 use Rattle.merkle_wire.proofs.taking.take_digests.Goals as goal
 
 pub returns-clause-taken : goal.returns-clause-taken
-returns-clause-taken g c =
-    let came = c.in_ok-take_nodes.ensures.taken in
+returns-clause-taken g c = rw g.met.H.RowHasher.laws_are (
+    let came = (rw g.met.H.RowHasher.laws_are at c.in_ok-take_nodes.ensures.taken) in
     let lies = rw c.deref.ensures.value at (c.keys_lie_in.ensures.inside c.if-not-keys_lie_in.false) in (
       came.0,
       c.in_ok-keys.ensures.read ∙ ap (λ t. t ++ c.decode_run.new.reader.left.now) (told_as_keys g.K.Encode.encoding c.args.run.now c.in_ok-keys.keys.items ∙ ap (keys_told g.K.Encode.encoding c.args.run.now) (sym came.1))
@@ -22,7 +22,7 @@ returns-clause-taken g c =
       subst (AscendIn g.K.Ord.cmp (owned_gap c.args.gap.now)) (sym came.1) lies,
       came.3,
       came.4,
-    )
+    ))
 
 pub returns-in_err-keys-clause-refused : goal.returns-in_err-keys-clause-refused
 returns-in_err-keys-clause-refused g c =

@@ -6,7 +6,6 @@ use Rattle.std.specs.List.{flat_map}
 use Rattle.std.specs.Vec.Iter.{into_iter_items}
 use Rattle.key_order.proofs.ListParts.{each-append}
 use Rattle.merkle_replica.specs.Contents.{side}
-use Rattle.merkle_replica.proofs.Sides.{laws_of}
 use Rattle.merkle_wire.proofs.TakenMore.{new_key, keys-more, all_yielded}
 use Rattle.merkle_wire.proofs.Fronts.{refused_unread}
 use Rattle.merkle_wire.proofs.Unfit.{each_digest, flat_digests, no_digests}
@@ -25,7 +24,7 @@ keys-init g c = record {
 
 pub keys-preserved : goal.keys-preserved
 keys-preserved g c =
-    let laws = laws_of g.K.Ord.cmp g.K.KeyBytes.bytes_of g.H.Hasher-1.digest_of g.V.PartialEq.eq g.V.Join.join_of g.H.Hasher-2.digest_of in
+    let laws = g.H.RowHasher.laws in
     let w = c.in-Some.wanted in
     let digest = c.in_ok-digest.digest.now in
     let kept = c.keys.invariant in

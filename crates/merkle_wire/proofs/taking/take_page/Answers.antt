@@ -14,9 +14,9 @@ use Rattle.merkle_wire.proofs.Unfit.{no_keys, no_page-empty, no_page-keys, no_pa
 use Rattle.merkle_wire.proofs.taking.take_page.Goals as goal
 
 pub returns-then-has_nodes-clause-taken : goal.returns-then-has_nodes-clause-taken
-returns-then-has_nodes-clause-taken g c =
+returns-then-has_nodes-clause-taken g c = rw g.met.H.RowHasher.laws_are (
     let keys = map (λ w. w.key) c.in_ok-keys.keys.items in
-    let pages = rw c.deref-2.ensures.value at c.in_ok-take_pages.ensures.taken in (
+    let pages = rw c.deref-2.ensures.value at (rw g.met.H.RowHasher.laws_are at c.in_ok-take_pages.ensures.taken) in (
       c.in_ok-digest.digest,
       keys,
       pages.0,
@@ -33,16 +33,16 @@ returns-then-has_nodes-clause-taken g c =
         [],
         pages.4,
         tt,
-        λ e. rw c.deref-3.ensures.value at (c.has_nodes.ensures c.if-has_nodes.true),
+        λ e. rw c.deref-3.ensures.value at ((rw g.met.H.RowHasher.laws_are at c.has_nodes.ensures) c.if-has_nodes.true),
         page_taken c.args.work.now c.take_pages.new.work c.note_same.new.self pages.1 [] pages.5
             (c.note_same.ensures ∙ (λ i. record c.take_pages.new.work { nodes = sym (append-nil c.take_pages.new.work.nodes) i })),
       ),
-    )
+    ))
 
 pub returns-clause-taken : goal.returns-clause-taken
-returns-clause-taken g c =
+returns-clause-taken g c = rw g.met.H.RowHasher.laws_are (
     let keys = map (λ w. w.key) c.in_ok-keys.keys.items in
-    let pages = rw c.deref-2.ensures.value at c.in_ok-take_pages.ensures.taken in
+    let pages = rw c.deref-2.ensures.value at (rw g.met.H.RowHasher.laws_are at c.in_ok-take_pages.ensures.taken) in
     let same = rw (c.as_ref.ensures.value, c.as_ref-2.ensures.value) at c.in_ok-own.ensures in (
       c.in_ok-digest.digest,
       keys,
@@ -56,7 +56,7 @@ returns-clause-taken g c =
         pages.3,
       ),
       (pages.1, owned_gap c.in_ok-own.own ∷ [], pages.4, same, λ e. absurd (cc), page_taken c.args.work.now c.take_pages.new.work c.add_nodes.new.self pages.1 (owned_gap c.in_ok-own.own ∷ []) pages.5 c.in_ok-add_nodes.ensures),
-    )
+    ))
 
 pub returns-in_err-keys-clause-refused : goal.returns-in_err-keys-clause-refused
 returns-in_err-keys-clause-refused g c =

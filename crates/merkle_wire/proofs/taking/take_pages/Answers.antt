@@ -2,7 +2,6 @@ use Rattle.std.proofs.Common.{◌+◌, [], length, take, map, Some, sym, subst, 
 use Rattle.std.proofs.lemmas.List.{take_all, length-map, length-take}
 use Rattle.std.proofs.lemmas.Result.{err_from_is_err_and}
 use Rattle.merkle_replica.specs.Contents.{side}
-use Rattle.merkle_replica.proofs.Sides.{laws_of}
 use Rattle.merkle_search_tree.specs.Items.{bound_of}
 use Rattle.merkle_wire.specs.Gaps.{owned_gap}
 use Rattle.merkle_wire.proofs.ItemsMore.{map_more}
@@ -13,14 +12,14 @@ use Rattle.merkle_wire.proofs.taking.take_pages.Goals as goal
 
 pub keys-init : goal.keys-init
 keys-init g c =
-    let laws = laws_of g.K.Ord.cmp g.K.KeyBytes.bytes_of g.H.Hasher-1.digest_of g.V.PartialEq.eq g.V.Join.join_of g.H.Hasher-2.digest_of in
+    let laws = g.H.RowHasher.laws in
     let begun = c.args.reader.now.left.now in
     let gap = owned_gap c.args.gap.now in
     subst (λ b. ArePagesSoFar laws (side c.args.replica.now) gap b [] begun begun c.args.work.now c.args.work.now) (sym c.as_ref-after.ensures.value) (pages_none laws (side c.args.replica.now) gap begun c.args.work.now)
 
 pub keys-preserved : goal.keys-preserved
 keys-preserved g c =
-    let laws = laws_of g.K.Ord.cmp g.K.KeyBytes.bytes_of g.H.Hasher-1.digest_of g.V.PartialEq.eq g.V.Join.join_of g.H.Hasher-2.digest_of in
+    let laws = g.H.RowHasher.laws in
     let gap = owned_gap c.args.gap.now in
     let w = c.wanted-item.result in
     let below = c.in_ok-take_below.ensures.taken in
@@ -31,7 +30,7 @@ keys-preserved g c =
 
 pub returns-clause-taken : goal.returns-clause-taken
 returns-clause-taken g c =
-    let laws = laws_of g.K.Ord.cmp g.K.KeyBytes.bytes_of g.H.Hasher-1.digest_of g.V.PartialEq.eq g.V.Join.join_of g.H.Hasher-2.digest_of in
+    let laws = g.H.RowHasher.laws in
     let gap = owned_gap c.args.gap.now in
     let keys = map (λ x. x.key) c.args.keys.now in
     let so = subst (λ xs. ArePagesSoFar laws (side c.args.replica.now) gap (bound_of c.keys.after) (map (λ x. x.key) xs) c.args.reader.now.left.now c.keys.reader.left.now c.args.work.now c.keys.work)

@@ -1,6 +1,5 @@
 use Rattle.std.proofs.Common.{take, map}
 use Rattle.merkle_replica.specs.Contents.{side}
-use Rattle.merkle_replica.proofs.Sides.{laws_of}
 use Rattle.merkle_search_tree.specs.Items.{bound_of}
 use Rattle.merkle_wire.specs.Gaps.{owned_gap}
 use Rattle.merkle_wire.proofs.NewGaps.{ArePagesSoFar}
@@ -9,5 +8,5 @@ use Rattle.merkle_wire.proofs.taking.take_pages.Given as goal
 -- the pages before the first keys are read and taken
 abbrev pub invariant-keys : goal.invariant-keys
 invariant-keys g l =
-    ArePagesSoFar (laws_of g.K.Ord.cmp g.K.KeyBytes.bytes_of g.H.Hasher-1.digest_of g.V.PartialEq.eq g.V.Join.join_of g.H.Hasher-2.digest_of) (side l.replica) (owned_gap l.gap)
+    ArePagesSoFar g.H.RowHasher.laws (side l.replica) (owned_gap l.gap)
     (bound_of l.after) (map (λ w. w.key) (take l.wanted-index l.keys)) l.fn.reader.left.now l.reader.left.now l.fn.work l.work

@@ -9,7 +9,7 @@ use Rattle.merkle_wire.proofs.Unfit.{no_part, no_part-empty, no_part-flag, no_ro
 use Rattle.merkle_wire.proofs.taking.take_part.Goals as goal
 
 pub returns-then-branch-clause-taken : goal.returns-then-branch-clause-taken
-returns-then-branch-clause-taken g c =
+returns-then-branch-clause-taken g c = rw g.met.H.RowHasher.laws_are (
     let last = bound_key g.K.Encode.encoding [] in (
       record { rows = c.in_ok-rows.rows.items; whole = true },
       [],
@@ -18,11 +18,11 @@ returns-then-branch-clause-taken g c =
       rw c.deref.ensures.value at (c.rows_lie_in.ensures.inside c.if-not-rows_lie_in.false),
       inl (refl, refl),
       sym (append-nil c.args.left.now.items),
-      c.in_ok-take_all.ensures,
-    )
+      (rw g.met.H.RowHasher.laws_are at c.in_ok-take_all.ensures),
+    ))
 
 pub returns-clause-taken : goal.returns-clause-taken
-returns-clause-taken g c =
+returns-clause-taken g c = rw g.met.H.RowHasher.laws_are (
     let last = bound_key g.K.Encode.encoding [] in
     let added = rw c.deref-2.ensures.value at c.in_ok-add_behind.ensures.added in (
       record { rows = c.in_ok-rows.rows.items; whole = false },
@@ -32,8 +32,8 @@ returns-clause-taken g c =
       rw c.deref.ensures.value at (c.rows_lie_in.ensures.inside c.if-not-rows_lie_in.false),
       inr (added.0, added.1, added.2, refl, added.3, added.4, refl),
       added.5,
-      c.in_ok-take_all-2.ensures,
-    )
+      (rw g.met.H.RowHasher.laws_are at c.in_ok-take_all-2.ensures),
+    ))
 
 pub returns-in_err-rows-clause-refused : goal.returns-in_err-rows-clause-refused
 returns-in_err-rows-clause-refused g c =

@@ -1,21 +1,20 @@
 use Rattle.std.proofs.Common.{rules, ◌≡◌, None, Some, inl, inr, refl, subst, sym}
 use Rattle.std.proofs.lemmas.Result.{err_from_is_err_and}
 use Rattle.merkle_replica.specs.Contents.{side}
-use Rattle.merkle_replica.proofs.Sides.{laws_of}
 use Rattle.merkle_delta.specs.Messages.{IsReplyOver}
 use Rattle.merkle_delta.proofs.Taking.{finds_as, finds_nothing, stops_over, takes_over, takes_plainly}
 use Rattle.merkle_delta.proofs.catching_up.CatchingUp.take.Goals as goal
 
 pub returns-in_default-clause-next : goal.returns-in_default-clause-next
 returns-in_default-clause-next g c =
-    let laws = laws_of g.K.Ord.cmp g.K.KeyBytes.bytes_of g.H.Hasher-1.digest_of g.V.PartialEq.eq g.V.Join.join_of g.H.Hasher-2.digest_of in
+    let laws = g.H.RowHasher.laws in
     let none : c.self.inside.told ≡ None = search rules in
     takes_plainly laws g.row.N g.K.Encode.encoding g.V.Encode.encoding (side c.args.replica.now) c.args.self c.self.inside.session c.self.inside.told c.args.reply.now c.self.view_is c.in_ok-after.after none
     (c.in_ok-next.next, c.in_ok-next.ensures.next, c.in_ok-after.ensures.goes_on)
 
 pub returns-in_err-next-in-Ok-clause-ended : goal.returns-in_err-next-in-Ok-clause-ended
 returns-in_err-next-in-Ok-clause-ended g c =
-    let laws = laws_of g.K.Ord.cmp g.K.KeyBytes.bytes_of g.H.Hasher-1.digest_of g.V.PartialEq.eq g.V.Join.join_of g.H.Hasher-2.digest_of in
+    let laws = g.H.RowHasher.laws in
     let p = err_from_is_err_and c.from_residual-in_err-next-in-Ok.result c.from_residual-in_err-next-in-Ok.ensures.1 in
     let some : c.self.inside.told ≡ Some c.in-Some.told = search rules in
     rw (p.1, p.2) (stops_over laws g.row.N g.K.Encode.encoding g.V.Encode.encoding (side c.args.replica.now) c.args.self c.self.inside.session c.self.inside.told c.args.reply.now c.self.view_is
@@ -23,7 +22,7 @@ returns-in_err-next-in-Ok-clause-ended g c =
 
 pub returns-in_ok-after-in-Ok-clause-next : goal.returns-in_ok-after-in-Ok-clause-next
 returns-in_ok-after-in-Ok-clause-next g c =
-    let laws = laws_of g.K.Ord.cmp g.K.KeyBytes.bytes_of g.H.Hasher-1.digest_of g.V.PartialEq.eq g.V.Join.join_of g.H.Hasher-2.digest_of in
+    let laws = g.H.RowHasher.laws in
     let some : c.self.inside.told ≡ Some c.in-Some.told = search rules in
     takes_over laws g.row.N g.K.Encode.encoding g.V.Encode.encoding (side c.args.replica.now) c.args.self c.self.inside.session c.self.inside.told c.args.reply.now c.self.view_is
     c.in-Some.told _ some c.told.view_is c.in_ok-after-in-Ok.after
@@ -31,7 +30,7 @@ returns-in_ok-after-in-Ok-clause-next g c =
 
 pub returns-in-Err-Unlike-clause-next : goal.returns-in-Err-Unlike-clause-next
 returns-in-Err-Unlike-clause-next g c =
-    let laws = laws_of g.K.Ord.cmp g.K.KeyBytes.bytes_of g.H.Hasher-1.digest_of g.V.PartialEq.eq g.V.Join.join_of g.H.Hasher-2.digest_of in
+    let laws = g.H.RowHasher.laws in
     let some : c.self.inside.told ≡ Some c.in-Some.told = search rules in
     takes_over laws g.row.N g.K.Encode.encoding g.V.Encode.encoding (side c.args.replica.now) c.args.self c.self.inside.session c.self.inside.told c.args.reply.now c.self.view_is
     c.in-Some.told _ some c.told.view_is _

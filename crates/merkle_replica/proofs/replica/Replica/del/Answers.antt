@@ -40,7 +40,7 @@ invariant_of-self-2 g c =
     let k = c.args.key.now in
     let rows = c.self.inside.rows.items in
     let place : IsPlaceOf cmp k rows c.in-Ok.at = rw (← c.deref.ensures.value) c.in-Ok.ensures.found in
-    kept_del cmp g.H.ValueHasher.value_digest g.met.K.Ord.total rows c.remove-2.new.self.items c.self.inside.tree c.remove.new.self k
+    kept_del cmp g.H.Hasher-2.digest_of g.met.K.Ord.total rows c.remove-2.new.self.items c.self.inside.tree c.remove.new.self k
     (c.remove-2.ensures.items ∙ removed_there cmp g.met.K.Ord.total rows c.in-Ok.at k c.self.invariant.ascending place) c.in_ok-remove.ensures.map c.in_ok-remove.ensures.settings.0 c.self.invariant
 
 pub returns-clause-rows : goal.returns-clause-rows
