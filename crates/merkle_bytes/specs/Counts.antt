@@ -60,7 +60,8 @@ bits_told (suc more) m n r s e = elim (cases_lt m 128) [
   | inr high ↦ elim (cases_lt n 128) [
     | inl few ↦ (let flat : (128 + m % 128) ∷ (bits_bytes more (m / 128) ++ r) ≡ n ∷ s = ap (λ x. x ++ r) (sym (bits_high more m high)) ∙ e ∙ ap (λ x. x ++ s) (bits_few (suc more) n few) in
         let same : 128 + m % 128 ≡ n = cc in absurd (omega arith))
-    | inr many ↦ (let flat : (128 + m % 128) ∷ (bits_bytes more (m / 128) ++ r) ≡ (128 + n % 128) ∷ (bits_bytes more (n / 128) ++ s) = ap (λ x. x ++ r) (sym (bits_high more m high)) ∙ e ∙ ap (λ x. x ++ s) (bits_high more n many) in
+    | inr many ↦ (let flat : (128 + m % 128) ∷ (bits_bytes more (m / 128) ++ r) ≡ (128 + n % 128) ∷ (bits_bytes more (n / 128) ++ s)
+        = ap (λ x. x ++ r) (sym (bits_high more m high)) ∙ e ∙ ap (λ x. x ++ s) (bits_high more n many) in
         let lows : 128 + m % 128 ≡ 128 + n % 128 = cc in
         let rest : bits_bytes more (m / 128) ++ r ≡ bits_bytes more (n / 128) ++ s = cc in
         let highs = bits_told more (m / 128) (n / 128) r s rest in

@@ -49,7 +49,8 @@ front_told kept more kept' more' r s e = elim (fit_or_not kept more) [
   | inr long ↦ elim (fit_or_not kept' more') [
     | inl few' ↦ (let flat : 240 ∷ ((count_bytes kept ++ count_bytes more) ++ r) ≡ (16 * kept' + more') ∷ s = ap (λ t. t ++ r) (sym (front_long kept more long)) ∙ e ∙ ap (λ t. t ++ s) (front_few kept' more' few'.0 few'.1) in
         let same : 240 ≡ 16 * kept' + more' = cc in absurd (omega (arith, same, few'.0, few'.1)))
-    | inr long' ↦ (let flat : 240 ∷ ((count_bytes kept ++ count_bytes more) ++ r) ≡ 240 ∷ ((count_bytes kept' ++ count_bytes more') ++ s) = ap (λ t. t ++ r) (sym (front_long kept more long)) ∙ e ∙ ap (λ t. t ++ s) (front_long kept' more' long') in
+    | inr long' ↦ (let flat : 240 ∷ ((count_bytes kept ++ count_bytes more) ++ r) ≡ 240 ∷ ((count_bytes kept' ++ count_bytes more') ++ s)
+        = ap (λ t. t ++ r) (sym (front_long kept more long)) ∙ e ∙ ap (λ t. t ++ s) (front_long kept' more' long') in
         let behind : (count_bytes kept ++ count_bytes more) ++ r ≡ (count_bytes kept' ++ count_bytes more') ++ s = cc in
         let firsts = count_told kept kept' (count_bytes more ++ r) (count_bytes more' ++ s) (sym (append_assoc (count_bytes kept) (count_bytes more) r) ∙ behind ∙ append_assoc (count_bytes kept') (count_bytes more') s) in
         let seconds = count_told more more' r s firsts.1 in

@@ -140,8 +140,10 @@ module _ {K V H : Type 0} (cmp : K → K → Ordering) (bytes_of encoding : K �
   -- told of the pages over the gaps; the values at the keys; or the rows in the gaps
   abbrev pub IsReply : Question K → List ℕ → Type 0
   IsReply (Root settings) reply = AreSettingsOf digest_of n tree settings × (reply ≡ root_bytes bytes_of rows tree)
-  IsReply (Outlines most gaps) reply = (told : List (OwnedGap K × Outline K V)) × Answers (λ g. IsTold cmp rows true (items_over cmp bytes_of tree g)) gaps.items told × (reply ≡ front outlines_kind ++ outlines_bytes encoding values told)
-  IsReply (Nodes most gaps) reply = (told : List (OwnedGap K × Outline K V)) × Answers (λ g. IsTold cmp rows false (items_over cmp bytes_of tree g)) gaps.items told × (reply ≡ front nodes_kind ++ outlines_bytes encoding values told)
+  IsReply (Outlines most gaps) reply = (told : List (OwnedGap K × Outline K V)) × Answers (λ g. IsTold cmp rows true (items_over cmp bytes_of tree g)) gaps.items told
+      × (reply ≡ front outlines_kind ++ outlines_bytes encoding values told)
+  IsReply (Nodes most gaps) reply = (told : List (OwnedGap K × Outline K V)) × Answers (λ g. IsTold cmp rows false (items_over cmp bytes_of tree g)) gaps.items told
+      × (reply ≡ front nodes_kind ++ outlines_bytes encoding values told)
   IsReply (RowsAt keys) reply = (told : List (Wanted K × Option V)) × Answers (λ w value. value ≡ get cmp rows w.key) keys.items told × (reply ≡ front rows_at_kind ++ values_bytes values told)
   IsReply (RowsIn gaps) reply = (told : List (OwnedGap K × Part K V)) × Answers (IsPartOf cmp rows) gaps.items told × (reply ≡ front rows_in_kind ++ parts_bytes encoding values told)
 
