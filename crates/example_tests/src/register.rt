@@ -1,6 +1,6 @@
 use crate::rows::text;
-use examples::register::{Register, Registers, Stamped, stamp, write};
-use examples::store::open_rows;
+use examples::register::{Register, Registers, Signed, Stamped, settle, sign, stamp, write};
+use examples::store::{Store, open_rows};
 use std::test::Fail;
 
 /// Writes to one register, in turn: the time, the writer and the value, and the value that the register then has.
@@ -46,6 +46,34 @@ fn the_greater_pair_stays(rt: HostRuntime) -> Result<(), Fail> {
         match registers.rows() {
             [(_, held)] => assert_eq!(rt; held.0.1, after),
             _ => return Err(Fail::from("not one register")),
+        }
+    }
+    Ok(())
+}
+
+/// What two writers write, one into each store: the time, the writer and the value of each, and the value that both stores then hold.
+const TWO_WRITERS: [((u64, u64, u64), (u64, u64, u64), u64); 4] = [
+    ((2, 1, 70), (2, 3, 60), 60),
+    ((3, 1, 70), (2, 3, 60), 70),
+    ((2, 1, 70), (2, 1, 90), 90),
+    ((2, 1, 70), (2, 1, 70), 70),
+];
+
+#[test]
+fn two_writers_settle(rt: HostRuntime) -> Result<(), Fail> {
+    let alloc = rt.alloc();
+    for ((time, writer, value), (other_time, other, other_value), after) in TWO_WRITERS {
+        let mut a: Store<Signed> = open_rows(alloc, Vec::new(alloc))?;
+        let mut b: Store<Signed> = open_rows(alloc, Vec::new(alloc))?;
+        sign(&mut a, text(alloc, "door")?, time, writer, value)?;
+        sign(&mut b, text(alloc, "door")?, other_time, other, other_value)?;
+        settle(&mut a, &mut b)?;
+        match (a.rows(), b.rows()) {
+            ([(_, here)], [(_, there)]) => {
+                assert_eq!(rt; here.0.1.1, after);
+                assert_eq!(rt; there.0.1.1, after);
+            }
+            _ => return Err(Fail::from("not one register each")),
         }
     }
     Ok(())

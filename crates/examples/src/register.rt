@@ -4,12 +4,13 @@ ghost use Rattle.std.specs.Cmp.Rules.{comparing};
 ghost use Rattle.std.proofs.Common.{rules};
 ghost use Rattle.merkle_digest.specs.Sip24.{Holds};
 ghost use Rattle.merkle_tree_theory.specs.State.{SameSettings};
+ghost use Rattle.merkle_replica.specs.Faithfully.{ConvergeWhileFaithful};
 ghost use Rattle.merkle_replica.specs.Puts.{HasPut};
 ghost use Rattle.examples.specs.Register.{IsWritten};
 
 use crate::store::Store;
 use merkle_digest::{HashBytes, Sip24, SipHasher};
-use merkle_replica::{Greatest, Join, RowHasher};
+use merkle_replica::{CatchUpsError, Greatest, Join, RowHasher, catch_up_both};
 use std::alloc::{AllocError, Global};
 
 /// What was written last: at this time, by this writer, this value. Of two registers the one with the greater time is the later; at
@@ -82,4 +83,39 @@ pub fn stamp(registers: &mut Stamped, name: String, time: u64, value: u64) -> Re
     ensures settings { SameSettings registers.old.tree registers.new.tree }
 {
     registers.put(name, Greatest((time, value)))
+}
+
+/// A time, a writer and a value: of what two writers wrote at one time, that of the greater writer stays.
+pub type Signed = Greatest<(u64, (u64, u64))>;
+
+/// Writes a value at a time, by a writer: the greatest stays, by time, then by writer, then by value.
+///
+/// # Errors
+///
+/// Want of memory, which leaves all registers as they were.
+pub fn sign(
+    registers: &mut Store<Signed>,
+    name: String,
+    time: u64,
+    writer: u64,
+    value: u64,
+) -> Result<(), AllocError>
+    ensures joined { OnOk result (HasPut ⟦<SipHasher as RowHasher<16, String, Signed>>⟧.laws registers.old
+        (name, record { 0 = (time, (writer, value)) }) registers.new) }
+    ensures unchanged { OnErr result (registers.new ≡ registers.old) }
+{
+    registers.put(name, Greatest((time, (writer, value))))
+}
+
+/// Leaves both with what was written last, while digests are faithful in what is met before each of the two catch-ups.
+///
+/// # Errors
+///
+/// Want of memory: what was joined until then stays.
+pub fn settle(a: &mut Store<Signed>, b: &mut Store<Signed>) -> Result<(), CatchUpsError>
+    ensures join { OnOk result (ConvergeWhileFaithful ⟦<SipHasher as RowHasher<16, String, Signed>>⟧.laws
+        a.old b.old a.new b.new) }
+{
+    catch_up_both(a, b)?;
+    Ok(())
 }

@@ -9,7 +9,7 @@ use std::alloc::{AllocError, Global};
 
 /// A value of any totally ordered type that can be copied. Two of them are joined by the greater one, as by their order.
 ///
-/// With a time in front, as in `Greatest((time, writer, value))`, the last writer wins.
+/// With a time in front, as in `Greatest((time, (writer, value)))`, the last writer wins.
 #[derive(Clone, Copy, Debug, PartialEq, Eq, PartialOrd, Ord)]
 pub struct Greatest<T>(pub T);
 
