@@ -1,7 +1,8 @@
 -- Catch-ups by messages, and copies of a replica.
-use Rattle.std.specs.Prelude.{◌≡◌, ℕ, ◌≤◌, true, List, length}
+use Rattle.std.specs.Prelude.{◌≡◌, ℕ, ◌≤◌, true, List, length, sum_by}
 use Rattle.key_order.specs.Join.{IsJoin}
 use Rattle.key_order.specs.Map.{IsMap, SameMap}
+use Rattle.merkle_bytes.specs.Runs.{entries_bytes, row_behind, row_key}
 use Rattle.merkle_replica.specs.Contents.{Contents, Side, side}
 use Rattle.merkle_replica.specs.Faithful.{IsCollisionFree}
 use Rattle.merkle_replica.specs.Laws.{Laws}
@@ -23,3 +24,8 @@ module _ {K V H : Type 0} (laws : Laws K V H) where
   -- two replicas with equal rows, place by place
   abbrev pub HaveOneMap : Contents K V H → Contents K V H → Type 0
   HaveOneMap a b = SameMap laws.cmp (λ v w. laws.eq v w ≡ true) a.rows b.rows
+
+-- the keys of rows that stand in so many bytes behind a key have at most this many bytes
+abbrev pub AreMostKeyBytes : {K V : Type 0} → (K → List ℕ) → (V → List ℕ) → ℕ → ℕ → Type 0
+AreMostKeyBytes {K} {V} encoding values bytes most = (last : List ℕ) (rows : List (K × V))
+    → length (entries_bytes (row_behind encoding values) (row_key encoding) last rows) ≤ bytes → sum_by (λ row. length (encoding row.0)) rows ≤ most

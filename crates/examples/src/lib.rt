@@ -8,6 +8,7 @@ pub mod hashing;
 mod lists;
 pub mod meeting;
 pub mod messages;
+pub mod outlines;
 pub mod readme;
 pub mod register;
 pub mod removable;
