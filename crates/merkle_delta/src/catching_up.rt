@@ -204,7 +204,7 @@ fn is_shorter(told: &Told, delta: &[u8], plain: &[u8]) -> bool {
 }
 
 /// Goes on as the plain catch-up does.
-fn go_on<K: Key + Decode, V: Join + Decode, H: RowHasher<N, K, V>, const N: usize>(
+fn go_on<K: Key + Decode, V: Join + Decode, H: Hasher<N, K> + Hasher<N, V>, const N: usize>(
     alloc: Global,
     replica: &mut Replica<K, V, H, N>,
     next: merkle_wire::Next<K, V>,
@@ -240,7 +240,7 @@ fn go_on<K: Key + Decode, V: Join + Decode, H: RowHasher<N, K, V>, const N: usiz
 }
 
 /// The chunks of this side's own reply to a question, where they are worth telling.
-fn own_chunks<K: Key + Decode, V: Join + Decode, H: RowHasher<N, K, V>, const N: usize>(
+fn own_chunks<K: Key + Decode, V: Join + Decode, H: Hasher<N, K> + Hasher<N, V>, const N: usize>(
     alloc: Global,
     replica: &mut Replica<K, V, H, N>,
     question: &[u8],

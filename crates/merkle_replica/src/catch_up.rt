@@ -12,7 +12,7 @@ use crate::join::Join;
 use crate::replica::Replica;
 use crate::row_hasher::RowHasher;
 use crate::wanted::in_order;
-use merkle_digest::Key;
+use merkle_digest::{Hasher, Key};
 use merkle_search_tree::OutlineItem;
 use merkle_search_tree::laws::{
     equal_keys_are_on_one_level, every_tree_is_sound, outlines_lead_down,
@@ -149,7 +149,7 @@ fn lacked_keys<'a, K: Key + Drop, V: Join + Drop, H: RowHasher<N, K, V>, const N
 }
 
 /// The whole tree of a hashed replica as one item, or none where it has no row.
-fn root_items<'a, K: Key + Drop, V: Join + Drop, H: RowHasher<N, K, V>, const N: usize>(
+fn root_items<'a, K: Key + Drop, V: Join + Drop, H: Hasher<N, K> + Hasher<N, V>, const N: usize>(
     alloc: Global,
     replica: &'a Replica<K, V, H, N>,
 ) -> Result<Vec<OutlineItem<'a, N, K>>, AllocError>

@@ -5,13 +5,17 @@ ghost use Rattle.merkle_replica.specs.Puts.{IsRising, HasGathered, IsGatheredTo}
 
 use crate::join::Join;
 use crate::replica::Replica;
-use crate::row_hasher::RowHasher;
-use merkle_digest::Key;
+use merkle_digest::{Hasher, Key};
 
 /// How many new rows are put by themselves at most, each of which moves the own rows behind it.
 const FEW: usize = 4;
 
-impl<K: Key + Drop, V: Join + Drop, H: RowHasher<N, K, V>, const N: usize> Replica<K, V, H, N> {
+impl<K: Key + Drop, V: Join + Drop, H: Hasher<N, K> + Hasher<N, V>, const N: usize> Replica<
+    K,
+    V,
+    H,
+    N,
+> {
     /// Joins rows whose keys don't fall: where few of them are new, each by a put, which moves no row where the key is there, else in one
     /// pass over both. Refused, it answers how many of them are joined.
     pub(crate) fn join_sparse(&mut self, theirs: Vec<(K, V)>) -> Result<(), usize>

@@ -1,8 +1,8 @@
-//! Laws over the definitions alone: what is premise enough in page format 2, that a map in memory is small, that three steps are a
-//! pull, that the steps of a catch-up are one, that outlines lie within gaps, and what gossip joins. Each function has no effect and takes
-//! no memory.
+//! Laws over the definitions alone: what is premise enough in page format 2, that a map in memory is small, which tree a replica has, that
+//! three steps are a pull, that the steps of a catch-up are one, that outlines lie within gaps, and what gossip joins. Each function has no
+//! effect and takes no memory.
 
-ghost use Rattle.merkle_replica.specs.CatchUpSteps.{CatchUpsJoin, RoundsAreFew, StepsAreACatchUp};
+ghost use Rattle.merkle_replica.specs.CatchUpSteps.{CatchUpsJoin, IsTreeOfSide, RoundsAreFew, StepsAreACatchUp};
 ghost use Rattle.merkle_replica.specs.Contents.{side};
 ghost use Rattle.merkle_replica.specs.Faithful.{HasSmallMap};
 ghost use Rattle.merkle_replica.specs.Faithfully.{CollisionFreeIsFaithful, CollisionFreePullsCover, CollisionFreeTurnsAreFaithful, CollisionFreeTurnsConverge};
@@ -16,7 +16,7 @@ use crate::row_hasher::RowHasher;
 use merkle_digest::{Key, KeyBytes, KeyBytesExact};
 use merkle_search_tree::laws::{
     a_map_has_one_tree, a_tree_in_memory_is_small, equal_keys_have_equal_bytes,
-    exact_keys_make_pages_faithful, outlines_lead_down, page_ranges_of_a_map,
+    every_tree_is_sound, exact_keys_make_pages_faithful, outlines_lead_down, page_ranges_of_a_map,
 };
 
 /// In format 2, where the bytes of a key tell it from every other, it is premise enough that no streams and no values collide, for
@@ -53,6 +53,16 @@ pub fn a_replica_in_memory_is_small<K: Key, V: Join, H: RowHasher<N, K, V>, cons
 {
     equal_keys_have_equal_bytes::<K>();
     a_tree_in_memory_is_small(replica.tree());
+}
+
+/// The pages of a replica are the tree of its rows, each value replaced by its digest. So the page ranges that it tells a peer are those that
+/// [`steps_are_a_pull`] asks for, and its outlines those of [`steps_are_a_catch_up`].
+pub fn a_replica_has_the_tree_of_its_rows<K: Key, V: Join, H: RowHasher<N, K, V>, const N: usize>(
+    replica: &Replica<K, V, H, N>,
+)
+    ensures { IsTreeOfSide H.laws (side replica.now) replica.now.tree.root }
+{
+    every_tree_is_sound(replica.tree());
 }
 
 /// The three steps of a pull are a pull, whatever lies between them: where each message was read on the other side as what was sent, up

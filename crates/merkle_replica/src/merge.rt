@@ -15,7 +15,6 @@ ghost use Rattle.merkle_replica.specs.Parted.{whole, parted, JoinsParted, FirstN
 
 use crate::join::Join;
 use crate::pull::Stopped;
-use crate::row_hasher::RowHasher;
 use crate::seek::{count_within, first_from, seek};
 use merkle_digest::{Hasher, Key};
 use merkle_search_tree::MerkleSearchTree;
@@ -102,7 +101,7 @@ fn join_here<K, V, H, const N: usize>(
 where
     K: Key + Drop,
     V: Join + Drop,
-    H: RowHasher<N, K, V>,
+    H: Hasher<N, K> + Hasher<N, V>,
     requires kept { IsKept K.cmp ⟦<H as Hasher<N, V>>⟧.digest_of (parted front.old back.old tree.old) }
     requires below { AllByRecursion (λ s. Below K.cmp s.0 key) front.old.items }
     requires room { vec_len front.old + vec_len back.old < vec_capacity front.old }
@@ -147,7 +146,7 @@ fn take_row<K, V, H, const N: usize>(
 where
     K: Key + Drop,
     V: Join + Drop,
-    H: RowHasher<N, K, V>,
+    H: Hasher<N, K> + Hasher<N, V>,
     requires kept { IsKept K.cmp ⟦<H as Hasher<N, V>>⟧.digest_of (parted front.old back.old tree.old) }
     requires below { AllByRecursion (λ s. Below K.cmp s.0 row.now.0) front.old.items }
     requires room { vec_len front.old + vec_len back.old < vec_capacity front.old }
@@ -175,7 +174,7 @@ pub(crate) fn join_all<K, V, H, const N: usize>(
 where
     K: Key + Drop,
     V: Join + Drop,
-    H: RowHasher<N, K, V>,
+    H: Hasher<N, K> + Hasher<N, V>,
     requires apart { IsApart K.cmp (spans_of ranges.now) }
     requires ordered { AllByRecursion (IsOrdered K.cmp) (spans_of ranges.now) }
     requires ascending { IsMap K.cmp theirs.now }
@@ -221,7 +220,7 @@ pub(crate) fn join_owned<K, V, H, const N: usize>(
 where
     K: Key + Drop,
     V: Join + Drop,
-    H: RowHasher<N, K, V>,
+    H: Hasher<N, K> + Hasher<N, V>,
     requires rising { IsRising K.cmp theirs.items }
     requires kept { IsKept K.cmp ⟦<H as Hasher<N, V>>⟧.digest_of (record { rows = rows.old.items; tree = tree.old }) }
     ensures kept { IsKept K.cmp ⟦<H as Hasher<N, V>>⟧.digest_of (record { rows = rows.new.items; tree = tree.new }) }

@@ -5,8 +5,7 @@ ghost use Rattle.merkle_replica.specs.Puts.{IsPuts, IsPutsTo};
 
 use crate::join::Join;
 use crate::replica::Replica;
-use crate::row_hasher::RowHasher;
-use merkle_digest::Key;
+use merkle_digest::{Hasher, Key};
 use std::cmp::Ordering;
 
 /// Memory was refused before all rows were put.
@@ -16,7 +15,12 @@ pub struct PutsCut {
     pub done: usize,
 }
 
-impl<K: Key + Drop, V: Join + Drop, H: RowHasher<N, K, V>, const N: usize> Replica<K, V, H, N> {
+impl<K: Key + Drop, V: Join + Drop, H: Hasher<N, K> + Hasher<N, V>, const N: usize> Replica<
+    K,
+    V,
+    H,
+    N,
+> {
     /// Joins rows in any order, as if each were put, one after the other. It sorts them by key, and joins them in one pass: room for all
     /// of them is made first, and own rows from the first of them on are moved out of the way and back. A put of each moves the rows
     /// behind it instead, so this is for many rows.

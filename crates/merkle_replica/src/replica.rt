@@ -11,7 +11,6 @@ ghost use Rattle.merkle_replica.specs.Puts.{PutDropsFew};
 use crate::join::Join;
 use crate::merge::{join_all, join_owned};
 use crate::pull::Stopped;
-use crate::row_hasher::RowHasher;
 use crate::value_hasher::ValueHasher;
 use merkle_digest::{Hasher, Key, RootHash};
 use merkle_search_tree::builder::Builder;
@@ -118,6 +117,7 @@ impl<K: Key, V: Eq, H: Hasher<N, K> + ValueHasher<N, V>, const N: usize> Replica
     pub fn hash(&mut self)
         ensures rows { self.new.rows ≡ self.old.rows }
         ensures tree { self.new.tree ≡ hashed_tree K.bytes_of self.old.tree }
+        ensures settings { SameSettings self.old.tree self.new.tree }
     {
         let _ = self.tree.root_hash_counted();
     }
@@ -142,7 +142,12 @@ impl<K: Key, V: Eq, H: Hasher<N, K> + ValueHasher<N, V>, const N: usize> Replica
     }
 }
 
-impl<K: Key + Drop, V: Join + Drop, H: RowHasher<N, K, V>, const N: usize> Replica<K, V, H, N> {
+impl<K: Key + Drop, V: Join + Drop, H: Hasher<N, K> + Hasher<N, V>, const N: usize> Replica<
+    K,
+    V,
+    H,
+    N,
+> {
     /// Joins a row: a new key is added, and a key that is there holds the join of both values. It finds the key's place by
     /// halving, and moves the rows behind a new one up by one: at a random place half of them. [`put_all`](Self::put_all) is for many
     /// rows. The tree then takes the value's digest, as [`MerkleSearchTree::upsert`] says.
@@ -188,7 +193,12 @@ impl<K: Key + Drop, V: Join + Drop, H: RowHasher<N, K, V>, const N: usize> Repli
     }
 }
 
-impl<K: Key + Drop, V: Join + Drop, H: RowHasher<N, K, V>, const N: usize> Replica<K, V, H, N> {
+impl<K: Key + Drop, V: Join + Drop, H: Hasher<N, K> + Hasher<N, V>, const N: usize> Replica<
+    K,
+    V,
+    H,
+    N,
+> {
     ghost use Rattle.std.specs.Prelude.{IsOk, true, false};
     ghost use Rattle.key_order.specs.Map.{has_key, del};
     ghost use Rattle.merkle_tree_theory.specs.Remove.{HasFreeGap};
@@ -241,7 +251,12 @@ pub struct RowsRefused<K, V> {
     pub why: LoadRefused,
 }
 
-impl<K: Key + Drop, V: Join, H: RowHasher<N, K, V> + Drop, const N: usize> Replica<K, V, H, N> {
+impl<K: Key + Drop, V: Join, H: Hasher<N, K> + Hasher<N, V> + Drop, const N: usize> Replica<
+    K,
+    V,
+    H,
+    N,
+> {
     ghost use Rattle.merkle_search_tree.specs.Loading.{LoadFails, BeginsWith};
 
     /// A replica of rows that ascend strictly by key, whose tree has the builder's hasher, level base and page format. It takes the rows
@@ -280,7 +295,12 @@ impl<K: Key + Drop, V: Join, H: RowHasher<N, K, V> + Drop, const N: usize> Repli
     }
 }
 
-impl<K: Key + Drop, V: Join + Drop, H: RowHasher<N, K, V>, const N: usize> Replica<K, V, H, N> {
+impl<K: Key + Drop, V: Join + Drop, H: Hasher<N, K> + Hasher<N, V>, const N: usize> Replica<
+    K,
+    V,
+    H,
+    N,
+> {
     ghost use Rattle.std.specs.List.{AllByRecursion};
     ghost use Rattle.key_order.specs.Interval.{IsApart, IsOrdered};
     ghost use Rattle.merkle_replica.specs.Answers.{spans_of, JoinsWithin, JoinsPartly};

@@ -7,9 +7,8 @@ ghost use Rattle.merkle_replica.specs.Descent.{keys_of};
 
 use crate::join::Join;
 use crate::replica::Replica;
-use crate::row_hasher::RowHasher;
 use key_order::is_below;
-use merkle_digest::Key;
+use merkle_digest::{Hasher, Key};
 use std::alloc::{AllocError, Global};
 use std::cmp::Ordering;
 
@@ -54,7 +53,12 @@ fn begins_anew<K: Ord>(sorted: &[&K], i: usize) -> bool
     i == 0 || is_below(sorted[i - 1], sorted[i])
 }
 
-impl<K: Key + Drop, V: Join + Drop, H: RowHasher<N, K, V>, const N: usize> Replica<K, V, H, N> {
+impl<K: Key + Drop, V: Join + Drop, H: Hasher<N, K> + Hasher<N, V>, const N: usize> Replica<
+    K,
+    V,
+    H,
+    N,
+> {
     /// Copies of the rows at these keys: each key cloned, and each value joined with itself.
     pub(crate) fn copies_at(&self, keys: &[&K]) -> Result<Vec<(K, V)>, AllocError>
         requires there { AllByRecursion (λ k. IsPresent (get K.cmp self.now.rows k)) (keys_of keys.now) }

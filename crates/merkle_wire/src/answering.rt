@@ -15,7 +15,7 @@ use crate::rows_at::tell_values;
 use crate::rows_in::tell_rows;
 use crate::settings::agree;
 use merkle_bytes::{Decode, Encode, ReadError, encode_count};
-use merkle_digest::{Key, PageDigest};
+use merkle_digest::{Hasher, Key, PageDigest};
 use merkle_replica::{Join, Replica, RowHasher};
 use merkle_search_tree::OutlineItem;
 use std::alloc::{AllocError, AllocFailed, Global};
@@ -187,7 +187,7 @@ fn reply_to<K: Key + Decode, V: Join + Encode + Drop, H: RowHasher<N, K, V>, con
 }
 
 /// The number of rows, and the digest of the root page, or none.
-fn root_reply<K: Key + Encode, V: Join + Encode, H: RowHasher<N, K, V>, const N: usize>(
+fn root_reply<K: Key + Encode, V: Join + Encode, H: Hasher<N, K> + Hasher<N, V>, const N: usize>(
     alloc: Global,
     replica: &Replica<K, V, H, N>,
 ) -> Result<Vec<u8>, AllocError>
@@ -201,7 +201,7 @@ fn root_reply<K: Key + Encode, V: Join + Encode, H: RowHasher<N, K, V>, const N:
 }
 
 /// The digest of the root page, where there is a row.
-fn root_digest<K: Key, V: Join, H: RowHasher<N, K, V>, const N: usize>(
+fn root_digest<K: Key, V: Join, H: Hasher<N, K> + Hasher<N, V>, const N: usize>(
     replica: &Replica<K, V, H, N>,
 ) -> Option<&PageDigest>
     requires hashed { IsSome replica.now.tree.root_hash }

@@ -7,8 +7,8 @@ ghost use Rattle.merkle_wire.specs.Outlines.{nodes_among, nodes_digest};
 ghost use Rattle.merkle_wire.specs.Told.{AddsRowAt, FindsRows, TellsNodes, digests_bytes, lent_rows_bytes, node_keys_bytes};
 
 use merkle_bytes::{Encode, KeyRun, encode_count, encode_run};
-use merkle_digest::{Key, Sip24, ValueDigest};
-use merkle_replica::{Join, Replica, RowHasher};
+use merkle_digest::{Hasher, Key, Sip24, ValueDigest};
+use merkle_replica::{Join, Replica};
 use merkle_search_tree::OutlineItem;
 use std::alloc::{AllocError, Global};
 
@@ -61,7 +61,7 @@ pub(crate) fn encode_keys<K: Encode, const N: usize>(
 pub(crate) fn write_nodes<
     K: Key + Encode + Drop,
     V: Join + Encode + Drop,
-    H: RowHasher<N, K, V>,
+    H: Hasher<N, K> + Hasher<N, V>,
     const N: usize,
 >(
     replica: &Replica<K, V, H, N>,
@@ -110,7 +110,7 @@ fn write_digests<K: Encode, const N: usize>(
 }
 
 /// The rows of nodes.
-fn rows_of<'a, K: Key + Drop, V: Join + Drop, H: RowHasher<N, K, V>, const N: usize>(
+fn rows_of<'a, K: Key + Drop, V: Join + Drop, H: Hasher<N, K> + Hasher<N, V>, const N: usize>(
     replica: &'a Replica<K, V, H, N>,
     nodes: &[NodeRef<'_, N, K>],
 ) -> Result<Vec<&'a (K, V)>, AllocError>
@@ -124,7 +124,7 @@ fn rows_of<'a, K: Key + Drop, V: Join + Drop, H: RowHasher<N, K, V>, const N: us
 }
 
 /// Adds the row at a key, where there is one.
-fn add_row<'a, K: Key + Drop, V: Join + Drop, H: RowHasher<N, K, V>, const N: usize>(
+fn add_row<'a, K: Key + Drop, V: Join + Drop, H: Hasher<N, K> + Hasher<N, V>, const N: usize>(
     replica: &'a Replica<K, V, H, N>,
     key: &K,
     found: &mut Vec<&'a (K, V)>,

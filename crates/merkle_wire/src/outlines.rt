@@ -11,8 +11,8 @@ use crate::gaps::OwnedGap;
 use crate::nodes::{NodeRef, encode_keys, nodes_digest, nodes_of, write_nodes};
 use crate::pages::encode_page;
 use merkle_bytes::{Decode, Encode, KeyRun};
-use merkle_digest::{Key, PageDigest};
-use merkle_replica::{Join, Replica, RowHasher};
+use merkle_digest::{Hasher, Key, PageDigest};
+use merkle_replica::{Join, Replica};
 use merkle_search_tree::OutlineItem;
 use std::alloc::{AllocError, Global};
 
@@ -34,7 +34,7 @@ pub(crate) struct Telling {
 pub(crate) fn tell_pages<
     K: Key + Encode + Drop,
     V: Join + Encode + Drop,
-    H: RowHasher<N, K, V>,
+    H: Hasher<N, K> + Hasher<N, V>,
     const N: usize,
 >(
     replica: &Replica<K, V, H, N>,
@@ -69,7 +69,7 @@ pub(crate) fn is_full(bytes: &[u8], most: usize) -> bool
 fn tell_page<
     K: Key + Encode + Drop,
     V: Join + Encode + Drop,
-    H: RowHasher<N, K, V>,
+    H: Hasher<N, K> + Hasher<N, V>,
     const N: usize,
 >(
     replica: &Replica<K, V, H, N>,
@@ -87,7 +87,7 @@ fn tell_page<
 }
 
 /// The items of the page over a gap.
-fn outline_over<'a, K: Key + Drop, V: Join + Drop, H: RowHasher<N, K, V>, const N: usize>(
+fn outline_over<'a, K: Key + Drop, V: Join + Drop, H: Hasher<N, K> + Hasher<N, V>, const N: usize>(
     replica: &'a Replica<K, V, H, N>,
     gap: &'a OwnedGap<K>,
 ) -> Result<Vec<OutlineItem<'a, N, K>>, AllocError>
@@ -104,7 +104,7 @@ fn outline_over<'a, K: Key + Drop, V: Join + Drop, H: RowHasher<N, K, V>, const 
 fn tell_items<
     K: Key + Encode + Drop,
     V: Join + Encode + Drop,
-    H: RowHasher<N, K, V>,
+    H: Hasher<N, K> + Hasher<N, V>,
     const N: usize,
 >(
     replica: &Replica<K, V, H, N>,

@@ -6,15 +6,15 @@ ghost use Rattle.merkle_wire.specs.Told.{TellsValue, TellsValues};
 use crate::outlines::is_full;
 use crate::wanted::Wanted;
 use merkle_bytes::Encode;
-use merkle_digest::Key;
-use merkle_replica::{Join, Replica, RowHasher};
+use merkle_digest::{Hasher, Key};
+use merkle_replica::{Join, Replica};
 use std::alloc::AllocError;
 
 /// Adds the values at the keys to a message, one behind the other, as far as the bytes suffice.
 pub(crate) fn tell_values<
     K: Key + Drop,
     V: Join + Encode + Drop,
-    H: RowHasher<N, K, V>,
+    H: Hasher<N, K> + Hasher<N, V>,
     const N: usize,
 >(
     replica: &Replica<K, V, H, N>,
@@ -37,11 +37,12 @@ pub(crate) fn tell_values<
 }
 
 /// Writes the value at a key: a byte 0 where there is none, or a byte 1 and the value.
-fn tell_value<K: Key + Drop, V: Join + Encode + Drop, H: RowHasher<N, K, V>, const N: usize>(
-    replica: &Replica<K, V, H, N>,
-    key: &K,
-    bytes: &mut Vec<u8>,
-) -> Result<(), AllocError>
+fn tell_value<
+    K: Key + Drop,
+    V: Join + Encode + Drop,
+    H: Hasher<N, K> + Hasher<N, V>,
+    const N: usize,
+>(replica: &Replica<K, V, H, N>, key: &K, bytes: &mut Vec<u8>) -> Result<(), AllocError>
     ensures { OnOk result (TellsValue K.cmp V.encoding replica.now.rows key.now bytes.old bytes.new) }
 {
     match replica.row_at(key) {

@@ -9,7 +9,7 @@ ghost use Rattle.merkle_wire.specs.Steady.{IsKeyOf};
 
 use merkle_bytes::{Decode, Encode, Expected, ReadError, Reader, encode_count};
 use merkle_digest::{Hasher, Key};
-use merkle_replica::{Join, Replica, RowHasher};
+use merkle_replica::{Join, Replica};
 use merkle_search_tree::builder::PageFormat;
 use std::alloc::{AllocError, Global};
 
@@ -85,7 +85,7 @@ pub(crate) fn decode_settings<K: Decode>(reader: &mut Reader<'_>) -> Result<Sett
 }
 
 /// The settings of a replica.
-pub(crate) fn settings_of<K: Key + Drop, V: Join, H: RowHasher<N, K, V>, const N: usize>(
+pub(crate) fn settings_of<K: Key + Drop, V: Join, H: Hasher<N, K> + Hasher<N, V>, const N: usize>(
     alloc: Global,
     replica: &Replica<K, V, H, N>,
 ) -> Result<Settings<K>, AllocError>
@@ -102,7 +102,7 @@ pub(crate) fn settings_of<K: Key + Drop, V: Join, H: RowHasher<N, K, V>, const N
 }
 
 /// The first key of a replica with its digest, where it has a row.
-fn sample_of<K: Key + Drop, V: Join, H: RowHasher<N, K, V>, const N: usize>(
+fn sample_of<K: Key + Drop, V: Join, H: Hasher<N, K> + Hasher<N, V>, const N: usize>(
     alloc: Global,
     replica: &Replica<K, V, H, N>,
 ) -> Result<Option<(K, Vec<u8>)>, AllocError>
@@ -121,7 +121,7 @@ fn sample_of<K: Key + Drop, V: Join, H: RowHasher<N, K, V>, const N: usize>(
 }
 
 /// Whether these are the settings of the replica.
-pub(crate) fn agree<K: Key, V: Join, H: RowHasher<N, K, V>, const N: usize>(
+pub(crate) fn agree<K: Key, V: Join, H: Hasher<N, K> + Hasher<N, V>, const N: usize>(
     replica: &Replica<K, V, H, N>,
     settings: &Settings<K>,
 ) -> bool
@@ -141,7 +141,7 @@ pub(crate) fn agree<K: Key, V: Join, H: RowHasher<N, K, V>, const N: usize>(
 }
 
 /// Whether the digest of a sample is that of its key by the replica's hasher.
-fn has_digest<K: Key, V: Join, H: RowHasher<N, K, V>, const N: usize>(
+fn has_digest<K: Key, V: Join, H: Hasher<N, K> + Hasher<N, V>, const N: usize>(
     replica: &Replica<K, V, H, N>,
     sample: &Option<(K, Vec<u8>)>,
 ) -> bool

@@ -1,5 +1,6 @@
-use Rattle.std.proofs.Common.{rules, subst, sym}
-use Rattle.merkle_wire.specs.Replies.{EndsWithin, OutlinesFit, PartsFit, ValuesFit}
+use Rattle.std.specs.Prelude.{◌++◌}
+use Rattle.std.proofs.Common.{ap, subst, sym, ◌∙◌}
+use Rattle.merkle_wire.specs.Replies.{EndsWithin, OutlinesFit, PartsFit, ValuesFit, outlines_bytes}
 use Rattle.merkle_wire.proofs.answering.reply_to.Goals as goal
 
 pub returns-in_ok-tell_pages-in-Outlines-clause-within : goal.returns-in_ok-tell_pages-in-Outlines-clause-within
@@ -27,7 +28,15 @@ returns-in_ok-tell_rows-in-RowsIn-clause-within g c =
     c.in_ok-begun-in-RowsIn.ensures c.in_ok-tell_rows-in-RowsIn.ensures.fits)
 
 pub returns-in_ok-tell_pages-in-Outlines-clause-reply : goal.returns-in_ok-tell_pages-in-Outlines-clause-reply
-returns-in_ok-tell_pages-in-Outlines-clause-reply g c = rw g.met.H.RowHasher.laws_are (search rules)
+returns-in_ok-tell_pages-in-Outlines-clause-reply g c =
+    rw g.met.H.RowHasher.laws_are
+    (rw c.in-Outlines.is
+    (let (told, adds, answers) = c.in_ok-tell_pages-in-Outlines.ensures.told
+    in (told, answers, adds ∙ ap (λ begun. begun ++ outlines_bytes g.K.Encode.encoding g.V.Encode.encoding told) c.in_ok-begun-in-Outlines.ensures)))
 
 pub returns-in_ok-tell_pages-in-Nodes-clause-reply : goal.returns-in_ok-tell_pages-in-Nodes-clause-reply
-returns-in_ok-tell_pages-in-Nodes-clause-reply g c = rw g.met.H.RowHasher.laws_are (search rules)
+returns-in_ok-tell_pages-in-Nodes-clause-reply g c =
+    rw g.met.H.RowHasher.laws_are
+    (rw c.in-Nodes.is
+    (let (told, adds, answers) = c.in_ok-tell_pages-in-Nodes.ensures.told
+    in (told, answers, adds ∙ ap (λ begun. begun ++ outlines_bytes g.K.Encode.encoding g.V.Encode.encoding told) c.in_ok-begun-in-Nodes.ensures)))
