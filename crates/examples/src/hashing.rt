@@ -1,5 +1,5 @@
-//! A digest of two numbers, and the root hash of a tree after one more upsert.
-ghost use Rattle.std.specs.Prelude.{◌≡◌, ◌++◌, Some, IfOk, IfErr, OnOk, OnErr};
+//! A digest of two numbers, and the root hash of a tree: after one more upsert, and once more.
+ghost use Rattle.std.specs.Prelude.{◌≡◌, ◌++◌, Some, IfOk, IfErr, IsSome, OnOk, OnErr};
 ghost use Rattle.std.specs.Int.{w64, to_le_bytes};
 ghost use Rattle.key_order.specs.Map.{set};
 ghost use Rattle.key_order.specs.Text.{text_order};
@@ -8,6 +8,7 @@ ghost use Rattle.merkle_digest.specs.SipHash.{siphash128};
 ghost use Rattle.merkle_tree_theory.specs.State.{map_of};
 
 use merkle_digest::{Digest, Hasher, RootHash, SipHasher};
+use merkle_search_tree::laws::a_hashed_tree_has_every_digest;
 use merkle_search_tree::{MerkleSearchTree, UpsertRefused};
 
 /// The digest of a number that was written at a time: the hash of both numbers' bytes, under the hasher's key.
@@ -38,4 +39,14 @@ pub fn set_and_hash(
     tree.upsert(name, &number)?;
     let (digest, _) = tree.root_hash_counted();
     Ok(digest)
+}
+
+/// Hashes a tree that is hashed once more, and answers how many pages that took: none.
+pub fn hash_again(tree: &mut NumberTree) -> usize
+    requires hashed { IsSome tree.old.root_hash }
+    ensures { result ≡ 0 }
+{
+    a_hashed_tree_has_every_digest(tree);
+    let (_, pages) = tree.root_hash_counted();
+    pages
 }

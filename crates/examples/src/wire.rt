@@ -18,8 +18,7 @@ use crate::store::Store;
 use merkle_bytes::ReadError;
 use merkle_digest::SipHasher;
 use merkle_replica::JoinRefused;
-use merkle_replica::laws::steps_are_a_pull;
-use merkle_search_tree::laws::every_tree_is_sound;
+use merkle_replica::laws::{a_replica_has_the_tree_of_its_rows, steps_are_a_pull};
 use std::alloc::{AllocError, Global};
 
 /// Why what came was not taken.
@@ -66,7 +65,7 @@ pub fn send_page_ranges(alloc: Global, store: &mut Store<u64>) -> Result<Vec<u8>
     ensures settings { SameSettings store.old.tree store.new.tree }
 {
     store.hash();
-    every_tree_is_sound(store.tree());
+    a_replica_has_the_tree_of_its_rows(store);
     match store.tree().serialise_page_ranges()? {
         Some(ranges) => write_page_ranges(alloc, &ranges),
         None => unreachable!(),
