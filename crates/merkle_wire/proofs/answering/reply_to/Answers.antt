@@ -32,11 +32,11 @@ returns-in_ok-tell_pages-in-Outlines-clause-reply g c =
     rw g.met.H.RowHasher.laws_are
     (rw c.in-Outlines.is
     (let (told, adds, answers) = c.in_ok-tell_pages-in-Outlines.ensures.told
-    in (told, answers, adds ∙ ap (λ begun. begun ++ outlines_bytes g.K.Encode.encoding g.V.Encode.encoding told) c.in_ok-begun-in-Outlines.ensures)))
+    in (told, (rw c.deref.ensures.value at answers), adds ∙ ap (λ begun. begun ++ outlines_bytes g.K.Encode.encoding g.V.Encode.encoding told) c.in_ok-begun-in-Outlines.ensures)))
 
 pub returns-in_ok-tell_pages-in-Nodes-clause-reply : goal.returns-in_ok-tell_pages-in-Nodes-clause-reply
 returns-in_ok-tell_pages-in-Nodes-clause-reply g c =
     rw g.met.H.RowHasher.laws_are
     (rw c.in-Nodes.is
     (let (told, adds, answers) = c.in_ok-tell_pages-in-Nodes.ensures.told
-    in (told, answers, adds ∙ ap (λ begun. begun ++ outlines_bytes g.K.Encode.encoding g.V.Encode.encoding told) c.in_ok-begun-in-Nodes.ensures)))
+    in (told, (rw c.deref-in-Nodes.ensures.value at answers), adds ∙ ap (λ begun. begun ++ outlines_bytes g.K.Encode.encoding g.V.Encode.encoding told) c.in_ok-begun-in-Nodes.ensures)))
