@@ -3,7 +3,8 @@ use Rattle.std.specs.Prelude.{◌≡◌, ◌⊎◌, ℕ, false, List, []}
 use Rattle.sqlite_disk.specs.declared.Disk.{Ghosts}
 use Rattle.sqlite_disk.specs.declared.Files as disk
 use Rattle.sqlite_wal.specs.Recovery.{Image}
-use Rattle.sqlite_wal.specs.Files.{seen_image}
+use Rattle.sqlite_wal.specs.Files.{outcomes, seen_image}
+use Rattle.sqlite_wal.specs.Reads.{AreClean}
 use Rattle.sqlite_wal.specs.PageSize.{IsPageSize}
 use Rattle.sqlite_pages.specs.PageMap.{PageMap}
 use Rattle.sqlite_pool.specs.Stored.{stored_size, Recovers}
@@ -41,6 +42,10 @@ HoldsNothing image = IsBlankFile 4096 image ⊎ ((pages : PageMap) × Recovers 4
 pub record HoldsAlone (image : Image) (db : Trees) : Type 0 where
   pub both : ∥ ((schema : List Wanted) × Holds schema image db) ∥₁
   pub alone : ∥ ((schema : List Wanted) × Holds schema (record image { log = [] }) db) ∥₁
+
+-- whatever the disk has of these files, where it kept what was written, the database file alone has these trees
+abbrev pub KeepAlone : {D : Type 0} → Ghosts D → Trees → disk.Files D → Type 0
+KeepAlone g db files = AreClean g files.log files.db → (image : Image) → outcomes g files.log files.db image → HoldsAlone image db
 
 -- a store with the two trees, in which nothing is written that isn't committed
 pub record IsLaidOut (v : View) : Type 0 where

@@ -1,12 +1,11 @@
 //! The file of a store is made, opened and closed.
-ghost use Rattle.std.specs.Prelude.{◌≡◌, ◌≢◌, ◌⊎◌, [], IsTrue, IfOk};
+ghost use Rattle.std.specs.Prelude.{◌≡◌, ◌≢◌, ◌⊎◌, [], IsTrue, IfOk, OnOk};
 ghost use Rattle.sqlite_wal.specs.PageSize.{bytes_of};
-ghost use Rattle.sqlite_wal.specs.Files.{outcomes};
 ghost use Rattle.sqlite_wal.specs.Reads.{AreClean, OnlyReads};
 ghost use Rattle.sqlite_store.specs.FileStore.{view};
 ghost use Rattle.sqlite_store.specs.Unopened.{state_of, files_of, wanted_by};
 ghost use Rattle.store_file.specs.Catalog.{fault_of, laid_out};
-ghost use Rattle.store_file.specs.Files.{HoldsStore, HoldsNothing, HoldsAlone, IsLaidOut, image_of};
+ghost use Rattle.store_file.specs.Files.{HoldsStore, HoldsNothing, IsLaidOut, KeepAlone, image_of};
 
 use crate::catalog::{objects, recognise};
 use crate::fault::{OpenFault, fault_of, fault_of_probe};
@@ -127,7 +126,7 @@ pub fn create<D: Disk + Drop>(alloc: Global, files: Files<D>) -> Result<FileStor
 /// then: its log has no page.
 pub fn close_files<D: Disk + Drop>(store: FileStore<D>) -> Result<Files<D>, StoreError>
     ensures usable { IfOk result (λ files. IsTrue (D.Disk.is_usable files.log) × IsTrue (D.Disk.is_usable files.db)) }
-    ensures copied { IfOk result (λ files. AreClean D.Disk files.log files.db → (image : _) → outcomes D.Disk files.log files.db image → HoldsAlone image (view store).committed) }
+    ensures copied { IfOk result (KeepAlone D.Disk (view store).committed) }
 {
     let mut store = store;
     store.rollback();
@@ -138,7 +137,10 @@ pub fn close_files<D: Disk + Drop>(store: FileStore<D>) -> Result<Files<D>, Stor
 }
 
 /// As `close_files`, and the files are closed.
-pub fn close<D: Disk + Drop>(store: FileStore<D>) -> Result<(), StoreError> {
+pub fn close<D: Disk + Drop>(store: FileStore<D>) -> Result<(), StoreError>
+    // There were files then, which keep what was committed.
+    ensures copied { OnOk result ((files : _) × KeepAlone D.Disk (view store).committed files) }
+{
     close_files(store)?;
     Ok(())
 }
