@@ -4,6 +4,8 @@
 #[cfg(test)]
 mod gossip;
 #[cfg(test)]
+mod hashing;
+#[cfg(test)]
 mod meeting;
 #[cfg(test)]
 mod messages;

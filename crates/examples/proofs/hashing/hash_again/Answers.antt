@@ -1,5 +1,5 @@
-use Rattle.std.proofs.Common.{◌≡◌, Option, Some, None, MatchOption, ⊤, absurd, ap, ◌∙◌}
-use Rattle.std.specs.Prelude.{◌-◌, ◌^◌, IsSome, min}
+use Rattle.std.proofs.Common.{Option, Some, None, MatchOption, ap, ◌∙◌}
+use Rattle.std.specs.Prelude.{◌-◌, ◌^◌, IsSome, min, ⊤}
 use Rattle.std.proofs.lemmas.Bool.{false≢true}
 use Rattle.examples.proofs.hashing.hash_again.Goals as goal
 
@@ -9,4 +9,4 @@ holds P Q None is p f = absurd (false≢true is)
 holds P Q (Some a) is p f = f a p
 
 pub returns : goal.returns
-returns c = c.root_hash_counted.ensures.count ∙ ap (λ n. min n (2 ^ 64 - 1)) (holds _ _ _ c.hashed c.a_hashed_tree_has_every_digest.ensures (λ digest whole. whole.1))
+returns c = c.root_hash_counted-pages.ensures.count ∙ ap (λ n. min n (2 ^ 64 - 1)) (holds _ _ _ c.requires.hashed c.a_hashed_tree_has_every_digest.ensures (λ digest whole. whole.1))
