@@ -47,27 +47,6 @@ impl MstTree {
             alloc,
         }
     }
-
-    /// The handle without a tree.
-    fn empty(alloc: Global) -> MstTree
-        ensures { result.tree ≡ None }
-    {
-        MstTree::of_handle(Handle::empty(alloc))
-    }
-
-    /// The handle of a tree.
-    fn of_box(tree: Box<ByteTree>) -> MstTree
-        ensures { result.tree ≡ Some tree.value }
-    {
-        MstTree::of_handle(Handle::of_box(tree))
-    }
-
-    /// The tree of the handle, where it has one.
-    fn into_box(self) -> Option<Box<ByteTree>>
-        ensures { option_map (λ tree. tree.value) result ≡ self.tree }
-    {
-        self.into_handle().into_box()
-    }
 }
 
 /// Takes the tree out of a handle, which has none then.
@@ -75,12 +54,14 @@ pub fn take_out(alloc: Global, handle: &mut MstTree) -> Option<Box<ByteTree>>
     ensures taken { option_map (λ tree. tree.value) result ≡ handle.old.tree }
     ensures empty { handle.new.tree ≡ None }
 {
-    mem::replace(handle, MstTree::empty(alloc)).into_box()
+    let before = mem::replace(handle, MstTree::of_handle(Handle::empty(alloc)));
+    before.into_handle().into_box()
 }
 
 /// Puts a tree into a handle. One that it has is let go.
 pub fn put_back(handle: &mut MstTree, tree: Box<ByteTree>)
     ensures { handle.new.tree ≡ Some tree.value }
 {
-    drop(mem::replace(handle, MstTree::of_box(tree)).into_box());
+    let before = mem::replace(handle, MstTree::of_handle(Handle::of_box(tree)));
+    drop(before.into_handle().into_box());
 }

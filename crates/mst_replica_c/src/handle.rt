@@ -44,27 +44,6 @@ impl MstReplica {
             alloc,
         }
     }
-
-    /// The handle without a replica.
-    fn empty(alloc: Global) -> MstReplica
-        ensures { result.held ≡ None }
-    {
-        MstReplica::of_handle(Handle::empty(alloc))
-    }
-
-    /// The handle of a replica.
-    fn of_box(held: Box<ByteReplica>) -> MstReplica
-        ensures { result.held ≡ Some held.value }
-    {
-        MstReplica::of_handle(Handle::of_box(held))
-    }
-
-    /// The replica of the handle, where it has one.
-    fn into_box(self) -> Option<Box<ByteReplica>>
-        ensures { option_map (λ held. held.value) result ≡ self.held }
-    {
-        self.into_handle().into_box()
-    }
 }
 
 /// Takes the replica out of a handle, which has none then.
@@ -72,12 +51,14 @@ pub fn take_out(alloc: Global, handle: &mut MstReplica) -> Option<Box<ByteReplic
     ensures taken { option_map (λ held. held.value) result ≡ handle.old.held }
     ensures empty { handle.new.held ≡ None }
 {
-    mem::replace(handle, MstReplica::empty(alloc)).into_box()
+    let before = mem::replace(handle, MstReplica::of_handle(Handle::empty(alloc)));
+    before.into_handle().into_box()
 }
 
 /// Puts a replica into a handle. One that it has is let go.
 pub fn put_back(handle: &mut MstReplica, held: Box<ByteReplica>)
     ensures { handle.new.held ≡ Some held.value }
 {
-    drop(mem::replace(handle, MstReplica::of_box(held)).into_box());
+    let before = mem::replace(handle, MstReplica::of_handle(Handle::of_box(held)));
+    drop(before.into_handle().into_box());
 }
