@@ -1,6 +1,6 @@
 //! Bytes read as lists of page ranges, of rows and of digests. What isn't such a list is malformed.
 
-ghost use Rattle.std.specs.Prelude.{◌≡◌, ◌≢◌, ◌<◌, ◌^◌, ◌++◌, ℕ, List, None, Err, IfOk, IfSome, length, map};
+ghost use Rattle.std.specs.Prelude.{◌≡◌, ◌≢◌, ◌↔◌, ◌⊎◌, ◌<◌, ◌^◌, [], ◌∷◌, ◌++◌, ℕ, List, None, Err, IfOk, IfSome, OnOk, length, map};
 ghost use Rattle.std.specs.List.{AllByRecursion, flat_map};
 ghost use Rattle.merkle_diff.specs.Entry.{Entry};
 ghost use Rattle.merkle_search_tree.specs.Loading.{row_count};
@@ -14,6 +14,7 @@ ghost use Rattle.mst_c.specs.declared.reading.ReadError.TheVariants.{Memory, Mal
 use crate::byte_hasher::ByteHasher;
 use crate::key::Key;
 use crate::wire::{DIGESTS, PAGE_RANGES, ROWS, encode_found};
+use c_values::status::{MALFORMED, MEMORY};
 use merkle_diff::{OwnedPageRange, PageRangeSnapshot, diff_snapshots};
 use merkle_digest::PageDigest;
 use std::alloc::{AllocError, Global};
@@ -28,6 +29,20 @@ pub enum ReadError {
     Memory,
     /// The bytes are no such list.
     Malformed,
+}
+
+impl ReadError {
+    /// The status that it is for a caller in C.
+    pub fn status(self) -> u32
+        ensures memory { (result ≡ 1) ↔ (self ≡ Memory) }
+        ensures malformed { (result ≡ 2) ↔ (self ≡ Malformed) }
+        ensures status { (result ≡ 1) ⊎ (result ≡ 2) }
+    {
+        match self {
+            ReadError::Memory => MEMORY,
+            ReadError::Malformed => MALFORMED,
+        }
+    }
 }
 
 impl From<AllocError> for ReadError {
@@ -97,6 +112,34 @@ fn range_of(bytes: &[u8]) -> Option<(OwnedPageRange<Key<'_>>, &[u8])>
     Some((range, rest))
 }
 
+/// What was read, where no byte is left.
+fn all_read<T: Drop>(read: Vec<T>, rest: &[u8]) -> Result<Vec<T>, ReadError>
+    ensures all { IfOk result (λ all. (all ≡ read) × (rest.now ≡ [])) }
+    ensures malformed { result ≡ Err Malformed → rest.now ≢ [] }
+{
+    if rest.is_empty() {
+        Ok(read)
+    } else {
+        Err(ReadError::Malformed)
+    }
+}
+
+/// Adds a copy of a key with a digest.
+fn push_digest(
+    alloc: Global,
+    rows: &mut Vec<(Vec<u8>, [u8; 16])>,
+    key: &[u8],
+    digest: [u8; 16],
+) -> Result<(), AllocError>
+    ensures { OnOk result (map by_bytes rows.new.items ≡ map by_bytes rows.old.items ++ (key.now, digest) ∷ []) }
+{
+    let own_key = Vec::from_slice(alloc, key)?;
+    match rows.push((own_key, digest)) {
+        Ok(()) => Ok(()),
+        Err(_) => Err(AllocError),
+    }
+}
+
 /// So many page ranges, which the bytes are, and in which their keys lie. Room for them is made once.
 fn ranges_of<'b>(
     alloc: Global,
@@ -120,11 +163,7 @@ fn ranges_of<'b>(
         }
         rest = behind;
     }
-    if rest.is_empty() {
-        Ok(ranges)
-    } else {
-        Err(ReadError::Malformed)
-    }
+    all_read(ranges, rest)
 }
 
 /// The page ranges that the bytes spell, whose keys lie in the bytes.
@@ -155,17 +194,10 @@ fn rows_of(
         let Some((key, value, behind)) = pair_of(rest) else {
             return Err(ReadError::Malformed);
         };
-        let own_key = Vec::from_slice(alloc, key)?;
-        if rows.push((own_key, hasher.hash_bytes(value))).is_err() {
-            return Err(ReadError::Memory);
-        }
+        push_digest(alloc, &mut rows, key, hasher.hash_bytes(value))?;
         rest = behind;
     }
-    if rest.is_empty() {
-        Ok(rows)
-    } else {
-        Err(ReadError::Malformed)
-    }
+    all_read(rows, rest)
 }
 
 /// The rows that the bytes spell, each with the digest of its value.
@@ -207,17 +239,10 @@ fn digests_of(alloc: Global, count: u64, body: &[u8]) -> Result<Vec<(Vec<u8>, [u
         let Some((key, digest, behind)) = keyed_of(rest) else {
             return Err(ReadError::Malformed);
         };
-        let own_key = Vec::from_slice(alloc, key)?;
-        if rows.push((own_key, *digest)).is_err() {
-            return Err(ReadError::Memory);
-        }
+        push_digest(alloc, &mut rows, key, *digest)?;
         rest = behind;
     }
-    if rest.is_empty() {
-        Ok(rows)
-    } else {
-        Err(ReadError::Malformed)
-    }
+    all_read(rows, rest)
 }
 
 /// The keys with digests that the bytes spell.

@@ -9,8 +9,8 @@ ghost use Rattle.mst_c.specs.Trees.{bytes_of, rows_of, SameRows};
 ghost use Rattle.mst_c.specs.Wire.{digests_bytes};
 
 use crate::handle::{MstTree, put_back, take_out};
-use crate::reading::{ReadError, differences};
-use c_values::status::{ARGUMENT, DONE, MALFORMED, MEMORY, SHORT};
+use crate::reading::differences;
+use c_values::status::{ARGUMENT, DONE, MEMORY, SHORT};
 use c_values::{MstBytes16, put_bytes};
 use std::alloc::Global;
 
@@ -161,7 +161,6 @@ pub extern "C" fn mst_proved_diff(
 {
     match differences(alloc, local, peer) {
         Ok(bytes) => put_bytes(bytes.as_slice(), out, needed),
-        Err(ReadError::Memory) => MEMORY,
-        Err(ReadError::Malformed) => MALFORMED,
+        Err(error) => error.status(),
     }
 }

@@ -7,7 +7,6 @@ ghost use Rattle.mst_c.specs.Trees.{IsSet, IsSetTo, SetDropsFew, IsDel};
 ghost use Rattle.mst_c.specs.Wire.{rows_bytes};
 
 use crate::handle::{MstTree, put_back, take_out};
-use crate::reading::ReadError;
 use c_values::MstBytes16;
 use c_values::status::{ABSENT, ARGUMENT, DONE, MALFORMED, MEMORY};
 use std::alloc::Global;
@@ -138,8 +137,7 @@ pub extern "C" fn mst_proved_tree_load(alloc: Global, handle: &mut MstTree, rows
     };
     let status = match held.load(alloc, rows) {
         Ok(()) => DONE,
-        Err(ReadError::Memory) => MEMORY,
-        Err(ReadError::Malformed) => MALFORMED,
+        Err(error) => error.status(),
     };
     put_back(handle, held);
     status
@@ -166,8 +164,7 @@ pub extern "C" fn mst_proved_tree_load_digests(
     };
     let status = match held.load_digests(alloc, list) {
         Ok(()) => DONE,
-        Err(ReadError::Memory) => MEMORY,
-        Err(ReadError::Malformed) => MALFORMED,
+        Err(error) => error.status(),
     };
     put_back(handle, held);
     status

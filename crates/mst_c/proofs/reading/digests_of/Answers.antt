@@ -1,7 +1,6 @@
 use Rattle.std.proofs.Common.{rules, arith, ◌≡◌, ◌<◌, ◌^◌, ℕ, List, [], ◌∷◌, ◌++◌, length, map, sym, ap, subst, ◌∙◌}
-use Rattle.std.specs.Global.{Vec}
 use Rattle.std.specs.List.{AllByRecursion, flat_map}
-use Rattle.std.proofs.lemmas.List.{length-append, map-append}
+use Rattle.std.proofs.lemmas.List.{length-append}
 use Rattle.mst_c.specs.Lists.{HasDigest}
 use Rattle.mst_c.specs.Trees.{by_bytes}
 use Rattle.mst_c.specs.Wire.{digest_bytes}
@@ -19,20 +18,16 @@ returns-in_default-clause-malformed c is given each count e =
 pub entries-preserved : goal.entries-preserved
 entries-preserved c =
     let kept = c.entries.invariant in let done = map by_bytes c.entries.rows.items in
-    let own : Vec ℕ × List ℕ = (c.in_ok-own_key.own_key, c.in-Some.digest.now) in
     let row : List ℕ × List ℕ = (c.in-Some.key.now, c.in-Some.digest.now) in
-    let pushed : c.push.new.self.items ≡ c.entries.rows.items ++ own ∷ [] = search rules in
-    let more : map by_bytes c.push.new.self.items ≡ done ++ row ∷ [] =
-    ap (map by_bytes) pushed ∙ map-append by_bytes c.entries.rows.items (own ∷ []) ∙ (λ i. done ++ (c.in_ok-own_key.ensures.items i, c.in-Some.digest.now) ∷ []) in
+    let more : map by_bytes c.push_digest.new.rows.items ≡ done ++ row ∷ [] = c.in_ok-push_digest.ensures in
     record {
       read = read_more digest_bytes done row c.args.body.now c.entries.rest.now c.in-Some.behind.now kept.read c.in-Some.ensures.keyed ∙ ap (λ rows. flat_map digest_bytes rows ++ c.in-Some.behind.now) (sym more);
       each = subst (AllByRecursion HasDigest) (sym more) (all_more HasDigest done row kept.each c.in-Some.ensures.sized);
       counted = ap length more ∙ omega (arith, kept.counted, length-append done (row ∷ []));
     }
 
-pub returns-else-is_empty-clause-malformed : goal.returns-else-is_empty-clause-malformed
-returns-else-is_empty-clause-malformed c is given each count e =
+pub returns-clause-malformed : goal.returns-clause-malformed
+returns-clause-malformed c is given each count e =
     let kept = c.entries.invariant in let done = map by_bytes c.entries.rows.items in
     let short : length c.args.body.now < 2 ^ 64 = search rules in
-    let nothing = none_left HasDigest digest_bytes digest_ends given done c.entries.rest.now each kept.each (omega (arith, kept.counted, count)) (omega (arith, ap length e)) (sym e ∙ kept.read) in
-    absurd (search rules)
+    c.all_read.ensures.malformed is (none_left HasDigest digest_bytes digest_ends given done c.entries.rest.now each kept.each (omega (arith, kept.counted, count)) (omega (arith, ap length e)) (sym e ∙ kept.read))

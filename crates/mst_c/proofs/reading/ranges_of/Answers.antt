@@ -16,5 +16,4 @@ pub returns-clause-malformed : goal.returns-clause-malformed
 returns-clause-malformed c is es each count e =
     let kept = c.entries.invariant in let done = c.entries.ranges.items in
     let short : length c.args.body.now < 2 ^ 64 = search rules in
-    let nothing = none_left IsPageRange entry_bytes entry_ends es done c.entries.rest.now each kept.each (omega (arith, kept.counted, count)) (omega (arith, ap length e)) (sym e ∙ kept.read) in
-    absurd (search rules)
+    c.all_read.ensures.malformed is (none_left IsPageRange entry_bytes entry_ends es done c.entries.rest.now each kept.each (omega (arith, kept.counted, count)) (omega (arith, ap length e)) (sym e ∙ kept.read))

@@ -1,9 +1,7 @@
-use Rattle.std.proofs.Common.{rules, arith, ◌≡◌, ◌<◌, ◌^◌, ℕ, List, [], ◌∷◌, ◌++◌, length, map, sym, ap, ◌∙◌}
+use Rattle.std.proofs.Common.{rules, arith, ◌<◌, ◌^◌, ℕ, List, [], ◌∷◌, ◌++◌, length, sym, ap, ◌∙◌}
 use Rattle.std.specs.Bool.{⊤}
-use Rattle.std.specs.Global.{Vec}
 use Rattle.std.proofs.lemmas.List.{length-append, map-append}
 use Rattle.merkle_digest.specs.SipHash.{siphash128}
-use Rattle.mst_c.specs.Trees.{by_bytes}
 use Rattle.mst_c.specs.Wire.{row_bytes}
 use Rattle.mst_c.proofs.Lists.{each_trivial, none_left, one_left, read_more}
 use Rattle.mst_c.proofs.Ranges.{row_ends}
@@ -20,19 +18,15 @@ pub entries-preserved : goal.entries-preserved
 entries-preserved c =
     let kept = c.entries.invariant in
     let h = siphash128 c.args.hasher.now.key in
-    let own : Vec ℕ × List ℕ = (c.in_ok-own_key.own_key, c.hash_bytes.result) in
-    let pushed : c.push.new.self.items ≡ c.entries.rows.items ++ own ∷ [] = search rules in
     let row : List ℕ × List ℕ = (c.in-Some.key.now, c.in-Some.value.now) in (
       kept.0 ++ row ∷ [],
       read_more row_bytes kept.0 row c.args.body.now c.entries.rest.now c.in-Some.behind.now kept.1 c.in-Some.ensures.pair,
       omega (arith, kept.2, length-append kept.0 (row ∷ [])),
-      ap (map by_bytes) pushed ∙ map-append by_bytes c.entries.rows.items (own ∷ [])
-          ∙ (λ i. kept.3 i ++ (c.in_ok-own_key.ensures.items i, c.hash_bytes.ensures i) ∷ []) ∙ sym (map-append (λ r. (r.0, h r.1)) kept.0 (row ∷ [])),
+      c.in_ok-push_digest.ensures ∙ (λ i. kept.3 i ++ (c.in-Some.key.now, c.hash_bytes.ensures i) ∷ []) ∙ sym (map-append (λ r. (r.0, h r.1)) kept.0 (row ∷ [])),
     )
 
-pub returns-else-is_empty-clause-malformed : goal.returns-else-is_empty-clause-malformed
-returns-else-is_empty-clause-malformed c is all count e =
+pub returns-clause-malformed : goal.returns-clause-malformed
+returns-clause-malformed c is all count e =
     let kept = c.entries.invariant in
     let short : length c.args.body.now < 2 ^ 64 = search rules in
-    let nothing = none_left (λ _. ⊤) row_bytes row_ends all kept.0 c.entries.rest.now (each_trivial all) (each_trivial kept.0) (omega (arith, kept.2, count)) (omega (arith, ap length e)) (sym e ∙ kept.1) in
-    absurd (search rules)
+    c.all_read.ensures.malformed is (none_left (λ _. ⊤) row_bytes row_ends all kept.0 c.entries.rest.now (each_trivial all) (each_trivial kept.0) (omega (arith, kept.2, count)) (omega (arith, ap length e)) (sym e ∙ kept.1))
