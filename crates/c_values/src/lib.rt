@@ -8,4 +8,4 @@ pub mod status;
 
 pub use bytes16::MstBytes16;
 pub use handle::Handle;
-pub use output::put_bytes;
+pub use output::{put_bytes, put_made};

@@ -11,7 +11,7 @@ ghost use Rattle.mst_c.specs.Wire.{digests_bytes};
 use crate::handle::{MstTree, put_back, take_out};
 use crate::reading::differences;
 use c_values::status::{ARGUMENT, DONE, MEMORY, SHORT};
-use c_values::{MstBytes16, put_bytes};
+use c_values::{MstBytes16, put_bytes, put_made};
 use std::alloc::Global;
 
 /// Writes the root hash of a tree.
@@ -74,10 +74,7 @@ pub extern "C" fn mst_proved_tree_page_ranges(
     }
     let bytes = held.page_ranges(alloc);
     put_back(handle, held);
-    match bytes {
-        Ok(bytes) => put_bytes(bytes.as_slice(), out, needed),
-        Err(_) => MEMORY,
-    }
+    put_made(bytes, out, needed)
 }
 
 /// Writes the keys of a tree in their order, each with the digest of its value, to `out`, and how many bytes that is to `needed`.
@@ -104,10 +101,7 @@ pub extern "C" fn mst_proved_tree_digests(
     };
     let bytes = held.digests(alloc);
     put_back(handle, held);
-    match bytes {
-        Ok(bytes) => put_bytes(bytes.as_slice(), out, needed),
-        Err(_) => MEMORY,
-    }
+    put_made(bytes, out, needed)
 }
 
 /// Writes the pages of a tree as they are to `out`, and how many bytes they are to `needed`.
@@ -134,10 +128,7 @@ pub extern "C" fn mst_proved_tree_pages(
     };
     let bytes = held.pages(alloc);
     put_back(handle, held);
-    match bytes {
-        Ok(bytes) => put_bytes(bytes.as_slice(), out, needed),
-        Err(_) => MEMORY,
-    }
+    put_made(bytes, out, needed)
 }
 
 /// Writes to `out` the ranges of keys that local may ask of the peer, by their page ranges, and how many bytes they are to `needed`.

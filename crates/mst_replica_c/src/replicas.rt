@@ -8,7 +8,7 @@ ghost use Rattle.mst_replica_c.specs.Values.{value_at};
 use crate::byte_replica::ByteReplica;
 use crate::handle::{MstReplica, put_back, take_out};
 use c_values::status::{ABSENT, ARGUMENT, DONE, MEMORY};
-use c_values::{MstBytes16, put_bytes};
+use c_values::{MstBytes16, put_bytes, put_made};
 use merkle_search_tree::builder::PageFormat;
 use std::alloc::Global;
 use std::num::NonZeroU8;
@@ -192,10 +192,7 @@ pub extern "C" fn mst_proved_replica_rows(
     let Some(held) = take_out(alloc, handle) else {
         return ARGUMENT;
     };
-    let status = match held.rows(alloc) {
-        Ok(rows) => put_bytes(rows.as_slice(), out, needed),
-        Err(_) => MEMORY,
-    };
+    let status = put_made(held.rows(alloc), out, needed);
     put_back(handle, held);
     status
 }
