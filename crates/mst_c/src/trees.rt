@@ -8,9 +8,8 @@ ghost use Rattle.mst_c.specs.Trees.{IsCopied, rows_of};
 
 use crate::byte_tree::ByteTree;
 use crate::handle::{MstTree, put_back, take_out};
-use c_values::MstBytes16;
 use c_values::status::{ABSENT, ARGUMENT, DONE, MEMORY};
-use merkle_search_tree::builder::PageFormat;
+use c_values::{MstBytes16, format_of};
 use std::alloc::Global;
 use std::num::NonZeroU8;
 
@@ -43,11 +42,7 @@ pub extern "C" fn mst_proved_tree_new(
     if key_feed > 2 {
         return ARGUMENT;
     }
-    let format = if page_format == 1 {
-        PageFormat::V1
-    } else if page_format == 2 {
-        PageFormat::V2
-    } else {
+    let Some(format) = format_of(page_format) else {
         return ARGUMENT;
     };
     let tree = ByteTree::new(alloc, &key.bytes, key_feed, base, format);

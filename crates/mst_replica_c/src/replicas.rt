@@ -8,8 +8,7 @@ ghost use Rattle.mst_replica_c.specs.Values.{value_at};
 use crate::byte_replica::ByteReplica;
 use crate::handle::{MstReplica, put_back, take_out};
 use c_values::status::{ABSENT, ARGUMENT, DONE, MEMORY};
-use c_values::{MstBytes16, put_bytes, put_made};
-use merkle_search_tree::builder::PageFormat;
+use c_values::{MstBytes16, format_of, put_bytes, put_made};
 use std::alloc::Global;
 use std::num::NonZeroU8;
 
@@ -36,11 +35,7 @@ pub extern "C" fn mst_proved_replica_new(
     let Some(base) = NonZeroU8::new(level_base) else {
         return ARGUMENT;
     };
-    let format = if page_format == 1 {
-        PageFormat::V1
-    } else if page_format == 2 {
-        PageFormat::V2
-    } else {
+    let Some(format) = format_of(page_format) else {
         return ARGUMENT;
     };
     if let Some(held) = take_out(alloc, handle) {
