@@ -50,12 +50,13 @@ module _ (eq : Register → Register → Bool) (e : IsEquivalence eq) (join : Re
       }
 
   -- what was read is kept
-  pub kept_read : (writer : List ℕ) (trees : Trees) (entries rows : List (Key × Register)) → IsNoted trees FORMAT writer → HoldsEntries trees entries → IsPuts text_order eq join [] entries rows → IsKept eq join writer trees rows
-  kept_read writer trees entries rows about held puts = record { about = about; entries = entries; held = held; gathered = gathered_puts entries [] rows puts }
+  pub kept_read : (writer hash_key : List ℕ) (trees : Trees) (entries rows : List (Key × Register)) → IsNoted trees FORMAT writer hash_key → HoldsEntries trees entries → IsPuts text_order eq join [] entries rows → IsKept eq join writer trees rows
+  kept_read writer hash_key trees entries rows about held puts = record { hash_key = hash_key; about = about; entries = entries; held = held; gathered = gathered_puts entries [] rows puts }
 
   -- a new store has no entry
-  pub kept_new : (writer : List ℕ) (trees : Trees) → IsNewStore FORMAT writer trees → IsKept eq join writer trees []
-  kept_new writer trees new = record {
+  pub kept_new : (writer hash_key : List ℕ) (trees : Trees) → IsNewStore FORMAT writer hash_key trees → IsKept eq join writer trees []
+  kept_new writer hash_key trees new = record {
+    hash_key = hash_key;
     about = new.about;
     entries = [];
     held = record { rows = new.entries; ascending = tt };
@@ -85,6 +86,7 @@ module _ (eq : Register → Register → Bool) (e : IsEquivalence eq) (join : Re
   kept_instead writer old new rows kept has =
       let up = ascending_map rows kept.gathered.ascending in
       record {
+        hash_key = kept.hash_key;
         about = ap (map noted) has.about ∙ kept.about;
         entries = rows;
         held = record { rows = has.entries ∙ with_ascending rows up; ascending = up };
@@ -112,6 +114,7 @@ module _ (eq : Register → Register → Bool) (e : IsEquivalence eq) (join : Re
     kept_all writer old new more rows rows' kept has joins =
         let all = holds_more old new kept.entries more kept.held has in
         record {
+          hash_key = kept.hash_key;
           about = ap (map noted) has.about ∙ kept.about;
           entries = all.0;
           held = all.1;

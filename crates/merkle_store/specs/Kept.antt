@@ -20,7 +20,8 @@ module _ (eq : Register → Register → Bool) (join : Register → Register →
   -- The trees are those of a store by this writer, and the rows in memory are the map that has, for each key of an entry of its table, the
   -- join of all registers that the entries have for it: the latest.
   pub record IsKept (writer : List ℕ) (trees : Trees) (rows : List (Key × Register)) : Type 0 where
-    pub about : IsNoted trees FORMAT writer
+    pub hash_key : List ℕ
+    pub about : IsNoted trees FORMAT writer hash_key
     pub entries : List (Key × Register)
     pub held : HoldsEntries trees entries
     pub gathered : HasGathered text_order eq join [] entries rows
@@ -72,7 +73,11 @@ AreInStep = IsKept same_register later_register
 
 -- the rows in memory are those of the trees, by the writer that they note
 abbrev pub AreRowsOf : Trees → List (Key × Register) → Type 0
-AreRowsOf trees rows = (writer : List ℕ) → IsNoted trees FORMAT writer → AreInStep writer trees rows
+AreRowsOf trees rows = (writer hash_key : List ℕ) → IsNoted trees FORMAT writer hash_key → AreInStep writer trees rows
+
+-- the trees note that a store hashes under this key
+abbrev pub NotesHashKey : Trees → List ℕ → Type 0
+NotesHashKey trees hash_key = (writer : List ℕ) × IsNoted trees FORMAT writer hash_key
 
 -- what is found in the table for a key is what the rows have for it
 abbrev pub TellFound : Trees → List (Key × Register) → Type 0

@@ -7,7 +7,7 @@ ghost use Rattle.store_table.specs.Changes.{IsBlank, IsNewStore, HasEntriesInste
 ghost use Rattle.store_table.specs.Faults.{IsForeign, IsUnwritten};
 ghost use Rattle.store_table.specs.Logs.{IsClean, IsSteady, trees_of, Makes, Refuses, StaysInOk, StaysInErr, Leaves, LeavesNoMore};
 ghost use Rattle.store_table.specs.Registers.{time_after, text_at, HasLastTimeAt, HaveLateTime};
-ghost use Rattle.merkle_store.specs.Kept.{AreInStep, AreInStepWith, IsInStep, KeepsInStep, SameButFor, HasJoined, StaysSet};
+ghost use Rattle.merkle_store.specs.Kept.{AreInStep, AreInStepWith, IsInStep, KeepsInStep, NotesHashKey, SameButFor, HasJoined, StaysSet};
 ghost use Rattle.merkle_store.specs.Writes.{later_entries, AreTimely, HasWrite, HasWritten, HasNews, IsJoinFault, StaysUnlessBehind};
 
 use crate::lookup::register_at;
@@ -15,7 +15,7 @@ use crate::news::news_of;
 use crate::upkeep::{EntryReplica, add_entries, add_entry, read_replica, rewrite};
 use sqlite_trees::store::Store as Trees;
 use std::alloc::{AllocError, Global};
-use store_table::format::{self, FORMAT, recognise};
+use store_table::format::{self, FORMAT, HASH_KEY_LEN, recognise};
 use store_table::log::Log;
 use store_table::table::Entries;
 use store_table::{Register, StoreFault};
@@ -46,21 +46,27 @@ impl<S: Trees + Drop> Drop for Store<S> {
     }
 }
 
-/// Makes a store without entries of tables without rows, or nothing. It takes the time of one transaction.
+/// Makes a store without entries of tables without rows, which writes by this name and hashes under this key, or nothing. It takes the time of one
+/// transaction.
 ///
 /// # Errors
 ///
 /// [`StoreFault::Foreign`] where a table has rows already, and faults of the file.
-pub fn create<S: Trees>(alloc: Global, log: &mut Log<S>, writer: &str) -> Result<(), StoreFault>
+pub fn create<S: Trees>(
+    alloc: Global,
+    log: &mut Log<S>,
+    writer: &str,
+    hash_key: &[u8; HASH_KEY_LEN],
+) -> Result<(), StoreFault>
     ensures kept { Makes S.Store log.old log.new result (λ _ trees. AreInStep writer.now trees []) }
     ensures foreign { Refuses S.Store log.old log.new result StoreFault.Foreign (λ trees. ¬ IsBlank trees) }
     ensures refused { StaysInErr S.Store log.old log.new result }
     ensures steady { IsSteady S.Store log.old log.new }
 
     // A crash leaves what it could leave before, or a store without entries.
-    ensures crash { Leaves S.Store log.old log.new (λ _. IsNewStore FORMAT writer.now) }
+    ensures crash { Leaves S.Store log.old log.new (λ _. IsNewStore FORMAT writer.now hash_key.now) }
 {
-    format::create(alloc, log, writer)
+    format::create(alloc, log, writer, hash_key)
 }
 
 /// The name by which the store writes, and the replica of its entries. It takes memory linear in the table, and the time of a sort of its rows.
@@ -76,14 +82,17 @@ pub fn read_store<S: Trees>(
 
     // Its rows are read, and nothing is written.
     ensures kept { IsClean S.Store log.new → IfOk result (λ read. AreInStepWith S.Store log.new read.0 read.1.rows) }
+
+    // It hashes under the key that the file notes.
+    ensures hash_key { IsClean S.Store log.new → IfOk result (λ read. NotesHashKey (trees_of S.Store log.new) read.1.tree.hasher) }
     ensures unchanged { StaysInOk S.Store log.old log.new result }
     ensures refused { StaysInErr S.Store log.old log.new result }
     ensures steady { IsSteady S.Store log.old log.new }
     ensures crash { LeavesNoMore S.Store log.old log.new }
 {
-    let writer = recognise(alloc, log)?;
-    let replica = read_replica(alloc, log)?;
-    Ok((writer, replica))
+    let note = recognise(alloc, log)?;
+    let replica = read_replica(alloc, log, &note.hash_key)?;
+    Ok((note.writer, replica))
 }
 
 /// The store that a log is of, at this time of the clock.
@@ -94,6 +103,7 @@ pub fn read_store<S: Trees>(
 /// and faults of the file; nothing is written then.
 pub fn open<S: Trees + Drop>(alloc: Global, log: Log<S>, now: u64) -> Result<Store<S>, StoreFault>
     ensures kept { IfOk result (λ store. IsClean S.Store store.log → IsInStep S.Store store) }
+    ensures hash_key { IfOk result (λ store. IsClean S.Store store.log → NotesHashKey (trees_of S.Store store.log) store.replica.tree.hasher) }
     ensures unchanged { IfOk result (λ store. IsClean S.Store store.log → trees_of S.Store store.log ≡ trees_of S.Store log) }
     ensures steady { IfOk result (λ store. IsSteady S.Store log store.log) }
     ensures crash { IfOk result (λ store. LeavesNoMore S.Store log store.log) }

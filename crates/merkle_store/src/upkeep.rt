@@ -13,6 +13,7 @@ use merkle_replica::Replica;
 use merkle_search_tree::builder::{Builder, PageFormat};
 use sqlite_trees::store::Store;
 use std::alloc::Global;
+use store_table::format::HASH_KEY_LEN;
 use store_table::log::Log;
 use store_table::table::{self, Entries};
 use store_table::{Register, StoreFault};
@@ -20,25 +21,38 @@ use store_table::{Register, StoreFault};
 /// The entries of a store, as a replica.
 pub type EntryReplica = Replica<String, Register, SipHasher, 16>;
 
-/// The replica of entries in any order.
-fn replica_of(alloc: Global, entries: Entries) -> Result<EntryReplica, StoreFault>
+/// The replica of entries in any order, under this hash key.
+fn replica_of(
+    alloc: Global,
+    entries: Entries,
+    hash_key: &[u8; HASH_KEY_LEN],
+) -> Result<EntryReplica, StoreFault>
     ensures puts { IfOk result (λ replica. HasPut [] entries.items replica.rows) }
+    ensures hash_key { IfOk result (λ replica. replica.tree.hasher ≡ hash_key.now) }
     ensures failed { IfErr result IsFailure }
 {
-    let mut replica = Replica::new(alloc, Builder::default().with_page_format(PageFormat::V2));
+    let builder = Builder::default()
+        .with_hasher(SipHasher::new(hash_key))
+        .with_page_format(PageFormat::V2);
+    let mut replica = Replica::new(alloc, builder);
     match replica.put_all(entries) {
         Ok(()) => Ok(replica),
         Err(_) => Err(StoreFault::Memory),
     }
 }
 
-/// The replica of the entries that the file holds. It takes memory linear in the table, and the time of a sort of its rows.
+/// The replica of the entries that the file holds, under this hash key. It takes memory linear in the table, and the time of a sort of its rows.
 ///
 /// # Errors
 ///
 /// [`StoreFault::Database`], [`StoreFault::Malformed`] and [`StoreFault::Memory`]. Nothing is written.
-pub fn read_replica<S: Store>(alloc: Global, log: &mut Log<S>) -> Result<EntryReplica, StoreFault>
+pub fn read_replica<S: Store>(
+    alloc: Global,
+    log: &mut Log<S>,
+    hash_key: &[u8; HASH_KEY_LEN],
+) -> Result<EntryReplica, StoreFault>
     ensures kept { Finds S.Store log.old log.new result (λ trees replica. AreRowsOf trees replica.rows) }
+    ensures hash_key { IfOk result (λ replica. replica.tree.hasher ≡ hash_key.now) }
     ensures failed { IfErr result IsFailure }
     ensures unchanged { StaysInOk S.Store log.old log.new result }
     ensures refused { StaysInErr S.Store log.old log.new result }
@@ -46,7 +60,7 @@ pub fn read_replica<S: Store>(alloc: Global, log: &mut Log<S>) -> Result<EntryRe
     ensures crash { LeavesNoMore S.Store log.old log.new }
 {
     let entries = table::read_log(alloc, log)?;
-    replica_of(alloc, entries)
+    replica_of(alloc, entries, hash_key)
 }
 
 /// Joins an entry in memory.

@@ -15,7 +15,7 @@ use std::os::unix::fs::OpenOptionsExt;
 use std::thread::sleep;
 use std::time::Duration;
 use store_file::Unsure;
-use store_table::format::create;
+use store_table::format::{HASH_KEY_LEN, create};
 use store_table::log::Log;
 
 /// The trees of a store's file.
@@ -86,34 +86,61 @@ pub fn open_file(rt: &HostRuntime, path: &str, seconds: u64) -> Result<Log<FileT
     Ok(Log::over(store_file::open(rt.alloc(), files)?))
 }
 
+/// A random number.
+fn random(rt: &HostRuntime) -> Result<u64, Failure> {
+    match RandomState::new(rt) {
+        Ok(state) => Ok(state.hash_one(&0u8)),
+        Err(_) => Err(Failure::Command(Fault::System)),
+    }
+}
+
 /// The name, or a random one.
 fn name_of_copy(rt: &HostRuntime, name: Option<&str>) -> Result<String, Failure> {
     if let Some(name) = name {
         return Ok(String::from_str(rt.alloc(), name)?);
     }
-    let Ok(state) = RandomState::new(rt) else {
-        return Err(Failure::Command(Fault::System));
-    };
-    let number = state.hash_one(&0u8);
+    let number = random(rt)?;
     Ok(format!(in rt.alloc(); "{number:016x}")?)
 }
 
+/// The hash key, or a random one.
+fn key_of_store(
+    rt: &HostRuntime,
+    hash_key: Option<[u8; HASH_KEY_LEN]>,
+) -> Result<[u8; HASH_KEY_LEN], Failure> {
+    if let Some(hash_key) = hash_key {
+        return Ok(hash_key);
+    }
+    let (high, low) = (random(rt)?, random(rt)?);
+    Ok((u128::from(high) << 64 | u128::from(low)).to_be_bytes())
+}
+
 /// Makes a store in tables without rows, and closes it.
-fn create_on<S: Store + Drop>(rt: &HostRuntime, log: Log<S>, writer: &str) -> Result<(), Failure>
+fn create_on<S: Store + Drop>(
+    rt: &HostRuntime,
+    log: Log<S>,
+    writer: &str,
+    hash_key: &[u8; HASH_KEY_LEN],
+) -> Result<(), Failure>
 where
     Log<S>: Closing,
 {
     let mut log = log;
-    let made = create(rt.alloc(), &mut log, writer);
+    let made = create(rt.alloc(), &mut log, writer, hash_key);
     log.close_all()?;
     Ok(made?)
 }
 
 /// Makes a store in a file without bytes.
-fn fill_file(rt: &HostRuntime, path: &str, writer: &str) -> Result<(), Failure> {
+fn fill_file(
+    rt: &HostRuntime,
+    path: &str,
+    writer: &str,
+    hash_key: &[u8; HASH_KEY_LEN],
+) -> Result<(), Failure> {
     let files = files_at(rt, path)?;
     let log = Log::over(store_file::create(rt.alloc(), files)?);
-    create_on(rt, log, writer)
+    create_on(rt, log, writer, hash_key)
 }
 
 /// Makes a file without bytes, where there is none.
@@ -133,12 +160,18 @@ fn make_file(rt: &HostRuntime, path: &str) -> Result<(), Failure> {
 }
 
 /// Makes a store in a new file. Where that fails, what it made is taken away: the file, and the log unless one was there.
-pub fn make_store(rt: &HostRuntime, path: &str, writer: Option<&str>) -> Result<(), Failure> {
+pub fn make_store(
+    rt: &HostRuntime,
+    path: &str,
+    writer: Option<&str>,
+    hash_key: Option<[u8; HASH_KEY_LEN]>,
+) -> Result<(), Failure> {
     let writer = name_of_copy(rt, writer)?;
+    let hash_key = key_of_store(rt, hash_key)?;
     let log = format!(in rt.alloc(); "{path}-wal")?;
     let had_log = is_there(rt, log.as_str())?;
     make_file(rt, path)?;
-    let filled = fill_file(rt, path, writer.as_str());
+    let filled = fill_file(rt, path, writer.as_str(), &hash_key);
     if filled.is_err() {
         let _ = fs::remove_file(rt, path);
         if !had_log {

@@ -7,6 +7,7 @@ use mst_words::{Given, NoWords, Verb, given_of, words_of};
 use sqlite_trees::store::Store;
 use std::io::{self, ErrorKind};
 use store_table::StoreFault;
+use store_table::format::Note;
 use store_table::log::Log;
 
 /// Says on standard error that a line is none.
@@ -35,7 +36,7 @@ fn refusal_of(verb: Verb, given: &Given<'_>) -> Option<&'static str> {
 fn run_verb<S: Store>(
     rt: &HostRuntime,
     log: &mut Log<S>,
-    writer: &str,
+    note: &Note,
     verb: Verb,
     words: &[String],
 ) -> Result<bool, Failure> {
@@ -49,7 +50,7 @@ fn run_verb<S: Store>(
     if let Some(why) = refusal_of(verb, &given) {
         return refuse(rt, why);
     }
-    match run_open(rt, log, writer, verb, &given) {
+    match run_open(rt, log, note, verb, &given) {
         Ok(()) => Ok(true),
         Err(failure) => {
             eprintln!(rt; "mst: {failure}")?;
@@ -62,7 +63,7 @@ fn run_verb<S: Store>(
 fn run_line<S: Store>(
     rt: &HostRuntime,
     log: &mut Log<S>,
-    writer: &str,
+    note: &Note,
     line: &str,
 ) -> Result<bool, Failure> {
     let words = match words_of(rt.alloc(), line) {
@@ -80,7 +81,7 @@ fn run_line<S: Store>(
         return Ok(true);
     }
     match verb_of(name.as_str()) {
-        Some(verb) => run_verb(rt, log, writer, verb, rest),
+        Some(verb) => run_verb(rt, log, note, verb, rest),
         None => refuse(rt, "the shell has no such command"),
     }
 }
@@ -89,11 +90,11 @@ fn run_line<S: Store>(
 fn run_read<S: Store>(
     rt: &HostRuntime,
     log: &mut Log<S>,
-    writer: &str,
+    note: &Note,
     read: io::Result<String>,
 ) -> Result<bool, Failure> {
     match read {
-        Ok(line) => run_line(rt, log, writer, line.as_str()),
+        Ok(line) => run_line(rt, log, note, line.as_str()),
         Err(error) if error.kind() == ErrorKind::InvalidData => {
             refuse(rt, "the line is no text in UTF-8")
         }
@@ -106,14 +107,10 @@ fn run_read<S: Store>(
 /// # Errors
 ///
 /// [`Failure::Lines`] where commands failed: each said why on standard error, and the others were carried out.
-pub fn run_lines<S: Store>(
-    rt: &HostRuntime,
-    log: &mut Log<S>,
-    writer: &str,
-) -> Result<(), Failure> {
+pub fn run_lines<S: Store>(rt: &HostRuntime, log: &mut Log<S>, note: &Note) -> Result<(), Failure> {
     let mut failed = 0u64;
     for line in rt.lines(rt.alloc()) {
-        if !run_read(rt, log, writer, line)? {
+        if !run_read(rt, log, note, line)? {
             failed = failed.saturating_add(1);
         }
     }

@@ -7,34 +7,39 @@ use merkle_store::Store;
 use merkle_store::upkeep::read_replica;
 use mst_commands::clock::now;
 use mst_commands::run;
+use mst_words::hash_key::number_of;
 use mst_words::{Given, Verb};
 use sqlite_std_file::OpenError;
 use sqlite_trees::store::Store as Trees;
 use std::fs;
-use store_table::format::recognise;
+use store_table::format::{Note, recognise};
 use store_table::log::Log;
 
 /// The root hash of what the file holds.
-fn root_of<S: Trees>(rt: &HostRuntime, log: &mut Log<S>) -> Result<RootHash, Failure> {
-    let mut replica = read_replica(rt.alloc(), log)?;
+fn root_of<S: Trees>(rt: &HostRuntime, log: &mut Log<S>, note: &Note) -> Result<RootHash, Failure> {
+    let mut replica = read_replica(rt.alloc(), log, &note.hash_key)?;
     Ok(replica.root_hash().clone()?)
 }
 
-/// Runs a command on an open log of a store that writes by this name.
+/// Runs a command on an open log of a store that notes this of itself.
 pub fn run_open<S: Trees>(
     rt: &HostRuntime,
     log: &mut Log<S>,
-    writer: &str,
+    note: &Note,
     verb: Verb,
     given: &Given<'_>,
 ) -> Result<(), Failure> {
-    if verb == Verb::Root {
-        println!(rt; "{}", root_of(rt, log)?)?;
+    if verb == Verb::HashKey {
+        println!(rt; "{:032x}", number_of(&note.hash_key))?;
         return Ok(());
     }
-    run::run(rt, log, writer, verb, given)?;
+    if verb == Verb::Root {
+        println!(rt; "{}", root_of(rt, log, note)?)?;
+        return Ok(());
+    }
+    run::run(rt, log, note.writer.as_str(), verb, given)?;
     if verb == Verb::Status {
-        println!(rt; "root {}", root_of(rt, log)?)?;
+        println!(rt; "root {}", root_of(rt, log, note)?)?;
     }
     Ok(())
 }
@@ -46,11 +51,11 @@ fn run_lent<S: Trees>(
     verb: Verb,
     given: &Given<'_>,
 ) -> Result<(), Failure> {
-    let writer = recognise(rt.alloc(), log)?;
+    let note = recognise(rt.alloc(), log)?;
     if verb == Verb::Shell {
-        return shell::run_lines(rt, log, writer.as_str());
+        return shell::run_lines(rt, log, &note);
     }
-    run_open(rt, log, writer.as_str(), verb, given)
+    run_open(rt, log, &note, verb, given)
 }
 
 /// The time that a store is opened at: entries of a peer of up to a day behind it are taken.
@@ -128,7 +133,7 @@ fn print_size(rt: &HostRuntime, path: &str) -> Result<(), Failure> {
 /// Runs a command on a file.
 pub fn run(rt: &HostRuntime, verb: Verb, path: &str, given: &Given<'_>) -> Result<(), Failure> {
     if verb == Verb::Init {
-        return make_store(rt, path, given.writer);
+        return make_store(rt, path, given.writer, given.hash_key);
     }
     run_on(rt, open_file(rt, path, given.wait)?, verb, given)?;
     if verb == Verb::Status {

@@ -1,9 +1,9 @@
 -- What commands and settings are called.
 use Rattle.std.specs.Prelude.{◌≡◌, ◌≢◌, ℕ, List, Bool, true, false, codes, Option, MatchOption}
 use Rattle.mst_words.specs.declared.verb.Verb.{Verb}
-use Rattle.mst_words.specs.declared.verb.Verb.TheVariants.{Init, Put, Get, Del, List as ListOf, Count, Root, Status, Import, Export, Compact, Shell, Serve, Pull, Diff}
+use Rattle.mst_words.specs.declared.verb.Verb.TheVariants.{Init, Put, Get, Del, List as ListOf, Count, Root, HashKey, Status, Import, Export, Compact, Shell, Serve, Pull, Diff}
 use Rattle.mst_words.specs.declared.verb.Setting.{Setting}
-use Rattle.mst_words.specs.declared.verb.Setting.TheVariants.{From, To, Prefix, Limit, Json, Log, Forget, Ahead, Wait}
+use Rattle.mst_words.specs.declared.verb.Setting.TheVariants.{From, To, Prefix, Limit, Json, Log, Forget, Ahead, Wait, HashKey as ForHashKey}
 
 -- the name of a command
 abbrev pub verb_name : Verb → List ℕ
@@ -14,6 +14,7 @@ verb_name Del = codes "del"
 verb_name ListOf = codes "list"
 verb_name Count = codes "count"
 verb_name Root = codes "root"
+verb_name HashKey = codes "hash-key"
 verb_name Status = codes "status"
 verb_name Import = codes "import"
 verb_name Export = codes "export"
@@ -34,6 +35,7 @@ setting_name Log = codes "--log"
 setting_name Forget = codes "--forget-removals-older-than"
 setting_name Ahead = codes "--allow-ahead"
 setting_name Wait = codes "--wait"
+setting_name ForHashKey = codes "--hash-key"
 
 -- the command of this name, or none where no command has it
 abbrev pub IsVerbOf : List ℕ → Option Verb → Type 0

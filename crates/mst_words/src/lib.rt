@@ -1,6 +1,7 @@
 //! The command lines of `mst`, and the lines of its shell, as what they ask for.
 #![tactic(auto)]
 
+pub mod hash_key;
 pub mod line;
 pub mod parse;
 pub mod span;

@@ -1,4 +1,5 @@
 //! A command line as what it asks for.
+use crate::hash_key::hash_key_of;
 use crate::span::milliseconds_of;
 use crate::verb::{Form, Place, Setting, Verb, form_of, has_value, setting_of, verb_of};
 use crate::wrong::Wrong;
@@ -11,6 +12,7 @@ pub struct Given<'a> {
     /// Whether the value is to be read from standard input.
     pub is_input: bool,
     pub writer: Option<&'a str>,
+    pub hash_key: Option<[u8; 16]>,
     pub from: Option<&'a str>,
     pub to: Option<&'a str>,
     pub prefix: Option<&'a str>,
@@ -59,6 +61,7 @@ fn nothing<'a>(file: Option<&'a str>) -> Taken<'a> {
             value: "",
             is_input: false,
             writer: None,
+            hash_key: None,
             from: None,
             to: None,
             prefix: None,
@@ -133,6 +136,10 @@ fn with_value<'a>(
         Setting::Forget => match milliseconds_of(word) {
             Some(span) => given.forget = Some(span),
             None => return Err(Wrong::NoSpan(word)),
+        },
+        Setting::HashKey => match hash_key_of(word) {
+            Some(hash_key) => given.hash_key = Some(hash_key),
+            None => return Err(Wrong::NoHashKey(word)),
         },
         Setting::Json => given.json = true,
         Setting::Log => given.log = true,

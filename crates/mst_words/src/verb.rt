@@ -12,6 +12,7 @@ pub enum Verb {
     List,
     Count,
     Root,
+    HashKey,
     Status,
     Import,
     Export,
@@ -42,6 +43,7 @@ pub enum Setting {
     Forget,
     Ahead,
     Wait,
+    HashKey,
 }
 
 /// How the words of a command are given.
@@ -57,7 +59,7 @@ pub struct Form {
     pub help: &'static str,
 }
 
-/// The command of this name. It compares the name with those of the fifteen commands, and takes no memory.
+/// The command of this name. It compares the name with those of the sixteen commands, and takes no memory.
 pub fn verb_of(name: &str) -> Option<Verb>
     ensures { IsVerbOf name.now result }
 {
@@ -69,6 +71,7 @@ pub fn verb_of(name: &str) -> Option<Verb>
         "list" => Some(Verb::List),
         "count" => Some(Verb::Count),
         "root" => Some(Verb::Root),
+        "hash-key" => Some(Verb::HashKey),
         "status" => Some(Verb::Status),
         "import" => Some(Verb::Import),
         "export" => Some(Verb::Export),
@@ -95,6 +98,7 @@ pub fn setting_of(name: &str) -> Option<Setting>
         "--forget-removals-older-than" => Some(Setting::Forget),
         "--allow-ahead" => Some(Setting::Ahead),
         "--wait" => Some(Setting::Wait),
+        "--hash-key" => Some(Setting::HashKey),
         _ => None,
     }
 }
@@ -171,9 +175,12 @@ standard error, a line each, as list writes keys. mst-sync --diff prints them on
 ";
 
 const INIT_HELP: &str = "\
-usage: mst init FILE [WRITER]
+usage: mst init FILE [WRITER] [--hash-key KEY]
 
 Makes a store. WRITER is the name by which this copy writes; left out, it is a random one.
+
+  --hash-key KEY  hashes under this key, as mst hash-key prints it, and not under a random one: copies pull from each other
+                  only where they have the same. mst-clone hands it on
 ";
 
 const GET_HELP: &str = "\
@@ -198,6 +205,12 @@ const ROOT_HELP: &str = "\
 usage: mst root FILE
 
 Prints the root hash, which copies with the same content share.
+";
+
+const HASH_KEY_HELP: &str = "\
+usage: mst hash-key FILE
+
+Prints the key under which the store hashes, as 32 hexadecimal digits. All copies of a store have the same.
 ";
 
 const SHELL_HELP: &str = "\
@@ -226,7 +239,7 @@ fn places_of(verb: Verb) -> &'static [Place] {
 /// Which settings a command takes.
 fn settings_of(verb: Verb) -> &'static [Setting] {
     match verb {
-        Verb::Init => &[],
+        Verb::Init => &[Setting::HashKey],
         Verb::List => &[
             Setting::From,
             Setting::To,
@@ -253,6 +266,7 @@ fn help_of(verb: Verb) -> &'static str {
         Verb::List => LIST_HELP,
         Verb::Count => "usage: mst count FILE\n\nPrints how many keys there are.\n",
         Verb::Root => ROOT_HELP,
+        Verb::HashKey => HASH_KEY_HELP,
         Verb::Status => STATUS_HELP,
         Verb::Import => IMPORT_HELP,
         Verb::Export => EXPORT_HELP,
@@ -291,6 +305,7 @@ usage: mst COMMAND FILE [WORDS]
   count FILE             prints how many keys there are
   status FILE            prints what the file holds
   root FILE              prints the root hash, which copies with the same content share
+  hash-key FILE          prints the key under which the store hashes, which all its copies share
   import FILE            writes the CSV on standard input
   export FILE            prints the keys and values as CSV
   compact FILE           leaves one row in the file for each key

@@ -21,6 +21,8 @@ pub enum Wrong<'a> {
     NoNumber(&'a str),
     /// This is no span of time.
     NoSpan(&'a str),
+    /// This is no hash key.
+    NoHashKey(&'a str),
     /// A word is left over.
     LeftOver(&'a str),
     /// A word is missing.
@@ -49,6 +51,7 @@ impl fmt::Display for Wrong<'_> {
                 f,
                 "{word} is no span of time, as 30d, 12h, 15m or 90s are"
             ),
+            Wrong::NoHashKey(word) => write!(f, "{word} is no hash key of 32 hexadecimal digits"),
             Wrong::LeftOver(word) => write!(f, "{word} is a word too many"),
             Wrong::Missing(name) => write!(f, "{name} is missing"),
             Wrong::NoLog(name) => write!(f, "{name} says nothing without --log"),

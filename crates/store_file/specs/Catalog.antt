@@ -1,5 +1,5 @@
 -- The two tables of a store's file, and why it isn't opened.
-use Rattle.std.specs.Prelude.{◌≡◌, ℕ, List, [], ◌∷◌, codes}
+use Rattle.std.specs.Prelude.{◌≡◌, ◌⊎◌, ℕ, List, [], ◌∷◌, codes}
 use Rattle.sqlite_value.specs.declared.value.Value.TheVariants.{Text}
 use Rattle.sqlite_value.specs.Order.{Row, column}
 use Rattle.sqlite_value.specs.Keys.{plain}
@@ -9,7 +9,7 @@ use Rattle.sqlite_store.specs.declared.error.OpenError.{OpenError}
 use Rattle.sqlite_store.specs.declared.error.OpenError.TheVariants as refusal
 use Rattle.sqlite_wal.specs.declared.error.Error.{Error}
 use Rattle.sqlite_wal.specs.declared.error.Error.TheVariants as probe
-use Rattle.store_file.specs.declared.catalog.TheConstants.{ENTRIES_SQL, ABOUT_SQL, FORMER_SQL}
+use Rattle.store_file.specs.declared.catalog.TheConstants.{ENTRIES_SQL, ABOUT_SQL, FORMER_ENTRIES_SQL, FORMER_ABOUT_SQL}
 use Rattle.store_file.specs.declared.fault.OpenFault.{OpenFault}
 use Rattle.store_file.specs.declared.fault.OpenFault.TheVariants.{Io, Full, Memory, Foreign, Format, Corrupt}
 
@@ -26,17 +26,21 @@ pub record IsTableRow (name sql : List ℕ) (row : Row) : Type 0 where
   pub about : column row 3 ≡ Text name
   pub made : column row 5 ≡ Text sql
 
--- the rows are those of a store, whose table of entries is made so
-abbrev pub Lists : List ℕ → List Row → Type 0
-Lists sql [] = ⊥
-Lists sql (entry ∷ []) = ⊥
-Lists sql (entry ∷ about ∷ []) = IsTableRow (codes "entry") sql entry × IsTableRow (codes "about") ABOUT_SQL.now about
-Lists sql (entry ∷ about ∷ other ∷ more) = ⊥
+-- the rows are those of a store, whose two tables are made so
+abbrev pub Lists : List ℕ → List ℕ → List Row → Type 0
+Lists entries about [] = ⊥
+Lists entries about (first ∷ []) = ⊥
+Lists entries about (first ∷ second ∷ []) = IsTableRow (codes "entry") entries first × IsTableRow (codes "about") about second
+Lists entries about (first ∷ second ∷ other ∷ more) = ⊥
 
--- they aren't, and are told as a store in format 1 or as something else
+-- they are those of a store in format 1, or in format 2
+abbrev pub AreFormer : List Row → Type 0
+AreFormer rows = Lists FORMER_ENTRIES_SQL.now FORMER_ABOUT_SQL.now rows ⊎ Lists ENTRIES_SQL.now FORMER_ABOUT_SQL.now rows
+
+-- they aren't those of a store, and are told as one in an earlier format or as something else
 abbrev pub Refuses : List Row → OpenFault → Type 0
-Refuses rows Format = Lists FORMER_SQL.now rows
-Refuses rows Foreign = ¬ Lists ENTRIES_SQL.now rows × ¬ Lists FORMER_SQL.now rows
+Refuses rows Format = AreFormer rows
+Refuses rows Foreign = ¬ Lists ENTRIES_SQL.now ABOUT_SQL.now rows × ¬ AreFormer rows
 Refuses rows _ = ⊥
 
 abbrev pub fault_of : OpenError → OpenFault

@@ -1,7 +1,7 @@
 //! The two tables of a store's file.
 ghost use Rattle.std.specs.Prelude.{◌≡◌, ◌↔◌, IsTrue, MatchResult, map};
 ghost use Rattle.sqlite_store.specs.Catalog.{wanted_of};
-ghost use Rattle.store_file.specs.Catalog.{IsTableRow, Lists, Refuses, laid_out};
+ghost use Rattle.store_file.specs.Catalog.{AreFormer, IsTableRow, Lists, Refuses, laid_out};
 
 use crate::fault::OpenFault;
 use sqlite_trees::schema::Object;
@@ -21,12 +21,16 @@ pub const ABOUT: u32 = 1;
 pub const ENTRIES_SQL: &str =
     "CREATE TABLE entry (key TEXT NOT NULL, time INTEGER NOT NULL, writer TEXT NOT NULL, value ANY NOT NULL, PRIMARY KEY (key, time, writer, value)) STRICT, WITHOUT ROWID";
 
-/// How the table of the format and the writer is made.
+/// How the table of the format, the writer and the hash key is made.
 pub const ABOUT_SQL: &str =
+    "CREATE TABLE about (id INTEGER PRIMARY KEY, format INTEGER NOT NULL, writer TEXT NOT NULL, hash_key BLOB NOT NULL) STRICT";
+
+/// How the table of the format and the writer was made in formats 1 and 2.
+pub const FORMER_ABOUT_SQL: &str =
     "CREATE TABLE about (id INTEGER PRIMARY KEY, format INTEGER NOT NULL, writer TEXT NOT NULL) STRICT";
 
 /// How the table of entries was made in format 1.
-pub const FORMER_SQL: &str =
+pub const FORMER_ENTRIES_SQL: &str =
     "CREATE TABLE entry (id INTEGER PRIMARY KEY, key TEXT NOT NULL, time INTEGER NOT NULL, writer TEXT NOT NULL, value TEXT) STRICT";
 
 /// The two tables, each at its number.
@@ -63,25 +67,32 @@ fn is_table(row: &Row, name: &[u8], sql: &[u8]) -> bool
         && is_same(row.get(5), ValueRef::Text(sql))
 }
 
-/// Whether these rows of `sqlite_schema` are those of a store, whose table of entries is made so.
-fn lists(rows: &[Row], entries: &[u8]) -> bool
-    ensures { IsTrue result ↔ Lists entries.now rows.now }
+/// Whether these rows of `sqlite_schema` are those of a store, whose two tables are made so.
+fn lists(rows: &[Row], entries: &str, about: &str) -> bool
+    ensures { IsTrue result ↔ Lists entries.now about.now rows.now }
 {
     match rows {
-        [entry, about] => is_table(entry, b"entry", entries)
-            && is_table(about, b"about", ABOUT_SQL.as_bytes()),
+        [first, second] => is_table(first, b"entry", entries.as_bytes())
+            && is_table(second, b"about", about.as_bytes()),
         _ => false,
     }
 }
 
+/// Whether they are those of a store in an earlier format.
+fn are_former(rows: &[Row]) -> bool
+    ensures { IsTrue result ↔ AreFormer rows.now }
+{
+    lists(rows, FORMER_ENTRIES_SQL, FORMER_ABOUT_SQL) || lists(rows, ENTRIES_SQL, FORMER_ABOUT_SQL)
+}
+
 /// Refuses the rows of `sqlite_schema` that aren't those of a store.
 pub fn recognise(rows: &[Row]) -> Result<(), OpenFault>
-    ensures { MatchResult result (λ _. Lists ENTRIES_SQL.now rows.now) (Refuses rows.now) }
+    ensures { MatchResult result (λ _. Lists ENTRIES_SQL.now ABOUT_SQL.now rows.now) (Refuses rows.now) }
 {
-    if lists(rows, ENTRIES_SQL.as_bytes()) {
+    if lists(rows, ENTRIES_SQL, ABOUT_SQL) {
         return Ok(());
     }
-    if lists(rows, FORMER_SQL.as_bytes()) {
+    if are_former(rows) {
         return Err(OpenFault::Format);
     }
     Err(OpenFault::Foreign)

@@ -3,7 +3,9 @@ ghost use Rattle.std.specs.Prelude.{IsSome, IsTrue, IfOk, OnOk};
 ghost use Rattle.sqlite_disk.specs.Memory.{memory_is_usable};
 ghost use Rattle.store_file.specs.Unsure.{disk_below};
 
-use crate::catalog::{ABOUT, ABOUT_SQL, ENTRIES, FORMER_SQL};
+use crate::catalog::{
+    ABOUT, ABOUT_SQL, ENTRIES, ENTRIES_SQL, FORMER_ABOUT_SQL, FORMER_ENTRIES_SQL,
+};
 use crate::{OpenFault, Unsure, close, close_files, create, open};
 use sqlite_disk::{Disk, Files, Memory};
 use sqlite_pager::{Options, Pager};
@@ -33,8 +35,8 @@ fn blank(alloc: Global) -> Pair
     }
 }
 
-/// The files of a database whose tables have the names of a store's.
-fn database(alloc: Global, sql: &str) -> Result<Pair, Fail>
+/// The files of a database whose tables have the names of a store's, and are made so.
+fn database(alloc: Global, entries: &str, notes: &str) -> Result<Pair, Fail>
     ensures log { IfOk result (λ files. IsTrue (memory_is_usable (disk_below files.log))) }
     ensures db { IfOk result (λ files. IsTrue (memory_is_usable (disk_below files.db))) }
 {
@@ -46,12 +48,12 @@ fn database(alloc: Global, sql: &str) -> Result<Pair, Fail>
         name: "entry",
         table: "entry",
         reals: 0,
-        sql: Some(sql),
+        sql: Some(entries),
     };
     let about = Object {
         name: "about",
         table: "about",
-        sql: Some(ABOUT_SQL),
+        sql: Some(notes),
         ..entry
     };
     match Unopened::new(alloc, pager, &[entry, about])?.create() {
@@ -155,10 +157,12 @@ fn opens_no_other_file(rt: HostRuntime) -> Result<(), Fail> {
     text.db
         .write_at(0, b"key,value\napple,3\nbanana,5\ncherry,1\n")?;
     assert_eq!(rt; open(alloc, text).err(), Some(OpenFault::Foreign));
-    let other = database(alloc, "CREATE TABLE entry (a)")?;
+    let other = database(alloc, "CREATE TABLE entry (a)", ABOUT_SQL)?;
     assert_eq!(rt; open(alloc, other).err(), Some(OpenFault::Foreign));
-    let former = database(alloc, FORMER_SQL)?;
-    assert_eq!(rt; open(alloc, former).err(), Some(OpenFault::Format));
+    for entries in [FORMER_ENTRIES_SQL, ENTRIES_SQL] {
+        let former = database(alloc, entries, FORMER_ABOUT_SQL)?;
+        assert_eq!(rt; open(alloc, former).err(), Some(OpenFault::Format));
+    }
     Ok(())
 }
 

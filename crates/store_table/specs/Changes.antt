@@ -11,19 +11,19 @@ pub record IsBlank (trees : Trees) : Type 0 where
   pub entries : trees 0 ≡ []
   pub about : trees 1 ≡ []
 
--- no entry, in this format and by this writer
-pub record IsNewStore (format : ℤ) (writer : List ℕ) (trees : Trees) : Type 0 where
+-- no entry, in this format, by this writer and under this hash key
+pub record IsNewStore (format : ℤ) (writer hash_key : List ℕ) (trees : Trees) : Type 0 where
   pub entries : trees 0 ≡ []
-  pub about : IsNoted trees format writer
+  pub about : IsNoted trees format writer hash_key
 
 -- the notes are as they were
 abbrev pub KeepsNotes : Trees → Trees → Type 0
 KeepsNotes old new = new 1 ≡ old 1
 
--- the note of this format and this writer is put among the notes, and no entry has changed
-pub record HasNoteMore (format : ℤ) (writer : List ℕ) (old new : Trees) : Type 0 where
+-- such a note is put among the notes, and no entry has changed
+pub record HasNoteMore (format : ℤ) (writer hash_key : List ℕ) (old new : Trees) : Type 0 where
   pub entries : new 0 ≡ old 0
-  pub about : new 1 ≡ put_row (note_row format writer) (old 1)
+  pub about : new 1 ≡ put_row (note_row format writer hash_key) (old 1)
 
 module _ (rows : List Row) (old new : Trees) where
   -- the table of entries has these rows too, and nothing else has changed

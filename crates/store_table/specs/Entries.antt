@@ -5,7 +5,7 @@ use Rattle.std.specs.declared.cmp.Ordering.TheVariants.{Less}
 use Rattle.std.specs.Ordering.{ordering_then}
 use Rattle.key_order.specs.Text.{Text as Key, text_order}
 use Rattle.sqlite_value.specs.declared.value.Value.{Value}
-use Rattle.sqlite_value.specs.declared.value.Value.TheVariants.{Null, Int, Text as Words}
+use Rattle.sqlite_value.specs.declared.value.Value.TheVariants.{Null, Int, Text as Words, Blob}
 use Rattle.sqlite_value.specs.Keys.{plain}
 use Rattle.sqlite_value.specs.Order.{Row, column}
 use Rattle.sqlite_trees.specs.Tree.{Trees, IsAscending, insert_entry}
@@ -37,14 +37,14 @@ pub record HoldsEntries (trees : Trees) (entries : List (Key × Register)) : Typ
 abbrev pub with_rows : List Row → List Row → List Row
 with_rows rows more = fold (λ all row. insert_entry plain row all) rows more
 
--- the row that notes the format and the writer
-abbrev pub note_row : ℤ → List ℕ → Row
-note_row format writer = Int (pos 1) ∷ Null ∷ Int format ∷ Words writer ∷ []
+-- the row that notes the format, the writer and the hash key
+abbrev pub note_row : ℤ → List ℕ → List ℕ → Row
+note_row format writer hash_key = Int (pos 1) ∷ Null ∷ Int format ∷ Words writer ∷ Blob hash_key ∷ []
 
 -- what a row of the table that says the format notes
 abbrev pub noted : Row → Row
-noted row = column row 2 ∷ column row 3 ∷ []
+noted row = column row 2 ∷ column row 3 ∷ column row 4 ∷ []
 
--- that table has one row, with this format and this writer
-abbrev pub IsNoted : Trees → ℤ → List ℕ → Type 0
-IsNoted trees format writer = map noted (trees 1) ≡ (Int format ∷ Words writer ∷ []) ∷ []
+-- that table has one row, with this format, this writer and this hash key
+abbrev pub IsNoted : Trees → ℤ → List ℕ → List ℕ → Type 0
+IsNoted trees format writer hash_key = map noted (trees 1) ≡ (Int format ∷ Words writer ∷ Blob hash_key ∷ []) ∷ []

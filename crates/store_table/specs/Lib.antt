@@ -3,6 +3,7 @@ pub mod Entries
 pub mod Faults
 pub mod Latest
 pub mod Logs
+pub mod Notes
 pub mod Reading
 pub mod RegisterBytes
 pub mod RegisterLaws

@@ -2,9 +2,10 @@
 ghost use Rattle.std.specs.Prelude.{◌≡◌, [], ◌∷◌, true, false, string_bytes, IfOk, IfErr, OnOk};
 ghost use Rattle.sqlite_trees.specs.View.{OnlyWrites};
 ghost use Rattle.sqlite_value.specs.Value.{owned};
-ghost use Rattle.sqlite_value.specs.declared.value.Value.TheVariants.{Int, Text};
+ghost use Rattle.sqlite_value.specs.declared.value.Value.TheVariants.{Blob, Int, Text};
 ghost use Rattle.store_table.specs.Changes.{IsBlank, IsNewStore, HasNoteMore};
-ghost use Rattle.store_table.specs.Entries.{noted, note_row, IsNoted};
+ghost use Rattle.store_table.specs.Entries.{noted, note_row};
+ghost use Rattle.store_table.specs.Notes.{Notes};
 ghost use Rattle.store_table.specs.Faults.{IsFailure, IsForeign};
 ghost use Rattle.store_table.specs.Logs.{HasTables, IsLog, IsClean, IsSteady, Finds, Makes, Refuses, StaysInOk, StaysInErr, Leaves, LeavesNoMore};
 ghost use Rattle.store_table.specs.Transactions.{CommitsNothing, IsTransaction};
@@ -21,7 +22,21 @@ use sqlite_value::value::ValueRef;
 use std::alloc::Global;
 
 /// The format of the file.
-pub const FORMAT: i64 = 2;
+pub const FORMAT: i64 = 3;
+
+/// How many bytes a hash key has.
+pub const HASH_KEY_LEN: usize = 16;
+
+/// What a store says of itself.
+#[derive(Debug, Drop)]
+pub struct Note {
+    /// The format of the file.
+    pub format: i64,
+    /// The name by which the store writes.
+    pub writer: String,
+    /// The key of SipHash under which keys and values are hashed. Copies of one store have the same.
+    pub hash_key: [u8; HASH_KEY_LEN],
+}
 
 /// Fills in the first note, and answers whether it is the only one.
 fn only_note<S: Store>(
@@ -55,20 +70,39 @@ fn number_in(value: ValueRef<'_>) -> Result<i64, StoreFault>
     }
 }
 
-/// The format and the writer of a note.
-fn note_of(alloc: Global, row: &Row) -> Result<(i64, String), StoreFault>
-    ensures note { IfOk result (λ note. noted row.now ≡ Int note.0 ∷ Text (string_bytes note.1) ∷ []) }
+/// A hash key.
+fn hash_key_in(value: ValueRef<'_>) -> Result<[u8; HASH_KEY_LEN], StoreFault>
+    ensures hash_key { IfOk result (λ hash_key. owned value.entry ≡ Blob hash_key) }
+    ensures failed { IfErr result IsFailure }
+{
+    let ValueRef::Blob(bytes) = value else {
+        return Err(StoreFault::Malformed);
+    };
+    match <[u8; HASH_KEY_LEN]>::try_from(bytes) {
+        Ok(hash_key) => Ok(hash_key),
+        Err(_) => Err(StoreFault::Malformed),
+    }
+}
+
+/// What a row notes.
+fn note_of(alloc: Global, row: &Row) -> Result<Note, StoreFault>
+    ensures note { IfOk result (λ note. noted row.now ≡ Int note.format ∷ Text (string_bytes note.writer) ∷ Blob note.hash_key ∷ []) }
     ensures failed { IfErr result IsFailure }
 {
     let format = number_in(row.get(2))?;
     let writer = text_in(alloc, row.get(3))?;
-    Ok((format, writer))
+    let hash_key = hash_key_in(row.get(4))?;
+    Ok(Note {
+        format,
+        writer,
+        hash_key,
+    })
 }
 
 /// The note.
-fn read_note<S: Store>(alloc: Global, trees: &mut S) -> Result<(i64, String), StoreFault>
+fn read_note<S: Store>(alloc: Global, trees: &mut S) -> Result<Note, StoreFault>
     requires tables { IsClean S.Store trees.old → HasTables (S.Store.view trees.old) }
-    ensures noted { Finds S.Store trees.old trees.new result (λ old note. IsNoted old note.0 (string_bytes note.1)) }
+    ensures noted { Finds S.Store trees.old trees.new result Notes }
     ensures foreign { Refuses S.Store trees.old trees.new result StoreFault.Foreign IsForeign }
     ensures same { MakesView S.Store trees.old trees.new result StaysBut }
     ensures uncommitted { CommitsNothing S.Store trees.old trees.new }
@@ -81,14 +115,14 @@ fn read_note<S: Store>(alloc: Global, trees: &mut S) -> Result<(i64, String), St
     note_of(alloc, &first)
 }
 
-/// The format of the file, and the name by which the store writes. It takes the time of reading one row.
+/// What the store says of itself, in whatever format it is. It takes the time of reading one row.
 ///
 /// # Errors
 ///
 /// [`StoreFault::Foreign`] where there is not just one note, [`StoreFault::Database`], [`StoreFault::Malformed`] and [`StoreFault::Memory`];
 /// nothing is written.
-pub fn about<S: Store>(alloc: Global, log: &mut Log<S>) -> Result<(i64, String), StoreFault>
-    ensures noted { Finds S.Store log.old log.new result (λ trees about. IsNoted trees about.0 (string_bytes about.1)) }
+pub fn about<S: Store>(alloc: Global, log: &mut Log<S>) -> Result<Note, StoreFault>
+    ensures noted { Finds S.Store log.old log.new result Notes }
     ensures foreign { Refuses S.Store log.old log.new result StoreFault.Foreign IsForeign }
     ensures unchanged { StaysInOk S.Store log.old log.new result }
     ensures refused { StaysInErr S.Store log.old log.new result }
@@ -99,29 +133,34 @@ pub fn about<S: Store>(alloc: Global, log: &mut Log<S>) -> Result<(i64, String),
     settled(&mut log.trees, read)
 }
 
-/// The name by which the store writes. It takes the time of reading one row.
+/// What the store says of itself, where it is in this format. It takes the time of reading one row.
 ///
 /// # Errors
 ///
 /// As of [`about`], and [`StoreFault::Format`] where the store is one of another version of this program; nothing is written.
-pub fn recognise<S: Store>(alloc: Global, log: &mut Log<S>) -> Result<String, StoreFault>
-    ensures noted { Finds S.Store log.old log.new result (λ trees writer. IsNoted trees FORMAT (string_bytes writer)) }
+pub fn recognise<S: Store>(alloc: Global, log: &mut Log<S>) -> Result<Note, StoreFault>
+    ensures noted { Finds S.Store log.old log.new result Notes }
+    ensures format { IfOk result (λ note. note.format ≡ FORMAT) }
     ensures foreign { Refuses S.Store log.old log.new result StoreFault.Foreign IsForeign }
     ensures unchanged { StaysInOk S.Store log.old log.new result }
     ensures refused { StaysInErr S.Store log.old log.new result }
     ensures steady { IsSteady S.Store log.old log.new }
     ensures crash { LeavesNoMore S.Store log.old log.new }
 {
-    let (format, writer) = about(alloc, log)?;
-    if format != FORMAT {
-        return Err(StoreFault::Format(format));
+    let note = about(alloc, log)?;
+    if note.format != FORMAT {
+        return Err(StoreFault::Format(note.format));
     }
-    Ok(writer)
+    Ok(note)
 }
 
-/// Makes a row the note of this format and this writer.
-fn fill_note(row: &mut Row, writer: &str) -> Result<(), StoreFault>
-    ensures note { OnOk result (row.new ≡ note_row FORMAT writer.now) }
+/// Makes a row the note of this format, this writer and this hash key.
+fn fill_note(
+    row: &mut Row,
+    writer: &str,
+    hash_key: &[u8; HASH_KEY_LEN],
+) -> Result<(), StoreFault>
+    ensures note { OnOk result (row.new ≡ note_row FORMAT writer.now hash_key.now) }
     ensures failed { IfErr result IsFailure }
 {
     row.clear();
@@ -129,6 +168,7 @@ fn fill_note(row: &mut Row, writer: &str) -> Result<(), StoreFault>
     row.push(ValueRef::Null)?;
     row.push(ValueRef::Int(FORMAT))?;
     row.push(ValueRef::Text(writer.as_bytes()))?;
+    row.push(ValueRef::Blob(hash_key))?;
     Ok(())
 }
 
@@ -149,22 +189,32 @@ fn is_blank<S: Store>(trees: &mut S, none: &Row, row: &mut Row) -> Result<bool, 
 }
 
 /// Writes the note.
-fn write_note<S: Store>(trees: &mut S, row: &mut Row, writer: &str) -> Result<(), StoreFault>
+fn write_note<S: Store>(
+    trees: &mut S,
+    row: &mut Row,
+    writer: &str,
+    hash_key: &[u8; HASH_KEY_LEN],
+) -> Result<(), StoreFault>
     requires tables { IsClean S.Store trees.old → HasTables (S.Store.view trees.old) }
-    ensures written { Makes S.Store trees.old trees.new result (HasNoteMore FORMAT writer.now) }
+    ensures written { Makes S.Store trees.old trees.new result (HasNoteMore FORMAT writer.now hash_key.now) }
     ensures failed { IfErr result IsFailure }
     ensures frame { MakesView S.Store trees.old trees.new result OnlyWrites }
     ensures uncommitted { CommitsNothing S.Store trees.old trees.new }
 {
-    fill_note(row, writer)?;
+    fill_note(row, writer, hash_key)?;
     trees.put(ABOUT, row)?;
     Ok(())
 }
 
 /// Writes the note where there is nothing yet.
-fn begin<S: Store>(alloc: Global, trees: &mut S, writer: &str) -> Result<(), StoreFault>
+fn begin<S: Store>(
+    alloc: Global,
+    trees: &mut S,
+    writer: &str,
+    hash_key: &[u8; HASH_KEY_LEN],
+) -> Result<(), StoreFault>
     requires tables { IsClean S.Store trees.old → HasTables (S.Store.view trees.old) }
-    ensures begun { Makes S.Store trees.old trees.new result (λ _. IsNewStore FORMAT writer.now) }
+    ensures begun { Makes S.Store trees.old trees.new result (λ _. IsNewStore FORMAT writer.now hash_key.now) }
     ensures foreign { Refuses S.Store trees.old trees.new result StoreFault.Foreign (λ old. ¬ IsBlank old) }
     ensures frame { MakesView S.Store trees.old trees.new result OnlyWrites }
     ensures uncommitted { CommitsNothing S.Store trees.old trees.new }
@@ -174,32 +224,42 @@ fn begin<S: Store>(alloc: Global, trees: &mut S, writer: &str) -> Result<(), Sto
     if !is_blank(trees, &none, &mut row)? {
         return Err(StoreFault::Foreign);
     }
-    write_note(trees, &mut row, writer)
+    write_note(trees, &mut row, writer, hash_key)
 }
 
 /// Writes the note where there is nothing yet, and commits.
-fn commit_note<S: Store>(alloc: Global, trees: &mut S, writer: &str) -> Result<(), StoreFault>
+fn commit_note<S: Store>(
+    alloc: Global,
+    trees: &mut S,
+    writer: &str,
+    hash_key: &[u8; HASH_KEY_LEN],
+) -> Result<(), StoreFault>
     requires { IsLog S.Store trees.old }
-    ensures done { IsTransaction S.Store trees.old trees.new result (λ _. IsNewStore FORMAT writer.now) }
+    ensures done { IsTransaction S.Store trees.old trees.new result (λ _. IsNewStore FORMAT writer.now hash_key.now) }
     ensures foreign { Refuses S.Store trees.old trees.new result StoreFault.Foreign (λ old. ¬ IsBlank old) }
 {
-    begin(alloc, trees, writer)?;
+    begin(alloc, trees, writer, hash_key)?;
     trees.commit()?;
     Ok(())
 }
 
-/// Makes a store of tables without rows, or nothing. It takes the time of one transaction.
+/// Makes a store of tables without rows, which writes by this name and hashes under this key, or nothing. It takes the time of one transaction.
 ///
 /// # Errors
 ///
 /// [`StoreFault::Foreign`] where a table has rows already, and faults of the file.
-pub fn create<S: Store>(alloc: Global, log: &mut Log<S>, writer: &str) -> Result<(), StoreFault>
-    ensures created { Makes S.Store log.old log.new result (λ _. IsNewStore FORMAT writer.now) }
+pub fn create<S: Store>(
+    alloc: Global,
+    log: &mut Log<S>,
+    writer: &str,
+    hash_key: &[u8; HASH_KEY_LEN],
+) -> Result<(), StoreFault>
+    ensures created { Makes S.Store log.old log.new result (λ _. IsNewStore FORMAT writer.now hash_key.now) }
     ensures foreign { Refuses S.Store log.old log.new result StoreFault.Foreign (λ trees. ¬ IsBlank trees) }
     ensures refused { StaysInErr S.Store log.old log.new result }
     ensures steady { IsSteady S.Store log.old log.new }
-    ensures crash { Leaves S.Store log.old log.new (λ _. IsNewStore FORMAT writer.now) }
+    ensures crash { Leaves S.Store log.old log.new (λ _. IsNewStore FORMAT writer.now hash_key.now) }
 {
-    let done = commit_note(alloc, &mut log.trees, writer);
+    let done = commit_note(alloc, &mut log.trees, writer, hash_key);
     settled(&mut log.trees, done)
 }

@@ -8,4 +8,4 @@ use Rattle.merkle_store.proofs.store.create.Goals as goal
 
 pub returns-clause-kept : goal.returns-clause-kept
 returns-clause-kept g c clean =
-    on_ok c.create.result _ _ (kept_new _ laws-law _ joining-law string_cmp_total c.args.writer.now (trees_of g.S.Store c.create.new.log)) (c.create.ensures.created clean)
+    on_ok c.create.result _ _ (kept_new _ laws-law _ joining-law string_cmp_total c.args.writer.now c.args.hash_key.now (trees_of g.S.Store c.create.new.log)) (c.create.ensures.created clean)
