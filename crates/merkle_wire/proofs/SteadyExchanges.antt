@@ -18,7 +18,8 @@ use Rattle.merkle_wire.specs.Found.{nothing}
 use Rattle.merkle_wire.specs.Next.{IsNext, IsStopped}
 use Rattle.merkle_wire.specs.Questions.{question_bytes}
 use Rattle.merkle_wire.specs.Replies.{IsReply}
-use Rattle.merkle_wire.specs.Steady.{AsksForPages, CanBeTold, HasKeysNext, HasKeysOfSides, IsFilled, IsSteady, LeavesLess, SteadyNext, WhileSteady, times_asked, times_found}
+use Rattle.merkle_wire.specs.Sessions.{Covers, CoversNext}
+use Rattle.merkle_wire.specs.Steady.{AsksForPages, CanBeTold, GoesDown, HasKeysNext, HasKeysOfSides, IsFilled, IsSteady, KeepsKeys, LeavesLess, StaysSteady, SteadyNext, WhileSteady, times_asked, times_found}
 use Rattle.merkle_wire.specs.Underway.{Underway}
 use Rattle.merkle_wire.specs.declared.answering.AnswerError.{AnswerError}
 use Rattle.merkle_wire.specs.declared.answering.AnswerError.TheVariants as answer
@@ -30,12 +31,23 @@ use Rattle.merkle_wire.specs.declared.session_error.SessionError.TheVariants.{Me
 use Rattle.merkle_wire.specs.declared.settings.Settings.{Settings}
 use Rattle.merkle_wire.proofs.Exchanges.{Tell}
 use Rattle.merkle_wire.proofs.KeysNext.{next_keys}
-use Rattle.merkle_wire.proofs.NextCovers.{sides_met}
+use Rattle.merkle_wire.proofs.NextCovers.{exchanged, sides_met}
 use Rattle.merkle_wire.proofs.PageCovers.{AreSides}
 use Rattle.merkle_wire.proofs.TellingQuestions.{SameQuestion, question_tells}
 use Rattle.merkle_wire.proofs.Ending.{leaves_less}
 use Rattle.merkle_wire.proofs.AskedNext.{next_steady}
 use Rattle.merkle_wire.proofs.Steadily.{memory_alone, stay}
+
+-- what comes of a reply: where it is taken, what comes next covers what is lacked, is steady, leaves less to ask for, and has keys of the two sides alone;
+-- and it is refused for want of memory alone
+pub record Comes {K V H : Type 0} (laws : Laws K V H) (n : ℕ) (encoding : K → List ℕ) (values : V → List ℕ) (local peer : Side K V H) (before : Underway K V) (reply : List ℕ) : Type 1 where
+  pub covers : (next : Next K V) → IsNext laws n encoding values local before reply next → (root : Tree K (List ℕ)) → IsTreeOf laws.cmp (laws.key_digest peer.hasher) peer.base root (tree_map laws peer) → HasSmallMap laws n peer
+      → Covers laws local peer root before → CoversNext laws local peer root encoding next
+  pub steady : (next : Next K V) → IsNext laws n encoding values local before reply next → StaysSteady laws n peer before next
+  pub less : (next : Next K V) → IsNext laws n encoding values local before reply next → GoesDown laws n peer before next
+  pub keys : (next : Next K V) → IsNext laws n encoding values local before reply next → HasKeysOfSides laws local peer before → KeepsKeys laws n peer local next
+  pub stops : (is_key : K → Type 0) (is_value : V → Type 0) (error : SessionError) → IsStopped laws n encoding values is_key is_value local before reply error
+      → WhileSteady laws n peer (λ root. CanBeTold laws is_key is_value peer → error ≡ Memory) before
 
 module _ {K V H : Type 0} (laws : Laws K V H) (o : IsTotalOrder laws.cmp) (eqv : IsEquivalence laws.eq) (respects : (h : H) (a b : V) → laws.eq a b ≡ true → laws.value_digest h a ≡ laws.value_digest h b)
     (one_tree : (hasher : H) (base : ℕ) (a b : List (K × List ℕ)) (t u : Tree K (List ℕ)) → SameMap laws.cmp (λ d e. d ≡ e) a b → IsTreeOf laws.cmp (laws.key_digest hasher) base t a → IsTreeOf laws.cmp (laws.key_digest hasher) base u b → SamePages laws.cmp t u)
@@ -59,31 +71,42 @@ module _ {K V H : Type 0} (laws : Laws K V H) (o : IsTotalOrder laws.cmp) (eqv :
     replies = subst (λ rs. IsReply laws.cmp laws.bytes_of encoding values digest_of n rs peer.tree question reply) (sym rows) is
 
     -- what comes next is steady
-    pub stays_steady : (next : Next K V) → IsNext laws n encoding values local before reply next → WhileSteady laws n (side met) (λ root. SteadyNext laws (side met) root next) before
+    stays_steady : (next : Next K V) → IsNext laws n encoding values local before reply next → WhileSteady laws n (side met) (λ root. SteadyNext laws (side met) root next) before
     stays_steady next (found, again, taken, goes) root of_peer small steady =
         let here = subst (λ s. IsSteady laws s root before) (sym same) steady in
         let t = stay laws o eqv encoding values tell n local peer root (sides root of_peer small) (lengths small) digest_of before.asked question before.rounds reply before.found found again here alike replies taken in
         subst (λ s. SteadyNext laws s root next) same (next_steady laws (side peer) root encoding again before.rounds found next t.fit t.steady goes)
 
     -- it leaves less to ask for
-    pub goes_on_less : (next : Next K V) → IsNext laws n encoding values local before reply next → WhileSteady laws n (side met) (λ root. LeavesLess laws (side met) root before next) before
+    goes_on_less : (next : Next K V) → IsNext laws n encoding values local before reply next → WhileSteady laws n (side met) (λ root. LeavesLess laws (side met) root before next) before
     goes_on_less next comes root of_peer small steady =
         subst (λ s. LeavesLess laws s root before next) same
         (leaves_less laws o eqv encoding values tell n local peer root (sides root of_peer small) (lengths small) digest_of before question reply next (subst (λ s. IsSteady laws s root before) (sym same) steady) alike replies comes)
 
     -- and has keys of the two sides alone
-    pub stays_at_keys : (next : Next K V) → IsNext laws n encoding values local before reply next → HasKeysOfSides laws local (side met) before → HasSmallMap laws n (side met) → HasKeysNext laws local (side met) next
+    stays_at_keys : (next : Next K V) → IsNext laws n encoding values local before reply next → HasKeysOfSides laws local (side met) before → HasSmallMap laws n (side met) → HasKeysNext laws local (side met) next
     stays_at_keys next comes keys small =
         let of_met = subst (λ s. IsTreeOf laws.cmp (laws.key_digest s.hasher) s.base peer.tree.root (tree_map laws s)) same (canonical, kept.digested) in
         subst (λ s. HasKeysNext laws local s next) same
         (next_keys laws o eqv encoding values tell n local peer peer.tree.root (sides peer.tree.root of_met small) (lengths small) digest_of before question reply next (subst (λ s. HasKeysOfSides laws local s before) (sym same) keys) alike replies comes)
 
     -- and the reply is refused for want of memory alone
-    pub stops_for_memory : (is_key : K → Type 0) (is_value : V → Type 0) (error : SessionError) → IsStopped laws n encoding values is_key is_value local before reply error
+    stops_for_memory : (is_key : K → Type 0) (is_value : V → Type 0) (error : SessionError) → IsStopped laws n encoding values is_key is_value local before reply error
         → WhileSteady laws n (side met) (λ root. CanBeTold laws is_key is_value (side met) → error ≡ Memory) before
     stops_for_memory is_key is_value error stopped root of_peer small steady told =
         memory_alone laws o eqv encoding values tell n local peer root (sides root of_peer small) (lengths small) is_key is_value (subst (CanBeTold laws is_key is_value) (sym same) told) digest_of before question reply error
         (subst (λ s. IsSteady laws s root before) (sym same) steady) alike replies stopped
+
+    pub comes : Comes laws n encoding values local (side met) before reply
+    comes = record {
+      covers = λ next goes root of_peer small covers.
+          exchanged laws o eqv respects one_tree encoding values tell n local up met peer rows settings kept canonical (subst (HasSmallMap laws n) (sym same) small) digest_of before question message reply next asked read is goes
+          root of_peer covers;
+      steady = stays_steady;
+      less = goes_on_less;
+      keys = stays_at_keys;
+      stops = stops_for_memory;
+    }
 
 -- a message has no reply for want of memory, where it asks something by the peer's settings
 pub unanswered_for_memory : (error : AnswerError) → (IsUnread error → ⊥) → (IsOfOthers error → ⊥) → error ≡ answer.Memory

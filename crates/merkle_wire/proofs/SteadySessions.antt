@@ -17,7 +17,7 @@ use Rattle.merkle_wire.specs.declared.catching_up.Next.TheVariants.{Ask}
 use Rattle.merkle_wire.specs.declared.session_error.SessionError.{SessionError}
 use Rattle.merkle_wire.specs.declared.session_error.SessionError.TheVariants.{Memory}
 use Rattle.merkle_wire.proofs.Exchanges.{Tell}
-use Rattle.merkle_wire.proofs.SteadyExchanges.{begun_steady, goes_on_less, stays_steady, stops_for_memory}
+use Rattle.merkle_wire.proofs.SteadyExchanges.{Comes, begun_steady, comes}
 
 module _ {K V H : Type 0} (laws : Laws K V H) (o : IsTotalOrder laws.cmp) (eqv : IsEquivalence laws.eq) (respects : (h : H) (a b : V) → laws.eq a b ≡ true → laws.value_digest h a ≡ laws.value_digest h b)
     (one_tree : (hasher : H) (base : ℕ) (a b : List (K × List ℕ)) (t u : Tree K (List ℕ)) → SameMap laws.cmp (λ d e. d ≡ e) a b → IsTreeOf laws.cmp (laws.key_digest hasher) base t a → IsTreeOf laws.cmp (laws.key_digest hasher) base u b → SamePages laws.cmp t u)
@@ -34,20 +34,17 @@ module _ {K V H : Type 0} (laws : Laws K V H) (o : IsTotalOrder laws.cmp) (eqv :
     kept : IsKept laws.cmp laws.value_digest now
     kept = record { ascending = up_peer; digested = tree.1 }
 
+    came : Comes laws n encoding values local peer before reply
+    came = comes laws o eqv respects one_tree encoding values tell n local up (contents_of peer root) now refl a.settings kept tree.0 (laws.key_digest a.tree.hasher) before a.question a.message reply a.asks a.reads a.answers
+
     answered_steady : (next : Next K V) → IsNext laws n encoding values local before reply next → SteadyNext laws peer root next
-    answered_steady next takes =
-        stays_steady laws o eqv respects one_tree encoding values tell n local up (contents_of peer root) now refl a.settings kept tree.0 (laws.key_digest a.tree.hasher) before a.question a.message reply a.asks a.reads a.answers next takes
-        root of_peer small steady
+    answered_steady next takes = came.steady next takes root of_peer small steady
 
     answered_for_memory : (is_key : K → Type 0) (is_value : V → Type 0) → CanBeTold laws is_key is_value peer → (error : SessionError) → IsStopped laws n encoding values is_key is_value local before reply error → error ≡ Memory
-    answered_for_memory is_key is_value told error stopped =
-        stops_for_memory laws o eqv respects one_tree encoding values tell n local up (contents_of peer root) now refl a.settings kept tree.0 (laws.key_digest a.tree.hasher) before a.question a.message reply a.asks a.reads a.answers is_key is_value
-        error stopped root of_peer small steady told
+    answered_for_memory is_key is_value told error stopped = came.stops is_key is_value error stopped root of_peer small steady told
 
     answered_less : (next : Next K V) → IsNext laws n encoding values local before reply next → LeavesLess laws peer root before next
-    answered_less next takes =
-        goes_on_less laws o eqv respects one_tree encoding values tell n local up (contents_of peer root) now refl a.settings kept tree.0 (laws.key_digest a.tree.hasher) before a.question a.message reply a.asks a.reads a.answers next takes
-        root of_peer small steady
+    answered_less next takes = came.less next takes root of_peer small steady
 
   -- so a session has no more exchanges than were to be asked for at first
   chain_short : (root : Tree K (List ℕ)) → IsTreeOf laws.cmp (laws.key_digest peer.hasher) peer.base root (tree_map laws peer) → (before last : Underway K V) (more : List (Underway K V))
