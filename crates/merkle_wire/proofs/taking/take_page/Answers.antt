@@ -1,8 +1,13 @@
-use Rattle.std.proofs.Common.{◌+◌, ◌++◌, ◌∷◌, [], map, sym, ap, subst, ◌∙◌, append-nil}
+use Rattle.std.proofs.Common.{◌≡◌, ◌+◌, ◌++◌, ◌∷◌, [], List, map, sym, ap, subst, ◌∙◌, append-nil}
 use Rattle.std.proofs.lemmas.List.{length-map}
 use Rattle.std.proofs.lemmas.Result.{err_from_is_err_and}
+use Rattle.merkle_replica.specs.Contents.{side}
+use Rattle.merkle_tree_theory.specs.Gap.{Gap}
+use Rattle.merkle_wire.specs.Found.{Found}
 use Rattle.merkle_wire.specs.Gaps.{owned_gap}
 use Rattle.merkle_wire.specs.Outlines.{keys_told, pages_bytes}
+use Rattle.merkle_wire.specs.Steps.{HasNodesAt, TakesPage}
+use Rattle.merkle_wire.specs.Taking.{IsGapOrNone}
 use Rattle.merkle_wire.specs.Unfit.{NoPageDigests}
 use Rattle.merkle_wire.proofs.Exchanges.{key_tells}
 use Rattle.merkle_wire.proofs.Fronts.{refused_for, refused_unread}
@@ -11,52 +16,39 @@ use Rattle.merkle_wire.proofs.Left.{none_left, some_left, some_mapped}
 use Rattle.merkle_wire.proofs.OutlinesRead.{three_read}
 use Rattle.merkle_wire.proofs.TakenMore.{page_taken}
 use Rattle.merkle_wire.proofs.Unfit.{no_keys, no_page-empty, no_page-keys, no_page-outside, no_page-pages}
+use Rattle.merkle_wire.proofs.taking.take_page.Given.{Over}
 use Rattle.merkle_wire.proofs.taking.take_page.Goals as goal
+use Rattle.merkle_wire.proofs.taking.take_page.Goals.{In_ok-take_pages}
+
+-- the page that was read lies in the gap, and is taken once its nodes are noted or added
+taken : (g : Over) (c : In_ok-take_pages g) (nodes : List (Gap g.row.K.Denot)) (after : Found g.row.K.Denot g.row.V.Denot) → IsGapOrNone g.H.RowHasher.laws (side c.args.replica.now) (owned_gap c.args.gap.now) nodes
+    → (nodes ≡ [] → HasNodesAt g.H.RowHasher.laws c.args.replica.now c.in_ok-keys.keys.items c.in_ok-digest.digest) → after ≡ record c.take_pages.new.work { nodes = c.take_pages.new.work.nodes ++ nodes }
+    → TakesPage g.H.RowHasher.laws g.row.N g.K.Encode.encoding c.args.replica.now c.args.run.now c.args.gap.now c.args.reader.now c.take_pages.new.reader c.args.work.now after
+taken g c nodes after = rw g.met.H.RowHasher.laws_are (λ own same adds.
+    let keys = map (λ w. w.key) c.in_ok-keys.keys.items in
+    let (pages, gaps, read, are, new, added) = rw c.deref-2.ensures.value at (rw g.met.H.RowHasher.laws_are at c.in_ok-take_pages.ensures.taken) in (
+      c.in_ok-digest.digest,
+      keys,
+      pages,
+      three_read c.in_ok-digest.digest (keys_told g.K.Encode.encoding c.args.run.now keys) (pages_bytes pages) c.args.reader.now.left.now c.array.new.self.left.now c.decode_run.new.reader.left.now c.take_pages.new.reader.left.now
+          c.in_ok-digest.ensures.read (c.in_ok-keys.ensures.read ∙ ap (λ t. t ++ c.decode_run.new.reader.left.now) (told_as_keys g.K.Encode.encoding c.args.run.now c.in_ok-keys.keys.items)) read,
+      (
+        some_mapped (λ w. w.key) c.in_ok-keys.keys.items (some_left c.in_ok-keys.keys (sym c.is_empty.ensures ∙ c.if-is_empty.false)),
+        rw c.deref.ensures.value at (c.keys_lie_in.ensures.inside c.if-not-keys_lie_in.false),
+        c.in_ok-digest.ensures.len,
+        are,
+      ),
+      (gaps, nodes, new, own, same, page_taken c.args.work.now c.take_pages.new.work after gaps nodes added adds),
+    ))
 
 pub returns-then-has_nodes-clause-taken : goal.returns-then-has_nodes-clause-taken
-returns-then-has_nodes-clause-taken g c = rw g.met.H.RowHasher.laws_are (
-    let keys = map (λ w. w.key) c.in_ok-keys.keys.items in
-    let pages = rw c.deref-2.ensures.value at (rw g.met.H.RowHasher.laws_are at c.in_ok-take_pages.ensures.taken) in (
-      c.in_ok-digest.digest,
-      keys,
-      pages.0,
-      three_read c.in_ok-digest.digest (keys_told g.K.Encode.encoding c.args.run.now keys) (pages_bytes pages.0) c.args.reader.now.left.now c.array.new.self.left.now c.decode_run.new.reader.left.now c.take_pages.new.reader.left.now
-          c.in_ok-digest.ensures.read (c.in_ok-keys.ensures.read ∙ ap (λ t. t ++ c.decode_run.new.reader.left.now) (told_as_keys g.K.Encode.encoding c.args.run.now c.in_ok-keys.keys.items)) pages.2,
-      (
-        some_mapped (λ w. w.key) c.in_ok-keys.keys.items (some_left c.in_ok-keys.keys (sym c.is_empty.ensures ∙ c.if-is_empty.false)),
-        rw c.deref.ensures.value at (c.keys_lie_in.ensures.inside c.if-not-keys_lie_in.false),
-        c.in_ok-digest.ensures.len,
-        pages.3,
-      ),
-      (
-        pages.1,
-        [],
-        pages.4,
-        tt,
-        λ e. rw c.deref-3.ensures.value at ((rw g.met.H.RowHasher.laws_are at c.has_nodes.ensures) c.if-has_nodes.true),
-        page_taken c.args.work.now c.take_pages.new.work c.note_same.new.self pages.1 [] pages.5
-            (c.note_same.ensures ∙ (λ i. record c.take_pages.new.work { nodes = sym (append-nil c.take_pages.new.work.nodes) i })),
-      ),
-    ))
+returns-then-has_nodes-clause-taken g c =
+    taken g (goal.at.returns-then-has_nodes-clause-taken g c).In_ok-take_pages [] c.note_same.new.self tt (λ e. rw c.deref-3.ensures.value at (c.has_nodes.ensures c.if-has_nodes.true))
+    (c.note_same.ensures ∙ (λ i. record c.take_pages.new.work { nodes = sym (append-nil c.take_pages.new.work.nodes) i }))
 
 pub returns-clause-taken : goal.returns-clause-taken
-returns-clause-taken g c = rw g.met.H.RowHasher.laws_are (
-    let keys = map (λ w. w.key) c.in_ok-keys.keys.items in
-    let pages = rw c.deref-2.ensures.value at (rw g.met.H.RowHasher.laws_are at c.in_ok-take_pages.ensures.taken) in
-    let same = rw (c.as_ref.ensures.value, c.as_ref-2.ensures.value) at c.in_ok-own.ensures in (
-      c.in_ok-digest.digest,
-      keys,
-      pages.0,
-      three_read c.in_ok-digest.digest (keys_told g.K.Encode.encoding c.args.run.now keys) (pages_bytes pages.0) c.args.reader.now.left.now c.array.new.self.left.now c.decode_run.new.reader.left.now c.take_pages.new.reader.left.now
-          c.in_ok-digest.ensures.read (c.in_ok-keys.ensures.read ∙ ap (λ t. t ++ c.decode_run.new.reader.left.now) (told_as_keys g.K.Encode.encoding c.args.run.now c.in_ok-keys.keys.items)) pages.2,
-      (
-        some_mapped (λ w. w.key) c.in_ok-keys.keys.items (some_left c.in_ok-keys.keys (sym c.is_empty.ensures ∙ c.if-is_empty.false)),
-        rw c.deref.ensures.value at (c.keys_lie_in.ensures.inside c.if-not-keys_lie_in.false),
-        c.in_ok-digest.ensures.len,
-        pages.3,
-      ),
-      (pages.1, owned_gap c.in_ok-own.own ∷ [], pages.4, same, λ e. absurd (cc), page_taken c.args.work.now c.take_pages.new.work c.add_nodes.new.self pages.1 (owned_gap c.in_ok-own.own ∷ []) pages.5 c.in_ok-add_nodes.ensures),
-    ))
+returns-clause-taken g c =
+    taken g (goal.at.returns-clause-taken g c).In_ok-take_pages (owned_gap c.in_ok-own.own ∷ []) c.add_nodes.new.self (rw g.met.H.RowHasher.laws_are (rw (c.as_ref.ensures.value, c.as_ref-2.ensures.value) at c.in_ok-own.ensures)) (λ e. absurd (cc)) c.in_ok-add_nodes.ensures
 
 pub returns-in_err-keys-clause-refused : goal.returns-in_err-keys-clause-refused
 returns-in_err-keys-clause-refused g c =
