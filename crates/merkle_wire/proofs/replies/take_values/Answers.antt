@@ -1,5 +1,5 @@
 use Rattle.std.specs.Prelude.{⊤}
-use Rattle.std.proofs.Common.{◌≡◌, ◌≢◌, ◌++◌, ◌∷◌, [], Option, length, map, append_assoc, append-nil, arith, refl, ap, sym, ◌∙◌, rules}
+use Rattle.std.proofs.Common.{◌≡◌, ◌≢◌, ◌++◌, ◌∷◌, [], Option, map, append_assoc, append-nil, refl, ap, sym, ◌∙◌, rules}
 use Rattle.std.proofs.lemmas.List.{map-append}
 use Rattle.std.proofs.lemmas.Result.{err_from_is_err_and}
 use Rattle.std.specs.List.{flat_map}
@@ -15,7 +15,7 @@ use Rattle.merkle_wire.proofs.Exchanges.{key_tells}
 use Rattle.merkle_wire.proofs.Fronts.{refused_for, refused_unread}
 use Rattle.merkle_wire.proofs.Left.{no_bytes, none_before, some_bytes}
 use Rattle.merkle_wire.proofs.Others.{all_told, none_left, none_next, says_no_entry, says_nothing}
-use Rattle.merkle_wire.proofs.TakenMore.{rows-more, all_yielded}
+use Rattle.merkle_wire.proofs.TakenMore.{rows-more, one_yielded, all_yielded}
 use Rattle.merkle_wire.proofs.TellingReplies.{value_some, value_tells}
 use Rattle.merkle_wire.proofs.ValuesRead.{values_more, rows_of_more}
 use Rattle.merkle_wire.proofs.replies.take_values.Goals as goal
@@ -35,14 +35,10 @@ pub keys-preserved-in-Continue-branch-2 : goal.keys-preserved-in-Continue-branch
 keys-preserved-in-Continue-branch-2 g c =
     let w = c.in-Some.wanted in
     let kept = c.keys.invariant in
-    let steps : into_iter_items c.keys.wanted-iterator ≡ w ∷ into_iter_items c.next.new.self = c.in-Some.ensures.steps.0 in
+    let given = one_yielded c.keys.wanted-iterator c.next.new.self c.keys.yielded c.args.keys.items w c.in-Some.ensures.steps kept.left kept.count in
     record {
-      left = append_assoc c.keys.yielded (w ∷ []) _ ∙ rw (← steps) kept.left;
-      count =
-          let was = kept.count in
-          let gone = c.in-Some.ensures.steps.1 in
-          let short = ap length steps in
-          omega arith;
+      left = given.0;
+      count = given.1;
       told = kept.told;
       of = ap (λ t. t ++ w ∷ []) kept.of ∙ append_assoc (map (λ t. t.0) kept.told) c.keys.left.items (w ∷ []) ∙ ap (λ t. map (λ t. t.0) kept.told ++ t) (sym c.in_ok-push.ensures.items);
       once = λ some. sym c.left.ensures ∙ no_bytes c.left.result.now (sym c.is_empty.ensures ∙ c.if-is_empty.true);
@@ -57,15 +53,11 @@ keys-preserved g c =
     let kept = c.keys.invariant in
     let came = c.in_ok-take_value.ensures.taken in
     let one : Wanted g.row.K.Denot × Option g.row.V.Denot = (w, came.0) in
-    let steps : into_iter_items c.keys.wanted-iterator ≡ w ∷ into_iter_items c.next.new.self = c.in-Some.ensures.steps.0 in
+    let given = one_yielded c.keys.wanted-iterator c.next.new.self c.keys.yielded c.args.keys.items w c.in-Some.ensures.steps kept.left kept.count in
     let none : c.keys.left.items ≡ [] = none_before c.keys.left.items c.keys.reader.left.now kept.once (search rules) in
     record {
-      left = append_assoc c.keys.yielded (w ∷ []) _ ∙ rw (← steps) kept.left;
-      count =
-          let was = kept.count in
-          let gone = c.in-Some.ensures.steps.1 in
-          let short = ap length steps in
-          omega arith;
+      left = given.0;
+      count = given.1;
       told = kept.told ++ one ∷ [];
       of = ap (λ t. t ++ w ∷ []) (kept.of ∙ ap (λ l. map (λ t. t.0) kept.told ++ l) none ∙ append-nil (map (λ t. t.0) kept.told)) ∙ sym (map-append (λ t. t.0) kept.told (one ∷ []))
           ∙ sym (append-nil (map (λ t. t.0) (kept.told ++ one ∷ []))) ∙ ap (λ l. map (λ t. t.0) (kept.told ++ one ∷ []) ++ l) (sym none);

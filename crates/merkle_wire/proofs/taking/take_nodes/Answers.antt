@@ -6,7 +6,7 @@ use Rattle.std.specs.List.{flat_map}
 use Rattle.std.specs.Vec.Iter.{into_iter_items}
 use Rattle.key_order.proofs.ListParts.{each-append}
 use Rattle.merkle_replica.specs.Contents.{side}
-use Rattle.merkle_wire.proofs.TakenMore.{new_key, keys-more, all_yielded}
+use Rattle.merkle_wire.proofs.TakenMore.{new_key, keys-more, one_yielded, all_yielded}
 use Rattle.merkle_wire.proofs.Fronts.{refused_unread}
 use Rattle.merkle_wire.proofs.Unfit.{each_digest, flat_digests, no_digests}
 use Rattle.merkle_wire.proofs.taking.take_nodes.Goals as goal
@@ -30,14 +30,10 @@ keys-preserved g c =
     let kept = c.keys.invariant in
     let node : g.row.K.Denot × List ℕ = (w.key, digest) in
     let left = c.slice.new.self.left.now in
-    let steps : into_iter_items c.keys.wanted-iterator ≡ w ∷ into_iter_items c.next.new.self = c.in-Some.ensures.steps.0 in
+    let given = one_yielded c.keys.wanted-iterator c.next.new.self c.keys.yielded c.args.keys.items w c.in-Some.ensures.steps kept.left kept.count in
     record {
-      left = append_assoc c.keys.yielded (w ∷ []) _ ∙ rw (← steps) kept.left;
-      count =
-          let was = kept.count in
-          let gone = c.in-Some.ensures.steps.1 in
-          let short = ap length steps in
-          omega arith;
+      left = given.0;
+      count = given.1;
       nodes = kept.nodes ++ node ∷ [];
       of = map-append _ kept.nodes (node ∷ []) ∙ ap (λ ks. ks ++ w.key ∷ []) kept.of ∙ sym (map-append _ c.keys.yielded (w ∷ []));
       read = kept.read ∙ ap (λ t. flat_map (λ n. n.1) kept.nodes ++ t) (c.in_ok-digest.ensures.read ∙ ap (λ b. b ++ left) (sym (append-nil digest))) ∙ sym (append_assoc (flat_map (λ n. n.1) kept.nodes) (digest ++ []) left)
