@@ -1,5 +1,5 @@
 -- What is told of the first of what was asked for, entry by entry.
-use Rattle.std.proofs.Common.{◌≡◌, ◌≢◌, ℕ, ◌+◌, ◌<◌, ◌≤◌, List, [], ◌∷◌, ◌++◌, length, take, drop, get_or, map, refl, ap, sym, subst, ◌∙◌}
+use Rattle.std.proofs.Common.{◌≡◌, ℕ, ◌+◌, ◌<◌, ◌≤◌, List, [], ◌∷◌, ◌++◌, length, take, drop, get_or, map, refl, ap, sym, subst, ◌∙◌, arith}
 use Rattle.std.specs.List.{AllByRecursion, flat_map}
 use Rattle.std.proofs.lemmas.List.{append_assoc, append-nil, take_all, take_more, take-append-drop, map-append}
 use Rattle.std.proofs.lemmas.Grind.{flat_map-append}
@@ -41,15 +41,15 @@ module _ {X Y : Type 0} (P : X → Y → Type 0) (bytes : X × Y → List ℕ) (
   pub telling_fits : (begun now : List ℕ) (i : ℕ) → IsTelling begun i now → TellsWhatFits bytes Fits begun now
   telling_fits begun now i t = (t.told, t.is, t.fits)
 
-  -- where something is told, or nothing is left, that answers
-  pub telling_ends : (begun now : List ℕ) (i : ℕ) → IsTelling begun i now → (asked ≢ [] → now ≢ begun) → (told : List (X × Y)) × (now ≡ begun ++ flat_map bytes told) × Answers P asked told
-  telling_ends begun now i t some = (
+  -- where more stands than had begun, something is told, and that answers
+  pub telling_ends : (begun now : List ℕ) (i : ℕ) → IsTelling begun i now → length begun < length now → (told : List (X × Y)) × (now ≡ begun ++ flat_map bytes told) × Answers P asked told
+  telling_ends begun now i t more = (
     t.told,
     t.is,
     record {
       left = drop i asked;
       begins = sym (take-append-drop i asked) ∙ ap (λ xs. xs ++ drop i asked) (sym t.of);
-      some = λ asks none. some asks (t.is ∙ ap (λ ts. begun ++ flat_map bytes ts) none ∙ append-nil begun);
+      some = λ asks none. absurd (omega (arith, more, ap length (t.is ∙ ap (λ ts. begun ++ flat_map bytes ts) none ∙ append-nil begun)));
       each = t.each;
     },
   )

@@ -10,7 +10,7 @@ keys-init g c = telling_none _ _ _ _ c.args.begun.items
 pub returns-then-is_full-clause-told : goal.returns-then-is_full-clause-told
 returns-then-is_full-clause-told g c =
     telling_ends _ _ _ c.args.keys.now c.args.begun.items c.keys.bytes.items c.keys.wanted-index c.keys.invariant
-    (λ asks same. absurd (omega (arith, c.if-is_full.ensures.some refl, c.requires, ap length c.deref.ensures.value, ap length same)))
+    (omega (arith, c.if-is_full.ensures.some refl, c.requires, ap length c.deref.ensures.value))
 
 pub returns-then-is_full-clause-fits : goal.returns-then-is_full-clause-fits
 returns-then-is_full-clause-fits g c = telling_fits _ _ _ c.args.keys.now c.args.begun.items c.keys.bytes.items c.keys.wanted-index c.keys.invariant

@@ -9,7 +9,7 @@ gaps-init g c = telling_none _ _ _ _ c.args.begun.items
 pub returns-then-is_full-clause-told : goal.returns-then-is_full-clause-told
 returns-then-is_full-clause-told g c =
     telling_ends _ _ _ c.args.gaps.now c.args.begun.items c.gaps.bytes.items c.gaps.gap-index c.gaps.invariant
-    (λ asks same. absurd (omega (arith, c.if-is_full.ensures.some refl, c.requires.front, ap length c.deref.ensures.value, ap length same)))
+    (omega (arith, c.if-is_full.ensures.some refl, c.requires.front, ap length c.deref.ensures.value))
 
 pub returns-then-is_full-clause-fits : goal.returns-then-is_full-clause-fits
 returns-then-is_full-clause-fits g c = telling_fits _ _ _ c.args.gaps.now c.args.begun.items c.gaps.bytes.items c.gaps.gap-index c.gaps.invariant
