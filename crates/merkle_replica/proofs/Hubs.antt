@@ -51,6 +51,17 @@ any_map f [] x a = absurd a
 any_map f (y ∷ ys) x (inl e) = inl (ap f e)
 any_map f (y ∷ ys) x (inr a) = inr (any_map f ys x a)
 
+module _ {K V H : Type 0} (laws : Laws K V H) (hub : Side K V H) (others : List (Side K V H)) (i : ℕ) where
+  -- what comes of a catch-up of the hub with the next of the others: the gathering goes on, or stops
+  pub record GathersOn (h h' x : Side K V H) (T' : List (Side K V H)) : Type 0 where
+    pub goes_on : (joined : ℕ) → IsCatchUpOf laws h x joined h'.rows → (IsFaithful laws h x → IsJoin laws.cmp laws.eq laws.join h.rows x.rows h'.rows) → IsMap laws.cmp x.rows → IsGathered laws hub others (i + 1) h' T'
+    pub stops : (fault : CatchUpError) → IsCatchUpRefused laws h x fault h'.rows → StopsGossip laws i fault (through_hub (length others)) (numbered hub (hub ∷ others)) (numbered hub (h' ∷ T'))
+
+  -- the same of a catch-up of one of the others with the hub
+  pub record SpreadsOn (h h' x x' : Side K V H) (T' : List (Side K V H)) : Type 0 where
+    pub goes_on : (joined : ℕ) → IsCatchUpOf laws x h joined x'.rows → (IsFaithful laws x h → IsJoin laws.cmp laws.eq laws.join x.rows h.rows x'.rows) → IsSpread laws hub others (i + 1) h' T'
+    pub stops : (fault : CatchUpError) → IsCatchUpRefused laws x h fault x'.rows → StopsGossip laws (length others + i) fault (through_hub (length others)) (numbered hub (hub ∷ others)) (numbered hub (h' ∷ T'))
+
 module _ {K V H : Type 0} (laws : Laws K V H) (o : IsTotalOrder laws.cmp) (e : IsEquivalence laws.eq) (j : IsJoining laws.eq laws.join) (hub : Side K V H) (others : List (Side K V H)) where
   abbrev Met : Type 0
   Met = List (Side K V H × Side K V H)
@@ -73,7 +84,7 @@ module _ {K V H : Type 0} (laws : Laws K V H) (o : IsTotalOrder laws.cmp) (e : I
     hub_last : h' ≡ with_rows h h'.rows → T' ≡ T → (n : ℕ) → numbered hub (h' ∷ T') n ≡ changed (numbered hub (h ∷ T)) 0 (with_rows h h'.rows) n
     hub_last s t n = (λ k. numbered hub (s k ∷ t k) n) ∙ changed-list hub (h ∷ T) 0 (with_rows h h'.rows) (omega arith) n
 
-    pub gathers : (joined : ℕ) → h' ≡ with_rows h h'.rows → T' ≡ T → IsCatchUpOf laws h x joined h'.rows → (IsFaithful laws h x → IsJoin laws.cmp laws.eq laws.join h.rows x.rows h'.rows) → IsMap laws.cmp x.rows
+    gathers : (joined : ℕ) → h' ≡ with_rows h h'.rows → T' ≡ T → IsCatchUpOf laws h x joined h'.rows → (IsFaithful laws h x → IsJoin laws.cmp laws.eq laws.join h.rows x.rows h'.rows) → IsMap laws.cmp x.rows
         → IsGathered laws hub others (i + 1) h' T'
     gathers joined s t c j' up =
         let at = there i h T x f is hub in
@@ -94,7 +105,7 @@ module _ {K V H : Type 0} (laws : Laws K V H) (o : IsTotalOrder laws.cmp) (e : I
               (join_both laws.cmp laws.eq e laws.join j (rows_of (hub ∷ take i others)) (x.rows ∷ []) h.rows x.rows h'.rows (g.joins before) (alone laws.cmp laws.eq e laws.join j x.rows up) (j' last));
         }
 
-    pub gathering_stops : (fault : CatchUpError) → h' ≡ with_rows h h'.rows → T' ≡ T → IsCatchUpRefused laws h x fault h'.rows
+    gathering_stops : (fault : CatchUpError) → h' ≡ with_rows h h'.rows → T' ≡ T → IsCatchUpRefused laws h x fault h'.rows
         → StopsGossip laws i fault (through_hub (length others)) (numbered hub (hub ∷ others)) (numbered hub (h' ∷ T'))
     gathering_stops fault s t c =
         let at = there i h T x f is hub in
@@ -105,6 +116,9 @@ module _ {K V H : Type 0} (laws : Laws K V H) (o : IsTotalOrder laws.cmp) (e : I
         (subst (λ n. StopsGossip laws n fault (gathering i ++ (0, suc i) ∷ (rest ++ spreading (length others))) (numbered hub (hub ∷ others)) (numbered hub (h' ∷ T'))) (gathering-length i)
         (gossip-stops laws (gathering i) (0, suc i) (rest ++ spreading (length others)) (numbered hub (hub ∷ others)) (numbered hub (h ∷ T)) (numbered hub (h' ∷ T')) g.met fault h'.rows g.gossip
         (subst (λ y. IsCatchUpRefused laws h y fault h'.rows) (sym at) c) (hub_last s t)))
+
+    pub gathers_on : h' ≡ with_rows h h'.rows → T' ≡ T → GathersOn laws hub others i h h' x T'
+    gathers_on s t = record { goes_on = λ joined c j' up. gathers joined s t c j' up; stops = λ fault c. gathering_stops fault s t c }
 
   -- the second half begins
   pub turns_back : (i : ℕ) (h : Side K V H) (T : List (Side K V H)) → i ≡ length others → IsGathered laws hub others i h T → IsSpread laws hub others 0 h T
@@ -134,7 +148,7 @@ module _ {K V H : Type 0} (laws : Laws K V H) (o : IsTotalOrder laws.cmp) (e : I
         at_seam [] y ys d = refl
         at_seam (z ∷ xs) y ys d = at_seam xs y ys d
 
-    pub spreads : (joined : ℕ) → h' ≡ h → x' ≡ with_rows x x'.rows → T' ≡ set T i x' → IsCatchUpOf laws x h joined x'.rows → (IsFaithful laws x h → IsJoin laws.cmp laws.eq laws.join x.rows h.rows x'.rows)
+    spreads : (joined : ℕ) → h' ≡ h → x' ≡ with_rows x x'.rows → T' ≡ set T i x' → IsCatchUpOf laws x h joined x'.rows → (IsFaithful laws x h → IsJoin laws.cmp laws.eq laws.join x.rows h.rows x'.rows)
         → IsSpread laws hub others (i + 1) h' T'
     spreads joined s y t c j' =
         let at = there i h T x f is hub in
@@ -159,7 +173,7 @@ module _ {K V H : Type 0} (laws : Laws K V H) (o : IsTotalOrder laws.cmp) (e : I
               (join_all laws.cmp laws.eq e laws.join j x.rows (rows_of (hub ∷ others)) h.rows x'.rows (any_map (λ (z : Side K V H). z.rows) (hub ∷ others) x (inr (element others i x m (sym old_one)))) (g.hub_joins before) (j' last), tt);
         }
 
-    pub spreading_stops : (fault : CatchUpError) → h' ≡ h → x' ≡ with_rows x x'.rows → T' ≡ set T i x' → IsCatchUpRefused laws x h fault x'.rows
+    spreading_stops : (fault : CatchUpError) → h' ≡ h → x' ≡ with_rows x x'.rows → T' ≡ set T i x' → IsCatchUpRefused laws x h fault x'.rows
         → StopsGossip laws (length others + i) fault (through_hub (length others)) (numbered hub (hub ∷ others)) (numbered hub (h' ∷ T'))
     spreading_stops fault s y t c =
         let at = there i h T x f is hub in
@@ -174,6 +188,9 @@ module _ {K V H : Type 0} (laws : Laws K V H) (o : IsTotalOrder laws.cmp) (e : I
         (gossip-stops laws (gathering all ++ spreading i) (suc i, 0) rest (numbered hub (hub ∷ others)) (numbered hub (h ∷ T)) (numbered hub (h' ∷ T')) g.met fault x'.rows g.gossip
         (subst (λ z. IsCatchUpRefused laws z h fault x'.rows) (sym at) c)
         (subst (λ z. (n : ℕ) → numbered hub (h' ∷ T') n ≡ changed (numbered hub (h ∷ T)) (suc i) (with_rows z x'.rows) n) (sym at) (other_last s y t))))
+
+    pub spreads_on : h' ≡ h → x' ≡ with_rows x x'.rows → T' ≡ set T i x' → SpreadsOn laws hub others i h h' x x' T'
+    spreads_on s y t = record { goes_on = λ joined c j'. spreads joined s y t c j'; stops = λ fault c. spreading_stops fault s y t c }
 
   -- all catch-ups are made
   pub all_spread : (i : ℕ) (h : Side K V H) (T : List (Side K V H)) → i ≡ length others → IsSpread laws hub others i h T
