@@ -15,6 +15,7 @@ pub mod Within
 pub mod Pulling
 pub mod FromStreams
 pub mod Small
+pub mod Yielded
 pub mod Merging
 pub mod Gathering
 pub mod Ranging

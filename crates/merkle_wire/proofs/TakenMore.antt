@@ -1,8 +1,6 @@
 -- What was taken, one more after the others.
-use Rattle.std.proofs.Common.{◌≡◌, ℕ, ◌+◌, Some, List, [], ◌∷◌, ◌++◌, map, refl, ap, sym, subst, ◌∙◌, append_assoc, append-nil, not, cond, Bool, true, false, length, arith}
+use Rattle.std.proofs.Common.{◌≡◌, ℕ, List, [], ◌∷◌, ◌++◌, map, refl, ap, sym, subst, ◌∙◌, append_assoc, append-nil, not, cond, Bool, true, false}
 use Rattle.std.specs.List.{filter}
-use Rattle.std.specs.Vec.Iter.{into_iter_items, into_iter_len, into_iter_steps}
-use Rattle.std.specs.declared.vec.IntoIter.{IntoIter}
 use Rattle.std.proofs.lemmas.List.Elements.{filter-append}
 use Rattle.std.proofs.lemmas.List.{map-append}
 use Rattle.merkle_replica.specs.Contents.{Side}
@@ -54,16 +52,6 @@ module _ {K V H : Type 0} (laws : Laws K V H) (local : Side K V H) where
   keys-more before mid after nodes more m a =
       a ∙ ap {A = Found K V} (λ f. record f { wanted = f.wanted ++ new_keys laws local more }) m
       ∙ (λ i. record before { wanted = (append_assoc before.wanted (new_keys laws local nodes) (new_keys laws local more) ∙ ap (λ t. before.wanted ++ t) (sym (new_keys-append nodes more))) i })
-
--- an iterator gives one more: those so far and those left are all, and so many are left
-pub one_yielded : {X Z : Type 0} (old new : IntoIter X Z) (yielded all : List X) (x : X) → into_iter_steps old (Some x) new → yielded ++ into_iter_items old ≡ all → into_iter_len old ≡ length (into_iter_items old)
-    → ((yielded ++ x ∷ []) ++ into_iter_items new ≡ all) × (into_iter_len new ≡ length (into_iter_items new))
-one_yielded old new yielded all x (given, fewer) are many = (append_assoc yielded (x ∷ []) (into_iter_items new) ∙ ap (λ l. yielded ++ l) (sym given) ∙ are, omega (arith, ap length given))
-
--- an iterator with nothing left has given all
-pub all_yielded : {X : Type 0} (yielded left all : List X) → yielded ++ left ≡ all → length left ≡ 0 → yielded ≡ all
-all_yielded yielded [] all e n = sym (append-nil yielded) ∙ e
-all_yielded yielded (x ∷ xs) all e n = absurd (omega (arith, n))
 
 -- the gaps below a page are taken, and then the gap of the page itself, or none
 pub page_taken : {K V : Type 0} (before mid now : Found K V) (gaps nodes : List (Gap K)) → mid ≡ record before { below = before.below ++ gaps } → now ≡ record mid { nodes = mid.nodes ++ nodes }

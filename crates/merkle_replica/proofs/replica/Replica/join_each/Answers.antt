@@ -1,8 +1,9 @@
-use Rattle.std.proofs.Common.{rules, ◌≡◌, ◌+◌, [], ◌∷◌, length, length-append, append_assoc, refl, ap, sym, subst, ◌∙◌, arith}
+use Rattle.std.proofs.Common.{rules, ◌≡◌, ◌+◌, [], ◌∷◌, length-append, refl, ap, sym, subst, ◌∙◌, arith}
 use Rattle.std.specs.Vec.Iter.{into_iter_items}
 use Rattle.merkle_replica.specs.Contents.{Contents}
 use Rattle.merkle_replica.specs.Puts.{IsGatheredTo}
 use Rattle.merkle_replica.proofs.Searches.{went, refused}
+use Rattle.merkle_replica.proofs.Yielded.{one_yielded}
 use Rattle.merkle_replica.proofs.Gathering.{gathers_none, gathers_more, gathered_to}
 use Rattle.merkle_replica.proofs.replica.Replica.join_each.Goals as goal
 
@@ -34,15 +35,11 @@ joining-preserved g c =
     let cmp = g.K.Ord.cmp in
     let i = c.joining.invariant in
     let r = c.in-Some.row in
-    let steps : into_iter_items c.joining.row-iterator ≡ r ∷ into_iter_items c.next.new.self = c.in-Some.ensures.steps.0 in
+    let given = one_yielded c.joining.row-iterator c.next.new.self c.joining.yielded c.args.theirs.items r c.in-Some.ensures.steps i.left i.count in
     let joined = went c.put.result (sym c.is_err.ensures.value ∙ c.if-is_err.false) c.put.ensures.joined in
     record {
-      left = append_assoc c.joining.yielded (r ∷ []) _ ∙ rw (← steps) i.left;
-      count =
-          let was = i.count in
-          let gone = c.in-Some.ensures.steps.1 in
-          let short = ap length steps in
-          omega arith;
+      left = given.0;
+      count = given.1;
       taken = length-append c.joining.yielded (r ∷ []) ∙ ap (λ n. n + 1) i.taken;
       gathers = gathers_more cmp g.met.K.Ord.total g.V.PartialEq.eq g.met.V.Eq.laws g.V.Join.join_of g.met.V.Join.joining c.args.self.now.rows c.joining.yielded c.joining.self.rows c.put.new.self.rows r i.gathers joined;
       unchanged = λ z. absurd (omega (arith, z));
