@@ -1,5 +1,5 @@
 use Rattle.std.specs.Prelude.{⊤}
-use Rattle.std.proofs.Common.{◌≡◌, ◌≢◌, ◌++◌, ◌∷◌, [], Option, map, append_assoc, append-nil, refl, ap, sym, ◌∙◌, rules}
+use Rattle.std.proofs.Common.{◌≡◌, ◌≢◌, ◌≤◌, ◌++◌, ◌∷◌, [], ℕ, List, Option, length, map, append_assoc, append-nil, refl, ap, sym, ◌∙◌, rules}
 use Rattle.std.proofs.lemmas.List.{map-append}
 use Rattle.std.proofs.lemmas.Result.{err_from_is_err_and}
 use Rattle.std.specs.List.{flat_map}
@@ -19,7 +19,16 @@ use Rattle.merkle_wire.proofs.Others.{all_told, none_left, none_next, says_no_en
 use Rattle.merkle_wire.proofs.TakenMore.{rows-more}
 use Rattle.merkle_wire.proofs.TellingReplies.{value_some, value_tells}
 use Rattle.merkle_wire.proofs.ValuesRead.{values_more, rows_of_more}
+use Rattle.merkle_wire.proofs.replies.take_values.Given.{Over}
 use Rattle.merkle_wire.proofs.replies.take_values.Goals as goal
+
+-- what is told of a value has some bytes
+some_told : (g : Over) (t : Wanted g.row.K.Denot × Option g.row.V.Denot) → 1 ≤ length (option_bytes g.V.Encode.encoding t.1)
+some_told g t = value_some g.K.Ord.cmp g.V.PartialEq.eq g.K.Encode.encoding g.V.Encode.encoding (key_tells g.K.Ord.cmp g.K.Encode.encoding g.K.PartialEq.eq g.met.K.Ord.matches_eq g.met.K.Decode.told) g.met.V.Decode.told t.1
+
+-- and tells what stands behind it
+same_behind : (g : Over) (wanted : Wanted g.row.K.Denot) (y z : Option g.row.V.Denot) (r s : List ℕ) → ⊤ → IsOption g.V.Decode.is_value z → option_bytes g.V.Encode.encoding y ++ r ≡ option_bytes g.V.Encode.encoding z ++ s → r ≡ s
+same_behind g wanted y z r s _ _ e = (value_tells g.K.Ord.cmp g.V.PartialEq.eq g.K.Encode.encoding g.V.Encode.encoding (key_tells g.K.Ord.cmp g.K.Encode.encoding g.K.PartialEq.eq g.met.K.Ord.matches_eq g.met.K.Decode.told) g.met.V.Decode.told y z r s e).1
 
 pub keys-init : goal.keys-init
 keys-init g c = record {
@@ -86,7 +95,7 @@ returns-in_err-reader-clause-refused g c =
     let p = err_from_is_err_and c.from_residual.result c.from_residual.ensures.1 in
     rw (p.1, p.2) (refused_for _ _ c.in_err-reader.field-0.0 (λ none.
     says_no_entry (λ wanted value. IsOption g.V.Decode.is_value value) rows_at_kind c.args.keys.items c.args.reply.now
-    (λ t. option_bytes g.V.Encode.encoding t.1) (λ t. value_some g.K.Ord.cmp g.V.PartialEq.eq g.K.Encode.encoding g.V.Encode.encoding (key_tells g.K.Ord.cmp g.K.Encode.encoding g.K.PartialEq.eq g.met.K.Ord.matches_eq g.met.K.Decode.told) g.met.V.Decode.told t.1) none) c.in_err-reader.ensures.refused)
+    (λ t. option_bytes g.V.Encode.encoding t.1) (some_told g) none) c.in_err-reader.ensures.refused)
 
 pub returns-in_err-take_value-clause-refused : goal.returns-in_err-take_value-clause-refused
 returns-in_err-take_value-clause-refused g c =
@@ -104,7 +113,7 @@ returns-in_err-take_value-clause-refused g c =
     says_nothing (λ wanted value. IsOption g.V.Decode.is_value value) rows_at_kind keys c.args.reply.now
     (values_bytes g.V.Encode.encoding) (values_bytes g.V.Encode.encoding kept.told ++ left) kept.read
     (none_next (λ t. option_bytes g.V.Encode.encoding t.1) (λ t. ⊤) (λ t. IsOption g.V.Decode.is_value t.1)
-    (λ t. value_some g.K.Ord.cmp g.V.PartialEq.eq g.K.Encode.encoding g.V.Encode.encoding (key_tells g.K.Ord.cmp g.K.Encode.encoding g.K.PartialEq.eq g.met.K.Ord.matches_eq g.met.K.Decode.told) g.met.V.Decode.told t.1) (λ wanted y z r s _ _ e. (value_tells g.K.Ord.cmp g.V.PartialEq.eq g.K.Encode.encoding g.V.Encode.encoding (key_tells g.K.Ord.cmp g.K.Encode.encoding g.K.PartialEq.eq g.met.K.Ord.matches_eq g.met.K.Decode.told) g.met.V.Decode.told y z r s e).1)
+    (some_told g) (same_behind g)
     kept.told keys (values_bytes g.V.Encode.encoding kept.told ++ left) left (all_told kept.told) refl more
     w behind (ap (λ t. t ++ w ∷ behind) (sym firsts) ∙ rw steps at kept.left) (λ value rest is. no_value value rest is))) c.in_err-take_value.ensures.refused)
 
@@ -122,5 +131,5 @@ returns-in_err-end-clause-refused g c =
     says_nothing (λ wanted value. IsOption g.V.Decode.is_value value) rows_at_kind keys c.args.reply.now
     (values_bytes g.V.Encode.encoding) (values_bytes g.V.Encode.encoding kept.told ++ left) kept.read
     (none_left (λ t. option_bytes g.V.Encode.encoding t.1) (λ t. ⊤) (λ t. IsOption g.V.Decode.is_value t.1)
-    (λ t. value_some g.K.Ord.cmp g.V.PartialEq.eq g.K.Encode.encoding g.V.Encode.encoding (key_tells g.K.Ord.cmp g.K.Encode.encoding g.K.PartialEq.eq g.met.K.Ord.matches_eq g.met.K.Decode.told) g.met.V.Decode.told t.1) (λ wanted y z r s _ _ e. (value_tells g.K.Ord.cmp g.V.PartialEq.eq g.K.Encode.encoding g.V.Encode.encoding (key_tells g.K.Ord.cmp g.K.Encode.encoding g.K.PartialEq.eq g.met.K.Ord.matches_eq g.met.K.Decode.told) g.met.V.Decode.told y z r s e).1)
+    (some_told g) (same_behind g)
     kept.told keys (values_bytes g.V.Encode.encoding kept.told ++ left) left (all_told kept.told) refl more (sym firsts ∙ done))))

@@ -1,6 +1,7 @@
 use Rattle.std.proofs.Common.{◌≡◌, ◌+◌, ◌++◌, ◌∷◌, [], List, map, sym, ap, subst, ◌∙◌, append-nil}
 use Rattle.std.proofs.lemmas.List.{length-map}
 use Rattle.std.proofs.lemmas.Result.{err_from_is_err_and}
+use Rattle.key_order.specs.Order.{Same}
 use Rattle.merkle_replica.specs.Contents.{side}
 use Rattle.merkle_tree_theory.specs.Gap.{Gap}
 use Rattle.merkle_wire.specs.Found.{Found}
@@ -19,6 +20,10 @@ use Rattle.merkle_wire.proofs.Unfit.{no_keys, no_page-empty, no_page-keys, no_pa
 use Rattle.merkle_wire.proofs.taking.take_page.Given.{Over}
 use Rattle.merkle_wire.proofs.taking.take_page.Goals as goal
 use Rattle.merkle_wire.proofs.taking.take_page.Goals.{In_ok-take_pages}
+
+-- bytes tell keys
+keys_tell : (g : Over) (x y : g.row.K.Denot) → g.K.Encode.encoding x ≡ g.K.Encode.encoding y → Same g.K.Ord.cmp x y
+keys_tell g = key_tells g.K.Ord.cmp g.K.Encode.encoding g.K.PartialEq.eq g.met.K.Ord.matches_eq g.met.K.Decode.told
 
 -- the page that was read lies in the gap, and is taken once its nodes are noted or added
 taken : (g : Over) (c : In_ok-take_pages g) (nodes : List (Gap g.row.K.Denot)) (after : Found g.row.K.Denot g.row.V.Denot) → IsGapOrNone g.H.RowHasher.laws (side c.args.replica.now) (owned_gap c.args.gap.now) nodes
@@ -54,14 +59,14 @@ pub returns-in_err-keys-clause-refused : goal.returns-in_err-keys-clause-refused
 returns-in_err-keys-clause-refused g c =
     let p = err_from_is_err_and c.from_residual-in_err-keys.result c.from_residual-in_err-keys.ensures.1 in
     rw (p.1, p.2) (refused_unread _ c.in_err-keys.field-0.0 (λ malformed.
-    no_page-keys g.K.Ord.cmp g.met.K.Ord.total g.K.Encode.encoding (key_tells g.K.Ord.cmp g.K.Encode.encoding g.K.PartialEq.eq g.met.K.Ord.matches_eq g.met.K.Decode.told) g.K.Decode.is_value c.args.run.now c.args.gap.now c.args.reader.now.left.now c.in_ok-digest.digest c.array.new.self.left.now c.in_ok-digest.ensures.read c.in_ok-digest.ensures.len
+    no_page-keys g.K.Ord.cmp g.met.K.Ord.total g.K.Encode.encoding (keys_tell g) g.K.Decode.is_value c.args.run.now c.args.gap.now c.args.reader.now.left.now c.in_ok-digest.digest c.array.new.self.left.now c.in_ok-digest.ensures.read c.in_ok-digest.ensures.len
     (no_keys g.K.Encode.encoding g.K.Decode.is_value c.args.run.now c.array.new.self.left.now (c.in_err-keys.ensures.malformed malformed))))
 
 pub returns-then-is_empty-clause-refused : goal.returns-then-is_empty-clause-refused
 returns-then-is_empty-clause-refused g c =
     let keys = map (λ w. w.key) c.in_ok-keys.keys.items in
     let behind = c.decode_run.new.reader.left.now in
-    no_page-empty g.K.Ord.cmp g.met.K.Ord.total g.K.Encode.encoding (key_tells g.K.Ord.cmp g.K.Encode.encoding g.K.PartialEq.eq g.met.K.Ord.matches_eq g.met.K.Decode.told) g.K.Decode.is_value c.args.run.now c.args.gap.now c.args.reader.now.left.now c.in_ok-digest.digest c.array.new.self.left.now c.in_ok-digest.ensures.read c.in_ok-digest.ensures.len
+    no_page-empty g.K.Ord.cmp g.met.K.Ord.total g.K.Encode.encoding (keys_tell g) g.K.Decode.is_value c.args.run.now c.args.gap.now c.args.reader.now.left.now c.in_ok-digest.digest c.array.new.self.left.now c.in_ok-digest.ensures.read c.in_ok-digest.ensures.len
     keys behind (c.in_ok-keys.ensures.read ∙ ap (λ t. t ++ behind) (told_as_keys g.K.Encode.encoding c.args.run.now c.in_ok-keys.keys.items))
     (ap (map (λ w. w.key)) (none_left c.in_ok-keys.keys (sym c.is_empty.ensures ∙ c.if-is_empty.true)))
 
@@ -69,7 +74,7 @@ pub returns-then-not-keys_lie_in-clause-refused : goal.returns-then-not-keys_lie
 returns-then-not-keys_lie_in-clause-refused g c =
     let keys = map (λ w. w.key) c.in_ok-keys.keys.items in
     let behind = c.decode_run.new.reader.left.now in
-    no_page-outside g.K.Ord.cmp g.met.K.Ord.total g.K.Encode.encoding (key_tells g.K.Ord.cmp g.K.Encode.encoding g.K.PartialEq.eq g.met.K.Ord.matches_eq g.met.K.Decode.told) g.K.Decode.is_value c.args.run.now c.args.gap.now c.args.reader.now.left.now c.in_ok-digest.digest c.array.new.self.left.now c.in_ok-digest.ensures.read c.in_ok-digest.ensures.len
+    no_page-outside g.K.Ord.cmp g.met.K.Ord.total g.K.Encode.encoding (keys_tell g) g.K.Decode.is_value c.args.run.now c.args.gap.now c.args.reader.now.left.now c.in_ok-digest.digest c.array.new.self.left.now c.in_ok-digest.ensures.read c.in_ok-digest.ensures.len
     keys behind (c.in_ok-keys.ensures.read ∙ ap (λ t. t ++ behind) (told_as_keys g.K.Encode.encoding c.args.run.now c.in_ok-keys.keys.items))
     (rw c.deref.ensures.value at (c.keys_lie_in.ensures.outside c.if-not-keys_lie_in.true))
 
@@ -79,6 +84,6 @@ returns-in_err-take_pages-clause-refused g c =
     let keys = map (λ w. w.key) c.in_ok-keys.keys.items in
     let behind = c.decode_run.new.reader.left.now in
     rw (p.1, p.2) (refused_for _ _ c.in_err-take_pages.field-0.0 (λ none.
-    no_page-pages g.K.Ord.cmp g.met.K.Ord.total g.K.Encode.encoding (key_tells g.K.Ord.cmp g.K.Encode.encoding g.K.PartialEq.eq g.met.K.Ord.matches_eq g.met.K.Decode.told) g.K.Decode.is_value c.args.run.now c.args.gap.now c.args.reader.now.left.now c.in_ok-digest.digest c.array.new.self.left.now c.in_ok-digest.ensures.read c.in_ok-digest.ensures.len
+    no_page-pages g.K.Ord.cmp g.met.K.Ord.total g.K.Encode.encoding (keys_tell g) g.K.Decode.is_value c.args.run.now c.args.gap.now c.args.reader.now.left.now c.in_ok-digest.digest c.array.new.self.left.now c.in_ok-digest.ensures.read c.in_ok-digest.ensures.len
     keys behind (c.in_ok-keys.ensures.read ∙ ap (λ t. t ++ behind) (told_as_keys g.K.Encode.encoding c.args.run.now c.in_ok-keys.keys.items))
     (subst (λ n. NoPageDigests (n + 1) behind) (sym (length-map c.in_ok-keys.keys.items (λ w. w.key))) (rw c.deref-2.ensures.value at none))) c.in_err-take_pages.ensures.refused)
