@@ -1,4 +1,4 @@
-use Rattle.std.proofs.Common.{length, drop, sym, ◌∙◌, arith}
+use Rattle.std.proofs.Common.{◌<◌, length, drop, sym, ◌∙◌, arith}
 use Rattle.std.proofs.lemmas.Bool.{false≢true, eqb-true, eq-eqb}
 use Rattle.merkle_search_tree.specs.Items.{gap_of, item}
 use Rattle.merkle_replica.specs.Descent.{gaps_of}
@@ -11,14 +11,15 @@ testing-preserved-then-is_within g c =
     let came = c.args.came.now in
     let at = c.testing.at in
     let i = c.testing.i in
+    let low : i < length came = omega (arith, c.testing.invariant.i_upto, c.if-i-came.false) in
     let a = c.index-gaps-at.result in
     let x = c.index-came-i.result in
     record {
       at_upto = c.testing.invariant.at_upto;
-      i_upto = omega (arith, c.testing.invariant.i_upto, c.if-i-came.false);
-      from = λ w. pass_item g.K.Ord.cmp gap_of item gaps came at i a x c.testing-test.true c.index-gaps-at.is (omega (arith, c.testing.invariant.i_upto, c.if-i-came.false)) c.index-came-i.is (c.testing.invariant.from w);
+      i_upto = omega (arith, low);
+      from = λ w. pass_item g.K.Ord.cmp gap_of item gaps came at i a x c.testing-test.true c.index-gaps-at.is low c.index-came-i.is (c.testing.invariant.from w);
       all = λ w. c.testing.invariant.all
-          (before_item g.K.Ord.cmp gap_of item gaps came at i a x c.testing-test.true c.index-gaps-at.is (omega (arith, c.testing.invariant.i_upto, c.if-i-came.false)) c.index-came-i.is (c.is_within.ensures.0 c.if-is_within.true) w);
+          (before_item g.K.Ord.cmp gap_of item gaps came at i a x c.testing-test.true c.index-gaps-at.is low c.index-came-i.is (c.is_within.ensures.0 c.if-is_within.true) w);
     }
 
 pub testing-preserved : goal.testing-preserved
@@ -27,13 +28,14 @@ testing-preserved g c =
     let came = c.args.came.now in
     let at = c.testing.at in
     let i = c.testing.i in
+    let low : i < length came = omega (arith, c.testing.invariant.i_upto, c.if-i-came.false) in
     let a = c.index-gaps-at.result in
     let x = c.index-came-i.result in
     record {
       at_upto = omega (arith, c.testing-test.true);
       i_upto = c.testing.invariant.i_upto;
-      from = λ w. pass_gap g.K.Ord.cmp gap_of item gaps came at i a x c.testing-test.true c.index-gaps-at.is (omega (arith, c.testing.invariant.i_upto, c.if-i-came.false)) c.index-came-i.is (λ within. false≢true (sym c.if-is_within.false ∙ c.is_within.ensures.1 within)) (c.testing.invariant.from w);
-      all = λ w. c.testing.invariant.all (before_gap g.K.Ord.cmp gap_of item gaps came at i a x c.testing-test.true c.index-gaps-at.is (omega (arith, c.testing.invariant.i_upto, c.if-i-came.false)) c.index-came-i.is w);
+      from = λ w. pass_gap g.K.Ord.cmp gap_of item gaps came at i a x c.testing-test.true c.index-gaps-at.is low c.index-came-i.is (λ within. false≢true (sym c.if-is_within.false ∙ c.is_within.ensures.1 within)) (c.testing.invariant.from w);
+      all = λ w. c.testing.invariant.all (before_gap g.K.Ord.cmp gap_of item gaps came at i a x c.testing-test.true c.index-gaps-at.is low c.index-came-i.is w);
     }
 
 pub returns : goal.returns
