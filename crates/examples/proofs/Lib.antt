@@ -1,5 +1,4 @@
 pub mod Outcomes
 pub mod Told
-pub mod Trees
 pub mod GossipSessions
 pub mod ThroughHub
