@@ -11,3 +11,4 @@ pub mod Wire
 pub mod StoreLaws
 pub mod PullMessages
 pub mod Sessions
+pub mod Deltas

@@ -3,6 +3,7 @@
 
 pub mod accounts;
 pub mod asking;
+pub mod deltas;
 pub mod gossip;
 pub mod hashing;
 mod lists;
