@@ -2,6 +2,8 @@
 #![tactic(auto)]
 
 #[cfg(test)]
+mod deltas;
+#[cfg(test)]
 mod gossip;
 #[cfg(test)]
 mod hashing;
@@ -9,6 +11,8 @@ mod hashing;
 mod meeting;
 #[cfg(test)]
 mod messages;
+#[cfg(test)]
+mod outlines;
 #[cfg(test)]
 mod readme;
 #[cfg(test)]
