@@ -155,11 +155,7 @@ pub fn recognise<S: Store>(alloc: Global, log: &mut Log<S>) -> Result<Note, Stor
 }
 
 /// Makes a row the note of this format, this writer and this hash key.
-fn fill_note(
-    row: &mut Row,
-    writer: &str,
-    hash_key: &[u8; HASH_KEY_LEN],
-) -> Result<(), StoreFault>
+fn fill_note(row: &mut Row, writer: &str, hash_key: &[u8; HASH_KEY_LEN]) -> Result<(), StoreFault>
     ensures note { OnOk result (row.new ≡ note_row FORMAT writer.now hash_key.now) }
     ensures failed { IfErr result IsFailure }
 {
