@@ -6,6 +6,7 @@ use Rattle.key_order.specs.Map.{SameValue, get}
 use Rattle.key_order.specs.Join.{joined, IsJoin}
 use Rattle.sqlite_trees.specs.declared.store.Store.{Ghosts}
 use Rattle.sqlite_trees.specs.Tree.{Trees}
+use Rattle.merkle_tree_theory.specs.State.{SameSettings}
 use Rattle.merkle_replica.specs.Puts.{gathered, HasGathered, IsPuts}
 use Rattle.store_table.specs.Entries.{HoldsEntries, IsNoted}
 use Rattle.store_table.specs.Latest.{IsLatestAt}
@@ -87,9 +88,9 @@ TellFound trees rows = (key : Key) (found : Option Register) → IsLatestAt tree
 abbrev pub InStepTellFound : Type 0
 InStepTellFound = (writer : List ℕ) (trees : Trees) (rows : List (Key × Register)) → AreInStep writer trees rows → TellFound trees rows
 
--- a store writes by the same name, and takes entries up to the same time
+-- a store writes by the same name, takes entries up to the same time, and hashes under the same key
 abbrev pub StaysSet : {S : Type 0} → Store S → Store S → Type 0
-StaysSet old new = (new.writer ≡ old.writer) × (new.latest ≡ old.latest)
+StaysSet old new = (new.writer ≡ old.writer) × (new.latest ≡ old.latest) × SameSettings old.replica.tree new.replica.tree
 
 module _ {S : Type 0} (g : Ghosts S) where
   -- the rows in memory are those of the trees that a log shows, which are a store's of the writer of this name

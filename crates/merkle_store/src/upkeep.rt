@@ -1,5 +1,6 @@
 //! The rows in memory, kept as those of the file.
 ghost use Rattle.std.specs.Prelude.{◌≡◌, ◌≢◌, ◌≤◌, ◌^◌, [], string_bytes, IfOk, IfErr, OnOk, OnErr, IsErrOf};
+ghost use Rattle.merkle_tree_theory.specs.State.{SameSettings};
 ghost use Rattle.store_table.specs.Changes.{HasOneMore, HasEntriesMore, HasEntriesInstead};
 ghost use Rattle.store_table.specs.Faults.{IsFailure, IsUnwritten};
 ghost use Rattle.store_table.specs.Logs.{IsSteady, Finds, Makes, StaysInOk, StaysInErr, Leaves, LeavesNoMore};
@@ -72,6 +73,7 @@ fn join_in_memory(
     ensures behind { IfErr result (λ why. why ≡ Behind) }
     ensures unchanged { OnErr result (replica.new ≡ replica.old) }
     ensures joined { OnOk result (HasJoinedOne replica.old.rows key register replica.new.rows) }
+    ensures settings { SameSettings replica.old.tree replica.new.tree }
 {
     match replica.put(key, register) {
         Ok(()) => Ok(()),
@@ -83,6 +85,7 @@ fn join_in_memory(
 fn join_all_in_memory(replica: &mut EntryReplica, entries: Entries) -> Result<(), StoreFault>
     ensures behind { IfErr result (λ why. why ≡ Behind) }
     ensures joined { OnOk result (HasPut replica.old.rows entries.items replica.new.rows) }
+    ensures settings { SameSettings replica.old.tree replica.new.tree }
 {
     match replica.put_all(entries) {
         Ok(()) => Ok(()),
@@ -106,6 +109,7 @@ pub fn add_entry<S: Store>(
     // The file and the rows in memory go on together.
     ensures kept { StayInStep S.Store log.old log.new replica.old.rows replica.new.rows result }
     ensures joined { OnOk result (HasJoinedOne replica.old.rows key register replica.new.rows) }
+    ensures settings { SameSettings replica.old.tree replica.new.tree }
     ensures added { Makes S.Store log.old log.new result (HasOneMore (string_bytes key) register) }
     ensures late { IsErrOf result StoreFault.Time → 2 ^ 63 ≤ register.time }
     ensures faults { IfErr result (λ why. why ≢ Behind → IsUnwritten why) }
@@ -137,6 +141,7 @@ pub fn add_entries<S: Store>(
     // The file and the rows in memory go on together.
     ensures kept { StayInStep S.Store log.old log.new replica.old.rows replica.new.rows result }
     ensures joined { OnOk result (HasJoined replica.old.rows entries.items replica.new.rows) }
+    ensures settings { SameSettings replica.old.tree replica.new.tree }
     ensures added { Makes S.Store log.old log.new result (HasEntriesMore entries.items) }
     ensures late { IsErrOf result StoreFault.Time → HaveLateTime entries.items }
     ensures faults { IfErr result (λ why. why ≢ Behind → IsUnwritten why) }

@@ -76,6 +76,9 @@ impl fmt::Display for WireFault {
             WireFault::Endless => f.write_str("the peer's answers have no end"),
             WireFault::Device => f.write_str("the connection to the peer failed"),
             WireFault::Question(error) => write!(f, "{error}"),
+            WireFault::Reply(SessionError::Refused) => f.write_str(
+                "the peer refused what was asked: it may hash under another key",
+            ),
             WireFault::Reply(error) => write!(f, "{error}"),
         }
     }
