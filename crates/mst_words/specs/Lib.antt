@@ -1,2 +1,3 @@
+pub mod HashKeys
 pub mod Names
 pub mod Texts
