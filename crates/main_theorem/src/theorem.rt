@@ -83,7 +83,7 @@ where
     ensures a_defined { IfOk result (λ r. HasTheDefinedTree H.laws builder r.a) }
     ensures b_defined { IfOk result (λ r. HasTheDefinedTree H.laws builder r.b) }
 
-    // The exchange that was asked for led from the two maps to the rows at the end.
+    // The exchange was the one that was asked for.
     ensures exchanged { IfOk result (λ r. IsDone exchange r.exchanged) }
 
     // While digests are faithful in what was met on the way, four pulls by turns or more, or a catch-up each way, leave both replicas with
@@ -95,27 +95,19 @@ where
 {
     a_map_has_one_tree::<K, H, N>();
     equal_pages_have_equal_maps::<K>();
-    let other = match builder.try_clone() {
-        Ok(other) => other,
-        Err(_) => return Err(RunRefused::Before),
+    let Ok(other) = builder.try_clone() else {
+        return Err(RunRefused::Before);
     };
-    let first = match after(alloc, builder, a_updates) {
-        Ok(first) => first,
-        Err(_) => return Err(RunRefused::Before),
+    let Ok((mut a, a_accepted)) = after(alloc, builder, a_updates) else {
+        return Err(RunRefused::Before);
     };
-    let second = match after(alloc, other, b_updates) {
-        Ok(second) => second,
-        Err(_) => return Err(RunRefused::Before),
+    let Ok((mut b, b_accepted)) = after(alloc, other, b_updates) else {
+        return Err(RunRefused::Before);
     };
-    let (mut a, a_accepted) = first;
-    let (mut b, b_accepted) = second;
     let (Ok(a_before), Ok(b_before)) = (copy_of_tree(&a), copy_of_tree(&b)) else {
         return Err(RunRefused::Before);
     };
-    let exchanged = match come_together(alloc, &mut a, &mut b, exchange) {
-        Ok(exchanged) => exchanged,
-        Err(refused) => return Err(refused),
-    };
+    let exchanged = come_together(alloc, &mut a, &mut b, exchange)?;
     hash_last(&mut a);
     hash_last(&mut b);
     every_tree_is_sound(a.tree());

@@ -152,9 +152,8 @@ fn runs_as_defined(
     let builder = Builder::default()
         .with_page_format(format)
         .with_hasher(hasher.clone()?);
-    let run = match run_both(alloc, builder, a_updates, b_updates, exchange) {
-        Ok(run) => run,
-        Err(_) => return Ok(false),
+    let Ok(run) = run_both(alloc, builder, a_updates, b_updates, exchange) else {
+        return Ok(false);
     };
     let is_made = match &run.exchanged {
         Exchanged::Nothing => exchange == Exchange::Apart,

@@ -24,19 +24,19 @@ returns-clause-before g c = rw g.met.H.RowHasher.laws_are (
     let a = c.in-Ok-after.ensures in
     let b = c.in-Ok-after-2.ensures in (
       (rw g.met.H.RowHasher.laws_are at c.in-Ok-Ok.ensures) c.args.builder _ a.settings (rw g.met.H.RowHasher.laws_are at a.root_hash) a.rows,
-      subst (λ s. IsDefinedBy laws s (rows_after laws.cmp laws.join c.args.b_updates.items c.in-Ok-after-2.second.1.items) c.in-Ok-Ok.b_before) same
+      subst (λ s. IsDefinedBy laws s (rows_after laws.cmp laws.join c.args.b_updates.items c.in-Ok-after-2.b_accepted.items) c.in-Ok-Ok.b_before) same
           ((rw g.met.H.RowHasher.laws_are at c.in-Ok-Ok.ensures') other _ b.settings (rw g.met.H.RowHasher.laws_are at b.root_hash) b.rows),
     ))
 
 pub returns-clause-rows : goal.returns-clause-rows
 returns-clause-rows g c = rw g.met.H.RowHasher.laws_are (λ apart.
     let laws : Laws g.row.K.Denot g.row.V.Denot g.row.H.Denot = record { cmp = g.K.Ord.cmp; bytes_of = g.K.KeyBytes.bytes_of; key_digest = g.H.Hasher-1.digest_of; eq = g.V.PartialEq.eq; join = g.V.Join.join_of; value_digest = g.H.Hasher-2.digest_of } in
-    let a = c.in-Ok-after.first.0 in
-    let b = c.in-Ok-after-2.second.0 in
-    let (met, made, _) = (rw g.met.H.RowHasher.laws_are at c.in-Ok-come_together.ensures.converges) in
-    let (x, y) = apart_stay laws (side a) (side b) c.come_together.new.a.rows c.come_together.new.b.rows met c.args.exchange c.in-Ok-come_together.exchanged apart c.in-Ok-come_together.ensures.done made in (
-      subst (λ rows. AreEqual laws.cmp laws.eq rows (rows_after laws.cmp laws.join c.args.a_updates.items c.in-Ok-after.first.1.items)) (sym (c.hash_last.ensures.rows ∙ x)) c.in-Ok-after.ensures.rows,
-      subst (λ rows. AreEqual laws.cmp laws.eq rows (rows_after laws.cmp laws.join c.args.b_updates.items c.in-Ok-after-2.second.1.items)) (sym (c.hash_last-2.ensures.rows ∙ y)) c.in-Ok-after-2.ensures.rows,
+    let a = c.in-Ok-after.a in
+    let b = c.in-Ok-after-2.b in
+    let (met, made, _) = (rw g.met.H.RowHasher.laws_are at c.in_ok-exchanged.ensures.converges) in
+    let (x, y) = apart_stay laws (side a) (side b) c.come_together.new.a.rows c.come_together.new.b.rows met c.args.exchange c.in_ok-exchanged.exchanged apart c.in_ok-exchanged.ensures.done made in (
+      subst (λ rows. AreEqual laws.cmp laws.eq rows (rows_after laws.cmp laws.join c.args.a_updates.items c.in-Ok-after.a_accepted.items)) (sym (c.hash_last.ensures.rows ∙ x)) c.in-Ok-after.ensures.rows,
+      subst (λ rows. AreEqual laws.cmp laws.eq rows (rows_after laws.cmp laws.join c.args.b_updates.items c.in-Ok-after-2.b_accepted.items)) (sym (c.hash_last-2.ensures.rows ∙ y)) c.in-Ok-after-2.ensures.rows,
     ))
 
 pub returns-clause-a_defined : goal.returns-clause-a_defined
@@ -46,7 +46,7 @@ returns-clause-a_defined g c = rw g.met.H.RowHasher.laws_are (λ m h.
     let s = c.args.builder in
     let come = c.come_together.new.a in
     let last = c.hash_last.new.replica in
-    let set = settings_stay s c.in-Ok-after.first.0.tree come.tree c.in-Ok-after.ensures.settings c.come_together.ensures.a_settings in
+    let set = settings_stay s c.in-Ok-after.a.tree come.tree c.in-Ok-after.ensures.settings c.come_together.ensures.a_settings in
     let sound = subst (λ (t : State _ _). IsSound laws.cmp laws.key_digest laws.bytes_of t) c.tree.ensures.tree c.every_tree_is_sound.ensures.sound in
     is_defined laws g.met.K.Ord.total g.met.H.Hasher-2.respects_eq one.defined one.only one.digests c.equal_pages_have_equal_maps.ensures.ranges s last.tree last.rows m
     (settings_stay s come.tree last.tree set c.hash_last.ensures.settings) sound c.tree.ensures.digests
@@ -60,8 +60,8 @@ returns-clause-b_defined g c = rw g.met.H.RowHasher.laws_are (λ m h.
     let come = c.come_together.new.b in
     let last = c.hash_last-2.new.replica in
     let began = c.in-Ok-after-2.ensures.settings in
-    let first : HasSettings s c.in-Ok-after-2.second.0.tree = (began.0 ∙ c.requires.hashers _ _ c.in-Ok.ensures.hasher, began.1 ∙ c.in-Ok.ensures.base, began.2 ∙ c.in-Ok.ensures.format) in
-    let set = settings_stay s c.in-Ok-after-2.second.0.tree come.tree first c.come_together.ensures.b_settings in
+    let first : HasSettings s c.in-Ok-after-2.b.tree = (began.0 ∙ c.requires.hashers _ _ c.in-Ok.ensures.hasher, began.1 ∙ c.in-Ok.ensures.base, began.2 ∙ c.in-Ok.ensures.format) in
+    let set = settings_stay s c.in-Ok-after-2.b.tree come.tree first c.come_together.ensures.b_settings in
     let sound = subst (λ (t : State _ _). IsSound laws.cmp laws.key_digest laws.bytes_of t) c.tree-2.ensures.tree c.every_tree_is_sound-2.ensures.sound in
     is_defined laws g.met.K.Ord.total g.met.H.Hasher-2.respects_eq one.defined one.only one.digests c.equal_pages_have_equal_maps.ensures.ranges s last.tree last.rows m
     (settings_stay s come.tree last.tree set c.hash_last-2.ensures.settings) sound c.tree-2.ensures.digests
@@ -75,24 +75,24 @@ returns-clause-converges g c = rw g.met.H.RowHasher.laws_are (
     let j = g.met.V.Join.joining in
     let one = c.a_map_has_one_tree.ensures in
     let s = c.args.builder in
-    let a = c.in-Ok-after.first.0 in
-    let b = c.in-Ok-after-2.second.0 in
-    let m = rows_after laws.cmp laws.join c.args.a_updates.items c.in-Ok-after.first.1.items in
-    let n = rows_after laws.cmp laws.join c.args.b_updates.items c.in-Ok-after-2.second.1.items in
+    let a = c.in-Ok-after.a in
+    let b = c.in-Ok-after-2.b in
+    let m = rows_after laws.cmp laws.join c.args.a_updates.items c.in-Ok-after.a_accepted.items in
+    let n = rows_after laws.cmp laws.join c.args.b_updates.items c.in-Ok-after-2.b_accepted.items in
     let a' = c.hash_last.new.replica in
     let b' = c.hash_last-2.new.replica in
     let began = c.in-Ok-after-2.ensures.settings in
     let first : HasSettings s b.tree = (began.0 ∙ c.requires.hashers _ _ c.in-Ok.ensures.hasher, began.1 ∙ c.in-Ok.ensures.base, began.2 ∙ c.in-Ok.ensures.format) in
     let of_a = c.in-Ok-after.ensures.settings in
-    let (met, made, all) = (rw g.met.H.RowHasher.laws_are at c.in-Ok-come_together.ensures.converges) in (
+    let (met, made, all) = (rw g.met.H.RowHasher.laws_are at c.in_ok-exchanged.ensures.converges) in (
       met,
       record {
         a = side a;
         b = side b;
         is_a = record { hasher = of_a.0; base = of_a.1; format = of_a.2; rows = c.in-Ok-after.ensures.rows };
         is_b = record { hasher = first.0; base = first.1; format = first.2; rows = c.in-Ok-after-2.ensures.rows };
-        exchange = subst (λ rows. AreExchanged laws c.in-Ok-come_together.exchanged (side a) (side b) rows b'.rows met) (sym c.hash_last.ensures.rows)
-            (subst (λ rows. AreExchanged laws c.in-Ok-come_together.exchanged (side a) (side b) c.come_together.new.a.rows rows met) (sym c.hash_last-2.ensures.rows) made);
+        exchange = subst (λ rows. AreExchanged laws c.in_ok-exchanged.exchanged (side a) (side b) rows b'.rows met) (sym c.hash_last.ensures.rows)
+            (subst (λ rows. AreExchanged laws c.in_ok-exchanged.exchanged (side a) (side b) c.come_together.new.a.rows rows met) (sym c.hash_last-2.ensures.rows) made);
       },
       λ faith enough.
           let (x, y) = all faith enough in
@@ -112,4 +112,4 @@ pub returns-clause-free : goal.returns-clause-free
 returns-clause-free g c =
     let laws = g.H.RowHasher.laws in
     let same : c.in-Ok.other ≡ c.args.builder = λ i. record { hasher = c.requires.hashers _ _ c.in-Ok.ensures.hasher i; base = c.in-Ok.ensures.base i; format = c.in-Ok.ensures.format i } in
-    (c.in-Ok-after.ensures.free, subst (λ s. FreeAreAccepted laws s [] c.args.b_updates.items c.in-Ok-after-2.second.1.items) same c.in-Ok-after-2.ensures.free)
+    (c.in-Ok-after.ensures.free, subst (λ s. FreeAreAccepted laws s [] c.args.b_updates.items c.in-Ok-after-2.b_accepted.items) same c.in-Ok-after-2.ensures.free)
