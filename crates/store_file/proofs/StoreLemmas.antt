@@ -1,5 +1,5 @@
 -- What a store over the two files shows.
-use Rattle.std.proofs.Common.{◌≡◌, ◌∙◌, false, IsTrue, List, refl, sym, ap, ap₂}
+use Rattle.std.proofs.Common.{◌≡◌, ◌∙◌, false, IsTrue, refl, subst, sym, ap, ap₂}
 use Rattle.std.proofs.Math.Logic.{∥∥₁_elim, ∥∥₁_map}
 use Rattle.sqlite_disk.specs.declared.Disk.{Ghosts}
 use Rattle.sqlite_disk.specs.declared.Files.{Files}
@@ -13,15 +13,15 @@ use Rattle.sqlite_value.specs.Keys.{plain}
 use Rattle.sqlite_trees.specs.declared.store.Shape.TheVariants.{Table, Index}
 use Rattle.sqlite_trees.specs.View.{IsClean}
 use Rattle.sqlite_trees.proofs.Doubt.{no_doubt, clean_of as sure}
-use Rattle.sqlite_store.specs.declared.catalog.Wanted.{Wanted}
 use Rattle.sqlite_store.specs.declared.store.FileStore.{FileStore}
 use Rattle.sqlite_store.specs.declared.store.open.Unopened.{Unopened}
 use Rattle.sqlite_store.specs.FileStore.{state, view, schema_of, log_frames, files, IsReady}
-use Rattle.sqlite_store.specs.Listing.{all_shapes}
+use Rattle.sqlite_store.specs.Db.{IsFile}
+use Rattle.sqlite_store.specs.Listing.{all_shapes, file_trees}
 use Rattle.sqlite_store.specs.Saved.{kept_schema}
 use Rattle.sqlite_store.specs.Unopened.{state_of, files_of}
 use Rattle.store_file.specs.Catalog.{laid_out}
-use Rattle.store_file.specs.Files.{Holds, HoldsAlone, IsLaidOut, image_of}
+use Rattle.store_file.specs.Files.{HasTables, HoldsAlone, HoldsStore, HoldsTrees, IsLaidOut, image_of}
 
 entries_shape : all_shapes laid_out 0 ≡ Index plain
 unfolding all_shapes
@@ -56,24 +56,32 @@ module _ {D : Type 0} {g : Ghosts D} where
     trees = ready.clean;
   }
 
+  -- no savepoint has another schema
+  kept : {it : FileStore D g} → HasTables it → kept_schema it.saved it.schema.items ≡ laid_out
+  kept {it} has = ap (λ o. kept_schema o it.schema.items) has.unaltered ∙ has.schema
+
   module _ (it : FileStore D g) (stays : SeenMayStay g) (is_open : IsTrue (view it).is_open) where
-    holds_commit : (left : Image) → Recovers (state it).page_size left (state it).committed → ∥ ((schema : List Wanted) × Holds schema left (view it).committed) ∥₁
-    holds_commit left found =
-        ∥∥₁_elim (size_is_allowed it.pool) squash₁ (λ size. ∥∥₁_map (it.stored is_open) (λ stored. let r : (schema : List Wanted) × Holds schema left (view it).committed = (
-          kept_schema it.saved it.schema.items,
+    holds_commit : HasTables it → (left : Image) → Recovers (state it).page_size left (state it).committed → HoldsTrees left (view it).committed
+    holds_commit has left found =
+        ∥∥₁_elim (size_is_allowed it.pool) squash₁ (λ size. ∥∥₁_map (it.stored is_open) (λ stored. let r : (held : HoldsStore left) × (held.db ≡ (view it).committed) = (
           record {
-            size = (state it).page_size;
-            allowed = size;
-            pages = (state it).committed;
-            found = found;
-            file = stored.ours.file;
-            reads = rw (clean_of (state it) is_open);
+            db = (view it).committed;
+            holds = record {
+              size = (state it).page_size;
+              allowed = size;
+              pages = (state it).committed;
+              found = found;
+              file = subst (λ s. IsFile (state it).page_size s (state it).committed) (kept has) stored.ours.file;
+              reads = subst (λ s. (view it).committed ≡ file_trees (state it).page_size s (state it).committed) (kept has) (rw (clean_of (state it) is_open));
+            };
+            plain = has.plain;
           },
+          refl,
         ) in r))
 
     -- with an empty log, each image that a crash may leave has the last commit in the database file
-    pub copied : log_frames it ≡ 0 → (left : Image) → (state it).may_leave left → HoldsAlone left (view it).committed
-    copied empty left may = record {
-      both = holds_commit left ((settled it.pool stays is_open).durable left may);
-      alone = holds_commit _ (file_alone it.pool stays is_open empty left may);
+    pub copied : HasTables it → log_frames it ≡ 0 → (left : Image) → (state it).may_leave left → HoldsAlone left (view it).committed
+    copied has empty left may = record {
+      both = holds_commit has left ((settled it.pool stays is_open).durable left may);
+      alone = holds_commit has _ (file_alone it.pool stays is_open empty left may);
     }

@@ -14,7 +14,9 @@ use Rattle.sqlite_trees.specs.Tree.{Trees}
 use Rattle.sqlite_trees.specs.View.{View}
 use Rattle.sqlite_trees.specs.declared.store.Shape.TheVariants.{Table, Index}
 use Rattle.sqlite_store.specs.declared.catalog.Wanted.{Wanted}
+use Rattle.sqlite_store.specs.declared.store.FileStore.{FileStore}
 use Rattle.sqlite_store.specs.Db.{IsFile}
+use Rattle.sqlite_store.specs.FileStore.{state, schema_of, IsUnaltered}
 use Rattle.sqlite_store.specs.Listing.{file_trees}
 use Rattle.sqlite_store.specs.Opening.{IsEmptyFile}
 use Rattle.store_file.specs.Catalog.{laid_out}
@@ -38,10 +40,20 @@ pub record HoldsStore (image : Image) : Type 0 where
 abbrev pub HoldsNothing : Image → Type 0
 HoldsNothing image = IsBlankFile 4096 image ⊎ ((pages : PageMap) × Recovers 4096 image pages × IsEmptyFile 4096 pages)
 
+-- the two files hold a store with these trees
+abbrev pub HoldsTrees : Image → Trees → Type 0
+HoldsTrees image db = ∥ ((held : HoldsStore image) × (held.db ≡ db)) ∥₁
+
 -- the last commit is in the database file, with the log and without it
 pub record HoldsAlone (image : Image) (db : Trees) : Type 0 where
-  pub both : ∥ ((schema : List Wanted) × Holds schema image db) ∥₁
-  pub alone : ∥ ((schema : List Wanted) × Holds schema (record image { log = [] }) db) ∥₁
+  pub both : HoldsTrees image db
+  pub alone : HoldsTrees (record image { log = [] }) db
+
+-- a database has the two tables, whose schema no transaction has changed, and no sums at the ends of its pages
+pub record HasTables {D : Type 0} {g : Ghosts D} (it : FileStore D g) : Type 0 where
+  pub plain : IsPageSize (state it).page_size
+  pub schema : schema_of it ≡ laid_out
+  pub unaltered : IsUnaltered it
 
 -- whatever the disk has of these files, where it kept what was written, the database file alone has these trees
 abbrev pub KeepAlone : {D : Type 0} → Ghosts D → Trees → disk.Files D → Type 0

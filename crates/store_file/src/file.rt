@@ -5,7 +5,7 @@ ghost use Rattle.sqlite_wal.specs.Reads.{AreClean, OnlyReads};
 ghost use Rattle.sqlite_store.specs.FileStore.{view};
 ghost use Rattle.sqlite_store.specs.Unopened.{state_of, files_of, wanted_by};
 ghost use Rattle.store_file.specs.Catalog.{fault_of, laid_out};
-ghost use Rattle.store_file.specs.Files.{HoldsStore, HoldsNothing, IsLaidOut, KeepAlone, image_of};
+ghost use Rattle.store_file.specs.Files.{HasTables, HoldsStore, HoldsNothing, IsLaidOut, KeepAlone, image_of};
 
 use crate::catalog::{objects, recognise};
 use crate::fault::{OpenFault, fault_of, fault_of_probe};
@@ -15,7 +15,7 @@ use sqlite_store::{FileStore, OpenError, Unopened, name_fault};
 use sqlite_trees::error::StoreError;
 use sqlite_trees::store::Store;
 use sqlite_wal::{PageSize, probe_first_page, probe_page_size};
-use std::alloc::Global;
+use std::alloc::{AllocError, Global};
 
 /// The page size of a new file.
 const NEW_SIZE: usize = 4096;
@@ -122,21 +122,63 @@ pub fn create<D: Disk + Drop>(alloc: Global, files: Files<D>) -> Result<FileStor
     }
 }
 
-/// Takes back what isn't committed, copies the log into the database file, and gives the files back. The database file alone has the store
-/// then: its log has no page.
-pub fn close_files<D: Disk + Drop>(store: FileStore<D>) -> Result<Files<D>, StoreError>
-    ensures usable { IfOk result (λ files. IsTrue (D.Disk.is_usable files.log) × IsTrue (D.Disk.is_usable files.db)) }
-    ensures copied { IfOk result (KeepAlone D.Disk (view store).committed) }
+/// The sizes that pages of a SQLite database may have.
+const SIZES: [usize; 8] = [512, 1024, 2048, 4096, 8192, 16_384, 32_768, 65_536];
+
+/// Whether the database has the tables of a store, as each has that was opened or made here.
+fn is_store<D: Disk>(store: &FileStore<D>) -> Result<bool, AllocError>
+    ensures { IfOk result (λ is. IsTrue is → HasTables store.now) }
+{
+    for bytes in SIZES {
+        let Some(size) = PageSize::new(bytes) else {
+            continue;
+        };
+        if store.is_over(size, &objects())? {
+            return Ok(true);
+        }
+    }
+    Ok(false)
+}
+
+/// Takes back what isn't committed, copies the log into the database file, and gives the files back, with whether they have the tables of a
+/// store.
+pub(crate) fn close_any<D: Disk + Drop>(store: FileStore<D>) -> Result<(Files<D>, bool), StoreError>
+    ensures usable { IfOk result (λ closed. IsTrue (D.Disk.is_usable closed.0.log) × IsTrue (D.Disk.is_usable closed.0.db)) }
+    ensures copied { IfOk result (λ closed. IsTrue closed.1 → KeepAlone D.Disk (view store).committed closed.0) }
 {
     let mut store = store;
     store.rollback();
     let copied = store.checkpoint();
+    let is_store = is_store(&store);
     let files = store.close();
     copied?;
-    Ok(files)
+    Ok((files, is_store?))
+}
+
+/// Takes back what isn't committed, copies the log into the database file, and gives the files back. The database file alone has the store
+/// then: its log has no page. It takes the time of copying the pages of the log.
+///
+/// # Errors
+///
+/// [`StoreError::Full`] and [`StoreError::Io`] where the log can't be copied, [`StoreError::OutOfMemory`], [`StoreError::Corrupt`], and
+/// [`StoreError::Broken`] where an earlier call failed or the database has other tables. What was committed is in the files then too.
+pub fn close_files<D: Disk + Drop>(store: FileStore<D>) -> Result<Files<D>, StoreError>
+    ensures usable { IfOk result (λ files. IsTrue (D.Disk.is_usable files.log) × IsTrue (D.Disk.is_usable files.db)) }
+    ensures copied { IfOk result (KeepAlone D.Disk (view store).committed) }
+{
+    let (files, is_store) = close_any(store)?;
+    if is_store {
+        Ok(files)
+    } else {
+        Err(StoreError::Broken)
+    }
 }
 
 /// As `close_files`, and the files are closed.
+///
+/// # Errors
+///
+/// As those of `close_files`.
 pub fn close<D: Disk + Drop>(store: FileStore<D>) -> Result<(), StoreError>
     // There were files then, which keep what was committed.
     ensures copied { OnOk result ((files : _) × KeepAlone D.Disk (view store).committed files) }

@@ -6,6 +6,7 @@ ghost use Rattle.store_file.specs.Unsure.{disk_below};
 use crate::catalog::{
     ABOUT, ABOUT_SQL, ENTRIES, ENTRIES_SQL, FORMER_ABOUT_SQL, FORMER_ENTRIES_SQL,
 };
+use crate::file::close_any;
 use crate::{OpenFault, Unsure, close, close_files, create, open};
 use sqlite_disk::{Disk, Files, Memory};
 use sqlite_pager::{Options, Pager};
@@ -57,7 +58,7 @@ fn database(alloc: Global, entries: &str, notes: &str) -> Result<Pair, Fail>
         ..entry
     };
     match Unopened::new(alloc, pager, &[entry, about])?.create() {
-        Ok(store) => Ok(close_files(store)?),
+        Ok(store) => Ok(close_any(store)?.0),
         Err((error, _)) => Err(Fail::from(error)),
     }
 }

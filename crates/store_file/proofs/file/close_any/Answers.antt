@@ -8,14 +8,14 @@ use Rattle.sqlite_trees.proofs.Doubt.{clean_of as sure, no_doubt}
 use Rattle.sqlite_store.specs.FileStore.{state, view}
 use Rattle.store_file.specs.Files.{HoldsAlone}
 use Rattle.store_file.proofs.StoreLemmas.{copied}
-use Rattle.store_file.proofs.file.close_files.Goals as goal
+use Rattle.store_file.proofs.file.close_any.Goals as goal
 
 pub returns-clause-usable : goal.returns-clause-usable
 returns-clause-usable g c =
     subst (λ p. IsTrue (g.D.Disk.is_usable p.0) × IsTrue (g.D.Disk.is_usable p.1)) (sym c.close-files.ensures) (open_usable c.checkpoint-copied.new.self.pool c.in_ok-copied.ensures.still)
 
 pub returns-clause-copied : goal.returns-clause-copied
-returns-clause-copied g c honest image may =
+returns-clause-copied g c is honest image may =
     let before = c.rollback.new.self in
     let last = c.checkpoint-copied.new.self in
     let q = c.checkpoint-copied.ensures.quiet in
@@ -26,5 +26,5 @@ returns-clause-copied g c honest image may =
     let undone = c.rollback.ensures.undone.kept clean in
     let on = c.in_ok-copied.ensures.open none in
     let committed : (view last).committed ≡ (view c.args.store).committed = ap (λ (v : View). v.committed) (c.in_ok-copied.ensures.same on) ∙ undone.committed h in
-    subst (HoldsAlone image) committed (copied last g.met.D.Disk.seen_may_stay on (c.in_ok-copied.ensures.moved (c.rollback.ensures.logged (undone.was_open h))) image
+    subst (HoldsAlone image) committed (copied last g.met.D.Disk.seen_may_stay on (c.in_ok-is_store.ensures is) (c.in_ok-copied.ensures.moved (c.rollback.ensures.logged (undone.was_open h))) image
     (may_leave_is last.pool image here (subst (λ p. outcomes g.D.Disk p.0 p.1 image) c.close-files.ensures may)))
