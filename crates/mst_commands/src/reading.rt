@@ -1,7 +1,6 @@
 //! The commands that read.
 ghost use Rattle.std.specs.Prelude.{◌≡◌, ◌≢◌, ◌+◌, if◌then◌else◌, ◌++◌, [], ◌∷◌, length, string_bytes, IfOk, IfErr, OnOk};
 ghost use Rattle.std.specs.Io.KnownBytes.{Appends};
-ghost use Rattle.store_table.specs.Latest.{text_of as text_said};
 ghost use Rattle.store_table.specs.Logs.{Finds, Shows, Refuses, StaysInOk, StaysInErr, LeavesNoMore};
 ghost use Rattle.mst_commands.specs.Malformed.{IsFailure};
 ghost use Rattle.mst_commands.specs.Reads.{IsTextAt, WritesText, WritesList, WritesCount, WritesStatus, WritesPairs, WritesLog, IsSummary, SumsOn, status_text};
@@ -14,22 +13,12 @@ use crate::records::{begin_pairs, finish, write_row};
 use sqlite_trees::store::Store;
 use std::alloc::Global;
 use std::io::Write;
-use store_table::latest::find;
+use store_table::latest;
 use store_table::log::Log;
 use store_table::reader::{begin, next_latest};
 use store_table::rows::Summary;
 use store_table::table::read_log;
 use store_table::{Register, StoreFault};
-
-/// What a register says: a text, or none where there is no register or a removal.
-fn said_by(found: Option<Register>) -> Option<String>
-    ensures { result ≡ text_said found }
-{
-    match found {
-        Some(register) => register.value,
-        None => None,
-    }
-}
 
 /// The text of a key.
 fn text_of<S: Store>(alloc: Global, log: &mut Log<S>, key: &str) -> Result<Option<String>, Fault>
@@ -38,8 +27,8 @@ fn text_of<S: Store>(alloc: Global, log: &mut Log<S>, key: &str) -> Result<Optio
     ensures unchanged { StaysInOk S.Store log.old log.new result }
     ensures crash { LeavesNoMore S.Store log.old log.new }
 {
-    let found = find(alloc, log, key)?;
-    Ok(said_by(found))
+    let found = latest::find(alloc, log, key)?;
+    Ok(latest::text_of(found))
 }
 
 /// Writes a text, and a newline.

@@ -4,7 +4,7 @@ ghost use Rattle.std.specs.Ordering.{is_eq};
 ghost use Rattle.sqlite_value.specs.Order.{column, value_cmp};
 ghost use Rattle.sqlite_value.specs.declared.value.Value.TheVariants.{Text as Words};
 ghost use Rattle.store_table.specs.Faults.{IsFailure, IsUnwritten};
-ghost use Rattle.store_table.specs.Latest.{text_of, IsLastRow, IsLatestAt, IsThere, IsWrittenLate, HasWriteOver, WritesOver, Removes};
+ghost use Rattle.store_table.specs.Latest.{text_of as said_by, IsLastRow, IsLatestAt, IsThere, IsWrittenLate, HasWriteOver, WritesOver, Removes};
 ghost use Rattle.store_table.specs.Logs.{IsLog, IsSteady, Finds, Makes, MakesAndFinds, Refuses, StaysInOk, StaysInErr, Leaves, LeavesNoMore};
 ghost use Rattle.store_table.specs.Registers.{time_after, HasLastTime};
 ghost use Rattle.store_table.specs.Transactions.{CommitsNothing};
@@ -92,6 +92,16 @@ pub fn find<S: Store>(
     settled(&mut log.trees, found)
 }
 
+/// What a register says: a text, or none where there is no register or a removal.
+pub fn text_of(found: Option<Register>) -> Option<String>
+    ensures { result ≡ said_by found }
+{
+    match found {
+        Some(register) => register.value,
+        None => None,
+    }
+}
+
 /// The time of a write over what is there, at this time of the clock.
 ///
 /// # Errors
@@ -164,7 +174,7 @@ pub fn put<S: Store>(
 
 /// Whether a register says a text.
 fn has_text(found: &Option<Register>) -> bool
-    ensures { result ≡ is_some (text_of found.now) }
+    ensures { result ≡ is_some (said_by found.now) }
 {
     match found {
         Some(register) => register.value.is_some(),
