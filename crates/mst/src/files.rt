@@ -23,14 +23,15 @@ pub type FileTrees = FileStore<Unsure<File>>;
 
 /// A log whose file can be closed. What runs over any such one has no file to drop, whose many parts make a function slow to prove.
 pub trait Closing: Sized + Drop {
-    /// Closes the file. Where it has no room for what its log holds, the log keeps that, and what was committed is read from there.
+    /// Closes the file. Where there is no room or no memory to copy what its log holds, the log keeps that, and what was committed is read
+    /// from there.
     fn close_all(self) -> Result<(), Failure>;
 }
 
 impl Closing for Log<FileTrees> {
     fn close_all(self) -> Result<(), Failure> {
         match store_file::close(self.into_trees()) {
-            Ok(()) | Err(StoreError::Full) => Ok(()),
+            Ok(()) | Err(StoreError::Full | StoreError::OutOfMemory) => Ok(()),
             Err(error) => Err(Failure::from(error)),
         }
     }

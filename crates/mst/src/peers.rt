@@ -5,15 +5,16 @@ use merkle_store::framing::{MOST_BYTES, Unwatched, Watch};
 use merkle_store::pulling::{self, Brought};
 use mst_commands::lines::write_keys;
 use sqlite_trees::store::Store as Trees;
-use std::io::{BufWriter, Write};
+use std::io::{BufWriter, IsTerminal, Write};
 
 /// How many bytes come between two lines on standard error.
 const LINE_BYTES: usize = 16_777_216;
 
-/// Says on standard error how many bytes have come.
+/// Says on standard error, where that is a terminal, how many bytes have come.
 #[derive(Drop)]
 struct Lines<'a> {
     rt: &'a HostRuntime,
+    is_seen: bool,
     came: usize,
     next: usize,
 }
@@ -21,7 +22,7 @@ struct Lines<'a> {
 impl Watch for Lines<'_> {
     fn came(&mut self, bytes: usize) {
         self.came = self.came.saturating_add(bytes);
-        if self.came >= self.next {
+        if self.is_seen && self.came >= self.next {
             self.next = self.came.saturating_add(LINE_BYTES);
             let _ = eprintln!(self.rt; "mst: {} bytes have come", self.came);
         }
@@ -32,6 +33,7 @@ impl Watch for Lines<'_> {
 fn lines_of(rt: &HostRuntime) -> Lines<'_> {
     Lines {
         rt,
+        is_seen: rt.stderr().is_terminal(),
         came: 0,
         next: LINE_BYTES,
     }
@@ -57,15 +59,14 @@ pub fn tell(rt: &HostRuntime, brought: &Brought) -> Result<(), Failure> {
     Ok(())
 }
 
-/// Answers a peer.
+/// Answers a peer. It says nothing of it: the side that asks does.
 pub fn serve<S: Trees + Drop>(rt: &HostRuntime, store: &mut Store<S>) -> Result<(), Failure> {
-    let mut lines = lines_of(rt);
     let _traffic = pulling::serve(
         store,
         &mut rt.stdin(),
         &mut rt.stdout(),
         MOST_BYTES,
-        &mut lines,
+        &mut Unwatched,
     )?;
     Ok(())
 }

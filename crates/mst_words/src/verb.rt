@@ -204,7 +204,7 @@ Prints how many keys, removed keys and rows the file has, the time of the last w
 const ROOT_HELP: &str = "\
 usage: mst root FILE
 
-Prints the root hash, which copies with the same content share.
+Prints the root hash, which copies share whose keys have the same last rows, times and writers too.
 ";
 
 const HASH_KEY_HELP: &str = "\
@@ -304,7 +304,7 @@ usage: mst COMMAND FILE [WORDS]
   list FILE              prints each key with its value
   count FILE             prints how many keys there are
   status FILE            prints what the file holds
-  root FILE              prints the root hash, which copies with the same content share
+  root FILE              prints the root hash, which copies with the same last rows share
   hash-key FILE          prints the key under which the store hashes, which all its copies share
   import FILE            writes the CSV on standard input
   export FILE            prints the keys and values as CSV
