@@ -14,7 +14,7 @@ use Rattle.merkle_delta.specs.Underway.{Underway}
 use Rattle.merkle_delta.specs.declared.catching_up.Next.TheVariants.{Ask, Came}
 use Rattle.store_table.specs.WireRegisters.{register_encoding}
 use Rattle.store_table.specs.declared.register.Register.{Register}
-use Rattle.merkle_store.specs.Framing.{Streams, framed}
+use Rattle.merkle_store.specs.Framing.{Streams, frame_of}
 use Rattle.merkle_store.specs.Sessions.{EntryContents, entry_laws, key_encoding, all_asked, all_told, CatchesUp, HasServed}
 
 -- bytes that were read before one more exchange, and with it
@@ -54,7 +54,7 @@ module _ (replica : EntryContents) (most : ℕ) (before : Streams) where
   }
 
   module _ (mid after : Streams) (underway : Underway Text Register) (message : Vec ℕ) (reply : List ℕ) (come : HasComeTo mid underway message)
-      (sent : Appends mid.0 after.0 (framed message.items)) (came : Consumes mid.1 after.1 (framed reply)) (fits : length reply ≤ most) where
+      (sent : Appends mid.0 after.0 (frame_of message.items)) (came : Consumes mid.1 after.1 (frame_of reply)) (fits : length reply ≤ most) where
     -- one more did
     pub goes_on : (next : Underway Text Register) (question : Vec ℕ)
         → IsNext entry_laws 16 key_encoding register_encoding (side replica) underway reply (Ask next question) → HasComeTo after next question
@@ -66,8 +66,8 @@ module _ (replica : EntryContents) (most : ℕ) (before : Streams) where
       leads = λ entries others leads. subst (λ es. LeadTo entry_laws 16 key_encoding register_encoding (side replica) entries es (Ask come.first come.opening))
           (sym (append_assoc come.exchanges ((message.items, reply) ∷ []) others)) (come.leads entries ((message.items, reply) ∷ others) (refl, Ask next question, is, leads));
       fits = each-append (λ e. length e.1 ≤ most) come.exchanges ((message.items, reply) ∷ []) come.fits (fits, tt);
-      asked = all_written (λ e. framed e.0) before.0 mid.0 after.0 come.exchanges (message.items, reply) come.asked sent;
-      told = all_read (λ e. framed e.1) before.1 mid.1 after.1 come.exchanges (message.items, reply) come.told came;
+      asked = all_written (λ e. frame_of e.0) before.0 mid.0 after.0 come.exchanges (message.items, reply) come.asked sent;
+      told = all_read (λ e. frame_of e.1) before.1 mid.1 after.1 come.exchanges (message.items, reply) come.told came;
     }
 
     -- it was the last
@@ -80,8 +80,8 @@ module _ (replica : EntryContents) (most : ℕ) (before : Streams) where
       exchanges = come.exchanges ++ (message.items, reply) ∷ [];
       leads = come.leads entries.items ((message.items, reply) ∷ []) (refl, Came entries, is, refl);
       fits = each-append (λ e. length e.1 ≤ most) come.exchanges ((message.items, reply) ∷ []) come.fits (fits, tt);
-      asked = all_written (λ e. framed e.0) before.0 mid.0 after.0 come.exchanges (message.items, reply) come.asked sent;
-      told = all_read (λ e. framed e.1) before.1 mid.1 after.1 come.exchanges (message.items, reply) come.told came;
+      asked = all_written (λ e. frame_of e.0) before.0 mid.0 after.0 come.exchanges (message.items, reply) come.asked sent;
+      told = all_read (λ e. frame_of e.1) before.1 mid.1 after.1 come.exchanges (message.items, reply) come.told came;
     }
 
   -- no message was answered yet
@@ -90,13 +90,13 @@ module _ (replica : EntryContents) (most : ℕ) (before : Streams) where
 
   -- one more was
   pub has_served_more : (mid after : Streams) (message reply : List ℕ) → HasServed replica most before mid → IsReplyBy entry_laws 16 key_encoding register_encoding replica message reply
-      → length message ≤ most → Consumes mid.1 after.1 (framed message) → Appends mid.0 after.0 (framed reply) → HasServed replica most before after
+      → length message ≤ most → Consumes mid.1 after.1 (frame_of message) → Appends mid.0 after.0 (frame_of reply) → HasServed replica most before after
   has_served_more mid after message reply served is fits came sent = record {
     exchanges = served.exchanges ++ (message, reply) ∷ [];
     replies = each-append (λ e. IsReplyBy entry_laws 16 key_encoding register_encoding replica e.0 e.1) served.exchanges ((message, reply) ∷ []) served.replies (is, tt);
     fits = each-append (λ e. length e.0 ≤ most) served.exchanges ((message, reply) ∷ []) served.fits (fits, tt);
-    asked = all_read (λ e. framed e.0) before.1 mid.1 after.1 served.exchanges (message, reply) served.asked came;
-    told = all_written (λ e. framed e.1) before.0 mid.0 after.0 served.exchanges (message, reply) served.told sent;
+    asked = all_read (λ e. frame_of e.0) before.1 mid.1 after.1 served.exchanges (message, reply) served.asked came;
+    told = all_written (λ e. frame_of e.1) before.0 mid.0 after.0 served.exchanges (message, reply) served.told sent;
   }
 
   -- nothing was read since

@@ -15,7 +15,7 @@ use Rattle.merkle_diff.proofs.Each.{each-with}
 use Rattle.merkle_replica.specs.Puts.{IsPuts, gathered, HasGathered}
 use Rattle.sqlite_trees.specs.Tree.{Trees}
 use Rattle.store_table.specs.Changes.{IsNewStore, HasMore, HasInstead}
-use Rattle.store_table.specs.Entries.{HoldsEntries, entry_row, noted, IsNoted}
+use Rattle.store_table.specs.Entries.{HoldsEntries, entry_row, note_in, IsNoted}
 use Rattle.store_table.specs.Registers.{register_order}
 use Rattle.store_table.specs.declared.register.Register.{Register}
 use Rattle.store_table.specs.declared.format.TheConstants.{FORMAT}
@@ -87,7 +87,7 @@ module _ (eq : Register → Register → Bool) (e : IsEquivalence eq) (join : Re
       let up = ascending_map rows kept.gathered.ascending in
       record {
         hash_key = kept.hash_key;
-        about = ap (map noted) has.about ∙ kept.about;
+        about = ap (map note_in) has.about ∙ kept.about;
         entries = rows;
         held = record { rows = has.entries ∙ with_ascending rows up; ascending = up };
         gathered = record {
@@ -115,7 +115,7 @@ module _ (eq : Register → Register → Bool) (e : IsEquivalence eq) (join : Re
         let all = holds_more old new kept.entries more kept.held has in
         record {
           hash_key = kept.hash_key;
-          about = ap (map noted) has.about ∙ kept.about;
+          about = ap (map note_in) has.about ∙ kept.about;
           entries = all.0;
           held = all.1;
           gathered = record {

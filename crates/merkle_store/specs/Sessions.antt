@@ -18,7 +18,7 @@ use Rattle.merkle_delta.specs.declared.catching_up.Next.TheVariants.{Ask}
 use Rattle.store_table.specs.RegisterBytes.{register_bytes}
 use Rattle.store_table.specs.WireRegisters.{register_encoding}
 use Rattle.store_table.specs.declared.register.Register.{Register}
-use Rattle.merkle_store.specs.Framing.{Streams, framed}
+use Rattle.merkle_store.specs.Framing.{Streams, frame_of}
 use Rattle.merkle_store.specs.Kept.{same_register, later_register}
 
 -- a replica of entries under SipHash, whose hasher is seen as its key
@@ -42,10 +42,10 @@ key_encoding key = string_encoding (string_bytes key)
 
 -- all messages of the asking side, each behind its length, and all replies likewise
 abbrev pub all_asked : Exchanges → List ℕ
-all_asked exchanges = flat_map (λ e. framed e.0) exchanges
+all_asked exchanges = flat_map (λ e. frame_of e.0) exchanges
 
 abbrev pub all_told : Exchanges → List ℕ
-all_told exchanges = flat_map (λ e. framed e.1) exchanges
+all_told exchanges = flat_map (λ e. frame_of e.1) exchanges
 
 -- the replica catches up with whoever reads one stream and writes the other: its messages are written, their replies read, of so many bytes at most each,
 -- and these entries come

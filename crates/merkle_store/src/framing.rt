@@ -1,7 +1,7 @@
 //! Messages over a pair of pipes or a socket: each as its length in eight bytes, the lowest first, and its bytes.
 ghost use Rattle.std.specs.Prelude.{◌≡◌, ◌≤◌, ◌++◌, length, IfOk, IfSome, IfNone, OnOk};
 ghost use Rattle.std.specs.Io.KnownBytes.{Appends, Consumes};
-ghost use Rattle.merkle_store.specs.Framing.{HasCome, HasEnded, framed};
+ghost use Rattle.merkle_store.specs.Framing.{HasCome, HasEnded, frame_of};
 
 use crate::wire::WireFault;
 use std::alloc::Global;
@@ -40,7 +40,7 @@ impl Watch for Unwatched {
 ///
 /// [`WireFault::Device`], and [`WireFault::Memory`]: a part of the message may have been sent.
 pub fn send<W: Write>(alloc: Global, out: &mut W, message: &[u8]) -> Result<(), WireFault>
-    ensures sent { OnOk result (Appends (W.contents out.old) (W.contents out.new) (framed message.now)) }
+    ensures sent { OnOk result (Appends (W.contents out.old) (W.contents out.new) (frame_of message.now)) }
 {
     let (front, rest) = message.split_at(if message.len() < PIECE {
         message.len()

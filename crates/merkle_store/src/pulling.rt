@@ -3,7 +3,7 @@ ghost use Rattle.std.specs.Prelude.{◌≡◌, ◌≤◌, length, IfOk, IfErr, O
 ghost use Rattle.std.specs.Io.KnownBytes.{Appends, Consumes, IsAtEnd};
 ghost use Rattle.merkle_tree_theory.specs.State.{SameSettings};
 ghost use Rattle.store_table.specs.Logs.{IsSteady};
-ghost use Rattle.merkle_store.specs.Framing.{framed};
+ghost use Rattle.merkle_store.specs.Framing.{frame_of};
 ghost use Rattle.merkle_store.specs.Kept.{KeepsInStep, StaysSet};
 ghost use Rattle.merkle_store.specs.Pulls.{AreNews, HasBrought, LeavesNewsOver, IsBehind, StaysUnlessPulled};
 ghost use Rattle.merkle_store.specs.Sessions.{CatchesUp, HasServed};
@@ -116,8 +116,8 @@ fn ask<R: Read, W: Write, P: Watch>(
     watch: &mut P,
     message: &[u8],
 ) -> Result<Vec<u8>, WireFault>
-    ensures sent { OnOk result (Appends (W.contents to.old) (W.contents to.new) (framed message.now)) }
-    ensures came { IfOk result (λ reply. Consumes (R.remaining from.old) (R.remaining from.new) (framed reply.items)) }
+    ensures sent { OnOk result (Appends (W.contents to.old) (W.contents to.new) (frame_of message.now)) }
+    ensures came { IfOk result (λ reply. Consumes (R.remaining from.old) (R.remaining from.new) (frame_of reply.items)) }
     ensures fits { IfOk result (λ reply. length reply.items ≤ most) }
 {
     send(alloc, to, message)?;
@@ -186,6 +186,16 @@ pub fn look<S: Trees + Drop, R: Read, W: Write, P: Watch>(
 
 /// Brings the entries of a peer that the store lacks, all or none. A reply has at most `most` bytes, else the peer is refused.
 ///
+/// ```rust crates/mst/src/peers.rt
+/// Ok(pulling::pull(
+///     store,
+///     &mut rt.stdin(),
+///     &mut rt.stdout(),
+///     MOST_BYTES,
+///     &mut lines,
+/// )?)
+/// ```
+///
 /// # Errors
 ///
 /// [`PullFault`]: but for [`StoreFault::Behind`] the file and the rows in memory are as they were.
@@ -223,6 +233,16 @@ pub fn pull<S: Trees + Drop, R: Read, W: Write, P: Watch>(
 
 /// Answers a peer until the end of its messages, each of at most `most` bytes; an answer ends with the entry by which it has
 /// [`ANSWER_BYTES`], and the peer asks for the rest.
+///
+/// ```rust crates/mst/src/peers.rt
+/// let _traffic = pulling::serve(
+///     store,
+///     &mut rt.stdin(),
+///     &mut rt.stdout(),
+///     MOST_BYTES,
+///     &mut Unwatched,
+/// )?;
+/// ```
 ///
 /// # Errors
 ///

@@ -3,6 +3,7 @@ ghost use Rattle.std.specs.Prelude.{◌≡◌, ◌≢◌, ◌+◌, ◌≤◌, �
 ghost use Rattle.std.specs.Option.{option_copied};
 ghost use Rattle.key_order.specs.Text.{text_order};
 ghost use Rattle.key_order.specs.Map.{IsMap, get};
+ghost use Rattle.merkle_tree_theory.specs.Stream.{page_digest};
 ghost use Rattle.store_table.specs.Changes.{IsBlank, IsNewStore, HasEntriesInstead};
 ghost use Rattle.store_table.specs.Faults.{IsForeign, IsUnwritten};
 ghost use Rattle.store_table.specs.Logs.{IsClean, IsSteady, trees_of, Makes, Refuses, StaysInOk, StaysInErr, Leaves, LeavesNoMore};
@@ -13,6 +14,7 @@ ghost use Rattle.merkle_store.specs.Writes.{later_entries, AreTimely, HasWrite, 
 use crate::lookup::register_at;
 use crate::news::news_of;
 use crate::upkeep::{EntryReplica, add_entries, add_entry, read_replica, rewrite};
+use merkle_digest::RootHash;
 use sqlite_trees::store::Store as Trees;
 use std::alloc::{AllocError, Global};
 use store_table::format::{self, FORMAT, HASH_KEY_LEN, recognise};
@@ -96,6 +98,13 @@ pub fn read_store<S: Trees>(
 }
 
 /// The store that a log is of, at this time of the clock.
+///
+/// ```rust crates/mst/src/tasks.rt
+/// let mut store = merkle_store::store::open(rt.alloc(), log, latest)?;
+/// if verb == Verb::Pull {
+///     return run_pull(rt, store);
+/// }
+/// ```
 ///
 /// # Errors
 ///
@@ -298,13 +307,22 @@ impl<S: Trees + Drop> Store<S> {
         rewrite(self.alloc, &mut self.log, &self.replica)
     }
 
-    /// The digest of the root page, in memory of its own. Pages that lack a digest get it.
+    /// The digest of the root page of the tree of the rows, in memory of its own. Pages that lack a digest get it; rows and file stay.
     ///
     /// # Errors
     ///
     /// Want of memory.
-    pub fn root_hash(&mut self) -> Result<merkle_digest::RootHash, AllocError> {
-        self.replica.root_hash().clone()
+    pub fn root_hash(&mut self) -> Result<RootHash, AllocError>
+        ensures digest { IfOk result (λ digest. digest ≡ page_digest self.old.replica.tree.format string_bytes self.old.replica.tree.root) }
+        ensures rows { self.new.replica.rows ≡ self.old.replica.rows }
+        ensures file { self.new.log ≡ self.old.log }
+        ensures settings { StaysSet self.old self.new }
+    {
+        self.replica.hash();
+        match self.replica.tree().root_hash_cached() {
+            Some(digest) => digest.clone(),
+            None => unreachable!(),
+        }
     }
 
     /// The log, to be closed.

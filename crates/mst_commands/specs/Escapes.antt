@@ -5,16 +5,16 @@ use Rattle.std.specs.List.{flat_map}
 use Rattle.std.specs.Str.{chars}
 
 -- a tab, a newline, a carriage return and a backslash are a backslash and a letter
-abbrev pub escaped : ℕ → List ℕ
-escaped c = cond (c == 9) (codes "\\t") (cond (c == 10) (codes "\\n") (cond (c == 13) (codes "\\r") (cond (c == 92) (codes "\\\\") (c ∷ []))))
+abbrev pub escape_of : ℕ → List ℕ
+escape_of c = cond (c == 9) (codes "\\t") (cond (c == 10) (codes "\\n") (cond (c == 13) (codes "\\r") (cond (c == 92) (codes "\\\\") (c ∷ []))))
 
 -- the letter that stands for a character behind a backslash, or none where the character stands for itself
 abbrev pub IsLetterOf : ℕ → Option ℕ → Type 0
-IsLetterOf c found = MatchOption found (escaped c ≡ c ∷ []) (λ letter. escaped c ≡ 92 ∷ letter ∷ [])
+IsLetterOf c found = MatchOption found (escape_of c ≡ c ∷ []) (λ letter. escape_of c ≡ 92 ∷ letter ∷ [])
 
 -- a text in one line
 abbrev pub line_of : List ℕ → List ℕ
-line_of text = encode_utf8_all (flat_map escaped (chars text))
+line_of text = encode_utf8_all (flat_map escape_of (chars text))
 
 -- a number below 32 as a backslash, the letter u and four digits in base 16
 abbrev pub code_of : ℕ → List ℕ

@@ -29,8 +29,8 @@ abbrev pub line_as : Bool → Pair → List ℕ
 line_as json pair = if json then json_line pair.0 pair.1 else text_line pair.0 pair.1
 
 -- the key and the text of a row that is listed: no removal, and its key is within the bounds
-abbrev pub listed : Bounds → Key × Register → Option Pair
-listed b row = if is_within b (string_bytes row.0) then pair_of row else None
+abbrev pub pair_within : Bounds → Key × Register → Option Pair
+pair_within b row = if is_within b (string_bytes row.0) then pair_of row else None
 
 -- its line, or nothing where the row isn't listed
 abbrev pub line_where : Bool → Option Pair → List ℕ
@@ -38,11 +38,11 @@ line_where json pair = option_map_or (line_as json) pair []
 
 -- the line of a row in a listing
 abbrev pub row_line : Listing → Key × Register → List ℕ
-row_line listing row = line_where listing.json (listed listing.bounds row)
+row_line listing row = line_where listing.json (pair_within listing.bounds row)
 
 -- a line for each row that is listed, for so many at most
 abbrev pub lines_of : Bounds → Bool → ℕ → List (Key × Register) → List ℕ
-lines_of bounds json limit rows = flat_map (line_as json) (take limit (filter_map (listed bounds) rows))
+lines_of bounds json limit rows = flat_map (line_as json) (take limit (filter_map (pair_within bounds) rows))
 
 -- what a list of rows writes
 abbrev pub list_of : Listing → List (Key × Register) → List ℕ

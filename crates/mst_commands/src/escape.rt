@@ -1,7 +1,7 @@
 //! Texts of any characters in one line.
 ghost use Rattle.std.specs.Prelude.{◌≡◌, ◌<◌, ◌++◌, IfOk, OnOk, string_bytes, encode_utf8_all};
 ghost use Rattle.std.specs.Char.{digit_char};
-ghost use Rattle.mst_commands.specs.Escapes.{IsLetterOf, escaped, line_of, code_of, json_char, json_of};
+ghost use Rattle.mst_commands.specs.Escapes.{IsLetterOf, escape_of, line_of, code_of, json_char, json_of};
 
 use std::alloc::{AllocError, Global};
 
@@ -20,7 +20,7 @@ fn letter_of(character: char) -> Option<char>
 
 /// Appends a character as it stands in a line.
 fn push_escaped(line: &mut String, character: char) -> Result<(), AllocError>
-    ensures { OnOk result (string_bytes line.new ≡ string_bytes line.old ++ encode_utf8_all (escaped character)) }
+    ensures { OnOk result (string_bytes line.new ≡ string_bytes line.old ++ encode_utf8_all (escape_of character)) }
 {
     match letter_of(character) {
         Some(letter) => {

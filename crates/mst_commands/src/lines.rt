@@ -2,7 +2,7 @@
 ghost use Rattle.std.specs.Prelude.{◌≡◌, ◌-◌, [], ◌∷◌, length, is_some, flat_map, filter_map, IfOk, IfErr, OnOk};
 ghost use Rattle.std.specs.Io.KnownBytes.{Appends};
 ghost use Rattle.mst_commands.specs.Malformed.{IsFailure};
-ghost use Rattle.mst_commands.specs.Lines.{text_line, json_line, line_as, row_line, listed, lines_of, key_line};
+ghost use Rattle.mst_commands.specs.Lines.{text_line, json_line, line_as, row_line, pair_within, lines_of, key_line};
 
 use crate::bounds::Listing;
 use crate::escape::{escape, json_string};
@@ -47,7 +47,7 @@ fn write_row<W: Write>(
     row: &(String, Register),
     listing: &Listing<'_>,
 ) -> Result<bool, Fault>
-    ensures shown { IfOk result (λ shown. shown ≡ is_some (listed listing.now.bounds row.now)) }
+    ensures shown { IfOk result (λ shown. shown ≡ is_some (pair_within listing.now.bounds row.now)) }
     ensures bytes { OnOk result (Appends (W.contents out.old) (W.contents out.new) (row_line listing.now row.now)) }
     ensures faults { IfErr result IsFailure }
 {
@@ -74,7 +74,7 @@ pub fn write_next<W: Write>(
     listing: &Listing<'_>,
     left: u64,
 ) -> Result<u64, Fault>
-    ensures left { IfOk result (λ after. after ≡ left - length (filter_map (listed listing.now.bounds) (row.now ∷ []))) }
+    ensures left { IfOk result (λ after. after ≡ left - length (filter_map (pair_within listing.now.bounds) (row.now ∷ []))) }
     ensures bytes { OnOk result (Appends (W.contents out.old) (W.contents out.new) (lines_of listing.now.bounds listing.now.json left (row.now ∷ []))) }
     ensures faults { IfErr result IsFailure }
 {

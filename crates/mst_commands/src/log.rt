@@ -54,6 +54,10 @@ fn write_entry<W: Write + Drop>(
 }
 
 /// Writes the entries of a log as CSV, and hands back the output.
+///
+/// # Errors
+///
+/// [`Fault::Device`], and [`Fault::Store`] for want of memory.
 pub fn write_log<W: Write + Drop>(
     alloc: Global,
     out: W,

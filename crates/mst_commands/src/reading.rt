@@ -13,12 +13,11 @@ use crate::records::{begin_pairs, finish, write_row};
 use sqlite_trees::store::Store;
 use std::alloc::Global;
 use std::io::Write;
-use store_table::latest;
 use store_table::log::Log;
 use store_table::reader::{begin, next_latest};
 use store_table::rows::Summary;
 use store_table::table::read_log;
-use store_table::{Register, StoreFault};
+use store_table::{Register, StoreFault, latest};
 
 /// The text of a key.
 fn text_of<S: Store>(alloc: Global, log: &mut Log<S>, key: &str) -> Result<Option<String>, Fault>
@@ -45,7 +44,7 @@ fn write_text<W: Write>(out: &mut W, text: &str) -> Result<(), Fault>
 ///
 /// # Errors
 ///
-/// [`Fault::NoKey`] where the key isn't there.
+/// [`Fault::NoKey`] where the key isn't there, [`Fault::Store`] and [`Fault::Device`]. Nothing is written to the file.
 pub fn get<S: Store, W: Write>(
     alloc: Global,
     log: &mut Log<S>,
@@ -66,6 +65,10 @@ pub fn get<S: Store, W: Write>(
 }
 
 /// Writes each key that the listing shows with its text, ascending by key. It takes the time of reading all rows, and memory for a few.
+///
+/// # Errors
+///
+/// [`Fault::Store`] and [`Fault::Device`], where the store, memory or the output fails. Nothing is written to the file.
 pub fn list<S: Store, W: Write>(
     alloc: Global,
     log: &mut Log<S>,
@@ -117,6 +120,10 @@ fn summed(summary: &Summary, row: &(String, Register)) -> Result<Summary, Fault>
 }
 
 /// What the file holds, in numbers, and how many rows its table has. It takes the time of reading all rows, and memory for a few.
+///
+/// # Errors
+///
+/// [`Fault::Store`], where the store or memory fails. Nothing is written to the file.
 pub fn sum_up<S: Store>(alloc: Global, log: &mut Log<S>) -> Result<(Summary, usize), Fault>
     ensures numbers { Finds S.Store log.old log.new result (λ trees sum. IsSummary trees sum.0) }
     ensures rows { Finds S.Store log.old log.new result (λ trees sum. sum.1 ≡ length (trees 0)) }
@@ -139,7 +146,11 @@ pub fn sum_up<S: Store>(alloc: Global, log: &mut Log<S>) -> Result<(Summary, usi
     Err(Fault::Store(StoreFault::Malformed))
 }
 
-/// Writes how many keys have a text, and a newline.
+/// Writes how many keys have a text, and a newline. It takes the time of reading all rows, and memory for a few.
+///
+/// # Errors
+///
+/// [`Fault::Store`] and [`Fault::Device`], where the store, memory or the output fails. Nothing is written to the file.
 pub fn count<S: Store, W: Write>(alloc: Global, log: &mut Log<S>, out: &mut W) -> Result<(), Fault>
     ensures written { Shows S.Store log.old log.new result (WritesCount W.contents out.old out.new) }
     ensures faults { IfErr result IsFailure }
@@ -166,7 +177,11 @@ fn status_lines(alloc: Global, summary: &Summary, rows: usize, name: &str) -> Re
     )?)
 }
 
-/// Writes the numbers of the file, a line each, and the name by which it writes.
+/// Writes the numbers of the file, a line each, and the name by which it writes. It takes the time of reading all rows, and memory for a few.
+///
+/// # Errors
+///
+/// [`Fault::Store`] and [`Fault::Device`], where the store, memory or the output fails. Nothing is written to the file.
 pub fn status<S: Store, W: Write>(
     alloc: Global,
     log: &mut Log<S>,
@@ -186,6 +201,10 @@ pub fn status<S: Store, W: Write>(
 
 /// Writes the keys that have a text, each with its text, as CSV, and hands back the output. It takes the time of reading all rows, and memory
 /// for a few.
+///
+/// # Errors
+///
+/// [`Fault::Store`] and [`Fault::Device`], where the store, memory or the output fails. Nothing is written to the file.
 pub fn export<S: Store, W: Write + Drop>(
     alloc: Global,
     log: &mut Log<S>,
@@ -208,6 +227,10 @@ pub fn export<S: Store, W: Write + Drop>(
 }
 
 /// Writes the log as CSV, a record for each row of the table, and hands back the output.
+///
+/// # Errors
+///
+/// [`Fault::Store`] and [`Fault::Device`], where the store, memory or the output fails. Nothing is written to the file.
 pub fn export_log<S: Store, W: Write + Drop>(
     alloc: Global,
     log: &mut Log<S>,

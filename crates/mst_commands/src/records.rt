@@ -212,6 +212,10 @@ fn read_next<R: Read>(reader: &mut Reader<R>, row: &mut StringRecord) -> Result<
 }
 
 /// The entries of a CSV behind its header: of a log as they are, else with the number of the record as the time.
+///
+/// # Errors
+///
+/// [`Fault::NoHeader`], [`Fault::BadLine`], [`Fault::Device`], and [`Fault::Store`] for want of memory.
 pub fn read_entries<R: Read + Drop>(alloc: Global, from: R, is_log: bool) -> Result<Entries, Fault>
     ensures read { IfOk result (λ entries. IfSome (R.remaining from) (λ bytes. HasEntries is_log bytes entries.items)) }
     ensures refused { IfErr result (IsImportRefused is_log (R.remaining from)) }

@@ -21,6 +21,10 @@ use store_table::table::{Entries, add_all};
 use store_table::{Register, StoreFault};
 
 /// Refuses a key or a value of more than 1 MiB.
+///
+/// # Errors
+///
+/// [`Fault::TooLong`] with the word for what it is.
 pub fn within(text: &str, what: &'static str) -> Result<(), Fault>
     ensures fits { OnOk result (length text.now ≤ MOST) }
     ensures long { IfErr result (λ why. IsTooLong why × MOST < length text.now) }
@@ -32,6 +36,10 @@ pub fn within(text: &str, what: &'static str) -> Result<(), Fault>
 }
 
 /// The text that an input has to its end.
+///
+/// # Errors
+///
+/// [`Fault::NotText`], [`Fault::Device`], and [`Fault::Store`] for want of memory.
 pub fn read_text<R: Read + Drop>(alloc: Global, from: R) -> Result<String, Fault>
     ensures fits { IfOk result (λ text. string_len text ≤ MOST) }
     ensures faults { IfErr result (λ why. why ≢ Fault.NotText → ¬ IsTooLong why → IsFailure why) }
@@ -49,6 +57,10 @@ pub fn read_text<R: Read + Drop>(alloc: Global, from: R) -> Result<String, Fault
 }
 
 /// Writes a value under a key.
+///
+/// # Errors
+///
+/// [`Fault::TooLong`], and [`Fault::Store`] where the store or memory fails. The file is then as it was.
 pub fn put_text<S: Store>(
     alloc: Global,
     log: &mut Log<S>,
@@ -78,7 +90,7 @@ pub fn put_text<S: Store>(
 ///
 /// # Errors
 ///
-/// [`Fault::NoKey`] where the key isn't there.
+/// [`Fault::NoKey`] where the key isn't there, and [`Fault::Store`]. The file is then as it was.
 pub fn del<S: Store>(
     alloc: Global,
     log: &mut Log<S>,
@@ -214,7 +226,8 @@ fn entries_to_add<S: Store>(
 ///
 /// # Errors
 ///
-/// [`Fault::NoHeader`] and [`Fault::BadLine`] name what is wrong in the CSV.
+/// [`Fault::NoHeader`] and [`Fault::BadLine`] name what is wrong in the CSV, [`Fault::Future`] that an entry of a log is later than `limit`;
+/// [`Fault::Store`] and [`Fault::Device`]. The file is then as it was.
 pub fn import<S: Store, R: Read + Drop>(
     alloc: Global,
     log: &mut Log<S>,

@@ -86,6 +86,10 @@ fn are_former(rows: &[Row]) -> bool
 }
 
 /// Refuses the rows of `sqlite_schema` that aren't those of a store.
+///
+/// # Errors
+///
+/// [`OpenFault::Format`] for those of a store in an earlier format, and [`OpenFault::Foreign`] for others.
 pub fn recognise(rows: &[Row]) -> Result<(), OpenFault>
     ensures { MatchResult result (λ _. Lists ENTRIES_SQL.now ABOUT_SQL.now rows.now) (Refuses rows.now) }
 {

@@ -81,6 +81,16 @@ fn named<D: Disk>(error: OpenError, before: Tally, left: &Unopened<D>) -> OpenFa
 }
 
 /// Opens the file of a store, and reads of it the header, the list of free pages and the list of tables.
+///
+/// ```rust crates/store_file/src/tests.rt
+/// let files = close_files(first)?;
+/// written?;
+/// let mut second = open(alloc, files)?;
+/// ```
+///
+/// # Errors
+///
+/// [`OpenFault`]: what the files are instead, a failure of the disk, or want of memory. Nothing is written.
 pub fn open<D: Disk + Drop>(alloc: Global, files: Files<D>) -> Result<FileStore<D>, OpenFault>
     requires log { IsTrue (D.Disk.is_usable files.log) }
     requires db { IsTrue (D.Disk.is_usable files.db) }
@@ -104,6 +114,16 @@ pub fn open<D: Disk + Drop>(alloc: Global, files: Files<D>) -> Result<FileStore<
 }
 
 /// Makes an empty store in files that hold nothing.
+///
+/// ```rust crates/store_file/src/tests.rt
+/// let mut first = create(alloc, blank(alloc))?;
+/// let written = fill(&rt, &mut first, &mut row);
+/// let files = close_files(first)?;
+/// ```
+///
+/// # Errors
+///
+/// [`OpenFault::Exists`] where they hold a database, a failure of the disk, or want of memory.
 pub fn create<D: Disk + Drop>(alloc: Global, files: Files<D>) -> Result<FileStore<D>, OpenFault>
     requires log { IsTrue (D.Disk.is_usable files.log) }
     requires db { IsTrue (D.Disk.is_usable files.db) }

@@ -17,7 +17,7 @@ use Rattle.sqlite_trees.specs.Tree.{IsAscending}
 use Rattle.sqlite_trees.proofs.ListLemmas.{ascending-get_or}
 use Rattle.store_table.specs.declared.register.Register.{Register}
 use Rattle.store_table.specs.Entries.{entry_order}
-use Rattle.store_table.specs.Reading.{Groups, with_entry, grouped, last_of}
+use Rattle.store_table.specs.Reading.{Groups, with_entry, groups_in, last_of}
 use Rattle.store_table.specs.Registers.{register_order}
 use Rattle.store_table.specs.Rows.{AreLatest, same_key}
 use Rattle.store_table.specs.contracts.register.RegisterOrd.TheImpl.Laws.{total-law}
@@ -28,7 +28,7 @@ abbrev Entry : Type 0
 Entry = Key × Register
 
 -- one entry more is taken in last
-pub grouped_more : (entries : List Entry) (entry : Entry) → grouped (entries ++ entry ∷ []) ≡ with_entry (grouped entries).0 (grouped entries).1 entry
+pub grouped_more : (entries : List Entry) (entry : Entry) → groups_in (entries ++ entry ∷ []) ≡ with_entry (groups_in entries).0 (groups_in entries).1 entry
 grouped_more entries entry = fold-append (λ (s : Groups) e. with_entry s.0 s.1 e) ([], None) entries (entry ∷ [])
 
 -- rows of one key are told apart from others alike
@@ -51,21 +51,21 @@ back : (x : Entry) (xs : List Entry) → reverse (x ∷ xs) ≡ reverse xs ++ x 
 back x xs = reverse-append (x ∷ []) xs
 
 -- what a reversed list keeps of each key, as groups
-split : (zs : List Entry) (a : Entry) → (tail : List Entry) × (dedup_from same_key a zs ≡ a ∷ tail) × (grouped (reverse (a ∷ zs)) ≡ (reverse tail, Some a))
+split : (zs : List Entry) (a : Entry) → (tail : List Entry) × (dedup_from same_key a zs ≡ a ∷ tail) × (groups_in (reverse (a ∷ zs)) ≡ (reverse tail, Some a))
 split [] a = ([], refl, refl)
 split (b ∷ zs) a = step (same_key b a) refl (split zs b)
   where
-    step : (p : Bool) → same_key b a ≡ p → (tail : List Entry) × (dedup_from same_key b zs ≡ b ∷ tail) × (grouped (reverse (b ∷ zs)) ≡ (reverse tail, Some b))
-        → (tail : List Entry) × (dedup_from same_key a (b ∷ zs) ≡ a ∷ tail) × (grouped (reverse (a ∷ b ∷ zs)) ≡ (reverse tail, Some a))
+    step : (p : Bool) → same_key b a ≡ p → (tail : List Entry) × (dedup_from same_key b zs ≡ b ∷ tail) × (groups_in (reverse (b ∷ zs)) ≡ (reverse tail, Some b))
+        → (tail : List Entry) × (dedup_from same_key a (b ∷ zs) ≡ a ∷ tail) × (groups_in (reverse (a ∷ b ∷ zs)) ≡ (reverse tail, Some a))
     step true h r =
-        let all = ap grouped (back a (b ∷ zs)) ∙ grouped_more (reverse (b ∷ zs)) a ∙ ap (λ (s : Groups). with_entry s.0 s.1 a) r.2 in
+        let all = ap groups_in (back a (b ∷ zs)) ∙ grouped_more (reverse (b ∷ zs)) a ∙ ap (λ (s : Groups). with_entry s.0 s.1 a) r.2 in
         (r.0, rw h (from_alike a b h zs r.0 r.1), all ∙ rw h refl)
     step false h r =
-        let all = ap grouped (back a (b ∷ zs)) ∙ grouped_more (reverse (b ∷ zs)) a ∙ ap (λ (s : Groups). with_entry s.0 s.1 a) r.2 in
+        let all = ap groups_in (back a (b ∷ zs)) ∙ grouped_more (reverse (b ∷ zs)) a ∙ ap (λ (s : Groups). with_entry s.0 s.1 a) r.2 in
         let turned_back = ap (λ (l : List Entry). (l, Some a)) (sym (back b r.0)) in
         (b ∷ r.0, rw h (ap (λ l. a ∷ l) r.1), all ∙ rw h turned_back)
 
-last_kept : (zs : List Entry) → last_of (grouped (reverse zs)) ≡ reverse (dedup same_key zs)
+last_kept : (zs : List Entry) → last_of (groups_in (reverse zs)) ≡ reverse (dedup same_key zs)
 last_kept [] = refl
 last_kept (a ∷ zs) = let r = split zs a in ap last_of r.2 ∙ sym (back a r.0) ∙ ap reverse (sym r.1)
 
@@ -75,12 +75,12 @@ sorted_ascending es up k d low inside =
     turned entry_order entry_order_total (get_or es k d) (get_or es (k + 1) d) ∙ ap is_gt below
 
 -- of entries that ascend, the last of each key are the latest
-pub last_latest : (es : List Entry) → IsAscending (λ a b. entry_order a b ≡ Less) es → AreLatest es (last_of (grouped es))
+pub last_latest : (es : List Entry) → IsAscending (λ a b. entry_order a b ≡ Less) es → AreLatest es (last_of (groups_in es))
 last_latest es up =
     let ties = λ (a b : Entry). sym (is_eq-slice_cmp (string_bytes a.0) (string_bytes b.0)) in
     let same = IsPermutation-refl es in
     let sorted = sorted_ascending es up in
-    let kept : reverse (dedup same_key (reverse es)) ≡ last_of (grouped es) = sym (last_kept (reverse es)) ∙ ap (λ (l : List Entry). last_of (grouped l)) (reverse-reverse es) in
+    let kept : reverse (dedup same_key (reverse es)) ≡ last_of (groups_in es) = sym (last_kept (reverse es)) ∙ ap (λ (l : List Entry). last_of (groups_in l)) (reverse-reverse es) in
     subst (AreLatest es) kept (record {
       ascending = rows_ascend text_order string_cmp_total register_order total-law same_key ties es es same sorted;
       taken = rows_taken text_order string_cmp_total register_order total-law same_key ties es es same sorted;

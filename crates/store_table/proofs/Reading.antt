@@ -13,7 +13,7 @@ use Rattle.store_table.specs.declared.register.Register.{Register}
 use Rattle.store_table.specs.declared.reader.Walk.{Walk}
 use Rattle.store_table.specs.Entries.{entry_row, HoldsEntries}
 use Rattle.store_table.specs.Logs.{IsClean, IsSteady, LeavesNoMore, trees_of}
-use Rattle.store_table.specs.Reading.{Groups, Takes, EndsGroup, grouped, with_entry, last_of, IsRead, IsAtEnd, IsWalked, ReadsOn, ReadsAll}
+use Rattle.store_table.specs.Reading.{Groups, Takes, EndsGroup, groups_in, with_entry, last_of, IsRead, IsAtEnd, IsWalked, ReadsOn, ReadsAll}
 use Rattle.store_table.specs.Rows.{AreLatest, HasLatestRows}
 use Rattle.store_table.specs.Walks.{StaysBut}
 use Rattle.store_table.proofs.Grouping.{grouped_more, last_latest}
@@ -75,15 +75,15 @@ module _ {S : Type 0} (g : Ghosts S) where
     groups = λ clean. inl (by (taken clean) (was.groups (omega (arith, steady.clean, clean))));
   }
     where
-      by : Takes (g.view old) (g.view new) (Some entry) → (grouped was.seen ≡ (given, before.ahead)) ⊎ IsAtEnd g start old before was.seen given → grouped (was.seen ++ entry ∷ []) ≡ (given ++ cons_option ended [], after.ahead)
+      by : Takes (g.view old) (g.view new) (Some entry) → (groups_in was.seen ≡ (given, before.ahead)) ⊎ IsAtEnd g start old before was.seen given → groups_in (was.seen ++ entry ∷ []) ≡ (given ++ cons_option ended [], after.ahead)
       by took (inl is) = grouped_more was.seen entry ∙ ap (λ (s : Groups). with_entry s.0 s.1 entry) is ∙ ends given
       by took (inr end) = absurd (none_left (entry_row entry) took.0 (sym end.over ∙ took.1))
 
   -- what a walk has handed out, with the latest entry of the key that it is at, is the last of each key
-  handed_out : (start now : S) (walk : Walk) (given : List (Key × Register)) (was : IsWalked g start now walk given) → IsClean g now → given ++ cons_option walk.ahead [] ≡ last_of (grouped was.seen)
+  handed_out : (start now : S) (walk : Walk) (given : List (Key × Register)) (was : IsWalked g start now walk given) → IsClean g now → given ++ cons_option walk.ahead [] ≡ last_of (groups_in was.seen)
   handed_out start now walk given was clean = by (was.groups clean)
     where
-      by : (grouped was.seen ≡ (given, walk.ahead)) ⊎ IsAtEnd g start now walk was.seen given → given ++ cons_option walk.ahead [] ≡ last_of (grouped was.seen)
+      by : (groups_in was.seen ≡ (given, walk.ahead)) ⊎ IsAtEnd g start now walk was.seen given → given ++ cons_option walk.ahead [] ≡ last_of (groups_in was.seen)
       by (inl is) = sym (ap last_of is)
       by (inr end) = ap (λ (o : Option (Key × Register)). given ++ cons_option o []) end.none ∙ append-nil given ∙ end.all
 
@@ -103,7 +103,7 @@ module _ {S : Type 0} (g : Ghosts S) where
       → IsWalked g start old before given → HasLatestRows (trees_of g start) given × (before.count ≡ length (trees_of g start 0))
   walks_all start old new before given clean steady all none was =
       let held = all clean start was.seen was.read in
-      let is : given ≡ last_of (grouped was.seen) = sym (append-nil given) ∙ ap (λ (o : Option (Key × Register)). given ++ cons_option o []) (sym none) ∙ handed_out start old before given was (omega (arith, steady.clean, clean)) in (
+      let is : given ≡ last_of (groups_in was.seen) = sym (append-nil given) ∙ ap (λ (o : Option (Key × Register)). given ++ cons_option o []) (sym none) ∙ handed_out start old before given was (omega (arith, steady.clean, clean)) in (
         (was.seen, held, subst (AreLatest was.seen) (sym is) (last_latest was.seen held.ascending)),
         was.count ∙ sym (length-map was.seen entry_row) ∙ ap length (sym held.rows),
       )

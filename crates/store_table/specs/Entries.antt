@@ -42,9 +42,9 @@ abbrev pub note_row : ℤ → List ℕ → List ℕ → Row
 note_row format writer hash_key = Int (pos 1) ∷ Null ∷ Int format ∷ Words writer ∷ Blob hash_key ∷ []
 
 -- what a row of the table that says the format notes
-abbrev pub noted : Row → Row
-noted row = column row 2 ∷ column row 3 ∷ column row 4 ∷ []
+abbrev pub note_in : Row → Row
+note_in row = column row 2 ∷ column row 3 ∷ column row 4 ∷ []
 
 -- that table has one row, with this format, this writer and this hash key
 abbrev pub IsNoted : Trees → ℤ → List ℕ → List ℕ → Type 0
-IsNoted trees format writer hash_key = map noted (trees 1) ≡ (Int format ∷ Words writer ∷ Blob hash_key ∷ []) ∷ []
+IsNoted trees format writer hash_key = map note_in (trees 1) ≡ (Int format ∷ Words writer ∷ Blob hash_key ∷ []) ∷ []

@@ -27,8 +27,8 @@ with_entry given None entry = (given, Some entry)
 with_entry given (Some last) entry = if same_key last entry then (given, Some entry) else (given ++ last ∷ [], Some entry)
 
 -- the groups of entries that ascend
-abbrev pub grouped : List (Key × Register) → Groups
-grouped entries = fold (λ (s : Groups) entry. with_entry s.0 s.1 entry) ([], None) entries
+abbrev pub groups_in : List (Key × Register) → Groups
+groups_in entries = fold (λ (s : Groups) entry. with_entry s.0 s.1 entry) ([], None) entries
 
 -- the last entry of each key
 abbrev pub last_of : Groups → List (Key × Register)
@@ -51,14 +51,14 @@ module _ {S : Type 0} (g : Ghosts S) (start now : S) where
   pub record IsAtEnd (walk : Walk) (entries given : List (Key × Register)) : Type 0 where
     pub over : (g.view now).cursors 0 ≡ Some []
     pub none : walk.ahead ≡ None
-    pub all : given ≡ last_of (grouped entries)
+    pub all : given ≡ last_of (groups_in entries)
 
   -- a walk that began in `start` has handed out these rows, the latest of the keys so far, and nothing else has changed
   pub record IsWalked (walk : Walk) (given : List (Key × Register)) : Type 0 where
     pub seen : List (Key × Register)
     pub read : IsRead seen
     pub count : walk.count ≡ length seen
-    pub groups : IsClean g now → (grouped seen ≡ (given, walk.ahead)) ⊎ IsAtEnd walk seen given
+    pub groups : IsClean g now → (groups_in seen ≡ (given, walk.ahead)) ⊎ IsAtEnd walk seen given
 
 module _ {S : Type 0} (g : Ghosts S) (old new : S) where
   -- each walk that was in `old` has read this entry too, where there is one

@@ -4,7 +4,7 @@ ghost use Rattle.sqlite_trees.specs.View.{OnlyWrites};
 ghost use Rattle.sqlite_value.specs.Value.{owned};
 ghost use Rattle.sqlite_value.specs.declared.value.Value.TheVariants.{Blob, Int, Text};
 ghost use Rattle.store_table.specs.Changes.{IsBlank, IsNewStore, HasNoteMore};
-ghost use Rattle.store_table.specs.Entries.{noted, note_row};
+ghost use Rattle.store_table.specs.Entries.{note_in, note_row};
 ghost use Rattle.store_table.specs.Notes.{Notes};
 ghost use Rattle.store_table.specs.Faults.{IsFailure, IsForeign};
 ghost use Rattle.store_table.specs.Logs.{HasTables, IsLog, IsClean, IsSteady, Finds, Makes, Refuses, StaysInOk, StaysInErr, Leaves, LeavesNoMore};
@@ -86,7 +86,7 @@ fn hash_key_in(value: ValueRef<'_>) -> Result<[u8; HASH_KEY_LEN], StoreFault>
 
 /// What a row notes.
 fn note_of(alloc: Global, row: &Row) -> Result<Note, StoreFault>
-    ensures note { IfOk result (λ note. noted row.now ≡ Int note.format ∷ Text (string_bytes note.writer) ∷ Blob note.hash_key ∷ []) }
+    ensures note { IfOk result (λ note. note_in row.now ≡ Int note.format ∷ Text (string_bytes note.writer) ∷ Blob note.hash_key ∷ []) }
     ensures failed { IfErr result IsFailure }
 {
     let format = number_in(row.get(2))?;
@@ -134,6 +134,13 @@ pub fn about<S: Store>(alloc: Global, log: &mut Log<S>) -> Result<Note, StoreFau
 }
 
 /// What the store says of itself, where it is in this format. It takes the time of reading one row.
+///
+/// ```rust crates/mst/src/tasks.rt
+/// let note = recognise(rt.alloc(), log)?;
+/// if verb == Verb::Shell {
+///     return shell::run_lines(rt, log, &note);
+/// }
+/// ```
 ///
 /// # Errors
 ///
@@ -240,6 +247,12 @@ fn commit_note<S: Store>(
 }
 
 /// Makes a store of tables without rows, which writes by this name and hashes under this key, or nothing. It takes the time of one transaction.
+///
+/// ```rust crates/mst/src/files.rt
+/// let made = create(rt.alloc(), &mut log, writer, hash_key);
+/// log.close_all()?;
+/// Ok(made?)
+/// ```
 ///
 /// # Errors
 ///

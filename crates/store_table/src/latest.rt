@@ -73,6 +73,11 @@ fn last_register<S: Store>(
 /// The latest register that the log has for a key, if it has one: a removal too. It takes the time of one look into a tree, logarithmic in the
 /// log, and memory for one row.
 ///
+/// ```rust crates/mst_commands/src/reading.rt
+/// let found = latest::find(alloc, log, key)?;
+/// Ok(latest::text_of(found))
+/// ```
+///
 /// # Errors
 ///
 /// [`StoreFault::Database`], [`StoreFault::Malformed`] and [`StoreFault::Memory`]. Nothing is written.
@@ -148,6 +153,11 @@ fn write_over<S: Store>(
 
 /// Writes a text under a key, at the clock's time, or one above the time of what is there.
 ///
+/// ```rust crates/mst_commands/src/writing.rt
+/// let writer = String::from_str(alloc, writer)?;
+/// put(alloc, log, writer, now, key, text)?;
+/// ```
+///
 /// # Errors
 ///
 /// [`StoreFault::Time`] where the database can't hold that time, [`StoreFault::Database`], [`StoreFault::Malformed`] and
@@ -183,6 +193,11 @@ fn has_text(found: &Option<Register>) -> bool
 }
 
 /// Removes a key, and answers whether it was there. Where it was not, nothing is written.
+///
+/// ```rust crates/mst_commands/src/writing.rt
+/// let there = remove(alloc, log, writer, now, key)?;
+/// if there { Ok(()) } else { Err(Fault::NoKey) }
+/// ```
 ///
 /// # Errors
 ///

@@ -5,7 +5,7 @@ use Rattle.merkle_delta.specs.declared.catching_up.Next.TheVariants.{Ask, Came}
 use Rattle.merkle_replica.proofs.Sides.{same_side}
 use Rattle.merkle_replica.specs.Contents.{side}
 use Rattle.store_table.specs.WireRegisters.{register_encoding}
-use Rattle.merkle_store.specs.Framing.{framed}
+use Rattle.merkle_store.specs.Framing.{frame_of}
 use Rattle.merkle_store.specs.Sessions.{entry_laws, key_encoding}
 use Rattle.merkle_store.proofs.Exchanged.{comes_to, goes_on, has_begun}
 use Rattle.merkle_store.proofs.pulling.entries_of_peer.Goals as goal
@@ -30,7 +30,7 @@ returns-in-Came-clause-came g c =
     let is = subst (λ s. IsNext entry_laws 16 key_encoding register_encoding s c.messages.session reply (Came c.in-Came.entries)) (same_side local c.messages.replica inv.rows inv.settings) of_reply in
     comes_to local c.args.most (g.W.Write.contents c.args.to.now, g.R.Read.remaining c.args.from.now) (g.W.Write.contents c.messages.to, g.R.Read.remaining c.messages.from)
     (g.W.Write.contents c.ask.new.to, g.R.Read.remaining c.ask.new.from) c.messages.session c.messages.message reply inv.come
-    (subst (λ m. Appends (g.W.Write.contents c.messages.to) (g.W.Write.contents c.ask.new.to) (framed m)) c.deref.ensures.value c.in_ok-reply.ensures.sent) c.in_ok-reply.ensures.came c.in_ok-reply.ensures.fits c.in-Came.entries is
+    (subst (λ m. Appends (g.W.Write.contents c.messages.to) (g.W.Write.contents c.ask.new.to) (frame_of m)) c.deref.ensures.value c.in_ok-reply.ensures.sent) c.in_ok-reply.ensures.came c.in_ok-reply.ensures.fits c.in-Came.entries is
 
 pub messages-preserved : goal.messages-preserved
 messages-preserved g c =
@@ -45,7 +45,7 @@ messages-preserved g c =
     record {
       come = goes_on local c.args.most (g.W.Write.contents c.args.to.now, g.R.Read.remaining c.args.from.now) (g.W.Write.contents c.messages.to, g.R.Read.remaining c.messages.from)
           (g.W.Write.contents c.ask.new.to, g.R.Read.remaining c.ask.new.from) c.messages.session c.messages.message reply inv.come
-          (subst (λ m. Appends (g.W.Write.contents c.messages.to) (g.W.Write.contents c.ask.new.to) (framed m)) c.deref.ensures.value c.in_ok-reply.ensures.sent) c.in_ok-reply.ensures.came c.in_ok-reply.ensures.fits c.in-Ask.next c.in-Ask.question is;
+          (subst (λ m. Appends (g.W.Write.contents c.messages.to) (g.W.Write.contents c.ask.new.to) (frame_of m)) c.deref.ensures.value c.in_ok-reply.ensures.sent) c.in_ok-reply.ensures.came c.in_ok-reply.ensures.fits c.in-Ask.next c.in-Ask.question is;
       rows = c.take.ensures.rows ∙ inv.rows;
       settings = (c.take.ensures.settings.0 ∙ inv.settings.0, c.take.ensures.settings.1 ∙ inv.settings.1, c.take.ensures.settings.2 ∙ inv.settings.2);
     }

@@ -10,7 +10,7 @@ use Rattle.merkle_replica.specs.Contents.{tree_map}
 use Rattle.merkle_tree_theory.specs.Canonical.{IsCanonicalRoot, IsTreeOf}
 use Rattle.merkle_tree_theory.specs.State.{SameSettings}
 use Rattle.store_table.specs.WireRegisters.{register_encoding}
-use Rattle.merkle_store.specs.Framing.{HasCome, framed}
+use Rattle.merkle_store.specs.Framing.{HasCome, frame_of}
 use Rattle.merkle_store.specs.Sessions.{entry_laws, key_encoding}
 use Rattle.merkle_store.proofs.Exchanged.{has_served_more}
 use Rattle.merkle_store.proofs.pulling.serve.Goals as goal
@@ -41,7 +41,7 @@ messages-preserved g c =
       served = has_served_more replica c.args.most (g.W.Write.contents c.args.to.now, g.R.Read.remaining c.args.from.now) (g.W.Write.contents c.messages.to, g.R.Read.remaining c.messages.from)
           (g.W.Write.contents c.send.new.out, g.R.Read.remaining c.receive.new.from) message reply inv.served replies (search rules)
           (subst (HasCome (g.R.Read.remaining c.messages.from) (g.R.Read.remaining c.receive.new.from)) c.in-Some.is c.in_ok-message.ensures.came)
-          (subst (λ m. Appends (g.W.Write.contents c.messages.to) (g.W.Write.contents c.send.new.out) (framed m)) c.deref-in-Ok.ensures.value c.in_ok-send-in-Ok.ensures.sent);
+          (subst (λ m. Appends (g.W.Write.contents c.messages.to) (g.W.Write.contents c.send.new.out) (frame_of m)) c.deref-in-Ok.ensures.value c.in_ok-send-in-Ok.ensures.sent);
       rows = rows;
       settings = settings;
       file = inv.file;
