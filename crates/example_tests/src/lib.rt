@@ -12,6 +12,7 @@ mod meeting;
 #[cfg(test)]
 mod messages;
 #[cfg(test)]
+mod one_tree;
 mod outlines;
 #[cfg(test)]
 mod readme;

@@ -1,4 +1,6 @@
-pub mod Outcomes
-pub mod Told
+pub mod EqualSets
 pub mod GossipSessions
+pub mod Outcomes
+pub mod RemovedKeys
 pub mod ThroughHub
+pub mod Told
