@@ -1,11 +1,11 @@
 //! The format of a store's file: how it is made, and how it is recognised.
-ghost use Rattle.std.specs.Prelude.{◌≡◌, [], ◌∷◌, true, false, string_bytes, IfOk, IfErr, OnOk};
+ghost use Rattle.std.specs.Prelude.{◌≡◌, ◌≢◌, ◌⊎◌, ℤ, [], ◌∷◌, true, false, string_bytes, IfOk, IfErr, OnOk, MatchResult};
 ghost use Rattle.sqlite_trees.specs.View.{OnlyWrites};
 ghost use Rattle.sqlite_value.specs.Value.{owned};
 ghost use Rattle.sqlite_value.specs.declared.value.Value.TheVariants.{Blob, Int, Text};
 ghost use Rattle.store_table.specs.Changes.{IsBlank, IsNewStore, HasNoteMore};
 ghost use Rattle.store_table.specs.Entries.{note_in, note_row};
-ghost use Rattle.store_table.specs.Notes.{Notes};
+ghost use Rattle.store_table.specs.Notes.{IsOtherStore, Notes, NotesFormat};
 ghost use Rattle.store_table.specs.Faults.{IsFailure, IsForeign};
 ghost use Rattle.store_table.specs.Logs.{HasTables, IsLog, IsClean, IsSteady, Finds, Makes, Refuses, StaysInOk, StaysInErr, Leaves, LeavesNoMore};
 ghost use Rattle.store_table.specs.Transactions.{CommitsNothing, IsTransaction};
@@ -104,6 +104,7 @@ fn read_note<S: Store>(alloc: Global, trees: &mut S) -> Result<Note, StoreFault>
     requires tables { IsClean S.Store trees.old → HasTables (S.Store.view trees.old) }
     ensures noted { Finds S.Store trees.old trees.new result Notes }
     ensures foreign { Refuses S.Store trees.old trees.new result StoreFault.Foreign IsForeign }
+    ensures faults { IfErr result (λ why. why ≢ StoreFault.Foreign → IsFailure why) }
     ensures same { MakesView S.Store trees.old trees.new result StaysBut }
     ensures uncommitted { CommitsNothing S.Store trees.old trees.new }
 {
@@ -124,6 +125,7 @@ fn read_note<S: Store>(alloc: Global, trees: &mut S) -> Result<Note, StoreFault>
 pub fn about<S: Store>(alloc: Global, log: &mut Log<S>) -> Result<Note, StoreFault>
     ensures noted { Finds S.Store log.old log.new result Notes }
     ensures foreign { Refuses S.Store log.old log.new result StoreFault.Foreign IsForeign }
+    ensures faults { IfErr result (λ why. why ≢ StoreFault.Foreign → IsFailure why) }
     ensures unchanged { StaysInOk S.Store log.old log.new result }
     ensures refused { StaysInErr S.Store log.old log.new result }
     ensures steady { IsSteady S.Store log.old log.new }
@@ -131,6 +133,17 @@ pub fn about<S: Store>(alloc: Global, log: &mut Log<S>) -> Result<Note, StoreFau
 {
     let read = read_note(alloc, &mut log.trees);
     settled(&mut log.trees, read)
+}
+
+/// The note, where it has this program's format.
+fn in_format(note: Note) -> Result<Note, StoreFault>
+    ensures { MatchResult result (λ it. (it ≡ note) × (note.format ≡ FORMAT)) (λ why. (why ≡ StoreFault.Format note.format) × (note.format ≢ FORMAT)) }
+{
+    if note.format == FORMAT {
+        Ok(note)
+    } else {
+        Err(StoreFault::Format(note.format))
+    }
 }
 
 /// What the store says of itself, where it is in this format. It takes the time of reading one row.
@@ -149,16 +162,15 @@ pub fn recognise<S: Store>(alloc: Global, log: &mut Log<S>) -> Result<Note, Stor
     ensures noted { Finds S.Store log.old log.new result Notes }
     ensures format { IfOk result (λ note. note.format ≡ FORMAT) }
     ensures foreign { Refuses S.Store log.old log.new result StoreFault.Foreign IsForeign }
+    ensures other { (n : ℤ) → Refuses S.Store log.old log.new result (StoreFault.Format n) (NotesFormat n) }
+    ensures faults { IfErr result (λ why. IsFailure why ⊎ IsOtherStore why) }
     ensures unchanged { StaysInOk S.Store log.old log.new result }
     ensures refused { StaysInErr S.Store log.old log.new result }
     ensures steady { IsSteady S.Store log.old log.new }
     ensures crash { LeavesNoMore S.Store log.old log.new }
 {
     let note = about(alloc, log)?;
-    if note.format != FORMAT {
-        return Err(StoreFault::Format(note.format));
-    }
-    Ok(note)
+    in_format(note)
 }
 
 /// Makes a row the note of this format, this writer and this hash key.
