@@ -11,5 +11,5 @@ returns-clause-kept g c clean =
     let note = c.in_ok-note.note in
     let early : IsClean g.S.Store c.recognise.new.log = omega (arith, c.read_replica.ensures.steady.clean, clean) in
     let noted : Notes (trees_of g.S.Store c.recognise.new.log) note = subst (λ (trees : Trees). Notes trees note) (sym (c.in_ok-note.ensures.unchanged early)) (c.in_ok-note.ensures.noted early) in
-    let about = subst (λ (format : ℤ). IsNoted (trees_of g.S.Store c.recognise.new.log) format (string_bytes note.writer) note.hash_key) c.in_ok-note.ensures.format note_in in
+    let about = subst (λ (format : ℤ). IsNoted (trees_of g.S.Store c.recognise.new.log) format (string_bytes note.writer) note.hash_key) c.in_ok-note.ensures.format noted in
     subst (λ (trees : Trees). AreInStep (string_bytes note.writer) trees c.in_ok-replica.replica.rows) (sym (c.in_ok-replica.ensures.unchanged clean)) (c.in_ok-replica.ensures.kept clean _ _ about)
