@@ -13,6 +13,7 @@ mod meeting;
 mod messages;
 #[cfg(test)]
 mod one_tree;
+#[cfg(test)]
 mod outlines;
 #[cfg(test)]
 mod readme;
