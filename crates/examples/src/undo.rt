@@ -17,16 +17,15 @@ fn keys_have_laws<K: Key>()
     ensures clones { (a b : K) → K.is_clone a b → Same K.cmp a b }
 {}
 
-/// Sets a new key, and takes it out again.
+/// Sets a key, and takes it out again.
 #[tactic(auto, using(crate::proofs::RemovedKeys::undo_rules))]
 fn undo<K: Key + Drop, V: Eq + Drop, H: Hasher<N, K> + Hasher<N, V>, const N: usize>(
     tree: &mut MerkleSearchTree<K, V, H, N>,
     key: K,
     value: &V,
 ) -> Result<(), AllocError>
-    requires new { has_key K.cmp (map_of tree.old) key ≡ false }
-    ensures map { OnOk result (map_of tree.new ≡ map_of tree.old) }
-    ensures same { OnOk result (SameMap K.cmp (λ d e. d ≡ e) (map_of tree.old) (map_of tree.new)) }
+    ensures map { has_key K.cmp (map_of tree.old) key ≡ false → OnOk result (map_of tree.new ≡ map_of tree.old) }
+    ensures same { has_key K.cmp (map_of tree.old) key ≡ false → OnOk result (SameMap K.cmp (λ d e. d ≡ e) (map_of tree.old) (map_of tree.new)) }
     ensures settings { OnOk result (SameSettings tree.old tree.new) }
 {
     keys_have_laws::<K>();
@@ -36,7 +35,7 @@ fn undo<K: Key + Drop, V: Eq + Drop, H: Hasher<N, K> + Hasher<N, V>, const N: us
     Ok(())
 }
 
-/// Sets a new key, and takes it out again: the tree has the map and, apart from caches, the pages that it had.
+/// Sets a key, and takes it out again: if it was new, the tree has the map and, apart from caches, the pages that it had.
 ///
 /// # Errors
 ///
@@ -46,9 +45,8 @@ pub fn set_and_remove<K: Key + Drop, V: Eq + Drop, H: Hasher<N, K> + Hasher<N, V
     key: K,
     value: &V,
 ) -> Result<(), AllocError>
-    requires new { has_key K.cmp (map_of tree.old) key ≡ false }
-    ensures map { OnOk result (map_of tree.new ≡ map_of tree.old) }
-    ensures pages { OnOk result (SamePages K.cmp tree.old.root tree.new.root) }
+    ensures map { has_key K.cmp (map_of tree.old) key ≡ false → OnOk result (map_of tree.new ≡ map_of tree.old) }
+    ensures pages { has_key K.cmp (map_of tree.old) key ≡ false → OnOk result (SamePages K.cmp tree.old.root tree.new.root) }
 {
     a_map_has_one_tree::<K, H, N>();
     every_tree_is_sound(tree);
