@@ -22,6 +22,8 @@ SECONDS = 60
 CORPUS = f"{os.path.dirname(os.path.realpath(__file__))}/store_corpus.txt"
 # Bytes of an input that may be kept.
 SMALL = 2000
+# The hash key of both stores, and the time of their first entry: digests are the same in each run, so that kept messages stay what they are.
+HASH_KEY, BEGUN = "0" * 32, 1_700_000_000_000
 csv.field_size_limit(1 << 30)
 KINDS = {"questions": ["serve"], "replies": ["pull"], "differences": ["diff"], "rows": ["import"], "log": ["import", "--log"], "lines": ["shell"],
          "file": None}
@@ -44,21 +46,36 @@ class Driver:
         self.path, self.room = path, tempfile.TemporaryDirectory()
         self.own, self.peer, self.tried = f"{self.room.name}/own.db", f"{self.room.name}/peer.db", f"{self.room.name}/tried.db"
         chosen = random.Random(1)
-        lines = {store: b"".join(b"put k%d v%d\n" % (key, chosen.randrange(9)) for key in sorted(chosen.sample(range(90), 80))) + b"del k45\n"
-                 for store in (self.own, self.peer)}
-        for store, put in lines.items():
-            self.run(["init", store, os.path.basename(store)])
-            self.run(["shell", store], put)
-        self.lines = lines[self.own]
+        for store in (self.own, self.peer):
+            rows = [(f"k{key}", f"v{chosen.randrange(9)}") for key in sorted(chosen.sample(range(70), 60))]
+            self.make(store, rows)
+            if store == self.own:
+                self.lines = "".join(f"put {key} {value}\n" for key, value in rows).encode() + b"del k45\n"
         self.questions, self.replies = self.recorded()
-        self.rows = self.run(["export", self.peer])[1]
-        self.log = self.run(["export", self.peer, "--log"])[1]
+        self.rows = self.well(["export", self.peer])
+        self.log = self.well(["export", self.peer, "--log"])
         self.entries = self.entries_of(self.own)
         self.least = {}
+        self.take_recorded()
 
     def run(self, words, put=b""):
         done = subprocess.run([self.path, *words], input=put, capture_output=True, timeout=SECONDS)
         return done.returncode, done.stdout, done.stderr
+
+    def well(self, words, put=b""):
+        """What a run has written that has to succeed."""
+        status, written, said = self.run(words, put)
+        assert status == 0, f"{words}: status {status}, {said}"
+        return written
+
+    def make(self, store, rows):
+        """Makes a store of these rows, each a millisecond behind the one before, and a removal."""
+        name = os.path.basename(store)
+        entries = [(key, BEGUN + number, name, "put", value) for number, (key, value) in enumerate(rows)]
+        log = io.StringIO(newline="")
+        csv.writer(log).writerows([["key", "time", "writer", "change", "value"], *entries, ("k45", BEGUN + len(rows), name, "del", "")])
+        self.well(["init", store, name, "--hash-key", HASH_KEY])
+        self.well(["import", store, "--log"], log.getvalue().encode())
 
     def recorded(self):
         """The questions and the replies of a pull, as both sides sent them."""
@@ -78,9 +95,19 @@ class Driver:
         back.start()
         carry(pull, serve)
         back.join()
-        pull.wait()
-        serve.wait()
+        assert (pull.wait(), serve.wait()) == (0, 0), "a pull without a fault"
+        assert len(heard[pull]) == len(heard[serve]) > 2, f"a pull of {len(heard[pull])} questions and {len(heard[serve])} replies"
         return heard[pull], heard[serve]
+
+    def take_recorded(self):
+        """The recorded messages are taken as they are: the questions are answered, and the replies bring and tell entries."""
+        for kind, messages in [("questions", self.questions), ("replies", self.replies), ("differences", self.replies)]:
+            self.fresh()
+            shutil.copyfile(self.own, self.tried)
+            status, written, said = self.run([*KINDS[kind][:1], self.tried], framed(messages))
+            more = set(self.entries_of(self.tried)) - set(self.entries)
+            assert status == 0 and (written != b"") and bool(more) == (kind == "replies"), f"{kind} as they were recorded: {status}, {said}"
+            assert kind != "differences" or said.count(b"\n") > 2, f"a diff of recorded replies: {said}"
 
     def entries_of(self, store):
         """The entries of a store's log, or None where it isn't read."""
@@ -133,6 +160,10 @@ class Driver:
             file.write("# Inputs of `mst` from which tests/fuzz begins: the kind, and hexadecimal digits. Made by tests/fuzz --keep.\n")
             file.writelines(f"{kind} {given}\n" for kind, given in kept)
         return len(kept)
+
+    def idle(self, kept):
+        """How many of the kept inputs are answered as lesser ones are, so that they reach nothing of their own."""
+        return len(set(kept) - {(kind, given) for (kind, _), given in self.least.items()})
 
     def fresh(self):
         """Takes away what the run before has left."""
