@@ -1,6 +1,7 @@
 /* Stops the program at the call on a file whose number is in STOP_AT, the first being 1, where STOP_HOW says how: 'before' and 'after' end
-   the process beside the call, 'half' in the middle of a write, and 'refuse' fails the call, and with STOP_LATER all later ones too. It
-   writes at the end to STOP_COUNT how many such calls came. It is preloaded by tests/store_faults. */
+   the process beside the call, 'half' in the middle of a write, 'refuse' fails the call, and 'full' fails it for want of room; these two
+   with STOP_LATER fail all later ones too. It writes at the end to STOP_COUNT how many such calls came. It is preloaded by
+   tests/store_faults. */
 #define _GNU_SOURCE
 #include <dlfcn.h>
 #include <errno.h>
@@ -30,18 +31,21 @@ static int is_file(int file) {
 
 static void end_here(void) { raise(SIGKILL); }
 
+static int is_full(void) { return !strcmp(how, "full"); }
+
 /* 0: as ever, 1: refused, 2: this is the call */
 static int turn(void) {
     calls++;
-    if (at && calls > at && later && !strcmp(how, "refuse")) return 1;
+    int refuses = !strcmp(how, "refuse") || is_full();
+    if (at && calls > at && later && refuses) return 1;
     if (!at || calls != at) return 0;
-    if (!strcmp(how, "refuse")) return 1;
+    if (refuses) return 1;
     if (!strcmp(how, "before")) end_here();
     return 2;
 }
 
 #define NEXT(name) __typeof__(&name) next = (__typeof__(&name))dlsym(RTLD_NEXT, #name)
-#define REFUSED (errno = EIO, -1)
+#define REFUSED (errno = is_full() ? ENOSPC : EIO, -1)
 #define AS_EVER(call) { __typeof__(call) done = call; if (t == 2) end_here(); return done; }
 
 ssize_t pwrite64(int file, const void *from, size_t size, off64_t place) {
