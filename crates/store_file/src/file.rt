@@ -90,7 +90,7 @@ fn named<D: Disk>(error: OpenError, before: Tally, left: &Unopened<D>) -> OpenFa
 ///
 /// # Errors
 ///
-/// [`OpenFault`]: what the files are instead, a failure of the disk, or want of memory. Nothing is written.
+/// [`OpenFault`]: what the files are instead, a failure of the disk, or want of memory. By the code, and by no clause, nothing is written.
 pub fn open<D: Disk + Drop>(alloc: Global, files: Files<D>) -> Result<FileStore<D>, OpenFault>
     requires log { IsTrue (D.Disk.is_usable files.log) }
     requires db { IsTrue (D.Disk.is_usable files.db) }
@@ -181,7 +181,8 @@ pub(crate) fn close_any<D: Disk + Drop>(store: FileStore<D>) -> Result<(Files<D>
 /// # Errors
 ///
 /// [`StoreError::Full`] and [`StoreError::Io`] where the log can't be copied, [`StoreError::OutOfMemory`], [`StoreError::Corrupt`], and
-/// [`StoreError::Broken`] where an earlier call failed or the database has other tables. What was committed is in the files then too.
+/// [`StoreError::Broken`] where an earlier call failed or the database has other tables. By the code, and by no clause, what was committed is in
+/// the files then too.
 pub fn close_files<D: Disk + Drop>(store: FileStore<D>) -> Result<Files<D>, StoreError>
     ensures usable { IfOk result (λ files. IsTrue (D.Disk.is_usable files.log) × IsTrue (D.Disk.is_usable files.db)) }
     ensures copied { IfOk result (KeepAlone D.Disk (view store).committed) }
