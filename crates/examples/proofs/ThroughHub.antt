@@ -9,7 +9,7 @@ use Rattle.merkle_diff.proofs.Each.{any-left, any-right, any-map, each-with, eve
 use Rattle.merkle_replica.specs.Contents.{Side}
 use Rattle.merkle_replica.specs.Gossip.{numbered, changed, come_to, heard, gathering, spreading, through_hub, IsJoinOf, rows_of}
 use Rattle.merkle_replica.specs.Laws.{Laws}
-use Rattle.merkle_wire.proofs.Covering.{any-map as any-mapped}
+use Rattle.merkle_wire.proofs.RoundCovers.{any-map as any-mapped}
 
 -- the numbers up to one
 abbrev upto : ℕ → List ℕ

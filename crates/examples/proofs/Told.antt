@@ -27,7 +27,7 @@ use Rattle.merkle_diff.specs.Entry.{Entry}
 use Rattle.merkle_diff.specs.Merge.{SameSpans}
 use Rattle.merkle_diff.specs.SameEntries.{SameEntry, SameEntries}
 use Rattle.merkle_diff.proofs.SameSpans.{rows_in-alike}
-use Rattle.merkle_replica.proofs.Copying.{take_same}
+use Rattle.merkle_replica.proofs.RowCopies.{take_same}
 use Rattle.examples.specs.Wire.{fault_of, text_bytes, page_range_bytes, range_bytes, row_bytes}
 use Rattle.examples.specs.declared.wire.WireFault.TheVariants.{Malformed}
 

@@ -1,11 +1,18 @@
 -- Lists of equal keys: what holds of one holds of the other.
 use Rattle.std.proofs.Common.{List, [], ◌∷◌, ◌++◌, ◌∙◌, inl, inr}
+use Rattle.std.specs.Bool.{⊤}
 use Rattle.std.specs.List.{AllByRecursion}
 use Rattle.std.specs.Cmp.{IsTotalOrder, tied_itself, tied_back}
 use Rattle.std.specs.declared.cmp.Ordering.{Ordering}
 use Rattle.key_order.specs.Order.{AnyByRecursion, Below, Same, IsAscending}
-use Rattle.key_order.specs.SameKeys.{SameKeys}
 use Rattle.key_order.proofs.Orders.{up_low, low_up, same_up, same_down}
+
+-- the same keys, place by place
+abbrev pub SameKeys : {K : Type 0} → (K → K → Ordering) → List K → List K → Type 0
+SameKeys cmp [] [] = ⊤
+SameKeys cmp [] (j ∷ js) = ⊥
+SameKeys cmp (k ∷ ks) [] = ⊥
+SameKeys cmp (k ∷ ks) (j ∷ js) = Same cmp k j × SameKeys cmp ks js
 
 module _ {K : Type 0} (cmp : K → K → Ordering) where
   pub same_keys-append : (ks js ls ms : List K) → SameKeys cmp ks js → SameKeys cmp ls ms → SameKeys cmp (ks ++ ls) (js ++ ms)

@@ -3,4 +3,3 @@ pub mod Interval
 pub mod Map
 pub mod Join
 pub mod Text
-pub mod SameKeys

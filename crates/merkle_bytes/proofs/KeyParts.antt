@@ -5,7 +5,7 @@ use Rattle.std.proofs.lemmas.Bool.Decides.{nat_tests}
 use Rattle.std.proofs.lemmas.List.{append_assoc, length-append, length-drop, length-take, take-take}
 use Rattle.key_order.proofs.ListParts.{join_tells}
 use Rattle.merkle_bytes.specs.Counts.{count_bytes}
-use Rattle.merkle_bytes.specs.Keys.{shared, fit_a_byte, front_bytes, shareable, kept_of, key_behind, GoOnApart, SharesNoMore}
+use Rattle.merkle_bytes.specs.Keys.{shared, fit_a_byte, front_bytes, shareable, kept_of, key_behind, GoOnApart}
 use Rattle.merkle_bytes.specs.RunTelling.{fit_or_not, front_few, front_long, front_told, key_parts, shared_within}
 
 drop_all : (xs : List ℕ) (n : ℕ) → length xs ≤ n → drop n xs ≡ []
@@ -26,6 +26,11 @@ drop_first (x ∷ xs) ys = drop_first xs ys
 pub shared_end : (xs ys : List ℕ) (n : ℕ) → (length xs ≤ n) ⊎ (length ys ≤ n) → shared xs ys ≡ n + shared (drop n xs) (drop n ys) → n ≡ shared xs ys
 shared_end xs ys n (inl short) e = let ended : shared (drop n xs) (drop n ys) ≡ 0 = ap (λ t. shared t (drop n ys)) (drop_all xs n short) in omega (arith, e, ended)
 shared_end xs ys n (inr short) e = let ended : shared (drop n xs) (drop n ys) ≡ 0 = ap (shared (drop n xs)) (drop_all ys n short) ∙ none_shared (drop n xs) in omega (arith, e, ended)
+
+-- so many bytes are kept of a part, and no more could be: it ends there, or goes on otherwise than the rest
+pub record SharesNoMore (part : List ℕ) (kept : ℕ) (rest : List ℕ) : Type 0 where
+  pub within : kept ≤ length part
+  pub ends : GoOnApart (drop kept part) rest
 
 -- what is shared shares no more
 pub shares_no_more : (part key : List ℕ) → SharesNoMore part (shared part key) (drop (shared part key) key)

@@ -33,8 +33,3 @@ kept_of last key = shared (shareable last) key
 -- what stands for a key with these bytes, behind a key with the bytes `last`
 unfoldable pub key_behind : List ℕ → List ℕ → List ℕ
 key_behind last key = front_bytes (kept_of last key) (length key - kept_of last key) ++ drop (kept_of last key) key
-
--- so many bytes are kept of a part, and no more could be: it ends there, or goes on otherwise than the rest
-pub record SharesNoMore (part : List ℕ) (kept : ℕ) (rest : List ℕ) : Type 0 where
-  pub within : kept ≤ length part
-  pub ends : GoOnApart (drop kept part) rest

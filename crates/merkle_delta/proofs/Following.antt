@@ -4,9 +4,9 @@ use Rattle.std.specs.List.{flat_map}
 use Rattle.std.proofs.lemmas.List.{append_assoc, append-nil, length-append, flat_map_more}
 use Rattle.key_order.proofs.ListParts.{join_tells}
 use Rattle.merkle_digest.specs.SipHash.{zero_key}
-use Rattle.merkle_tree_theory.proofs.Streams.{hash_length}
+use Rattle.merkle_tree_theory.proofs.StreamParts.{hash_length}
 use Rattle.merkle_delta.specs.Chunks.{digest_of}
-use Rattle.merkle_delta.specs.Deltas.{IsDeltaOver, Step, step_bytes, given_by, left_by, left_behind, patched, IsStepOver, AreStepsOver}
+use Rattle.merkle_delta.specs.Deltas.{IsDeltaOver, Step, step_bytes, given_by, left_by, left_behind, bytes_from_steps, IsStepOver, AreStepsOver}
 use Rattle.merkle_delta.specs.Steps.{IsStepTaken, BeginNoStep, AreGiven, AreNoSteps}
 use Rattle.merkle_delta.proofs.Stepping.{over-more, patched-more, left-more, step-some, step_told}
 
@@ -21,10 +21,10 @@ module _ (own : List (List ℕ)) (whole : List ℕ) where
     pub steps : List Step
     pub over : AreStepsOver own steps
     pub read : whole ≡ flat_map step_bytes steps ++ left
-    pub gives : given ≡ patched own steps
+    pub gives : given ≡ bytes_from_steps own steps
     pub behind : chunks ≡ left_behind own steps
     pub rest : (all : List Step) → AreStepsOver own all → whole ≡ flat_map step_bytes all
-        → (others : List Step) × AreStepsOver chunks others × (left ≡ flat_map step_bytes others) × (patched own all ≡ given ++ patched chunks others)
+        → (others : List Step) × AreStepsOver chunks others × (left ≡ flat_map step_bytes others) × (bytes_from_steps own all ≡ given ++ bytes_from_steps chunks others)
 
   pub none_taken : AreTaken own whole []
   none_taken = record {
@@ -47,8 +47,8 @@ module _ (own : List (List ℕ)) (whole : List ℕ) where
     rest = λ all over e. let b = so.rest all over e in after b.0 b.1 b.2 b.3;
   }
     where
-      after : {all : List ℕ} (others : List Step) → AreStepsOver chunks others → left ≡ flat_map step_bytes others → all ≡ given ++ patched chunks others
-          → (more : List Step) × AreStepsOver behind more × (left' ≡ flat_map step_bytes more) × (all ≡ given' ++ patched behind more)
+      after : {all : List ℕ} (others : List Step) → AreStepsOver chunks others → left ≡ flat_map step_bytes others → all ≡ given ++ bytes_from_steps chunks others
+          → (more : List Step) × AreStepsOver behind more × (left' ≡ flat_map step_bytes more) × (all ≡ given' ++ bytes_from_steps behind more)
       after [] over e gives = absurd (omega (arith, step-some step, ap length (sym now ∙ e), length-append (step_bytes step) left'))
       after (s ∷ ss) over e gives =
           let both = step_told chunks step s left' (flat_map step_bytes ss) is over.0 (sym now ∙ e) in
@@ -57,8 +57,8 @@ module _ (own : List (List ℕ)) (whole : List ℕ) where
             ss,
             subst (λ c. AreStepsOver c ss) place over.1,
             both.1,
-            gives ∙ ap₂ (λ t c. given ++ (given_by chunks t ++ patched c ss)) same place
-                ∙ sym (append_assoc given (given_by chunks step) (patched behind ss)) ∙ ap (λ t. t ++ patched behind ss) (sym put),
+            gives ∙ ap₂ (λ t c. given ++ (given_by chunks t ++ bytes_from_steps c ss)) same place
+                ∙ sym (append_assoc given (given_by chunks step) (bytes_from_steps behind ss)) ∙ ap (λ t. t ++ bytes_from_steps behind ss) (sym put),
           )
 
   -- where nothing is left, all are taken
@@ -68,7 +68,7 @@ module _ (own : List (List ℕ)) (whole : List ℕ) where
     λ all over e. let b = so.rest all over e in last b.0 b.2 b.3,
   )
     where
-      last : {all : List ℕ} (others : List Step) → left ≡ flat_map step_bytes others → all ≡ given ++ patched chunks others → given ≡ all
+      last : {all : List ℕ} (others : List Step) → left ≡ flat_map step_bytes others → all ≡ given ++ bytes_from_steps chunks others → given ≡ all
       last [] e gives = sym (gives ∙ append-nil given)
       last (s ∷ ss) e gives = absurd (omega (arith, step-some s, ap length (sym none ∙ e), length-append (step_bytes s) (flat_map step_bytes ss)))
 
@@ -91,7 +91,7 @@ module _ (own : List (List ℕ)) (whole bytes : List ℕ) where
 
   -- behind the digest stand its steps
   pub delta_parts : (digest left : List ℕ) → whole ≡ digest ++ left → length digest ≡ 16 → IsDeltaOver own whole bytes
-      → (digest ≡ digest_of bytes) × ((steps : List Step) × AreStepsOver own steps × (bytes ≡ patched own steps) × (left ≡ flat_map step_bytes steps))
+      → (digest ≡ digest_of bytes) × ((steps : List Step) × AreStepsOver own steps × (bytes ≡ bytes_from_steps own steps) × (left ≡ flat_map step_bytes steps))
   delta_parts digest left read long (steps, over, gives, is) =
       let told = join_tells digest (digest_of bytes) left (flat_map step_bytes steps) (long ∙ sym (hash_length zero_key bytes)) (sym read ∙ is) in
       (told.0, (steps, over, gives, told.1))

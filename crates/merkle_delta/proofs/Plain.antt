@@ -5,7 +5,7 @@ use Rattle.key_order.proofs.ListParts.{join_tells}
 use Rattle.merkle_digest.specs.SipHash.{zero_key}
 use Rattle.merkle_replica.specs.Contents.{Side}
 use Rattle.merkle_replica.specs.Laws.{Laws}
-use Rattle.merkle_tree_theory.proofs.Streams.{hash_length}
+use Rattle.merkle_tree_theory.proofs.StreamParts.{hash_length}
 use Rattle.merkle_wire.specs.Next.{IsNext as IsPlainNext}
 use Rattle.merkle_wire.specs.Sessions.{IsAnswer as IsPlainAnswer, IsExchange as IsPlainExchange, AreExchanges as ArePlainExchanges}
 use Rattle.merkle_wire.specs.Underway.{Underway as PlainUnderway}

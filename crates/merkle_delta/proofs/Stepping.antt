@@ -11,7 +11,7 @@ use Rattle.merkle_bytes.specs.declared.error.ReadError.TheVariants as read
 use Rattle.merkle_delta.specs.Faults.{unread_delta}
 use Rattle.merkle_delta.specs.declared.patch.PatchError.TheVariants.{Unlike}
 use Rattle.merkle_delta.specs.Steps.{BeginNoStep, IsStepTaken}
-use Rattle.merkle_delta.specs.Deltas.{Step, bytes_step, run_step, step_bytes, left_by, given_by, IsStepOver, left_behind, patched, AreStepsOver}
+use Rattle.merkle_delta.specs.Deltas.{Step, bytes_step, run_step, step_bytes, left_by, given_by, IsStepOver, left_behind, bytes_from_steps, AreStepsOver}
 
 -- bytes are no delta only where they are malformed
 pub malformed_of : (error : ReadError) → unread_delta error ≡ Unlike → IsMalformed error
@@ -32,11 +32,11 @@ pub over-more : (chunks : List (List ℕ)) (steps : List Step) (step : Step) →
 over-more chunks [] step over is = (is, tt)
 over-more chunks (s ∷ ss) step over is = (over.0, over-more (left_by chunks s) ss step over.1 is)
 
-pub patched-more : (chunks : List (List ℕ)) (steps : List Step) (step : Step) → patched chunks (steps ++ step ∷ []) ≡ patched chunks steps ++ given_by (left_behind chunks steps) step
+pub patched-more : (chunks : List (List ℕ)) (steps : List Step) (step : Step) → bytes_from_steps chunks (steps ++ step ∷ []) ≡ bytes_from_steps chunks steps ++ given_by (left_behind chunks steps) step
 patched-more chunks [] step = append-nil (given_by chunks step)
 patched-more chunks (s ∷ ss) step =
     ap (λ t. given_by chunks s ++ t) (patched-more (left_by chunks s) ss step)
-    ∙ sym (append_assoc (given_by chunks s) (patched (left_by chunks s) ss) (given_by (left_behind (left_by chunks s) ss) step))
+    ∙ sym (append_assoc (given_by chunks s) (bytes_from_steps (left_by chunks s) ss) (given_by (left_behind (left_by chunks s) ss) step))
 
 pub left-more : (chunks : List (List ℕ)) (steps : List Step) (step : Step) → left_behind chunks (steps ++ step ∷ []) ≡ left_by (left_behind chunks steps) step
 left-more chunks [] step = refl
@@ -81,16 +81,16 @@ run_long chunks passed taken =
     parts_long n xs = sym (length-append (concat (take n xs)) (concat (drop n xs))) ∙ ap length (sym (concat-append (take n xs) (drop n xs)) ∙ ap concat (take-append-drop n xs))
 
 -- steps give at most as many bytes as the chunks have, and their own
-pub patched-long : (chunks : List (List ℕ)) (steps : List Step) → length (patched chunks steps) ≤ length (concat chunks) + length (flat_map step_bytes steps)
+pub patched-long : (chunks : List (List ℕ)) (steps : List Step) → length (bytes_from_steps chunks steps) ≤ length (concat chunks) + length (flat_map step_bytes steps)
 patched-long chunks [] = omega arith
 patched-long chunks (inl run ∷ steps) =
     let taken = concat (take run.1 (drop run.0 chunks)) in
     let left = drop (run.0 + run.1) chunks in
-    omega (arith, length-append taken (patched left steps), length-append (run_step run.0 run.1) (flat_map step_bytes steps), run_long chunks run.0 run.1, patched-long left steps)
+    omega (arith, length-append taken (bytes_from_steps left steps), length-append (run_step run.0 run.1) (flat_map step_bytes steps), run_long chunks run.0 run.1, patched-long left steps)
 patched-long chunks (inr bytes ∷ steps) =
     omega (
       arith,
-      length-append bytes (patched chunks steps),
+      length-append bytes (bytes_from_steps chunks steps),
       length-append (bytes_step bytes) (flat_map step_bytes steps),
       length-append (count_bytes 0) (string_encoding bytes),
       length-append (count_bytes (length bytes)) bytes,

@@ -3,7 +3,7 @@ use Rattle.std.proofs.Common.{◌≡◌, ℕ, zero, suc, ◌+◌, ◌-◌, ◌<�
 use Rattle.std.specs.List.{AllByRecursion, concat, flat_map}
 use Rattle.std.proofs.lemmas.List.{append-nil, drop-drop, drop-map, get_or-drop, length-drop, length-map, map-append, take_more, take_all, take-map, take-take, drop-take, take-append-drop, flat_map_more}
 use Rattle.merkle_delta.specs.Chunks.{checksum}
-use Rattle.merkle_delta.specs.Deltas.{Step, step_bytes, left_behind, patched, AreStepsOver, AreToldApart}
+use Rattle.merkle_delta.specs.Deltas.{Step, step_bytes, left_behind, bytes_from_steps, AreStepsOver, AreToldApart}
 use Rattle.merkle_delta.specs.Steps.{HasChecksum, HaveChecksums, AddsSteps}
 use Rattle.merkle_delta.proofs.Stepping.{concat-more, concat-append, over-more, patched-more, left-more}
 
@@ -61,7 +61,7 @@ module _ (checksums : List ℕ) (chunks : List (List ℕ)) where
     pub steps : List Step
     pub is : now ≡ begun ++ flat_map step_bytes steps
     pub gives : (own : List (List ℕ)) → map checksum own ≡ checksums → AreToldApart own chunks
-        → AreStepsOver own steps × (concat (take done chunks) ≡ patched own steps) × (left_behind own steps ≡ drop at own)
+        → AreStepsOver own steps × (concat (take done chunks) ≡ bytes_from_steps own steps) × (left_behind own steps ≡ drop at own)
 
   pub none_told : (begun : List ℕ) → AreTold begun 0 0 begun
   none_told begun = record {

@@ -44,9 +44,9 @@ abbrev pub left_behind : List (List ℕ) → List Step → List (List ℕ)
 left_behind chunks [] = chunks
 left_behind chunks (step ∷ steps) = left_behind (left_by chunks step) steps
 
-abbrev pub patched : List (List ℕ) → List Step → List ℕ
-patched chunks [] = []
-patched chunks (step ∷ steps) = given_by chunks step ++ patched (left_by chunks step) steps
+abbrev pub bytes_from_steps : List (List ℕ) → List Step → List ℕ
+bytes_from_steps chunks [] = []
+bytes_from_steps chunks (step ∷ steps) = given_by chunks step ++ bytes_from_steps (left_by chunks step) steps
 
 abbrev pub AreStepsOver : List (List ℕ) → List Step → Type 0
 AreStepsOver chunks [] = ⊤
@@ -58,7 +58,7 @@ delta_bytes bytes steps = digest_of bytes ++ flat_map step_bytes steps
 
 -- over the chunks the delta is that of the bytes
 abbrev pub IsDeltaOver : List (List ℕ) → List ℕ → List ℕ → Type 0
-IsDeltaOver chunks delta bytes = (steps : List Step) × AreStepsOver chunks steps × (bytes ≡ patched chunks steps) × (delta ≡ delta_bytes bytes steps)
+IsDeltaOver chunks delta bytes = (steps : List Step) × AreStepsOver chunks steps × (bytes ≡ bytes_from_steps chunks steps) × (delta ≡ delta_bytes bytes steps)
 
 -- over the chunks it is that of no bytes
 abbrev pub IsNoDelta : List (List ℕ) → List ℕ → Type 0
@@ -77,7 +77,7 @@ AreToldApart chunks others = AllByRecursion (λ other. AllByRecursion (λ chunk.
 -- the chunks of the bytes
 abbrev pub IsDelta : List ℕ → List ℕ → List ℕ → Type 0
 IsDelta checksums bytes delta = (steps : List Step) × (delta ≡ delta_bytes bytes steps)
-    × ((chunks : List (List ℕ)) → map checksum chunks ≡ checksums → AreToldApart chunks (chunks_of bytes) → AreStepsOver chunks steps × (bytes ≡ patched chunks steps))
+    × ((chunks : List (List ℕ)) → map checksum chunks ≡ checksums → AreToldApart chunks (chunks_of bytes) → AreStepsOver chunks steps × (bytes ≡ bytes_from_steps chunks steps))
 
 -- a delta of the bytes for these checksums is added
 abbrev pub AddsDelta : List ℕ → List ℕ → Vec ℕ → Vec ℕ → Type 0

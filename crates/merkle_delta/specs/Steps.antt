@@ -4,7 +4,7 @@ use Rattle.std.specs.Global.{Vec}
 use Rattle.std.specs.List.{concat, flat_map}
 use Rattle.merkle_bytes.specs.declared.reader.Reader.{Reader}
 use Rattle.merkle_delta.specs.Chunks.{checksum}
-use Rattle.merkle_delta.specs.Deltas.{Step, step_bytes, left_by, given_by, patched, IsStepOver, AreStepsOver, AreToldApart}
+use Rattle.merkle_delta.specs.Deltas.{Step, step_bytes, left_by, given_by, bytes_from_steps, IsStepOver, AreStepsOver, AreToldApart}
 
 module _ (checksums : List ℕ) (chunks : List (List ℕ)) where
   -- the checksum at a place is that of a chunk
@@ -19,7 +19,7 @@ module _ (checksums : List ℕ) (chunks : List (List ℕ)) where
   -- steps are added that give the chunks, over any that have these checksums and are told apart by them
   abbrev pub AddsSteps : List ℕ → List ℕ → Type 0
   AddsSteps old new = (steps : List Step) × (new ≡ old ++ flat_map step_bytes steps)
-      × ((own : List (List ℕ)) → map checksum own ≡ checksums → AreToldApart own chunks → AreStepsOver own steps × (concat chunks ≡ patched own steps))
+      × ((own : List (List ℕ)) → map checksum own ≡ checksums → AreToldApart own chunks → AreStepsOver own steps × (concat chunks ≡ bytes_from_steps own steps))
 
 module _ (chunks : List (List ℕ)) where
   -- a step was read, and what it gives was added: these chunks are behind it, and these bytes are left
@@ -33,8 +33,8 @@ module _ (chunks : List (List ℕ)) where
 
   -- the bytes are steps that give these, and no other steps
   abbrev pub AreGiven : List ℕ → List ℕ → Type 0
-  AreGiven left given = ((steps : List Step) × AreStepsOver chunks steps × (left ≡ flat_map step_bytes steps) × (given ≡ patched chunks steps))
-      × ((steps : List Step) → AreStepsOver chunks steps → left ≡ flat_map step_bytes steps → given ≡ patched chunks steps)
+  AreGiven left given = ((steps : List Step) × AreStepsOver chunks steps × (left ≡ flat_map step_bytes steps) × (given ≡ bytes_from_steps chunks steps))
+      × ((steps : List Step) → AreStepsOver chunks steps → left ≡ flat_map step_bytes steps → given ≡ bytes_from_steps chunks steps)
 
   -- the bytes are no steps over the chunks
   abbrev pub AreNoSteps : List ℕ → Type 0

@@ -10,7 +10,7 @@ use Rattle.merkle_diff.proofs.Cuts.{any-cut, some-cut, left-down, left-up, left-
 use Rattle.merkle_diff.proofs.Each.{any-map, each-with, each-both, each-not, none-of, any-get, any-unmapped}
 use Rattle.merkle_diff.proofs.Borders.{Border, bound, Before, Behind, Across, Free, part, low, before, behind, not_both_sides, across-in, across-within, free-same, bound-in, own-free, to-bound, those-named, those-again}
 use Rattle.merkle_diff.proofs.Borders.Border.{Start, End}
-use Rattle.merkle_diff.proofs.Merged.{merge-to, merge-from, merge-is_apart, merge-is_ordered, merge-holds}
+use Rattle.merkle_diff.proofs.MergeLaws.{merge-to, merge-from, merge-is_apart, merge-is_ordered, merge-holds}
 use Rattle.merkle_diff.proofs.OrderTests.{same_back}
 use Rattle.merkle_diff.specs.Cut.{IsExactCut, cut_one, pieces_left}
 use Rattle.merkle_diff.specs.Merge.{AreThose, IsMerge}

@@ -9,7 +9,7 @@ use Rattle.merkle_diff.specs.Merge.{AreThose, IsMerge}
 use Rattle.merkle_diff.specs.Cut.{IsCut, IsExactCut, IsBoundOf, piece, cut_one, pieces_left}
 use Rattle.key_order.proofs.Orders.{up_up, up_low, low_up, low_is_up, not_both, either}
 use Rattle.key_order.proofs.ListParts.{each-append}
-use Rattle.merkle_diff.proofs.Merged.{merge-to, merge-from, merge-is_apart, merge-is_ordered}
+use Rattle.merkle_diff.proofs.MergeLaws.{merge-to, merge-from, merge-is_apart, merge-is_ordered}
 use Rattle.merkle_diff.proofs.Each.{any-map, each-with, each-both, each-not, any-get, any-left, any-right, any-split, any-unmapped, each-unmapped}
 use Rattle.merkle_diff.proofs.Borders.{Border, bound, Free}
 use Rattle.merkle_diff.proofs.Borders.Border.{Start, End}

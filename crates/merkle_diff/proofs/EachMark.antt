@@ -10,7 +10,7 @@ use Rattle.key_order.proofs.ListParts.{each-append}
 use Rattle.merkle_diff.specs.Walk.{Walk, Mark, no_peer, outside, held, no_local, between, agrees, differs, bad_of, good_of, gap_mark, gap_start, gap_end, front_within, bad_marks, last_holder, after_holders}
 use Rattle.merkle_diff.specs.Walk.Mark.{Bad, Good}
 use Rattle.merkle_diff.proofs.OrderTests.{by_upto}
-use Rattle.merkle_diff.proofs.Walks.{each-after}
+use Rattle.merkle_diff.proofs.WalkMarks.{each-after}
 
 module _ {K D : Type 0} (cmp : K → K → Ordering) (o : IsTotalOrder cmp)
     (PE : Entry K D → Type 0) (LE : Entry K D → Type 0) (KB : K → Type 0) (MK : Mark K → Type 0)

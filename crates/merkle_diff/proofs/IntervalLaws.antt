@@ -14,11 +14,11 @@ use Rattle.merkle_diff.specs.Difference.{lesser, IsAgreed, IsByTable, HasDigestO
 use Rattle.key_order.proofs.Orders.{up_up, low_up, low_is_up, not_both, either, up_self, same_from}
 use Rattle.key_order.proofs.ListParts.{each-before, each-behind}
 use Rattle.merkle_diff.proofs.Unique.{same-back, apart-same, ordered-same}
-use Rattle.merkle_diff.proofs.Merged.{merge-to, merge-from, merge-is_ordered, merge-of_apart}
+use Rattle.merkle_diff.proofs.MergeLaws.{merge-to, merge-from, merge-is_ordered, merge-of_apart}
 use Rattle.merkle_diff.proofs.Cuts.{Bounds, bound-same, cut-out, cut-ordered, left-bounds, merge-bounds, own-bounds}
-use Rattle.merkle_diff.proofs.Beginnings.{inv-nil, inv-between, inv-held, inv-into}
+use Rattle.merkle_diff.proofs.WalkStarts.{inv-nil, inv-between, inv-held, inv-into}
 use Rattle.merkle_diff.proofs.OnePass.{left-none}
-use Rattle.merkle_diff.proofs.Walks.{span_marked, walk_marks}
+use Rattle.merkle_diff.proofs.WalkMarks.{span_marked, walk_marks}
 use Rattle.merkle_diff.proofs.EachMark.{walk-each, each-bad, each-good}
 use Rattle.merkle_diff.proofs.Each.{any-map, each-with, each-both, any-get, every-in}
 use Rattle.merkle_diff.proofs.OrderTests.{by_upto, by_above, same_trans, same-self, to_upto, not_upto, to_within, not_within, within_self}

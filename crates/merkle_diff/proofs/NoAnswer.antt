@@ -16,7 +16,7 @@ use Rattle.merkle_diff.specs.PageRange.{entry, entries}
 use Rattle.merkle_diff.specs.Turn.{may_answer, head_may_answer, HeadsMayAnswer}
 use Rattle.merkle_diff.specs.Difference.{IsByFirsts, IsByWalk, MayAnswer}
 use Rattle.key_order.proofs.Orders.{either, low_up, low_is_up, not_both, same_up, same_down}
-use Rattle.merkle_diff.proofs.Merges.{none-merged}
+use Rattle.merkle_diff.proofs.SweepIsMerge.{none-merged}
 use Rattle.merkle_diff.proofs.Queues.{front_of, Drains-from}
 use Rattle.merkle_diff.proofs.OrderTests.{not_upto, to_within, within_self, within_by}
 

@@ -6,14 +6,13 @@ use Rattle.std.specs.List.{flat_map}
 use Rattle.std.specs.declared.cmp.Ordering.{Ordering}
 use Rattle.key_order.specs.Order.{AnyByRecursion, Same, below}
 use Rattle.key_order.specs.Interval.{Span, SameSpan, meets}
-use Rattle.key_order.specs.SameKeys.{SameKeys}
-use Rattle.key_order.proofs.SameKeys.{any-same, all-same}
+use Rattle.key_order.proofs.SameKeys.{SameKeys, any-same, all-same}
 use Rattle.key_order.proofs.Orders.{compare-same, same_up, same_down}
 use Rattle.merkle_diff.specs.Cut.{piece, cut_one, pieces_left}
 use Rattle.merkle_diff.specs.Difference.{IsByWalk}
 use Rattle.merkle_diff.specs.Entry.{Entry, span_of}
 use Rattle.merkle_diff.specs.Merge.{AreThose, IsMerge, SameSpans}
-use Rattle.merkle_diff.proofs.Beginnings.{inv-empty, inv-outside, inv-nil, inv-held, inv-between, inv-into, agree-by, differ-by}
+use Rattle.merkle_diff.proofs.WalkStarts.{inv-empty, inv-outside, inv-nil, inv-held, inv-between, inv-into, agree-by, differ-by}
 use Rattle.merkle_diff.proofs.Each.{any-map, each-with}
 use Rattle.merkle_diff.proofs.Borders.{Border, bound, Across, Free, across-same, across-within}
 use Rattle.merkle_diff.proofs.Borders.Border.{Start, End}

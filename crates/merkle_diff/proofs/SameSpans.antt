@@ -4,7 +4,7 @@ use Rattle.std.specs.Cmp.{IsTotalOrder, tied_itself}
 use Rattle.std.specs.declared.cmp.Ordering.{Ordering}
 use Rattle.key_order.specs.Interval.{Span, is_covered}
 use Rattle.key_order.specs.Map.{rows_in}
-use Rattle.key_order.specs.SameKeys.{SameKeys}
+use Rattle.key_order.proofs.SameKeys.{SameKeys}
 use Rattle.key_order.proofs.Spans.{is_in-alike, rows_at-alike}
 use Rattle.merkle_diff.specs.Merge.{SameSpans}
 

@@ -4,9 +4,8 @@ use Rattle.std.specs.Cmp.{IsTotalOrder}
 use Rattle.std.specs.declared.cmp.Ordering.{Ordering}
 use Rattle.key_order.specs.Order.{AnyByRecursion, Same, upto}
 use Rattle.key_order.specs.Interval.{Span, SameSpan, is_within}
-use Rattle.key_order.specs.SameKeys.{SameKeys}
 use Rattle.key_order.proofs.Orders.{compare-same}
-use Rattle.key_order.proofs.SameKeys.{any-same, all-same, ascending-same}
+use Rattle.key_order.proofs.SameKeys.{SameKeys, any-same, all-same, ascending-same}
 use Rattle.merkle_diff.specs.Cut.{pieces_left}
 use Rattle.merkle_diff.specs.Difference.{IsByWalk, IsAnswer}
 use Rattle.merkle_diff.specs.Entry.{Entry, span_of}

@@ -15,8 +15,8 @@ use Rattle.merkle_diff.specs.Walk.Mark.{Bad, Good}
 use Rattle.merkle_diff.specs.Difference.{lesser, IsByTable, MayAnswer, SparesAgreed, IsByWalk}
 use Rattle.key_order.proofs.Orders.{up_up, up_low, low_up, low_is_up, not_both, up_self, same_up, same_down}
 use Rattle.merkle_diff.proofs.Unique.{in-same}
-use Rattle.merkle_diff.proofs.Merged.{merge-holds}
-use Rattle.merkle_diff.proofs.Beginnings.{Into, inv-into, inv-outside, inv-empty, agree-by}
+use Rattle.merkle_diff.proofs.MergeLaws.{merge-holds}
+use Rattle.merkle_diff.proofs.WalkStarts.{Into, inv-into, inv-outside, inv-empty, agree-by}
 use Rattle.merkle_diff.proofs.NoAnswer.{may-or_none}
 use Rattle.merkle_diff.proofs.IntervalLaws.{no-found, by-table, law, good-ordered}
 use Rattle.merkle_diff.proofs.Each.{each-with, any-get, any-left, any-right, each-all}

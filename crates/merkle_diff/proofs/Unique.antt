@@ -5,7 +5,7 @@ use Rattle.std.specs.List.{AllByRecursion}
 use Rattle.std.specs.declared.cmp.Ordering.{Ordering}
 use Rattle.key_order.specs.Interval.{Span, IsOrdered, IsCovered, IsWithin, IsApart, SameSpan}
 use Rattle.key_order.specs.Order.{Below, Same, IsAscending, AnyByRecursion}
-use Rattle.key_order.specs.SameKeys.{SameKeys}
+use Rattle.key_order.proofs.SameKeys.{SameKeys}
 use Rattle.merkle_diff.specs.Merge.{AreThose, IsMerge, Opens, Closes, SameSpans}
 use Rattle.key_order.proofs.Orders.{same_up, same_down, up_up, low_up, up_low, not_both, low_is_up}
 use Rattle.merkle_diff.proofs.Each.{any-map, each-with, each-both, any-get}

@@ -15,6 +15,6 @@ module _ {K : Type 0} (cmp : K → K → Ordering) where
   sweep current (s ∷ ss) =
       if upto cmp s.first current.last then sweep (record { first = current.first; last = greater current.last s.last }) ss else (current ∷ sweep s ss)
 
-  abbrev pub swept : List (Span K) → List (Span K)
-  swept [] = []
-  swept (s ∷ ss) = sweep s ss
+  abbrev pub sweep_of : List (Span K) → List (Span K)
+  sweep_of [] = []
+  sweep_of (s ∷ ss) = sweep s ss

@@ -4,7 +4,7 @@ ghost use Rattle.key_order.specs.Interval.{IsApart};
 ghost use Rattle.key_order.specs.Order.{Upto};
 ghost use Rattle.merkle_diff.specs.DiffRange.{span, spans};
 ghost use Rattle.merkle_diff.specs.Merge.{CoverSameKeys, IsMerge};
-ghost use Rattle.merkle_diff.specs.Sweep.{greater, swept};
+ghost use Rattle.merkle_diff.specs.Sweep.{greater, sweep_of};
 
 use crate::diff_range::DiffRange;
 use key_order::is_upto;
@@ -20,7 +20,7 @@ fn greater_of<'a, K: Ord>(a: &'a K, b: &'a K) -> &'a K
 /// Merges the ranges to the front, and answers how many there are then.
 fn merge_to_front<'a, K: Ord>(ranges: &mut [DiffRange<'a, K>]) -> usize
     ensures in_range { result ≤ length ranges.old }
-    ensures merged { spans (take result ranges.new) ≡ swept K.cmp (spans ranges.old) }
+    ensures merged { spans (take result ranges.new) ≡ sweep_of K.cmp (spans ranges.old) }
 {
     if ranges.is_empty() {
         return 0;

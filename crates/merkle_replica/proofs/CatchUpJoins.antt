@@ -21,10 +21,10 @@ use Rattle.merkle_replica.specs.Faithful.{IsFaithful}
 use Rattle.merkle_replica.specs.Laws.{Laws}
 use Rattle.merkle_replica.specs.Puts.{HasGathered, IsGatheredTo}
 use Rattle.merkle_replica.proofs.Bounds.{get_digests, present_from}
-use Rattle.merkle_replica.proofs.Gathering.{gathers_map, map_taken}
-use Rattle.merkle_replica.proofs.Taken.{SameOrAbsent, takes_all}
+use Rattle.merkle_replica.proofs.PutRows.{gathers_map, map_taken}
+use Rattle.merkle_replica.proofs.PulledKeys.{SameOrAbsent, takes_all}
 use Rattle.merkle_replica.proofs.Descents.{some_is}
-use Rattle.merkle_replica.proofs.Copying.{copies_are, copies_length, copies_map, take_same, join_same}
+use Rattle.merkle_replica.proofs.RowCopies.{copies_are, copies_length, copies_map, take_same, join_same}
 use Rattle.merkle_replica.proofs.OnceEach.{any_with, alike}
 
 -- what is lacked

@@ -14,9 +14,9 @@ use Rattle.merkle_replica.specs.Laws.{Laws}
 use Rattle.merkle_replica.specs.Contents.{Side, with_rows, tree_map}
 use Rattle.merkle_replica.specs.Faithful.{SpanHolds, HaveFaithfulPages, IsFaithful, AllFaithful, MissesNone, AreSetAlike, HasSmallMap, NoStreamsCollide, IsCollisionFree, AllCollisionFree}
 use Rattle.merkle_replica.specs.Pulls.{Answer, IsAnswerFor, IsByTurns, HoldTheJoin}
-use Rattle.merkle_replica.proofs.Converging.{converges}
+use Rattle.merkle_replica.proofs.Convergence.{converges}
 use Rattle.merkle_replica.proofs.Listings.{AreListings}
-use Rattle.merkle_replica.proofs.Pulling.{covers_sides}
+use Rattle.merkle_replica.proofs.PullParts.{covers_sides}
 
 module _ {K V H : Type 0} (laws : Laws K V H) (n : ℕ) where
   -- what the law on streams says of these maps

@@ -14,7 +14,7 @@ use Rattle.merkle_replica.specs.CatchUp.{IsCatchUpOf, IsCatchUpRefused}
 use Rattle.merkle_replica.specs.Contents.{Side, with_rows}
 use Rattle.merkle_replica.specs.Faithful.{IsFaithful, AllFaithful}
 use Rattle.merkle_replica.specs.Gossip.{numbered, changed, gathering, spreading, through_hub, IsJoinOf, IsGossip, StopsGossip, rows_of}
-use Rattle.merkle_replica.specs.Hub.{HasJoined, IsGathered, IsSpread}
+use Rattle.merkle_replica.proofs.HubStates.{HasJoined, IsGathered, IsSpread}
 use Rattle.merkle_replica.specs.Laws.{Laws}
 use Rattle.merkle_replica.specs.declared.catch_up.CatchUpError.{CatchUpError}
 use Rattle.merkle_replica.proofs.Gossips.{changed-list, alone, join_both, join_all, gossip-more, gossip-stops, gathering-length, spreading-length}

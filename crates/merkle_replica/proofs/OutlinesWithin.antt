@@ -24,7 +24,7 @@ use Rattle.merkle_replica.specs.Laws.{Laws}
 use Rattle.merkle_replica.specs.Contents.{Side}
 use Rattle.merkle_replica.specs.Descent.{AreSortedOut}
 use Rattle.merkle_replica.specs.LieWithin.{StartsWithin, EndsWithin, AreInOrder, IsBoundUpto, GapsAscend, IsWithin, Precedes, Rise, AreWithin, LieWithin}
-use Rattle.merkle_replica.proofs.WithinGaps.{behind_gap}
+use Rattle.merkle_replica.proofs.ItemsInGaps.{behind_gap}
 
 -- the pairs of a page of a map are a map
 module _ {K D : Type 0} (cmp : K → K → Ordering) where

@@ -24,7 +24,7 @@ use Rattle.merkle_replica.specs.Faithful.{HaveFaithfulPages}
 use Rattle.merkle_replica.specs.CatchUp.{IsLacked, IsHidden, HasFound}
 use Rattle.merkle_replica.specs.Descent.{HasPage, IsSortedOut, AreSortedOut, gaps_of}
 use Rattle.merkle_search_tree.specs.declared.gap.Gap.{Gap as BorrowedGap}
-use Rattle.merkle_replica.specs.Underway.{IsPageGap, IsUnderway}
+use Rattle.merkle_replica.proofs.RoundStates.{IsPageGap, IsUnderway}
 use Rattle.merkle_replica.proofs.Bounds.{ascending_digests}
 use Rattle.merkle_replica.proofs.Descents.{same_get}
 

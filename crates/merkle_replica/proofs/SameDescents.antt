@@ -4,9 +4,8 @@ use Rattle.std.specs.List.{AllByRecursion, flat_map}
 use Rattle.std.specs.Cmp.{IsTotalOrder, tied_back}
 use Rattle.std.specs.declared.cmp.Ordering.{Ordering}
 use Rattle.key_order.specs.Order.{AnyByRecursion, Same}
-use Rattle.key_order.specs.SameKeys.{SameKeys}
 use Rattle.key_order.proofs.Maps.{get_same}
-use Rattle.key_order.proofs.SameKeys.{same_keys-append, any-same, all-same, ascending-same}
+use Rattle.key_order.proofs.SameKeys.{SameKeys, same_keys-append, any-same, all-same, ascending-same}
 use Rattle.merkle_diff.specs.Merge.{SameSpans}
 use Rattle.merkle_tree_theory.specs.Gap.{Gap, SameGaps}
 use Rattle.merkle_tree_theory.specs.Outline.{Item, of_node, of_page, outline_over}

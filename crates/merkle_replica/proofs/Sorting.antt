@@ -11,7 +11,7 @@ use Rattle.key_order.specs.Order.{Upto}
 use Rattle.key_order.specs.Join.{joined}
 use Rattle.key_order.proofs.Orders.{turned', up_up, low_is_up}
 use Rattle.merkle_diff.proofs.Each.{each-with}
-use Rattle.merkle_replica.specs.Puts.{IsRising, gathered, HasGathered}
+use Rattle.merkle_replica.specs.Puts.{IsRising, join_of_values, HasGathered}
 
 tied : (w v : Ordering) → is_eq w ≡ true → v ≡ ordering_reverse w → not (is_lt v) && not (is_lt w) ≡ true
 tied Less v h e = cc
@@ -51,24 +51,24 @@ module _ {K V : Type 0} (cmp : K → K → Ordering) (o : IsTotalOrder cmp) wher
       ((here, each-with (λ s. Upto cmp q.0 s.0) (λ s. Upto cmp r.0 s.0) rs (λ s u. up_up cmp o r.0 q.0 s.0 here u) rest.0), rest)
 
   -- rows with other keys don't count
-  gathered_tied : (eq : V → V → Bool) (join : V → V → V) (x : K × V) (rows : List (K × V)) → gathered cmp eq join rows x.0 ≡ gathered cmp eq join (filter (ties lower x) rows) x.0
+  gathered_tied : (eq : V → V → Bool) (join : V → V → V) (x : K × V) (rows : List (K × V)) → join_of_values cmp eq join rows x.0 ≡ join_of_values cmp eq join (filter (ties lower x) rows) x.0
   gathered_tied eq join x [] = refl
   gathered_tied eq join x (r ∷ rows) = go (ties lower x r) refl (gathered_tied eq join x rows)
     where
-      go : (b : Bool) → ties lower x r ≡ b → gathered cmp eq join rows x.0 ≡ gathered cmp eq join (filter (ties lower x) rows) x.0 → gathered cmp eq join (r ∷ rows) x.0 ≡ gathered cmp eq join (cond b (r ∷ filter (ties lower x) rows) (filter (ties lower x) rows)) x.0
+      go : (b : Bool) → ties lower x r ≡ b → join_of_values cmp eq join rows x.0 ≡ join_of_values cmp eq join (filter (ties lower x) rows) x.0 → join_of_values cmp eq join (r ∷ rows) x.0 ≡ join_of_values cmp eq join (cond b (r ∷ filter (ties lower x) rows) (filter (ties lower x) rows)) x.0
       go true t e = ap (joined join (cond (is_eq (cmp r.0 x.0)) (Some r.1) None)) e
-      go false t e = ap (λ b. joined join (cond b (Some r.1) None) (gathered cmp eq join rows x.0)) (other (is_eq (cmp r.0 x.0)) refl) ∙ e
+      go false t e = ap (λ b. joined join (cond b (Some r.1) None) (join_of_values cmp eq join rows x.0)) (other (is_eq (cmp r.0 x.0)) refl) ∙ e
         where
           other : (b : Bool) → is_eq (cmp r.0 x.0) ≡ b → is_eq (cmp r.0 x.0) ≡ false
           other false h = h
           other true h = let u : true ≡ false = sym (tied (cmp r.0 x.0) (cmp x.0 r.0) h (o.antisymm x.0 r.0)) ∙ t in absurd (cc)
 
   -- rows that a stable sort has moved gather the same
-  pub gathered_sorted : (eq : V → V → Bool) (join : V → V → V) (rows sorted : List (K × V)) → length sorted ≡ length rows → IsStableBy lower rows sorted → (k : K) → gathered cmp eq join sorted k ≡ gathered cmp eq join rows k
+  pub gathered_sorted : (eq : V → V → Bool) (join : V → V → V) (rows sorted : List (K × V)) → length sorted ≡ length rows → IsStableBy lower rows sorted → (k : K) → join_of_values cmp eq join sorted k ≡ join_of_values cmp eq join rows k
   gathered_sorted eq join [] [] n s k = refl
   gathered_sorted eq join [] (x ∷ sorted) n s k = absurd (omega (arith, n))
   gathered_sorted eq join (r ∷ rows) sorted n s k =
-      gathered_tied eq join (k, r.1) sorted ∙ ap (λ xs. gathered cmp eq join xs k) (s (k, r.1)) ∙ sym (gathered_tied eq join (k, r.1) (r ∷ rows))
+      gathered_tied eq join (k, r.1) sorted ∙ ap (λ xs. join_of_values cmp eq join xs k) (s (k, r.1)) ∙ sym (gathered_tied eq join (k, r.1) (r ∷ rows))
 
   pub gathers_sorted : (eq : V → V → Bool) (join : V → V → V) (before rows sorted after : List (K × V)) → length sorted ≡ length rows → IsStableBy lower rows sorted → HasGathered cmp eq join before sorted after → HasGathered cmp eq join before rows after
   gathers_sorted eq join before rows sorted after n s h = record { ascending = h.ascending; values = λ k. rw (← gathered_sorted eq join rows sorted n s k) (h.values k) }

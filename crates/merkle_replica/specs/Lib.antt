@@ -16,8 +16,6 @@ pub mod Descent
 pub mod CatchUp
 pub mod CatchUpSteps
 pub mod Gossip
-pub mod Hub
-pub mod Underway
 pub mod LieWithin
 pub mod Faults
 pub mod Seek

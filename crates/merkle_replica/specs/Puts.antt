@@ -29,16 +29,16 @@ module _ {K V : Type 0} (cmp : K → K → Ordering) (eq : V → V → Bool) (jo
   IsPuts before (r ∷ rs) after = (mid : List (K × V)) × IsJoin cmp eq join before (r ∷ []) mid × IsPuts mid rs after
 
   -- the join of the values that the rows have for a key
-  abbrev pub gathered : List (K × V) → K → Option V
-  gathered [] k = None
-  gathered (r ∷ rs) k = joined join (cond (is_eq (cmp r.0 k)) (Some r.1) None) (gathered rs k)
+  abbrev pub join_of_values : List (K × V) → K → Option V
+  join_of_values [] k = None
+  join_of_values (r ∷ rs) k = joined join (cond (is_eq (cmp r.0 k)) (Some r.1) None) (join_of_values rs k)
 
   -- `after` is a map that has for each key the join of its value before and of all values that the rows have for it
   pub record HasGathered (before rows after : List (K × V)) : Type 0 where
     pub ascending : IsMap cmp after
-    pub values : (k : K) → SameValue (λ x y. eq x y ≡ true) (get cmp after k) (joined join (get cmp before k) (gathered rows k))
+    pub values : (k : K) → SameValue (λ x y. eq x y ≡ true) (get cmp after k) (joined join (get cmp before k) (join_of_values rows k))
 
-  -- the first `done` of the rows are gathered, and not all
+  -- the first `done` of the rows are join_of_values, and not all
   pub record IsGatheredTo (before rows after : List (K × V)) (done : ℕ) : Type 0 where
     pub not_all : done < length rows
     pub gathers : HasGathered before (take done rows) after

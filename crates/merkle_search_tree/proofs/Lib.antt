@@ -1,6 +1,6 @@
 pub mod Partings
-pub mod Apart
+pub mod SplitPages
 pub mod SameItems
-pub mod Loadings
+pub mod LoadOrder
 pub mod Replays
 pub mod Paths

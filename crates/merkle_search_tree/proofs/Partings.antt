@@ -6,11 +6,11 @@ use Rattle.key_order.specs.Map.{IsMap}
 use Rattle.key_order.proofs.ListParts.{map-first, map-rest}
 use Rattle.merkle_tree_theory.specs.Tree.{Tree, page, Row, high, node, Held, below, Node, row, tree_size, row_size, held_size}
 use Rattle.merkle_tree_theory.specs.Page.{pairs, row_pairs, held_pairs, row_nodes, nodes_of}
-use Rattle.merkle_tree_theory.specs.Upsert.{place, lower, upper, held_lower, held_upper, as_held, kept, kept_beside}
+use Rattle.merkle_tree_theory.specs.Upsert.{place, lower, upper, held_lower, held_upper, as_held, row_digest_beside, digest_beside}
 use Rattle.merkle_tree_theory.specs.Chain.{row_length, page_length, high_of, first_of, with_high, with_first, row_take, row_drop, row_of_page}
 use Rattle.merkle_search_tree.specs.Parting.{gap, row_place, parting_place, PartsNodes, PartingFits, PartingsFit}
 use Rattle.merkle_search_tree.specs.declared.parting.Parting.{Parting}
-use Rattle.merkle_tree_theory.proofs.Hung.{length-first, length-drop, some-held, some-kept}
+use Rattle.merkle_tree_theory.proofs.PageChains.{length-first, length-drop, some-held, some-kept}
 
 module _ {K D : Type 0} (cmp : K → K → Ordering) (at : K) where
   pub gap-all : (r : Row K D) → row_place cmp at r ≡ row_length r → gap cmp at r ≡ high_of r
@@ -77,20 +77,20 @@ module _ {K D : Type 0} (cmp : K → K → Ordering) (at : K) where
 
   -- the parts of a page at the key
   pub page-all : (l : ℕ) (c : Option (List ℕ)) (r : Row K D) → row_place cmp at r ≡ row_length r
-      → (held_lower cmp at (below (page l c r)) ≡ below (page l (kept_beside (held_upper cmp at (high_of r)) c) (with_high (held_lower cmp at (high_of r)) r)))
+      → (held_lower cmp at (below (page l c r)) ≡ below (page l (digest_beside (held_upper cmp at (high_of r)) c) (with_high (held_lower cmp at (high_of r)) r)))
       × (held_upper cmp at (below (page l c r)) ≡ held_upper cmp at (high_of r))
   page-all l c (high h) p = (refl, refl)
   page-all l c (node h k d r) p =
       let lo = low-all (node h k d r) p in
-      let up = up-all (node h k d r) p in ((λ j. as_held l (kept (up j) c) (lo j)), (λ j. as_held l (kept (lo j) c) (up j)))
+      let up = up-all (node h k d r) p in ((λ j. as_held l (row_digest_beside (up j) c) (lo j)), (λ j. as_held l (row_digest_beside (lo j) c) (up j)))
 
   pub page-none : (l : ℕ) (c : Option (List ℕ)) (r : Row K D) → row_place cmp at r ≡ 0 → 0 < row_length r
       → (held_lower cmp at (below (page l c r)) ≡ held_lower cmp at (first_of r))
-      × (held_upper cmp at (below (page l c r)) ≡ below (page l (kept_beside (held_lower cmp at (first_of r)) c) (with_first (held_upper cmp at (first_of r)) r)))
+      × (held_upper cmp at (below (page l c r)) ≡ below (page l (digest_beside (held_lower cmp at (first_of r)) c) (with_first (held_upper cmp at (first_of r)) r)))
   page-none l c (high h) p q = absurd (omega arith)
   page-none l c (node h k d r) p q =
       let lo = low-at (node h k d r) 0 (sym p) q in
-      let up = up-at (node h k d r) 0 (sym p) q in ((λ j. as_held l (kept (up j) c) (lo j)), (λ j. as_held l (kept (lo j) c) (up j)))
+      let up = up-at (node h k d r) 0 (sym p) q in ((λ j. as_held l (row_digest_beside (up j) c) (lo j)), (λ j. as_held l (row_digest_beside (lo j) c) (up j)))
 
   pub page-at : (l : ℕ) (c : Option (List ℕ)) (r : Row K D) (i : ℕ) → i ≡ row_place cmp at r → 0 < i → i < row_length r
       → (held_lower cmp at (below (page l c r)) ≡ below (page l None (with_high (held_lower cmp at (first_of (row_drop i r))) (row_take i r))))
@@ -102,8 +102,8 @@ module _ {K D : Type 0} (cmp : K → K → Ordering) (at : K) where
       let up = up-at (node h k d r) (suc i) p q in
       let U = with_first (held_upper cmp at (first_of (row_drop i r))) (row_drop i r) in
       let some : 0 < row_length U = omega (arith, length-first (held_upper cmp at (first_of (row_drop i r))) (row_drop i r), length-drop i r, q) in (
-        (λ j. as_held l (kept (up j) c) (lo j)) ∙ ap (λ o. below (page l o (node h k d (with_high (held_lower cmp at (first_of (row_drop i r))) (row_take i r))))) (some-kept c U some),
-        (λ j. as_held l (kept (lo j) c) (up j)) ∙ some-held l None U some,
+        (λ j. as_held l (row_digest_beside (up j) c) (lo j)) ∙ ap (λ o. below (page l o (node h k d (with_high (held_lower cmp at (first_of (row_drop i r))) (row_take i r))))) (some-kept c U some),
+        (λ j. as_held l (row_digest_beside (lo j) c) (up j)) ∙ some-held l None U some,
       )
 
 module _ {K D : Type 0} (cmp : K → K → Ordering) (k : K) where

@@ -3,7 +3,7 @@ use Rattle.std.specs.Prelude.{◌≡◌, List, ℕ, None}
 use Rattle.std.specs.declared.cmp.Ordering.{Ordering}
 use Rattle.merkle_diff.specs.Entry.{Entry}
 use Rattle.merkle_diff.specs.SameEntries.{SameEntries}
-use Rattle.merkle_tree_theory.specs.Cache.{missing}
+use Rattle.merkle_tree_theory.specs.Cache.{uncached_pages}
 use Rattle.merkle_tree_theory.specs.Canonical.{IsTreeOf}
 use Rattle.merkle_tree_theory.specs.Outline.{Item, whole_item}
 use Rattle.merkle_tree_theory.specs.Ranges.{ranges_of}
@@ -33,7 +33,7 @@ module _ {K H : Type 0} (bytes_of : K → List ℕ) where
 
   -- no page of the tree lacks a digest, and that of its root page is this one
   abbrev pub HasEveryDigest : State K H → List ℕ → Type 0
-  HasEveryDigest tree digest = (digest ≡ root_digest tree) × (missing tree.root ≡ 0)
+  HasEveryDigest tree digest = (digest ≡ root_digest tree) × (uncached_pages tree.root ≡ 0)
 
 module _ {K H : Type 0} (digest_of : H → K → List ℕ) where
   -- the tree that the map of a tree defines under its hasher and level base

@@ -4,7 +4,7 @@ use Rattle.std.specs.Vec.{vec_capacity}
 use Rattle.std.specs.declared.cmp.Ordering.{Ordering}
 use Rattle.merkle_tree_theory.specs.Tree.{Tree, Held, nothing, below}
 use Rattle.merkle_tree_theory.specs.Upsert.{held_lower, held_upper}
-use Rattle.merkle_tree_theory.specs.Chain.{with_high, with_first, row_of_page, hung, HaveNodes}
+use Rattle.merkle_tree_theory.specs.Chain.{with_high, with_first, row_of_page, page_chain, HaveNodes}
 use Rattle.merkle_search_tree.specs.Parting.{gap, PartingFits}
 use Rattle.merkle_search_tree.specs.declared.chain.Chain.{Chain}
 use Rattle.merkle_search_tree.specs.declared.parting.Parting.{Parting}
@@ -27,11 +27,11 @@ module _ {K D : Type 0} where
   stale_of (below t) n m = m
 
 module _ {K D : Type 0} (cmp : K → K → Ordering) (at : K) where
-  -- the parts of the whole are the pages of the sides, with the parts of what is still to be taken apart hung below them
+  -- the parts of the whole are the pages of the sides, with the parts of what is still to be taken apart page_chain below them
   abbrev pub InParts : Held K D → Held K D → Sides K D → Type 0
   InParts whole left s =
-      (hung with_high (stale_of (held_upper cmp at left) s.below.stale (length s.below.pages.items)) s.below.pages.items (held_lower cmp at left) ≡ held_lower cmp at whole)
-      × (hung with_first (stale_of (held_lower cmp at left) s.rest.stale (length s.rest.pages.items)) s.rest.pages.items (held_upper cmp at left) ≡ held_upper cmp at whole)
+      (page_chain with_high (stale_of (held_upper cmp at left) s.below.stale (length s.below.pages.items)) s.below.pages.items (held_lower cmp at left) ≡ held_lower cmp at whole)
+      × (page_chain with_first (stale_of (held_lower cmp at left) s.rest.stale (length s.rest.pages.items)) s.rest.pages.items (held_upper cmp at left) ≡ held_upper cmp at whole)
       × (s.below.stale ≤ length s.below.pages.items)
       × (s.rest.stale ≤ length s.rest.pages.items)
       × HaveNodes s.rest.pages.items

@@ -3,7 +3,7 @@ use Rattle.std.specs.Prelude.{◌≡◌, ◌≢◌, ℕ, ◌+◌, ◌≤◌, Lis
 use Rattle.std.specs.declared.cmp.Ordering.{Ordering}
 use Rattle.key_order.specs.Map.{set}
 use Rattle.merkle_digest.specs.Level.{level_of}
-use Rattle.merkle_tree_theory.specs.Cache.{missing}
+use Rattle.merkle_tree_theory.specs.Cache.{uncached_pages}
 use Rattle.merkle_tree_theory.specs.Page.{level}
 use Rattle.merkle_tree_theory.specs.State.{State, map_of}
 
@@ -13,4 +13,4 @@ SetsKey cmp value_digest old key value new = map_of new ≡ set cmp (map_of old)
 
 -- where the old tree was hashed, at most level of the new root + level of a key with this digest + 1 pages lack a digest
 abbrev pub FewAreMissing : {K H : Type 0} → List ℕ → State K H → State K H → Type 0
-FewAreMissing digest old new = old.root_hash ≢ None → missing new.root ≤ level new.root + level_of digest old.base + 1
+FewAreMissing digest old new = old.root_hash ≢ None → uncached_pages new.root ≤ level new.root + level_of digest old.base + 1

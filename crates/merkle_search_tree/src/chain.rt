@@ -3,7 +3,7 @@
 ghost use Rattle.std.specs.Prelude.{◌≡◌, ◌<◌, ◌≤◌, [], ◌∷◌, ◌++◌, IfOk};
 ghost use Rattle.std.specs.Vec.{vec_len, vec_capacity};
 ghost use Rattle.merkle_tree_theory.specs.Tree.{nothing, held_of};
-ghost use Rattle.merkle_tree_theory.specs.Chain.{page_length, with_high, with_first, row_of_page, remade, hung, HaveNodes};
+ghost use Rattle.merkle_tree_theory.specs.Chain.{page_length, with_high, with_first, row_of_page, page_with_row, page_chain, HaveNodes};
 ghost use Rattle.merkle_search_tree.specs.Split.{IsEmptyChain};
 
 use crate::page::PageOf;
@@ -12,7 +12,7 @@ use std::alloc::{AllocError, Global};
 impl<K: Drop, D: Drop> PageOf<K, D> {
     /// Hangs a page above the last node.
     pub(crate) fn hang_high(&mut self, held: Option<Box<PageOf<K, D>>>)
-        ensures { self.new ≡ remade 0 self.old (with_high (held_of held) (row_of_page self.old)) }
+        ensures { self.new ≡ page_with_row 0 self.old (with_high (held_of held) (row_of_page self.old)) }
     {
         self.high_page = held;
     }
@@ -20,7 +20,7 @@ impl<K: Drop, D: Drop> PageOf<K, D> {
     /// Hangs a page below the first node.
     fn hang_first(&mut self, held: Option<Box<PageOf<K, D>>>)
         requires { 0 < page_length self.old }
-        ensures { self.new ≡ remade 0 self.old (with_first (held_of held) (row_of_page self.old)) }
+        ensures { self.new ≡ page_with_row 0 self.old (with_first (held_of held) (row_of_page self.old)) }
     {
         let node = &mut self.nodes[0];
         node.lt_pointer = held;
@@ -28,7 +28,7 @@ impl<K: Drop, D: Drop> PageOf<K, D> {
 
     /// Drops the digest.
     fn drop_digest(&mut self)
-        ensures { self.new ≡ remade 1 self.old (row_of_page self.old) }
+        ensures { self.new ≡ page_with_row 1 self.old (row_of_page self.old) }
     {
         self.tree_hash = None;
     }
@@ -70,7 +70,7 @@ impl<K: Drop, D: Drop> Chain<K, D> {
 
     /// Hangs each page above the last node of the one before it.
     pub(crate) fn hang_below(self) -> Option<Box<PageOf<K, D>>>
-        ensures { held_of result ≡ hung with_high self.stale self.pages.items nothing }
+        ensures { held_of result ≡ page_chain with_high self.stale self.pages.items nothing }
     {
         let Chain { mut pages, stale } = self;
         let mut held = None;
@@ -87,7 +87,7 @@ impl<K: Drop, D: Drop> Chain<K, D> {
     /// Hangs each page below the first node of the one before it.
     pub(crate) fn hang_rest(self) -> Option<Box<PageOf<K, D>>>
         requires { HaveNodes self.pages.items }
-        ensures { held_of result ≡ hung with_first self.stale self.pages.items nothing }
+        ensures { held_of result ≡ page_chain with_first self.stale self.pages.items nothing }
     {
         let Chain { mut pages, stale } = self;
         let mut held = None;

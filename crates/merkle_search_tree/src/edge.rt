@@ -2,7 +2,7 @@
 
 ghost use Rattle.std.specs.Prelude.{◌≡◌, ◌≤◌, ℕ, IfOk, OnOk};
 ghost use Rattle.merkle_tree_theory.specs.Tree.{held_of};
-ghost use Rattle.merkle_tree_theory.specs.Chain.{row_of_page, remade};
+ghost use Rattle.merkle_tree_theory.specs.Chain.{row_of_page, page_with_row};
 ghost use Rattle.merkle_tree_theory.specs.Edge.{row_more, last_level, edge_pairs, is_above, IsEdge, IsRootOf};
 ghost use Rattle.merkle_search_tree.specs.Edges.{AppendsPair, ClosesBelow};
 
@@ -13,7 +13,7 @@ use std::alloc::{AllocError, Global};
 impl<K: Drop, D: Drop> PageOf<K, D> {
     /// Puts a node behind the last one.
     fn push_node(&mut self, node: NodeOf<K, D>) -> Result<(), AllocError>
-        ensures { IfOk result (λ _. self.new ≡ remade 0 self.old (row_more node (row_of_page self.old))) }
+        ensures { IfOk result (λ _. self.new ≡ page_with_row 0 self.old (row_more node (row_of_page self.old))) }
     {
         self.nodes.push(node)?;
         Ok(())

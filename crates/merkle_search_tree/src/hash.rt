@@ -3,7 +3,7 @@
 ghost use Rattle.std.specs.Prelude.{◌≡◌, ◌-◌, ◌^◌, min};
 ghost use Rattle.merkle_tree_theory.specs.Tree.{held_of};
 ghost use Rattle.merkle_tree_theory.specs.Stream.{page_digest, held_stream, head_bytes, none_bytes, below_bytes, key_bytes};
-ghost use Rattle.merkle_tree_theory.specs.Cache.{CachesHold, HeldCachesHold, missing, held_missing, filled, held_filled};
+ghost use Rattle.merkle_tree_theory.specs.Cache.{CachesHold, HeldCachesHold, uncached_pages, held_uncached_pages, tree_with_digests, held_with_digests};
 ghost use Rattle.merkle_search_tree.specs.Hashing.{HoldsMore};
 
 use crate::builder::PageFormat;
@@ -15,7 +15,7 @@ impl<K, D> PageOf<K, D> {
     /// How many pages lack a digest, this one and those below it, but at most `usize::MAX`.
     #[cycle(missing)]
     pub(crate) fn missing(&self) -> usize
-        ensures { result ≡ min (missing self.now) (2 ^ 64 - 1) }
+        ensures { result ≡ min (uncached_pages self.now) (2 ^ 64 - 1) }
     {
         let mut count: usize = if self.tree_hash.is_none() { 1 } else { 0 };
         'nodes: for node in &self.nodes {
@@ -28,7 +28,7 @@ impl<K, D> PageOf<K, D> {
 /// How many pages lack a digest in what a pointer holds.
 #[cycle(missing)]
 fn missing_below<K, D>(held: &Option<Box<PageOf<K, D>>>) -> usize
-    ensures { result ≡ min (held_missing (held_of held.now)) (2 ^ 64 - 1) }
+    ensures { result ≡ min (held_uncached_pages (held_of held.now)) (2 ^ 64 - 1) }
 {
     match held {
         None => 0,
@@ -42,9 +42,9 @@ impl<const N: usize, K: KeyBytes> Page<N, K> {
     #[cycle(fill)]
     pub(crate) fn fill(&mut self, format: PageFormat) -> (PageDigest, usize)
         requires { CachesHold format K.bytes_of self.old }
-        ensures pages { self.new ≡ filled format K.bytes_of self.old }
+        ensures pages { self.new ≡ tree_with_digests format K.bytes_of self.old }
         ensures digest { result.0 ≡ page_digest format K.bytes_of self.old }
-        ensures count { result.1 ≡ min (missing self.old) (2 ^ 64 - 1) }
+        ensures count { result.1 ≡ min (uncached_pages self.old) (2 ^ 64 - 1) }
     {
         if let Some(digest) = &self.tree_hash {
             return (PageDigest::new(*digest.as_bytes()), 0);
@@ -73,9 +73,9 @@ fn fill_below<const N: usize, K: KeyBytes>(
     sip: &mut Sip24,
 ) -> usize
     requires { HeldCachesHold format K.bytes_of (held_of held.old) }
-    ensures pages { held_of held.new ≡ held_filled format K.bytes_of (held_of held.old) }
+    ensures pages { held_of held.new ≡ held_with_digests format K.bytes_of (held_of held.old) }
     ensures bytes { HoldsMore sip.old (held_stream format K.bytes_of (held_of held.old)) sip.new }
-    ensures count { result ≡ min (held_missing (held_of held.old)) (2 ^ 64 - 1) }
+    ensures count { result ≡ min (held_uncached_pages (held_of held.old)) (2 ^ 64 - 1) }
 {
     match held {
         None => {
@@ -147,7 +147,7 @@ impl<K: Ord + KeyBytes, V, H: Hasher<N, K>, const N: usize> MerkleSearchTree<K, 
 
     /// How many pages lack a digest, but at most `usize::MAX`: none of a hashed tree. It looks at every page, and takes no memory.
     pub fn pages_to_hash(&self) -> usize
-        ensures count { result ≡ min (missing self.now.root) (2 ^ 64 - 1) }
+        ensures count { result ≡ min (uncached_pages self.now.root) (2 ^ 64 - 1) }
         ensures hashed { self.now.root_hash ≢ None → result ≡ 0 }
     {
         self.root.missing()
@@ -182,8 +182,8 @@ impl<K: Ord + KeyBytes, V, H: Hasher<N, K>, const N: usize> MerkleSearchTree<K, 
         ensures tree { self.new ≡ hashed_tree K.bytes_of self.old }
         ensures map { map_of self.new ≡ map_of self.old }
         ensures digest { result.0 ≡ root_digest K.bytes_of self.old }
-        ensures count { result.1 ≡ min (missing self.old.root) (2 ^ 64 - 1) }
-        ensures hashed { missing self.new.root ≡ 0 }
+        ensures count { result.1 ≡ min (uncached_pages self.old.root) (2 ^ 64 - 1) }
+        ensures hashed { uncached_pages self.new.root ≡ 0 }
     {
         let (digest, hashed) = self.root.fill(self.page_format);
         let bytes = *digest.as_bytes();

@@ -5,7 +5,7 @@ ghost use Rattle.std.specs.Option.{option_map};
 ghost use Rattle.merkle_diff.specs.PageRange.{entry};
 ghost use Rattle.merkle_tree_theory.specs.Tree.{held_of};
 ghost use Rattle.merkle_tree_theory.specs.Page.{pairs, held_pairs, LevelsFall, HeldFalls};
-ghost use Rattle.merkle_tree_theory.specs.CachedRanges.{as_list, first_of, last_of, range_of, cached_ranges, held_cached, HasRange};
+ghost use Rattle.merkle_tree_theory.specs.CachedRanges.{as_list, first_key_of, last_key_of, range_of, cached_ranges, held_cached, HasRange};
 ghost use Rattle.merkle_search_tree.specs.Lists.{AddsRanges};
 
 use crate::page::PageOf;
@@ -16,7 +16,7 @@ use std::alloc::AllocError;
 /// The first key of a page and those below it.
 #[cycle(first)]
 fn first_key<K, D>(page: &PageOf<K, D>) -> Option<&K>
-    ensures { option_map (λ key. key.now) result ≡ first_of (pairs page.now) }
+    ensures { option_map (λ key. key.now) result ≡ first_key_of (pairs page.now) }
 {
     match page.nodes.first() {
         None => first_key_below(&page.high_page),
@@ -30,7 +30,7 @@ fn first_key<K, D>(page: &PageOf<K, D>) -> Option<&K>
 /// The first key of what a pointer holds.
 #[cycle(first)]
 fn first_key_below<K, D>(held: &Option<Box<PageOf<K, D>>>) -> Option<&K>
-    ensures { option_map (λ key. key.now) result ≡ first_of (held_pairs (held_of held.now)) }
+    ensures { option_map (λ key. key.now) result ≡ first_key_of (held_pairs (held_of held.now)) }
 {
     match held {
         None => None,
@@ -41,7 +41,7 @@ fn first_key_below<K, D>(held: &Option<Box<PageOf<K, D>>>) -> Option<&K>
 /// The first key of a page and those below it, where levels fall: on level 0 that of its first node, since no page is below.
 fn least_key<K, D>(page: &PageOf<K, D>) -> Option<&K>
     requires { LevelsFall page.now }
-    ensures { option_map (λ key. key.now) result ≡ first_of (pairs page.now) }
+    ensures { option_map (λ key. key.now) result ≡ first_key_of (pairs page.now) }
 {
     if page.level > 0 {
         return first_key(page);
@@ -55,7 +55,7 @@ fn least_key<K, D>(page: &PageOf<K, D>) -> Option<&K>
 /// The last key of a page and those below it.
 #[cycle(last)]
 pub(crate) fn last_key<K, D>(page: &PageOf<K, D>) -> Option<&K>
-    ensures { option_map (λ key. key.now) result ≡ last_of (pairs page.now) }
+    ensures { option_map (λ key. key.now) result ≡ last_key_of (pairs page.now) }
 {
     match last_key_below(&page.high_page) {
         Some(key) => Some(key),
@@ -69,7 +69,7 @@ pub(crate) fn last_key<K, D>(page: &PageOf<K, D>) -> Option<&K>
 /// The last key of what a pointer holds.
 #[cycle(last)]
 fn last_key_below<K, D>(held: &Option<Box<PageOf<K, D>>>) -> Option<&K>
-    ensures { option_map (λ key. key.now) result ≡ last_of (held_pairs (held_of held.now)) }
+    ensures { option_map (λ key. key.now) result ≡ last_key_of (held_pairs (held_of held.now)) }
 {
     match held {
         None => None,

@@ -7,7 +7,7 @@ ghost use Rattle.key_order.specs.Map.{IsMap};
 ghost use Rattle.merkle_tree_theory.specs.Page.{held_pairs};
 ghost use Rattle.merkle_tree_theory.specs.Tree.{Held, nothing, held_of};
 ghost use Rattle.merkle_tree_theory.specs.Upsert.{held_lower, held_upper};
-ghost use Rattle.merkle_tree_theory.specs.Chain.{page_length, high_of, first_of, with_high, with_first, row_take, row_drop, row_of_page, remade};
+ghost use Rattle.merkle_tree_theory.specs.Chain.{page_length, high_of, first_of, with_high, with_first, row_take, row_drop, row_of_page, page_with_row};
 ghost use Rattle.merkle_search_tree.specs.Parting.{PartsNodes};
 ghost use Rattle.merkle_search_tree.specs.Split.{HaveRoom, InParts, IsGapAt, KeepsParts};
 
@@ -22,7 +22,7 @@ impl<K: Drop, D: Drop> PageOf<K, D> {
     /// Takes out what stands above the last node.
     fn take_high(&mut self) -> Option<Box<PageOf<K, D>>>
         ensures taken { held_of result ≡ high_of (row_of_page self.old) }
-        ensures left { self.new ≡ remade 0 self.old (with_high nothing (row_of_page self.old)) }
+        ensures left { self.new ≡ page_with_row 0 self.old (with_high nothing (row_of_page self.old)) }
     {
         mem::replace(&mut self.high_page, None)
     }
@@ -31,7 +31,7 @@ impl<K: Drop, D: Drop> PageOf<K, D> {
     fn take_first(&mut self) -> Option<Box<PageOf<K, D>>>
         requires { 0 < page_length self.old }
         ensures taken { held_of result ≡ first_of (row_of_page self.old) }
-        ensures left { self.new ≡ remade 0 self.old (with_first nothing (row_of_page self.old)) }
+        ensures left { self.new ≡ page_with_row 0 self.old (with_first nothing (row_of_page self.old)) }
     {
         let node = &mut self.nodes[0];
         mem::replace(&mut node.lt_pointer, None)
@@ -42,8 +42,8 @@ impl<K: Drop, D: Drop> PageOf<K, D> {
         requires in_bounds { at ≤ page_length self.old }
         requires empty { spare.nodes.items ≡ [] }
         requires room { page_length self.old ≤ at + vec_capacity spare.nodes }
-        ensures stays { self.new ≡ remade 1 self.old (row_take at (row_of_page self.old)) }
-        ensures goes { result.value ≡ remade 1 self.old (row_drop at (row_of_page self.old)) }
+        ensures stays { self.new ≡ page_with_row 1 self.old (row_take at (row_of_page self.old)) }
+        ensures goes { result.value ≡ page_with_row 1 self.old (row_drop at (row_of_page self.old)) }
     {
         move_tail(&mut self.nodes, at, &mut spare.nodes);
         self.nodes.shrink_to_fit();

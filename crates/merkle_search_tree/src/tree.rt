@@ -10,7 +10,7 @@ ghost use Rattle.merkle_tree_theory.specs.Tree.{page, high, nothing};
 ghost use Rattle.merkle_tree_theory.specs.Page.{level, pair_of, nodes_of, nodes_in_order};
 ghost use Rattle.merkle_tree_theory.specs.Search.{ComparesByHalves};
 ghost use Rattle.merkle_tree_theory.specs.Upsert.{place};
-ghost use Rattle.merkle_tree_theory.specs.Cache.{missing, KeyUncached};
+ghost use Rattle.merkle_tree_theory.specs.Cache.{uncached_pages, KeyUncached};
 ghost use Rattle.merkle_tree_theory.specs.Copy.{IsCopy};
 ghost use Rattle.merkle_tree_theory.specs.Dropped.{UpsertDropsFew, RemovalDropsFew};
 ghost use Rattle.merkle_tree_theory.specs.Sound.{IsSound};
@@ -383,7 +383,7 @@ impl<K: Ord + KeyBytes + Drop, V, H: Hasher<N, K>, const N: usize> MerkleSearchT
 
         // Few digests are dropped, and few are missing in a tree that was hashed.
         ensures few_more { OnOk result (RemovalDropsFew self.old self.new) }
-        ensures few { OnOk result (self.old.root_hash ≢ None → missing self.new.root ≤ level self.old.root + 1) }
+        ensures few { OnOk result (self.old.root_hash ≢ None → uncached_pages self.new.root ≤ level self.old.root + 1) }
 
         ensures settings { SameSettings self.old self.new }
 

@@ -5,7 +5,7 @@ use Rattle.std.specs.Ordering.{eq_by_cmp}
 use Rattle.key_order.specs.Join.{joined, IsJoining}
 use Rattle.key_order.specs.Text.{Text as Key, text_order}
 use Rattle.key_order.proofs.Values.{Eq, on, back, assoc, comm, cong, same, to_none, idem}
-use Rattle.merkle_replica.specs.Puts.{gathered}
+use Rattle.merkle_replica.specs.Puts.{join_of_values}
 use Rattle.store_table.specs.Entries.{entry_order}
 use Rattle.store_table.specs.Registers.{register_order}
 use Rattle.store_table.specs.declared.register.Register.{Register}
@@ -38,7 +38,7 @@ module _ (eq : Register → Register → Bool) (e : IsEquivalence eq) (join : Re
 
   module _ (total : IsTotalOrder text_order) (ties : (a b : Register) → eq a b ≡ eq_by_cmp register_order a b) where
     abbrev G : List (Key × Register) → Key → Option Register
-    G = gathered text_order eq join
+    G = join_of_values text_order eq join
 
     abbrev A : Key → Key × Register → Option Register
     A = at eq e join j total ties

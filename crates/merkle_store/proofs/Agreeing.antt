@@ -6,7 +6,7 @@ use Rattle.key_order.specs.Map.{get}
 use Rattle.key_order.specs.Join.{IsJoining}
 use Rattle.key_order.specs.Text.{Text as Key, text_order}
 use Rattle.key_order.proofs.Values.{Eq, on, back, cong}
-use Rattle.merkle_replica.specs.Puts.{gathered}
+use Rattle.merkle_replica.specs.Puts.{join_of_values}
 use Rattle.sqlite_value.specs.Keys.{plain, entry_cmp}
 use Rattle.sqlite_value.proofs.KeyLemmas.{entry_cmp_total, then_tied}
 use Rattle.sqlite_trees.specs.Tree.{Trees}
@@ -27,7 +27,7 @@ module _ (eq : Register → Register → Bool) (e : IsEquivalence eq) (join : Re
   at k r = cond (is_eq (text_order r.0 k)) (Some r.1) None
 
   abbrev G : List (Key × Register) → Key → Option Register
-  G = gathered text_order eq join
+  G = join_of_values text_order eq join
 
   abbrev E : Option Register → Option Register → Type 0
   E = Eq eq e join j

@@ -10,7 +10,7 @@ use Rattle.key_order.specs.Text.{Text as Key, text_order}
 use Rattle.key_order.proofs.Bools.{which, is_equal}
 use Rattle.key_order.proofs.Orders.{turned}
 use Rattle.key_order.proofs.Values.{Eq, on, back, assoc, along, cong, same}
-use Rattle.merkle_replica.specs.Puts.{gathered}
+use Rattle.merkle_replica.specs.Puts.{join_of_values}
 use Rattle.sqlite_value.specs.Order.{column, value_cmp}
 use Rattle.sqlite_value.specs.declared.value.Value.TheVariants.{Text as Words}
 use Rattle.sqlite_value.proofs.KeyLemmas.{then_below, then_tied}
@@ -37,7 +37,7 @@ module _ (total_registers : IsTotalOrder register_order) (eq : Register → Regi
   E = Eq eq e (ord_max register_order) j
 
   abbrev G : List (Key × Register) → Option Register
-  G entries = gathered text_order eq (ord_max register_order) entries k
+  G entries = join_of_values text_order eq (ord_max register_order) entries k
 
   abbrev at : Key × Register → Option Register
   at r = cond (is_eq (text_order r.0 k)) (Some r.1) None

@@ -12,7 +12,7 @@ use Rattle.key_order.proofs.Maps.{absent}
 use Rattle.key_order.proofs.Orders.{up_low, same_down}
 use Rattle.key_order.proofs.Values.{Eq, on, back, assoc, cong, same, to_none}
 use Rattle.merkle_diff.proofs.Each.{each-with}
-use Rattle.merkle_replica.specs.Puts.{IsPuts, gathered, HasGathered}
+use Rattle.merkle_replica.specs.Puts.{IsPuts, join_of_values, HasGathered}
 use Rattle.sqlite_trees.specs.Tree.{Trees}
 use Rattle.store_table.specs.Changes.{IsNewStore, HasMore, HasInstead}
 use Rattle.store_table.specs.Entries.{HoldsEntries, entry_row, note_in, IsNoted}
@@ -32,7 +32,7 @@ module _ (eq : Register → Register → Bool) (e : IsEquivalence eq) (join : Re
   J = joined join
 
   abbrev G : List (Key × Register) → Key → Option Register
-  G = gathered text_order eq join
+  G = join_of_values text_order eq join
 
   -- puts in any order gather the rows
   pub gathered_puts : (rows old now : List (Key × Register)) → IsPuts text_order eq join old rows now → HasGathered text_order eq join old rows now

@@ -14,7 +14,7 @@ use Rattle.key_order.proofs.Bools.{which, is_equal}
 use Rattle.key_order.proofs.Maps.{get_same}
 use Rattle.key_order.proofs.Orders.{either, not_both}
 use Rattle.key_order.proofs.Values.{Eq, on, back, assoc, cong, same, to_none}
-use Rattle.merkle_replica.specs.Puts.{gathered}
+use Rattle.merkle_replica.specs.Puts.{join_of_values}
 use Rattle.store_table.specs.Registers.{is_later, register_order, time_after}
 use Rattle.merkle_store.specs.Kept.{JoinTheSame}
 use Rattle.merkle_store.proofs.Adding.{swap}
@@ -62,20 +62,20 @@ module _ (o : IsTotalOrder register_order) (eq : Register → Register → Bool)
     later_join_the_same [] k = same eq e (ord_max register_order) j (joined (ord_max register_order) (get text_order rows k) None)
     later_join_the_same (r ∷ entries) k = by (which (later r)) (later_join_the_same entries k)
       where
-        by : (later r ≡ false) ⊎ (later r ≡ true) → Eq eq e (ord_max register_order) j (joined (ord_max register_order) (get text_order rows k) (gathered text_order eq (ord_max register_order) entries k)) (joined (ord_max register_order) (get text_order rows k) (gathered text_order eq (ord_max register_order) (filter later entries) k))
-            → Eq eq e (ord_max register_order) j (joined (ord_max register_order) (get text_order rows k) (gathered text_order eq (ord_max register_order) (r ∷ entries) k)) (joined (ord_max register_order) (get text_order rows k) (gathered text_order eq (ord_max register_order) (filter later (r ∷ entries)) k))
+        by : (later r ≡ false) ⊎ (later r ≡ true) → Eq eq e (ord_max register_order) j (joined (ord_max register_order) (get text_order rows k) (join_of_values text_order eq (ord_max register_order) entries k)) (joined (ord_max register_order) (get text_order rows k) (join_of_values text_order eq (ord_max register_order) (filter later entries) k))
+            → Eq eq e (ord_max register_order) j (joined (ord_max register_order) (get text_order rows k) (join_of_values text_order eq (ord_max register_order) (r ∷ entries) k)) (joined (ord_max register_order) (get text_order rows k) (join_of_values text_order eq (ord_max register_order) (filter later (r ∷ entries)) k))
         by (inl n) h =
             let A = get text_order rows k in
-            let G = gathered text_order eq (ord_max register_order) entries k in
-            let G' = gathered text_order eq (ord_max register_order) (filter later entries) k in
+            let G = join_of_values text_order eq (ord_max register_order) entries k in
+            let G' = join_of_values text_order eq (ord_max register_order) (filter later entries) k in
             let R = at k r in
             rw n (on eq e (ord_max register_order) j (J A (J R G)) (J A G) (J A G')
             (on eq e (ord_max register_order) j (J A (J R G)) (J (J A R) G) (J A G) (back eq e (ord_max register_order) j (J (J A R) G) (J A (J R G)) (assoc eq e (ord_max register_order) j A R G))
             (cong eq e (ord_max register_order) j (J A R) A G G (adds_nothing r k n) (same eq e (ord_max register_order) j G))) h)
         by (inr n) h =
             let A = get text_order rows k in
-            let G = gathered text_order eq (ord_max register_order) entries k in
-            let G' = gathered text_order eq (ord_max register_order) (filter later entries) k in
+            let G = join_of_values text_order eq (ord_max register_order) entries k in
+            let G' = join_of_values text_order eq (ord_max register_order) (filter later entries) k in
             let R = at k r in
             rw n (on eq e (ord_max register_order) j (J A (J R G)) (J R (J A G)) (J A (J R G')) (swap eq e (ord_max register_order) j A R G)
             (on eq e (ord_max register_order) j (J R (J A G)) (J R (J A G')) (J A (J R G')) (cong eq e (ord_max register_order) j R R (J A G) (J A G') (same eq e (ord_max register_order) j R) h)

@@ -7,7 +7,7 @@ use Rattle.key_order.specs.Join.{joined, IsJoin}
 use Rattle.sqlite_trees.specs.declared.store.Store.{Ghosts}
 use Rattle.sqlite_trees.specs.Tree.{Trees}
 use Rattle.merkle_tree_theory.specs.State.{SameSettings}
-use Rattle.merkle_replica.specs.Puts.{gathered, HasGathered, IsPuts}
+use Rattle.merkle_replica.specs.Puts.{join_of_values, HasGathered, IsPuts}
 use Rattle.store_table.specs.Entries.{HoldsEntries, IsNoted}
 use Rattle.store_table.specs.Latest.{IsLatestAt}
 use Rattle.store_table.specs.Logs.{trees_of, IsClean}
@@ -30,7 +30,7 @@ module _ (eq : Register → Register → Bool) (join : Register → Register →
   -- joined with the rows, these entries make the same as those
   abbrev pub JoinTheSame : List (Key × Register) → List (Key × Register) → List (Key × Register) → Type 0
   JoinTheSame rows these those = (k : Key) → SameValue (λ x y. eq x y ≡ true)
-      (joined join (get text_order rows k) (gathered text_order eq join these k)) (joined join (get text_order rows k) (gathered text_order eq join those k))
+      (joined join (get text_order rows k) (join_of_values text_order eq join these k)) (joined join (get text_order rows k) (join_of_values text_order eq join those k))
 
 -- whether two registers are equal
 abbrev pub same_register : Register → Register → Bool

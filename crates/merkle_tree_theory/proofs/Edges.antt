@@ -7,9 +7,9 @@ use Rattle.merkle_tree_theory.specs.Tree.{Tree, page, Row, high, node, Held, not
 use Rattle.merkle_tree_theory.specs.TreeOf.{root_of}
 use Rattle.merkle_tree_theory.specs.Page.{level, pairs, row_pairs, held_pairs}
 use Rattle.merkle_tree_theory.specs.Cache.{CachesHold, RowCachesHold, HeldCachesHold}
-use Rattle.merkle_tree_theory.specs.CachedRanges.{last_of}
+use Rattle.merkle_tree_theory.specs.CachedRanges.{last_key_of}
 use Rattle.merkle_tree_theory.specs.Canonical.{HasNode, IsCanonical, IsRow, IsGap, IsCanonicalRoot}
-use Rattle.merkle_tree_theory.specs.Chain.{high_of, with_high, row_of_page, remade}
+use Rattle.merkle_tree_theory.specs.Chain.{high_of, with_high, row_of_page, page_with_row}
 use Rattle.merkle_tree_theory.specs.Edge.{row_more, IsBare, RowIsBare, HeldIsBare, last_level, edge_pairs, is_above, IsOpen, IsEdge, ClosesPages, Appends}
 use Rattle.merkle_tree_theory.specs.declared.page_format.PageFormat.{PageFormat}
 use Rattle.merkle_tree_theory.proofs.RangeEnds.{last-append}
@@ -53,29 +53,29 @@ module _ {K D : Type 0} where
 
 -- pages
 module _ {K D : Type 0} where
-  page-pairs : (h : Held K D) (t : Tree K D) → high_of (row_of_page t) ≡ nothing → pairs (remade 0 t (with_high h (row_of_page t))) ≡ pairs t ++ held_pairs h
+  page-pairs : (h : Held K D) (t : Tree K D) → high_of (row_of_page t) ≡ nothing → pairs (page_with_row 0 t (with_high h (row_of_page t))) ≡ pairs t ++ held_pairs h
   page-pairs h (page l c r) e = high-pairs h r e
 
-  node-pairs : (e : Node K D) (t : Tree K D) → high_of (row_of_page t) ≡ nothing → pairs (remade 0 t (row_more e (row_of_page t))) ≡ pairs t ++ (held_pairs e.lt ++ (e.key, e.digest) ∷ [])
+  node-pairs : (e : Node K D) (t : Tree K D) → high_of (row_of_page t) ≡ nothing → pairs (page_with_row 0 t (row_more e (row_of_page t))) ≡ pairs t ++ (held_pairs e.lt ++ (e.key, e.digest) ∷ [])
   node-pairs e (page l c r) p = more-pairs e r p
 
-  pub level-node : (e : Node K D) (t : Tree K D) → level (remade 0 t (row_more e (row_of_page t))) ≡ level t
+  pub level-node : (e : Node K D) (t : Tree K D) → level (page_with_row 0 t (row_more e (row_of_page t))) ≡ level t
   level-node e (page l c r) = refl
 
-  page-bare : (h : Held K D) (t : Tree K D) → IsBare t → HeldIsBare h → IsBare (remade 0 t (with_high h (row_of_page t)))
+  page-bare : (h : Held K D) (t : Tree K D) → IsBare t → HeldIsBare h → IsBare (page_with_row 0 t (with_high h (row_of_page t)))
   page-bare h (page l None r) a b = high-bare h r a b
   page-bare h (page l (Some c) r) a b = absurd a
 
-  node-bare : (e : Node K D) (t : Tree K D) → IsBare t → HeldIsBare e.lt → IsBare (remade 0 t (row_more e (row_of_page t)))
+  node-bare : (e : Node K D) (t : Tree K D) → IsBare t → HeldIsBare e.lt → IsBare (page_with_row 0 t (row_more e (row_of_page t)))
   node-bare e (page l None r) a b = more-bare e r a b
   node-bare e (page l (Some c) r) a b = absurd a
 
   module _ (lev : K → ℕ) where
-    page-gap : (b : ℕ) (h : Held K D) (t : Tree K D) → level t < b → HasNode t → IsCanonical lev t → IsGap lev (level t) h → IsGap lev b (below (remade 0 t (with_high h (row_of_page t))))
+    page-gap : (b : ℕ) (h : Held K D) (t : Tree K D) → level t < b → HasNode t → IsCanonical lev t → IsGap lev (level t) h → IsGap lev b (below (page_with_row 0 t (with_high h (row_of_page t))))
     page-gap b h (page l c (high g)) s w p q = absurd w
     page-gap b h (page l c (node g k d r)) s w p q = (s, tt, high-row lev l h (node g k d r) p q)
 
-    node-open : (e : Node K D) (t : Tree K D) → IsOpen lev t → IsGap lev (level t) e.lt → HeldIsBare e.lt → lev e.key ≡ level t → IsOpen lev (remade 0 t (row_more e (row_of_page t)))
+    node-open : (e : Node K D) (t : Tree K D) → IsOpen lev t → IsGap lev (level t) e.lt → HeldIsBare e.lt → lev e.key ≡ level t → IsOpen lev (page_with_row 0 t (row_more e (row_of_page t)))
     node-open e (page l c (high g)) o p q s = absurd o.0
     node-open e (page l c (node g k d r)) o p q s =
         (tt, more-row lev l e (node g k d r) o.1 p s, node-bare e (page l c (node g k d r)) o.2 q, high-more e (node g k d r) ∙ o.3)
@@ -104,7 +104,7 @@ module _ {K D : Type 0} where
     edge-low b (t ∷ ts) a = omega (arith, edge-low (level t) ts a.2, a.0)
 
     -- the last open page is closed
-    pub closes-more : (n : ℕ) (ts us vs : List (Tree K D)) (t u : Tree K D) (h : Held K D) → us ≡ vs ++ t ∷ [] → level t < n → u ≡ remade 0 t (with_high h (row_of_page t)) → ClosesPages lev n ts us h → ClosesPages lev n ts vs (below u)
+    pub closes-more : (n : ℕ) (ts us vs : List (Tree K D)) (t u : Tree K D) (h : Held K D) → us ≡ vs ++ t ∷ [] → level t < n → u ≡ page_with_row 0 t (with_high h (row_of_page t)) → ClosesPages lev n ts us h → ClosesPages lev n ts vs (below u)
     closes-more n ts us vs t u h e s q a =
         let c = subst (λ x. ClosesPages lev n ts x h) e a in
         let f = edge-last 256 vs t c.0 in
@@ -119,7 +119,7 @@ module _ {K D : Type 0} where
         )
 
     -- a pair on the level of the last open page
-    pub append-at : (n : ℕ) (k : K) (d : D) (ts us vs ws : List (Tree K D)) (t u : Tree K D) (h : Held K D) → us ≡ vs ++ t ∷ [] → last_level 256 us ≡ n → lev k ≡ n → u ≡ remade 0 t (row_more (record { lt = h; key = k; digest = d }) (row_of_page t))
+    pub append-at : (n : ℕ) (k : K) (d : D) (ts us vs ws : List (Tree K D)) (t u : Tree K D) (h : Held K D) → us ≡ vs ++ t ∷ [] → last_level 256 us ≡ n → lev k ≡ n → u ≡ page_with_row 0 t (row_more (record { lt = h; key = k; digest = d }) (row_of_page t))
         → ws ≡ vs ++ u ∷ [] → ClosesPages lev n ts us h → Appends lev k d ts ws
     append-at n k d ts us vs ws t u h e m s q w a =
         let c = subst (λ x. ClosesPages lev n ts x h) e a in
@@ -128,8 +128,8 @@ module _ {K D : Type 0} where
         let same : n ≡ level t = sym m ∙ ap (last_level 256) e ∙ last-level 256 vs t in
         let g : IsGap lev (level t) h = subst (λ b. IsGap lev b h) same c.2.0 in
         subst (λ zs. Appends lev k d ts zs) (sym (w ∙ ap (λ y. vs ++ y ∷ []) q)) (
-          edge-more 256 vs (remade 0 t (row_more x (row_of_page t))) f.0 (subst (λ j. j < last_level 256 vs) (sym (level-node x t)) f.1) (node-open lev x t f.2 g c.2.1 (s ∙ same)),
-          edge-pairs vs (remade 0 t (row_more x (row_of_page t)))
+          edge-more 256 vs (page_with_row 0 t (row_more x (row_of_page t))) f.0 (subst (λ j. j < last_level 256 vs) (sym (level-node x t)) f.1) (node-open lev x t f.2 g c.2.1 (s ∙ same)),
+          edge-pairs vs (page_with_row 0 t (row_more x (row_of_page t)))
               ∙ ap (λ z. edge_pairs vs ++ z) (node-pairs x t f.2.3)
               ∙ sym (append_assoc (edge_pairs vs) (pairs t) (held_pairs h ++ (k, d) ∷ []))
               ∙ ap (λ z. z ++ (held_pairs h ++ (k, d) ∷ [])) (sym (edge-pairs vs t))
@@ -204,18 +204,18 @@ module _ {K D : Type 0} where
       (n.0, (pairs t ++ n.1.0, ap (λ z. pairs t ++ z) n.1.1 ∙ sym (append_assoc (pairs t) n.1.0 (pairs (get_or (u ∷ us) i x)))))
 
   -- a key is above all pages where it is above the last key of the last one
-  pub above-edge : (lev : K → ℕ) (cmp : K → K → Ordering) (ts : List (Tree K D)) (i : ℕ) (x : Tree K D) (k j : K) → suc i ≡ length ts → IsEdge lev 256 ts → Some j ≡ last_of (pairs (get_or ts i x))
+  pub above-edge : (lev : K → ℕ) (cmp : K → K → Ordering) (ts : List (Tree K D)) (i : ℕ) (x : Tree K D) (k j : K) → suc i ≡ length ts → IsEdge lev 256 ts → Some j ≡ last_key_of (pairs (get_or ts i x))
       → below_key cmp j k ≡ is_above cmp k (edge_pairs ts)
   above-edge lev cmp ts i x k j e a s =
       let n = last-here lev 256 ts i x e a in
       let q = has-last (get_or ts i x) n.0 in
-      let same : Some j ≡ Some (last_key q.0.0 q.1.0) = s ∙ ap last_of q.1.1 in
+      let same : Some j ≡ Some (last_key q.0.0 q.1.0) = s ∙ ap last_key_of q.1.1 in
       let last : j ≡ last_key q.0.0 q.1.0 = cc in
       ap (λ m. below_key cmp m k) last ∙ sym (ap (is_above cmp k) (n.1.1 ∙ ap (λ z. n.1.0 ++ z) q.1.1) ∙ above-last cmp k n.1.0 q.0 q.1.0)
 
-  pub no-last : (lev : K → ℕ) (ts : List (Tree K D)) (i : ℕ) (x : Tree K D) → suc i ≡ length ts → IsEdge lev 256 ts → None ≡ last_of (pairs (get_or ts i x)) → ⊥
+  pub no-last : (lev : K → ℕ) (ts : List (Tree K D)) (i : ℕ) (x : Tree K D) → suc i ≡ length ts → IsEdge lev 256 ts → None ≡ last_key_of (pairs (get_or ts i x)) → ⊥
   no-last lev ts i x e a s =
       let n = last-here lev 256 ts i x e a in
       let q = has-last (get_or ts i x) n.0 in
-      let same : None ≡ Some (last_key q.0.0 q.1.0) = s ∙ ap last_of q.1.1 in
+      let same : None ≡ Some (last_key q.0.0 q.1.0) = s ∙ ap last_key_of q.1.1 in
       absurd (cc)

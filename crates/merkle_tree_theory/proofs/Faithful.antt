@@ -13,9 +13,9 @@ use Rattle.merkle_tree_theory.specs.Canonical.{IsTreeOf}
 use Rattle.merkle_tree_theory.specs.Ranges.{IsPageOf, IsPageIn, IsPageInRow, IsPageInHeld}
 use Rattle.merkle_tree_theory.specs.declared.page_format.PageFormat.TheVariants.{V2}
 use Rattle.merkle_tree_theory.specs.Stream.{page_digest, stream_of}
-use Rattle.merkle_tree_theory.proofs.SameParts.{SameBelow, SameParts}
+use Rattle.merkle_tree_theory.proofs.EqualStreams.{SameBelow, SameParts}
 use Rattle.merkle_tree_theory.specs.Faithful.{IsSmall, NoCollision, HasFaithfulPages}
-use Rattle.merkle_tree_theory.proofs.Streams.{RowMeasured, page_tells}
+use Rattle.merkle_tree_theory.proofs.StreamParts.{RowMeasured, page_tells}
 use Rattle.merkle_tree_theory.proofs.PagesIn.{itself, page_in, pairs_down, inside}
 
 module _ {K : Type 0} (cmp : K → K → Ordering) (bytes_of : K → List ℕ) (n : ℕ) where

@@ -6,7 +6,7 @@ use Rattle.std.specs.declared.cmp.Ordering.TheVariants.{Less, Equal, Greater}
 use Rattle.std.specs.Ordering.{match_ordering, nat_cmp}
 use Rattle.merkle_tree_theory.specs.Tree.{Tree, page, node, Held, Node, row}
 use Rattle.merkle_tree_theory.specs.Upsert.{place, level_order, held_lower, held_upper, row_put, row_sink, held_set, row_finds, held_finds, tree_set, tree_finds, lifted}
-use Rattle.merkle_tree_theory.proofs.Parts.{with_lt, new_node}
+use Rattle.merkle_tree_theory.proofs.NodeParts.{with_lt, new_node}
 use Rattle.merkle_tree_theory.proofs.Walk.{IsWalk, walk_gap, walk_key, walk_high}
 
 module _ {K D : Type 0} where

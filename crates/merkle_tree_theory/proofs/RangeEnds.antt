@@ -16,24 +16,24 @@ use Rattle.merkle_diff.specs.Entry.{Entry}
 use Rattle.merkle_tree_theory.specs.Tree.{Tree, page, Row, high, node, Held, nothing, below, Node, row}
 use Rattle.merkle_tree_theory.specs.Page.{level, pairs, row_pairs, held_pairs, pages_in_order, row_pages, held_pages, LevelsFall, RowFalls}
 use Rattle.merkle_tree_theory.specs.Canonical.{HasNode}
-use Rattle.merkle_tree_theory.specs.CachedRanges.{ranges_to_come, as_list, first_of, last_of, range_from, range_of, cached_ranges, row_cached, held_cached}
+use Rattle.merkle_tree_theory.specs.CachedRanges.{ranges_to_come, as_list, first_key_of, last_key_of, range_from, range_of, cached_ranges, row_cached, held_cached}
 use Rattle.merkle_tree_theory.proofs.RangeKeys.{first_last, not-none}
-use Rattle.merkle_tree_theory.proofs.Falls.{no-pages}
+use Rattle.merkle_tree_theory.proofs.FallingLevels.{no-pages}
 
 module _ {K D : Type 0} where
   pub last-append : (c : K) (ps : List (K × D)) (q : K × D) (qs : List (K × D)) → last_key c (ps ++ q ∷ qs) ≡ last_key q.0 qs
   last-append c [] q qs = refl
   last-append c (p ∷ ps) q qs = last-append p.0 ps q qs
 
-  last-pair : (ps : List (K × D)) (q : K × D) (qs : List (K × D)) → last_of (ps ++ q ∷ qs) ≡ Some (last_key q.0 qs)
+  last-pair : (ps : List (K × D)) (q : K × D) (qs : List (K × D)) → last_key_of (ps ++ q ∷ qs) ≡ Some (last_key q.0 qs)
   last-pair [] q qs = refl
   last-pair (p ∷ ps) q qs = ap Some (last-append p.0 ps q qs)
 
-  last-key : (c : K) (ps : List (K × D)) (k : K) → last_of ps ≡ Some k → Some (last_key c ps) ≡ Some k
+  last-key : (c : K) (ps : List (K × D)) (k : K) → last_key_of ps ≡ Some k → Some (last_key c ps) ≡ Some k
   last-key c [] k e = absurd (cc)
   last-key c (p ∷ ps) k e = e
 
-  last-none : (c : K) (ps : List (K × D)) → last_of ps ≡ None → last_key c ps ≡ c
+  last-none : (c : K) (ps : List (K × D)) → last_key_of ps ≡ None → last_key c ps ≡ c
   last-none c [] e = refl
   last-none c (p ∷ ps) e = absurd (cc)
 
@@ -43,11 +43,11 @@ module _ {K D : Type 0} where
       let one : suc (length (z ∷ es) - 1) ≡ length (y ∷ z ∷ es) - 1 = omega arith in
       ap (slice_get (y ∷ z ∷ es)) one ∙ e
 
-  pub last-high : (es : List (Node K D)) (h : Held K D) (k : K) → last_of (held_pairs h) ≡ Some k → last_of (row_pairs (row es h)) ≡ Some k
+  pub last-high : (es : List (Node K D)) (h : Held K D) (k : K) → last_key_of (held_pairs h) ≡ Some k → last_key_of (row_pairs (row es h)) ≡ Some k
   last-high [] h k e = e
   last-high (x ∷ es) h k e = last-pair (held_pairs x.lt) (x.key, x.digest) (row_pairs (row es h)) ∙ last-key x.key (row_pairs (row es h)) k (last-high es h k e)
 
-  pub last-own : (es : List (Node K D)) (h : Held K D) (x : Node K D) → slice_get es (length es - 1) ≡ Some x → last_of (held_pairs h) ≡ None → last_of (row_pairs (row es h)) ≡ Some x.key
+  pub last-own : (es : List (Node K D)) (h : Held K D) (x : Node K D) → slice_get es (length es - 1) ≡ Some x → last_key_of (held_pairs h) ≡ None → last_key_of (row_pairs (row es h)) ≡ Some x.key
   last-own [] h x e f = absurd (cc)
   last-own (y ∷ []) h x e f =
       last-pair (held_pairs y.lt) (y.key, y.digest) (held_pairs h) ∙ ap Some (last-none y.key (held_pairs h) f) ∙ ap (λ (n : Node K D). Some n.key) (some y x e)
@@ -58,11 +58,11 @@ module _ {K D : Type 0} where
       last-pair (held_pairs y.lt) (y.key, y.digest) (row_pairs (row (z ∷ es) h)) ∙ last-key y.key (row_pairs (row (z ∷ es) h)) x.key (last-own (z ∷ es) h x (behind y z es (Some x) e) f)
 
 -- a page with a node has a first key
-pub has-first : {K D : Type 0} (t : Tree K D) → HasNode t → None ≡ first_of (pairs t) → ⊥
+pub has-first : {K D : Type 0} (t : Tree K D) → HasNode t → None ≡ first_key_of (pairs t) → ⊥
 has-first (page l c (high h)) n e = absurd n
 has-first (page l c (node h k d r)) n e = not-none (held_pairs h) (k, d) (row_pairs r) (none (held_pairs h ++ (k, d) ∷ row_pairs r) e)
   where
-    none : {K D : Type 0} (ps : List (K × D)) → None ≡ first_of ps → ps ≡ []
+    none : {K D : Type 0} (ps : List (K × D)) → None ≡ first_key_of ps → ps ≡ []
     none [] e = refl
     none (p ∷ ps) e = absurd (cc)
 
@@ -103,14 +103,14 @@ module _ {K : Type 0} (cmp : K → K → Ordering) where
   range_if a b d = if upto cmp a b then Some (record { first = a; last = b; digest = d }) else None
 
   -- the first key is at most the last
-  pub ends-upto : {D : Type 0} → IsTotalOrder cmp → (ps : List (K × D)) (a b : K) → Some a ≡ first_of ps → Some b ≡ last_of ps → IsMap cmp ps → Upto cmp a b
+  pub ends-upto : {D : Type 0} → IsTotalOrder cmp → (ps : List (K × D)) (a b : K) → Some a ≡ first_key_of ps → Some b ≡ last_key_of ps → IsMap cmp ps → Upto cmp a b
   ends-upto o [] a b e f m = absurd (cc)
   ends-upto o (p ∷ ps) a b e f m = subst (λ x. Upto cmp x b) (sym (some a p.0 e)) (subst (λ x. Upto cmp p.0 x) (sym (some b (last_key p.0 ps) f)) (first_last cmp o p ps m))
     where
       some : (x y : K) → Some x ≡ Some y → x ≡ y
       some x y e = cc
 
-  from-ends : {D : Type 0} (ps : List (K × D)) (d : List ℕ) (a b : K) → Some a ≡ first_of ps → Some b ≡ last_of ps → range_if a b d ≡ range_from cmp ps d
+  from-ends : {D : Type 0} (ps : List (K × D)) (d : List ℕ) (a b : K) → Some a ≡ first_key_of ps → Some b ≡ last_key_of ps → range_if a b d ≡ range_from cmp ps d
   from-ends [] d a b e f = absurd (cc)
   from-ends (p ∷ ps) d a b e f = λ i. range_if (some a p.0 e i) (some b (last_key p.0 ps) f i) d
     where
@@ -118,7 +118,7 @@ module _ {K : Type 0} (cmp : K → K → Ordering) where
       some x y e = cc
 
   -- the range of a page with a node and a cached digest is from its first to its last key
-  pub range-ends : {D : Type 0} (l : ℕ) (o : Option (List ℕ)) (es : List (Node K D)) (h : Held K D) (d : List ℕ) (a b : K) → o ≡ Some d → length es ≢ 0 → Some a ≡ first_of (row_pairs (row es h)) → Some b ≡ last_of (row_pairs (row es h))
+  pub range-ends : {D : Type 0} (l : ℕ) (o : Option (List ℕ)) (es : List (Node K D)) (h : Held K D) (d : List ℕ) (a b : K) → o ≡ Some d → length es ≢ 0 → Some a ≡ first_key_of (row_pairs (row es h)) → Some b ≡ last_key_of (row_pairs (row es h))
       → range_if a b d ≡ range_of cmp (page l o (row es h))
   range-ends l None es h d a b o n e f = absurd (cc)
   range-ends l (Some c) [] h d a b o n e f = absurd (n refl)

@@ -12,7 +12,7 @@ use Rattle.std.proofs.Common.{take_all}
 use Rattle.std.proofs.lemmas.List.{drop_all}
 use Rattle.std.specs.Prelude.{MatchOption}
 use borrow.Rule.Slice.PartMut.{put_mid}
-use Rattle.merkle_tree_theory.proofs.Parts.{with_lt}
+use Rattle.merkle_tree_theory.proofs.NodeParts.{with_lt}
 use Rattle.merkle_tree_theory.proofs.Rows.{row_nodes-row}
 use Rattle.merkle_tree_theory.proofs.Walk.{IsWalk, walk_gap, walk_key, walk_high}
 

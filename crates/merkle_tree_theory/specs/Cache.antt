@@ -15,16 +15,16 @@ one_without (Some d) = 0
 module _ {K D : Type 0} where
   abbrev mutual
     -- how many pages lack a digest
-    pub missing : Tree K D → ℕ
-    missing (page l c r) = one_without c + row_missing r
+    pub uncached_pages : Tree K D → ℕ
+    uncached_pages (page l c r) = one_without c + row_uncached_pages r
 
-    pub row_missing : Row K D → ℕ
-    row_missing (high h) = held_missing h
-    row_missing (node h k d r) = held_missing h + row_missing r
+    pub row_uncached_pages : Row K D → ℕ
+    row_uncached_pages (high h) = held_uncached_pages h
+    row_uncached_pages (node h k d r) = held_uncached_pages h + row_uncached_pages r
 
-    pub held_missing : Held K D → ℕ
-    held_missing nothing = 0
-    held_missing (below t) = missing t
+    pub held_uncached_pages : Held K D → ℕ
+    held_uncached_pages nothing = 0
+    held_uncached_pages (below t) = uncached_pages t
 
 module _ {K D : Type 0} (cmp : K → K → Ordering) where
   abbrev mutual
@@ -70,13 +70,13 @@ module _ {K : Type 0} (format : PageFormat) (bytes_of : K → List ℕ) where
 
   abbrev mutual
     -- the page and those below it with every digest in place
-    pub filled : Tree K (List ℕ) → Tree K (List ℕ)
-    filled (page l c r) = page l (Some (page_digest format bytes_of (page l c r))) (row_filled r)
+    pub tree_with_digests : Tree K (List ℕ) → Tree K (List ℕ)
+    tree_with_digests (page l c r) = page l (Some (page_digest format bytes_of (page l c r))) (row_with_digests r)
 
-    pub row_filled : Row K (List ℕ) → Row K (List ℕ)
-    row_filled (high h) = high (held_filled h)
-    row_filled (node h k d r) = node (held_filled h) k d (row_filled r)
+    pub row_with_digests : Row K (List ℕ) → Row K (List ℕ)
+    row_with_digests (high h) = high (held_with_digests h)
+    row_with_digests (node h k d r) = node (held_with_digests h) k d (row_with_digests r)
 
-    pub held_filled : Held K (List ℕ) → Held K (List ℕ)
-    held_filled nothing = nothing
-    held_filled (below t) = below (filled t)
+    pub held_with_digests : Held K (List ℕ) → Held K (List ℕ)
+    held_with_digests nothing = nothing
+    held_with_digests (below t) = below (tree_with_digests t)

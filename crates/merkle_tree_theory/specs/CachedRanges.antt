@@ -12,14 +12,14 @@ use Rattle.merkle_tree_theory.specs.Cache.{HasCache}
 
 module _ {K D : Type 0} where
   -- the first key of a list of pairs
-  abbrev pub first_of : List (K × D) → Option K
-  first_of [] = None
-  first_of (p ∷ ps) = Some p.0
+  abbrev pub first_key_of : List (K × D) → Option K
+  first_key_of [] = None
+  first_key_of (p ∷ ps) = Some p.0
 
   -- the last key of a list of pairs
-  abbrev pub last_of : List (K × D) → Option K
-  last_of [] = None
-  last_of (p ∷ ps) = Some (last_key p.0 ps)
+  abbrev pub last_key_of : List (K × D) → Option K
+  last_key_of [] = None
+  last_key_of (p ∷ ps) = Some (last_key p.0 ps)
 
 -- what there is, as a list
 abbrev pub as_list : {X : Type 0} → Option X → List X

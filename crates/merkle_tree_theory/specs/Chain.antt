@@ -1,4 +1,4 @@
--- The pages of a path, taken apart at a key and hung together again.
+-- The pages of a path, taken apart at a key and page_chain together again.
 use Rattle.std.specs.Prelude.{ℕ, zero, suc, ◌<◌, List, [], ◌∷◌, ⊤, None}
 use Rattle.std.specs.declared.boxed.Box.{Box}
 use Rattle.std.specs.declared.alloc.Global.{Global}
@@ -42,9 +42,9 @@ module _ {K D : Type 0} where
   row_drop (suc n) (node h k d r) = row_drop n r
 
   -- a page with another row; its digest stays only at 0
-  abbrev pub remade : ℕ → Tree K D → Row K D → Tree K D
-  remade zero (page l c r) s = page l c s
-  remade (suc n) (page l c r) s = page l None s
+  abbrev pub page_with_row : ℕ → Tree K D → Row K D → Tree K D
+  page_with_row zero (page l c r) s = page l c s
+  page_with_row (suc n) (page l c r) s = page l None s
 
   abbrev pub row_of_page : Tree K D → Row K D
   row_of_page (page l c r) = r
@@ -54,8 +54,8 @@ module _ {K D : Type 0} where
   HaveNodes [] = ⊤
   HaveNodes (b ∷ bs) = (0 < page_length b.value) × HaveNodes bs
 
-  -- pages hung together, each where `hang` hangs it in the page before it; the first n of them lose their digests
-  abbrev pub hung : (Held K D → Row K D → Row K D) → ℕ → List (Box (Tree K D) Global) → Held K D → Held K D
-  hung hang n [] h = h
-  hung hang zero (b ∷ bs) h = below (remade 0 b.value (hang (hung hang zero bs h) (row_of_page b.value)))
-  hung hang (suc n) (b ∷ bs) h = below (remade 1 b.value (hang (hung hang n bs h) (row_of_page b.value)))
+  -- pages page_chain together, each where `hang` hangs it in the page before it; the first n of them lose their digests
+  abbrev pub page_chain : (Held K D → Row K D → Row K D) → ℕ → List (Box (Tree K D) Global) → Held K D → Held K D
+  page_chain hang n [] h = h
+  page_chain hang zero (b ∷ bs) h = below (page_with_row 0 b.value (hang (page_chain hang zero bs h) (row_of_page b.value)))
+  page_chain hang (suc n) (b ∷ bs) h = below (page_with_row 1 b.value (hang (page_chain hang n bs h) (row_of_page b.value)))

@@ -12,13 +12,13 @@ module _ {K D : Type 0} where
   as_held l c (node h k d r) = below (page l c (node h k d r))
 
   -- the digest that one part of a page keeps: the page's own, where there is nothing in the other part
-  abbrev pub kept_beside : Held K D → Option (List ℕ) → Option (List ℕ)
-  kept_beside nothing c = c
-  kept_beside (below t) c = None
+  abbrev pub digest_beside : Held K D → Option (List ℕ) → Option (List ℕ)
+  digest_beside nothing c = c
+  digest_beside (below t) c = None
 
-  abbrev pub kept : Row K D → Option (List ℕ) → Option (List ℕ)
-  kept (high h) c = kept_beside h c
-  kept (node h k d r) c = None
+  abbrev pub row_digest_beside : Row K D → Option (List ℕ) → Option (List ℕ)
+  row_digest_beside (high h) c = digest_beside h c
+  row_digest_beside (node h k d r) c = None
 
 module _ {K D : Type 0} (cmp : K → K → Ordering) (at : K) where
   -- the place of the first node whose key is at least the key, or the number of nodes
@@ -37,8 +37,8 @@ module _ {K D : Type 0} (cmp : K → K → Ordering) (at : K) where
     held_lower (below t) = tree_lower t
 
     pub tree_lower : Tree K D → Held K D
-    tree_lower (page l c (high h)) = below (page l (kept_beside (held_upper h) c) (high (held_lower h)))
-    tree_lower (page l c (node h k d r)) = as_held l (kept (upper (node h k d r)) c) (lower (node h k d r))
+    tree_lower (page l c (high h)) = below (page l (digest_beside (held_upper h) c) (high (held_lower h)))
+    tree_lower (page l c (node h k d r)) = as_held l (row_digest_beside (upper (node h k d r)) c) (lower (node h k d r))
 
     -- the rest
     pub upper : Row K D → Row K D
@@ -50,7 +50,7 @@ module _ {K D : Type 0} (cmp : K → K → Ordering) (at : K) where
     held_upper (below t) = tree_upper t
 
     pub tree_upper : Tree K D → Held K D
-    tree_upper (page l c r) = as_held l (kept (lower r) c) (upper r)
+    tree_upper (page l c r) = as_held l (row_digest_beside (lower r) c) (upper r)
 
 module _ {K D : Type 0} (cmp : K → K → Ordering) (k : K) (d : D) where
   -- the key put among the nodes of a row, and what stands in its gap parted at it

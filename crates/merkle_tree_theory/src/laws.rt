@@ -6,7 +6,7 @@ ghost use Rattle.key_order.specs.Order.{Same};
 ghost use Rattle.key_order.specs.Map.{SameMap};
 ghost use Rattle.merkle_digest.specs.Level.{level_of};
 ghost use Rattle.merkle_diff.specs.TreeShape.{IsTreeShaped};
-ghost use Rattle.merkle_tree_theory.specs.Cache.{missing, filled};
+ghost use Rattle.merkle_tree_theory.specs.Cache.{uncached_pages, tree_with_digests};
 ghost use Rattle.merkle_tree_theory.specs.Canonical.{AreOnOneLevel, EqualPages, SamePages};
 ghost use Rattle.merkle_tree_theory.specs.Depth.{depth};
 ghost use Rattle.merkle_tree_theory.specs.Events.{events_of};
@@ -37,8 +37,8 @@ pub fn equal_keys_are_on_one_level<K: Ord, H: Hasher<N, K>, const N: usize>()
 
 /// Filling in the digests that pages lack leaves the map as it is and no page without a digest, in any page format.
 pub fn filled_pages_keep_their_map<K: KeyBytes>()
-    ensures map { (format : PageFormat) (t : Tree K (List ℕ)) → pairs (filled format K.bytes_of t) ≡ pairs t }
-    ensures hashed { (format : PageFormat) (t : Tree K (List ℕ)) → missing (filled format K.bytes_of t) ≡ 0 }
+    ensures map { (format : PageFormat) (t : Tree K (List ℕ)) → pairs (tree_with_digests format K.bytes_of t) ≡ pairs t }
+    ensures hashed { (format : PageFormat) (t : Tree K (List ℕ)) → uncached_pages (tree_with_digests format K.bytes_of t) ≡ 0 }
 {}
 
 /// A map has one tree: under any hasher and level base there is one, any other has its pages apart from caches, and what has its pages

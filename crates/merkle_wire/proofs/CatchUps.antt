@@ -14,14 +14,14 @@ use Rattle.merkle_replica.specs.Contents.{Contents, Side, side, with_rows}
 use Rattle.merkle_replica.specs.Laws.{Laws}
 use Rattle.merkle_replica.proofs.Bounds.{get_digests}
 use Rattle.merkle_replica.proofs.CatchUpJoins.{all_joined}
-use Rattle.merkle_replica.proofs.Copying.{copies_are, join_same}
-use Rattle.merkle_replica.proofs.Sides.{same_side, rows_alone}
+use Rattle.merkle_replica.proofs.RowCopies.{copies_are, join_same}
+use Rattle.merkle_replica.proofs.SideLaws.{same_side, rows_alone}
 use Rattle.merkle_tree_theory.specs.State.{SameSettings}
 use Rattle.merkle_wire.specs.Sessions.{IsFaithfulSession, IsNewRow, AreBrought, HasJoined, IsEarly, IsMessagesRefused}
 use Rattle.merkle_wire.specs.Taking.{is_digest, has_row}
 use Rattle.merkle_wire.specs.declared.session.MessagesError.{MessagesError}
 use Rattle.merkle_wire.specs.declared.session.MessagesError.TheVariants.{Answer, Session, Join}
-use Rattle.merkle_wire.proofs.Covering.{any-map}
+use Rattle.merkle_wire.proofs.RoundCovers.{any-map}
 
 module _ {K V H : Type 0} (laws : Laws K V H) (o : IsTotalOrder laws.cmp) (eqv : IsEquivalence laws.eq) (joining : IsJoining laws.eq laws.join) (respects : (h : H) (a b : V) → laws.eq a b ≡ true → laws.value_digest h a ≡ laws.value_digest h b)
     (local peer : Side K V H) (up_peer : IsMap laws.cmp peer.rows) where

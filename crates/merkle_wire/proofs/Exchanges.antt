@@ -35,7 +35,7 @@ use Rattle.merkle_wire.specs.declared.message.Kind.TheVariants.{Root as root_kin
 use Rattle.merkle_wire.specs.declared.question.Question.{Question}
 use Rattle.merkle_wire.specs.declared.question.Question.TheVariants.{Root, Outlines, Nodes, RowsAt, RowsIn}
 use Rattle.merkle_wire.specs.declared.wanted.Wanted.{Wanted}
-use Rattle.merkle_wire.proofs.Covering.{new_rows_new, new_rows_cover}
+use Rattle.merkle_wire.proofs.RoundCovers.{new_rows_new, new_rows_cover}
 use Rattle.merkle_wire.proofs.Fitting.{found_each, fits_read, fits_sent}
 use Rattle.merkle_wire.proofs.PageCovers.{AreSides, IsAbout, nodes_peers}
 use Rattle.merkle_wire.proofs.StepCovers.{outlines_keep, outlines_new, outlines_cover, rows_keep, rows_among, values_theirs, values_cover, parts_theirs, parts_cover, root_covers, root_takes}

@@ -16,7 +16,7 @@ use Rattle.merkle_tree_theory.specs.Lookup.{page_over}
 use Rattle.merkle_tree_theory.specs.Outline.{Item, of_node, of_page, outline_where, outline_over}
 use Rattle.merkle_tree_theory.specs.Tree.{Tree, page, Row, high, node, nothing, below}
 use Rattle.merkle_tree_theory.specs.declared.page_format.PageFormat.{PageFormat}
-use Rattle.merkle_tree_theory.proofs.Streams.{hash_length, digest_length}
+use Rattle.merkle_tree_theory.proofs.StreamParts.{hash_length, digest_length}
 use Rattle.merkle_wire.specs.Coming.{IsPageDigest, LiesIn}
 use Rattle.merkle_wire.specs.Found.{Found}
 use Rattle.merkle_wire.specs.Gaps.{owned_gap}

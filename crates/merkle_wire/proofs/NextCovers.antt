@@ -14,7 +14,7 @@ use Rattle.merkle_replica.specs.Contents.{Contents, Side, side, tree_map, IsKept
 use Rattle.merkle_replica.specs.Faithful.{HasSmallMap}
 use Rattle.merkle_replica.specs.Laws.{Laws}
 use Rattle.merkle_replica.proofs.Rounds.{any-append}
-use Rattle.merkle_replica.proofs.Sides.{same_side}
+use Rattle.merkle_replica.proofs.SideLaws.{same_side}
 use Rattle.merkle_tree_theory.specs.Canonical.{IsCanonicalRoot, IsTreeOf, SamePages}
 use Rattle.merkle_tree_theory.specs.State.{SameSettings, map_of}
 use Rattle.merkle_tree_theory.specs.Gap.{IsInGap}

@@ -4,10 +4,9 @@ use Rattle.std.specs.List.{AllByRecursion}
 use Rattle.std.specs.Cmp.{IsTotalOrder, IsEquivalence, tied_back}
 use Rattle.key_order.specs.Map.{IsMap, SameMap, get}
 use Rattle.key_order.specs.Order.{AnyByRecursion, Same}
-use Rattle.key_order.specs.SameKeys.{SameKeys}
 use Rattle.key_order.proofs.ListParts.{each-append}
 use Rattle.key_order.proofs.Maps.{get_same}
-use Rattle.key_order.proofs.SameKeys.{same_keys-back}
+use Rattle.key_order.proofs.SameKeys.{SameKeys, same_keys-back}
 use Rattle.key_order.proofs.SameMaps.{ascends}
 use Rattle.merkle_diff.proofs.Each.{each-with}
 use Rattle.merkle_replica.specs.CatchUp.{IsLacked}
@@ -27,13 +26,13 @@ use Rattle.merkle_tree_theory.specs.Page.{pairs}
 use Rattle.merkle_tree_theory.specs.Ranges.{IsPageIn}
 use Rattle.merkle_tree_theory.specs.Stream.{page_digest}
 use Rattle.merkle_tree_theory.specs.Tree.{Tree, page}
-use Rattle.merkle_tree_theory.proofs.Descending.{get_inside}
+use Rattle.merkle_tree_theory.proofs.OutlineDescents.{get_inside}
 use Rattle.merkle_tree_theory.proofs.PagesIn.{page_in}
 use Rattle.merkle_wire.specs.Found.{Found}
 use Rattle.merkle_wire.specs.Outlines.{Outline, rows_told, digests_told, page_told, IsTold, HasNoPage, nodes_among, keys_among, pages_beside, nodes_digest}
 use Rattle.merkle_wire.specs.Sessions.{IsFaithfulSession, IsNodeOver, IsAmong, IsRowOfPeer, IsNewRow}
 use Rattle.merkle_wire.specs.Taking.{HasNodes, IsGapOrNone, AreNewGaps, IsTaken, new_rows, new_keys}
-use Rattle.merkle_wire.proofs.Covering.{new_keys_cover, has_not_all, rows_at_theirs, rows_at_cover, theirs_alike, any_alike, has_row_there, new_rows_new, new_rows_cover}
+use Rattle.merkle_wire.proofs.RoundCovers.{new_keys_cover, has_not_all, rows_at_theirs, rows_at_cover, theirs_alike, any_alike, has_row_there, new_rows_new, new_rows_cover}
 use Rattle.merkle_wire.proofs.OverGaps.{over_has}
 use Rattle.merkle_wire.proofs.PagesBelow.{in_gap-alike, map_inside, items_in, nodes_over_in, all_nodes, IsShown, shown}
 use Rattle.merkle_wire.proofs.SameNodes.{node_over-same}

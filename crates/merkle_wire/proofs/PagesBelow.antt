@@ -6,7 +6,7 @@ use Rattle.std.specs.Ordering.{is_eq}
 use Rattle.std.specs.declared.cmp.Ordering.{Ordering}
 use Rattle.key_order.specs.Map.{IsMap, get}
 use Rattle.key_order.specs.Order.{AnyByRecursion, Below, Same}
-use Rattle.key_order.specs.SameKeys.{SameKeys}
+use Rattle.key_order.proofs.SameKeys.{SameKeys}
 use Rattle.key_order.proofs.Bools.{which, is_equal}
 use Rattle.key_order.proofs.ListParts.{map-first, map-rest}
 use Rattle.key_order.proofs.Maps.{at_head, past_head}
@@ -23,9 +23,9 @@ use Rattle.merkle_tree_theory.specs.Ranges.{IsPageIn, IsPageInRow}
 use Rattle.merkle_tree_theory.specs.Stream.{page_digest}
 use Rattle.merkle_tree_theory.specs.Tree.{Tree, page, Row, high, node, Held, nothing, below}
 use Rattle.merkle_tree_theory.specs.declared.page_format.PageFormat.{PageFormat}
-use Rattle.merkle_tree_theory.proofs.Descending.{get_inside}
+use Rattle.merkle_tree_theory.proofs.OutlineDescents.{get_inside}
 use Rattle.merkle_tree_theory.proofs.InGaps.{after_from_test, before_from_test, test_from_after, test_from_before, is_after-alike, is_before-alike}
-use Rattle.merkle_tree_theory.proofs.Over.{over_inside}
+use Rattle.merkle_tree_theory.proofs.PageOverGap.{over_inside}
 use Rattle.merkle_tree_theory.proofs.PagesIn.{GoesDown, MatchRow, inside}
 use Rattle.merkle_wire.specs.Outlines.{nodes_among, keys_among, pages_beside, HasNoPage}
 use Rattle.merkle_wire.specs.Taking.{IsNewGap, AreNewGaps}

@@ -5,8 +5,7 @@ use Rattle.std.specs.Cmp.{IsTotalOrder, alike_right}
 use Rattle.std.specs.Ordering.{is_lt}
 use Rattle.std.specs.declared.cmp.Ordering.{Ordering}
 use Rattle.key_order.specs.Order.{AnyByRecursion, Same}
-use Rattle.key_order.specs.SameKeys.{SameKeys}
-use Rattle.key_order.proofs.SameKeys.{any-same}
+use Rattle.key_order.proofs.SameKeys.{SameKeys, any-same}
 use Rattle.merkle_search_tree.proofs.SameItems.{page_over-alike}
 use Rattle.merkle_tree_theory.specs.Canonical.{SamePages, SameRow, SameHeld}
 use Rattle.merkle_tree_theory.specs.Gap.{Gap, SameGap, is_after, is_before, part_behind}

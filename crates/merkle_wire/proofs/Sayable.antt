@@ -22,7 +22,7 @@ use Rattle.merkle_tree_theory.specs.Page.{held_pairs, pairs, row_pairs}
 use Rattle.merkle_tree_theory.specs.Tree.{Tree, page, Row, high, node, Held, nothing, below}
 use Rattle.merkle_tree_theory.specs.declared.page_format.PageFormat.{PageFormat}
 use Rattle.merkle_tree_theory.proofs.InGaps.{after_low, each_within, in_gap-same}
-use Rattle.merkle_tree_theory.proofs.Over.{filled_opens}
+use Rattle.merkle_tree_theory.proofs.PageOverGap.{filled_opens}
 use Rattle.merkle_wire.specs.Coming.{AscendBetween, AscendIn}
 use Rattle.merkle_wire.specs.Fit.{IsOutlineIn, IsPartIn, Says}
 use Rattle.merkle_wire.specs.Gaps.{owned_gap}
@@ -32,8 +32,8 @@ use Rattle.merkle_wire.specs.RowsAt.{AreRowsAt}
 use Rattle.merkle_wire.specs.Steady.{CanBeTold}
 use Rattle.merkle_wire.specs.declared.gaps.OwnedGap.{OwnedGap}
 use Rattle.merkle_wire.specs.declared.wanted.Wanted.{Wanted}
-use Rattle.merkle_wire.proofs.Covering.{each-filter}
-use Rattle.merkle_wire.proofs.Filled.{filling_in_gap}
+use Rattle.merkle_wire.proofs.RoundCovers.{each-filter}
+use Rattle.merkle_wire.proofs.FilledGaps.{filling_in_gap}
 use Rattle.merkle_wire.proofs.Outside.{ascend-alike, ascend_between-same, own_keys}
 use Rattle.merkle_wire.proofs.PagesBelow.{map_inside, nodes_in}
 use Rattle.merkle_wire.proofs.StepCovers.{finds_own}

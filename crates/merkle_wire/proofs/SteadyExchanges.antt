@@ -8,7 +8,7 @@ use Rattle.merkle_digest.specs.Level.{level_of}
 use Rattle.merkle_replica.specs.Contents.{Contents, IsKept, Side, side, tree_map}
 use Rattle.merkle_replica.specs.Faithful.{HasSmallMap}
 use Rattle.merkle_replica.specs.Laws.{Laws}
-use Rattle.merkle_replica.proofs.Sides.{same_side}
+use Rattle.merkle_replica.proofs.SideLaws.{same_side}
 use Rattle.merkle_tree_theory.specs.Canonical.{IsCanonicalRoot, IsTreeOf, SamePages}
 use Rattle.merkle_tree_theory.specs.State.{SameSettings, map_of}
 use Rattle.merkle_tree_theory.specs.Tree.{Tree}
@@ -30,13 +30,13 @@ use Rattle.merkle_wire.specs.declared.session_error.SessionError.{SessionError}
 use Rattle.merkle_wire.specs.declared.session_error.SessionError.TheVariants.{Memory}
 use Rattle.merkle_wire.specs.declared.settings.Settings.{Settings}
 use Rattle.merkle_wire.proofs.Exchanges.{Tell}
-use Rattle.merkle_wire.proofs.KeysNext.{next_keys}
+use Rattle.merkle_wire.proofs.ExchangeKeys.{next_keys}
 use Rattle.merkle_wire.proofs.NextCovers.{exchanged, sides_met}
 use Rattle.merkle_wire.proofs.PageCovers.{AreSides}
 use Rattle.merkle_wire.proofs.TellingQuestions.{SameQuestion, question_tells}
-use Rattle.merkle_wire.proofs.Ending.{leaves_less}
+use Rattle.merkle_wire.proofs.SessionEnds.{leaves_less}
 use Rattle.merkle_wire.proofs.AskedNext.{next_steady}
-use Rattle.merkle_wire.proofs.Steadily.{memory_alone, stay}
+use Rattle.merkle_wire.proofs.SteadyCatchUps.{memory_alone, stay}
 
 -- what comes of a reply: where it is taken, what comes next covers what is lacked, is steady, leaves less to ask for, and has keys of the two sides alone;
 -- and it is refused for want of memory alone

@@ -34,7 +34,7 @@ use Rattle.merkle_wire.specs.Sessions.{IsFaithfulSession, IsAmong, IsRowOfPeer, 
 use Rattle.merkle_wire.specs.Taking.{IsRootTaken, AreTaken, value_row, IsBehind, AreBehind}
 use Rattle.merkle_wire.specs.declared.gaps.OwnedGap.{OwnedGap}
 use Rattle.merkle_wire.specs.declared.wanted.Wanted.{Wanted}
-use Rattle.merkle_wire.proofs.Covering.{each-filter, theirs_alike, any_alike, has_row_there}
+use Rattle.merkle_wire.proofs.RoundCovers.{each-filter, theirs_alike, any_alike, has_row_there}
 use Rattle.merkle_wire.proofs.PageCovers.{AreSides, among-more, IsAbout, one_covers, one_keeps, one_new, none_hidden, at_tree}
 use Rattle.merkle_wire.proofs.PagesBelow.{in_gap-alike, get_behind}
 use Rattle.merkle_wire.proofs.TellingReplies.{SameRow, SameOutline, SamePart, SameFound}

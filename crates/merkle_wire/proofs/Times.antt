@@ -11,7 +11,7 @@ use Rattle.std.specs.declared.cmp.Ordering.{Ordering}
 use Rattle.std.specs.declared.cmp.Ordering.TheVariants.{Less, Equal, Greater}
 use Rattle.key_order.specs.Map.{last_key}
 use Rattle.key_order.specs.Order.{Same, below}
-use Rattle.key_order.specs.SameKeys.{SameKeys}
+use Rattle.key_order.proofs.SameKeys.{SameKeys}
 use Rattle.key_order.proofs.Bools.{which}
 use Rattle.key_order.proofs.Orders.{turned}
 use Rattle.merkle_replica.specs.Contents.{Side}

@@ -19,7 +19,7 @@ use Rattle.merkle_wire.specs.Replies.{Part, part_bytes}
 use Rattle.merkle_wire.specs.Unfit.{NoDigests, NoNodes, NoOutline, NoPage, NoPageDigest, NoPageDigests, NoPart, NoRows}
 use Rattle.merkle_wire.specs.declared.gaps.OwnedGap.{OwnedGap}
 use Rattle.merkle_wire.specs.declared.wanted.Wanted.{Wanted}
-use Rattle.merkle_wire.proofs.KeysTold.{told_as_keys}
+use Rattle.merkle_wire.proofs.WrittenKeys.{told_as_keys}
 use Rattle.merkle_wire.proofs.TellingReplies.{Fits, SameRow, keys_tell, outline_some, outline_tells, page_tells, part_tells, pages_begin, digests_begin, rows_tell, same_length}
 use Rattle.merkle_wire.proofs.Outside.{ascend-same}
 

@@ -32,8 +32,8 @@ module _ {K : Type 0} (encoding : K → List ℕ) where
   gap_some last g = omega (arith, bound_some encoding last g.after, length-append (bound_behind encoding last g.after) (bound_behind encoding (bound_key encoding last g.after) g.before))
 
 module _ {K : Type 0} (is_key : K → Type 0) where
-  abbrev pub IsGap : Gap K → Type 0
-  IsGap g = IsOption is_key g.after × IsOption is_key g.before
+  abbrev pub HasKeyBounds : Gap K → Type 0
+  HasKeyBounds g = IsOption is_key g.after × IsOption is_key g.before
 
 module _ {K : Type 0} (encoding : K → List ℕ) (eq : K → K → Bool)
     (told : (x y : K) (r s : List ℕ) → encoding x ++ r ≡ encoding y ++ s → (eq x y ≡ true) × (r ≡ s)) where

@@ -9,7 +9,7 @@ use Rattle.merkle_bytes.specs.declared.error.ReadError.{ReadError}
 use Rattle.merkle_bytes.specs.declared.reader.Reader.{Reader}
 use Rattle.merkle_replica.specs.Contents.{Contents}
 use Rattle.merkle_tree_theory.specs.State.{State}
-use Rattle.merkle_wire.specs.Gaps.{IsGap, owned_gap, gap_behind, gap_key}
+use Rattle.merkle_wire.specs.Gaps.{HasKeyBounds, owned_gap, gap_behind, gap_key}
 use Rattle.merkle_wire.specs.Messages.{front}
 use Rattle.merkle_wire.specs.Settings.{AreSettings, AreSettingsOf, settings_bytes}
 use Rattle.merkle_wire.specs.declared.gaps.OwnedGap.{OwnedGap}
@@ -52,7 +52,7 @@ module _ {K : Type 0} (encoding : K → List ℕ) where
 module _ {K : Type 0} (is_value : K → Type 0) where
   -- gaps between keys that are values
   abbrev pub AreGaps : List (OwnedGap K) → Type 0
-  AreGaps = AllByRecursion (λ g. IsGap is_value (owned_gap g))
+  AreGaps = AllByRecursion (λ g. HasKeyBounds is_value (owned_gap g))
 
   -- a question that can be read: its numbers fit, and its keys are values
   abbrev pub IsQuestion : Question K → Type 0

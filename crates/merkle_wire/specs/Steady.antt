@@ -16,7 +16,7 @@ use Rattle.merkle_tree_theory.specs.Page.{level}
 use Rattle.merkle_tree_theory.specs.Tree.{Tree}
 use Rattle.merkle_wire.specs.Asking.{AsksForSome}
 use Rattle.merkle_wire.specs.Found.{Found, nothing}
-use Rattle.merkle_wire.specs.Gaps.{IsGap, owned_gap}
+use Rattle.merkle_wire.specs.Gaps.{HasKeyBounds, owned_gap}
 use Rattle.merkle_wire.specs.Next.{IsStopped}
 use Rattle.merkle_wire.specs.Outlines.{nodes_among, keys_among}
 use Rattle.merkle_wire.specs.Questions.{IsQuestion}
@@ -130,10 +130,10 @@ module _ {K V H : Type 0} (laws : Laws K V H) (peer : Side K V H) (root : Tree K
 
 -- of the keys among what was found, the bounds of gaps and the keys that are wanted, this holds
 pub record AreKeysOf {K V : Type 0} (is_key : K → Type 0) (f : Found K V) : Type 0 where
-  pub below : AllByRecursion (IsGap is_key) f.below
-  pub nodes : AllByRecursion (IsGap is_key) f.nodes
+  pub below : AllByRecursion (HasKeyBounds is_key) f.below
+  pub nodes : AllByRecursion (HasKeyBounds is_key) f.nodes
   pub wanted : AllByRecursion is_key f.wanted
-  pub whole : AllByRecursion (IsGap is_key) f.whole
+  pub whole : AllByRecursion (HasKeyBounds is_key) f.whole
 
 -- the key is one of the rows', or equal to one
 abbrev pub IsKeyOf : {K V : Type 0} → (K → K → Ordering) → List (K × V) → K → Type 0

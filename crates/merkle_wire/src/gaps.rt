@@ -2,7 +2,7 @@
 ghost use Rattle.std.specs.Prelude.{◌≡◌, IfOk};
 ghost use Rattle.merkle_search_tree.specs.Items.{bound_of, gap_of};
 ghost use Rattle.merkle_tree_theory.specs.Gap.{everywhere, SameBound, SameGap};
-ghost use Rattle.merkle_wire.specs.Gaps.{between, owned_gap, gap_behind, gap_key, IsGap, gap_some, gap_told};
+ghost use Rattle.merkle_wire.specs.Gaps.{between, owned_gap, gap_behind, gap_key, HasKeyBounds, gap_some, gap_told};
 
 use merkle_bytes::{Decode, DecodeInRun, Encode, EncodeInRun, KeyRun, ReadError, Reader};
 use merkle_digest::Key;
@@ -79,7 +79,7 @@ impl<K: Encode> EncodeInRun for OwnedGap<K> {
 }
 
 impl<K: Decode> DecodeInRun for OwnedGap<K> {
-    ghost is_entry = { λ gap. IsGap K.is_value (owned_gap gap) };
+    ghost is_entry = { λ gap. HasKeyBounds K.is_value (owned_gap gap) };
 
     ghost some = { λ last gap. gap_some K.encoding last (owned_gap gap) };
 

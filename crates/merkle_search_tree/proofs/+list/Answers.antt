@@ -5,9 +5,9 @@ use Rattle.merkle_diff.specs.PageRange.{entries}
 use Rattle.merkle_tree_theory.specs.Tree.{Tree, Node, row, held_of, tree_size, row_size, held_size}
 use Rattle.merkle_tree_theory.specs.Page.{level, LevelsFall, HeldFalls}
 use Rattle.merkle_tree_theory.specs.CachedRanges.{as_list, range_of, cached_ranges, row_cached, held_cached}
-use Rattle.merkle_tree_theory.proofs.Parts.{on_ok_map}
+use Rattle.merkle_tree_theory.proofs.NodeParts.{on_ok_map}
 use Rattle.merkle_tree_theory.proofs.Rows.{size_at, size_high}
-use Rattle.merkle_tree_theory.proofs.Falls.{at-falls, high-falls}
+use Rattle.merkle_tree_theory.proofs.FallingLevels.{at-falls, high-falls}
 use Rattle.merkle_tree_theory.proofs.RangeEnds.{node_cached, row_cached-row, only_own, regroup}
 use Rattle.merkle_search_tree.proofs.+list.Goals as goal
 

@@ -2,7 +2,7 @@ use Rattle.std.proofs.Common.{rules, sym, ◌∙◌, arith}
 use Rattle.merkle_tree_theory.specs.Tree.{held_of}
 use Rattle.merkle_tree_theory.proofs.Search.{page_nodes-ascend, page_high-map, page_gap-map, one_at}
 use Rattle.merkle_tree_theory.proofs.Rows.{page_size-high, page_size-gap}
-use Rattle.merkle_tree_theory.proofs.Over.{page_over-high, page_over-own, page_over-gap}
+use Rattle.merkle_tree_theory.proofs.PageOverGap.{page_over-high, page_over-own, page_over-gap}
 use Rattle.merkle_search_tree.specs.Items.{gap_of}
 use Rattle.merkle_search_tree.proofs.+over.Goals as goal
 

@@ -6,7 +6,7 @@ use Rattle.merkle_tree_theory.specs.Upsert.{place}
 use Rattle.merkle_tree_theory.proofs.Search.{page_nodes-ascend, page_high-map, page_gap-map, all_below, one_at, key_there, key_elsewhere}
 use Rattle.merkle_tree_theory.proofs.Rows.{page_size-high, page_size-gap}
 use Rattle.merkle_tree_theory.specs.Remove.{held_del, tree_del, tree_without, IsFreeAt, HasFreeGap, HeldHasFreeGap}
-use Rattle.merkle_tree_theory.proofs.Parts.{lt_back, lt_changed, on_err_always}
+use Rattle.merkle_tree_theory.proofs.NodeParts.{lt_back, lt_changed, on_err_always}
 use Rattle.merkle_tree_theory.proofs.Seams.{gives_way, way_some, way_same, without_gives, at_some, at_none, free_equal, free_gap, free_high}
 use Rattle.merkle_tree_theory.proofs.Seams.{page_entry-high, page_without-high, page_entry-equal, page_without-equal, page_entry-gap, page_without-gap}
 use Rattle.merkle_search_tree.proofs.+remove.Goals as goal

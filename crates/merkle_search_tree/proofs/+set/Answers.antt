@@ -1,7 +1,7 @@
 use Rattle.std.proofs.Common.{◌≡◌, slice_set, None, arith, ap, sym, ◌∙◌, rules}
 use Rattle.merkle_tree_theory.specs.Tree.{page, Node, row, held_of}
 use Rattle.merkle_tree_theory.specs.Upsert.{place, level_order, held_set, held_finds, tree_set, lifted}
-use Rattle.merkle_tree_theory.proofs.Parts.{lt_back, lt_changed, on_err_always, on_ok_map}
+use Rattle.merkle_tree_theory.proofs.NodeParts.{lt_back, lt_changed, on_err_always, on_ok_map}
 use Rattle.merkle_tree_theory.proofs.Gaps.{page_set-high, page_set-equal, page_set-at, page_finds-high, page_finds-at, set_greater, with_digest}
 use Rattle.merkle_tree_theory.proofs.Search.{page_nodes-ascend, page_high-map, page_gap-map, all_below, one_at, key_there, key_elsewhere}
 use Rattle.merkle_tree_theory.proofs.Rows.{page_size-high, page_size-gap}

@@ -1,7 +1,7 @@
 use Rattle.std.proofs.Common.{ℕ, List, Option, Some, None, subst}
 use Rattle.merkle_replica.specs.CatchUpSteps.{IsTreeOfSide}
 use Rattle.merkle_replica.specs.Contents.{side}
-use Rattle.merkle_replica.proofs.Sides.{same_side}
+use Rattle.merkle_replica.proofs.SideLaws.{same_side}
 use Rattle.merkle_delta.specs.CatchUps.{IsNext}
 use Rattle.merkle_delta.specs.Exchanges.{IsSafe}
 use Rattle.merkle_delta.specs.Messages.{IsAnswered}

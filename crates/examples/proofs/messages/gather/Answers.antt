@@ -3,7 +3,7 @@ use Rattle.std.proofs.lemmas.List.{get_or_default}
 use Rattle.key_order.specs.Map.{IsMap}
 use Rattle.merkle_replica.specs.Contents.{Contents}
 use Rattle.merkle_replica.specs.Gossip.{gathering}
-use Rattle.merkle_replica.proofs.Sides.{same_side, rows_alone}
+use Rattle.merkle_replica.proofs.SideLaws.{same_side, rows_alone}
 use Rattle.examples.specs.GossipMessages.{AreMade}
 use Rattle.examples.proofs.GossipSessions.{gathers, gathering_stops, stay_more, ascend_more}
 use Rattle.examples.proofs.messages.gather.Goals as goal

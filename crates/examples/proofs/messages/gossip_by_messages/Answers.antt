@@ -3,7 +3,7 @@ use Rattle.std.proofs.lemmas.List.{length-map}
 use Rattle.key_order.specs.Map.{IsMap}
 use Rattle.merkle_replica.specs.Contents.{side}
 use Rattle.merkle_replica.specs.Gossip.{numbered, gathering, spreading, through_hub}
-use Rattle.merkle_replica.proofs.Sides.{laws_of}
+use Rattle.merkle_replica.proofs.SideLaws.{laws_of}
 use Rattle.examples.specs.GossipMessages.{sides_of, AreMade}
 use Rattle.examples.proofs.GossipSessions.{sessions-append, stops-behind, are_gossip}
 use Rattle.examples.proofs.ThroughHub.{all_hold, numbered_each}

@@ -1,6 +1,6 @@
 use Rattle.std.proofs.Common.{◌≡◌, ◌<◌, length, get_or, subst, arith}
 use Rattle.merkle_replica.specs.Gossip.{spreading}
-use Rattle.merkle_replica.proofs.Sides.{same_side, rows_alone}
+use Rattle.merkle_replica.proofs.SideLaws.{same_side, rows_alone}
 use Rattle.examples.specs.GossipMessages.{AreMade}
 use Rattle.examples.proofs.GossipSessions.{spreads, spreading_stops}
 use Rattle.examples.proofs.messages.spread.Goals as goal

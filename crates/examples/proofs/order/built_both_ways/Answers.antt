@@ -3,7 +3,7 @@ use Rattle.std.specs.String.{string_cmp_total}
 use Rattle.key_order.specs.Text.{text_order}
 use Rattle.key_order.proofs.Latest.{set_in_any_order}
 use Rattle.key_order.proofs.SameMaps.{same_across, same_map-back}
-use Rattle.merkle_search_tree.proofs.Loadings.{digests-map}
+use Rattle.merkle_search_tree.proofs.LoadOrder.{digests-map}
 use Rattle.examples.proofs.order.built_both_ways.Goals as goal
 
 pub are_one_tree-requires-clause-maps : goal.are_one_tree-requires-clause-maps

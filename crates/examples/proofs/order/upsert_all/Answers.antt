@@ -5,7 +5,7 @@ use Rattle.key_order.proofs.Clones.{string_clone}
 use Rattle.key_order.proofs.Latest.{set_each-more}
 use Rattle.merkle_digest.specs.SipDigests.{number_digest}
 use Rattle.merkle_digest.specs.SipHash.{zero_key}
-use Rattle.merkle_search_tree.proofs.Loadings.{digests-more, item-more}
+use Rattle.merkle_search_tree.proofs.LoadOrder.{digests-more, item-more}
 use Rattle.examples.proofs.EqualSets.{same_set}
 use Rattle.examples.proofs.order.upsert_all.Goals as goal
 

@@ -15,8 +15,8 @@ use Rattle.merkle_replica.specs.Contents.{Side, side}
 use Rattle.merkle_replica.specs.Descent.{AreSortedOut, gaps_of, keys_of}
 use Rattle.merkle_replica.specs.Faithfully.{JoinsWhileFaithful}
 use Rattle.merkle_replica.specs.Laws.{Laws}
-use Rattle.merkle_replica.proofs.Joined.{join_none}
-use Rattle.merkle_replica.proofs.Sides.{laws_of, same_side}
+use Rattle.merkle_replica.proofs.PullRows.{join_none}
+use Rattle.merkle_replica.proofs.SideLaws.{laws_of, same_side}
 use Rattle.examples.proofs.outlines.holds_all.Goals as goal
 use Rattle.examples.proofs.outlines.holds_all.Goals.{then-is_empty, else-is_empty}
 

@@ -1,6 +1,6 @@
 use Rattle.std.proofs.Common.{subst, inl, inr, ◌∙◌}
 use Rattle.merkle_replica.specs.Contents.{side}
-use Rattle.merkle_replica.proofs.Sides.{same_side}
+use Rattle.merkle_replica.proofs.SideLaws.{same_side}
 use Rattle.examples.specs.PullMessages.{Asks, SendsRows, JoinsRows, JoinsFirstRows}
 use Rattle.examples.proofs.Outcomes.{on_ok, on_err, either}
 use Rattle.examples.proofs.wire.pull_over_bytes.Goals as goal

@@ -5,7 +5,7 @@ use Rattle.merkle_tree_theory.specs.Ranges.{ranges_of}
 use Rattle.merkle_tree_theory.specs.State.{State}
 use Rattle.merkle_replica.specs.Contents.{Side, side}
 use Rattle.merkle_replica.specs.Pulls.{HasRanges}
-use Rattle.merkle_replica.proofs.Sides.{same_side}
+use Rattle.merkle_replica.proofs.SideLaws.{same_side}
 use Rattle.examples.specs.StoreLaws.{store_laws}
 use Rattle.examples.proofs.Outcomes.{if_ok_both}
 use Rattle.examples.proofs.wire.send_page_ranges.Goals as goal

@@ -4,7 +4,7 @@ use Rattle.std.specs.Vec.Iter.{into_iter_items}
 use Rattle.merkle_search_tree.specs.Loading.{digests}
 use Rattle.merkle_tree_theory.specs.Stream.{page_digest}
 use Rattle.merkle_tree_theory.specs.TreeOf.{defined_tree}
-use Rattle.merkle_replica.proofs.Sides.{laws_of}
+use Rattle.merkle_replica.proofs.SideLaws.{laws_of}
 use Rattle.main_theorem.specs.After.{FreeAreAccepted, rows_after}
 use Rattle.merkle_replica.specs.Agreeing.{AreEqual}
 use Rattle.main_theorem.proofs.Lives.{one_more, free_more, all_done}

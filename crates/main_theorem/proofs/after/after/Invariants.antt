@@ -1,6 +1,6 @@
 use Rattle.std.proofs.Common.{◌≡◌, ◌++◌, [], length}
 use Rattle.std.specs.Vec.Iter.{into_iter_items, into_iter_len}
-use Rattle.merkle_replica.proofs.Sides.{laws_of}
+use Rattle.merkle_replica.proofs.SideLaws.{laws_of}
 use Rattle.main_theorem.specs.After.{FreeAreAccepted, rows_after}
 use Rattle.merkle_replica.specs.Agreeing.{AreEqual}
 use Rattle.main_theorem.proofs.after.after.Given as goal

@@ -3,7 +3,7 @@ use Rattle.std.specs.Prelude.{Result, Ok, Err, OnErr}
 use Rattle.merkle_tree_theory.specs.Sound.{IsSound}
 use Rattle.merkle_tree_theory.specs.State.{State}
 use Rattle.merkle_replica.specs.Contents.{Contents}
-use Rattle.merkle_replica.proofs.Sides.{laws_of}
+use Rattle.merkle_replica.proofs.SideLaws.{laws_of}
 use Rattle.main_theorem.specs.After.{tree_under}
 use Rattle.main_theorem.proofs.Gaps.{free_alike}
 use Rattle.main_theorem.proofs.Lives.{has_alike, upsert_result, remove_result}

@@ -3,7 +3,7 @@ use Rattle.key_order.specs.Map.{SameMap}
 use Rattle.key_order.proofs.SameMaps.{same_map-back}
 use Rattle.merkle_search_tree.specs.Loading.{digests}
 use Rattle.merkle_tree_theory.specs.State.{State, map_of}
-use Rattle.merkle_replica.proofs.Sides.{laws_of}
+use Rattle.merkle_replica.proofs.SideLaws.{laws_of}
 use Rattle.main_theorem.proofs.Roots.{followed, is_defined}
 use Rattle.main_theorem.proofs.after.copy_of_tree.Goals as goal
 

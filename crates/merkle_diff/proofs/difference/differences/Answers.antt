@@ -4,7 +4,7 @@ use Rattle.key_order.specs.Interval.{IsApart}
 use Rattle.merkle_diff.specs.Cut.{IsExactCut}
 use Rattle.merkle_diff.specs.DiffRange.{spans, span}
 use Rattle.merkle_diff.proofs.FromWalk.{by-walk, none-by_walk}
-use Rattle.merkle_diff.proofs.Merged.{merge-is_apart}
+use Rattle.merkle_diff.proofs.MergeLaws.{merge-is_apart}
 use Rattle.merkle_diff.proofs.NoAnswer.{nothing-by_walk, heads-may_answer, on_err}
 use Rattle.merkle_diff.proofs.Queues.{front-is}
 use Rattle.merkle_diff.proofs.Ranges.{spans-ordered}

@@ -1,10 +1,10 @@
 use Rattle.std.proofs.Common.{◌≡◌, ◌≤◌, length, drop, subst, sym, ap, ◌∙◌, arith}
 use Rattle.merkle_diff.specs.Merge.{IsMerge}
 use Rattle.merkle_diff.specs.DiffRange.{span, spans}
-use Rattle.merkle_diff.specs.Sweep.{swept}
+use Rattle.merkle_diff.specs.Sweep.{sweep_of}
 use Rattle.merkle_diff.proofs.Ascents.{ascends-by_start}
-use Rattle.merkle_diff.proofs.Merged.{merge-to, merge-from, merge-is_apart}
-use Rattle.merkle_diff.proofs.Merges.{swept-merge}
+use Rattle.merkle_diff.proofs.MergeLaws.{merge-to, merge-from, merge-is_apart}
+use Rattle.merkle_diff.proofs.SweepIsMerge.{swept-merge}
 use Rattle.merkle_diff.proofs.Ranges.{spans-ordered}
 use Rattle.merkle_diff.proofs.Slices.{take-filled}
 use Rattle.merkle_diff.proofs.merge.merge_overlapping.Goals as goal
@@ -18,7 +18,7 @@ returns-clause-merged g c =
     let short : kept ≤ length new = omega arith in
     let long : length new ≡ c.args.ranges.now.len = omega arith in
     let e = c.truncate.ensures.items ∙ take-filled kept c.args.ranges.now.len new (drop (length new) items) short long in
-    subst (IsMerge g.K.Ord.cmp (spans items)) (ap (λ xs. swept g.K.Ord.cmp (spans xs)) (sym c.as_mut_slice.ensures.value) ∙ (sym c.merge_to_front-kept.ensures.merged ∙ sym (ap spans e))) m
+    subst (IsMerge g.K.Ord.cmp (spans items)) (ap (λ xs. sweep_of g.K.Ord.cmp (spans xs)) (sym c.as_mut_slice.ensures.value) ∙ (sym c.merge_to_front-kept.ensures.merged ∙ sym (ap spans e))) m
 
 pub returns-clause-same_keys : goal.returns-clause-same_keys
 returns-clause-same_keys g c = λ k.

@@ -2,7 +2,7 @@ use Rattle.std.proofs.Common.{◌≡◌, length, sym, ◌∙◌, ap, subst, rule
 use Rattle.std.proofs.lemmas.List.{nil_from_length}
 use Rattle.merkle_diff.proofs.Ascents.{IsAscendingByStart, rises-by_start}
 use Rattle.merkle_diff.proofs.Cuts.{left-ordered}
-use Rattle.merkle_diff.proofs.Merged.{merge-alone}
+use Rattle.merkle_diff.proofs.MergeLaws.{merge-alone}
 use Rattle.merkle_diff.proofs.OnePass.{left-touches}
 use Rattle.merkle_diff.proofs.Ranges.{spans-ordered}
 use Rattle.merkle_diff.proofs.Touching.{apart-touches, touches-ascends}

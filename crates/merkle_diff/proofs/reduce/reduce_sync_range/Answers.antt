@@ -4,7 +4,7 @@ use Rattle.std.proofs.lemmas.Result.{IfOk-weaker, on_err_weaker}
 use Rattle.key_order.specs.Interval.{IsApart}
 use Rattle.merkle_diff.proofs.CutByMerge.{cut-by_merge}
 use Rattle.merkle_diff.proofs.Cuts.{cut-out}
-use Rattle.merkle_diff.proofs.Merged.{merge-is_apart}
+use Rattle.merkle_diff.proofs.MergeLaws.{merge-is_apart}
 use Rattle.merkle_diff.proofs.OnePass.{merge-some}
 use Rattle.merkle_diff.proofs.Ranges.{spans-ordered}
 use Rattle.merkle_diff.specs.Cut.{IsExactCut}

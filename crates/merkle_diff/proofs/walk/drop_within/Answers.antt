@@ -6,7 +6,7 @@ use Rattle.merkle_diff.proofs.Queues.{some_at}
 use Rattle.merkle_diff.specs.DiffRange.{span}
 use Rattle.merkle_diff.specs.PageRange.{entry}
 use Rattle.merkle_diff.specs.Walk.{after_within}
-use Rattle.merkle_diff.proofs.Leads.{head-item, Leads-more, Leads-end, within-more, within-stops}
+use Rattle.merkle_diff.proofs.QueueSteps.{head-item, Leads-more, Leads-end, within-more, within-stops}
 use Rattle.merkle_diff.proofs.walk.drop_within.Goals as goal
 
 pub front-preserved : goal.front-preserved

@@ -7,7 +7,7 @@ use Rattle.merkle_diff.specs.Turn.{head_is, Marked}
 use Rattle.merkle_diff.specs.Lookahead.{left_of}
 use Rattle.merkle_diff.specs.Walk.{after_within, front_within, bad_marks}
 use Rattle.merkle_diff.proofs.Queues.{some_at}
-use Rattle.merkle_diff.proofs.Leads.{Leads-more, Leads-end, Marking, mark-more, mark-end, added, within-stops}
+use Rattle.merkle_diff.proofs.QueueSteps.{Leads-more, Leads-end, Marking, mark-more, mark-end, added, within-stops}
 use Rattle.merkle_diff.proofs.walk.mark_within.Goals as goal
 
 pub front-preserved : goal.front-preserved

@@ -5,7 +5,7 @@ use Rattle.merkle_diff.specs.DiffRange.{span}
 use Rattle.merkle_diff.specs.PageRange.{entry}
 use Rattle.merkle_diff.specs.Turn.{head_is, last_digest}
 use Rattle.merkle_diff.specs.Walk.{after_holders}
-use Rattle.merkle_diff.proofs.Leads.{Leads-more, Leads-end, holders-more, holders-stop}
+use Rattle.merkle_diff.proofs.QueueSteps.{Leads-more, Leads-end, holders-more, holders-stop}
 use Rattle.merkle_diff.proofs.walk.take_holders.Goals as goal
 
 pub front-preserved : goal.front-preserved

@@ -6,7 +6,7 @@ use Rattle.merkle_diff.specs.PageRange.{entry}
 use Rattle.merkle_diff.specs.Turn.{Leads, Marked, head_is, last_digest}
 use Rattle.merkle_diff.specs.Walk.{after_holders}
 use Rattle.merkle_diff.proofs.Stacks.{Agree, agree-from}
-use Rattle.merkle_diff.proofs.Turns.{ends-outside, ends-between, enters-met}
+use Rattle.merkle_diff.proofs.WalkTurns.{ends-outside, ends-between, enters-met}
 use Rattle.merkle_diff.proofs.walk.turn.Goals as goal
 
 pub returns-then-not-head_is_within-clause-meaning : goal.returns-then-not-head_is_within-clause-meaning

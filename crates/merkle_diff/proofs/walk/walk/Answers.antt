@@ -1,6 +1,6 @@
 use Rattle.std.proofs.Common.{◌≡◌, sym, ◌∙◌, ap, subst, [], ◌∷◌, ◌++◌, Some, None, append-nil, take, ◌-◌}
 use Rattle.merkle_diff.specs.DiffRange.{span}
-use Rattle.merkle_diff.proofs.Loops.{Goes, stack_of, stack-push, goes-in, goes-out, goes-last}
+use Rattle.merkle_diff.proofs.WalkLoop.{Goes, stack_of, stack-push, goes-in, goes-out, goes-last}
 use Rattle.merkle_diff.proofs.walk.walk.Goals as goal
 
 pub turns-preserved-in-Some : goal.turns-preserved-in-Some

@@ -3,7 +3,7 @@ use Rattle.key_order.specs.Interval.{Span}
 use Rattle.merkle_diff.specs.Lookahead.{CanGoOn, left_of}
 use Rattle.merkle_diff.specs.DiffRange.{span}
 use Rattle.merkle_diff.specs.Walk.{gap_start}
-use Rattle.merkle_diff.proofs.Loops.{Goes, stack_of}
+use Rattle.merkle_diff.proofs.WalkLoop.{Goes, stack_of}
 use Rattle.merkle_diff.proofs.walk.walk.Given as goal
 
 abbrev pub invariant-turns : goal.invariant-turns

@@ -3,7 +3,7 @@ use Rattle.std.proofs.lemmas.Cmp.{nat_list_eq_equiv}
 use Rattle.std.specs.Cmp.Lexicographic.{pointwise, same_text}
 use Rattle.key_order.proofs.SameMaps.{same_map-own}
 use Rattle.merkle_replica.specs.Contents.{side, tree_map}
-use Rattle.merkle_replica.proofs.Sides.{laws_of}
+use Rattle.merkle_replica.proofs.SideLaws.{laws_of}
 use Rattle.merkle_replica.proofs.EqualRows.{equal_by_root, equal_digests, one_root}
 use Rattle.merkle_replica.proofs.agreeing.agree.Goals as goal
 

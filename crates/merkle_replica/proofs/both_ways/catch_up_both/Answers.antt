@@ -3,7 +3,7 @@ use Rattle.key_order.specs.Join.{IsJoin}
 use Rattle.merkle_replica.specs.Contents.{side, with_rows}
 use Rattle.merkle_replica.specs.Faithful.{IsFaithful}
 use Rattle.merkle_replica.proofs.CatchUpJoins.{join_back}
-use Rattle.merkle_replica.proofs.Sides.{laws_of, same_side, rows_alone}
+use Rattle.merkle_replica.proofs.SideLaws.{laws_of, same_side, rows_alone}
 use Rattle.merkle_replica.proofs.both_ways.catch_up_both.Goals as goal
 
 pub returns-in-Ok-catch_up-clause-join : goal.returns-in-Ok-catch_up-clause-join

@@ -10,9 +10,9 @@ use Rattle.merkle_tree_theory.specs.Page.{level}
 use Rattle.merkle_replica.specs.Contents.{side}
 use Rattle.merkle_replica.specs.Descent.{AreSortedOut, gaps_of, keys_of}
 use Rattle.merkle_replica.specs.Laws.{Laws}
-use Rattle.merkle_replica.specs.Underway.{IsUnderway}
+use Rattle.merkle_replica.proofs.RoundStates.{IsUnderway}
 use Rattle.merkle_replica.proofs.Rounds.{Premises, premises_from, starts, goes_on, ends, some_left, root_level, some_gaps, no_gaps}
-use Rattle.merkle_replica.proofs.Sides.{laws_of}
+use Rattle.merkle_replica.proofs.SideLaws.{laws_of}
 use Rattle.merkle_replica.proofs.catch_up.lacked_keys.Given.{Over}
 use Rattle.merkle_replica.proofs.catch_up.lacked_keys.Goals as goal
 use Rattle.merkle_replica.proofs.catch_up.lacked_keys.Goals.{After-is_empty, After-outlines_lead_down}

@@ -1,8 +1,8 @@
 use Rattle.std.proofs.Common.{◌+◌, ◌-◌, ◌≤◌}
 use Rattle.merkle_tree_theory.specs.Page.{level}
 use Rattle.merkle_replica.specs.Descent.{gaps_of, keys_of}
-use Rattle.merkle_replica.specs.Underway.{IsUnderway}
-use Rattle.merkle_replica.proofs.Sides.{laws_of}
+use Rattle.merkle_replica.proofs.RoundStates.{IsUnderway}
+use Rattle.merkle_replica.proofs.SideLaws.{laws_of}
 use Rattle.merkle_replica.proofs.catch_up.lacked_keys.Given as goal
 
 -- each round comes to lower levels

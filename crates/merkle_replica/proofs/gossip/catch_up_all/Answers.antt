@@ -6,7 +6,7 @@ use Rattle.merkle_replica.specs.Contents.{Contents, side}
 use Rattle.merkle_replica.specs.Gossip.{StopsGossip, numbered, through_hub}
 use Rattle.merkle_replica.specs.Laws.{Laws}
 use Rattle.merkle_replica.proofs.Hubs.{GathersOn, SpreadsOn, gathers_on, spreads_on, turns_back}
-use Rattle.merkle_replica.proofs.Sides.{laws_of, same_side, rows_alone}
+use Rattle.merkle_replica.proofs.SideLaws.{laws_of, same_side, rows_alone}
 use Rattle.merkle_replica.proofs.gossip.catch_up_all.Given.{Over}
 use Rattle.merkle_replica.proofs.gossip.catch_up_all.Goals as goal
 use Rattle.merkle_replica.proofs.gossip.catch_up_all.Goals.{After-catch_up, After-catch_up-in-spreading}

@@ -1,6 +1,6 @@
 use Rattle.std.proofs.Common.{map}
 use Rattle.merkle_replica.specs.Contents.{side}
-use Rattle.merkle_replica.specs.Hub.{IsGathered, IsSpread}
+use Rattle.merkle_replica.proofs.HubStates.{IsGathered, IsSpread}
 use Rattle.merkle_replica.proofs.gossip.catch_up_all.Given as goal
 
 abbrev pub invariant-gathering : goal.invariant-gathering

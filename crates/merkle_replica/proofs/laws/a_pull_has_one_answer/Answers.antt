@@ -4,8 +4,8 @@ use Rattle.merkle_diff.specs.SameEntries.{SameEntries}
 use Rattle.merkle_tree_theory.specs.Ranges.{ranges_of}
 use Rattle.merkle_replica.specs.Contents.{tree_map}
 use Rattle.merkle_replica.proofs.Listings.{HaveOneList}
-use Rattle.merkle_replica.proofs.Pulling.{one_answer_for, one_pull}
-use Rattle.merkle_replica.proofs.Sides.{laws_of}
+use Rattle.merkle_replica.proofs.PullParts.{one_answer_for, one_pull}
+use Rattle.merkle_replica.proofs.SideLaws.{laws_of}
 use Rattle.merkle_replica.proofs.laws.a_pull_has_one_answer.Goals as goal
 
 pub returns-clause-ranges : goal.returns-clause-ranges

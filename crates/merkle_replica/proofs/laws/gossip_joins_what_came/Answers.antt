@@ -1,6 +1,6 @@
 use Rattle.std.proofs.Common.{[], ◌∷◌}
 use Rattle.merkle_replica.proofs.Gossips.{alone, comes_to, same_join}
-use Rattle.merkle_replica.proofs.Sides.{laws_of}
+use Rattle.merkle_replica.proofs.SideLaws.{laws_of}
 use Rattle.merkle_replica.proofs.laws.gossip_joins_what_came.Goals as goal
 
 pub returns-clause-joins : goal.returns-clause-joins

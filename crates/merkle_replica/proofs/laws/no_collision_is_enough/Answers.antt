@@ -1,6 +1,6 @@
 use Rattle.merkle_replica.specs.Contents.{tree_map}
 use Rattle.merkle_replica.proofs.FromStreams.{faithful_from, all_faithful, covers_from, converges_from}
-use Rattle.merkle_replica.proofs.Sides.{laws_of}
+use Rattle.merkle_replica.proofs.SideLaws.{laws_of}
 use Rattle.merkle_replica.proofs.laws.no_collision_is_enough.Goals as goal
 
 pub returns-clause-faithful : goal.returns-clause-faithful

@@ -1,5 +1,5 @@
 use Rattle.merkle_replica.proofs.OutlinesWithin.{whole_lies, outlines_lie, gaps_left-ascend}
-use Rattle.merkle_replica.proofs.Sides.{laws_of}
+use Rattle.merkle_replica.proofs.SideLaws.{laws_of}
 use Rattle.merkle_replica.proofs.laws.outlines_lie_within.Goals as goal
 
 pub returns-clause-whole : goal.returns-clause-whole

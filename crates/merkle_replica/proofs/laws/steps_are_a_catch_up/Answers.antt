@@ -13,7 +13,7 @@ use Rattle.merkle_replica.proofs.Bounds.{ascending_digests}
 use Rattle.merkle_replica.proofs.CatchUpJoins.{found_once, all_joined}
 use Rattle.merkle_replica.proofs.Rounds.{premises_from, descended, contents_of}
 use Rattle.merkle_replica.proofs.SameDescents.{once-alike, exact_descent}
-use Rattle.merkle_replica.proofs.Sides.{laws_of}
+use Rattle.merkle_replica.proofs.SideLaws.{laws_of}
 use Rattle.merkle_replica.proofs.laws.steps_are_a_catch_up.Goals as goal
 
 pub returns-clause-catch_up : goal.returns-clause-catch_up

@@ -1,5 +1,5 @@
-use Rattle.merkle_replica.proofs.Pulling.{answer_came, steps_pull}
-use Rattle.merkle_replica.proofs.Sides.{laws_of}
+use Rattle.merkle_replica.proofs.PullParts.{answer_came, steps_pull}
+use Rattle.merkle_replica.proofs.SideLaws.{laws_of}
 use Rattle.merkle_replica.proofs.laws.steps_are_a_pull.Goals as goal
 
 pub returns-clause-answer : goal.returns-clause-answer

@@ -7,10 +7,10 @@ use Rattle.key_order.proofs.Orders.{low_is_up}
 use Rattle.merkle_replica.specs.Contents.{IsKept}
 use Rattle.merkle_replica.specs.Parted.{whole}
 use Rattle.merkle_replica.proofs.Searches.{went, refused}
-use Rattle.merkle_replica.proofs.Within.{Joins, joins_none, joins_past, joins_more, stopped_short, all_done}
+use Rattle.merkle_replica.proofs.RowsInRanges.{Joins, joins_none, joins_past, joins_more, stopped_short, all_done}
 use Rattle.merkle_replica.specs.Seek.{begins_upto}
 use Rattle.merkle_replica.proofs.Seeks.{rows_rise, first_upto, first_low, some_range}
-use Rattle.merkle_replica.proofs.Merging.{stopped-none, low-further}
+use Rattle.merkle_replica.proofs.RowJoins.{stopped-none, low-further}
 use Rattle.merkle_replica.proofs.merge.join_all.Goals as goal
 use Rattle.merkle_replica.proofs.merge.join_all.Goals.{then-found+else-is_err, else-found}
 

@@ -6,7 +6,7 @@ use Rattle.merkle_replica.specs.Answers.{spans_of}
 use Rattle.merkle_replica.specs.Contents.{IsKept}
 use Rattle.merkle_replica.specs.Parted.{whole}
 use Rattle.merkle_replica.specs.Seek.{begins_upto}
-use Rattle.merkle_replica.proofs.Within.{Joins}
+use Rattle.merkle_replica.proofs.RowsInRanges.{Joins}
 use Rattle.merkle_replica.proofs.merge.join_all.Given as goal
 
 -- the rows found so far are joined, what is left of the ranges holds those that are still to be found, and the rows before the place

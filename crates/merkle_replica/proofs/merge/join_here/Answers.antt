@@ -4,9 +4,9 @@ use Rattle.key_order.specs.Join.{IsJoin}
 use Rattle.key_order.specs.Map.{IsMap}
 use Rattle.merkle_replica.specs.Contents.{IsKept}
 use Rattle.merkle_replica.specs.Parted.{whole, first_is}
-use Rattle.merkle_replica.proofs.Follows.{kept_set}
+use Rattle.merkle_replica.proofs.TreeFollowsRows.{kept_set}
 use Rattle.merkle_replica.proofs.Searches.{set_there, set_new, joins_there, joins_new, went}
-use Rattle.merkle_replica.proofs.Merging.{at-next, at-gap, next-some}
+use Rattle.merkle_replica.proofs.RowJoins.{at-next, at-gap, next-some}
 use Rattle.merkle_replica.proofs.merge.join_here.Goals as goal
 
 pub returns-then-is_next-clause-kept : goal.returns-then-is_next-clause-kept

@@ -6,9 +6,9 @@ use Rattle.merkle_replica.specs.Contents.{IsKept}
 use Rattle.merkle_replica.specs.Parted.{whole}
 use Rattle.merkle_replica.specs.Puts.{IsRising, HasGathered, IsGatheredTo}
 use Rattle.merkle_replica.proofs.Searches.{went, refused}
-use Rattle.merkle_replica.proofs.Yielded.{one_yielded}
-use Rattle.merkle_replica.proofs.Gathering.{gathers_none, gathers_more, gathered_to}
-use Rattle.merkle_replica.proofs.Merging.{low-all, low_first}
+use Rattle.merkle_replica.proofs.ListIterators.{one_yielded}
+use Rattle.merkle_replica.proofs.PutRows.{gathers_none, gathers_more, gathered_to}
+use Rattle.merkle_replica.proofs.RowJoins.{low-all, low_first}
 use Rattle.merkle_replica.proofs.merge.join_owned.Goals as goal
 
 pub joining-init : goal.joining-init

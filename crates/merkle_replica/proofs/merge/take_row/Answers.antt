@@ -2,8 +2,8 @@ use Rattle.std.proofs.Common.{◌∙◌, rules}
 use Rattle.std.proofs.lemmas.Result.{on_ok_weaker}
 use Rattle.std.specs.Cmp.{tied_back}
 use Rattle.merkle_replica.specs.Parted.{whole}
-use Rattle.merkle_replica.proofs.Joined.{join_like}
-use Rattle.merkle_replica.proofs.Merging.{low-same}
+use Rattle.merkle_replica.proofs.PullRows.{join_like}
+use Rattle.merkle_replica.proofs.RowJoins.{low-same}
 use Rattle.merkle_replica.proofs.merge.take_row.Goals as goal
 
 -- the copy has an equal key and an equal value

@@ -6,7 +6,7 @@ use Rattle.merkle_diff.specs.PageRange.{entry, entries}
 use Rattle.merkle_diff.proofs.Snapshots.{drained}
 use Rattle.merkle_replica.specs.Answers.{spans_of}
 use Rattle.merkle_replica.proofs.Asks.{answer_for}
-use Rattle.merkle_replica.proofs.Sides.{laws_of}
+use Rattle.merkle_replica.proofs.SideLaws.{laws_of}
 use Rattle.merkle_replica.proofs.pull.ask.Goals as goal
 
 pub returns : goal.returns

@@ -2,7 +2,7 @@ use Rattle.std.proofs.Common.{◌≡◌, ◌<◌, false, length, get_or, refl, s
 use Rattle.std.proofs.lemmas.Bool.{false≢true}
 use Rattle.std.proofs.lemmas.List.{get_or_default}
 use Rattle.key_order.specs.Order.{upto}
-use Rattle.merkle_replica.proofs.Ranging.{are_from, are_at, begins_behind_passes}
+use Rattle.merkle_replica.proofs.RangesOfKeys.{are_from, are_at, begins_behind_passes}
 use Rattle.merkle_diff.proofs.OrderTests.{to_upto}
 use Rattle.merkle_replica.proofs.rows_within.are_ranges.Goals as goal
 

@@ -3,8 +3,8 @@ use Rattle.key_order.specs.Map.{IsMap, rows_in}
 use Rattle.key_order.specs.Interval.{IsApart}
 use Rattle.merkle_replica.specs.Answers.{spans_of}
 use Rattle.merkle_replica.proofs.Seeks.{map_drop}
-use Rattle.merkle_replica.proofs.Ranging.{spans_drop}
-use Rattle.merkle_replica.proofs.Within.{Left, still, passes, apart_next, left_all, left_none}
+use Rattle.merkle_replica.proofs.RangesOfKeys.{spans_drop}
+use Rattle.merkle_replica.proofs.RowsInRanges.{Left, still, passes, apart_next, left_all, left_none}
 use Rattle.merkle_replica.proofs.rows_within.first_within.Goals as goal
 
 pub returns-then-found-clause-gives : goal.returns-then-found-clause-gives

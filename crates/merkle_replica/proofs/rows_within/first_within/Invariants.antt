@@ -1,6 +1,6 @@
 use Rattle.std.proofs.Common.{◌≤◌, [], drop, length}
 use Rattle.merkle_replica.specs.Answers.{spans_of}
-use Rattle.merkle_replica.proofs.Within.{Left}
+use Rattle.merkle_replica.proofs.RowsInRanges.{Left}
 use Rattle.merkle_replica.proofs.rows_within.first_within.Given as goal
 
 -- no row so far is in a range, and what is left of the ranges holds those that are still to be found

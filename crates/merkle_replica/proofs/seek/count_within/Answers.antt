@@ -1,6 +1,6 @@
 use Rattle.std.proofs.Common.{drop, arith}
 use Rattle.merkle_replica.specs.Answers.{spans_of}
-use Rattle.merkle_replica.proofs.Within.{counts_none, counts_more, counts_all}
+use Rattle.merkle_replica.proofs.RowsInRanges.{counts_none, counts_more, counts_all}
 use Rattle.merkle_replica.proofs.seek.count_within.Goals as goal
 use Rattle.merkle_replica.proofs.seek.count_within.Goals.{then-found, else-found}
 

@@ -1,6 +1,6 @@
 use Rattle.std.proofs.Common.{◌≤◌, drop, length}
 use Rattle.merkle_replica.specs.Answers.{spans_of}
-use Rattle.merkle_replica.proofs.Within.{Counts}
+use Rattle.merkle_replica.proofs.RowsInRanges.{Counts}
 use Rattle.merkle_replica.proofs.seek.count_within.Given as goal
 
 -- the rows found so far are counted, and what is left of the ranges holds those that are still to be found

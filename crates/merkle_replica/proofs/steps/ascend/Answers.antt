@@ -1,7 +1,7 @@
 use Rattle.std.proofs.Common.{◌≡◌, suc, ◌-◌, false, get_or, refl, sym, subst, ◌∙◌, arith}
 use Rattle.std.proofs.lemmas.Bool.{false≢true}
 use Rattle.key_order.specs.Order.{Below, below}
-use Rattle.merkle_replica.proofs.Ranging.{next_further, beside, map_from}
+use Rattle.merkle_replica.proofs.RangesOfKeys.{next_further, beside, map_from}
 use Rattle.merkle_replica.proofs.Seeks.{rows_rise}
 use Rattle.merkle_replica.proofs.steps.ascend.Goals as goal
 

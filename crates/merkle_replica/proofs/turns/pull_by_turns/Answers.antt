@@ -1,8 +1,8 @@
 use Rattle.std.proofs.Common.{[], ◌∷◌, length, length-append, arith, refl, ◌∙◌, ap}
 use Rattle.std.proofs.lemmas.List.{length-map}
 use Rattle.merkle_replica.specs.Answers.{answer_of}
-use Rattle.merkle_replica.proofs.Sides.{laws_of}
-use Rattle.merkle_replica.proofs.Turning.{starts, goes_on, stops_here, ends_converged}
+use Rattle.merkle_replica.proofs.SideLaws.{laws_of}
+use Rattle.merkle_replica.proofs.TurnLoop.{starts, goes_on, stops_here, ends_converged}
 use Rattle.merkle_replica.proofs.turns.pull_by_turns.Goals as goal
 
 pub turning-init : goal.turning-init

@@ -1,6 +1,6 @@
 use Rattle.std.proofs.Common.{◌≡◌, ◌≤◌, length, vec_capacity, vec_len}
-use Rattle.merkle_replica.proofs.Sides.{laws_of}
-use Rattle.merkle_replica.proofs.Turning.{Goes}
+use Rattle.merkle_replica.proofs.SideLaws.{laws_of}
+use Rattle.merkle_replica.proofs.TurnLoop.{Goes}
 use Rattle.merkle_replica.proofs.turns.pull_by_turns.Given as goal
 
 -- the pulls so far are by turns, and there is room for the answers of the rest

@@ -2,7 +2,7 @@ use Rattle.std.proofs.Common.{◌<◌, length, drop, sym, ◌∙◌, arith}
 use Rattle.std.proofs.lemmas.Bool.{false≢true, eqb-true, eq-eqb}
 use Rattle.merkle_search_tree.specs.Items.{gap_of, item}
 use Rattle.merkle_replica.specs.Descent.{gaps_of}
-use Rattle.merkle_replica.proofs.WithinGaps.{pass_item, before_item, pass_gap, before_gap, no_item, no_gap}
+use Rattle.merkle_replica.proofs.ItemsInGaps.{pass_item, before_item, pass_gap, before_gap, no_item, no_gap}
 use Rattle.merkle_replica.proofs.within_gaps.are_within.Goals as goal
 
 pub testing-preserved-then-is_within : goal.testing-preserved-then-is_within

@@ -1,6 +1,6 @@
 use Rattle.merkle_search_tree.specs.Items.{items}
 use Rattle.merkle_replica.specs.Descent.{gaps_of}
-use Rattle.merkle_replica.proofs.WithinGaps.{keys_within}
+use Rattle.merkle_replica.proofs.ItemsInGaps.{keys_within}
 use Rattle.merkle_replica.proofs.within_gaps.lie_within.Goals as goal
 
 pub returns-then-rise-clause-keys : goal.returns-then-rise-clause-keys

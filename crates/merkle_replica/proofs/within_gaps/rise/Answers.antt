@@ -2,7 +2,7 @@ use Rattle.std.proofs.Common.{◌≡◌, ◌+◌, ◌-◌, drop, refl, sym, subs
 use Rattle.std.proofs.lemmas.Bool.{false≢true}
 use Rattle.merkle_search_tree.specs.Items.{item, items}
 use Rattle.merkle_replica.specs.LieWithin.{Rise}
-use Rattle.merkle_replica.proofs.WithinGaps.{rise_from, rise_more, last_rises}
+use Rattle.merkle_replica.proofs.ItemsInGaps.{rise_from, rise_more, last_rises}
 use Rattle.merkle_replica.proofs.within_gaps.rise.Goals as goal
 
 pub returns-then-not-precedes : goal.returns-then-not-precedes

@@ -4,7 +4,7 @@ use Rattle.std.specs.Option.{option_eq}
 use Rattle.std.specs.Cmp.Lexicographic.{pointwise}
 use Rattle.merkle_tree_theory.specs.Tree.{held_of}
 use Rattle.merkle_tree_theory.specs.Equal.{tree_eq, node_eq}
-use Rattle.merkle_tree_theory.proofs.Equals.{nodes_eq, nodes_eq-length, nodes_eq-differ, nodes_eq-end, tree_eq-from, tree_eq-not}
+use Rattle.merkle_tree_theory.proofs.NodeEquality.{nodes_eq, nodes_eq-length, nodes_eq-differ, nodes_eq-end, tree_eq-from, tree_eq-not}
 use Rattle.merkle_search_tree.proofs.equality.+equal.Goals as goal
 
 pub same_page-returns-then-len : goal.same_page-returns-then-len

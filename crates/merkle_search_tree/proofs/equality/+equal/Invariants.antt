@@ -1,7 +1,7 @@
 use Rattle.std.proofs.Common.{◌≡◌, drop, nat_eq}
 use Rattle.std.specs.Option.{option_eq}
 use Rattle.std.specs.Cmp.Lexicographic.{pointwise}
-use Rattle.merkle_tree_theory.proofs.Equals.{nodes_eq}
+use Rattle.merkle_tree_theory.proofs.NodeEquality.{nodes_eq}
 use Rattle.merkle_search_tree.proofs.equality.+equal.Given as goal
 
 abbrev pub invariant-same_page-nodes : goal.invariant-same_page-nodes

@@ -12,10 +12,10 @@ use Rattle.merkle_tree_theory.specs.Tree.{Tree, page, row, Held, Node, held_of, 
 use Rattle.merkle_tree_theory.specs.Page.{cache}
 use Rattle.merkle_tree_theory.specs.Stream.{page_digest, stream_of, held_stream, row_stream, head_bytes, key_bytes}
 use Rattle.merkle_tree_theory.specs.declared.page_format.PageFormat.{PageFormat}
-use Rattle.merkle_tree_theory.specs.Cache.{HeldCachesHold, missing, held_missing, one_without, filled, held_filled}
+use Rattle.merkle_tree_theory.specs.Cache.{HeldCachesHold, uncached_pages, held_uncached_pages, one_without, tree_with_digests, held_with_digests}
 use Rattle.merkle_tree_theory.proofs.Rows.{row_nodes-row, size_at, size_high}
-use Rattle.merkle_tree_theory.proofs.Keeps.{none_missing}
-use Rattle.merkle_tree_theory.proofs.Fill.{node_filled, node_stream, node_missing, row_missing-row, row_filled-row, row_stream-row, caches_at, caches_high, row_of_caches, filled_of_caches, reads_old}
+use Rattle.merkle_tree_theory.proofs.UpsertForm.{none_missing}
+use Rattle.merkle_tree_theory.proofs.FillingDigests.{node_filled, node_stream, node_missing, row_missing-row, row_filled-row, row_stream-row, caches_at, caches_high, row_of_caches, filled_of_caches, reads_old}
 use Rattle.merkle_search_tree.proofs.hash.+fill.Goals as goal
 
 pub Page+N+K::fill-returns-in-Some-clause-pages : goal.Page+N+K::fill-returns-in-Some-clause-pages
@@ -26,7 +26,7 @@ Page+N+K::fill-returns-in-Some-clause-pages g t c =
 
 pub Page+N+K::fill-returns-in-Some-clause-count : goal.Page+N+K::fill-returns-in-Some-clause-count
 Page+N+K::fill-returns-in-Some-clause-count g t c =
-    let none : missing c.args.self.now ≡ 0 = none_missing c.args.format g.K.KeyBytes.bytes_of c.args.self.now c.in-Some.digest (ap cache (sym c.self.view_is) ∙ c.in-Some.is) c.requires in
+    let none : uncached_pages c.args.self.now ≡ 0 = none_missing c.args.format g.K.KeyBytes.bytes_of c.args.self.now c.in-Some.digest (ap cache (sym c.self.view_is) ∙ c.in-Some.is) c.requires in
     omega (arith, none)
 
 pub Page+N+K::fill-nodes-init : goal.Page+N+K::fill-nodes-init
@@ -84,7 +84,7 @@ Page+N+K::fill-nodes-preserved g t c =
     subst (λ ks. Holds c.write.new.self zero_key ((before ++ key_bytes format ks) ++ n.value_hash)) c.key_bytes.ensures
     (subst (λ ds. Holds c.write.new.self zero_key ((before ++ key_bytes format c.key_bytes.result.now) ++ ds)) c.as_bytes-in-nodes.ensures written) in
     let more = sum_by_more node_missing s.nodes.items i x r in
-    let here : held_missing x.lt ≡ held_missing (get_or s.nodes.items i x).lt = ap (λ (e : Node g.row.K.Denot (List ℕ)). held_missing e.lt) is in (
+    let here : held_uncached_pages x.lt ≡ held_uncached_pages (get_or s.nodes.items i x).lt = ap (λ (e : Node g.row.K.Denot (List ℕ)). held_uncached_pages e.lt) is in (
       ap (slice_set c.nodes.self-inside.nodes.items i) new ∙ map_over_more (node_filled format b) _ _ i _ r inv.0 c.index_mut-node.ensures.value,
       step format b head s.nodes.items i c.write.new.self x r is holds,
       omega (arith, c.saturating_add-hashed.ensures, c.fill_below.ensures.count, inv.2, more, here),
@@ -141,8 +141,8 @@ Page+N+K::fill-returns-clause-pages g t c =
     let all = ap (map (node_filled format b)) (take_all c.nodes.i s.nodes.items r) in
     let none = drop_all c.nodes.i s.nodes.items r in
     let items : c.nodes.self-inside.nodes.items ≡ map (node_filled format b) s.nodes.items = rw (inv.0, all, none) (append-nil _) in
-    let high_is : held_of c.fill_below-2.new.held ≡ held_filled format b (held_of s.high_page) = c.fill_below-2.ensures.pages ∙ ap (λ o. held_filled format b (held_of o)) inv.4 in
-    simp (inv.3, digest_is, items, high_is) (ap (page s.level (Some (page_digest format b (page s.level s.tree_hash (row s.nodes.items (held_of s.high_page)))))) (sym (row_filled-row format b s.nodes.items (held_of s.high_page))) ∙ ap (filled format b) c.self.view_is)
+    let high_is : held_of c.fill_below-2.new.held ≡ held_with_digests format b (held_of s.high_page) = c.fill_below-2.ensures.pages ∙ ap (λ o. held_with_digests format b (held_of o)) inv.4 in
+    simp (inv.3, digest_is, items, high_is) (ap (page s.level (Some (page_digest format b (page s.level s.tree_hash (row s.nodes.items (held_of s.high_page)))))) (sym (row_filled-row format b s.nodes.items (held_of s.high_page))) ∙ ap (tree_with_digests format b) c.self.view_is)
 
 pub Page+N+K::fill-returns-clause-count : goal.Page+N+K::fill-returns-clause-count
 Page+N+K::fill-returns-clause-count g t c =
@@ -150,10 +150,10 @@ Page+N+K::fill-returns-clause-count g t c =
     let inv = c.nodes.invariant in
     let r : length s.nodes.items ≤ c.nodes.i = omega (arith, c.nodes-test.false, inv.5) in
     let one = is_one s.tree_hash (λ d e. c.in_default.not-Some d e) in
-    let all : missing c.args.self.now ≡ one_without s.tree_hash + (sum_by node_missing s.nodes.items + held_missing (held_of s.high_page)) =
-    ap missing (sym c.self.view_is) ∙ ap (λ n. one_without s.tree_hash + n) (row_missing-row s.nodes.items (held_of s.high_page)) in
+    let all : uncached_pages c.args.self.now ≡ one_without s.tree_hash + (sum_by node_missing s.nodes.items + held_uncached_pages (held_of s.high_page)) =
+    ap uncached_pages (sym c.self.view_is) ∙ ap (λ n. one_without s.tree_hash + n) (row_missing-row s.nodes.items (held_of s.high_page)) in
     let sum : sum_by node_missing (take c.nodes.i s.nodes.items) ≡ sum_by node_missing s.nodes.items = ap (sum_by node_missing) (take_all c.nodes.i s.nodes.items r) in
-    let high_is : held_missing (held_of c.nodes.self-inside.high_page) ≡ held_missing (held_of s.high_page) = ap (λ o. held_missing (held_of o)) inv.4 in
+    let high_is : held_uncached_pages (held_of c.nodes.self-inside.high_page) ≡ held_uncached_pages (held_of s.high_page) = ap (λ o. held_uncached_pages (held_of o)) inv.4 in
     omega (arith, c.saturating_add-hashed-2.ensures, c.fill_below-2.ensures.count, inv.2, sum, high_is, one, all)
 
 pub fill_below-returns-in-None-clause-bytes : goal.fill_below-returns-in-None-clause-bytes

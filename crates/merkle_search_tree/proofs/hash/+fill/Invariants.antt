@@ -4,7 +4,7 @@ use Rattle.merkle_digest.specs.SipHash.{zero_key}
 use Rattle.merkle_digest.specs.Sip24.{Holds}
 use Rattle.merkle_tree_theory.specs.Tree.{tree_size, held_size, held_of}
 use Rattle.merkle_tree_theory.specs.Stream.{head_bytes}
-use Rattle.merkle_tree_theory.proofs.Fill.{node_filled, node_stream, node_missing}
+use Rattle.merkle_tree_theory.proofs.FillingDigests.{node_filled, node_stream, node_missing}
 use Rattle.merkle_search_tree.proofs.hash.+fill.Given as goal
 
 abbrev pub invariant-Page+N+K::fill-nodes : goal.invariant-Page+N+K::fill-nodes

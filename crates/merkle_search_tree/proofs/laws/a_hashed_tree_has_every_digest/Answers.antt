@@ -1,6 +1,6 @@
 use Rattle.std.proofs.Common.{subst}
 use Rattle.merkle_tree_theory.specs.Sound.{IsSound}
-use Rattle.merkle_tree_theory.proofs.Listed.{hashed_has}
+use Rattle.merkle_tree_theory.proofs.CachedRanges.{hashed_has}
 use Rattle.merkle_search_tree.proofs.laws.a_hashed_tree_has_every_digest.Goals as goal
 
 pub returns : goal.returns

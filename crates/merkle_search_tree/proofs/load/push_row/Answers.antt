@@ -5,7 +5,7 @@ use Rattle.merkle_digest.specs.Level.{level_of}
 use Rattle.merkle_tree_theory.specs.Settings.{Settings}
 use Rattle.merkle_tree_theory.specs.Edge.{edge_pairs, is_above, IsEdge, Appends}
 use Rattle.merkle_search_tree.specs.Loading.{row_count}
-use Rattle.merkle_search_tree.proofs.Loadings.{map-more, no-more, count-more}
+use Rattle.merkle_search_tree.proofs.LoadOrder.{map-more, no-more, count-more}
 use Rattle.merkle_search_tree.proofs.load.push_row.Goals as goal
 
 pub returns-then-not-is_above-clause-refused : goal.returns-then-not-is_above-clause-refused

@@ -2,7 +2,7 @@ use Rattle.std.proofs.Common.{◌++◌, ap, sym, subst, ◌∙◌, arith}
 use Rattle.merkle_tree_theory.specs.Tree.{Tree, high, row, held_of}
 use Rattle.merkle_tree_theory.specs.Page.{pages_below, LevelsFall, RowFalls}
 use Rattle.merkle_search_tree.specs.Path.{pages_left}
-use Rattle.merkle_tree_theory.proofs.Falls.{high-falls, no-pages}
+use Rattle.merkle_tree_theory.proofs.FallingLevels.{high-falls, no-pages}
 use Rattle.merkle_search_tree.proofs.page_range_iter.behind.Goals as goal
 
 pub first_page-requires-clause-room : goal.first_page-requires-clause-room

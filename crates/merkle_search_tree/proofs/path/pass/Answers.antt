@@ -5,7 +5,7 @@ use Rattle.merkle_tree_theory.specs.Page.{RowFalls, HeldFalls, held_in_order, he
 use Rattle.merkle_search_tree.specs.Path.{rest_of, pages_left, from_first, behind_first, VisitFits, PathFits}
 use Rattle.merkle_search_tree.specs.declared.path.Visit.{Visit}
 use Rattle.merkle_search_tree.proofs.Paths.{rest_of-push, fits-more, fits-front, fits-last, first-rest, none-rest, pages_left-push, first-pages, none-pages}
-use Rattle.merkle_tree_theory.proofs.Falls.{at-falls, high-falls}
+use Rattle.merkle_tree_theory.proofs.FallingLevels.{at-falls, high-falls}
 use Rattle.merkle_search_tree.proofs.path.pass.Goals as goal
 
 -- the path below the last page still fits

@@ -1,6 +1,6 @@
 use Rattle.std.proofs.Common.{ap, sym, ◌∙◌, arith}
 use Rattle.merkle_tree_theory.specs.Lookup.{place_after}
-use Rattle.merkle_tree_theory.proofs.Over.{place_after-none, behind_end, behind_other, behind_there}
+use Rattle.merkle_tree_theory.proofs.PageOverGap.{place_after-none, behind_end, behind_other, behind_there}
 use Rattle.merkle_search_tree.specs.Items.{bound_of}
 use Rattle.merkle_search_tree.proofs.spot.first_behind.Goals as goal
 

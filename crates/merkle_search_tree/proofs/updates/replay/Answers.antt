@@ -3,7 +3,7 @@ use Rattle.std.specs.Vec.Iter.{into_iter_items}
 use Rattle.merkle_digest.specs.Level.{level_of}
 use Rattle.merkle_tree_theory.specs.Canonical.{SamePages}
 use Rattle.std.specs.Prelude.{⊤, MatchOption}
-use Rattle.merkle_tree_theory.specs.Cache.{missing}
+use Rattle.merkle_tree_theory.specs.Cache.{uncached_pages}
 use Rattle.merkle_tree_theory.specs.Stream.{page_digest}
 use Rattle.merkle_tree_theory.specs.State.{map_of}
 use Rattle.merkle_tree_theory.specs.TreeOf.{tree_of}
@@ -78,5 +78,5 @@ returns-clause-root_hash g c =
     let e : is_some c.updates.tree.root_hash ≡ hashed_after g.K.Ord.cmp (g.H.Hasher-2.digest_of c.args.builder.hasher) [] false c.args.updates.items c.updates.accepted.items =
     subst (λ (us : List _). is_some c.updates.tree.root_hash ≡ hashed_after g.K.Ord.cmp (g.H.Hasher-2.digest_of c.args.builder.hasher) [] false us c.updates.accepted.items) (all_done _ _ _ c.updates.invariant.left (sym c.updates.invariant.count ∙ c.in-None.ensures.steps.0)) c.updates.invariant.hashed in
     hashed_is _ c.updates.tree.root_hash _ _ _ e
-    (subst (λ f. MatchOption c.updates.tree.root_hash ⊤ (λ digest. (digest ≡ page_digest f bytes_of c.updates.tree.root) × (missing c.updates.tree.root ≡ 0))) c.updates.invariant.format c.a_hashed_tree_has_every_digest.ensures)
+    (subst (λ f. MatchOption c.updates.tree.root_hash ⊤ (λ digest. (digest ≡ page_digest f bytes_of c.updates.tree.root) × (uncached_pages c.updates.tree.root ≡ 0))) c.updates.invariant.format c.a_hashed_tree_has_every_digest.ensures)
     (same_digest g.K.Ord.cmp c.args.builder.format bytes_of (same_bytes g.K.Ord.cmp g.K.PartialEq.eq g.met.K.Ord.matches_eq bytes_of g.met.K.KeyBytes.bytes_respect_eq) _ _ (returns-clause-pages g c))

@@ -2,7 +2,7 @@ use Rattle.std.proofs.Common.{◌<◌, [], ◌∷◌, ◌++◌, length, get_or, 
 use Rattle.std.specs.List.{insert}
 use Rattle.merkle_tree_theory.specs.Tree.{Node, nothing, row, held_of}
 use Rattle.merkle_tree_theory.specs.Upsert.{place, held_lower, held_upper}
-use Rattle.merkle_tree_theory.proofs.Parts.{new_node, lt_back, lt_changed}
+use Rattle.merkle_tree_theory.proofs.NodeParts.{new_node, lt_back, lt_changed}
 use Rattle.merkle_tree_theory.proofs.Gaps.{put_at, put_equal, put_high, finds_at, finds_high, with_digest}
 use Rattle.key_order.specs.Map.{IsMap}
 use Rattle.merkle_tree_theory.specs.Page.{held_pairs}

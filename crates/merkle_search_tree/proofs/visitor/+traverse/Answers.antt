@@ -2,7 +2,7 @@ use Rattle.std.proofs.Common.{true, ap, subst, sym, ◌∙◌, List, ℕ}
 use Rattle.merkle_tree_theory.specs.Tree.{Node, page, row, held_of}
 use Rattle.merkle_tree_theory.specs.Events.{held_events}
 use Rattle.merkle_tree_theory.specs.Traversal.{Visits, over}
-use Rattle.merkle_tree_theory.proofs.Visiting.{refused, answered, one, page-refused, page-answered, row-refused, row-answered, row-over, below-refused, below-answered}
+use Rattle.merkle_tree_theory.proofs.VisitSteps.{refused, answered, one, page-refused, page-answered, row-refused, row-answered, row-over, below-refused, below-answered}
 use Rattle.merkle_search_tree.proofs.visitor.+traverse.Goals as goal
 
 pub traverse_page-returns-then-not-visit_page : goal.traverse_page-returns-then-not-visit_page

@@ -2,7 +2,7 @@ use Rattle.std.proofs.Common.{refl, subst, ◌∙◌}
 use Rattle.std.specs.Io.KnownBytes.{Appends}
 use Rattle.merkle_delta.specs.CatchUps.{IsNext}
 use Rattle.merkle_delta.specs.declared.catching_up.Next.TheVariants.{Ask, Came}
-use Rattle.merkle_replica.proofs.Sides.{same_side}
+use Rattle.merkle_replica.proofs.SideLaws.{same_side}
 use Rattle.merkle_replica.specs.Contents.{side}
 use Rattle.store_table.specs.WireRegisters.{register_encoding}
 use Rattle.merkle_store.specs.Framing.{frame_of}

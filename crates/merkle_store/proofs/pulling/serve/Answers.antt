@@ -5,7 +5,7 @@ use Rattle.merkle_delta.specs.Exchanges.{IsReplyBy}
 use Rattle.merkle_delta.specs.Messages.{IsAnswered}
 use Rattle.merkle_digest.specs.Level.{level_of}
 use Rattle.merkle_digest.specs.SipDigests.{text_digest}
-use Rattle.merkle_replica.proofs.Sides.{same_side}
+use Rattle.merkle_replica.proofs.SideLaws.{same_side}
 use Rattle.merkle_replica.specs.Contents.{tree_map}
 use Rattle.merkle_tree_theory.specs.Canonical.{IsCanonicalRoot, IsTreeOf}
 use Rattle.merkle_tree_theory.specs.State.{SameSettings}

@@ -1,4 +1,4 @@
-use Rattle.merkle_tree_theory.proofs.Visited.{visits_in_order}
+use Rattle.merkle_tree_theory.proofs.VisitOrder.{visits_in_order}
 use Rattle.merkle_tree_theory.proofs.laws.a_traversal_visits_nodes_in_order.Goals as goal
 
 pub returns : goal.returns

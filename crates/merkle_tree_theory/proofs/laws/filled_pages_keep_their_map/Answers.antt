@@ -1,4 +1,4 @@
-use Rattle.merkle_tree_theory.proofs.Fill.{pairs-filled, missing-filled}
+use Rattle.merkle_tree_theory.proofs.FillingDigests.{pairs-filled, missing-filled}
 use Rattle.merkle_tree_theory.proofs.laws.filled_pages_keep_their_map.Goals as goal
 
 pub returns-clause-map : goal.returns-clause-map

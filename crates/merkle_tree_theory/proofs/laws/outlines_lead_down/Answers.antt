@@ -1,6 +1,6 @@
 use Rattle.merkle_digest.specs.Level.{level_of}
-use Rattle.merkle_tree_theory.proofs.Descending.{outline_down, whole_down, get_filling, get_inside}
-use Rattle.merkle_tree_theory.proofs.Over.{filled_opens}
+use Rattle.merkle_tree_theory.proofs.OutlineDescents.{outline_down, whole_down, get_filling, get_inside}
+use Rattle.merkle_tree_theory.proofs.PageOverGap.{filled_opens}
 use Rattle.merkle_tree_theory.proofs.laws.outlines_lead_down.Goals as goal
 
 pub returns-clause-opens : goal.returns-clause-opens

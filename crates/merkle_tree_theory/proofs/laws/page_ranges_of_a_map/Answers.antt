@@ -4,7 +4,7 @@ use Rattle.merkle_diff.specs.TreeShape.{IsTreeShaped}
 use Rattle.merkle_digest.specs.Level.{level_of}
 use Rattle.merkle_tree_theory.specs.Page.{pairs}
 use Rattle.key_order.proofs.SameMaps.{ascends}
-use Rattle.merkle_tree_theory.proofs.Listing.{lists}
+use Rattle.merkle_tree_theory.proofs.RangesOfMap.{lists}
 use Rattle.merkle_tree_theory.proofs.NoDifference.{nothing_to_ask, same_lists, same-entries-back}
 use Rattle.merkle_tree_theory.proofs.RangeShape.{tree_shaped}
 use Rattle.merkle_tree_theory.proofs.Sound.{same_bytes}

@@ -1,7 +1,7 @@
 use Rattle.std.proofs.Common.{subst, sym}
 use Rattle.std.proofs.lemmas.Result.{IfErr-weaker, IfOk-weaker, err_from_is_err_and}
 use Rattle.merkle_wire.specs.Next.{AsksFew, GoesOn, IsAsked, IsCame, IsEnded, IsTwice}
-use Rattle.merkle_wire.proofs.Nexts.{asked_goes_on, came_few, came_goes_on, outlines_of_some, twice_ends}
+use Rattle.merkle_wire.proofs.NextMessages.{asked_goes_on, came_few, came_goes_on, outlines_of_some, twice_ends}
 use Rattle.merkle_wire.proofs.catching_up.go_on.Goals as goal
 
 pub returns-in_ok-rounds-in-Some-clause-goes_on : goal.returns-in_ok-rounds-in-Some-clause-goes_on

@@ -1,4 +1,4 @@
-use Rattle.merkle_replica.proofs.Sides.{laws_of}
+use Rattle.merkle_replica.proofs.SideLaws.{laws_of}
 use Rattle.merkle_wire.proofs.CatchUps.{brought_is_catch_up, brought_joins}
 use Rattle.merkle_wire.proofs.Exchanges.{tells}
 use Rattle.merkle_wire.proofs.WholeSessions.{session_brings}

@@ -1,4 +1,4 @@
-use Rattle.merkle_replica.proofs.Sides.{laws_of}
+use Rattle.merkle_replica.proofs.SideLaws.{laws_of}
 use Rattle.merkle_wire.proofs.Exchanges.{tells}
 use Rattle.merkle_wire.proofs.SteadySessions.{answers_taken, session_short}
 use Rattle.merkle_wire.proofs.laws.an_honest_session_ends.Goals as goal

@@ -1,4 +1,4 @@
-use Rattle.merkle_replica.proofs.Sides.{laws_of}
+use Rattle.merkle_replica.proofs.SideLaws.{laws_of}
 use Rattle.merkle_wire.proofs.WholeSessions.{faithful_nodes}
 use Rattle.merkle_wire.proofs.laws.no_collision_makes_a_session_faithful.Goals as goal
 

@@ -8,7 +8,7 @@ use Rattle.merkle_wire.specs.Outlines.{outline_bytes}
 use Rattle.merkle_wire.proofs.Exchanges.{key_tells}
 use Rattle.merkle_wire.proofs.Fitting.{fits_read}
 use Rattle.merkle_wire.proofs.Fronts.{refused_for}
-use Rattle.merkle_wire.proofs.Left.{no_bytes, some_bytes}
+use Rattle.merkle_wire.proofs.LeftToAsk.{no_bytes, some_bytes}
 use Rattle.merkle_wire.proofs.Others.{next_of, none_next}
 use Rattle.merkle_wire.proofs.Reading.{read_none, read_more}
 use Rattle.merkle_wire.proofs.TakenMore.{taken-more}

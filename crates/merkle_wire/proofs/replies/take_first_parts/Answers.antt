@@ -11,7 +11,7 @@ use Rattle.merkle_wire.specs.Replies.{part_bytes}
 use Rattle.merkle_wire.specs.Taking.{new_rows}
 use Rattle.merkle_wire.proofs.Exchanges.{key_tells}
 use Rattle.merkle_wire.proofs.Fronts.{refused_for}
-use Rattle.merkle_wire.proofs.Left.{no_bytes, some_bytes}
+use Rattle.merkle_wire.proofs.LeftToAsk.{no_bytes, some_bytes}
 use Rattle.merkle_wire.proofs.Others.{next_of, none_next}
 use Rattle.merkle_wire.proofs.Reading.{read_none, read_more}
 use Rattle.merkle_wire.proofs.TakenMore.{behind-more, rows-more}

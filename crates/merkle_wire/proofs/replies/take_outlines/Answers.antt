@@ -11,7 +11,7 @@ use Rattle.merkle_wire.specs.Replies.{outlines_bytes}
 use Rattle.merkle_wire.proofs.Exchanges.{key_tells}
 use Rattle.merkle_wire.proofs.Fitting.{fits_read}
 use Rattle.merkle_wire.proofs.Fronts.{refused_for, refused_unread}
-use Rattle.merkle_wire.proofs.Left.{told_and_left}
+use Rattle.merkle_wire.proofs.LeftToAsk.{told_and_left}
 use Rattle.merkle_wire.proofs.Others.{none_left, says_no_entry, says_nothing}
 use Rattle.merkle_wire.proofs.TellingReplies.{Fits, outline_some}
 use Rattle.merkle_wire.proofs.Unfit.{outlines_end}

@@ -10,7 +10,7 @@ use Rattle.merkle_wire.specs.Replies.{part_bytes, parts_bytes}
 use Rattle.merkle_wire.proofs.Exchanges.{key_tells}
 use Rattle.merkle_wire.proofs.Fronts.{refused_for, refused_unread}
 use Rattle.merkle_wire.specs.declared.message.Kind.TheVariants.{RowsIn as rows_in_kind}
-use Rattle.merkle_wire.proofs.Left.{told_and_left}
+use Rattle.merkle_wire.proofs.LeftToAsk.{told_and_left}
 use Rattle.merkle_wire.proofs.Others.{none_left, says_no_entry, says_nothing}
 use Rattle.merkle_wire.proofs.TellingReplies.{part_some}
 use Rattle.merkle_wire.proofs.Unfit.{parts_end}

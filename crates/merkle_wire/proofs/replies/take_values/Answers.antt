@@ -6,7 +6,7 @@ use Rattle.std.specs.List.{flat_map}
 use Rattle.std.specs.Vec.Iter.{into_iter_items}
 use Rattle.merkle_bytes.specs.Options.{IsOption, option_bytes}
 use Rattle.merkle_replica.specs.Contents.{side}
-use Rattle.merkle_replica.proofs.Yielded.{one_yielded, all_yielded}
+use Rattle.merkle_replica.proofs.ListIterators.{one_yielded, all_yielded}
 use Rattle.merkle_wire.specs.Messages.{front}
 use Rattle.merkle_wire.specs.Replies.{values_bytes}
 use Rattle.merkle_wire.specs.Taking.{new_rows, value_row}
@@ -14,7 +14,7 @@ use Rattle.merkle_wire.specs.declared.message.Kind.TheVariants.{RowsAt as rows_a
 use Rattle.merkle_wire.specs.declared.wanted.Wanted.{Wanted}
 use Rattle.merkle_wire.proofs.Exchanges.{key_tells}
 use Rattle.merkle_wire.proofs.Fronts.{refused_for, refused_unread}
-use Rattle.merkle_wire.proofs.Left.{no_bytes, none_before, some_bytes}
+use Rattle.merkle_wire.proofs.LeftToAsk.{no_bytes, none_before, some_bytes}
 use Rattle.merkle_wire.proofs.Others.{all_told, none_left, none_next, says_no_entry, says_nothing}
 use Rattle.merkle_wire.proofs.TakenMore.{rows-more}
 use Rattle.merkle_wire.proofs.TellingReplies.{value_some, value_tells}

@@ -2,7 +2,7 @@ use Rattle.std.proofs.Common.{◌++◌, ◌∷◌, [], cond, take, drop, nat_eq,
 use Rattle.std.proofs.lemmas.List.{length-take-le, take-take}
 use Rattle.merkle_bytes.specs.Counts.{count_bytes}
 use Rattle.merkle_bytes.specs.Runs.{bound_key, entries_bytes, row_behind, row_key}
-use Rattle.merkle_wire.proofs.Parts.{part_of}
+use Rattle.merkle_wire.proofs.RowParts.{part_of}
 use Rattle.merkle_wire.proofs.rows_in.tell_part.Goals as goal
 
 pub returns : goal.returns

@@ -2,7 +2,7 @@ use Rattle.std.proofs.Common.{sym, subst}
 use Rattle.key_order.specs.Join.{IsJoin}
 use Rattle.merkle_replica.specs.Contents.{side}
 use Rattle.merkle_replica.proofs.CatchUpJoins.{join_back}
-use Rattle.merkle_replica.proofs.Sides.{laws_of}
+use Rattle.merkle_replica.proofs.SideLaws.{laws_of}
 use Rattle.merkle_wire.specs.Sessions.{HasJoined, IsFaithfulSession, IsMessagesRefused}
 use Rattle.merkle_wire.proofs.CatchUps.{second_sides}
 use Rattle.merkle_wire.proofs.session.catch_up_both_by_messages.Goals as goal

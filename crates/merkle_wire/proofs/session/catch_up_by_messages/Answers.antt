@@ -1,7 +1,7 @@
 use Rattle.std.proofs.Common.{subst, arith}
 use Rattle.key_order.specs.Join.{IsJoin}
 use Rattle.merkle_replica.specs.Contents.{side}
-use Rattle.merkle_replica.proofs.Sides.{laws_of}
+use Rattle.merkle_replica.proofs.SideLaws.{laws_of}
 use Rattle.merkle_wire.proofs.CatchUps.{joined_is_catch_up, joined_joins}
 use Rattle.merkle_wire.proofs.session.catch_up_by_messages.Goals as goal
 

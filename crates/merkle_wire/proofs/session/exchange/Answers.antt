@@ -1,10 +1,10 @@
 use Rattle.std.proofs.Common.{sym, subst, ◌∙◌}
 use Rattle.merkle_digest.specs.Level.{level_of}
 use Rattle.merkle_replica.specs.Contents.{IsKept, side}
-use Rattle.merkle_replica.proofs.Sides.{laws_of}
+use Rattle.merkle_replica.proofs.SideLaws.{laws_of}
 use Rattle.merkle_tree_theory.specs.Canonical.{IsCanonicalRoot}
 use Rattle.merkle_wire.proofs.Exchanges.{tells}
-use Rattle.merkle_wire.proofs.KeysNext.{asks_something}
+use Rattle.merkle_wire.proofs.ExchangeKeys.{asks_something}
 use Rattle.merkle_wire.proofs.SettingsTold.{next_own, own_are_not_others}
 use Rattle.merkle_wire.proofs.SteadyExchanges.{Comes, comes, unanswered_for_memory}
 use Rattle.merkle_wire.proofs.session.exchange.Given.{Over}

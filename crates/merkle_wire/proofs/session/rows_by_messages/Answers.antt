@@ -3,11 +3,11 @@ use Rattle.std.proofs.lemmas.Result.{err_from_is_err_and}
 use Rattle.merkle_digest.specs.Level.{level_of}
 use Rattle.merkle_replica.specs.Contents.{side}
 use Rattle.merkle_replica.specs.Faithful.{HasSmallMap}
-use Rattle.merkle_replica.proofs.Sides.{laws_of, same_side}
+use Rattle.merkle_replica.proofs.SideLaws.{laws_of, same_side}
 use Rattle.merkle_tree_theory.specs.Canonical.{IsCanonicalRoot}
 use Rattle.merkle_wire.specs.Sessions.{CoversNext, TellsOwn, TellsOwnNext}
 use Rattle.merkle_wire.specs.Steady.{HasKeysNext, HasKeysOfSides, IsForMemory, LeavesLess, SteadyNext}
-use Rattle.merkle_wire.proofs.KeysNext.{begun_at_keys}
+use Rattle.merkle_wire.proofs.ExchangeKeys.{begun_at_keys}
 use Rattle.merkle_wire.proofs.NextCovers.{begun_covers, covers_since}
 use Rattle.merkle_wire.proofs.SteadyExchanges.{begun_steady, while_steady_since}
 use Rattle.merkle_wire.proofs.session.rows_by_messages.Goals as goal

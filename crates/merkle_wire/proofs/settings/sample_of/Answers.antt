@@ -1,6 +1,6 @@
 use Rattle.std.proofs.Common.{subst}
 use Rattle.merkle_wire.specs.Steady.{IsKeyOf}
-use Rattle.merkle_wire.proofs.KeysNext.{first_is_key}
+use Rattle.merkle_wire.proofs.ExchangeKeys.{first_is_key}
 use Rattle.merkle_wire.proofs.settings.sample_of.Goals as goal
 
 pub returns-in_ok-bytes-in-Some-clause-own : goal.returns-in_ok-bytes-in-Some-clause-own

@@ -7,7 +7,7 @@ use Rattle.key_order.specs.Map.{get}
 use Rattle.merkle_digest.specs.SipHash.{zero_key}
 use Rattle.merkle_digest.specs.Sip24.{Holds}
 use Rattle.merkle_replica.specs.Contents.{side, tree_map}
-use Rattle.merkle_replica.proofs.Sides.{laws_of}
+use Rattle.merkle_replica.proofs.SideLaws.{laws_of}
 use Rattle.merkle_wire.proofs.ItemsMore.{map_more}
 use Rattle.merkle_wire.proofs.sifting.has_nodes.Goals as goal
 

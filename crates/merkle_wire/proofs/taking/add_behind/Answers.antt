@@ -1,6 +1,6 @@
 use Rattle.std.proofs.Common.{Some, sym, subst, rules}
 use Rattle.merkle_tree_theory.specs.Gap.{SameBound}
-use Rattle.merkle_wire.proofs.Lasts.{ends_in}
+use Rattle.merkle_wire.proofs.LastRows.{ends_in}
 use Rattle.merkle_wire.proofs.taking.add_behind.Goals as goal
 
 pub returns-clause-added : goal.returns-clause-added

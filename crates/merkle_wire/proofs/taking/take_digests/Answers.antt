@@ -8,7 +8,7 @@ use Rattle.merkle_wire.specs.Outlines.{keys_told}
 use Rattle.merkle_wire.specs.Unfit.{NoDigests}
 use Rattle.merkle_wire.proofs.Exchanges.{key_tells}
 use Rattle.merkle_wire.proofs.Fronts.{refused_for, refused_unread}
-use Rattle.merkle_wire.proofs.KeysTold.{told_as_keys}
+use Rattle.merkle_wire.proofs.WrittenKeys.{told_as_keys}
 use Rattle.merkle_wire.proofs.Unfit.{no_keys, no_nodes, no_nodes-digests, no_nodes-outside}
 use Rattle.merkle_wire.proofs.taking.take_digests.Goals as goal
 

@@ -6,7 +6,7 @@ use Rattle.std.specs.List.{flat_map}
 use Rattle.std.specs.Vec.Iter.{into_iter_items}
 use Rattle.key_order.proofs.ListParts.{each-append}
 use Rattle.merkle_replica.specs.Contents.{side}
-use Rattle.merkle_replica.proofs.Yielded.{one_yielded, all_yielded}
+use Rattle.merkle_replica.proofs.ListIterators.{one_yielded, all_yielded}
 use Rattle.merkle_wire.proofs.TakenMore.{new_key, keys-more}
 use Rattle.merkle_wire.proofs.Fronts.{refused_unread}
 use Rattle.merkle_wire.proofs.Unfit.{each_digest, flat_digests, no_digests}

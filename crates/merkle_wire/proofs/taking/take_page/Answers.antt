@@ -12,8 +12,8 @@ use Rattle.merkle_wire.specs.Taking.{IsGapOrNone}
 use Rattle.merkle_wire.specs.Unfit.{NoPageDigests}
 use Rattle.merkle_wire.proofs.Exchanges.{key_tells}
 use Rattle.merkle_wire.proofs.Fronts.{refused_for, refused_unread}
-use Rattle.merkle_wire.proofs.KeysTold.{told_as_keys}
-use Rattle.merkle_wire.proofs.Left.{none_left, some_left, some_mapped}
+use Rattle.merkle_wire.proofs.WrittenKeys.{told_as_keys}
+use Rattle.merkle_wire.proofs.LeftToAsk.{none_left, some_left, some_mapped}
 use Rattle.merkle_wire.proofs.OutlinesRead.{three_read}
 use Rattle.merkle_wire.proofs.TakenMore.{page_taken}
 use Rattle.merkle_wire.proofs.Unfit.{no_keys, no_page-empty, no_page-keys, no_page-outside, no_page-pages}

@@ -1,11 +1,11 @@
 use Rattle.std.proofs.Common.{rules, ◌≡◌, ◌<◌, ◌^◌, ◌++◌, length, take, drop, refl, ap, sym, subst, ◌∙◌, arith}
 use Rattle.std.proofs.lemmas.List.{append_assoc}
 use Rattle.std.proofs.lemmas.Result.{err_from_is_err_and}
-use Rattle.merkle_bytes.specs.Keys.{shareable, kept_of, front_bytes, key_behind, GoOnApart, SharesNoMore}
+use Rattle.merkle_bytes.specs.Keys.{shareable, kept_of, front_bytes, key_behind, GoOnApart}
 use Rattle.merkle_bytes.specs.RunTelling.{shared_within}
 use Rattle.merkle_bytes.specs.Refusals.{IsMalformed}
 use Rattle.merkle_bytes.specs.declared.error.Expected.TheVariants.{Front, Key}
-use Rattle.merkle_bytes.proofs.KeyParts.{shares_no_more, kept_behind, behind_parts, counts_fit, parts_told, counts_told, key_is}
+use Rattle.merkle_bytes.proofs.KeyParts.{SharesNoMore, shares_no_more, kept_behind, behind_parts, counts_fit, parts_told, counts_told, key_is}
 use Rattle.merkle_bytes.proofs.Later.{refused_here, refused_later, total_was}
 use Rattle.merkle_bytes.proofs.key_run.KeyRun.decode.Goals as goal
 

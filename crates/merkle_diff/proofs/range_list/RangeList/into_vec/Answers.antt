@@ -1,5 +1,5 @@
 use Rattle.merkle_diff.specs.DiffRange.{spans}
-use Rattle.merkle_diff.proofs.Merged.{merge-to, merge-from, merge-is_apart}
+use Rattle.merkle_diff.proofs.MergeLaws.{merge-to, merge-from, merge-is_apart}
 use Rattle.merkle_diff.proofs.Ranges.{spans-ordered}
 use Rattle.merkle_diff.proofs.range_list.RangeList.into_vec.Goals as goal
 

@@ -5,9 +5,9 @@ use Rattle.merkle_replica.specs.Contents.{side}
 use Rattle.merkle_replica.specs.Laws.{Laws}
 use Rattle.merkle_replica.specs.Puts.{HasGathered, IsGatheredTo}
 use Rattle.merkle_replica.proofs.CatchUpJoins.{caught_up, partly_caught_up, all_joined}
-use Rattle.merkle_replica.proofs.Copying.{copies_map, copies_length}
-use Rattle.merkle_replica.proofs.Gathering.{map_rises}
-use Rattle.merkle_replica.proofs.Sides.{laws_of, same_side}
+use Rattle.merkle_replica.proofs.RowCopies.{copies_map, copies_length}
+use Rattle.merkle_replica.proofs.PutRows.{map_rises}
+use Rattle.merkle_replica.proofs.SideLaws.{laws_of, same_side}
 use Rattle.merkle_replica.proofs.replica.Replica.catch_up.Given.{Over}
 use Rattle.merkle_replica.proofs.replica.Replica.catch_up.Goals as goal
 use Rattle.merkle_replica.proofs.replica.Replica.catch_up.Goals.{After-join_sparse}

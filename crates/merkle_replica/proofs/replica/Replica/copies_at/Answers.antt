@@ -3,7 +3,7 @@ use Rattle.std.proofs.lemmas.List.{take_all}
 use Rattle.key_order.specs.Map.{IsPresent, get}
 use Rattle.merkle_replica.specs.CatchUp.{AreCopies}
 use Rattle.merkle_replica.specs.Descent.{keys_of}
-use Rattle.merkle_replica.proofs.Copying.{copies_step, key_at}
+use Rattle.merkle_replica.proofs.RowCopies.{copies_step, key_at}
 use Rattle.merkle_replica.proofs.replica.Replica.copies_at.Goals as goal
 
 pub keys-init : goal.keys-init

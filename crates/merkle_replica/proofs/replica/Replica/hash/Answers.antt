@@ -1,5 +1,5 @@
 use Rattle.std.proofs.Common.{ap}
-use Rattle.merkle_replica.proofs.Follows.{kept_hashed}
+use Rattle.merkle_replica.proofs.TreeFollowsRows.{kept_hashed}
 use Rattle.merkle_replica.proofs.replica.Replica.hash.Goals as goal
 
 pub invariant_of-self : goal.invariant_of-self

@@ -3,8 +3,8 @@ use Rattle.std.specs.Vec.Iter.{into_iter_items}
 use Rattle.merkle_replica.specs.Contents.{Contents}
 use Rattle.merkle_replica.specs.Puts.{IsGatheredTo}
 use Rattle.merkle_replica.proofs.Searches.{went, refused}
-use Rattle.merkle_replica.proofs.Yielded.{one_yielded}
-use Rattle.merkle_replica.proofs.Gathering.{gathers_none, gathers_more, gathered_to}
+use Rattle.merkle_replica.proofs.ListIterators.{one_yielded}
+use Rattle.merkle_replica.proofs.PutRows.{gathers_none, gathers_more, gathered_to}
 use Rattle.merkle_replica.proofs.replica.Replica.join_each.Goals as goal
 
 pub joining-init : goal.joining-init

@@ -1,6 +1,6 @@
 use Rattle.std.proofs.Common.{rules, take, subst}
 use Rattle.key_order.specs.Map.{IsMap}
-use Rattle.merkle_replica.proofs.Gathering.{map_rises, map_taken, gathers_map}
+use Rattle.merkle_replica.proofs.PutRows.{map_rises, map_taken, gathers_map}
 use Rattle.merkle_replica.proofs.replica.Replica.join_rows.Goals as goal
 
 pub join_rising-requires : goal.join_rising-requires

@@ -5,7 +5,7 @@ use Rattle.merkle_replica.specs.CatchUp.{AreCopies}
 use Rattle.merkle_replica.specs.Contents.{side}
 use Rattle.merkle_replica.specs.Descent.{keys_of}
 use Rattle.merkle_replica.proofs.CatchUpJoins.{found_once, lacked_there}
-use Rattle.merkle_replica.proofs.Sides.{laws_of}
+use Rattle.merkle_replica.proofs.SideLaws.{laws_of}
 use Rattle.merkle_replica.proofs.replica.Replica.lacked_rows.Goals as goal
 
 pub copies_at-requires : goal.copies_at-requires

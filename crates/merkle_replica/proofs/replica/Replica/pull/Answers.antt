@@ -1,8 +1,8 @@
 use Rattle.std.proofs.Common.{◌∙◌, arith}
 use Rattle.merkle_replica.specs.Answers.{spans_of}
 use Rattle.merkle_replica.specs.Contents.{side}
-use Rattle.merkle_replica.proofs.Pulling.{covers_sides, pull_from, part_from}
-use Rattle.merkle_replica.proofs.Sides.{laws_of}
+use Rattle.merkle_replica.proofs.PullParts.{covers_sides, pull_from, part_from}
+use Rattle.merkle_replica.proofs.SideLaws.{laws_of}
 use Rattle.merkle_replica.proofs.replica.Replica.pull.Goals as goal
 
 pub returns-in-Ok-join_within-clause-done : goal.returns-in-Ok-join_within-clause-done

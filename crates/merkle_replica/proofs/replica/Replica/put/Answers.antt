@@ -3,12 +3,12 @@ use Rattle.std.specs.List.{insert}
 use Rattle.std.specs.Ordering.{is_eq}
 use Rattle.std.specs.Cmp.{tied_itself, tied_back}
 use Rattle.merkle_digest.specs.Level.{level_of}
-use Rattle.merkle_tree_theory.specs.Cache.{missing}
+use Rattle.merkle_tree_theory.specs.Cache.{uncached_pages}
 use Rattle.merkle_tree_theory.specs.Page.{level}
 use Rattle.key_order.specs.Join.{IsJoin}
 use Rattle.key_order.specs.Map.{set}
 use Rattle.merkle_replica.specs.Places.{IsPlaceOf, IsGapFor}
-use Rattle.merkle_replica.proofs.Follows.{kept_set}
+use Rattle.merkle_replica.proofs.TreeFollowsRows.{kept_set}
 use Rattle.merkle_replica.proofs.Searches.{set_there, set_new, joins_there, joins_new, went}
 use Rattle.merkle_replica.proofs.replica.Replica.put.Goals as goal
 
@@ -50,7 +50,7 @@ returns-in-Ok-insert-clause-joined g c =
 
 pub returns-else-is_err-clause-few_more : goal.returns-else-is_err-clause-few_more
 returns-else-is_err-clause-few_more g c =
-    subst (λ r. missing c.upsert.new.self.root ≤ missing r.tree.root + (level c.upsert.new.self.root + level_of (g.H.Hasher-1.digest_of r.tree.hasher c.args.key) r.tree.base + 1)) c.self.view_is
+    subst (λ r. uncached_pages c.upsert.new.self.root ≤ uncached_pages r.tree.root + (level c.upsert.new.self.root + level_of (g.H.Hasher-1.digest_of r.tree.hasher c.args.key) r.tree.base + 1)) c.self.view_is
     (went c.upsert.result (sym c.is_err.ensures.value ∙ c.if-is_err.false) c.upsert.ensures.few_more)
 
 pub returns-in-Ok-insert-clause-few_more : goal.returns-in-Ok-insert-clause-few_more
@@ -59,6 +59,6 @@ returns-in-Ok-insert-clause-few_more g c =
     let root = c.upsert-in-Err.new.self.root in
     let own = c.in_ok-own-in-Err.own in
     let same = g.met.H.Hasher-1.respects_eq tree.hasher c.args.key own (g.met.K.Ord.matches_eq c.args.key own ∙ ap is_eq (g.met.K.SameClone.clone_is_same c.args.key own c.in_ok-own-in-Err.ensures.cases)) in
-    subst (λ r. missing root ≤ missing r.tree.root + (level root + level_of (g.H.Hasher-1.digest_of r.tree.hasher c.args.key) r.tree.base + 1)) c.self.view_is
-    (subst (λ (digest : List ℕ). missing root ≤ missing tree.root + (level root + level_of digest tree.base + 1)) (sym same)
+    subst (λ r. uncached_pages root ≤ uncached_pages r.tree.root + (level root + level_of (g.H.Hasher-1.digest_of r.tree.hasher c.args.key) r.tree.base + 1)) c.self.view_is
+    (subst (λ (digest : List ℕ). uncached_pages root ≤ uncached_pages tree.root + (level root + level_of digest tree.base + 1)) (sym same)
     (went c.upsert-in-Err.result (sym c.is_err-in-Err.ensures.value ∙ c.if-is_err-2.false) c.upsert-in-Err.ensures.few_more))

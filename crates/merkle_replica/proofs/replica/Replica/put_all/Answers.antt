@@ -1,7 +1,7 @@
 use Rattle.std.proofs.Common.{rules, refl, sym, ◌∙◌, ap, inl, arith}
 use Rattle.std.proofs.lemmas.Fn.{always_returns_same}
 use Rattle.std.specs.Ordering.{is_lt}
-use Rattle.merkle_replica.proofs.Gathering.{puts_gather, puts_to}
+use Rattle.merkle_replica.proofs.PutRows.{puts_gather, puts_to}
 use Rattle.merkle_replica.proofs.Searches.{went_well}
 use Rattle.merkle_replica.proofs.Sorting.{refused_some, lower, rows_compare, sorted_rises, gathers_sorted}
 use Rattle.merkle_replica.proofs.replica.Replica.put_all.Goals as goal

@@ -3,7 +3,7 @@ use Rattle.std.proofs.lemmas.List.{map-append}
 use Rattle.merkle_search_tree.specs.Items.{gap_of, item as item_of}
 use Rattle.merkle_replica.specs.Contents.{side}
 use Rattle.merkle_replica.specs.Descent.{HasSortedOut, gaps_of, keys_of}
-use Rattle.merkle_replica.proofs.Sides.{laws_of}
+use Rattle.merkle_replica.proofs.SideLaws.{laws_of}
 use Rattle.merkle_replica.proofs.replica.Replica.sort_one.Goals as goal
 
 pub returns-then-has_digest : goal.returns-then-has_digest

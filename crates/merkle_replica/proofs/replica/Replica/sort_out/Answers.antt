@@ -4,7 +4,7 @@ use Rattle.merkle_search_tree.specs.Items.{item, items}
 use Rattle.merkle_replica.specs.Contents.{side}
 use Rattle.merkle_replica.specs.Descent.{AreSortedOut, gaps_of, keys_of}
 use Rattle.merkle_replica.proofs.Descents.{sorted_step}
-use Rattle.merkle_replica.proofs.Sides.{laws_of}
+use Rattle.merkle_replica.proofs.SideLaws.{laws_of}
 use Rattle.merkle_replica.proofs.replica.Replica.sort_out.Goals as goal
 
 pub items-init : goal.items-init

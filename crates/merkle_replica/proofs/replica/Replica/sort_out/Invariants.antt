@@ -2,7 +2,7 @@ use Rattle.std.proofs.Common.{take}
 use Rattle.merkle_search_tree.specs.Items.{items}
 use Rattle.merkle_replica.specs.Contents.{side}
 use Rattle.merkle_replica.specs.Descent.{AreSortedOut, gaps_of, keys_of}
-use Rattle.merkle_replica.proofs.Sides.{laws_of}
+use Rattle.merkle_replica.proofs.SideLaws.{laws_of}
 use Rattle.merkle_replica.proofs.replica.Replica.sort_out.Given as goal
 
 -- the items so far are sorted out

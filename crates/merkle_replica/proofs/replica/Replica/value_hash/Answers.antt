@@ -2,7 +2,7 @@ use Rattle.std.proofs.Common.{◌∙◌}
 use Rattle.merkle_tree_theory.specs.State.{map_of}
 use Rattle.merkle_replica.specs.Contents.{side, tree_map}
 use Rattle.merkle_replica.proofs.Descents.{same_get}
-use Rattle.merkle_replica.proofs.Sides.{laws_of}
+use Rattle.merkle_replica.proofs.SideLaws.{laws_of}
 use Rattle.merkle_replica.proofs.replica.Replica.value_hash.Goals as goal
 
 pub returns : goal.returns

@@ -3,7 +3,7 @@ use Rattle.std.proofs.lemmas.List.{take_all, map-append}
 use Rattle.merkle_tree_theory.specs.Tree.{Tree, held_of}
 use Rattle.merkle_tree_theory.specs.Page.{cache}
 use Rattle.merkle_tree_theory.specs.Outline.{of_node, cached_items}
-use Rattle.merkle_tree_theory.proofs.Parts.{on_ok_map}
+use Rattle.merkle_tree_theory.proofs.NodeParts.{on_ok_map}
 use Rattle.merkle_tree_theory.proofs.Outlines.{front_items, bound_behind, listed-row, listed-more, behind-more}
 use Rattle.merkle_search_tree.specs.Items.{bound_of, gap_of, item, items}
 use Rattle.merkle_search_tree.proofs.page.PageOf.list_items.Goals as goal

@@ -1,7 +1,7 @@
 use Rattle.std.proofs.Common.{None, ap, sym, ◌∙◌, arith}
 use Rattle.merkle_tree_theory.specs.Tree.{Tree, page, row, held_of}
-use Rattle.merkle_tree_theory.specs.Chain.{page_length, row_take, row_drop, row_of_page, remade}
-use Rattle.merkle_tree_theory.proofs.Hung.{row_length-row, row_take-row, row_drop-row}
+use Rattle.merkle_tree_theory.specs.Chain.{page_length, row_take, row_drop, row_of_page, page_with_row}
+use Rattle.merkle_tree_theory.proofs.PageChains.{row_length-row, row_take-row, row_drop-row}
 use Rattle.merkle_search_tree.proofs.page.PageOf.part.Goals as goal
 
 pub move_tail-requires-clause-in_bounds : goal.move_tail-requires-clause-in_bounds
@@ -21,7 +21,7 @@ returns-clause-stays g c =
     let s = c.self.inside in
     (λ j. page s.level None (row ((c.shrink_to_fit.ensures.items ∙ c.move_tail.ensures.kept) j) (held_of (c.replace-above.ensures.after j))))
     ∙ sym (ap (page s.level None) (row_take-row c.args.at s.nodes.items (held_of s.high_page)))
-    ∙ ap (λ (t : Tree g.row.K.Denot g.row.D.Denot). remade 1 t (row_take c.args.at (row_of_page t))) c.self.view_is
+    ∙ ap (λ (t : Tree g.row.K.Denot g.row.D.Denot). page_with_row 1 t (row_take c.args.at (row_of_page t))) c.self.view_is
 
 pub returns-clause-goes : goal.returns-clause-goes
 returns-clause-goes g c =
@@ -29,4 +29,4 @@ returns-clause-goes g c =
     c.into_page.ensures
     ∙ (λ j. page s.level None (row (c.move_tail.ensures.moved j) (held_of (c.replace-above.ensures.value j))))
     ∙ sym (ap (page s.level None) (row_drop-row c.args.at s.nodes.items (held_of s.high_page)))
-    ∙ ap (λ (t : Tree g.row.K.Denot g.row.D.Denot). remade 1 t (row_drop c.args.at (row_of_page t))) c.self.view_is
+    ∙ ap (λ (t : Tree g.row.K.Denot g.row.D.Denot). page_with_row 1 t (row_drop c.args.at (row_of_page t))) c.self.view_is

@@ -3,7 +3,7 @@ use Rattle.std.specs.Cmp.{tied_itself}
 use Rattle.std.proofs.lemmas.Result.{IfOk-weaker, err_from_is_err_and}
 use Rattle.merkle_diff.specs.Iterable.{Begins}
 use Rattle.merkle_search_tree.specs.Loading.{digests}
-use Rattle.merkle_search_tree.proofs.Loadings.{rows-map, Holds, holds-fails, yields-more}
+use Rattle.merkle_search_tree.proofs.LoadOrder.{rows-map, Holds, holds-fails, yields-more}
 use Rattle.key_order.specs.Map.{IsMap}
 use Rattle.key_order.proofs.SameMaps.{same_map-own}
 use Rattle.merkle_search_tree.proofs.tree.MerkleSearchTree.from_ascending.Goals as goal

@@ -6,7 +6,7 @@ use Rattle.key_order.specs.Order.{Same}
 use Rattle.key_order.specs.Map.{IsMap}
 use Rattle.merkle_tree_theory.specs.Edge.{edge_pairs}
 use Rattle.merkle_search_tree.specs.Loading.{BeginsWith}
-use Rattle.merkle_search_tree.proofs.Loadings.{Holds, holds-more, holds-map, holds-fails, item-more}
+use Rattle.merkle_search_tree.proofs.LoadOrder.{Holds, holds-more, holds-map, holds-fails, item-more}
 use Rattle.merkle_search_tree.proofs.tree.MerkleSearchTree.from_ascending_slice.Goals as goal
 
 pub returns-in_err-push_row-clause-refused : goal.returns-in_err-push_row-clause-refused

@@ -9,7 +9,7 @@ use Rattle.merkle_tree_theory.specs.State.{State}
 use Rattle.merkle_tree_theory.specs.Stream.{page_digest}
 use Rattle.merkle_tree_theory.specs.Tree.{Tree}
 use Rattle.merkle_tree_theory.proofs.Inside.{true_digest, filling_digest}
-use Rattle.merkle_tree_theory.proofs.Over.{over_inside, filled_opens}
+use Rattle.merkle_tree_theory.proofs.PageOverGap.{over_inside, filled_opens}
 use Rattle.merkle_search_tree.specs.Items.{gap_of}
 use Rattle.merkle_search_tree.proofs.tree.MerkleSearchTree.has_page.Goals as goal
 

@@ -3,8 +3,8 @@ use Rattle.std.specs.Int.NonZero.{non_zero_u8_get}
 use Rattle.merkle_digest.specs.Level.{level_of}
 use Rattle.merkle_tree_theory.specs.Page.{pair_of}
 use Rattle.merkle_tree_theory.specs.State.{State, map_of}
-use Rattle.merkle_tree_theory.proofs.Parts.{if_ok_map}
-use Rattle.merkle_tree_theory.proofs.Falls.{root-falls, in_order-pairs}
+use Rattle.merkle_tree_theory.proofs.NodeParts.{if_ok_map}
+use Rattle.merkle_tree_theory.proofs.FallingLevels.{root-falls, in_order-pairs}
 use Rattle.merkle_search_tree.proofs.tree.MerkleSearchTree.node_iter.Goals as goal
 
 pub new-requires : goal.new-requires

@@ -5,7 +5,7 @@ use Rattle.merkle_digest.specs.Level.{level_of}
 use Rattle.merkle_tree_theory.specs.Outline.{cached_items, outline_over, outline_where}
 use Rattle.merkle_tree_theory.specs.State.{State}
 use Rattle.merkle_tree_theory.proofs.Inside.{outline_is, hashed_page}
-use Rattle.merkle_tree_theory.proofs.Over.{over_inside}
+use Rattle.merkle_tree_theory.proofs.PageOverGap.{over_inside}
 use Rattle.merkle_search_tree.specs.Items.{gap_of, items}
 use Rattle.merkle_search_tree.proofs.tree.MerkleSearchTree.outline.Goals as goal
 

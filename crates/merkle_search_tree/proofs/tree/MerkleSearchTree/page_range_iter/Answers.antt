@@ -5,9 +5,9 @@ use Rattle.std.proofs.lemmas.Bool.{eqb-false}
 use Rattle.merkle_digest.specs.Level.{level_of}
 use Rattle.merkle_tree_theory.specs.Ranges.{ranges_of}
 use Rattle.merkle_tree_theory.specs.State.{State, map_of}
-use Rattle.merkle_tree_theory.proofs.Falls.{root-falls}
+use Rattle.merkle_tree_theory.proofs.FallingLevels.{root-falls}
 use Rattle.merkle_tree_theory.proofs.RangeEnds.{each-cached}
-use Rattle.merkle_tree_theory.proofs.Listed.{hashed_listed, hashed_ranges, no_nodes}
+use Rattle.merkle_tree_theory.proofs.CachedRanges.{hashed_listed, hashed_ranges, no_nodes}
 use Rattle.merkle_search_tree.proofs.tree.MerkleSearchTree.page_range_iter.Goals as goal
 
 pub new-requires-clause-falls : goal.new-requires-clause-falls

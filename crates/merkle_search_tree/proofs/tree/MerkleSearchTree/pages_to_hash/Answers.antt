@@ -1,6 +1,6 @@
 use Rattle.std.proofs.Common.{ap, sym, ◌∙◌, arith}
 use Rattle.merkle_tree_theory.specs.State.{State}
-use Rattle.merkle_tree_theory.proofs.Upserts.{none_of_hashed}
+use Rattle.merkle_tree_theory.proofs.UpsertState.{none_of_hashed}
 use Rattle.merkle_search_tree.proofs.tree.MerkleSearchTree.pages_to_hash.Goals as goal
 
 pub returns-clause-hashed : goal.returns-clause-hashed

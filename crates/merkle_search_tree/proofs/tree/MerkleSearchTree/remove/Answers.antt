@@ -5,11 +5,11 @@ use Rattle.key_order.proofs.Dels.{del-absent}
 use Rattle.merkle_tree_theory.specs.Tree.{Tree}
 use Rattle.merkle_tree_theory.specs.State.{State, map_of}
 use Rattle.merkle_tree_theory.specs.Page.{pairs, level}
-use Rattle.merkle_tree_theory.specs.Cache.{missing}
+use Rattle.merkle_tree_theory.specs.Cache.{uncached_pages}
 use Rattle.merkle_tree_theory.specs.Sound.{IsSound}
 use Rattle.merkle_tree_theory.specs.Remove.{root_del}
 use Rattle.merkle_tree_theory.proofs.Seams.{at_some, at_none}
-use Rattle.merkle_tree_theory.proofs.Removals.{remove-pairs, remove-entry, remove-sound, remove-few, hashed-lacks, remove-free}
+use Rattle.merkle_tree_theory.proofs.RemovalState.{remove-pairs, remove-entry, remove-sound, remove-few, hashed-lacks, remove-free}
 use Rattle.merkle_search_tree.proofs.tree.MerkleSearchTree.remove.Goals as goal
 
 pub returns-in_err-remove_from_root-clause-succeeds_absent : goal.returns-in_err-remove_from_root-clause-succeeds_absent
@@ -41,8 +41,8 @@ pub returns-in-None-clause-few_more : goal.returns-in-None-clause-few_more
 returns-in-None-clause-few_more g c =
     let s = c.self.inside in
     let same : c.remove_from_root.new.self ≡ s.root = at_none _ _ _ c.in-None.is c.in_ok-remove_from_root.ensures.done in
-    subst (λ (v : State g.row.K.Denot g.row.H.Denot). missing c.remove_from_root.new.self ≤ missing v.root + (level v.root + 1)) c.self.view_is
-    (subst (λ (t : Tree g.row.K.Denot (List ℕ)). missing t ≤ missing s.root + (level s.root + 1)) (sym same) (omega arith))
+    subst (λ (v : State g.row.K.Denot g.row.H.Denot). uncached_pages c.remove_from_root.new.self ≤ uncached_pages v.root + (level v.root + 1)) c.self.view_is
+    (subst (λ (t : Tree g.row.K.Denot (List ℕ)). uncached_pages t ≤ uncached_pages s.root + (level s.root + 1)) (sym same) (omega arith))
 
 pub returns-in-None-clause-few : goal.returns-in-None-clause-few
 returns-in-None-clause-few g c =
@@ -50,8 +50,8 @@ returns-in-None-clause-few g c =
     let cmp = g.K.Ord.cmp in
     let k = c.args.key.now in
     let same : c.remove_from_root.new.self ≡ s.root = at_none _ _ _ c.in-None.is c.in_ok-remove_from_root.ensures.done in
-    subst (λ (v : State g.row.K.Denot g.row.H.Denot). v.root_hash ≢ None → missing c.remove_from_root.new.self ≤ level v.root + 1) c.self.view_is
-    (λ ne. subst (λ (t : Tree g.row.K.Denot (List ℕ)). missing t ≤ level s.root + 1) (sym same) (omega (arith, hashed-lacks _ g.met.K.Ord.total _ _ _ c.self.invariant k ne)))
+    subst (λ (v : State g.row.K.Denot g.row.H.Denot). v.root_hash ≢ None → uncached_pages c.remove_from_root.new.self ≤ level v.root + 1) c.self.view_is
+    (λ ne. subst (λ (t : Tree g.row.K.Denot (List ℕ)). uncached_pages t ≤ level s.root + 1) (sym same) (omega (arith, hashed-lacks _ g.met.K.Ord.total _ _ _ c.self.invariant k ne)))
 
 pub invariant_of-self-2 : goal.invariant_of-self-2
 invariant_of-self-2 g c =
@@ -83,8 +83,8 @@ returns-clause-few_more g c =
     let cmp = g.K.Ord.cmp in
     let k = c.args.key.now in
     let done : c.remove_from_root.new.self ≡ root_del cmp k s.root = at_some _ _ _ c.in-Some.entry c.in-Some.is c.in_ok-remove_from_root.ensures.done in
-    subst (λ (v : State g.row.K.Denot g.row.H.Denot). missing c.remove_from_root.new.self ≤ missing v.root + (level v.root + 1)) c.self.view_is
-    (subst (λ (t : Tree g.row.K.Denot (List ℕ)). missing t ≤ missing s.root + (level s.root + 1)) (sym done) (remove-few _ g.met.K.Ord.total _ _ _ c.self.invariant k))
+    subst (λ (v : State g.row.K.Denot g.row.H.Denot). uncached_pages c.remove_from_root.new.self ≤ uncached_pages v.root + (level v.root + 1)) c.self.view_is
+    (subst (λ (t : Tree g.row.K.Denot (List ℕ)). uncached_pages t ≤ uncached_pages s.root + (level s.root + 1)) (sym done) (remove-few _ g.met.K.Ord.total _ _ _ c.self.invariant k))
 
 pub returns-clause-few : goal.returns-clause-few
 returns-clause-few g c =
@@ -92,8 +92,8 @@ returns-clause-few g c =
     let cmp = g.K.Ord.cmp in
     let k = c.args.key.now in
     let done : c.remove_from_root.new.self ≡ root_del cmp k s.root = at_some _ _ _ c.in-Some.entry c.in-Some.is c.in_ok-remove_from_root.ensures.done in
-    subst (λ (v : State g.row.K.Denot g.row.H.Denot). v.root_hash ≢ None → missing c.remove_from_root.new.self ≤ level v.root + 1) c.self.view_is
-    (λ ne. subst (λ (t : Tree g.row.K.Denot (List ℕ)). missing t ≤ level s.root + 1) (sym done) (omega (arith, remove-few _ g.met.K.Ord.total _ _ _ c.self.invariant k, hashed-lacks _ g.met.K.Ord.total _ _ _ c.self.invariant k ne)))
+    subst (λ (v : State g.row.K.Denot g.row.H.Denot). v.root_hash ≢ None → uncached_pages c.remove_from_root.new.self ≤ level v.root + 1) c.self.view_is
+    (λ ne. subst (λ (t : Tree g.row.K.Denot (List ℕ)). uncached_pages t ≤ level s.root + 1) (sym done) (omega (arith, remove-few _ g.met.K.Ord.total _ _ _ c.self.invariant k, hashed-lacks _ g.met.K.Ord.total _ _ _ c.self.invariant k ne)))
 
 pub remove_from_root-requires : goal.remove_from_root-requires
 remove_from_root-requires g c = record { ascending = c.self.invariant.ascending }

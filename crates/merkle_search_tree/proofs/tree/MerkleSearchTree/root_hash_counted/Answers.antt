@@ -1,10 +1,10 @@
 use Rattle.std.proofs.Common.{rules, ap, ◌∙◌}
 use Rattle.std.specs.Int.NonZero.{non_zero_u8_get}
 use Rattle.merkle_digest.specs.Level.{level_of}
-use Rattle.merkle_tree_theory.specs.Cache.{missing}
+use Rattle.merkle_tree_theory.specs.Cache.{uncached_pages}
 use Rattle.merkle_tree_theory.specs.Page.{pairs}
 use Rattle.merkle_tree_theory.specs.State.{State, map_of}
-use Rattle.merkle_tree_theory.proofs.Fill.{pairs-filled, IsCanonicalRoot-filled, CachesHold-filled, cache-filled, missing-filled}
+use Rattle.merkle_tree_theory.proofs.FillingDigests.{pairs-filled, IsCanonicalRoot-filled, CachesHold-filled, cache-filled, missing-filled}
 use Rattle.merkle_search_tree.proofs.tree.MerkleSearchTree.root_hash_counted.Goals as goal
 
 pub fill-digest-requires : goal.fill-digest-requires
@@ -23,7 +23,7 @@ invariant_of-self g c =
     })
 
 pub returns-clause-hashed : goal.returns-clause-hashed
-returns-clause-hashed g c = ap missing c.fill-digest.ensures.pages ∙ missing-filled c.self.inside.page_format g.K.KeyBytes.bytes_of c.self.inside.root
+returns-clause-hashed g c = ap uncached_pages c.fill-digest.ensures.pages ∙ missing-filled c.self.inside.page_format g.K.KeyBytes.bytes_of c.self.inside.root
 
 pub returns-clause-map : goal.returns-clause-map
 returns-clause-map g c =

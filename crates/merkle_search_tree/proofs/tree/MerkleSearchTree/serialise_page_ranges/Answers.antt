@@ -7,8 +7,8 @@ use Rattle.merkle_diff.specs.PageRange.{entries}
 use Rattle.merkle_tree_theory.specs.CachedRanges.{cached_ranges}
 use Rattle.merkle_tree_theory.specs.Ranges.{ranges_of}
 use Rattle.merkle_tree_theory.specs.State.{State, map_of}
-use Rattle.merkle_tree_theory.proofs.Falls.{root-falls}
-use Rattle.merkle_tree_theory.proofs.Listed.{hashed_listed, no_nodes}
+use Rattle.merkle_tree_theory.proofs.FallingLevels.{root-falls}
+use Rattle.merkle_tree_theory.proofs.CachedRanges.{hashed_listed, no_nodes}
 use Rattle.merkle_search_tree.proofs.tree.MerkleSearchTree.serialise_page_ranges.Goals as goal
 
 pub list_ranges-requires : goal.list_ranges-requires

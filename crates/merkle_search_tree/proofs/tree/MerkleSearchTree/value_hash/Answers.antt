@@ -3,7 +3,7 @@ use Rattle.std.specs.Option.{option_map}
 use Rattle.key_order.specs.Map.{get}
 use Rattle.merkle_tree_theory.specs.State.{State, map_of}
 use Rattle.merkle_tree_theory.proofs.Inside.{get_entry}
-use Rattle.merkle_tree_theory.proofs.Removes.{tree_entry-is}
+use Rattle.merkle_tree_theory.proofs.RemovalTree.{tree_entry-is}
 use Rattle.merkle_search_tree.proofs.tree.MerkleSearchTree.value_hash.Goals as goal
 
 pub returns-in_err-node : goal.returns-in_err-node

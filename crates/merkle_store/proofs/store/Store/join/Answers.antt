@@ -2,7 +2,7 @@ use Rattle.std.proofs.Common.{◌≡◌, List, [], ◌∷◌, length, sym, subst
 use Rattle.std.specs.String.{string_cmp_total}
 use Rattle.std.proofs.lemmas.Grind.{common_steps}
 use Rattle.key_order.specs.Text.{Text as Key, text_order}
-use Rattle.merkle_replica.proofs.Gathering.{gathers_none}
+use Rattle.merkle_replica.proofs.PutRows.{gathers_none}
 use Rattle.merkle_store.specs.Kept.{JoinTheSame}
 use Rattle.store_table.specs.Registers.{HaveLateTime}
 use Rattle.store_table.specs.declared.register.Register.{Register}

@@ -1,11 +1,11 @@
 use Rattle.std.proofs.Common.{Some, None, ap}
 use Rattle.std.proofs.lemmas.Result.{IfErr-weaker, IfOk-weaker, err_from_is_err_and}
 use Rattle.merkle_replica.specs.Contents.{side}
-use Rattle.merkle_replica.proofs.Sides.{laws_of}
+use Rattle.merkle_replica.proofs.SideLaws.{laws_of}
 use Rattle.merkle_wire.specs.Next.{GoesOn, IsAsked, IsEnded, IsNext, IsStopped, OnlyAskedFor}
 use Rattle.merkle_wire.specs.Underway.{Underway}
 use Rattle.merkle_wire.proofs.AskedFor.{only_asked}
-use Rattle.merkle_wire.proofs.Nexts.{hashed_side, is_next, is_stopped, refused_stops}
+use Rattle.merkle_wire.proofs.NextMessages.{hashed_side, is_next, is_stopped, refused_stops}
 use Rattle.merkle_wire.proofs.catching_up.CatchingUp.take.Goals as goal
 
 pub returns-in-Some-clause-next : goal.returns-in-Some-clause-next

@@ -8,10 +8,10 @@ use Rattle.std.specs.declared.cmp.Ordering.{Ordering}
 use Rattle.key_order.specs.Interval.{Span, IsOrdered, IsIn, IsCovered, IsApart, IsWithin}
 use Rattle.key_order.specs.Order.{Upto, Below, AnyByRecursion, upto}
 use Rattle.merkle_diff.specs.Merge.{IsMerge, SameSpans}
-use Rattle.merkle_diff.specs.Sweep.{swept}
+use Rattle.merkle_diff.specs.Sweep.{sweep_of}
 use Rattle.key_order.proofs.Orders.{up_up, low_is_up, not_both}
 use Rattle.merkle_diff.proofs.Ascents.{IsAscendingByStart}
-use Rattle.merkle_diff.proofs.Merges.{within-grown, in-grown, swept-by, swept-ordered, swept-merge}
+use Rattle.merkle_diff.proofs.SweepIsMerge.{within-grown, in-grown, swept-by, swept-ordered, swept-merge}
 use Rattle.merkle_diff.proofs.Ranges.{merge-permuted}
 use Rattle.merkle_diff.proofs.Unique.{merge-unique, holds-same, in-same, apart-same, ordered-same}
 use Rattle.merkle_diff.proofs.Each.{any-tail, each-with, each-permuted, any-permuted}
@@ -54,21 +54,21 @@ module _ {K : Type 0} (cmp : K → K → Ordering) (o : IsTotalOrder cmp) where
 
   -- ---- the sweep
 
-  swept-from : (k : K) (xs : List (Span K)) → IsAscendingByStart cmp xs → IsCovered cmp k (swept cmp xs) → IsCovered cmp k xs
+  swept-from : (k : K) (xs : List (Span K)) → IsAscendingByStart cmp xs → IsCovered cmp k (sweep_of cmp xs) → IsCovered cmp k xs
   swept-from k = swept-by cmp o (λ ss out. IsCovered cmp k out → IsCovered cmp k ss) (λ h. h) (λ cur s ss out j a f h. in-grown cmp o cur s j a k ss (f h)) (λ cur ts out b. any-tail (IsIn cmp k) cur out ts)
 
   -- each range is within one of the sweep
-  swept-holds : (x : Span K) (xs : List (Span K)) → IsAscendingByStart cmp xs → AnyByRecursion (IsWithin cmp x) xs → AnyByRecursion (IsWithin cmp x) (swept cmp xs)
+  swept-holds : (x : Span K) (xs : List (Span K)) → IsAscendingByStart cmp xs → AnyByRecursion (IsWithin cmp x) xs → AnyByRecursion (IsWithin cmp x) (sweep_of cmp xs)
   swept-holds x = swept-by cmp o (λ ss out. AnyByRecursion (IsWithin cmp x) ss → AnyByRecursion (IsWithin cmp x) out) (λ h. h) (λ cur s ss out j a f h. f (within-grown cmp o cur s j a x ss h)) (λ cur ts out b. any-tail (IsWithin cmp x) cur ts out)
 
-  swept-apart : (xs : List (Span K)) → IsAscendingByStart cmp xs → IsApart cmp (swept cmp xs)
+  swept-apart : (xs : List (Span K)) → IsAscendingByStart cmp xs → IsApart cmp (sweep_of cmp xs)
   swept-apart xs a = (swept-by cmp o (λ ss out. IsApart cmp out × ((e : K) → AllByRecursion (λ t. Below cmp e t.first) ss → AllByRecursion (λ t. Below cmp e t.first) out))
       (tt, (λ e b. tt)) (λ cur s ss out j u f. (f.0, (λ e b. f.1 e (b.0, b.1.1)))) (λ cur ts out b f. ((f.1 cur.last b, f.0), (λ e c. (c.0, f.1 e c.1)))) xs a).0
 
   -- ---- every merge
 
   abbrev one_merge : List (Span K) → List (Span K)
-  one_merge ss = swept cmp (sorted ss)
+  one_merge ss = sweep_of cmp (sorted ss)
 
   is-merge : (ss : List (Span K)) → AllByRecursion (IsOrdered cmp) ss → IsMerge cmp ss (one_merge ss)
   is-merge ss d = merge-permuted cmp (sorted ss) ss (one_merge ss) (IsPermutation-sym ss (sorted ss) (sorted-moves ss)) (swept-merge cmp o (sorted ss) (sorted-ascends ss) (each-permuted (IsOrdered cmp) ss (sorted ss) (sorted-moves ss) d))
@@ -91,7 +91,7 @@ module _ {K : Type 0} (cmp : K → K → Ordering) (o : IsTotalOrder cmp) where
 
   -- ---- a list that is apart is its own merge
 
-  swept-alone : (ss : List (Span K)) → IsAscendingByStart cmp ss → IsApart cmp ss → swept cmp ss ≡ ss
+  swept-alone : (ss : List (Span K)) → IsAscendingByStart cmp ss → IsApart cmp ss → sweep_of cmp ss ≡ ss
   swept-alone = swept-by cmp o (λ ss out. IsApart cmp ss → out ≡ ss) (λ a. refl) (λ cur s ss out j u f a. absurd (not_both cmp o s.first cur.last j a.0.0)) (λ cur ts out b f a. ap (λ t. cur ∷ t) (f a.1))
 
   apart-ascends : (ss : List (Span K)) → AllByRecursion (IsOrdered cmp) ss → IsApart cmp ss → IsAscendingByStart cmp ss

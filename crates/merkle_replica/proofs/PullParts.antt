@@ -28,7 +28,7 @@ use Rattle.merkle_replica.specs.Answers.{spans_of, IsDone, IsPartlyDone}
 use Rattle.merkle_replica.proofs.Bounds.{ascending_digests}
 use Rattle.merkle_replica.proofs.Cover.{covers}
 use Rattle.merkle_replica.proofs.Listings.{AreShaped, AreListings, HaveOneList}
-use Rattle.merkle_replica.proofs.Sides.{same_side}
+use Rattle.merkle_replica.proofs.SideLaws.{same_side}
 
 module _ {K V H : Type 0} (laws : Laws K V H) where
   -- an answer for replicas that were hashed is one for them as they were

@@ -6,9 +6,9 @@ use Rattle.std.specs.Ordering.{is_gt, match_ordering, nat_cmp, MatchOrdering}
 use Rattle.std.specs.Cmp.{ranks}
 use Rattle.merkle_tree_theory.specs.Tree.{Tree, page, Row, high, node, Held, nothing, below}
 use Rattle.merkle_tree_theory.specs.Page.{level, cache}
-use Rattle.merkle_tree_theory.specs.Cache.{missing, row_missing, held_missing, CachesHold, RowCachesHold, HeldCachesHold, EachHasCache, HasCache}
+use Rattle.merkle_tree_theory.specs.Cache.{uncached_pages, row_uncached_pages, held_uncached_pages, CachesHold, RowCachesHold, HeldCachesHold, EachHasCache, HasCache}
 use Rattle.merkle_tree_theory.specs.Canonical.{HasNode, IsCanonical, IsRow, IsGap, IsCanonicalRoot}
-use Rattle.merkle_tree_theory.specs.Upsert.{as_held, kept, kept_beside, lower, upper, held_lower, held_upper, tree_lower, tree_upper, row_put, row_sink, held_set, tree_set, lifted}
+use Rattle.merkle_tree_theory.specs.Upsert.{as_held, row_digest_beside, digest_beside, lower, upper, held_lower, held_upper, tree_lower, tree_upper, row_put, row_sink, held_set, tree_set, lifted}
 use Rattle.merkle_tree_theory.specs.declared.page_format.PageFormat.{PageFormat}
 
 -- a row without a node and a page above it gives nothing
@@ -46,8 +46,8 @@ module _ {K D : Type 0} (cmp : K → K → Ordering) (lev : K → ℕ) (at : K) 
     split-gap l (below (page m c (high h))) p = absurd p.1
     split-gap l (below (page m c (node h k d r))) p =
         let s = split-row m (node h k d r) p.2 in (
-          as_held-gap lev m l (kept (upper cmp at (node h k d r)) c) (lower cmp at (node h k d r)) p.0 s.0,
-          as_held-gap lev m l (kept (lower cmp at (node h k d r)) c) (upper cmp at (node h k d r)) p.0 s.1,
+          as_held-gap lev m l (row_digest_beside (upper cmp at (node h k d r)) c) (lower cmp at (node h k d r)) p.0 s.0,
+          as_held-gap lev m l (row_digest_beside (lower cmp at (node h k d r)) c) (upper cmp at (node h k d r)) p.0 s.1,
         )
 
 module _ {K D : Type 0} (cmp : K → K → Ordering) (lev : K → ℕ) (n : ℕ) (k : K) (d : D) (at : lev k ≡ n) where
@@ -93,9 +93,9 @@ module _ {K D : Type 0} (cmp : K → K → Ordering) (lev : K → ℕ) (n : ℕ)
               s,
               tt,
               (
-                as_held-gap lev l n (kept (upper cmp k (node h x e r)) c) (lower cmp k (node h x e r)) q t.0,
+                as_held-gap lev l n (row_digest_beside (upper cmp k (node h x e r)) c) (lower cmp k (node h x e r)) q t.0,
                 at,
-                as_held-gap lev l n (kept (lower cmp k (node h x e r)) c) (upper cmp k (node h x e r)) q t.1,
+                as_held-gap lev l n (row_digest_beside (lower cmp k (node h x e r)) c) (upper cmp k (node h x e r)) q t.1,
               ),
             )
 
@@ -137,10 +137,10 @@ module _ {K D : Type 0} (cmp : K → K → Ordering) (at : K) where
     held_whole_lower : (h : Held K D) → held_upper cmp at h ≡ nothing → held_lower cmp at h ≡ h
     held_whole_lower nothing e = refl
     held_whole_lower (below (page l c (high h))) e =
-        (λ j. below (page l (kept_beside (e j) c) (high (held_whole_lower h e j))))
+        (λ j. below (page l (digest_beside (e j) c) (high (held_whole_lower h e j))))
     held_whole_lower (below (page l c (node h k d r))) e =
-        let u = as_held-nothing l (kept (lower cmp at (node h k d r)) c) (upper cmp at (node h k d r)) e in
-        (λ j. as_held l (kept (u j) c) (whole_lower (node h k d r) u j))
+        let u = as_held-nothing l (row_digest_beside (lower cmp at (node h k d r)) c) (upper cmp at (node h k d r)) e in
+        (λ j. as_held l (row_digest_beside (u j) c) (whole_lower (node h k d r) u j))
 
     whole_upper : (r : Row K D) → lower cmp at r ≡ high nothing → upper cmp at r ≡ r
     whole_upper (high h) e = ap high (held_whole_upper h (row_of_high (held_lower cmp at h) nothing e))
@@ -155,8 +155,8 @@ module _ {K D : Type 0} (cmp : K → K → Ordering) (at : K) where
     held_whole_upper nothing e = refl
     held_whole_upper (below (page l c (high h))) e = absurd (cc)
     held_whole_upper (below (page l c (node h k d r))) e =
-        let u = as_held-nothing l (kept (upper cmp at (node h k d r)) c) (lower cmp at (node h k d r)) e in
-        (λ j. as_held l (kept (u j) c) (whole_upper (node h k d r) u j))
+        let u = as_held-nothing l (row_digest_beside (upper cmp at (node h k d r)) c) (lower cmp at (node h k d r)) e in
+        (λ j. as_held l (row_digest_beside (u j) c) (whole_upper (node h k d r) u j))
 
 -- the caches
 module _ {K : Type 0} (format : PageFormat) (b : K → List ℕ) where
@@ -165,12 +165,12 @@ module _ {K : Type 0} (format : PageFormat) (b : K → List ℕ) where
   rows_hold l (Some d) r p = p.2
 
   -- a part s of the row r of a page with a true digest, where o is the other part
-  kept-hold : (l : ℕ) (c : Option (List ℕ)) (o r s : Row K (List ℕ)) → CachesHold format b (page l c r) → RowCachesHold format b s → (o ≡ high nothing → s ≡ r) → CachesHold format b (page l (kept o c) s)
+  kept-hold : (l : ℕ) (c : Option (List ℕ)) (o r s : Row K (List ℕ)) → CachesHold format b (page l c r) → RowCachesHold format b s → (o ≡ high nothing → s ≡ r) → CachesHold format b (page l (row_digest_beside o c) s)
   kept-hold l c (high nothing) r s p q w = subst (λ t. CachesHold format b (page l c t)) (sym (w refl)) p
   kept-hold l c (high (below t)) r s p q w = q
   kept-hold l c (node h k d o) r s p q w = q
 
-  as_held-hold : (l : ℕ) (c : Option (List ℕ)) (o r s : Row K (List ℕ)) → CachesHold format b (page l c r) → RowCachesHold format b s → (o ≡ high nothing → s ≡ r) → HeldCachesHold format b (as_held l (kept o c) s)
+  as_held-hold : (l : ℕ) (c : Option (List ℕ)) (o r s : Row K (List ℕ)) → CachesHold format b (page l c r) → RowCachesHold format b s → (o ≡ high nothing → s ≡ r) → HeldCachesHold format b (as_held l (row_digest_beside o c) s)
   as_held-hold l c o r (high h) p q w = q
   as_held-hold l c o r (node h k d s) p q w = kept-hold l c o r (node h k d s) p q w
 
@@ -238,78 +238,78 @@ module _ {K : Type 0} (format : PageFormat) (b : K → List ℕ) where
       gap-hold nothing p = (tt, tt)
       gap-hold (below t) p = set-hold t p
 
-  -- below a page with a cached digest no digest is missing
+  -- below a page with a cached digest no digest is uncached_pages
   mutual
-    pub none_missing : (t : Tree K (List ℕ)) (c : List ℕ) → cache t ≡ Some c → CachesHold format b t → missing t ≡ 0
+    pub none_missing : (t : Tree K (List ℕ)) (c : List ℕ) → cache t ≡ Some c → CachesHold format b t → uncached_pages t ≡ 0
     none_missing (page l None r) c e p = absurd (cc)
     none_missing (page l (Some d) r) c e p = omega (arith, row_none_missing r p.1 p.2)
 
-    row_none_missing : (r : Row K (List ℕ)) → EachHasCache r → RowCachesHold format b r → row_missing r ≡ 0
+    row_none_missing : (r : Row K (List ℕ)) → EachHasCache r → RowCachesHold format b r → row_uncached_pages r ≡ 0
     row_none_missing (high h) e p = held_none_missing h e p
     row_none_missing (node h k d r) e p = omega (arith, held_none_missing h e.0 p.0, row_none_missing r e.1 p.1)
 
-    held_none_missing : (h : Held K (List ℕ)) → HasCache h → HeldCachesHold format b h → held_missing h ≡ 0
+    held_none_missing : (h : Held K (List ℕ)) → HasCache h → HeldCachesHold format b h → held_uncached_pages h ≡ 0
     held_none_missing nothing e p = refl
     held_none_missing (below (page l None r)) e p = absurd e
     held_none_missing (below (page l (Some d) r)) e p = omega (arith, row_none_missing r p.1 p.2)
 
 -- a row lacks few digests more as what stands in a gap
 module _ {K D : Type 0} where
-  pub as_held-few : (l m a : ℕ) (c : Option (List ℕ)) (r : Row K D) → l < m → row_missing r ≤ a + l → held_missing (as_held l c r) ≤ a + m
+  pub as_held-few : (l m a : ℕ) (c : Option (List ℕ)) (r : Row K D) → l < m → row_uncached_pages r ≤ a + l → held_uncached_pages (as_held l c r) ≤ a + m
   as_held-few l m a c (high h) s p = omega arith
   as_held-few l m a None (node h k d r) s p = omega arith
   as_held-few l m a (Some c) (node h k d r) s p = omega arith
 
 -- how many digests are dropped
 module _ {K D : Type 0} where
-  as_held-one : (l : ℕ) (c : Option (List ℕ)) (r : Row K D) → held_missing (as_held l c r) ≤ row_missing r + 1
+  as_held-one : (l : ℕ) (c : Option (List ℕ)) (r : Row K D) → held_uncached_pages (as_held l c r) ≤ row_uncached_pages r + 1
   as_held-one l c (high h) = omega arith
   as_held-one l None (node h k d r) = omega arith
   as_held-one l (Some c) (node h k d r) = omega arith
 
 module _ {K D : Type 0} (cmp : K → K → Ordering) (lev : K → ℕ) (at : K) where
   mutual
-    split-few : (l : ℕ) (r : Row K D) → IsRow lev l r → row_missing (lower cmp at r) + row_missing (upper cmp at r) ≤ row_missing r + (l + l)
+    split-few : (l : ℕ) (r : Row K D) → IsRow lev l r → row_uncached_pages (lower cmp at r) + row_uncached_pages (upper cmp at r) ≤ row_uncached_pages r + (l + l)
     split-few l (high h) p = held_split-few l h p
     split-few l (node h k d r) p = by (is_gt (cmp at k)) (split-few l r p.2) (held_split-few l h p.0)
       where
-        by : (b : Bool) → row_missing (lower cmp at r) + row_missing (upper cmp at r) ≤ row_missing r + (l + l) → held_missing (held_lower cmp at h) + held_missing (held_upper cmp at h) ≤ held_missing h + (l + l)
-            → row_missing (if b then (node h k d (lower cmp at r)) else (high (held_lower cmp at h))) + row_missing (if b then (upper cmp at r) else (node (held_upper cmp at h) k d r)) ≤ held_missing h + row_missing r + (l + l)
+        by : (b : Bool) → row_uncached_pages (lower cmp at r) + row_uncached_pages (upper cmp at r) ≤ row_uncached_pages r + (l + l) → held_uncached_pages (held_lower cmp at h) + held_uncached_pages (held_upper cmp at h) ≤ held_uncached_pages h + (l + l)
+            → row_uncached_pages (if b then (node h k d (lower cmp at r)) else (high (held_lower cmp at h))) + row_uncached_pages (if b then (upper cmp at r) else (node (held_upper cmp at h) k d r)) ≤ held_uncached_pages h + row_uncached_pages r + (l + l)
         by true s u = omega arith
         by false s u = omega arith
 
-    held_split-few : (l : ℕ) (h : Held K D) → IsGap lev l h → held_missing (held_lower cmp at h) + held_missing (held_upper cmp at h) ≤ held_missing h + (l + l)
+    held_split-few : (l : ℕ) (h : Held K D) → IsGap lev l h → held_uncached_pages (held_lower cmp at h) + held_uncached_pages (held_upper cmp at h) ≤ held_uncached_pages h + (l + l)
     held_split-few l nothing p = omega arith
     held_split-few l (below (page m c (high h))) p = absurd p.1
     held_split-few l (below (page m c (node h k d r))) p =
-        omega (arith, p.0, split-few m (node h k d r) p.2, as_held-one m (kept (upper cmp at (node h k d r)) c) (lower cmp at (node h k d r)), as_held-one m (kept (lower cmp at (node h k d r)) c) (upper cmp at (node h k d r)))
+        omega (arith, p.0, split-few m (node h k d r) p.2, as_held-one m (row_digest_beside (upper cmp at (node h k d r)) c) (lower cmp at (node h k d r)), as_held-one m (row_digest_beside (lower cmp at (node h k d r)) c) (upper cmp at (node h k d r)))
 
 module _ {K D : Type 0} (cmp : K → K → Ordering) (lev : K → ℕ) (n : ℕ) (k : K) (d : D) where
-  put-few : (r : Row K D) → IsRow lev n r → row_missing (row_put cmp k d r) ≤ row_missing r + (n + n)
+  put-few : (r : Row K D) → IsRow lev n r → row_uncached_pages (row_put cmp k d r) ≤ row_uncached_pages r + (n + n)
   put-few (high h) p = held_split-few cmp lev k n h p
   put-few (node h x e r) p = by (cmp k x) (put-few r p.2) (held_split-few cmp lev k n h p.0)
     where
-      by : (q : Ordering) → row_missing (row_put cmp k d r) ≤ row_missing r + (n + n) → held_missing (held_lower cmp k h) + held_missing (held_upper cmp k h) ≤ held_missing h + (n + n)
-          → row_missing (match_ordering q (node (held_lower cmp k h) k d (node (held_upper cmp k h) x e r)) (node h x d r) (node h x e (row_put cmp k d r))) ≤ held_missing h + row_missing r + (n + n)
+      by : (q : Ordering) → row_uncached_pages (row_put cmp k d r) ≤ row_uncached_pages r + (n + n) → held_uncached_pages (held_lower cmp k h) + held_uncached_pages (held_upper cmp k h) ≤ held_uncached_pages h + (n + n)
+          → row_uncached_pages (match_ordering q (node (held_lower cmp k h) k d (node (held_upper cmp k h) x e r)) (node h x d r) (node h x e (row_put cmp k d r))) ≤ held_uncached_pages h + row_uncached_pages r + (n + n)
       by Less f s = omega arith
       by Equal f s = omega arith
       by Greater f s = omega arith
 
   -- a page with a node that gets the key lacks few digests more, whatever level the page with the key is on
   tree-few : (m : ℕ) (c : Option (List ℕ)) (h : Held K D) (x : K) (e : D) (r : Row K D) → IsRow lev m (node h x e r)
-      → (n < m → row_missing (row_sink cmp n k d (node h x e r)) ≤ row_missing (node h x e r) + (m + n))
-      → missing (tree_set cmp n k d (page m c (node h x e r))) ≤ row_missing (node h x e r) + (level (tree_set cmp n k d (page m c (node h x e r))) + n + 1)
+      → (n < m → row_uncached_pages (row_sink cmp n k d (node h x e r)) ≤ row_uncached_pages (node h x e r) + (m + n))
+      → uncached_pages (tree_set cmp n k d (page m c (node h x e r))) ≤ row_uncached_pages (node h x e r) + (level (tree_set cmp n k d (page m c (node h x e r))) + n + 1)
   tree-few m c h x e r p f =
       by (nat_cmp n m) (ranks n m) f (λ q. put-few (node h x e r) (subst (λ j. IsRow lev j (node h x e r)) (sym q) p)) (split-few cmp lev k m (node h x e r) p)
     where
       by : (q : Ordering) → MatchOrdering q (n < m) (n ≡ m) (m < n)
-          → (n < m → row_missing (row_sink cmp n k d (node h x e r)) ≤ row_missing (node h x e r) + (m + n)) → (n ≡ m → row_missing (row_put cmp k d (node h x e r)) ≤ row_missing (node h x e r) + (n + n))
-          → row_missing (lower cmp k (node h x e r)) + row_missing (upper cmp k (node h x e r)) ≤ row_missing (node h x e r) + (m + m)
-          → missing (match_ordering q (page m None (row_sink cmp n k d (node h x e r))) (page m None (row_put cmp k d (node h x e r))) (lifted cmp n k d (page m c (node h x e r))))
-          ≤ row_missing (node h x e r) + (level (match_ordering q (page m None (row_sink cmp n k d (node h x e r))) (page m None (row_put cmp k d (node h x e r))) (lifted cmp n k d (page m c (node h x e r)))) + n + 1)
+          → (n < m → row_uncached_pages (row_sink cmp n k d (node h x e r)) ≤ row_uncached_pages (node h x e r) + (m + n)) → (n ≡ m → row_uncached_pages (row_put cmp k d (node h x e r)) ≤ row_uncached_pages (node h x e r) + (n + n))
+          → row_uncached_pages (lower cmp k (node h x e r)) + row_uncached_pages (upper cmp k (node h x e r)) ≤ row_uncached_pages (node h x e r) + (m + m)
+          → uncached_pages (match_ordering q (page m None (row_sink cmp n k d (node h x e r))) (page m None (row_put cmp k d (node h x e r))) (lifted cmp n k d (page m c (node h x e r))))
+          ≤ row_uncached_pages (node h x e r) + (level (match_ordering q (page m None (row_sink cmp n k d (node h x e r))) (page m None (row_put cmp k d (node h x e r))) (lifted cmp n k d (page m c (node h x e r)))) + n + 1)
       by Less q f g s = omega (arith, f q)
       by Equal q f g s = omega (arith, g q)
-      by Greater q f g s = omega (arith, as_held-one m (kept (upper cmp k (node h x e r)) c) (lower cmp k (node h x e r)), as_held-one m (kept (lower cmp k (node h x e r)) c) (upper cmp k (node h x e r)))
+      by Greater q f g s = omega (arith, as_held-one m (row_digest_beside (upper cmp k (node h x e r)) c) (lower cmp k (node h x e r)), as_held-one m (row_digest_beside (lower cmp k (node h x e r)) c) (upper cmp k (node h x e r)))
 
   -- the level of that page
   tree-level : (l m : ℕ) (c : Option (List ℕ)) (h : Held K D) (x : K) (e : D) (r : Row K D) → n < m → l < m → level (tree_set cmp n k d (page l c (node h x e r))) < m
@@ -321,24 +321,24 @@ module _ {K D : Type 0} (cmp : K → K → Ordering) (lev : K → ℕ) (n : ℕ)
       by Greater = s
 
   mutual
-    sink-few : (m : ℕ) (r : Row K D) → n < m → IsRow lev m r → row_missing (row_sink cmp n k d r) ≤ row_missing r + (m + n)
+    sink-few : (m : ℕ) (r : Row K D) → n < m → IsRow lev m r → row_uncached_pages (row_sink cmp n k d r) ≤ row_uncached_pages r + (m + n)
     sink-few m (high h) s p = gap-few m h s p
     sink-few m (node h x e r) s p = by (cmp k x) (sink-few m r s p.2) (gap-few m h s p.0)
       where
-        by : (q : Ordering) → row_missing (row_sink cmp n k d r) ≤ row_missing r + (m + n) → held_missing (held_set cmp n k d h) ≤ held_missing h + (m + n)
-            → row_missing (match_ordering q (node (held_set cmp n k d h) x e r) (node h x d r) (node h x e (row_sink cmp n k d r))) ≤ held_missing h + row_missing r + (m + n)
+        by : (q : Ordering) → row_uncached_pages (row_sink cmp n k d r) ≤ row_uncached_pages r + (m + n) → held_uncached_pages (held_set cmp n k d h) ≤ held_uncached_pages h + (m + n)
+            → row_uncached_pages (match_ordering q (node (held_set cmp n k d h) x e r) (node h x d r) (node h x e (row_sink cmp n k d r))) ≤ held_uncached_pages h + row_uncached_pages r + (m + n)
         by Less f g = omega arith
         by Equal f g = omega arith
         by Greater f g = omega arith
 
-    gap-few : (m : ℕ) (h : Held K D) → n < m → IsGap lev m h → held_missing (held_set cmp n k d h) ≤ held_missing h + (m + n)
+    gap-few : (m : ℕ) (h : Held K D) → n < m → IsGap lev m h → held_uncached_pages (held_set cmp n k d h) ≤ held_uncached_pages h + (m + n)
     gap-few m nothing s p = omega arith
     gap-few m (below (page l c (high h))) s p = absurd p.1
     gap-few m (below (page l c (node h x e r))) s p =
         omega (arith, tree-few l c h x e r p.2 (λ t. sink-few l (node h x e r) t p.2), tree-level l m c h x e r s p.0)
 
   -- the pages that lack a digest after an upsert that didn't before
-  pub set-few_root : (t : Tree K D) → IsCanonicalRoot lev t → missing (tree_set cmp n k d t) ≤ missing t + (level (tree_set cmp n k d t) + n + 1)
+  pub set-few_root : (t : Tree K D) → IsCanonicalRoot lev t → uncached_pages (tree_set cmp n k d t) ≤ uncached_pages t + (level (tree_set cmp n k d t) + n + 1)
   set-few_root (page m c (high nothing)) p = omega arith
   set-few_root (page m c (high (below t))) p = absurd p
   set-few_root (page m c (node h x e r)) p = omega (arith, tree-few m c h x e r p (λ t. sink-few m (node h x e r) t p))

@@ -7,11 +7,11 @@ use Rattle.key_order.specs.Map.{IsMap, has_key, del, entry}
 use Rattle.key_order.proofs.Dels.{ascending_del}
 use Rattle.merkle_tree_theory.specs.State.{State}
 use Rattle.merkle_tree_theory.specs.Page.{pairs, level}
-use Rattle.merkle_tree_theory.specs.Cache.{missing}
+use Rattle.merkle_tree_theory.specs.Cache.{uncached_pages}
 use Rattle.merkle_tree_theory.specs.Sound.{IsSound}
 use Rattle.merkle_tree_theory.specs.Remove.{root_del, tree_entry, HasFreeGap}
-use Rattle.merkle_tree_theory.proofs.Upserts.{none_of_hashed}
-use Rattle.merkle_tree_theory.proofs.Removes.{root_del-pairs, root_del-root, root_del-hold, root_del-few, tree_entry-is, free-none}
+use Rattle.merkle_tree_theory.proofs.UpsertState.{none_of_hashed}
+use Rattle.merkle_tree_theory.proofs.RemovalTree.{root_del-pairs, root_del-root, root_del-hold, root_del-few, tree_entry-is, free-none}
 
 module _ {K H : Type 0} (cmp : K → K → Ordering) (o : IsTotalOrder cmp) (digest_of : H → K → List ℕ) (bytes_of : K → List ℕ)
     (s : State K H) (sound : IsSound cmp digest_of bytes_of s) (k : K) where
@@ -29,11 +29,11 @@ module _ {K H : Type 0} (cmp : K → K → Ordering) (o : IsTotalOrder cmp) (dig
     root_hash_holds = tt;
   }
 
-  pub remove-few : missing (root_del cmp k s.root) ≤ missing s.root + (level s.root + 1)
+  pub remove-few : uncached_pages (root_del cmp k s.root) ≤ uncached_pages s.root + (level s.root + 1)
   remove-few = root_del-few cmp (λ x. level_of (digest_of s.hasher x) s.base) k s.root sound.canonical
 
   -- a hashed tree lacks no digest
-  pub hashed-lacks : s.root_hash ≢ None → missing s.root ≡ 0
+  pub hashed-lacks : s.root_hash ≢ None → uncached_pages s.root ≡ 0
   hashed-lacks = none_of_hashed s.format bytes_of s.root s.root_hash sound.root_hash_holds sound.caches
 
   pub remove-free : has_key cmp (pairs s.root) k ≡ false → HasFreeGap cmp k s.root

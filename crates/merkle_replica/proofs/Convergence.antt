@@ -22,7 +22,7 @@ use Rattle.merkle_replica.specs.Laws.{Laws}
 use Rattle.merkle_replica.specs.Contents.{Side, with_rows, tree_map}
 use Rattle.merkle_replica.specs.Pulls.{Answer, IsPull, IsByTurns, HoldTheJoin}
 use Rattle.merkle_replica.specs.Faithful.{IsFaithful, AllFaithful}
-use Rattle.merkle_replica.proofs.Taken.{Taken, SameOrAbsent, keeps_join, takes_all, stays, there, there_left, there_right, there_one, taken_there}
+use Rattle.merkle_replica.proofs.PulledKeys.{Taken, SameOrAbsent, keeps_join, takes_all, stays, there, there_left, there_right, there_one, taken_there}
 use Rattle.merkle_replica.proofs.Bounds.{get_digests, ascending_digests, present_from, present_to, first_bound, present_head}
 use Rattle.merkle_replica.proofs.Listings.{AreListings}
 use Rattle.merkle_replica.proofs.Cover.{Lo, Hi, found_or_same, no_entry, first_there, last_there, all_in_first}

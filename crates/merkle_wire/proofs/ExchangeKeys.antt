@@ -20,7 +20,7 @@ use Rattle.merkle_replica.proofs.Descents.{some_is}
 use Rattle.merkle_tree_theory.specs.Tree.{Tree}
 use Rattle.merkle_wire.specs.Asking.{IsTakenFrom, all_whole}
 use Rattle.merkle_wire.specs.Found.{Found, nothing}
-use Rattle.merkle_wire.specs.Gaps.{IsGap, owned_gap}
+use Rattle.merkle_wire.specs.Gaps.{HasKeyBounds, owned_gap}
 use Rattle.merkle_wire.specs.Messages.{front}
 use Rattle.merkle_wire.specs.Next.{AsksOrGoesOn, IsNext}
 use Rattle.merkle_wire.specs.Outlines.{Outline, IsTold, nodes_among}
@@ -39,7 +39,7 @@ use Rattle.merkle_wire.specs.declared.question.Question.{Question}
 use Rattle.merkle_wire.specs.declared.question.Question.TheVariants.{Root, Outlines, Nodes, RowsAt, RowsIn}
 use Rattle.merkle_wire.proofs.Exchanges.{Tell, same_begin, sent_fits}
 use Rattle.merkle_wire.proofs.Fitting.{fits_read}
-use Rattle.merkle_wire.proofs.KeysKept.{outlines_keys, parts_keys, root_keys, rows_keys, taken_keys, whole_keys}
+use Rattle.merkle_wire.proofs.CatchUpKeys.{outlines_keys, parts_keys, root_keys, rows_keys, taken_keys, whole_keys}
 use Rattle.merkle_wire.proofs.PageCovers.{AreSides, nodes_peers}
 use Rattle.merkle_wire.proofs.StepCovers.{parts_theirs}
 use Rattle.merkle_wire.proofs.TellingQuestions.{SameGapTold, SameQuestion}
@@ -73,8 +73,8 @@ module _ {K : Type 0} (P Q : K → Type 0) (to : (k : K) → P k → Q k) where
   bound_read None p = tt
   bound_read (Some b) p = to b p
 
-  gaps_read : (gaps : List (OwnedGap K)) → AllByRecursion (λ g. IsGap P (owned_gap g)) gaps → AllByRecursion (λ g. IsGap Q (owned_gap g)) gaps
-  gaps_read gaps = each-with (λ g. IsGap P (owned_gap g)) (λ g. IsGap Q (owned_gap g)) gaps (λ g p. (bound_read g.after p.0, bound_read g.before p.1))
+  gaps_read : (gaps : List (OwnedGap K)) → AllByRecursion (λ g. HasKeyBounds P (owned_gap g)) gaps → AllByRecursion (λ g. HasKeyBounds Q (owned_gap g)) gaps
+  gaps_read gaps = each-with (λ g. HasKeyBounds P (owned_gap g)) (λ g. HasKeyBounds Q (owned_gap g)) gaps (λ g p. (bound_read g.after p.0, bound_read g.before p.1))
 
   pub question_read : (question : Question K) → IsQuestion P question → IsQuestion Q question
   question_read (Root settings) p = (p.0, sample settings.sample p.1)
@@ -114,7 +114,7 @@ module _ {K V H : Type 0} (laws : Laws K V H) (o : IsTotalOrder laws.cmp) (eqv :
   Keys = AreKeysOf IsKey
 
   abbrev Gaps : List (OwnedGap K) → Type 0
-  Gaps = AllByRecursion (λ g. IsGap IsKey (owned_gap g))
+  Gaps = AllByRecursion (λ g. HasKeyBounds IsKey (owned_gap g))
 
   abbrev IsAgain : Option (Question K) → Type 0
   IsAgain None = ⊤
@@ -142,9 +142,9 @@ module _ {K V H : Type 0} (laws : Laws K V H) (o : IsTotalOrder laws.cmp) (eqv :
       (same_begin laws o eqv encoding values tell n local peer root sides small (SameGapTold laws.cmp encoding) gaps gaps' told told' left answers.left alike are answers.begins) (fits_read laws local n told before after lies taken)
       (sent_fits laws o eqv encoding values tell n local peer root sides small with_pages told' answers.each) bytes in
       let all = subst Gaps are a in (
-        again_keys ask (λ g. IsGap IsKey (owned_gap g)) left again reads asks (each-behind (λ g. IsGap IsKey (owned_gap g)) (map (λ t. t.0) told) left all),
+        again_keys ask (λ g. HasKeyBounds IsKey (owned_gap g)) left again reads asks (each-behind (λ g. HasKeyBounds IsKey (owned_gap g)) (map (λ t. t.0) told) left all),
         outlines_keys laws o IsKey same local peer.rows (SameGapTold laws.cmp encoding) with_pages (λ g. items_over laws.cmp laws.bytes_of peer.tree g) nodes_keys told told' before after
-            (each-before (λ g. IsGap IsKey (owned_gap g)) (map (λ t. t.0) told) left all) lists answers.each taken keys,
+            (each-before (λ g. HasKeyBounds IsKey (owned_gap g)) (map (λ t. t.0) told) left all) lists answers.each taken keys,
       )
 
   parts_next : (gaps gaps' left : List (OwnedGap K)) (reply : List ℕ) (before after : Found K V) (again : Option (Question K)) (told' : List (OwnedGap K × Part K V)) → Gaps gaps → Keys before → SameLists (SameGapTold laws.cmp encoding) gaps gaps'
@@ -158,7 +158,7 @@ module _ {K V H : Type 0} (laws : Laws K V H) (o : IsTotalOrder laws.cmp) (eqv :
       let theirs = parts_theirs laws o eqv local (side peer) root peer.tree.root sides (SameGapTold laws.cmp encoding) (λ g h e. e.0) told told' lists answers.each in
       let row_keys = each-with (IsRowOfPeer laws local (side peer)) (λ r. IsKey r.0) rows (λ r (v, there, e). inr (v, there)) theirs in
       let all = subst Gaps are a in
-      let In : OwnedGap K → Type 0 = λ g. IsGap IsKey (owned_gap g) in
+      let In : OwnedGap K → Type 0 = λ g. HasKeyBounds IsKey (owned_gap g) in
       let behind_keys = parts_keys laws o IsKey same local told behind (each-before In (map (λ t. t.0) told) rest all) row_keys are_behind in (
         again_keys RowsIn In left again (λ xs g. g) asks (subst Gaps (sym is_left) (each-append In behind rest behind_keys (each-behind In (map (λ t. t.0) told) rest all))),
         rows_keys laws o IsKey same local before after (new_rows laws local rows) taken keys,

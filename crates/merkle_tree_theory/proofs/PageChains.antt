@@ -1,10 +1,10 @@
--- Pages of a path that are hung together.
+-- Pages of a path that are page_chain together.
 use Rattle.std.proofs.Common.{◌≡◌, ℕ, zero, suc, ◌-◌, ◌<◌, ◌≤◌, List, [], ◌∷◌, ◌++◌, length, take, drop, Option, None, refl, ap, sym, ◌∙◌, arith}
 use Rattle.std.specs.declared.boxed.Box.{Box}
 use Rattle.std.specs.declared.alloc.Global.{Global}
 use Rattle.merkle_tree_theory.specs.Tree.{Tree, page, Row, high, node, Held, nothing, below, Node, row}
-use Rattle.merkle_tree_theory.specs.Upsert.{as_held, kept}
-use Rattle.merkle_tree_theory.specs.Chain.{row_length, page_length, high_of, first_of, with_high, with_first, row_take, row_drop, remade, row_of_page, hung, HaveNodes}
+use Rattle.merkle_tree_theory.specs.Upsert.{as_held, row_digest_beside}
+use Rattle.merkle_tree_theory.specs.Chain.{row_length, page_length, high_of, first_of, with_high, with_first, row_take, row_drop, page_with_row, row_of_page, page_chain, HaveNodes}
 
 module _ {K D : Type 0} where
   pub row_length-row : (es : List (Node K D)) (h : Held K D) → row_length (row es h) ≡ length es
@@ -31,47 +31,47 @@ module _ {K D : Type 0} where
   row_drop-row (suc n) [] h = refl
   row_drop-row (suc n) (e ∷ es) h = row_drop-row n es h
 
-  -- a page that is hung and then loses its digest
-  pub remade-both : (t : Tree K D) (s : Row K D) → remade 1 (remade 0 t s) (row_of_page (remade 0 t s)) ≡ remade 1 t s
+  -- a page that is page_chain and then loses its digest
+  pub remade-both : (t : Tree K D) (s : Row K D) → page_with_row 1 (page_with_row 0 t s) (row_of_page (page_with_row 0 t s)) ≡ page_with_row 1 t s
   remade-both (page l c r) s = refl
 
-  remade-same : (m n : ℕ) (t : Tree K D) (s : Row K D) → 0 < m → 0 < n → remade m t s ≡ remade n t s
+  remade-same : (m n : ℕ) (t : Tree K D) (s : Row K D) → 0 < m → 0 < n → page_with_row m t s ≡ page_with_row n t s
   remade-same zero n t s p q = absurd (omega arith)
   remade-same (suc m) zero t s p q = absurd (omega arith)
   remade-same (suc m) (suc n) (page l c r) s p q = refl
 
   module _ (hang : Held K D → Row K D → Row K D) where
-    one : (m n : ℕ) (b : Box (Tree K D) Global) (h : Held K D) → m ≡ n → below (remade m b.value (hang h (row_of_page b.value))) ≡ below (remade n b.value (hang h (row_of_page b.value)))
-    one m n b h e = ap (λ k. below (remade k b.value (hang h (row_of_page b.value)))) e
+    one : (m n : ℕ) (b : Box (Tree K D) Global) (h : Held K D) → m ≡ n → below (page_with_row m b.value (hang h (row_of_page b.value))) ≡ below (page_with_row n b.value (hang h (row_of_page b.value)))
+    one m n b h e = ap (λ k. below (page_with_row k b.value (hang h (row_of_page b.value)))) e
 
-    -- the last page is hung where its digest stays only if no page behind it is stale
+    -- the last page is page_chain where its digest stays only if no page behind it is stale
     pub hung-last : (n : ℕ) (bs : List (Box (Tree K D) Global)) (b : Box (Tree K D) Global) (h : Held K D)
-        → hung hang n (bs ++ b ∷ []) h ≡ hung hang n bs (below (remade (n - length bs) b.value (hang h (row_of_page b.value))))
+        → page_chain hang n (bs ++ b ∷ []) h ≡ page_chain hang n bs (below (page_with_row (n - length bs) b.value (hang h (row_of_page b.value))))
     hung-last zero [] b h = one 0 (0 - 0) b h (omega arith)
     hung-last (suc n) [] b h = ap below (remade-same 1 (suc n - 0) b.value (hang h (row_of_page b.value)) (omega arith) (omega arith))
     hung-last zero (x ∷ xs) b h =
-        ap (λ g. below (remade 0 x.value (hang g (row_of_page x.value)))) (hung-last zero xs b h ∙ ap (hung hang zero xs) (one (0 - length xs) (0 - length (x ∷ xs)) b h (omega arith)))
+        ap (λ g. below (page_with_row 0 x.value (hang g (row_of_page x.value)))) (hung-last zero xs b h ∙ ap (page_chain hang zero xs) (one (0 - length xs) (0 - length (x ∷ xs)) b h (omega arith)))
     hung-last (suc n) (x ∷ xs) b h =
-        ap (λ g. below (remade 1 x.value (hang g (row_of_page x.value)))) (hung-last n xs b h ∙ ap (hung hang n xs) (one (n - length xs) (suc n - length (x ∷ xs)) b h (omega arith)))
+        ap (λ g. below (page_with_row 1 x.value (hang g (row_of_page x.value)))) (hung-last n xs b h ∙ ap (page_chain hang n xs) (one (n - length xs) (suc n - length (x ∷ xs)) b h (omega arith)))
 
     -- what the loop hangs: a page whose digest goes, and one whose digest stays
     pub hung-stale : (n : ℕ) (bs : List (Box (Tree K D) Global)) (b : Box (Tree K D) Global) (h : Held K D) → length bs < n
-        → hung hang n bs (below (remade 1 b.value (hang h (row_of_page b.value)))) ≡ hung hang n (bs ++ b ∷ []) h
-    hung-stale n bs b h r = ap (λ t. hung hang n bs (below t)) (remade-same 1 (n - length bs) b.value (hang h (row_of_page b.value)) (omega arith) (omega arith)) ∙ sym (hung-last n bs b h)
+        → page_chain hang n bs (below (page_with_row 1 b.value (hang h (row_of_page b.value)))) ≡ page_chain hang n (bs ++ b ∷ []) h
+    hung-stale n bs b h r = ap (λ t. page_chain hang n bs (below t)) (remade-same 1 (n - length bs) b.value (hang h (row_of_page b.value)) (omega arith) (omega arith)) ∙ sym (hung-last n bs b h)
 
     pub hung-kept : (n : ℕ) (bs : List (Box (Tree K D) Global)) (b : Box (Tree K D) Global) (h : Held K D) → n ≤ length bs
-        → hung hang n bs (below (remade 0 b.value (hang h (row_of_page b.value)))) ≡ hung hang n (bs ++ b ∷ []) h
-    hung-kept n bs b h r = ap (hung hang n bs) (one 0 (n - length bs) b h (omega arith)) ∙ sym (hung-last n bs b h)
+        → page_chain hang n bs (below (page_with_row 0 b.value (hang h (row_of_page b.value)))) ≡ page_chain hang n (bs ++ b ∷ []) h
+    hung-kept n bs b h r = ap (page_chain hang n bs) (one 0 (n - length bs) b h (omega arith)) ∙ sym (hung-last n bs b h)
 
     -- more than all pages are no more
-    pub hung-all : (m n : ℕ) (bs : List (Box (Tree K D) Global)) (h : Held K D) → length bs ≤ m → length bs ≤ n → hung hang m bs h ≡ hung hang n bs h
+    pub hung-all : (m n : ℕ) (bs : List (Box (Tree K D) Global)) (h : Held K D) → length bs ≤ m → length bs ≤ n → page_chain hang m bs h ≡ page_chain hang n bs h
     hung-all m n [] h p q = none m n
       where
-        none : (m n : ℕ) → hung hang m [] h ≡ hung hang n [] h
+        none : (m n : ℕ) → page_chain hang m [] h ≡ page_chain hang n [] h
         none m n = refl
     hung-all zero n (b ∷ bs) h p q = absurd (omega arith)
     hung-all (suc m) zero (b ∷ bs) h p q = absurd (omega arith)
-    hung-all (suc m) (suc n) (b ∷ bs) h p q = ap (λ g. below (remade 1 b.value (hang g (row_of_page b.value)))) (hung-all m n bs h (omega arith) (omega arith))
+    hung-all (suc m) (suc n) (b ∷ bs) h p q = ap (λ g. below (page_with_row 1 b.value (hang g (row_of_page b.value)))) (hung-all m n bs h (omega arith) (omega arith))
 
   pub have-last : (bs : List (Box (Tree K D) Global)) (b : Box (Tree K D) Global) → HaveNodes (bs ++ b ∷ []) → HaveNodes bs × (0 < page_length b.value)
   have-last [] b a = (tt, a.0)
@@ -82,14 +82,14 @@ module _ {K D : Type 0} where
   have-more (x ∷ xs) b a r = (a.0, have-more xs b a.1 r)
 
 module _ {K D : Type 0} (hang : Held K D → Row K D → Row K D) (n : ℕ) (bs : List (Box (Tree K D) Global)) (b : Box (Tree K D) Global) (h : Held K D) where
-  -- a step of the loop that hangs pages: the page t is hung in the form u, and then loses its digest or not
-  pub hang_stale : (t u v : Tree K D) → t ≡ b.value → u ≡ remade 0 t (hang h (row_of_page t)) → v ≡ remade 1 u (row_of_page u) → length bs < n → hung hang n bs (below v) ≡ hung hang n (bs ++ b ∷ []) h
+  -- a step of the loop that hangs pages: the page t is page_chain in the form u, and then loses its digest or not
+  pub hang_stale : (t u v : Tree K D) → t ≡ b.value → u ≡ page_with_row 0 t (hang h (row_of_page t)) → v ≡ page_with_row 1 u (row_of_page u) → length bs < n → page_chain hang n bs (below v) ≡ page_chain hang n (bs ++ b ∷ []) h
   hang_stale t u v e f g r =
-      ap (λ x. hung hang n bs (below x)) (g ∙ ap (λ x. remade 1 x (row_of_page x)) (f ∙ ap (λ x. remade 0 x (hang h (row_of_page x))) e) ∙ remade-both b.value (hang h (row_of_page b.value)))
+      ap (λ x. page_chain hang n bs (below x)) (g ∙ ap (λ x. page_with_row 1 x (row_of_page x)) (f ∙ ap (λ x. page_with_row 0 x (hang h (row_of_page x))) e) ∙ remade-both b.value (hang h (row_of_page b.value)))
       ∙ hung-stale hang n bs b h r
 
-  pub hang_kept : (t u : Tree K D) → t ≡ b.value → u ≡ remade 0 t (hang h (row_of_page t)) → n ≤ length bs → hung hang n bs (below u) ≡ hung hang n (bs ++ b ∷ []) h
-  hang_kept t u e f r = ap (λ x. hung hang n bs (below x)) (f ∙ ap (λ x. remade 0 x (hang h (row_of_page x))) e) ∙ hung-kept hang n bs b h r
+  pub hang_kept : (t u : Tree K D) → t ≡ b.value → u ≡ page_with_row 0 t (hang h (row_of_page t)) → n ≤ length bs → page_chain hang n bs (below u) ≡ page_chain hang n (bs ++ b ∷ []) h
+  hang_kept t u e f r = ap (λ x. page_chain hang n bs (below x)) (f ∙ ap (λ x. page_with_row 0 x (hang h (row_of_page x))) e) ∙ hung-kept hang n bs b h r
 
 -- rows at a key
 
@@ -117,18 +117,18 @@ module _ {K D : Type 0} where
   some-held l c (high h) p = absurd (omega arith)
   some-held l c (node h k d r) p = refl
 
-  pub some-kept : (c : Option (List ℕ)) (r : Row K D) → 0 < row_length r → kept r c ≡ None
+  pub some-kept : (c : Option (List ℕ)) (r : Row K D) → 0 < row_length r → row_digest_beside r c ≡ None
   some-kept c (high h) p = absurd (omega arith)
   some-kept c (node h k d r) p = refl
 
 pub page_length-is : {K D : Type 0} (t : Tree K D) → page_length t ≡ row_length (row_of_page t)
 page_length-is (page l c r) = refl
 
-pub remade-first : {K D : Type 0} (t : Tree K D) (i : ℕ) → remade 0 (remade 1 t (row_drop i (row_of_page t))) (with_first nothing (row_of_page (remade 1 t (row_drop i (row_of_page t))))) ≡ remade 1 t (with_first nothing (row_drop i (row_of_page t)))
+pub remade-first : {K D : Type 0} (t : Tree K D) (i : ℕ) → page_with_row 0 (page_with_row 1 t (row_drop i (row_of_page t))) (with_first nothing (row_of_page (page_with_row 1 t (row_drop i (row_of_page t))))) ≡ page_with_row 1 t (with_first nothing (row_drop i (row_of_page t)))
 remade-first (page l c r) i = refl
 
-pub first-remade : {K D : Type 0} (t : Tree K D) (i : ℕ) → first_of (row_of_page (remade 1 t (row_drop i (row_of_page t)))) ≡ first_of (row_drop i (row_of_page t))
+pub first-remade : {K D : Type 0} (t : Tree K D) (i : ℕ) → first_of (row_of_page (page_with_row 1 t (row_drop i (row_of_page t)))) ≡ first_of (row_drop i (row_of_page t))
 first-remade (page l c r) i = refl
 
-pub length_remade : {K D : Type 0} (t : Tree K D) (i : ℕ) → page_length (remade 1 t (row_drop i (row_of_page t))) ≡ page_length t - i
+pub length_remade : {K D : Type 0} (t : Tree K D) (i : ℕ) → page_length (page_with_row 1 t (row_drop i (row_of_page t))) ≡ page_length t - i
 length_remade (page l c r) i = length-drop i r

@@ -10,14 +10,14 @@ use Rattle.key_order.proofs.ListParts.{map-first, map-rest}
 use Rattle.merkle_tree_theory.specs.Tree.{Tree, page, Row, high, node, Held, nothing, below}
 use Rattle.merkle_tree_theory.specs.TreeOf.{root_of}
 use Rattle.merkle_tree_theory.specs.Page.{level, pairs, row_pairs, held_pairs}
-use Rattle.merkle_tree_theory.specs.Cache.{missing, row_missing, held_missing, CachesHold, RowCachesHold, HeldCachesHold}
+use Rattle.merkle_tree_theory.specs.Cache.{uncached_pages, row_uncached_pages, held_uncached_pages, CachesHold, RowCachesHold, HeldCachesHold}
 use Rattle.merkle_tree_theory.specs.Canonical.{IsCanonical, IsRow, IsGap, IsCanonicalRoot}
 use Rattle.merkle_tree_theory.specs.Upsert.{as_held}
 use Rattle.merkle_tree_theory.specs.Remove.{row_append, row_del, held_del, tree_del, root_del, row_entry, held_entry, tree_entry, HasFreeGap, RowHasFreeGap, HeldHasFreeGap}
-use Rattle.merkle_tree_theory.proofs.Sides.{has_key-append, none-before, none-after}
-use Rattle.merkle_tree_theory.proofs.Keeps.{rows_hold, as_held-gap, as_held-few, root_from}
-use Rattle.merkle_tree_theory.proofs.Set.{as_held-pairs}
-use Rattle.merkle_tree_theory.proofs.Joins.{append-pairs, append-row, append-hold, append-few}
+use Rattle.merkle_tree_theory.proofs.MapAtKey.{has_key-append, none-before, none-after}
+use Rattle.merkle_tree_theory.proofs.UpsertForm.{rows_hold, as_held-gap, as_held-few, root_from}
+use Rattle.merkle_tree_theory.proofs.UpsertMap.{as_held-pairs}
+use Rattle.merkle_tree_theory.proofs.GapUnions.{append-pairs, append-row, append-hold, append-few}
 use Rattle.merkle_tree_theory.proofs.Roots.{root-pairs}
 use Rattle.merkle_tree_theory.specs.declared.page_format.PageFormat.{PageFormat}
 
@@ -143,32 +143,32 @@ module _ {K : Type 0} (cmp : K → K → Ordering) (k : K) (format : PageFormat)
 -- how many digests are dropped
 module _ {K D : Type 0} (cmp : K → K → Ordering) (lev : K → ℕ) (k : K) where
   mutual
-    pub row_del-few : (l : ℕ) (r : Row K D) → IsRow lev l r → row_missing (row_del cmp k r) ≤ row_missing r + l
+    pub row_del-few : (l : ℕ) (r : Row K D) → IsRow lev l r → row_uncached_pages (row_del cmp k r) ≤ row_uncached_pages r + l
     row_del-few l (high h) p = held_del-few l h p
     row_del-few l (node h x e r) p = by (cmp k x) (row_del-few l r p.2) (held_del-few l h p.0)
       where
-        by : (q : Ordering) → row_missing (row_del cmp k r) ≤ row_missing r + l → held_missing (held_del cmp k h) ≤ held_missing h + l
-            → row_missing (match_ordering q (node (held_del cmp k h) x e r) (row_append (high h) r) (node h x e (row_del cmp k r))) ≤ row_missing (node h x e r) + l
+        by : (q : Ordering) → row_uncached_pages (row_del cmp k r) ≤ row_uncached_pages r + l → held_uncached_pages (held_del cmp k h) ≤ held_uncached_pages h + l
+            → row_uncached_pages (match_ordering q (node (held_del cmp k h) x e r) (row_append (high h) r) (node h x e (row_del cmp k r))) ≤ row_uncached_pages (node h x e r) + l
         by Less f g = omega (arith, g)
         by Equal f g = append-few lev l (high h) r p.0 p.2
         by Greater f g = omega (arith, f)
 
-    held_del-few : (b : ℕ) (h : Held K D) → IsGap lev b h → held_missing (held_del cmp k h) ≤ held_missing h + b
+    held_del-few : (b : ℕ) (h : Held K D) → IsGap lev b h → held_uncached_pages (held_del cmp k h) ≤ held_uncached_pages h + b
     held_del-few b nothing p = omega arith
     held_del-few b (below t) p = tree_del-few b t p.0 p.2
 
-    tree_del-few : (b : ℕ) (t : Tree K D) → level t < b → IsCanonical lev t → held_missing (tree_del cmp k t) ≤ missing t + b
-    tree_del-few b (page l c r) s p = omega (arith, as_held-few l b (row_missing r) None (row_del cmp k r) s (row_del-few l r p))
+    tree_del-few : (b : ℕ) (t : Tree K D) → level t < b → IsCanonical lev t → held_uncached_pages (tree_del cmp k t) ≤ uncached_pages t + b
+    tree_del-few b (page l c r) s p = omega (arith, as_held-few l b (row_uncached_pages r) None (row_del cmp k r) s (row_del-few l r p))
 
-  root_of-few : (a b : ℕ) (h : Held K D) → held_missing h ≤ a + (b + 1) → missing (root_of h) ≤ a + (b + 1)
+  root_of-few : (a b : ℕ) (h : Held K D) → held_uncached_pages h ≤ a + (b + 1) → uncached_pages (root_of h) ≤ a + (b + 1)
   root_of-few a b nothing s = omega arith
   root_of-few a b (below t) s = s
 
-  pub root_del-few : (t : Tree K D) → IsCanonicalRoot lev t → missing (root_del cmp k t) ≤ missing t + (level t + 1)
+  pub root_del-few : (t : Tree K D) → IsCanonicalRoot lev t → uncached_pages (root_del cmp k t) ≤ uncached_pages t + (level t + 1)
   root_del-few (page l c (high nothing)) p = omega arith
   root_del-few (page l c (high (below t))) p = absurd p
   root_del-few (page l c (node h x e r)) p =
-      root_of-few (missing (page l c (node h x e r))) l (tree_del cmp k (page l c (node h x e r))) (tree_del-few (l + 1) (page l c (node h x e r)) (omega arith) p)
+      root_of-few (uncached_pages (page l c (node h x e r))) l (tree_del cmp k (page l c (node h x e r))) (tree_del-few (l + 1) (page l c (node h x e r)) (omega arith) p)
 
 -- where the map has no such key, nothing is claimed of the gaps beside it
 or_false : (a b : Bool) → a || b ≡ false → (a ≡ false) × (b ≡ false)

@@ -18,7 +18,7 @@ use Rattle.merkle_wire.specs.declared.question.Question.{Question}
 use Rattle.merkle_wire.specs.declared.question.Question.TheVariants.{Root, Outlines, Nodes, RowsAt, RowsIn}
 use Rattle.merkle_wire.specs.declared.session_error.SessionError.{SessionError}
 use Rattle.merkle_wire.specs.declared.session_error.SessionError.TheVariants.{Malformed, Memory, NoNode, NotInGap, NothingCame, OtherKind, Refused, TooManyRounds, Twice}
-use Rattle.merkle_wire.proofs.Left.{some_mapped}
+use Rattle.merkle_wire.proofs.LeftToAsk.{some_mapped}
 
 module _ {K V H : Type 0} where
   -- a replica whose tree is hashed is the side that it was

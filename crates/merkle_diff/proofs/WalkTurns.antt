@@ -11,7 +11,7 @@ use Rattle.merkle_diff.specs.Stack.{Rest}
 use Rattle.merkle_diff.specs.Turn.{Leads, LeadsBoth, Ends, Enters, head_is, between_marks, gap_end_at, last_digest}
 use Rattle.merkle_diff.specs.Walk.{Walk, Mark, no_peer, outside, held, no_local, between, gap_mark, gap_start, after_within, after_holders}
 use Rattle.merkle_diff.specs.Walk.Mark.{Bad, Good}
-use Rattle.merkle_diff.proofs.Leads.{last_digest-is}
+use Rattle.merkle_diff.proofs.QueueSteps.{last_digest-is}
 use Rattle.merkle_diff.proofs.Queues.{Leaves-cons, front_of, front-is}
 use Rattle.merkle_diff.proofs.Stacks.{Agree, goes_into}
 

@@ -9,7 +9,7 @@ use Rattle.merkle_tree_theory.specs.Page.{row_nodes}
 use Rattle.merkle_tree_theory.specs.declared.page_format.PageFormat.{PageFormat}
 use Rattle.merkle_tree_theory.specs.declared.page_format.PageFormat.TheVariants.{V2}
 use Rattle.merkle_tree_theory.specs.Stream.{page_digest, row_stream, held_stream, stream_of, key_bytes}
-use Rattle.merkle_tree_theory.proofs.SameParts.{SameBelow, SameParts}
+use Rattle.merkle_tree_theory.proofs.EqualStreams.{SameBelow, SameParts}
 
 -- a hash has 16 bytes
 pub hash_length : (key message : List ℕ) → length (siphash128 key message) ≡ 16

@@ -6,10 +6,10 @@ use Rattle.std.specs.Ordering.{match_ordering, nat_cmp, MatchOrdering}
 use Rattle.std.specs.Cmp.{ranks}
 use Rattle.merkle_tree_theory.specs.Tree.{Tree, page, Row, high, node, Held, nothing, below}
 use Rattle.merkle_tree_theory.specs.Page.{pairs, row_pairs, held_pairs}
-use Rattle.merkle_tree_theory.specs.Cache.{missing, row_missing, held_missing, CachesHold, RowCachesHold, HeldCachesHold}
+use Rattle.merkle_tree_theory.specs.Cache.{uncached_pages, row_uncached_pages, held_uncached_pages, CachesHold, RowCachesHold, HeldCachesHold}
 use Rattle.merkle_tree_theory.specs.Canonical.{HasNode, IsRow, IsGap}
 use Rattle.merkle_tree_theory.specs.Remove.{under, tree_under, row_under, held_join, tree_join, row_append}
-use Rattle.merkle_tree_theory.proofs.Keeps.{rows_hold}
+use Rattle.merkle_tree_theory.proofs.UpsertForm.{rows_hold}
 use Rattle.merkle_tree_theory.specs.declared.page_format.PageFormat.{PageFormat}
 
 -- no pair is lost
@@ -112,30 +112,30 @@ module _ {K : Type 0} (format : PageFormat) (b : K → List ℕ) where
 
 -- how many digests are dropped
 module _ {K D : Type 0} (lev : K → ℕ) where
-  module _ (t : Tree K D) (l a : ℕ) (on : Row K D → Row K D) (z : a ≤ missing t) (f : (s : Row K D) → IsRow lev l s → row_missing (on s) ≤ a + row_missing s + l) where
-    under-few : (b : ℕ) (h : Held K D) → l < b → IsGap lev b h → held_missing (under t l on h) ≤ missing t + held_missing h + b
+  module _ (t : Tree K D) (l a : ℕ) (on : Row K D → Row K D) (z : a ≤ uncached_pages t) (f : (s : Row K D) → IsRow lev l s → row_uncached_pages (on s) ≤ a + row_uncached_pages s + l) where
+    under-few : (b : ℕ) (h : Held K D) → l < b → IsGap lev b h → held_uncached_pages (under t l on h) ≤ uncached_pages t + held_uncached_pages h + b
     under-few b nothing s p = omega arith
     under-few b (below (page m c (high h))) s p = absurd p.1
     under-few b (below (page m c (node h k d r))) s p = by (nat_cmp l m) (ranks l m) (λ q. under-few m h q p.2.0)
       where
-        by : (q : Ordering) → MatchOrdering q (l < m) (l ≡ m) (m < l) → (l < m → held_missing (under t l on h) ≤ missing t + held_missing h + m)
-            → missing (match_ordering q (page m None (node (under t l on h) k d r)) (page l None (on (node h k d r))) (page l None (on (high (below (page m c (node h k d r)))))))
-            ≤ missing t + missing (page m c (node h k d r)) + b
+        by : (q : Ordering) → MatchOrdering q (l < m) (l ≡ m) (m < l) → (l < m → held_uncached_pages (under t l on h) ≤ uncached_pages t + held_uncached_pages h + m)
+            → uncached_pages (match_ordering q (page m None (node (under t l on h) k d r)) (page l None (on (node h k d r))) (page l None (on (high (below (page m c (node h k d r)))))))
+            ≤ uncached_pages t + uncached_pages (page m c (node h k d r)) + b
         by Less q i = omega (arith, i q, p.0)
         by Equal q i = omega (arith, z, f (node h k d r) (subst (λ j. IsRow lev j (node h k d r)) (sym q) p.2), s)
         by Greater q i = omega (arith, z, f (high (below (page m c (node h k d r)))) (q, tt, p.2), s)
 
   mutual
-    pub join-few : (b : ℕ) (g h : Held K D) → IsGap lev b g → IsGap lev b h → held_missing (held_join g h) ≤ held_missing g + held_missing h + b
+    pub join-few : (b : ℕ) (g h : Held K D) → IsGap lev b g → IsGap lev b h → held_uncached_pages (held_join g h) ≤ held_uncached_pages g + held_uncached_pages h + b
     join-few b nothing h p q = omega arith
     join-few b (below t) h p q = tree_join-few b t h p q
 
-    tree_join-few : (b : ℕ) (t : Tree K D) (h : Held K D) → IsGap lev b (below t) → IsGap lev b h → held_missing (tree_join t h) ≤ missing t + held_missing h + b
+    tree_join-few : (b : ℕ) (t : Tree K D) (h : Held K D) → IsGap lev b (below t) → IsGap lev b h → held_uncached_pages (tree_join t h) ≤ uncached_pages t + held_uncached_pages h + b
     tree_join-few b (page l c (high g)) h p q = absurd p.1
     tree_join-few b (page l c (node g k d r)) h p q =
-        under-few (page l c (node g k d r)) l (row_missing (node g k d r)) (row_append (node g k d r)) (omega arith) (λ s i. omega (arith, append-few l r s p.2.2 i)) b h p.0 q
+        under-few (page l c (node g k d r)) l (row_uncached_pages (node g k d r)) (row_append (node g k d r)) (omega arith) (λ s i. omega (arith, append-few l r s p.2.2 i)) b h p.0 q
 
-    pub append-few : (l : ℕ) (r s : Row K D) → IsRow lev l r → IsRow lev l s → row_missing (row_append r s) ≤ row_missing r + row_missing s + l
+    pub append-few : (l : ℕ) (r s : Row K D) → IsRow lev l r → IsRow lev l s → row_uncached_pages (row_append r s) ≤ row_uncached_pages r + row_uncached_pages s + l
     append-few l (high g) (high h) p q = join-few l g h p q
     append-few l (high g) (node h k d s) p q = omega (arith, join-few l g h p q.0)
     append-few l (node h k d r) s p q = omega (arith, append-few l r s p.2 q)

@@ -6,9 +6,8 @@ use Rattle.std.specs.List.{AllByRecursion}
 use Rattle.std.specs.Cmp.{IsTotalOrder, IsEquivalence, tied_itself}
 use Rattle.key_order.specs.Map.{IsMap, get}
 use Rattle.key_order.specs.Order.{Same}
-use Rattle.key_order.specs.SameKeys.{SameKeys}
 use Rattle.key_order.proofs.ListParts.{each-append, each-before, each-behind, join_tells}
-use Rattle.key_order.proofs.SameKeys.{same_keys-back}
+use Rattle.key_order.proofs.SameKeys.{SameKeys, same_keys-back}
 use Rattle.key_order.proofs.SameMaps.{ascends, same_is_map}
 use Rattle.merkle_bytes.specs.Counts.{count_bytes}
 use Rattle.merkle_bytes.specs.Encodings.{SameLists}
@@ -30,7 +29,7 @@ use Rattle.merkle_tree_theory.proofs.InGaps.{all_within}
 use Rattle.merkle_tree_theory.proofs.PagesIn.{itself}
 use Rattle.merkle_tree_theory.proofs.SameRanges.{same-pairs}
 use Rattle.merkle_tree_theory.proofs.Sound.{level_low}
-use Rattle.merkle_tree_theory.proofs.Streams.{digest_length}
+use Rattle.merkle_tree_theory.proofs.StreamParts.{digest_length}
 use Rattle.merkle_wire.specs.Asking.{AsksForSome}
 use Rattle.merkle_wire.specs.Coming.{IsPageDigest}
 use Rattle.merkle_wire.specs.Fit.{IsFit, IsOutlineIn, IsPartIn}
@@ -52,7 +51,7 @@ use Rattle.merkle_wire.specs.declared.session_error.SessionError.{SessionError}
 use Rattle.merkle_wire.specs.declared.session_error.SessionError.TheVariants.{Malformed, Memory, NoNode, NotInGap, NothingCame, OtherKind, Refused, TooManyRounds, Twice}
 use Rattle.merkle_wire.specs.declared.wanted.Wanted.{Wanted}
 use Rattle.merkle_wire.proofs.Exchanges.{Tell, root_tells, same_begin, sent_fits}
-use Rattle.merkle_wire.proofs.Filled.{IsBelow, fills-alike, fills-same, parts_filled, same_level}
+use Rattle.merkle_wire.proofs.FilledGaps.{IsBelow, fills-alike, fills-same, parts_filled, same_level}
 use Rattle.merkle_wire.proofs.Fitting.{fits_read}
 use Rattle.merkle_wire.proofs.PageCovers.{AreSides, nodes_peers}
 use Rattle.merkle_wire.proofs.Sayable.{answers_say, outline_said, part_said, value_said}

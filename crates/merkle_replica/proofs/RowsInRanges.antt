@@ -11,7 +11,7 @@ use Rattle.key_order.specs.Join.{IsJoin, IsJoining}
 use Rattle.merkle_replica.specs.Answers.{IsDone, IsPartlyDone}
 use Rattle.merkle_replica.specs.Seek.{ranges_from, begins_upto}
 use Rattle.merkle_replica.proofs.Seeks.{swept, apart_from, map_drop, map_at, from_place, before_row}
-use Rattle.merkle_replica.proofs.Joined.{join_more, join_none}
+use Rattle.merkle_replica.proofs.PullRows.{join_more, join_none}
 
 module _ {K : Type 0} (cmp : K → K → Ordering) (o : IsTotalOrder cmp) where
   -- what the walk has left of the ranges and of the rows holds the rows that are still to be found

@@ -8,12 +8,12 @@ use Rattle.merkle_tree_theory.specs.Tree.{Tree, page, Row, high, node, Held, not
 use Rattle.merkle_tree_theory.specs.Page.{pairs, row_pairs, held_pairs}
 use Rattle.merkle_tree_theory.specs.Canonical.{HasNode, IsCanonical, IsRow, IsGap, IsCanonicalRoot}
 use Rattle.key_order.specs.Map.{IsMap, set}
-use Rattle.merkle_tree_theory.specs.Upsert.{as_held, kept, lower, upper, held_lower, held_upper, tree_lower, tree_upper, row_put, row_sink, held_set, tree_set, lifted}
+use Rattle.merkle_tree_theory.specs.Upsert.{as_held, row_digest_beside, lower, upper, held_lower, held_upper, tree_lower, tree_upper, row_put, row_sink, held_set, tree_set, lifted}
 use Rattle.merkle_tree_theory.proofs.Unique.{Under, Under-more, Under-row, Under-gap}
 use Rattle.key_order.proofs.Dels.{NoEqual}
 use Rattle.key_order.proofs.Orders.{same_down, low_is_up, turned}
 use Rattle.key_order.proofs.ListParts.{map-before, map-first, map-rest}
-use Rattle.merkle_tree_theory.proofs.Sides.{AllAbove, AllBelow, above-append, below-append, no_equal-first, no_equal-rest, no_equal-under, set-stop, set-front, set-pass, below-more, above-more, less-below, less-upto, greater-upto, not_above}
+use Rattle.merkle_tree_theory.proofs.MapAtKey.{AllAbove, AllBelow, above-append, below-append, no_equal-first, no_equal-rest, no_equal-under, set-stop, set-front, set-pass, below-more, above-more, less-below, less-upto, greater-upto, not_above}
 
 module _ {K D : Type 0} where
   pub as_held-pairs : (l : ℕ) (c : Option (List ℕ)) (r : Row K D) → held_pairs (as_held l c r) ≡ row_pairs r
@@ -39,8 +39,8 @@ module _ {K D : Type 0} (cmp : K → K → Ordering) (at : K) where
     pub tree_split-pairs : (t : Tree K D) → held_pairs (tree_lower cmp at t) ++ held_pairs (tree_upper cmp at t) ≡ pairs t
     tree_split-pairs (page l c (high h)) = held_split-pairs h
     tree_split-pairs (page l c (node h k d r)) =
-        (λ i. as_held-pairs l (kept (upper cmp at (node h k d r)) c) (lower cmp at (node h k d r)) i
-        ++ as_held-pairs l (kept (lower cmp at (node h k d r)) c) (upper cmp at (node h k d r)) i)
+        (λ i. as_held-pairs l (row_digest_beside (upper cmp at (node h k d r)) c) (lower cmp at (node h k d r)) i
+        ++ as_held-pairs l (row_digest_beside (lower cmp at (node h k d r)) c) (upper cmp at (node h k d r)) i)
         ∙ split-pairs (node h k d r)
 
 module _ {K D : Type 0} (cmp : K → K → Ordering) (o : IsTotalOrder cmp) (at : K) where
@@ -74,8 +74,8 @@ module _ {K D : Type 0} (cmp : K → K → Ordering) (o : IsTotalOrder cmp) (at 
     tree_split-sides (page l c (high h)) a ne = held_split-sides h a ne
     tree_split-sides (page l c (node h k d r)) a ne =
         let s = split-sides (node h k d r) a ne in (
-          subst (AllBelow cmp at) (sym (as_held-pairs l (kept (upper cmp at (node h k d r)) c) (lower cmp at (node h k d r)))) s.0,
-          subst (AllAbove cmp at) (sym (as_held-pairs l (kept (lower cmp at (node h k d r)) c) (upper cmp at (node h k d r)))) s.1,
+          subst (AllBelow cmp at) (sym (as_held-pairs l (row_digest_beside (upper cmp at (node h k d r)) c) (lower cmp at (node h k d r)))) s.0,
+          subst (AllAbove cmp at) (sym (as_held-pairs l (row_digest_beside (lower cmp at (node h k d r)) c) (upper cmp at (node h k d r)))) s.1,
         )
 
 module _ {K D : Type 0} (cmp : K → K → Ordering) (o : IsTotalOrder cmp) (lev : K → ℕ) (respects : (a b : K) → cmp a b ≡ Equal → lev a ≡ lev b) (n : ℕ) (k : K) (d : D) (at : lev k ≡ n) where

@@ -13,8 +13,8 @@ use Rattle.merkle_tree_theory.specs.Upsert.{held_lower, held_upper, tree_lower, 
 use Rattle.merkle_tree_theory.proofs.Unique.{Under-more, Under-row, Under-gap}
 use Rattle.key_order.proofs.Dels.{NoEqual}
 use Rattle.key_order.proofs.ListParts.{map-first, map-rest}
-use Rattle.merkle_tree_theory.proofs.Sides.{none-before, none-after, no_equal-first, no_equal-rest, no_equal-above, no_equal-below, no_equal-under, has_key-none, has_key-append}
-use Rattle.merkle_tree_theory.proofs.Set.{held_split-sides, tree_split-sides}
+use Rattle.merkle_tree_theory.proofs.MapAtKey.{none-before, none-after, no_equal-first, no_equal-rest, no_equal-above, no_equal-below, no_equal-under, has_key-none, has_key-append}
+use Rattle.merkle_tree_theory.proofs.UpsertMap.{held_split-sides, tree_split-sides}
 
 or_first : (a b c : Bool) → a || (b || c) ≡ true → b ≡ false → c ≡ false → a ≡ true
 or_first true b c e f g = refl

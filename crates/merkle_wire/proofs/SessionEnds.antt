@@ -7,7 +7,7 @@ use Rattle.std.specs.List.{AllByRecursion, filter}
 use Rattle.std.specs.Cmp.{IsTotalOrder, IsEquivalence, tied_back}
 use Rattle.std.specs.declared.cmp.Ordering.{Ordering}
 use Rattle.key_order.specs.Map.{SameMap, get, last_key}
-use Rattle.key_order.specs.SameKeys.{SameKeys}
+use Rattle.key_order.proofs.SameKeys.{SameKeys}
 use Rattle.key_order.proofs.Bools.{which}
 use Rattle.key_order.proofs.ListParts.{each-before, each-behind, join_tells}
 use Rattle.merkle_bytes.specs.Encodings.{SameLists}
@@ -38,14 +38,14 @@ use Rattle.merkle_wire.specs.declared.message.Kind.TheVariants.{Outlines as outl
 use Rattle.merkle_wire.specs.declared.question.Question.{Question}
 use Rattle.merkle_wire.specs.declared.question.Question.TheVariants.{Root, Outlines, Nodes, RowsAt, RowsIn}
 use Rattle.merkle_wire.proofs.Exchanges.{Tell, same_begin, sent_fits}
-use Rattle.merkle_wire.proofs.Filled.{fills-alike, fills-same}
+use Rattle.merkle_wire.proofs.FilledGaps.{fills-alike, fills-same}
 use Rattle.merkle_wire.proofs.Fitting.{fits_read}
-use Rattle.merkle_wire.proofs.KeysNext.{key_alike, of_tree}
+use Rattle.merkle_wire.proofs.ExchangeKeys.{key_alike, of_tree}
 use Rattle.merkle_wire.proofs.PageCovers.{AreSides, nodes_peers}
 use Rattle.merkle_wire.proofs.Sayable.{filled_ascends, filled_some, keys_in}
 use Rattle.merkle_wire.proofs.Outside.{ascend-alike}
 use Rattle.merkle_wire.proofs.SameNodes.{keys_over-same}
-use Rattle.merkle_wire.proofs.Steadily.{stay, up_root, up_tree}
+use Rattle.merkle_wire.proofs.SteadyCatchUps.{stay, up_root, up_tree}
 use Rattle.merkle_wire.proofs.StepCovers.{parts_theirs}
 use Rattle.merkle_wire.proofs.TellingQuestions.{SameGapTold, SameQuestion}
 use Rattle.merkle_wire.proofs.TellingReplies.{SameOutline, outlines_tell, parts_tell}

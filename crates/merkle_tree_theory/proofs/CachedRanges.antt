@@ -8,13 +8,13 @@ use Rattle.key_order.proofs.ListParts.{each-append, map-first, map-rest}
 use Rattle.merkle_tree_theory.specs.Tree.{Tree, page, Row, high, node, Held, nothing, below}
 use Rattle.merkle_tree_theory.specs.Page.{pairs, row_pairs, held_pairs, nodes_of, cache, pages_in_order, row_pages, held_pages}
 use Rattle.merkle_tree_theory.specs.Canonical.{HasNode, IsCanonical, IsRow, IsGap, IsCanonicalRoot}
-use Rattle.merkle_tree_theory.specs.Cache.{HasCache, EachHasCache, CachesHold, RowCachesHold, HeldCachesHold, missing}
+use Rattle.merkle_tree_theory.specs.Cache.{HasCache, EachHasCache, CachesHold, RowCachesHold, HeldCachesHold, uncached_pages}
 use Rattle.merkle_tree_theory.specs.Sound.{RootHashHolds}
 use Rattle.merkle_tree_theory.specs.Stream.{page_digest}
 use Rattle.merkle_tree_theory.specs.Ranges.{entry_of, ranges_of, row_ranges, held_ranges}
 use Rattle.merkle_tree_theory.specs.CachedRanges.{HasRange, as_list, range_from, cached_ranges, row_cached, held_cached}
 use Rattle.std.specs.List.{AllByRecursion}
-use Rattle.merkle_tree_theory.proofs.Keeps.{none_missing}
+use Rattle.merkle_tree_theory.proofs.UpsertForm.{none_missing}
 use Rattle.merkle_tree_theory.proofs.RangeKeys.{first_last, not-none}
 use Rattle.merkle_tree_theory.specs.declared.page_format.PageFormat.{PageFormat}
 
@@ -85,7 +85,7 @@ no_nodes (page l c (node h k d r)) e = absurd (not-none (held_pairs h) (k, d) (r
 
 module _ {K : Type 0} (format : PageFormat) (bytes_of : K → List ℕ) where
   -- a cached root hash is the root page's digest, and no page lacks a digest then
-  pub hashed_has : (h : Option (List ℕ)) (t : Tree K (List ℕ)) → RootHashHolds h (cache t) → CachesHold format bytes_of t → MatchOption h ⊤ (λ d. (d ≡ page_digest format bytes_of t) × (missing t ≡ 0))
+  pub hashed_has : (h : Option (List ℕ)) (t : Tree K (List ℕ)) → RootHashHolds h (cache t) → CachesHold format bytes_of t → MatchOption h ⊤ (λ d. (d ≡ page_digest format bytes_of t) × (uncached_pages t ≡ 0))
   hashed_has None t e c = tt
   hashed_has (Some d) (page l None r) e c = absurd (cc)
   hashed_has (Some d) (page l (Some x) r) e c = (some d x (sym e) ∙ c.0, none_missing format bytes_of (page l (Some x) r) x refl c)

@@ -12,9 +12,9 @@ use Rattle.merkle_replica.specs.Answers.{answer_of, IsRefused, StopsByTurns}
 use Rattle.merkle_replica.specs.ByTurns.{IsTurn, IsTurnRefused}
 use Rattle.merkle_replica.specs.declared.pull.Pulled.{Pulled}
 use Rattle.merkle_replica.specs.declared.pull.PullError.{PullError}
-use Rattle.merkle_replica.proofs.Converging.{converges}
+use Rattle.merkle_replica.proofs.Convergence.{converges}
 use Rattle.merkle_replica.proofs.Listings.{AreListings}
-use Rattle.merkle_replica.proofs.Sides.{same_side, rows_alone}
+use Rattle.merkle_replica.proofs.SideLaws.{same_side, rows_alone}
 
 one_more : {X Y : Type 0} (f : X → Y) (xs : List X) (x : X) (ys : List Y) → map f (xs ++ x ∷ []) ++ ys ≡ map f xs ++ f x ∷ ys
 one_more f [] x ys = refl

@@ -7,7 +7,7 @@ use Rattle.std.specs.Cmp.Lexicographic.{bytes_decides}
 use Rattle.std.specs.Option.{option_map}
 use Rattle.key_order.specs.Map.{get}
 use Rattle.key_order.specs.Order.{AnyByRecursion, Same}
-use Rattle.key_order.specs.SameKeys.{SameKeys}
+use Rattle.key_order.proofs.SameKeys.{SameKeys}
 use Rattle.key_order.proofs.Bools.{which}
 use Rattle.key_order.proofs.Maps.{get_same}
 use Rattle.merkle_bytes.specs.Encodings.{SameLists}

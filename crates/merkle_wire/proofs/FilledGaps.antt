@@ -5,7 +5,7 @@ use Rattle.std.specs.Cmp.{IsTotalOrder}
 use Rattle.std.specs.List.{AllByRecursion}
 use Rattle.std.specs.declared.cmp.Ordering.{Ordering}
 use Rattle.key_order.specs.Map.{IsMap, SameMap, rows_at}
-use Rattle.key_order.specs.SameKeys.{SameKeys}
+use Rattle.key_order.proofs.SameKeys.{SameKeys}
 use Rattle.key_order.proofs.Bools.{which}
 use Rattle.key_order.proofs.ListParts.{each-append}
 use Rattle.merkle_diff.proofs.Each.{each-with}
@@ -21,9 +21,9 @@ use Rattle.merkle_tree_theory.specs.Ranges.{IsPageIn}
 use Rattle.merkle_tree_theory.specs.Stream.{page_digest}
 use Rattle.merkle_tree_theory.specs.Tree.{Tree, page, Row, high, node, Held, nothing, below}
 use Rattle.merkle_tree_theory.specs.declared.page_format.PageFormat.{PageFormat}
-use Rattle.merkle_tree_theory.proofs.Descending.{outline_down}
+use Rattle.merkle_tree_theory.proofs.OutlineDescents.{outline_down}
 use Rattle.merkle_tree_theory.proofs.InGaps.{each_within, in_gap-same, is_after-alike, is_before-alike, is_in_gap-same, test_from_in_gap, within-append}
-use Rattle.merkle_tree_theory.proofs.Over.{filled_opens, over_inside}
+use Rattle.merkle_tree_theory.proofs.PageOverGap.{filled_opens, over_inside}
 use Rattle.merkle_tree_theory.proofs.PagesIn.{GoesDown, MatchRow, inside}
 use Rattle.merkle_tree_theory.proofs.SameRanges.{same-pairs}
 use Rattle.merkle_wire.specs.Outlines.{keys_among, nodes_among, pages_beside}

@@ -5,7 +5,7 @@ use Rattle.std.specs.List.{AllByRecursion, filter}
 use Rattle.std.specs.Cmp.{IsTotalOrder, tied_back}
 use Rattle.key_order.specs.Map.{SameMap, last_key}
 use Rattle.key_order.specs.Order.{Same}
-use Rattle.key_order.specs.SameKeys.{SameKeys}
+use Rattle.key_order.proofs.SameKeys.{SameKeys}
 use Rattle.key_order.proofs.ListParts.{each-append, each-before, each-behind}
 use Rattle.merkle_bytes.specs.Encodings.{SameLists}
 use Rattle.merkle_bytes.specs.Options.{IsOption}
@@ -16,7 +16,7 @@ use Rattle.merkle_tree_theory.specs.Gap.{Gap, SameBound, SameGap, everywhere, pa
 use Rattle.merkle_tree_theory.specs.Outline.{Item}
 use Rattle.merkle_wire.specs.Asking.{AsksForSome, IsTakenFrom, all_whole}
 use Rattle.merkle_wire.specs.Found.{Found}
-use Rattle.merkle_wire.specs.Gaps.{IsGap, owned_gap}
+use Rattle.merkle_wire.specs.Gaps.{HasKeyBounds, owned_gap}
 use Rattle.merkle_wire.specs.Outlines.{Outline, rows_told, digests_told, page_told, IsTold, keys_among, nodes_among}
 use Rattle.merkle_wire.specs.Questions.{IsQuestion}
 use Rattle.merkle_wire.specs.Replies.{Part}
@@ -25,7 +25,7 @@ use Rattle.merkle_wire.specs.Taking.{AreBehind, AreNewGaps, AreTaken, IsBehind, 
 use Rattle.merkle_wire.specs.declared.gaps.OwnedGap.{OwnedGap}
 use Rattle.merkle_wire.specs.declared.question.Question.{Question}
 use Rattle.merkle_wire.specs.declared.question.Question.TheVariants.{Root, Outlines, Nodes, RowsAt, RowsIn}
-use Rattle.merkle_wire.proofs.Covering.{each-filter}
+use Rattle.merkle_wire.proofs.RoundCovers.{each-filter}
 use Rattle.merkle_wire.proofs.TellingReplies.{SameOutline}
 
 module _ {K V H : Type 0} (laws : Laws K V H) (o : IsTotalOrder laws.cmp) (is_key : K → Type 0) (alike : (j k : K) → Same laws.cmp j k → is_key j → is_key k) (local : Side K V H) where
@@ -35,7 +35,7 @@ module _ {K V H : Type 0} (laws : Laws K V H) (o : IsTotalOrder laws.cmp) (is_ke
   bound_alike (Some a) None s p = absurd s
   bound_alike (Some a) (Some b) s p = alike a b s p
 
-  gap_alike : (g h : Gap K) → SameGap laws.cmp g h → IsGap is_key g → IsGap is_key h
+  gap_alike : (g h : Gap K) → SameGap laws.cmp g h → HasKeyBounds is_key g → HasKeyBounds is_key h
   gap_alike g h s p = (bound_alike g.after h.after s.0 p.0, bound_alike g.before h.before s.1 p.1)
 
   same_keys_each : (js ks : List K) → SameKeys laws.cmp js ks → AllByRecursion is_key ks → AllByRecursion is_key js
@@ -51,23 +51,23 @@ module _ {K V H : Type 0} (laws : Laws K V H) (o : IsTotalOrder laws.cmp) (is_ke
   same_nodes_each (n ∷ ns) (m ∷ ms) s a = (alike m.0 n.0 (tied_back o n.0 m.0 s.0) a.0, same_nodes_each ns ms s.2 a.1)
 
   -- gaps that are asked for next
-  or_none_keys : (g : Gap K) (new : List (Gap K)) → IsGapOrNone laws local g new → IsGap is_key g → AllByRecursion (IsGap is_key) new
+  or_none_keys : (g : Gap K) (new : List (Gap K)) → IsGapOrNone laws local g new → HasKeyBounds is_key g → AllByRecursion (HasKeyBounds is_key) new
   or_none_keys g [] one p = tt
   or_none_keys g (own ∷ []) one p = (gap_alike g own one p, tt)
   or_none_keys g (own ∷ other ∷ others) one p = absurd one
 
-  new_gap_keys : (g : Gap K) (page : Option (List ℕ)) (new : List (Gap K)) → IsNewGap laws local g page new → IsGap is_key g → AllByRecursion (IsGap is_key) new
-  new_gap_keys g None new none p = subst (AllByRecursion (IsGap is_key)) (sym none) tt
+  new_gap_keys : (g : Gap K) (page : Option (List ℕ)) (new : List (Gap K)) → IsNewGap laws local g page new → HasKeyBounds is_key g → AllByRecursion (HasKeyBounds is_key) new
+  new_gap_keys g None new none p = subst (AllByRecursion (HasKeyBounds is_key)) (sym none) tt
   new_gap_keys g (Some d) new is p = or_none_keys g new is.0 p
 
-  new_gaps_keys : (g : Gap K) (ks : List K) (pages : List (Option (List ℕ))) (new : List (Gap K)) → AreNewGaps laws local g ks pages new → IsGap is_key g → AllByRecursion is_key ks → AllByRecursion (IsGap is_key) new
+  new_gaps_keys : (g : Gap K) (ks : List K) (pages : List (Option (List ℕ))) (new : List (Gap K)) → AreNewGaps laws local g ks pages new → HasKeyBounds is_key g → AllByRecursion is_key ks → AllByRecursion (HasKeyBounds is_key) new
   new_gaps_keys g [] [] new is p a = absurd is
   new_gaps_keys g [] (page ∷ []) new is p a = new_gap_keys g page new is p
   new_gaps_keys g [] (page ∷ next ∷ pages) new is p a = absurd is
   new_gaps_keys g (k ∷ ks) [] new is p a = absurd is
   new_gaps_keys g (k ∷ ks) (page ∷ pages) new (first, rest, one, more, e) p a =
-      subst (AllByRecursion (IsGap is_key)) (sym e)
-      (each-append (IsGap is_key) first rest (new_gap_keys (part_before g k) page first one (p.0, a.0)) (new_gaps_keys (part_behind g k) ks pages rest more (a.0, p.1) a.1))
+      subst (AllByRecursion (HasKeyBounds is_key)) (sym e)
+      (each-append (HasKeyBounds is_key) first rest (new_gap_keys (part_before g k) page first one (p.0, a.0)) (new_gaps_keys (part_behind g k) ks pages rest more (a.0, p.1) a.1))
 
   new_keys_keys : (nodes : List (K × List ℕ)) → AllByRecursion (λ m. is_key m.0) nodes → AllByRecursion is_key (new_keys laws local nodes)
   new_keys_keys nodes a =
@@ -77,7 +77,7 @@ module _ {K V H : Type 0} (laws : Laws K V H) (o : IsTotalOrder laws.cmp) (is_ke
   abbrev Keys : Found K V → Type 0
   Keys = AreKeysOf is_key
 
-  one_keys : (rows : List (K × V)) (with_pages : Bool) (items : List (Item K (List ℕ))) (g : Gap K) (x y : Outline K V) (before after : Found K V) → AllByRecursion (λ m. is_key m.0) (nodes_among items) → IsGap is_key g
+  one_keys : (rows : List (K × V)) (with_pages : Bool) (items : List (Item K (List ℕ))) (g : Gap K) (x y : Outline K V) (before after : Found K V) → AllByRecursion (λ m. is_key m.0) (nodes_among items) → HasKeyBounds is_key g
       → SameOutline laws.cmp laws.eq x y → IsTold laws.cmp rows with_pages items y → IsTaken laws local g x before after → Keys before → Keys after
   one_keys rows with_pages items g (rows_told rs) y before after nodes p same told taken f =
       subst Keys (sym taken) (record { below = f.below; nodes = f.nodes; wanted = f.wanted; whole = f.whole })
@@ -87,8 +87,8 @@ module _ {K V H : Type 0} (laws : Laws K V H) (o : IsTotalOrder laws.cmp) (is_ke
   one_keys rows with_pages items g (page_told c js ps) (page_told d ks qs) before after nodes p same (with, is, are, beside) (gaps, own, new, one, few, taken) f =
       let keys = same_keys_each js (keys_among (nodes_among items)) (subst (SameKeys laws.cmp js) are same.1) (each-mapped (λ m. m.0) is_key (nodes_among items) nodes) in
       subst Keys (sym taken) (record {
-        below = each-append (IsGap is_key) before.below gaps f.below (new_gaps_keys g js ps gaps new p keys);
-        nodes = each-append (IsGap is_key) before.nodes own f.nodes (or_none_keys g own one p);
+        below = each-append (HasKeyBounds is_key) before.below gaps f.below (new_gaps_keys g js ps gaps new p keys);
+        nodes = each-append (HasKeyBounds is_key) before.nodes own f.nodes (or_none_keys g own one p);
         wanted = f.wanted;
         whole = f.whole;
       })
@@ -99,7 +99,7 @@ module _ {K V H : Type 0} (laws : Laws K V H) (o : IsTotalOrder laws.cmp) (is_ke
 
   -- what was told of pages is taken
   pub outlines_keys : (rows : List (K × V)) (E : OwnedGap K → OwnedGap K → Type 0) (with_pages : Bool) (items : OwnedGap K → List (Item K (List ℕ))) → ((g : OwnedGap K) → AllByRecursion (λ m. is_key m.0) (nodes_among (items g)))
-      → (ts us : List (OwnedGap K × Outline K V)) (before after : Found K V) → AllByRecursion (λ g. IsGap is_key (owned_gap g)) (map (λ t. t.0) ts) → SameLists (λ t u. E t.0 u.0 × SameOutline laws.cmp laws.eq t.1 u.1) ts us
+      → (ts us : List (OwnedGap K × Outline K V)) (before after : Found K V) → AllByRecursion (λ g. HasKeyBounds is_key (owned_gap g)) (map (λ t. t.0) ts) → SameLists (λ t u. E t.0 u.0 × SameOutline laws.cmp laws.eq t.1 u.1) ts us
       → AllByRecursion (λ u. IsTold laws.cmp rows with_pages (items u.0) u.1) us → AreTaken laws local ts before after → Keys before → Keys after
   outlines_keys rows E with_pages items nodes [] us before after p s told taken f = subst Keys (sym taken) f
   outlines_keys rows E with_pages items nodes (t ∷ ts) [] before after p s told taken f = absurd s
@@ -115,20 +115,20 @@ module _ {K V H : Type 0} (laws : Laws K V H) (o : IsTotalOrder laws.cmp) (is_ke
   last_is_key row [] a = a.0
   last_is_key row (next ∷ rows) a = last_is_key next rows a.1
 
-  behind_keys : (t : OwnedGap K × Part K V) (left : List (OwnedGap K)) → IsGap is_key (owned_gap t.0) → AllByRecursion (λ r. is_key r.0) t.1.rows → IsBehind laws local (owned_gap t.0) t.1 left → AllByRecursion (λ g. IsGap is_key (owned_gap g)) left
-  behind_keys t left p a (inl (all, none)) = subst (AllByRecursion (λ g. IsGap is_key (owned_gap g))) (sym none) tt
+  behind_keys : (t : OwnedGap K × Part K V) (left : List (OwnedGap K)) → HasKeyBounds is_key (owned_gap t.0) → AllByRecursion (λ r. is_key r.0) t.1.rows → IsBehind laws local (owned_gap t.0) t.1 left → AllByRecursion (λ g. HasKeyBounds is_key (owned_gap g)) left
+  behind_keys t left p a (inl (all, none)) = subst (AllByRecursion (λ g. HasKeyBounds is_key (owned_gap g))) (sym none) tt
   behind_keys t left p a (inr (row, rows, own, some, are, same, is)) =
       let last = last_is_key row rows (subst (AllByRecursion (λ r. is_key r.0)) are a) in
-      subst (AllByRecursion (λ g. IsGap is_key (owned_gap g))) (sym is) (gap_alike (part_behind (owned_gap t.0) (last_key row.0 rows)) (owned_gap own) same (last, p.1), tt)
+      subst (AllByRecursion (λ g. HasKeyBounds is_key (owned_gap g))) (sym is) (gap_alike (part_behind (owned_gap t.0) (last_key row.0 rows)) (owned_gap own) same (last, p.1), tt)
 
   -- the gaps behind parts of the rows in gaps
-  pub parts_keys : (ts : List (OwnedGap K × Part K V)) (left : List (OwnedGap K)) → AllByRecursion (λ g. IsGap is_key (owned_gap g)) (map (λ t. t.0) ts) → AllByRecursion (λ r. is_key r.0) (flat_map (λ t. t.1.rows) ts) → AreBehind laws local ts left
-      → AllByRecursion (λ g. IsGap is_key (owned_gap g)) left
-  parts_keys [] left p a none = subst (AllByRecursion (λ g. IsGap is_key (owned_gap g))) (sym none) tt
+  pub parts_keys : (ts : List (OwnedGap K × Part K V)) (left : List (OwnedGap K)) → AllByRecursion (λ g. HasKeyBounds is_key (owned_gap g)) (map (λ t. t.0) ts) → AllByRecursion (λ r. is_key r.0) (flat_map (λ t. t.1.rows) ts) → AreBehind laws local ts left
+      → AllByRecursion (λ g. HasKeyBounds is_key (owned_gap g)) left
+  parts_keys [] left p a none = subst (AllByRecursion (λ g. HasKeyBounds is_key (owned_gap g))) (sym none) tt
   parts_keys (t ∷ ts) left p a (first, rest, one, more, e) =
       let In : K × V → Type 0 = λ r. is_key r.0 in
-      subst (AllByRecursion (λ g. IsGap is_key (owned_gap g))) (sym e)
-      (each-append (λ g. IsGap is_key (owned_gap g)) first rest (behind_keys t first p.0 (each-before In t.1.rows (flat_map (λ x. x.1.rows) ts) a) one)
+      subst (AllByRecursion (λ g. HasKeyBounds is_key (owned_gap g))) (sym e)
+      (each-append (λ g. HasKeyBounds is_key (owned_gap g)) first rest (behind_keys t first p.0 (each-before In t.1.rows (flat_map (λ x. x.1.rows) ts) a) one)
       (parts_keys ts rest p.1 (each-behind In t.1.rows (flat_map (λ x. x.1.rows) ts) a) more))
 
   -- the root
@@ -136,19 +136,19 @@ module _ {K V H : Type 0} (laws : Laws K V H) (o : IsTotalOrder laws.cmp) (is_ke
   root_keys None before after e f = subst Keys (sym e) f
   root_keys (Some d) before after (inl (own, e)) f = subst Keys (sym e) f
   root_keys (Some d) before after (inr (inl e)) f =
-      subst Keys (sym e) (record { below = f.below; nodes = f.nodes; wanted = f.wanted; whole = each-append (IsGap is_key) before.whole (everywhere ∷ []) f.whole ((tt, tt), tt) })
+      subst Keys (sym e) (record { below = f.below; nodes = f.nodes; wanted = f.wanted; whole = each-append (HasKeyBounds is_key) before.whole (everywhere ∷ []) f.whole ((tt, tt), tt) })
   root_keys (Some d) before after (inr (inr e)) f =
-      subst Keys (sym e) (record { below = each-append (IsGap is_key) before.below (everywhere ∷ []) f.below ((tt, tt), tt); nodes = f.nodes; wanted = f.wanted; whole = f.whole })
+      subst Keys (sym e) (record { below = each-append (HasKeyBounds is_key) before.below (everywhere ∷ []) f.below ((tt, tt), tt); nodes = f.nodes; wanted = f.wanted; whole = f.whole })
 
   -- what is asked of what was found
   pub taken_keys : (question : Question K) (f after : Found K V) → AsksForSome question → Keys f → IsTakenFrom question f after → IsQuestion is_key question × Keys after
   taken_keys (Root settings) f after some keys t = absurd t
   taken_keys (Outlines most gaps) f after some keys (is, e) = (
-    (some.1, each-unmapped owned_gap (IsGap is_key) gaps.items (subst (AllByRecursion (IsGap is_key)) is keys.below)),
+    (some.1, each-unmapped owned_gap (HasKeyBounds is_key) gaps.items (subst (AllByRecursion (HasKeyBounds is_key)) is keys.below)),
     subst Keys (sym e) (record { below = tt; nodes = keys.nodes; wanted = keys.wanted; whole = keys.whole }),
   )
   taken_keys (Nodes most gaps) f after some keys (is, e) = (
-    (some.1, each-unmapped owned_gap (IsGap is_key) gaps.items (subst (AllByRecursion (IsGap is_key)) is keys.nodes)),
+    (some.1, each-unmapped owned_gap (HasKeyBounds is_key) gaps.items (subst (AllByRecursion (HasKeyBounds is_key)) is keys.nodes)),
     subst Keys (sym e) (record { below = keys.below; nodes = tt; wanted = keys.wanted; whole = keys.whole }),
   )
   taken_keys (RowsAt ws) f after some keys (is, e) = (
@@ -156,9 +156,9 @@ module _ {K V H : Type 0} (laws : Laws K V H) (o : IsTotalOrder laws.cmp) (is_ke
     subst Keys (sym e) (record { below = keys.below; nodes = keys.nodes; wanted = tt; whole = keys.whole }),
   )
   taken_keys (RowsIn gaps) f after some keys (is, e) = (
-    each-unmapped owned_gap (IsGap is_key) gaps.items (subst (AllByRecursion (IsGap is_key)) is keys.whole),
+    each-unmapped owned_gap (HasKeyBounds is_key) gaps.items (subst (AllByRecursion (HasKeyBounds is_key)) is keys.whole),
     subst Keys (sym e) (record { below = keys.below; nodes = keys.nodes; wanted = keys.wanted; whole = tt }),
   )
 
   pub whole_keys : (f : Found K V) → Keys f → Keys (all_whole f)
-  whole_keys f keys = record { below = tt; nodes = keys.nodes; wanted = keys.wanted; whole = each-append (IsGap is_key) f.whole f.below keys.whole keys.below }
+  whole_keys f keys = record { below = tt; nodes = keys.nodes; wanted = keys.wanted; whole = each-append (HasKeyBounds is_key) f.whole f.below keys.whole keys.below }

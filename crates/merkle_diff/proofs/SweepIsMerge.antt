@@ -6,7 +6,7 @@ use Rattle.std.specs.declared.cmp.Ordering.{Ordering}
 use Rattle.key_order.specs.Interval.{Span, IsOrdered, IsCovered, IsWithin}
 use Rattle.key_order.specs.Order.{Upto, Below, Same, AnyByRecursion, upto}
 use Rattle.merkle_diff.specs.Merge.{AreThose, IsMerge}
-use Rattle.merkle_diff.specs.Sweep.{greater, sweep, swept}
+use Rattle.merkle_diff.specs.Sweep.{greater, sweep, sweep_of}
 use Rattle.key_order.proofs.Orders.{same_down, up_self, up_up, low_up, up_low, not_both, low_is_up}
 use Rattle.merkle_diff.proofs.Ascents.{IsAscendingByStart}
 use Rattle.merkle_diff.proofs.Each.{any-get, any-with, each-with, each-both, each-mapped}
@@ -125,7 +125,7 @@ module _ {K : Type 0} (cmp : K → K → Ordering) (o : IsTotalOrder cmp) where
   pub swept-by : (P : List (Span K) → List (Span K) → Type 0) → P [] []
       → ((cur s : Span K) (ss out : List (Span K)) → Upto cmp s.first cur.last → Upto cmp cur.first s.first → P (grown cur s ∷ ss) out → P (cur ∷ s ∷ ss) out)
       → ((cur : Span K) (ts out : List (Span K)) → AllByRecursion (λ t. Below cmp cur.last t.first) ts → P ts out → P (cur ∷ ts) (cur ∷ out))
-      → (ss : List (Span K)) → IsAscendingByStart cmp ss → P ss (swept cmp ss)
+      → (ss : List (Span K)) → IsAscendingByStart cmp ss → P ss (sweep_of cmp ss)
   swept-by P none grows ends [] a = none
   swept-by P none grows ends (s ∷ ss) a = sweep-by s ss a
     where
@@ -139,10 +139,10 @@ module _ {K : Type 0} (cmp : K → K → Ordering) (o : IsTotalOrder cmp) where
               let l = by_above cmp o t.first cur.last e in
               ends cur (t ∷ ts) (sweep cmp t ts) (l, each-with (λ x. Upto cmp t.first x.first) (λ x. Below cmp cur.last x.first) ts (λ x u. low_up cmp o cur.last t.first x.first l u) a.1.0) q
 
-  pub swept-ordered : (ss : List (Span K)) → IsAscendingByStart cmp ss → AllByRecursion (IsOrdered cmp) ss → AllByRecursion (IsOrdered cmp) (swept cmp ss)
+  pub swept-ordered : (ss : List (Span K)) → IsAscendingByStart cmp ss → AllByRecursion (IsOrdered cmp) ss → AllByRecursion (IsOrdered cmp) (sweep_of cmp ss)
   swept-ordered = swept-by (λ ss out. AllByRecursion (IsOrdered cmp) ss → AllByRecursion (IsOrdered cmp) out) (λ d. d) (λ cur s ss out j a f d. f (ordered-grown cur s j a ss d)) (λ cur ts out b f d. (d.0, f d.1))
 
-  pub swept-merge : (ss : List (Span K)) → IsAscendingByStart cmp ss → AllByRecursion (IsOrdered cmp) ss → IsMerge cmp ss (swept cmp ss)
+  pub swept-merge : (ss : List (Span K)) → IsAscendingByStart cmp ss → AllByRecursion (IsOrdered cmp) ss → IsMerge cmp ss (sweep_of cmp ss)
   swept-merge = swept-by (λ ss out. AllByRecursion (IsOrdered cmp) ss → IsMerge cmp ss out) (λ d. none-merged cmp)
       (λ cur s ss out j a f d. merge-grown cur s j a ss out d (f (ordered-grown cur s j a ss d)))
       (λ cur ts out b f d. merge-apart cur ts d.0 (each-both (λ t. Below cmp cur.last t.first) (IsOrdered cmp) (λ t. Below cmp cur.last t.first × IsOrdered cmp t) ts (λ t u i. (u, i)) b d.1) out (f d.1))
