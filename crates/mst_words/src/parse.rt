@@ -255,13 +255,26 @@ pub fn given_of<'a>(
     finish(taken, &form)
 }
 
-/// Whether the words ask for help.
-fn asks_help(words: &[String]) -> bool {
+/// Whether the word behind this one is the value of an option that the command takes.
+fn is_before_value(form: &Form, word: &str) -> bool {
+    match setting_of(word) {
+        Some(setting) => form.settings.contains(&setting) && has_value(setting),
+        None => false,
+    }
+}
+
+/// Whether the words behind a command ask for help, where an option may stand: neither as the value of one, nor behind `--`.
+fn asks_help(form: &Form, words: &[String]) -> bool {
+    let mut is_value = false;
     for word in words {
+        if is_value {
+            is_value = false;
+            continue;
+        }
         match word.as_str() {
             "--help" | "-h" => return true,
             "--" => return false,
-            _ => {}
+            name => is_value = is_before_value(form, name),
         }
     }
     false
@@ -272,7 +285,7 @@ fn of_command<'a>(name: &'a str, words: &'a [String]) -> Result<Asked<'a>, Wrong
     let Some(verb) = verb_of(name) else {
         return Err(Wrong::NoSuchCommand(name));
     };
-    if asks_help(words) {
+    if asks_help(&form_of(verb), words) {
         return Ok(Asked::HelpOf(verb));
     }
     let (file, given) = given_of(verb, None, words)?;
