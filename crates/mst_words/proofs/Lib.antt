@@ -1,1 +1,2 @@
 pub mod HashKeyLemmas
+pub mod SpanLemmas

@@ -1,3 +1,4 @@
 pub mod HashKeys
 pub mod Names
+pub mod Spans
 pub mod Texts
