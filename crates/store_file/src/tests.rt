@@ -10,7 +10,7 @@ use crate::file::close_any;
 use crate::{OpenFault, Unsure, close, close_files, create, open};
 use sqlite_disk::{Disk, Files, Memory};
 use sqlite_pager::{Options, Pager};
-use sqlite_store::Unopened;
+use sqlite_store::{FileStore, Unopened};
 use sqlite_trees::error::StoreError;
 use sqlite_trees::schema::Object;
 use sqlite_trees::store::{Direction, Shape, Store};
@@ -36,11 +36,12 @@ fn blank(alloc: Global) -> Pair
     }
 }
 
-/// The files of a database whose tables have the names of a store's, and are made so.
-fn database(alloc: Global, entries: &str, notes: &str) -> Result<Pair, Fail>
-    ensures log { IfOk result (λ files. IsTrue (memory_is_usable (disk_below files.log))) }
-    ensures db { IfOk result (λ files. IsTrue (memory_is_usable (disk_below files.db))) }
-{
+/// A database over files in memory whose tables have the names of a store's, and are made so.
+fn open_database(
+    alloc: Global,
+    entries: &str,
+    notes: &str,
+) -> Result<FileStore<Unsure<Memory>>, Fail> {
     let size = PageSize::new(512).ok_or("a page size")?;
     let pager = Pager::new(alloc, blank(alloc), size, Options::new(7))?;
     let entry = Object {
@@ -58,9 +59,17 @@ fn database(alloc: Global, entries: &str, notes: &str) -> Result<Pair, Fail>
         ..entry
     };
     match Unopened::new(alloc, pager, &[entry, about])?.create() {
-        Ok(store) => Ok(close_any(store)?.0),
+        Ok(store) => Ok(store),
         Err((error, _)) => Err(Fail::from(error)),
     }
+}
+
+/// The files of such a database.
+fn database(alloc: Global, entries: &str, notes: &str) -> Result<Pair, Fail>
+    ensures log { IfOk result (λ files. IsTrue (memory_is_usable (disk_below files.log))) }
+    ensures db { IfOk result (λ files. IsTrue (memory_is_usable (disk_below files.db))) }
+{
+    Ok(close_any(open_database(alloc, entries, notes)?)?.0)
 }
 
 /// The files of an empty store.
@@ -163,6 +172,22 @@ fn opens_no_other_file(rt: HostRuntime) -> Result<(), Fail> {
     for entries in [FORMER_ENTRIES_SQL, ENTRIES_SQL] {
         let former = database(alloc, entries, FORMER_ABOUT_SQL)?;
         assert_eq!(rt; open(alloc, former).err(), Some(OpenFault::Format));
+    }
+    Ok(())
+}
+
+#[test]
+fn gives_back_no_other_file(rt: HostRuntime) -> Result<(), Fail> {
+    let alloc = rt.alloc();
+    for (entries, notes) in [
+        ("CREATE TABLE entry (a)", ABOUT_SQL),
+        (FORMER_ENTRIES_SQL, FORMER_ABOUT_SQL),
+        (ENTRIES_SQL, FORMER_ABOUT_SQL),
+    ] {
+        let other = open_database(alloc, entries, notes)?;
+        assert_eq!(rt; close_files(other).err(), Some(StoreError::Broken));
+        let other = open_database(alloc, entries, notes)?;
+        assert_eq!(rt; close(other).err(), Some(StoreError::Broken));
     }
     Ok(())
 }
