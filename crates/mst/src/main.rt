@@ -11,10 +11,10 @@ mod shell;
 mod tasks;
 
 use fault::Failure;
-use mst_commands::Fault;
 use mst_commands::escape::escape;
 use mst_words::verb::{HELP, VERSION, form_of};
 use mst_words::{Asked, Wrong, read_words};
+use std::alloc::AllocError;
 use std::env;
 use std::io::ErrorKind;
 use std::process::ExitCode;
@@ -69,6 +69,7 @@ fn main(rt: HostRuntime) -> ExitCode {
             Err(error) => failed(&rt, &Failure::from(error)),
         },
         Err(error) if error.kind() == ErrorKind::InvalidData => refused(&rt, &Wrong::NotText),
-        Err(_) => failed(&rt, &Failure::Command(Fault::System)),
+        // The words are refused for that alone, or for want of memory.
+        Err(_) => failed(&rt, &Failure::from(AllocError)),
     }
 }
