@@ -37,6 +37,14 @@ impl Closing for Log<FileTrees> {
     }
 }
 
+/// Closes the file of a log behind what was done on it. Where both failed, the reason is that of the first.
+pub fn close_behind<L: Closing, T: Drop>(log: L, done: Result<T, Failure>) -> Result<T, Failure> {
+    let closed = log.close_all();
+    let done = done?;
+    closed?;
+    Ok(done)
+}
+
 /// Whether there is such a file.
 fn is_there(rt: &HostRuntime, path: &str) -> Result<bool, OpenError> {
     Ok(fs::exists(rt, path)?)
@@ -128,8 +136,9 @@ where
 {
     let mut log = log;
     let made = create(rt.alloc(), &mut log, writer, hash_key);
-    log.close_all()?;
-    Ok(made?)
+    let closed = log.close_all();
+    made?;
+    closed
 }
 
 /// Makes a store in a file without bytes.

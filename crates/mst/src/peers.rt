@@ -5,7 +5,8 @@ use merkle_store::framing::{MOST_BYTES, Unwatched, Watch};
 use merkle_store::pulling::{self, Brought};
 use mst_commands::lines::write_keys;
 use sqlite_trees::store::Store as Trees;
-use std::io::{BufWriter, IsTerminal, Write};
+use std::io::{IsTerminal, Write};
+use store_table::table::Entries;
 
 /// How many bytes come between two lines on standard error.
 const LINE_BYTES: usize = 16_777_216;
@@ -83,17 +84,21 @@ pub fn pull<S: Trees + Drop>(rt: &HostRuntime, store: &mut Store<S>) -> Result<B
     )?)
 }
 
-/// Tells on standard error which keys a pull would bring, a line each.
-pub fn diff<S: Trees + Drop>(rt: &HostRuntime, store: &mut Store<S>) -> Result<(), Failure> {
-    let news = pulling::look(
+/// The entries that a pull would bring.
+pub fn look<S: Trees + Drop>(rt: &HostRuntime, store: &mut Store<S>) -> Result<Entries, Failure> {
+    Ok(pulling::look(
         store,
         &mut rt.stdin(),
         &mut rt.stdout(),
         MOST_BYTES,
         &mut Unwatched,
-    )?;
-    let mut out = BufWriter::new(rt.alloc(), rt.stderr())?;
-    write_keys(rt.alloc(), &mut out, &news)?;
-    out.flush()?;
+    )?)
+}
+
+/// Tells on standard error the keys of entries, a line each, once memory was found for all lines.
+pub fn tell_keys(rt: &HostRuntime, entries: &Entries) -> Result<(), Failure> {
+    let mut lines = Vec::new(rt.alloc());
+    write_keys(rt.alloc(), &mut lines, entries)?;
+    rt.stderr().write_all(&lines)?;
     Ok(())
 }

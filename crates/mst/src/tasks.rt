@@ -1,6 +1,6 @@
 //! What each command does.
 use crate::fault::Failure;
-use crate::files::{Closing, make_store, open_file};
+use crate::files::{Closing, close_behind, make_store, open_file};
 use crate::{peers, shell};
 use merkle_digest::RootHash;
 use merkle_store::Store;
@@ -81,13 +81,11 @@ where
     if verb == Verb::Pull {
         return run_pull(rt, store);
     }
-    let done = if verb == Verb::Serve {
-        peers::serve(rt, &mut store)
-    } else {
-        peers::diff(rt, &mut store)
-    };
-    store.into_log().close_all()?;
-    done
+    if verb == Verb::Diff {
+        return run_diff(rt, store);
+    }
+    let served = peers::serve(rt, &mut store);
+    close_behind(store.into_log(), served)
 }
 
 /// Brings what a peer has, and says what that was once the file is closed.
@@ -97,8 +95,19 @@ where
 {
     let mut store = store;
     let pulled = peers::pull(rt, &mut store);
-    store.into_log().close_all()?;
-    peers::tell(rt, &pulled?)
+    let brought = close_behind(store.into_log(), pulled)?;
+    peers::tell(rt, &brought)
+}
+
+/// Looks at what a pull would bring, and tells it once the file is closed.
+fn run_diff<S: Trees + Drop>(rt: &HostRuntime, store: Store<S>) -> Result<(), Failure>
+where
+    Log<S>: Closing,
+{
+    let mut store = store;
+    let looked = peers::look(rt, &mut store);
+    let news = close_behind(store.into_log(), looked)?;
+    peers::tell_keys(rt, &news)
 }
 
 /// Runs a command on a log that is open, and closes its file.
@@ -116,8 +125,7 @@ where
         return run_peer(rt, log, verb, time_of(rt, given)?);
     }
     let done = run_lent(rt, &mut log, verb, given);
-    log.close_all()?;
-    done
+    close_behind(log, done)
 }
 
 /// Prints how many bytes a file has.

@@ -262,8 +262,9 @@ fn commit_note<S: Store>(
 ///
 /// ```rust crates/mst/src/files.rt
 /// let made = create(rt.alloc(), &mut log, writer, hash_key);
-/// log.close_all()?;
-/// Ok(made?)
+/// let closed = log.close_all();
+/// made?;
+/// closed
 /// ```
 ///
 /// # Errors
