@@ -148,7 +148,15 @@ module _ (row : List (List ℕ)) where
   unfolding field_at
   no-time none number entry says within =
       let same : field_or_empty row 1 ≡ says.0 = ap (λ (r : List (List ℕ)). field_or_empty r 1) says.2 in
-      none (rw same (says.1.0, rw (← says.1.1) within.time))
+      let small : entry.1.time < 2 ^ 64 = omega (arith, within.time) in
+      none (rw same (says.1.0, rw (← says.1.1) small))
+
+  pub late-time : (time : ℕ) → time ≡ digits_value 10 (without_leading_plus (field_or_empty row 1)) → 2 ^ 63 ≤ time → SaysNone true row
+  unfolding field_at
+  late-time time is late number entry says within =
+      let same : field_or_empty row 1 ≡ says.0 = ap (λ (r : List (List ℕ)). field_or_empty r 1) says.2 in
+      let told : time ≡ entry.1.time = is ∙ ap (λ (digits : List ℕ). digits_value 10 (without_leading_plus digits)) same ∙ sym says.1.1 in
+      omega (arith, late, within.time, told)
 
   pub no-change : SaysNoChange row → SaysNone true row
   unfolding field_at

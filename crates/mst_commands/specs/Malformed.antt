@@ -17,10 +17,10 @@ use Rattle.mst_commands.specs.declared.fault.Fault.TheVariants as fault
 abbrev pub Begins : List ℕ → List (List (List ℕ)) → Type 0
 Begins text records = (state : State) × (left : List ℕ) × Reached default_config st.StartRecord (strip_bom text) records state left
 
--- key, writer and value have 1 MiB each at most, and the time is a number of 64 bits
+-- key, writer and value have 1 MiB each at most, and the time is one that there is, below 2^63
 pub record IsWithin (entry : Key × Register) : Type 0 where
   pub key : length (string_bytes entry.0) ≤ 1048576
-  pub time : entry.1.time < 2 ^ 64
+  pub time : entry.1.time < 2 ^ 63
   pub writer : length (string_bytes entry.1.writer) ≤ 1048576
   pub value : IfSome entry.1.value (λ text. length (string_bytes text) ≤ 1048576)
 

@@ -16,6 +16,9 @@ use store_table::{Register, StoreFault};
 /// How many bytes a key or a value has at most: 1 MiB.
 pub const MOST: usize = 1_048_576;
 
+/// The last time that there is, in milliseconds since 1970: the file holds times as numbers below 2^63.
+pub const LAST_TIME: u64 = 9_223_372_036_854_775_807;
+
 /// The first line of keys and values.
 pub const HEADER: &str = "key,value";
 
@@ -160,6 +163,9 @@ fn log_entry_of(alloc: Global, row: &StringRecord) -> Result<(String, Register),
     let Ok(time) = field(row, 1).parse::<u64>() else {
         return Err(Fault::BadLine(line_of(row), "the time is no number"));
     };
+    if time > LAST_TIME {
+        return Err(Fault::BadLine(line_of(row), "the time is above the last that there is"));
+    }
     let key = text_of(alloc, row, 0)?;
     let writer = text_of(alloc, row, 2)?;
     let value = change_of(alloc, row)?;

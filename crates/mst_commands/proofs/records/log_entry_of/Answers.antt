@@ -3,7 +3,7 @@ use Rattle.std.proofs.lemmas.Result.{err_from_is_err_and}
 use Rattle.csv.specs.Records.{fields_of}
 use Rattle.mst_commands.specs.Records.{field_or_empty}
 use Rattle.mst_commands.proofs.CsvLemmas.{five_fields}
-use Rattle.mst_commands.proofs.MalformedLemmas.{ends-for, long-log-key, long-writer, no-change, no-time}
+use Rattle.mst_commands.proofs.MalformedLemmas.{ends-for, late-time, long-log-key, long-writer, no-change, no-time}
 use Rattle.mst_commands.proofs.records.log_entry_of.Goals as goal
 
 pub returns-clause-says : goal.returns-clause-says
@@ -18,6 +18,11 @@ returns-clause-says c =
 
 pub returns-in_default-clause-none : goal.returns-in_default-clause-none
 returns-in_default-clause-none c = no-time (fields_of c.args.row.now) (rw c.field.ensures at c.in_default.ensures.value.0)
+
+pub returns-then-time-gt-LAST_TIME-clause-none : goal.returns-then-time-gt-LAST_TIME-clause-none
+returns-then-time-gt-LAST_TIME-clause-none c =
+    let parsed = rw c.field.ensures at c.in-Ok.ensures.value.0 in
+    late-time (fields_of c.args.row.now) c.in-Ok.time parsed.1 (omega arith)
 
 pub returns-in_err-key-clause-none : goal.returns-in_err-key-clause-none
 returns-in_err-key-clause-none c =
