@@ -12,7 +12,7 @@ pub enum StoreFault {
     Database(StoreError),
     /// Memory was refused.
     Memory,
-    /// A row of the table is no entry.
+    /// A row of the tables is neither an entry nor a note of a store.
     Malformed,
     /// The file is a database, but its tables are not those of a store.
     Foreign,
@@ -54,7 +54,9 @@ impl fmt::Display for StoreFault {
         match self {
             StoreFault::Database(error) => write!(f, "{error}"),
             StoreFault::Memory => f.write_str("out of memory"),
-            StoreFault::Malformed => f.write_str("a row of the store is no entry"),
+            StoreFault::Malformed => f.write_str(
+                "a row of the store is neither an entry nor its note",
+            ),
             StoreFault::Foreign => f.write_str("the file is a database, but no store"),
             StoreFault::Format(format) => write!(
                 f,
