@@ -169,7 +169,7 @@ impl<K: Ord + KeyBytes, V, H: Hasher<N, K>, const N: usize> MerkleSearchTree<K, 
             (IsHashed K.bytes_of self.old)) }
         ensures digest { result.now ≡ root_digest K.bytes_of self.old }
     {
-        let _ = self.root_hash_counted();
+        self.hash_pages();
         match &self.root_hash {
             Some(digest) => digest,
             None => unreachable!(),
@@ -185,9 +185,22 @@ impl<K: Ord + KeyBytes, V, H: Hasher<N, K>, const N: usize> MerkleSearchTree<K, 
         ensures count { result.1 ≡ min (uncached_pages self.old.root) (2 ^ 64 - 1) }
         ensures hashed { uncached_pages self.new.root ≡ 0 }
     {
+        let hashed = self.hash_pages();
+        match &self.root_hash {
+            Some(digest) => (RootHash::new(PageDigest::new(*digest.as_bytes())), hashed),
+            None => unreachable!(),
+        }
+    }
+
+    /// Fills in the digests that pages lack, keeps the root hash, and answers how many pages were hashed.
+    fn hash_pages(&mut self) -> usize
+        ensures tree { self.new ≡ hashed_tree K.bytes_of self.old }
+        ensures map { map_of self.new ≡ map_of self.old }
+        ensures count { result ≡ min (uncached_pages self.old.root) (2 ^ 64 - 1) }
+        ensures hashed { uncached_pages self.new.root ≡ 0 }
+    {
         let (digest, hashed) = self.root.fill(self.page_format);
-        let bytes = *digest.as_bytes();
         self.root_hash = Some(RootHash::new(digest));
-        (RootHash::new(PageDigest::new(bytes)), hashed)
+        hashed
     }
 }

@@ -5,7 +5,7 @@ use Rattle.merkle_tree_theory.specs.Cache.{uncached_pages}
 use Rattle.merkle_tree_theory.specs.Page.{pairs}
 use Rattle.merkle_tree_theory.specs.State.{State, map_of}
 use Rattle.merkle_tree_theory.proofs.FillingDigests.{pairs-filled, IsCanonicalRoot-filled, CachesHold-filled, cache-filled, missing-filled}
-use Rattle.merkle_search_tree.proofs.tree.MerkleSearchTree.root_hash_counted.Goals as goal
+use Rattle.merkle_search_tree.proofs.tree.MerkleSearchTree.hash_pages.Goals as goal
 
 pub fill-digest-requires : goal.fill-digest-requires
 fill-digest-requires g c = let fits = g.met.H.Hasher.fits in let holds = c.self.invariant.caches in search rules
