@@ -1,3 +1,4 @@
+mod Absent
 pub mod Partings
 pub mod SplitPages
 pub mod SameItems

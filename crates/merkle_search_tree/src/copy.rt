@@ -84,9 +84,8 @@ fn copy_below<K: Clone, D: Clone>(
 ) -> Result<Option<Box<PageOf<K, D>>>, AllocError>
     ensures { IfOk result (λ copy. HeldIsCopy K.is_clone D.is_clone (held_of held.now) (held_of copy)) }
 {
-    let page = match held {
-        None => return Ok(None),
-        Some(page) => page,
+    let Some(page) = held else {
+        return Ok(None);
     };
     let copy = page.copied(alloc)?;
     Ok(Some(Box::new(alloc, copy)?))

@@ -77,9 +77,8 @@ fn list_page<'a, K, D>(
 ) -> Result<(), AllocError>
     ensures { OnOk result (AddsItems (held_items cache (gap_of gap.entry) (held_of held.now)) list.old list.new) }
 {
-    let page = match held {
-        None => return Ok(()),
-        Some(page) => page,
+    let Some(page) = held else {
+        return Ok(());
     };
     if let Some(digest) = &page.tree_hash {
         list.push(OutlineItemOf::Page(gap, digest))?;

@@ -29,17 +29,15 @@ fn join_below<K: Drop, D: Drop>(
     ensures upper_unchanged { OnErr result (held_of upper.new ≡ held_of upper.old) }
     ensures succeeds { IsNothing (held_of lower.old) ⊎ IsNothing (held_of upper.old) → IsOk result }
 {
-    let low = match lower {
-        None => return Ok(()),
-        Some(page) => &mut **page,
+    let Some(page) = lower else {
+        return Ok(());
     };
-    let up = match upper {
-        None => {
-            mem::swap(lower, upper);
-            return Ok(());
-        }
-        Some(page) => &mut **page,
+    let low = &mut **page;
+    let Some(page) = upper else {
+        mem::swap(lower, upper);
+        return Ok(());
     };
+    let up = &mut **page;
     match low.level.cmp(&up.level) {
         Ordering::Less => {
             join_first(lower, &mut up.nodes, &mut up.high_page)?;
@@ -132,9 +130,8 @@ impl<K: Ord + Drop, D: Drop> PageOf<K, D> {
         let spot = search(&self.nodes, key);
         let at = spot.at;
         if at == self.nodes.len() {
-            let entry = match remove_below(&mut self.high_page, key)? {
-                None => return Ok(None),
-                Some(entry) => entry,
+            let Some(entry) = remove_below(&mut self.high_page, key)? else {
+                return Ok(None);
             };
             self.tree_hash = None;
             return Ok(Some(entry));
@@ -145,9 +142,8 @@ impl<K: Ord + Drop, D: Drop> PageOf<K, D> {
             return Ok(Some(entry));
         }
         let node = &mut self.nodes[at];
-        let entry = match remove_below(&mut node.lt_pointer, key)? {
-            None => return Ok(None),
-            Some(entry) => entry,
+        let Some(entry) = remove_below(&mut node.lt_pointer, key)? else {
+            return Ok(None);
         };
         self.tree_hash = None;
         Ok(Some(entry))
@@ -166,13 +162,11 @@ fn remove_below<K: Ord + Drop, D: Drop>(
     ensures unchanged { OnErr result (held_of held.new ≡ held_of held.old) }
     ensures succeeds { HeldHasFreeGap K.cmp key.now (held_of held.old) → IsOk result }
 {
-    let page = match held {
-        None => return Ok(None),
-        Some(page) => page,
+    let Some(page) = held else {
+        return Ok(None);
     };
-    let entry = match page.remove(key)? {
-        None => return Ok(None),
-        Some(entry) => entry,
+    let Some(entry) = page.remove(key)? else {
+        return Ok(None);
     };
     if page.nodes.is_empty() {
         let rest = mem::replace(&mut page.high_page, None);
@@ -195,9 +189,8 @@ impl<K: Ord + Drop, D: Drop> PageOf<K, D> {
         ensures unchanged { OnErr result (self.new ≡ self.old) }
         ensures succeeds { HasFreeGap K.cmp key.now self.old → IsOk result }
     {
-        let entry = match self.remove(key)? {
-            None => return Ok(None),
-            Some(entry) => entry,
+        let Some(entry) = self.remove(key)? else {
+            return Ok(None);
         };
         if self.nodes.is_empty() {
             match mem::replace(&mut self.high_page, None) {

@@ -63,9 +63,8 @@ pub(crate) fn first_behind<K: Ord, D>(nodes: &[NodeOf<K, D>], bound: Option<&K>)
     ensures found { result ≡ place_after K.cmp (bound_of bound.entry) nodes.now }
     ensures within { result ≤ length nodes.now }
 {
-    let key = match bound {
-        None => return 0,
-        Some(key) => key,
+    let Some(key) = bound else {
+        return 0;
     };
     let spot = search(nodes, key);
     if spot.at == nodes.len() {

@@ -392,9 +392,8 @@ impl<K: Ord + KeyBytes + Drop, V, H: Hasher<N, K>, const N: usize> MerkleSearchT
         ensures succeeds { HasFreeGap K.cmp key.now self.old.root → IsOk result }
         ensures succeeds_absent { has_key K.cmp (map_of self.old) key.now ≡ false → IsOk result }
     {
-        let entry = match self.root.remove_from_root(self.alloc, key)? {
-            None => return Ok(None),
-            Some(entry) => entry,
+        let Some(entry) = self.root.remove_from_root(self.alloc, key)? else {
+            return Ok(None);
         };
         self.root_hash = None;
         Ok(Some(entry))

@@ -88,9 +88,8 @@ impl<K: Ord + KeyBytes, V, H: Hasher<N, K>, const N: usize> MerkleSearchTree<K, 
             return Ok(None);
         }
         let mut list = Vec::new(self.alloc);
-        let page = match self.root.page_over(&gap) {
-            Some(page) => page,
-            None => return Ok(Some(list)),
+        let Some(page) = self.root.page_over(&gap) else {
+            return Ok(Some(list));
         };
         page.list_items(gap, &mut list)?;
         Ok(Some(list))

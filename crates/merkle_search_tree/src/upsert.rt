@@ -67,9 +67,8 @@ impl<K: Ord + Drop, D: Drop> PageOf<K, D> {
         ensures unchanged { OnErr result (self.new ≡ self.old) }
         ensures returned { IfErr result (λ refused. refused ≡ key) }
     {
-        let spare = match Spare::new(alloc, 1) {
-            Ok(spare) => spare,
-            Err(_) => return Err(UpsertRefused { key }),
+        let Ok(spare) = Spare::new(alloc, 1) else {
+            return Err(UpsertRefused { key });
         };
         let Spare {
             page: mut home,
@@ -122,9 +121,8 @@ fn set_in_page<K: Ord + Drop, D: Drop>(
         if nodes.reserve(1).is_err() {
             return Err(UpsertRefused { key });
         }
-        let low = match split_off_lt(alloc, high_page, &key) {
-            Ok(low) => low,
-            Err(_) => return Err(UpsertRefused { key }),
+        let Ok(low) = split_off_lt(alloc, high_page, &key) else {
+            return Err(UpsertRefused { key });
         };
         nodes.push_reserved(NodeOf {
             key,
@@ -141,9 +139,8 @@ fn set_in_page<K: Ord + Drop, D: Drop>(
     if nodes.reserve(1).is_err() {
         return Err(UpsertRefused { key });
     }
-    let low = match split_off_lt(alloc, &mut nodes[at].lt_pointer, &key) {
-        Ok(low) => low,
-        Err(_) => return Err(UpsertRefused { key }),
+    let Ok(low) = split_off_lt(alloc, &mut nodes[at].lt_pointer, &key) else {
+        return Err(UpsertRefused { key });
     };
     let node = NodeOf {
         key,
@@ -234,9 +231,8 @@ fn set_below<K: Ord + Drop, D: Drop>(
     if let Some(page) = held {
         return page.set(alloc, key, level, digest);
     }
-    let mut spare = match Spare::new(alloc, 1) {
-        Ok(spare) => spare,
-        Err(_) => return Err(UpsertRefused { key }),
+    let Ok(mut spare) = Spare::new(alloc, 1) else {
+        return Err(UpsertRefused { key });
     };
     spare.nodes.push_reserved(NodeOf {
         key,

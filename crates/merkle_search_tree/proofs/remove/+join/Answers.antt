@@ -4,22 +4,23 @@ use Rattle.std.specs.Ordering.{nat_cmp}
 use Rattle.merkle_tree_theory.specs.Tree.{page, high, below, row, held_of}
 use Rattle.merkle_tree_theory.specs.Remove.{held_join, row_append}
 use Rattle.merkle_tree_theory.proofs.Seams.{join_none, join_equal, join_greater, append_at, append_high, written_back}
+use Rattle.merkle_search_tree.proofs.Absent.{none_else}
 use Rattle.merkle_search_tree.proofs.remove.+join.Goals as goal
 
-pub join_below-returns-in-None-upper-clause-joined :
-    goal.join_below-returns-in-None-upper-clause-joined
-join_below-returns-in-None-upper-clause-joined g t c =
-    ap held_of c.swap.ensures.y_after ∙ ap below c.deref_mut.ensures.value ∙ sym (ap held_of c.in-Some.is) ∙ sym (join_none (held_of c.args.lower.now))
-    ∙ ap (held_join (held_of c.args.lower.now)) (sym (ap held_of c.in-None-upper.is))
+pub join_below-returns-in_default-upper-clause-joined :
+    goal.join_below-returns-in_default-upper-clause-joined
+join_below-returns-in_default-upper-clause-joined g t c =
+    ap held_of c.swap.ensures.y_after ∙ ap below c.deref_mut-low.ensures.value ∙ sym (ap held_of c.in-Some.is) ∙ sym (join_none (held_of c.args.lower.now))
+    ∙ ap (held_join (held_of c.args.lower.now)) (sym (ap held_of (none_else _ c.in_default-upper.not-Some)))
 
 pub join_below-returns-in-Ok-clause-joined : goal.join_below-returns-in-Ok-clause-joined
 join_below-returns-in-Ok-clause-joined g t c =
     let l = c.low.inside in
     let u = c.up.inside in
     let lower_is : below (page l.level l.tree_hash (row l.nodes.items (held_of l.high_page))) ≡ held_of c.args.lower.now =
-    ap below (c.low.view_is ∙ c.deref_mut.ensures.value) ∙ sym (ap held_of c.in-Some.is) in
+    ap below (c.low.view_is ∙ c.deref_mut-low.ensures.value) ∙ sym (ap held_of c.in-Some.is) in
     let upper_is : below (page u.level u.tree_hash (row u.nodes.items (held_of u.high_page))) ≡ held_of c.args.upper.now =
-    ap below (c.up.view_is ∙ c.deref_mut-in-Some-upper.ensures.value) ∙ sym (ap held_of c.in-Some-upper.is) in
+    ap below (c.up.view_is ∙ c.deref_mut-up.ensures.value) ∙ sym (ap held_of c.in-Some-upper.is) in
     let q : nat_cmp l.level u.level ≡ Equal = sym c.cmp.ensures ∙ c.in-Equal.is in
     let items : c.append.new.self.items ≡ l.nodes.items ++ c.join_first-in-Equal.new.nodes = c.in-Ok.ensures.items
     ∙ (λ i. c.in_ok-reserve-in-Equal.ensures.items i ++ written_back c.join_first-in-Equal.new.nodes u.nodes.items u.nodes.len (omega (arith, u.nodes.ok.0)) (c.in_ok-join_first-in-Equal.ensures.len ∙ ap length c.deref_mut-in-Equal.ensures.value) i) in
@@ -36,9 +37,9 @@ join_below-returns-in_ok-join_below-in-Greater-clause-joined g t c =
     let l = c.low.inside in
     let u = c.up.inside in
     let lower_is : below (page l.level l.tree_hash (row l.nodes.items (held_of l.high_page))) ≡ held_of c.args.lower.now =
-    ap below (c.low.view_is ∙ c.deref_mut.ensures.value) ∙ sym (ap held_of c.in-Some.is) in
+    ap below (c.low.view_is ∙ c.deref_mut-low.ensures.value) ∙ sym (ap held_of c.in-Some.is) in
     let upper_is : below (page u.level u.tree_hash (row u.nodes.items (held_of u.high_page))) ≡ held_of c.args.upper.now =
-    ap below (c.up.view_is ∙ c.deref_mut-in-Some-upper.ensures.value) ∙ sym (ap held_of c.in-Some-upper.is) in
+    ap below (c.up.view_is ∙ c.deref_mut-up.ensures.value) ∙ sym (ap held_of c.in-Some-upper.is) in
     let q : nat_cmp l.level u.level ≡ Greater = sym c.cmp.ensures ∙ c.in-Greater.is in
     ap held_of c.swap-in-Greater-2.ensures.y_after
     ∙ ap (λ h. below (page l.level None (row l.nodes.items h))) (ap held_of c.swap-in-Greater.ensures.x_after ∙ c.in_ok-join_below-in-Greater.ensures.joined ∙ ap (λ x. held_join (held_of l.high_page) (below x)) (sym c.up.view_is))

@@ -2,10 +2,11 @@ use Rattle.std.proofs.Common.{ap, sym, ◌∙◌, arith}
 use Rattle.merkle_tree_theory.specs.Lookup.{place_after}
 use Rattle.merkle_tree_theory.proofs.PageOverGap.{place_after-none, behind_end, behind_other, behind_there}
 use Rattle.merkle_search_tree.specs.Items.{bound_of}
+use Rattle.merkle_search_tree.proofs.Absent.{none_else}
 use Rattle.merkle_search_tree.proofs.spot.first_behind.Goals as goal
 
-pub returns-in-None-clause-found : goal.returns-in-None-clause-found
-returns-in-None-clause-found g c = let cmp = g.K.Ord.cmp in sym (ap (λ b. place_after cmp (bound_of b) c.args.nodes.now) c.in-None.is ∙ place_after-none cmp c.args.nodes.now)
+pub returns-in_default-clause-found : goal.returns-in_default-clause-found
+returns-in_default-clause-found g c = let cmp = g.K.Ord.cmp in sym (ap (λ b. place_after cmp (bound_of b) c.args.nodes.now) (none_else _ c.in_default.not-Some) ∙ place_after-none cmp c.args.nodes.now)
 
 pub returns-then-spot-nodes-clause-found : goal.returns-then-spot-nodes-clause-found
 returns-then-spot-nodes-clause-found g c =

@@ -15,8 +15,8 @@ returns-then-is_err-clause-absent g c =
     let all = all_below g.K.Ord.cmp c.args.key c.search-spot.ensures.found c.deref.ensures.value c.if-at-len.true c.len.ensures c.args.nodes.now.ok.0 in
     λ n. finds_high g.K.Ord.cmp n c.args.key c.args.digest false c.args.nodes.now.items (held_of c.args.high_page.now) all
 
-pub returns-in-Err-clause-absent : goal.returns-in-Err-clause-absent
-returns-in-Err-clause-absent g c =
+pub returns-in_default-clause-absent : goal.returns-in_default-clause-absent
+returns-in_default-clause-absent g c =
     let all = all_below g.K.Ord.cmp c.args.key c.search-spot.ensures.found c.deref.ensures.value c.if-at-len.true c.len.ensures c.args.nodes.now.ok.0 in
     λ n. finds_high g.K.Ord.cmp n c.args.key c.args.digest false c.args.nodes.now.items (held_of c.args.high_page.now) all
 
@@ -49,17 +49,17 @@ returns-then-is_err-2-clause-absent g c =
     let other = key_elsewhere g.K.Ord.cmp c.args.key i c.search-spot.ensures.there c.deref.ensures.value c.if-spot.false x within in
     λ n. finds_at g.K.Ord.cmp n c.args.key c.args.digest false c.args.nodes.now.items (held_of c.args.high_page.now) i x at within other
 
-pub returns-in-Err-split_off_lt-clause-unchanged : goal.returns-in-Err-split_off_lt-clause-unchanged
-returns-in-Err-split_off_lt-clause-unchanged g c =
+pub returns-in_default-split_off_lt-clause-unchanged : goal.returns-in_default-split_off_lt-clause-unchanged
+returns-in_default-split_off_lt-clause-unchanged g c =
     let n = c.behind-nodes.inside in
     let within = one_at c.search-spot.ensures.within c.deref.ensures.value c.if-at-len.false c.len.ensures c.args.nodes.now.ok.0 in
     let back = c.reserve-2.ensures.items in
     let within' : c.search-spot.result.at < length c.reserve-2.new.self.items = omega (arith, within, ap length back) in
-    let same = lt_back c.reserve-2.new.self.items c.search-spot.result.at n.key n.value_hash within' c.index_mut.ensures.value c.behind-nodes.view_is c.in-Err-split_off_lt.ensures.unchanged in
+    let same = lt_back c.reserve-2.new.self.items c.search-spot.result.at n.key n.value_hash within' c.index_mut.ensures.value c.behind-nodes.view_is c.in_default-split_off_lt.ensures.unchanged in
     ap (λ ys. row ys (held_of c.args.high_page.now)) (same ∙ back)
 
-pub returns-in-Err-split_off_lt-clause-absent : goal.returns-in-Err-split_off_lt-clause-absent
-returns-in-Err-split_off_lt-clause-absent g c =
+pub returns-in_default-split_off_lt-clause-absent : goal.returns-in_default-split_off_lt-clause-absent
+returns-in_default-split_off_lt-clause-absent g c =
     let i = c.search-spot.result.at in
     let x = c.index_mut.result.now in
     let at = c.search-spot.ensures.found ∙ ap (place g.K.Ord.cmp c.args.key) c.deref.ensures.value in
