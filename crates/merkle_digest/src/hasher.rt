@@ -8,6 +8,18 @@ use crate::digest::Digest;
 ///
 /// The digest is a function of the hasher and the value, so peers whose hashers are equal give equal digests. Every
 /// implementation proves that equal values get equal digests.
+///
+/// ```rust crates/mst_c/src/byte_hasher.rt
+/// ghost digest_of = { λ hashing key. key_digest hashing key.items };
+///
+/// ghost respects_eq = { λ hashing a b equal. ap (key_digest hashing) (same_text a.items b.items (sym equal)) };
+///
+/// ghost fits = { lit< tt };
+///
+/// fn hash(&self, value: &Vec<u8>) -> Digest<16> {
+///     Digest::new(self.hash_key(value.as_slice()))
+/// }
+/// ```
 pub trait Hasher<const N: usize, T: Eq> {
     /// The bytes of the digest of a value under a hasher.
     ghost digest_of: { Self → T → List ℕ };

@@ -13,6 +13,11 @@ use std::num::NonZeroU8;
 /// In base 16 it is the number of zeros at the front of the digest's base 16 digits, the lower digit of each byte first. So a key of a
 /// good hash function is on level 1 or above with a chance of about one in 16 (Auvolat and Taïani). It reads the digest up to its
 /// first byte that isn't zero.
+///
+/// ```rust crates/digest_tests/src/shown.rt
+/// let digest = Digest::new([0x00, 0x10, 0x00, 0x11]);
+/// assert_eq!(rt; level(&digest, default_level_base()), 3);
+/// ```
 pub fn level<const N: usize>(digest: &Digest<N>, base: NonZeroU8) -> u8
     ensures { result ≡ level_of digest.now (non_zero_u8_get base) }
 {
