@@ -1,6 +1,8 @@
 //! What the doc comments of `merkle_diff` show.
-use merkle_diff::parts::RangeList;
-use merkle_diff::{OwnedPageRange, PageRange, PageRangeSnapshot, diff, diff_snapshots};
+use merkle_diff::parts::{DiffListBuilder, RangeList};
+use merkle_diff::{
+    OwnedPageRange, PageRange, PageRangeSnapshot, diff, diff_lists, diff_slices, diff_snapshots,
+};
 use merkle_digest::PageDigest;
 use std::test::Fail;
 
@@ -52,5 +54,27 @@ fn ranges_that_meet_become_one(rt: HostRuntime) -> Result<(), Fail> {
     assert_eq!(rt; merged.len(), 2);
     assert_eq!(rt; (*merged[0].start(), *merged[0].end()), (2, 9));
     assert_eq!(rt; (*merged[1].start(), *merged[1].end()), (12, 15));
+    Ok(())
+}
+
+#[test]
+fn lists_at_hand_and_marks(rt: HostRuntime) -> Result<(), Fail> {
+    let alloc = rt.alloc();
+    let local = [PageRange::new(&1, &4, digest(1))];
+    let peer = [PageRange::new(&1, &5, digest(2))];
+    let found = diff_slices(alloc, &local, &peer)?;
+    assert_eq!(rt; found.len(), 1);
+    assert_eq!(rt; (*found[0].start(), *found[0].end()), (1, 5));
+    let mut theirs = Vec::new(alloc);
+    theirs.push(PageRange::new(&1, &5, digest(2)))?;
+    let found = diff_lists(alloc, Vec::new(alloc), theirs)?;
+    assert_eq!(rt; found.len(), 1);
+    assert_eq!(rt; (*found[0].start(), *found[0].end()), (1, 5));
+    let mut builder = DiffListBuilder::new(alloc);
+    builder.inconsistent(&1, &5)?;
+    builder.consistent(&1, &2)?;
+    let left = builder.into_diff_vec()?;
+    assert_eq!(rt; left.len(), 1);
+    assert_eq!(rt; (*left[0].start(), *left[0].end()), (2, 5));
     Ok(())
 }

@@ -13,6 +13,14 @@ use std::alloc::{AllocError, Global};
 
 /// The ranges of keys that `local` may ask of `peer`, two vectors, as [`diff`](crate::diff) answers them, and at its cost.
 ///
+/// ```rust crates/diff_tests/src/shown.rt
+/// let mut theirs = Vec::new(alloc);
+/// theirs.push(PageRange::new(&1, &5, digest(2)))?;
+/// let found = diff_lists(alloc, Vec::new(alloc), theirs)?;
+/// assert_eq!(rt; found.len(), 1);
+/// assert_eq!(rt; (*found[0].start(), *found[0].end()), (1, 5));
+/// ```
+///
 /// # Errors
 ///
 /// Want of memory, and only where a range may be answered; else the answer is the empty list.
@@ -30,6 +38,14 @@ pub fn diff_lists<'p, K: Ord>(
 
 /// The ranges of keys that `local` may ask of `peer`, two slices, as [`diff`](crate::diff) answers them, and at its cost. It copies one
 /// page range after the other, and takes no memory for that.
+///
+/// ```rust crates/diff_tests/src/shown.rt
+/// let local = [PageRange::new(&1, &4, digest(1))];
+/// let peer = [PageRange::new(&1, &5, digest(2))];
+/// let found = diff_slices(alloc, &local, &peer)?;
+/// assert_eq!(rt; found.len(), 1);
+/// assert_eq!(rt; (*found[0].start(), *found[0].end()), (1, 5));
+/// ```
 ///
 /// # Errors
 ///

@@ -9,6 +9,15 @@ use std::alloc::{AllocError, Global};
 
 /// Ranges of keys that are known to be inconsistent, and ranges that are known to be consistent. A key strictly inside a consistent
 /// range is not asked for, whatever else is known of it.
+///
+/// ```rust crates/diff_tests/src/shown.rt
+/// let mut builder = DiffListBuilder::new(alloc);
+/// builder.inconsistent(&1, &5)?;
+/// builder.consistent(&1, &2)?;
+/// let left = builder.into_diff_vec()?;
+/// assert_eq!(rt; left.len(), 1);
+/// assert_eq!(rt; (*left[0].start(), *left[0].end()), (2, 5));
+/// ```
 #[derive(Drop)]
 pub struct DiffListBuilder<'a, K: Ord> {
     inconsistent: RangeList<'a, K>,
