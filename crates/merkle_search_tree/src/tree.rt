@@ -190,6 +190,15 @@ impl<K: Ord + KeyBytes, V, H: Hasher<N, K>, const N: usize> MerkleSearchTree<K, 
 
     /// For the root page, the place of the first node whose key is at least `key`, or the number of nodes; and how many nodes' keys
     /// were compared, by halving, at most the number of binary digits of the number of nodes. It takes no memory.
+    ///
+    /// ```rust crates/tree_tests/src/places.rt
+    /// let keys = keys_of(alloc, "2:0 4:0 6:0")?;
+    /// let page = tree(alloc, &keys)?;
+    /// for (key, place) in [(5, 2), (6, 2), (7, 3), (1, 0)] {
+    ///     let (found, compared) = page.find_counted(&number_key(key));
+    ///     assert!(rt; found == place && compared <= 2, "{key}");
+    /// }
+    /// ```
     pub fn find_counted(&self, key: &K) -> (usize, usize)
         ensures place { result.0 ≡ place K.cmp key.now (nodes_of self.now.root) }
         ensures counted { ComparesByHalves K.cmp key.now result.1 (nodes_of self.now.root) }
@@ -234,6 +243,15 @@ impl<K: Ord + KeyBytes, V, H: Hasher<N, K>, const N: usize> MerkleSearchTree<K, 
     ///
     /// It makes at most three calls for each node and two for each page, compares no keys, and takes no memory of its own. Its recursion
     /// is as deep as the tree, at most 256 pages.
+    ///
+    /// ```rust crates/tree_tests/src/traversals.rt
+    /// let mut recorder = Recorder {
+    ///     calls: Vec::new(alloc),
+    ///     last,
+    /// };
+    /// tree.in_order_traversal(&mut recorder);
+    /// Ok(recorder.calls)
+    /// ```
     pub fn in_order_traversal<T: Visitor<N, K>>(&self, visitor: &mut T)
         ensures visited { (all : Bool) × Visits T.step visitor.old (events_of false self.now.root) all visitor.new }
     {
@@ -244,6 +262,12 @@ impl<K: Ord + KeyBytes, V, H: Hasher<N, K>, const N: usize> MerkleSearchTree<K, 
 impl<K: Key, V, H: Hasher<N, K> + Clone, const N: usize> MerkleSearchTree<K, V, H, N> {
     /// A tree of an equal map, with equal pages, all cached digests included, a clone of the hasher, and the same level base, page format
     /// and cached root hash. It clones each key once, and hashes nothing.
+    ///
+    /// ```rust crates/main_theorem/src/after.rt
+    /// let copy = replica.tree().try_clone()?;
+    /// every_tree_is_sound(&copy);
+    /// Ok(copy)
+    /// ```
     ///
     /// # Errors
     ///

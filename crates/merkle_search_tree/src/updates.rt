@@ -54,6 +54,12 @@ where
 /// its page ranges; and where after the last `RootHash` no upsert is accepted, and no removal of a key that is there, the tree is
 /// hashed, and its root hash is the digest of that one tree.
 ///
+/// ```rust crates/examples/src/history.rt
+/// all.push(Update::Remove(key))?;
+/// all.push(Update::RootHash)?;
+/// let (tree, mut accepted) = replay(alloc, builder, all)?;
+/// ```
+///
 /// # Errors
 ///
 /// `AllocError` where memory is refused for the answers, one `bool` an update; no update is carried out then.
