@@ -13,6 +13,12 @@ use crate::reader::Reader;
 use std::alloc::AllocError;
 
 /// Writes a list behind the bytes that are there.
+///
+/// ```rust crates/examples/src/lists.rt
+/// let mut bytes = Vec::new(alloc);
+/// encode_list(list, &mut bytes)?;
+/// Ok(bytes)
+/// ```
 pub fn encode_list<T: Encode>(list: &[T], bytes: &mut Vec<u8>) -> Result<(), AllocError>
     ensures { OnOk result (bytes.new.items ≡ bytes.old.items ++ list_bytes T.encoding list.now) }
 {
@@ -24,6 +30,13 @@ pub fn encode_list<T: Encode>(list: &[T], bytes: &mut Vec<u8>) -> Result<(), All
 }
 
 /// Reads the next list. The memory that it takes grows with the bytes that are read, and not with the length that was promised.
+///
+/// ```rust crates/examples/src/lists.rt
+/// let mut reader = Reader::new(alloc, bytes);
+/// let list = decode_list(&mut reader)?;
+/// reader.end()?;
+/// Ok(list)
+/// ```
 ///
 /// # Errors
 ///
