@@ -50,6 +50,18 @@ pub struct Run<K: Key, V: Join, H: Hasher<N, K> + ValueHasher<N, V>, const N: us
 /// memory and is always accepted, and so is a removal of a key that isn't there, or beside which a gap is empty in the tree that the map
 /// defines. Of each other update nothing says that it is accepted, since nothing says when memory is refused.
 ///
+/// ```rust crates/theorem_tests/src/random_runs.rt
+/// fn run_both(
+///     alloc: Global,
+///     builder: Builder<LevelHasher<[u8; 2]>>,
+///     a: Vec<Change>,
+///     b: Vec<Change>,
+///     exchange: Exchange,
+/// ) -> Result<Run<[u8; 2], u64, LevelHasher<[u8; 2]>, 32>, RunRefused<[u8; 2]>> {
+///     converge(alloc, builder, a, b, exchange)
+/// }
+/// ```
+///
 /// # Errors
 ///
 /// [`RunRefused`] where memory is refused for anything else: both replicas are then given up.

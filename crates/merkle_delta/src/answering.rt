@@ -16,6 +16,13 @@ use std::alloc::Global;
 /// The reply to a message, as [`answer_within`] gives it with [`MOST_BYTES`], in the same time and memory. The replica keeps its rows; pages that lack a
 /// digest get it.
 ///
+/// ```rust crates/examples/src/deltas.rt
+/// let reply = match answer(alloc, peer, &message) {
+///     Ok(reply) => reply,
+///     Err(error) => return Err(MessagesError::Answer(error)),
+/// };
+/// ```
+///
 /// # Errors
 ///
 /// [`AnswerError`]

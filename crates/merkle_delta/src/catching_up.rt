@@ -102,6 +102,15 @@ pub enum Next<K, V> {
 impl<K: Key + Decode, V: Join + Decode> CatchingUp<K, V> {
     /// A catch-up of a replica that begins, and the first message, which tells the replica's settings.
     ///
+    /// ```rust crates/delta_tests/src/others.rt
+    /// let (session, message) = CatchingUp::begin(alloc, &sides.local)?;
+    /// let reply = answer(alloc, &mut sides.peer, &message)?;
+    /// match session.take(&mut sides.local, &reply)? {
+    ///     Next::Ask(session, message) => Ok((session, message)),
+    ///     Next::Came(_) => Err(Fail::new("rows")),
+    /// }
+    /// ```
+    ///
     /// # Errors
     ///
     /// Want of memory.

@@ -109,6 +109,14 @@ pub(crate) fn decode_kind(reader: &mut Reader<'_>) -> Result<Kind, ReadError>
 
 /// A message that refuses what was asked.
 ///
+/// ```rust crates/delta_tests/src/others.rt
+/// match merkle_wire::answer(alloc, peer, message) {
+///     Ok(reply) => Ok(reply),
+///     Err(AnswerError::Malformed(_)) => Ok(refusal(alloc)?),
+///     Err(_) => Err(Fail::new("memory")),
+/// }
+/// ```
+///
 /// # Errors
 ///
 /// Want of memory.
