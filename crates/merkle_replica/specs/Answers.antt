@@ -9,7 +9,7 @@ use Rattle.merkle_replica.specs.Contents.{Contents, Side, side, with_rows}
 use Rattle.merkle_replica.specs.Faithful.{MissesNone}
 use Rattle.merkle_replica.specs.Pulls.{Answer, IsAnswerFor, IsPull, IsPartOfPull}
 use Rattle.merkle_replica.specs.declared.pull.Pulled.{Pulled}
-use Rattle.merkle_replica.specs.declared.pull.Stopped.{Stopped}
+use Rattle.merkle_replica.specs.declared.merge.Stopped.{Stopped}
 use Rattle.merkle_replica.specs.declared.pull.PullError.{PullError}
 use Rattle.merkle_replica.specs.declared.pull.PullError.TheVariants.{Memory, Partly}
 

@@ -88,9 +88,8 @@ impl<K: Key + Drop, V: Join + Drop, H: RowHasher<N, K, V>, const N: usize> Repli
         peer.rows_ascend();
         self.hash();
         peer.hash();
-        let (rows, rounds) = match self.lacked_rows(peer) {
-            Ok(found) => found,
-            Err(_) => return Err(CatchUpError::Memory),
+        let Ok((rows, rounds)) = self.lacked_rows(peer) else {
+            return Err(CatchUpError::Memory);
         };
         let lacked = rows.len();
         match self.join_sparse(rows) {

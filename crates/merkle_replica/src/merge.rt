@@ -14,12 +14,18 @@ ghost use Rattle.merkle_replica.specs.Puts.{IsRising, HasGathered, IsGatheredTo}
 ghost use Rattle.merkle_replica.specs.Parted.{whole, parted, JoinsParted, FirstNotBelow, first_is};
 
 use crate::join::Join;
-use crate::pull::Stopped;
 use crate::seek::{count_within, first_from, seek};
 use merkle_digest::{Hasher, Key};
 use merkle_search_tree::MerkleSearchTree;
 use std::alloc::{AllocError, Global};
 use std::cmp::Ordering;
+
+/// How far the joining of a peer's rows came: the first `done` of the `joined` rows in the ranges are joined.
+#[derive(Clone, Copy)]
+pub(crate) struct Stopped {
+    pub(crate) done: usize,
+    pub(crate) joined: usize,
+}
 
 /// Makes room for `more` rows, and takes off the rows from the key on, the last one first. Refused, the rows stay.
 fn part<K: Ord, V>(rows: &mut Vec<(K, V)>, key: &K, more: usize) -> Result<Vec<(K, V)>, AllocError>
@@ -42,10 +48,7 @@ fn turn_over<T>(from: &mut Vec<T>, into: &mut Vec<T>)
     ensures moved { into.new.items ≡ into.old.items ++ reverse from.old.items }
 {
     'turning: while let Some(element) = from.pop() {
-        match into.push(element) {
-            Ok(()) => {}
-            Err(_) => unreachable!(),
-        }
+        into.push_reserved(element);
     }
 }
 
@@ -61,15 +64,9 @@ fn pass<K: Ord, V>(front: &mut Vec<(K, V)>, back: &mut Vec<(K, V)>, key: &K)
 {
     'passing: while let Some(row) = back.pop() {
         match row.0.cmp(key) {
-            Ordering::Less => match front.push(row) {
-                Ok(()) => {}
-                Err(_) => unreachable!(),
-            },
+            Ordering::Less => front.push_reserved(row),
             _ => {
-                match back.push(row) {
-                    Ok(()) => {}
-                    Err(_) => unreachable!(),
-                }
+                back.push_reserved(row);
                 return;
             }
         }
@@ -129,10 +126,8 @@ where
     if tree.upsert(own, &value).is_err() {
         return Err(AllocError);
     }
-    match back.push((key, value)) {
-        Ok(()) => Ok(()),
-        Err(_) => unreachable!(),
-    }
+    back.push_reserved((key, value));
+    Ok(())
 }
 
 /// Takes a row over: the key cloned, and the value joined with itself.
@@ -188,9 +183,8 @@ where
     if joined == 0 {
         return Ok(0);
     }
-    let mut back = match part(rows, &ranges[0].0, joined) {
-        Ok(back) => back,
-        Err(_) => return Err(Stopped { done: 0, joined }),
+    let Ok(mut back) = part(rows, &ranges[0].0, joined) else {
+        return Err(Stopped { done: 0, joined });
     };
     let mut at = 0;
     let mut done = 0;
@@ -232,9 +226,8 @@ where
     if joined == 0 {
         return Ok(());
     }
-    let mut back = match part(rows, &theirs[0].0, joined) {
-        Ok(back) => back,
-        Err(_) => return Err(0),
+    let Ok(mut back) = part(rows, &theirs[0].0, joined) else {
+        return Err(0);
     };
     let mut done = 0;
     'joining: for row in theirs {

@@ -105,9 +105,8 @@ impl<K: Key + Drop, V: Join + Drop, H: RowHasher<N, K, V>, const N: usize> Repli
         self.rows_ascend();
         peer.rows_ascend();
         page_ranges_of_a_map::<K, H, N>();
-        let ranges = match self.ranges_to_ask(peer) {
-            Ok(ranges) => ranges,
-            Err(_) => return Err(PullError::Memory),
+        let Ok(ranges) = self.ranges_to_ask(peer) else {
+            return Err(PullError::Memory);
         };
         match self.join_within(peer.rows(), &ranges) {
             Ok(joined) => Ok(Pulled { ranges, joined }),
@@ -124,13 +123,6 @@ impl<K: Key + Drop, V: Join + Drop, H: RowHasher<N, K, V>, const N: usize> Repli
             }
         }
     }
-}
-
-/// How far a pull came: the first `done` of the `joined` rows in the ranges are joined.
-#[derive(Clone, Copy)]
-pub(crate) struct Stopped {
-    pub(crate) done: usize,
-    pub(crate) joined: usize,
 }
 
 /// The ranges that `local` may ask of `peer`, where both are hashed, with bounds of their own.

@@ -9,8 +9,7 @@ ghost use Rattle.merkle_replica.specs.Places.{FindsRow, IsPlaceOf, IsGapFor};
 ghost use Rattle.merkle_replica.specs.Puts.{PutDropsFew};
 
 use crate::join::Join;
-use crate::merge::{join_all, join_owned};
-use crate::pull::Stopped;
+use crate::merge::{Stopped, join_all, join_owned};
 use crate::value_hasher::ValueHasher;
 use merkle_digest::{Hasher, Key, RootHash};
 use merkle_search_tree::builder::Builder;
@@ -232,9 +231,8 @@ impl<K: Key + Drop, V: Join + Drop, H: Hasher<N, K> + Hasher<N, V>, const N: usi
         ensures succeeds { HasFreeGap K.cmp key.now self.old.tree.root → IsOk result }
         ensures succeeds_absent { has_key K.cmp self.old.rows key.now ≡ false → IsOk result }
     {
-        let at = match place(&self.rows, key) {
-            Ok(at) => at,
-            Err(_) => return Ok(false),
+        let Ok(at) = place(&self.rows, key) else {
+            return Ok(false);
         };
         self.tree.remove(key)?;
         self.rows.remove(at);

@@ -76,22 +76,16 @@ pub fn pull_by_turns<K: Key + Drop, V: Join + Drop, H: RowHasher<N, K, V>, const
     a.rows_ascend();
     b.rows_ascend();
     page_ranges_of_a_map::<K, H, N>();
-    let mut all = match Vec::with_capacity(alloc, n) {
-        Ok(all) => all,
-        Err(_) => {
-            return Err(TurnsError {
-                finished: Vec::new(alloc),
-                fault: PullError::Memory,
-            });
-        }
+    let Ok(mut all) = Vec::with_capacity(alloc, n) else {
+        return Err(TurnsError {
+            finished: Vec::new(alloc),
+            fault: PullError::Memory,
+        });
     };
     let mut a_pulls = true;
     'turning: for _turn in 0..n {
         match turn(a, b, a_pulls) {
-            Ok(pulled) => match all.push(pulled) {
-                Ok(()) => {}
-                Err(_) => unreachable!(),
-            },
+            Ok(pulled) => all.push_reserved(pulled),
             Err(fault) => {
                 return Err(TurnsError {
                     finished: all,

@@ -18,10 +18,10 @@ use Rattle.merkle_replica.proofs.merge.join_all.Goals.{then-found+else-is_err, e
 pub bounds-ranges-0 : goal.bounds-ranges-0
 bounds-ranges-0 g c = some_range g.K.Ord.cmp g.met.K.Ord.total c.args.ranges.now c.args.theirs.now (omega (arith, c.if-joined-eq0.false, c.count_within-joined.ensures))
 
-pub returns-in-Err-clause-stopped : goal.returns-in-Err-clause-stopped
-returns-in-Err-clause-stopped g c =
+pub returns-in_default-clause-stopped : goal.returns-in_default-clause-stopped
+returns-in_default-clause-stopped g c =
     stopped-none g.K.Ord.cmp g.met.K.Ord.total g.V.PartialEq.eq g.met.V.Eq.laws g.V.Join.join_of g.met.V.Join.joining (rows_in g.K.Ord.cmp (spans_of c.args.ranges.now) c.args.theirs.now) c.args.rows.now.items c.part.new.rows.items c.count_within-joined.result
-    c.count_within-joined.ensures (omega (arith, c.if-joined-eq0.false)) c.in-Err.ensures.unchanged c.requires.kept.ascending
+    c.count_within-joined.ensures (omega (arith, c.if-joined-eq0.false)) c.in_default.ensures.unchanged c.requires.kept.ascending
 
 pub joining-init : goal.joining-init
 joining-init g c =

@@ -59,7 +59,7 @@ returns-clause-kept g c =
     let kept : IsKept cmp g.H.Hasher-2.digest_of (record { rows = whole F B; tree = c.args.tree.now }) = subst (λ w. IsKept cmp g.H.Hasher-2.digest_of (record { rows = w; tree = c.args.tree.now })) (sym c.pass.ensures.whole) c.requires.kept in
     let p = at-gap cmp o F B key c.args.value c.pass.ensures.below kept.ascending c.pass.ensures.next is in
     kept_set cmp g.H.Hasher-2.digest_of o (whole F B) _ c.args.tree.now c.upsert-2.new.self c.in_ok-own.own key c.args.value
-    (ap (whole F) (c.in-Ok.ensures.items ∙ ap (λ xs. xs ++ (key, c.args.value) ∷ []) c.reserve_exact.ensures.items) ∙ p.1 ∙ set_new cmp o (whole F B) (length F) key c.args.value p.0)
+    (ap (whole F) (c.push_reserved.ensures.items ∙ ap (λ xs. xs ++ (key, c.args.value) ∷ []) c.reserve_exact.ensures.items) ∙ p.1 ∙ set_new cmp o (whole F B) (length F) key c.args.value p.0)
     (went c.upsert-2.result (sym c.is_err-2.ensures.value ∙ c.if-is_err-2.false) c.upsert-2.ensures.set)
     c.upsert-2.ensures.settings.0 (tied_back o key c.in_ok-own.own (g.met.K.SameClone.clone_is_same key c.in_ok-own.own c.in_ok-own.ensures.cases)) kept
 
@@ -75,6 +75,6 @@ returns-clause-joined g c =
     let is : first_is cmp key (reverse B) ≡ false = ap (λ xs. first_is cmp key (reverse xs)) (sym c.deref.ensures.value) ∙ sym c.is_next.ensures ∙ c.if-is_next.false in
     let up : IsMap cmp (whole F B) = subst (IsMap cmp) (sym c.pass.ensures.whole) c.requires.kept.ascending in
     let p = at-gap cmp o F B key c.args.value c.pass.ensures.below up c.pass.ensures.next is in
-    subst (λ w. IsJoin cmp eq join w ((key, c.args.value) ∷ []) (whole F c.push.new.self.items)) c.pass.ensures.whole
-    (subst (IsJoin cmp eq join (whole F B) ((key, c.args.value) ∷ [])) (sym (ap (whole F) (c.in-Ok.ensures.items ∙ ap (λ xs. xs ++ (key, c.args.value) ∷ []) c.reserve_exact.ensures.items) ∙ p.1 ∙ set_new cmp o (whole F B) (length F) key c.args.value p.0))
+    subst (λ w. IsJoin cmp eq join w ((key, c.args.value) ∷ []) (whole F c.push_reserved.new.self.items)) c.pass.ensures.whole
+    (subst (IsJoin cmp eq join (whole F B) ((key, c.args.value) ∷ [])) (sym (ap (whole F) (c.push_reserved.ensures.items ∙ ap (λ xs. xs ++ (key, c.args.value) ∷ []) c.reserve_exact.ensures.items) ∙ p.1 ∙ set_new cmp o (whole F B) (length F) key c.args.value p.0))
     (joins_new cmp o eq g.met.V.Eq.laws join g.met.V.Join.joining (whole F B) (length F) key c.args.value up p.0))

@@ -22,18 +22,18 @@ returns-clause-turns g c = rw g.met.H.RowHasher.laws_are (
     c.args.a.now c.args.b.now c.turning.all.items c.turning.a_pulls c.turning.a c.turning.b c.rows_ascend.ensures c.rows_ascend-2.ensures c.turning.invariant.goes in
     (met, turns, λ f n. all f (let t = c.turning.invariant.taken in let k = length-map c.turning.all.items answer_of in omega arith)))
 
-pub unreachable-requires : goal.unreachable-requires
-unreachable-requires g c = let t = c.turning.invariant.counted in let r = c.turning.invariant.room in let u = c.in-Err-push.ensures.full in absurd (omega arith)
+pub push_reserved-requires : goal.push_reserved-requires
+push_reserved-requires g c = let t = c.turning.invariant.counted in let r = c.turning.invariant.room in record { room = omega arith }
 
 pub turning-preserved : goal.turning-preserved
 turning-preserved g c =
     let laws = laws_of g.K.Ord.cmp g.K.KeyBytes.bytes_of g.H.Hasher-1.digest_of g.V.PartialEq.eq g.V.Join.join_of g.H.Hasher-2.digest_of in
     record {
-      goes = goes_on laws c.args.a.now c.args.b.now c.turning.a c.turning.b c.turning.all.items c.turning.a_pulls c.turn.new.a c.turn.new.b c.push.new.self.items c.in-Ok-turn.pulled c.in-Ok-push.ensures.items
+      goes = goes_on laws c.args.a.now c.args.b.now c.turning.a c.turning.b c.turning.all.items c.turning.a_pulls c.turn.new.a c.turn.new.b c.push_reserved.new.self.items c.in-Ok-turn.pulled c.push_reserved.ensures.items
           c.turn.ensures.a_settings c.turn.ensures.b_settings (rw g.met.H.RowHasher.laws_are at c.in-Ok-turn.ensures.done) c.turning.invariant.goes;
-      taken = let t = c.turning.invariant.taken in ap length c.in-Ok-push.ensures.items ∙ length-append c.turning.all.items (c.in-Ok-turn.pulled ∷ []) ∙ omega arith;
-      counted = let t = c.turning.invariant.counted in let u = c.in-Ok-push.ensures.len in u ∙ omega arith;
-      room = let r = c.turning.invariant.room in let u = c.push.ensures.capacity in omega arith;
+      taken = let t = c.turning.invariant.taken in ap length c.push_reserved.ensures.items ∙ length-append c.turning.all.items (c.in-Ok-turn.pulled ∷ []) ∙ omega arith;
+      counted = let t = c.turning.invariant.counted in let u = c.push_reserved.ensures.len in u ∙ omega arith;
+      room = let r = c.turning.invariant.room in let u = c.push_reserved.ensures.capacity in omega arith;
     }
 
 pub returns-in-Err-turn-clause-stopped : goal.returns-in-Err-turn-clause-stopped

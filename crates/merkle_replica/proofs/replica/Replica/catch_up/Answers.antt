@@ -18,15 +18,15 @@ laws_for g = laws_of g.K.Ord.cmp g.K.KeyBytes.bytes_of g.H.Hasher-1.digest_of g.
 
 -- so many rows came as the two sides lacked at first: copies of the peer's, at keys in ascending order
 came : (g : Over) (c : After-join_sparse g) → (keys : List g.row.K.Denot) × (c.len-lacked.result ≡ length keys) × IsAscending g.K.Ord.cmp keys × HasFound (laws_for g) (side c.args.self.now) (side c.args.peer.now) keys
-    × AreCopies g.K.Ord.cmp g.V.PartialEq.eq c.args.peer.now.rows keys c.in-Ok.found.0.items
+    × AreCopies g.K.Ord.cmp g.V.PartialEq.eq c.args.peer.now.rows keys c.in-Ok.rows.items
 came g c =
     let laws = laws_for g in
     let l = same_side c.args.self.now c.hash.new.self c.hash.ensures.rows (ap (λ t. t.hasher) c.hash.ensures.tree, ap (λ t. t.base) c.hash.ensures.tree, ap (λ t. t.format) c.hash.ensures.tree) in
     let p = same_side c.args.peer.now c.hash-2.new.self c.hash-2.ensures.rows (ap (λ t. t.hasher) c.hash-2.ensures.tree, ap (λ t. t.base) c.hash-2.ensures.tree, ap (λ t. t.format) c.hash-2.ensures.tree) in
     let (keys, ascending, lacked, copies) = (rw g.met.H.RowHasher.laws_are at c.in-Ok.ensures.rows) in
-    let are : AreCopies laws.cmp laws.eq c.args.peer.now.rows keys c.in-Ok.found.0.items = subst (λ rows. AreCopies laws.cmp laws.eq rows keys c.in-Ok.found.0.items) c.hash-2.ensures.rows copies in (
+    let are : AreCopies laws.cmp laws.eq c.args.peer.now.rows keys c.in-Ok.rows.items = subst (λ rows. AreCopies laws.cmp laws.eq rows keys c.in-Ok.rows.items) c.hash-2.ensures.rows copies in (
       keys,
-      c.len-lacked.ensures ∙ c.in-Ok.found.0.ok.0 ∙ copies_length laws.cmp g.met.K.Ord.total laws.eq c.args.peer.now.rows keys c.in-Ok.found.0.items are,
+      c.len-lacked.ensures ∙ c.in-Ok.rows.ok.0 ∙ copies_length laws.cmp g.met.K.Ord.total laws.eq c.args.peer.now.rows keys c.in-Ok.rows.items are,
       ascending,
       subst (λ s. HasFound laws s (side c.args.peer.now) keys) l (subst (λ s. HasFound laws (side c.hash.new.self) s keys) p lacked),
       are,
@@ -37,7 +37,7 @@ join_sparse-requires g c =
     let laws = laws_for g in
     let o = g.met.K.Ord.total in
     let (keys, ascending, lacked, copies) = (rw g.met.H.RowHasher.laws_are at c.in-Ok.ensures.rows) in
-    (search rules, (map_rises laws.cmp o c.in-Ok.found.0.items (copies_map laws.cmp o laws.eq c.hash-2.new.self.rows keys c.in-Ok.found.0.items ascending copies)))
+    (search rules, (map_rises laws.cmp o c.in-Ok.rows.items (copies_map laws.cmp o laws.eq c.hash-2.new.self.rows keys c.in-Ok.rows.items ascending copies)))
 
 pub returns-in-Ok-join_sparse-clause-done : goal.returns-in-Ok-join_sparse-clause-done
 returns-in-Ok-join_sparse-clause-done g c = rw g.met.H.RowHasher.laws_are (
@@ -45,8 +45,8 @@ returns-in-Ok-join_sparse-clause-done g c = rw g.met.H.RowHasher.laws_are (
     let (keys, counted, ascending, found, are) = came g (goal.at.returns-in-Ok-join_sparse-clause-done g c).After-join_sparse in (
       keys,
       counted,
-      caught_up laws g.met.K.Ord.total (side c.args.self.now) (side c.args.peer.now) g.met.V.Eq.laws g.met.V.Join.joining keys c.in-Ok.found.0.items c.rows_ascend-2.ensures ascending found are c.join_sparse.new.self.rows
-          (subst (λ rows. HasGathered laws.cmp laws.eq laws.join rows c.in-Ok.found.0.items c.join_sparse.new.self.rows) c.hash.ensures.rows c.in-Ok-join_sparse.ensures.all),
+      caught_up laws g.met.K.Ord.total (side c.args.self.now) (side c.args.peer.now) g.met.V.Eq.laws g.met.V.Join.joining keys c.in-Ok.rows.items c.rows_ascend-2.ensures ascending found are c.join_sparse.new.self.rows
+          (subst (λ rows. HasGathered laws.cmp laws.eq laws.join rows c.in-Ok.rows.items c.join_sparse.new.self.rows) c.hash.ensures.rows c.in-Ok-join_sparse.ensures.all),
     ))
 
 pub returns-in-Ok-join_sparse-clause-join : goal.returns-in-Ok-join_sparse-clause-join
@@ -54,13 +54,13 @@ returns-in-Ok-join_sparse-clause-join g c = rw g.met.H.RowHasher.laws_are (λ fa
     let (keys, counted, caught) = (rw g.met.H.RowHasher.laws_are at (returns-in-Ok-join_sparse-clause-done g c)) in
     all_joined (laws_for g) g.met.K.Ord.total (side c.args.self.now) (side c.args.peer.now) g.met.V.Eq.laws g.met.V.Join.joining keys c.join_sparse.new.self.rows faith caught)
 
-pub returns-in-Err-join_sparse-clause-refused : goal.returns-in-Err-join_sparse-clause-refused
-returns-in-Err-join_sparse-clause-refused g c = rw g.met.H.RowHasher.laws_are (
+pub returns-in-Err-clause-refused : goal.returns-in-Err-clause-refused
+returns-in-Err-clause-refused g c = rw g.met.H.RowHasher.laws_are (
     let laws = laws_for g in
-    let (keys, counted, ascending, found, are) = came g (goal.at.returns-in-Err-join_sparse-clause-refused g c).After-join_sparse in (
+    let (keys, counted, ascending, found, are) = came g (goal.at.returns-in-Err-clause-refused g c).After-join_sparse in (
       keys,
       counted,
-      partly_caught_up laws g.met.K.Ord.total (side c.args.self.now) (side c.args.peer.now) g.met.V.Eq.laws g.met.V.Join.joining keys c.in-Ok.found.0.items c.rows_ascend-2.ensures ascending found are c.in-Err-join_sparse.done
-          c.join_sparse.new.self.rows c.in-Err-join_sparse.done-test.1
-          (subst (λ rows. IsGatheredTo laws.cmp laws.eq laws.join rows c.in-Ok.found.0.items c.join_sparse.new.self.rows c.in-Err-join_sparse.done) c.hash.ensures.rows c.in-Err-join_sparse.ensures.cut),
+      partly_caught_up laws g.met.K.Ord.total (side c.args.self.now) (side c.args.peer.now) g.met.V.Eq.laws g.met.V.Join.joining keys c.in-Ok.rows.items c.rows_ascend-2.ensures ascending found are c.in-Err.done
+          c.join_sparse.new.self.rows c.in-Err.done-test.1
+          (subst (λ rows. IsGatheredTo laws.cmp laws.eq laws.join rows c.in-Ok.rows.items c.join_sparse.new.self.rows c.in-Err.done) c.hash.ensures.rows c.in-Err.ensures.cut),
     ))

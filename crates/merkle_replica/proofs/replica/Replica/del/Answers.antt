@@ -6,22 +6,22 @@ use Rattle.merkle_replica.specs.Places.{IsPlaceOf, IsGapFor}
 use Rattle.merkle_replica.proofs.RowRemovals.{removed_there, has_there, has_new, kept_del}
 use Rattle.merkle_replica.proofs.replica.Replica.del.Goals as goal
 
-pub returns-in-Err-clause-rows : goal.returns-in-Err-clause-rows
-returns-in-Err-clause-rows g c =
+pub returns-in_default-clause-rows : goal.returns-in_default-clause-rows
+returns-in_default-clause-rows g c =
     let cmp = g.K.Ord.cmp in
     let k = c.args.key.now in
     let rows = c.self.inside.rows.items in
-    let gap : IsGapFor cmp k rows c.in-Err.field-0 = rw (← c.deref.ensures.value) c.in-Err.ensures.absent in
+    let gap : IsGapFor cmp k rows c.in_default.field-0 = rw (← c.deref.ensures.value) c.in_default.ensures.absent in
     subst (λ (v : Contents g.row.K.Denot g.row.V.Denot g.row.H.Denot). v.rows ≡ del cmp v.rows k) c.self.view_is
-    (sym (del-absent cmp k rows (entry-absent cmp k rows (has_new cmp g.met.K.Ord.total rows c.in-Err.field-0 k gap))))
+    (sym (del-absent cmp k rows (entry-absent cmp k rows (has_new cmp g.met.K.Ord.total rows c.in_default.field-0 k gap))))
 
-pub returns-in-Err-clause-found : goal.returns-in-Err-clause-found
-returns-in-Err-clause-found g c =
+pub returns-in_default-clause-found : goal.returns-in_default-clause-found
+returns-in_default-clause-found g c =
     let cmp = g.K.Ord.cmp in
     let k = c.args.key.now in
     let rows = c.self.inside.rows.items in
-    let gap : IsGapFor cmp k rows c.in-Err.field-0 = rw (← c.deref.ensures.value) c.in-Err.ensures.absent in
-    subst (λ (v : Contents g.row.K.Denot g.row.V.Denot g.row.H.Denot). false ≡ has_key cmp v.rows k) c.self.view_is (sym (has_new cmp g.met.K.Ord.total rows c.in-Err.field-0 k gap))
+    let gap : IsGapFor cmp k rows c.in_default.field-0 = rw (← c.deref.ensures.value) c.in_default.ensures.absent in
+    subst (λ (v : Contents g.row.K.Denot g.row.V.Denot g.row.H.Denot). false ≡ has_key cmp v.rows k) c.self.view_is (sym (has_new cmp g.met.K.Ord.total rows c.in_default.field-0 k gap))
 
 pub returns-in_err-remove-clause-succeeds_absent : goal.returns-in_err-remove-clause-succeeds_absent
 returns-in_err-remove-clause-succeeds_absent g c =

@@ -20,5 +20,5 @@ returns-else-stopped-eq0-clause-part_covers g c = rw g.met.H.RowHasher.laws_are 
 
 pub returns-else-stopped-eq0-clause-refused : goal.returns-else-stopped-eq0-clause-refused
 returns-else-stopped-eq0-clause-refused g c = rw g.met.H.RowHasher.laws_are (
-    part_from (laws_of g.K.Ord.cmp g.K.KeyBytes.bytes_of g.H.Hasher-1.digest_of g.V.PartialEq.eq g.V.Join.join_of g.H.Hasher-2.digest_of) (side c.args.self.now) (side c.args.peer.now) c.in-Ok.ranges.items c.deref.result.now c.ranges_to_ask.new.self.rows c.rows.result.now c.join_within.new.self.rows c.in-Err-join_within.stopped.done c.in-Err-join_within.stopped.joined
-    c.deref.ensures.value c.ranges_to_ask.ensures.rows (c.rows.ensures.rows ∙ c.ranges_to_ask.ensures.peer_rows) (rw g.met.H.RowHasher.laws_are at c.in-Ok.ensures.answer) (omega arith) c.in-Err-join_within.ensures.stopped)
+    part_from (laws_of g.K.Ord.cmp g.K.KeyBytes.bytes_of g.H.Hasher-1.digest_of g.V.PartialEq.eq g.V.Join.join_of g.H.Hasher-2.digest_of) (side c.args.self.now) (side c.args.peer.now) c.in-Ok.ranges.items c.deref.result.now c.ranges_to_ask.new.self.rows c.rows.result.now c.join_within.new.self.rows c.in-Err.stopped.done c.in-Err.stopped.joined
+    c.deref.ensures.value c.ranges_to_ask.ensures.rows (c.rows.ensures.rows ∙ c.ranges_to_ask.ensures.peer_rows) (rw g.met.H.RowHasher.laws_are at c.in-Ok.ensures.answer) (omega arith) c.in-Err.ensures.stopped)
