@@ -10,6 +10,8 @@ use Rattle.merkle_replica.specs.declared.catch_up.CatchUpError.{CatchUpError}
 use Rattle.merkle_replica.specs.declared.catch_up.CatchUpError.TheVariants.{Memory, Partly}
 use Rattle.merkle_replica.specs.declared.both_ways.CatchUpsError.{CatchUpsError}
 use Rattle.merkle_replica.specs.declared.both_ways.CatchUpsError.TheVariants.{First, Second}
+use Rattle.merkle_replica.specs.declared.gossip.CatchUpAllError.{CatchUpAllError}
+use Rattle.merkle_replica.specs.declared.gossip.CatchUpAllError.TheVariants.{Gathering, Spreading}
 
 -- memory was refused after this many rows
 abbrev pub cut_text : ℕ → List ℕ
@@ -38,3 +40,8 @@ catch_up_text (Partly done lacked) = codes "memory was refused after " ++ decima
 abbrev pub catch_ups_text : CatchUpsError → List ℕ
 catch_ups_text (First fault) = codes "in the first catch-up " ++ catch_up_text fault
 catch_ups_text (Second first fault) = codes "in the second catch-up " ++ catch_up_text fault
+
+-- catch-ups among many that were refused
+abbrev pub catch_up_all_text : CatchUpAllError → List ℕ
+catch_up_all_text (Gathering done fault) = codes "after " ++ decimal done ++ codes " catch-ups by the hub " ++ catch_up_text fault
+catch_up_all_text (Spreading done fault) = codes "after " ++ decimal done ++ codes " catch-ups with the hub " ++ catch_up_text fault

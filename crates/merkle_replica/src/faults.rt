@@ -2,10 +2,12 @@
 
 ghost use Rattle.std.specs.Prelude.{Some};
 ghost use Rattle.merkle_search_tree.specs.Loading.{refusal_text};
-ghost use Rattle.merkle_replica.specs.Faults.{cut_text, pull_text, turns_text, join_text, catch_up_text, catch_ups_text};
+ghost use Rattle.merkle_replica.specs.Faults.{cut_text, pull_text, turns_text, join_text, catch_up_text};
+ghost use Rattle.merkle_replica.specs.Faults.{catch_ups_text, catch_up_all_text};
 
 use crate::both_ways::CatchUpsError;
 use crate::catch_up::CatchUpError;
+use crate::gossip::CatchUpAllError;
 use crate::pull::PullError;
 use crate::puts::PutsCut;
 use crate::replica::RowsRefused;
@@ -113,3 +115,21 @@ impl fmt::Display for CatchUpsError {
 }
 
 impl Error for CatchUpsError {}
+
+/// Says which catch-up was refused, how many of its kind were made before, and what that one says.
+impl fmt::Display for CatchUpAllError {
+    ghost output = { λ error. Some (catch_up_all_text error) };
+
+    fn fmt<W: fmt::Write>(&self, f: &mut fmt::Formatter<W>) -> fmt::Result {
+        match self {
+            CatchUpAllError::Gathering { done, fault } => {
+                write!(f, "after {done} catch-ups by the hub {fault}")
+            }
+            CatchUpAllError::Spreading { done, fault } => {
+                write!(f, "after {done} catch-ups with the hub {fault}")
+            }
+        }
+    }
+}
+
+impl Error for CatchUpAllError {}

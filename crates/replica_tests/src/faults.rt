@@ -1,6 +1,8 @@
 //! What errors say.
 
-use merkle_replica::{JoinRefused, PullError, Pulled, PutsCut, RowsRefused, TurnsError};
+use merkle_replica::{
+    CatchUpAllError, CatchUpError, JoinRefused, PullError, Pulled, PutsCut, RowsRefused, TurnsError,
+};
 use merkle_search_tree::LoadRefused;
 use std::test::Fail;
 
@@ -67,6 +69,24 @@ fn rows_that_were_not_all_joined_say_why(rt: HostRuntime) -> Result<(), Fail> {
     assert!(rt;
         format!(in alloc; "{unordered}")?.as_str()
             == "a key isn't above the one before it, and no row was joined"
+    );
+    Ok(())
+}
+
+#[test]
+fn catch_ups_of_all_say_which_was_refused(rt: HostRuntime) -> Result<(), Fail> {
+    let alloc = rt.alloc();
+    let fault = CatchUpError::Memory;
+    let gathering = CatchUpAllError::Gathering { done: 1, fault };
+    assert!(rt;
+        format!(in alloc; "{gathering}")?.as_str()
+            == "after 1 catch-ups by the hub memory was refused before a row was joined"
+    );
+    let fault = CatchUpError::Partly { done: 2, lacked: 3 };
+    let spreading = CatchUpAllError::Spreading { done: 4, fault };
+    assert!(rt;
+        format!(in alloc; "{spreading}")?.as_str()
+            == "after 4 catch-ups with the hub memory was refused after 2 of 3 rows"
     );
     Ok(())
 }
