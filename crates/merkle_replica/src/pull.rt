@@ -82,6 +82,13 @@ impl<K: Key + Drop, V: Join + Drop, H: RowHasher<N, K, V>, const N: usize> Repli
     /// Replicas of equal rows, at least one, whose trees are in different page formats don't look the same, as far as no digests collide: a
     /// pull then asks for ranges, and joins what is there already. Whatever it joins is right all the same, and no row is lost.
     ///
+    /// ```rust crates/replica_tests/src/agreeing.rt
+    /// // the keys of `a` now span those of `b`, so that one pull is enough
+    /// let pulled = b.pull(&mut a)?;
+    /// assert_eq!(rt; pulled.joined, 3);
+    /// assert!(rt; agree(&mut a, &mut b));
+    /// ```
+    ///
     /// # Errors
     ///
     /// [`PullError`] where memory is refused, by which no row is joined, or the first ones in key order and not all.

@@ -47,3 +47,17 @@ fn the_empty_replica_agrees_with_the_empty_one_alone(rt: HostRuntime) -> Result<
     assert!(rt; !agree(&mut c, &mut a));
     Ok(())
 }
+
+#[test]
+fn a_catch_up_and_a_pull_bring_the_rows_of_both(rt: HostRuntime) -> Result<(), Fail> {
+    let alloc = rt.alloc();
+    let mut a = counts(alloc, &[("apples", 3), ("bananas", 5)])?;
+    let mut b = counts(alloc, &[("bananas", 7), ("cherries", 1)])?;
+    let caught = a.catch_up(&mut b)?;
+    assert_eq!(rt; caught.joined, 2);
+    // the keys of `a` now span those of `b`, so that one pull is enough
+    let pulled = b.pull(&mut a)?;
+    assert_eq!(rt; pulled.joined, 3);
+    assert!(rt; agree(&mut a, &mut b));
+    Ok(())
+}
