@@ -1,10 +1,15 @@
 -- Why bytes that came are not taken, and what the errors say.
 use Rattle.std.specs.Prelude.{ℕ, List, ◌++◌, codes, ⊤}
+use Rattle.std.specs.Fmt.{decimal}
 use Rattle.merkle_bytes.specs.Texts.{read_error_text}
 use Rattle.merkle_bytes.specs.declared.error.ReadError.{ReadError}
 use Rattle.merkle_bytes.specs.declared.error.ReadError.TheVariants as read
 use Rattle.merkle_wire.specs.declared.answering.AnswerError.{AnswerError}
 use Rattle.merkle_wire.specs.declared.answering.AnswerError.TheVariants as answer
+use Rattle.merkle_wire.specs.declared.session.BothMessagesError.{BothMessagesError}
+use Rattle.merkle_wire.specs.declared.session.BothMessagesError.TheVariants.{First, Second}
+use Rattle.merkle_wire.specs.declared.session.MessagesError.{MessagesError}
+use Rattle.merkle_wire.specs.declared.session.MessagesError.TheVariants as messages
 use Rattle.merkle_wire.specs.declared.session_error.SessionError.{SessionError}
 use Rattle.merkle_wire.specs.declared.session_error.SessionError.TheVariants as session
 
@@ -59,3 +64,14 @@ session_error_text session.NotInGap = codes "the peer sent keys that don't ascen
 session_error_text session.NoNode = codes "the peer sent a page without a node"
 session_error_text session.TooManyRounds = codes "the peer's tree has no end"
 session_error_text session.Twice = codes "the peer sent a row twice"
+
+-- why a catch-up through messages ended early
+abbrev pub messages_error_text : MessagesError → List ℕ
+messages_error_text (messages.Answer error) = codes "a message has no reply: " ++ answer_error_text error
+messages_error_text (messages.Session error) = session_error_text error
+messages_error_text (messages.Join done) = codes "memory was refused after " ++ decimal done ++ codes " rows"
+
+-- why catch-ups through messages in both directions ended early
+abbrev pub both_messages_error_text : BothMessagesError → List ℕ
+both_messages_error_text (First error) = codes "in the first catch-up " ++ messages_error_text error
+both_messages_error_text (Second first error) = codes "in the second catch-up " ++ messages_error_text error

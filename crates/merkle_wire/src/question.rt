@@ -86,6 +86,14 @@ fn with_run<T: EncodeInRun>(
 
 /// What a message asks for. It reads the bytes once, in one pass, and takes memory for keys of at most 64 times as many.
 ///
+/// ```rust crates/wire_tests/src/first_calls.rt
+/// let (_, message) = CatchingUp::begin(alloc, &laptop)?;
+/// match decode_question::<String>(alloc, &message)? {
+///     Question::Root(settings) => assert_eq!(rt; settings.level_base, 16),
+///     _ => return Err(Fail::new("another question")),
+/// }
+/// ```
+///
 /// # Errors
 ///
 /// [`ReadError`]

@@ -1,7 +1,8 @@
 //! A whole catch-up between two replicas, through messages.
-ghost use Rattle.std.specs.Prelude.{◌≡◌, IfOk, IfErr, OnOk};
+ghost use Rattle.std.specs.Prelude.{◌≡◌, IfOk, IfErr, OnOk, Some};
 ghost use Rattle.merkle_replica.specs.Contents.{side};
 ghost use Rattle.merkle_tree_theory.specs.State.{SameSettings};
+ghost use Rattle.merkle_wire.specs.Faults.{both_messages_error_text, messages_error_text};
 ghost use Rattle.merkle_wire.specs.Questions.{question_bytes};
 ghost use Rattle.merkle_wire.specs.Sessions.{AreBothRefused, BringsRows, CatchesUpWhileFaithful, EndsEarly, GoesOnCovering, HaveJoined};
 ghost use Rattle.merkle_wire.specs.Sessions.{HoldTheJoinWhileFaithful, IsEarly, JoinsNewRows, JoinsWhileFaithful, TellsOwn, TellsOwnNext};
@@ -16,6 +17,7 @@ use merkle_replica::laws::a_replica_in_memory_is_small;
 use merkle_replica::{Join, JoinRefused, Replica, RowHasher};
 use merkle_search_tree::laws::{a_map_has_one_tree, every_tree_is_sound};
 use std::alloc::Global;
+use std::fmt;
 
 /// Why a catch-up through messages ended early.
 #[derive(Clone, Copy, Debug, PartialEq, Eq, Drop)]
@@ -28,7 +30,25 @@ pub enum MessagesError {
     Join(usize),
 }
 
+impl fmt::Display for MessagesError {
+    ghost output = { λ error. Some (messages_error_text error) };
+
+    fn fmt<W: fmt::Write>(&self, f: &mut fmt::Formatter<W>) -> fmt::Result {
+        match self {
+            MessagesError::Answer(error) => write!(f, "a message has no reply: {error}"),
+            MessagesError::Session(error) => error.fmt(f),
+            MessagesError::Join(done) => write!(f, "memory was refused after {done} rows"),
+        }
+    }
+}
+
 /// Catches up with a peer by the messages of a session, each made to bytes and read again, and answers how many rows of the peer were joined.
+///
+/// ```rust crates/wire_tests/src/first_calls.rt
+/// laptop.put(String::from_str(alloc, "bananas")?, 7)?;
+/// let joined = catch_up_by_messages(alloc, &mut office, &mut laptop)?;
+/// assert_eq!(rt; joined, 1);
+/// ```
 ///
 /// # Errors
 ///
@@ -83,6 +103,17 @@ pub enum BothMessagesError {
     Second(usize, MessagesError),
 }
 
+impl fmt::Display for BothMessagesError {
+    ghost output = { λ error. Some (both_messages_error_text error) };
+
+    fn fmt<W: fmt::Write>(&self, f: &mut fmt::Formatter<W>) -> fmt::Result {
+        match self {
+            BothMessagesError::First(error) => write!(f, "in the first catch-up {error}"),
+            BothMessagesError::Second(_, error) => write!(f, "in the second catch-up {error}"),
+        }
+    }
+}
+
 /// `a` catches up with `b` by messages, and then `b` with `a`. Both then hold the join of their maps, while digests are faithful in what is met
 /// before each of the two. It answers how many rows each of them joined.
 ///
@@ -132,9 +163,8 @@ fn rows_by_messages<K: Key + Decode, V: Join + Decode, H: RowHasher<N, K, V>, co
     ensures peer_rows { peer.new.rows ≡ peer.old.rows }
     ensures peer_settings { SameSettings peer.old.tree peer.new.tree }
 {
-    let (mut session, mut message) = match CatchingUp::begin(alloc, replica) {
-        Ok(begun) => begun,
-        Err(_) => return Err(MessagesError::Session(SessionError::Memory)),
+    let Ok((mut session, mut message)) = CatchingUp::begin(alloc, replica) else {
+        return Err(MessagesError::Session(SessionError::Memory));
     };
     every_tree_is_sound(peer.tree());
     a_replica_in_memory_is_small(peer);

@@ -6,6 +6,10 @@ mod altered;
 #[cfg(test)]
 mod endless_rounds;
 #[cfg(test)]
+mod faults;
+#[cfg(test)]
+mod first_calls;
+#[cfg(test)]
 mod formats;
 #[cfg(test)]
 mod hex;

@@ -18,9 +18,9 @@ exchanges-init g c =
     let (settings, asked, of_tree) = c.in-Ok.ensures.settings in
     record {
       asks = c.in-Ok.ensures.asks;
-      covers = begun_covers laws g.K.Encode.encoding (side c.args.replica.now) (side c.args.peer.now) c.args.peer.now.tree.root c.in-Ok.begun.0 settings asked c.in-Ok.ensures.nothing.0;
-      steady = begun_steady laws (side c.args.peer.now) c.args.peer.now.tree.root c.in-Ok.begun.0 settings asked c.in-Ok.ensures.nothing.0 c.in-Ok.ensures.nothing.1;
-      keys = begun_at_keys laws (side c.args.replica.now) (side c.args.peer.now) c.in-Ok.begun.0 c.in-Ok.ensures.keys c.in-Ok.ensures.nothing.0;
+      covers = begun_covers laws g.K.Encode.encoding (side c.args.replica.now) (side c.args.peer.now) c.args.peer.now.tree.root c.in-Ok.session settings asked c.in-Ok.ensures.nothing.0;
+      steady = begun_steady laws (side c.args.peer.now) c.args.peer.now.tree.root c.in-Ok.session settings asked c.in-Ok.ensures.nothing.0 c.in-Ok.ensures.nothing.1;
+      keys = begun_at_keys laws (side c.args.replica.now) (side c.args.peer.now) c.in-Ok.session c.in-Ok.ensures.keys c.in-Ok.ensures.nothing.0;
       own = subst (TellsOwn laws g.row.N (side c.args.replica.now)) (sym asked) of_tree;
       rows = refl;
       settings = (refl, refl, refl);
