@@ -1,7 +1,7 @@
 -- Bytes tell the entries of the list that they spell, up to equal names.
 use Rattle.std.proofs.Common.{◌≡◌, ℕ, List, [], ◌∷◌, ◌++◌, take, map, max, nat_eq, true, string_bytes, refl, sym, ap, ap₂, subst, ◌∙◌}
 use Rattle.std.specs.Cmp.{nat_eq_equiv}
-use Rattle.std.specs.List.{AllByRecursion}
+use Rattle.std.specs.List.{AllByRecursion, AllZip}
 use Rattle.std.specs.Ordering.{is_eq}
 use Rattle.std.specs.String.{string_cmp_total}
 use Rattle.std.proofs.lemmas.List.{append_assoc, length-map}
@@ -15,7 +15,7 @@ use Rattle.key_order.proofs.Clones.{string_clone}
 use Rattle.key_order.proofs.Numbers.{max_joining}
 use Rattle.key_order.proofs.SameRows.{joins-came}
 use Rattle.merkle_bytes.specs.Counts.{count_bytes}
-use Rattle.merkle_bytes.specs.Encodings.{list_bytes, SameLists}
+use Rattle.merkle_bytes.specs.Encodings.{list_bytes}
 use Rattle.merkle_bytes.specs.PageRanges.{bounds_told}
 use Rattle.merkle_bytes.specs.Refusals.{IsMalformed}
 use Rattle.merkle_bytes.specs.Telling.{string_told, number_told}
@@ -54,7 +54,7 @@ as_span r = record { first = r.0; last = r.1 }
 
 -- two lists that the same bytes spell have related entries
 pub lists_tell : {X : Type 0} (bytes : X → List ℕ) (R : X → X → Type 0) → ((x y : X) (r s : List ℕ) → bytes x ++ r ≡ bytes y ++ s → R x y × (r ≡ s))
-    → (xs ys : List X) (all : List ℕ) → all ≡ list_bytes bytes xs → all ≡ list_bytes bytes ys → SameLists R xs ys
+    → (xs ys : List X) (all : List ℕ) → all ≡ list_bytes bytes xs → all ≡ list_bytes bytes ys → AllZip R xs ys
 lists_tell bytes R tells xs ys all e f =
     let same = as_list bytes xs ∙ sym e ∙ f ∙ sym (as_list bytes ys) in
     (run_told (alone bytes) stays R (λ u x y r s e. let both = tells x y r s e in (both.0, refl, both.1)) tt xs ys [] [] (ap (λ t. t ++ []) same)).0
@@ -87,7 +87,7 @@ page_range_tells x y r s e =
 pub same_page_ranges : (xs ys : List (Entry Text (List ℕ))) (all : List ℕ) → all ≡ list_bytes page_range_bytes xs → all ≡ list_bytes page_range_bytes ys → SameEntries text_order xs ys
 same_page_ranges xs ys all e f = as_entries xs ys (lists_tell page_range_bytes (SameEntry text_order) page_range_tells xs ys all e f)
   where
-    as_entries : (xs ys : List (Entry Text (List ℕ))) → SameLists (SameEntry text_order) xs ys → SameEntries text_order xs ys
+    as_entries : (xs ys : List (Entry Text (List ℕ))) → AllZip (SameEntry text_order) xs ys → SameEntries text_order xs ys
     as_entries [] [] h = tt
     as_entries [] (y ∷ ys) h = absurd h
     as_entries (x ∷ xs) [] h = absurd h
@@ -96,7 +96,7 @@ same_page_ranges xs ys all e f = as_entries xs ys (lists_tell page_range_bytes (
 pub same_ranges : (xs ys : List (Span Text)) (all : List ℕ) → all ≡ list_bytes range_bytes xs → all ≡ list_bytes range_bytes ys → SameSpans text_order xs ys
 same_ranges xs ys all e f = as_spans xs ys (lists_tell range_bytes (SameSpan text_order) range_tells xs ys all e f)
   where
-    as_spans : (xs ys : List (Span Text)) → SameLists (SameSpan text_order) xs ys → SameSpans text_order xs ys
+    as_spans : (xs ys : List (Span Text)) → AllZip (SameSpan text_order) xs ys → SameSpans text_order xs ys
     as_spans [] [] h = tt
     as_spans [] (y ∷ ys) h = absurd h
     as_spans (x ∷ xs) [] h = absurd h
@@ -105,7 +105,7 @@ same_ranges xs ys all e f = as_spans xs ys (lists_tell range_bytes (SameSpan tex
 pub same_rows : (xs ys : List (Text × ℕ)) (all : List ℕ) → all ≡ list_bytes row_bytes xs → all ≡ list_bytes row_bytes ys → SameMap text_order (λ x y. nat_eq x y ≡ true) xs ys
 same_rows xs ys all e f = as_rows xs ys (lists_tell row_bytes (λ x y. Same text_order x.0 y.0 × (nat_eq x.1 y.1 ≡ true)) row_tells xs ys all e f)
   where
-    as_rows : (xs ys : List (Text × ℕ)) → SameLists (λ x y. Same text_order x.0 y.0 × (nat_eq x.1 y.1 ≡ true)) xs ys → SameMap text_order (λ x y. nat_eq x y ≡ true) xs ys
+    as_rows : (xs ys : List (Text × ℕ)) → AllZip (λ x y. Same text_order x.0 y.0 × (nat_eq x.1 y.1 ≡ true)) xs ys → SameMap text_order (λ x y. nat_eq x y ≡ true) xs ys
     as_rows [] [] h = tt
     as_rows [] (y ∷ ys) h = absurd h
     as_rows (x ∷ xs) [] h = absurd h

@@ -1,10 +1,10 @@
 -- Entries one behind the other: one more is written or read, and they are read in one way.
 use Rattle.std.proofs.Common.{◌≡◌, ◌≢◌, ℕ, ◌+◌, ◌<◌, ◌≤◌, ◌^◌, List, [], ◌∷◌, ◌++◌, length, take, get_or, map, sym, ap, ap₂, subst, ◌∙◌, refl, arith}
-use Rattle.std.specs.List.{AllByRecursion, flat_map}
+use Rattle.std.specs.List.{AllByRecursion, flat_map, AllZip}
 use Rattle.std.proofs.lemmas.List.{append_assoc, append-nil, length-append, length-map, take_more}
 use Rattle.key_order.proofs.ListParts.{each-append}
 use Rattle.merkle_bytes.specs.Counts.{count_bytes, count_told}
-use Rattle.merkle_bytes.specs.Encodings.{list_bytes, SameLists}
+use Rattle.merkle_bytes.specs.Encodings.{list_bytes}
 use Rattle.merkle_bytes.specs.Runs.{entries_bytes, state_behind, run_bytes}
 
 module _ {X S : Type 0} (bytes : S → X → List ℕ) (next : S → X → S) where
@@ -132,7 +132,7 @@ module _ {X S : Type 0} (bytes : S → X → List ℕ) (next : S → X → S)
     (E : X → X → Type 0) (told : (s : S) (x y : X) (r t : List ℕ) → bytes s x ++ r ≡ bytes s y ++ t → E x y × (next s x ≡ next s y) × (r ≡ t)) where
   -- as many entries at the front tell each other, and what is behind them
   pub entries_told : (s : S) (xs ys : List X) (r t : List ℕ) → length xs ≡ length ys
-      → entries_bytes bytes next s xs ++ r ≡ entries_bytes bytes next s ys ++ t → SameLists E xs ys × (state_behind bytes next s xs ≡ state_behind bytes next s ys) × (r ≡ t)
+      → entries_bytes bytes next s xs ++ r ≡ entries_bytes bytes next s ys ++ t → AllZip E xs ys × (state_behind bytes next s xs ≡ state_behind bytes next s ys) × (r ≡ t)
   entries_told s [] [] r t n e = (tt, refl, e)
   entries_told s [] (y ∷ ys) r t n e = absurd (omega (arith, n))
   entries_told s (x ∷ xs) [] r t n e = absurd (omega (arith, n))
@@ -145,7 +145,7 @@ module _ {X S : Type 0} (bytes : S → X → List ℕ) (next : S → X → S)
 
   -- a list at the front tells its entries, and what is behind it
   pub run_told : (s : S) (xs ys : List X) (r t : List ℕ) → run_bytes bytes next s xs ++ r ≡ run_bytes bytes next s ys ++ t
-      → SameLists E xs ys × (state_behind bytes next s xs ≡ state_behind bytes next s ys) × (r ≡ t)
+      → AllZip E xs ys × (state_behind bytes next s xs ≡ state_behind bytes next s ys) × (r ≡ t)
   run_told s xs ys r t e =
       let in_xs = entries_bytes bytes next s xs in
       let in_ys = entries_bytes bytes next s ys in

@@ -1,5 +1,5 @@
 -- Byte strings and lists as bytes.
-use Rattle.std.specs.Prelude.{◌≡◌, ℕ, Bool, cond, List, [], ◌∷◌, ◌++◌, length, ⊤}
+use Rattle.std.specs.Prelude.{◌≡◌, ℕ, Bool, cond, List, [], ◌∷◌, ◌++◌, length}
 use Rattle.std.specs.Global.{Vec}
 use Rattle.std.specs.List.{flat_map}
 use Rattle.merkle_bytes.specs.Counts.{count_bytes}
@@ -19,10 +19,3 @@ string_encoding bytes = count_bytes (length bytes) ++ bytes
 -- a list: how many entries it has, and the entries
 abbrev pub list_bytes : {X : Type 0} → (X → List ℕ) → List X → List ℕ
 list_bytes encoding xs = count_bytes (length xs) ++ flat_map encoding xs
-
--- as many entries, each related to the one at its place
-abbrev pub SameLists : {X : Type 0} → (X → X → Type 0) → List X → List X → Type 0
-SameLists E [] [] = ⊤
-SameLists E [] (y ∷ ys) = ⊥
-SameLists E (x ∷ xs) [] = ⊥
-SameLists E (x ∷ xs) (y ∷ ys) = E x y × SameLists E xs ys

@@ -1,7 +1,8 @@
 //! Laws over the definitions alone. Each function has no effect and takes no memory.
 ghost use Rattle.std.specs.Prelude.{◌≡◌, ◌≤◌, ◌+◌, ◌*◌, ℕ, List, length, true};
+ghost use Rattle.std.specs.List.{AllZip};
 ghost use Rattle.merkle_bytes.specs.Counts.{count_bytes};
-ghost use Rattle.merkle_bytes.specs.Encodings.{list_bytes, SameLists};
+ghost use Rattle.merkle_bytes.specs.Encodings.{list_bytes};
 ghost use Rattle.merkle_bytes.specs.Keys.{key_behind};
 ghost use Rattle.merkle_bytes.specs.Reading.{BytesTell};
 ghost use Rattle.merkle_bytes.specs.Runs.{KeysHaveAtMost};
@@ -12,7 +13,7 @@ use crate::encode::Encode;
 /// Bytes that begin with those of a list tell its entries, up to `==`, and where it ends: two lists with the same bytes have equal entries, place
 /// by place.
 pub fn bytes_tell_lists<T: Decode>()
-    ensures { BytesTell (list_bytes T.encoding) (SameLists (λ x y. T.eq x y ≡ true)) }
+    ensures { BytesTell (list_bytes T.encoding) (AllZip (λ x y. T.eq x y ≡ true)) }
 {}
 
 /// Bytes that begin with those of a count tell it, and where it ends: a count has one spelling.

@@ -1,8 +1,9 @@
 -- Messages that ask nothing, neither plainly nor behind checksums.
 use Rattle.std.proofs.Common.{◌≡◌, ℕ, List, [], ◌∷◌, ◌++◌, ◌≢◌, inr, refl, sym, ap, ap₂, ◌∙◌, arith}
+use Rattle.std.specs.List.{AllZip}
 use Rattle.std.specs.Global.{Vec}
 use Rattle.merkle_bytes.specs.Counts.{count_bytes, count_told}
-use Rattle.merkle_bytes.specs.Encodings.{list_bytes, SameLists}
+use Rattle.merkle_bytes.specs.Encodings.{list_bytes}
 use Rattle.merkle_bytes.proofs.Listed.{alone, as_list, run_told, stays}
 use Rattle.merkle_wire.specs.Questions.{AsksNothing, question_bytes}
 use Rattle.merkle_wire.specs.declared.question.Question.{Question}
@@ -24,7 +25,7 @@ told_alone delta other e = cc
 pub asked_alone : (asked : List ℕ) (checksums question : List ℕ) → 1 ∷ 6 ∷ asked ≡ asking_bytes checksums question → asked ≡ list_bytes count_bytes checksums ++ question
 asked_alone asked checksums question e = cc
 
-same_counts : (xs ys : List ℕ) → SameLists (λ x y. x ≡ y) xs ys → xs ≡ ys
+same_counts : (xs ys : List ℕ) → AllZip (λ x y. x ≡ y) xs ys → xs ≡ ys
 same_counts [] [] same = refl
 same_counts [] (y ∷ ys) same = absurd same
 same_counts (x ∷ xs) [] same = absurd same

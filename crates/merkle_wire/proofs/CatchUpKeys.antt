@@ -1,13 +1,12 @@
 -- What a catch-up asks about, and what it has found, has keys of the two sides alone, up to equal keys.
 use Rattle.std.specs.Prelude.{not}
 use Rattle.std.proofs.Common.{◌≡◌, ℕ, Bool, List, [], ◌∷◌, ◌++◌, map, flat_map, Option, Some, None, sym, subst, inl, inr}
-use Rattle.std.specs.List.{AllByRecursion, filter}
+use Rattle.std.specs.List.{AllByRecursion, filter, AllZip}
 use Rattle.std.specs.Cmp.{IsTotalOrder, tied_back}
 use Rattle.key_order.specs.Map.{SameMap, last_key}
 use Rattle.key_order.specs.Order.{Same}
 use Rattle.key_order.proofs.SameKeys.{SameKeys}
 use Rattle.key_order.proofs.ListParts.{each-append, each-before, each-behind}
-use Rattle.merkle_bytes.specs.Encodings.{SameLists}
 use Rattle.merkle_bytes.specs.Options.{IsOption}
 use Rattle.merkle_diff.proofs.Each.{each-mapped, each-unmapped}
 use Rattle.merkle_replica.specs.Contents.{Side}
@@ -99,7 +98,7 @@ module _ {K V H : Type 0} (laws : Laws K V H) (o : IsTotalOrder laws.cmp) (is_ke
 
   -- what was told of pages is taken
   pub outlines_keys : (rows : List (K × V)) (E : OwnedGap K → OwnedGap K → Type 0) (with_pages : Bool) (items : OwnedGap K → List (Item K (List ℕ))) → ((g : OwnedGap K) → AllByRecursion (λ m. is_key m.0) (nodes_among (items g)))
-      → (ts us : List (OwnedGap K × Outline K V)) (before after : Found K V) → AllByRecursion (λ g. HasKeyBounds is_key (owned_gap g)) (map (λ t. t.0) ts) → SameLists (λ t u. E t.0 u.0 × SameOutline laws.cmp laws.eq t.1 u.1) ts us
+      → (ts us : List (OwnedGap K × Outline K V)) (before after : Found K V) → AllByRecursion (λ g. HasKeyBounds is_key (owned_gap g)) (map (λ t. t.0) ts) → AllZip (λ t u. E t.0 u.0 × SameOutline laws.cmp laws.eq t.1 u.1) ts us
       → AllByRecursion (λ u. IsTold laws.cmp rows with_pages (items u.0) u.1) us → AreTaken laws local ts before after → Keys before → Keys after
   outlines_keys rows E with_pages items nodes [] us before after p s told taken f = subst Keys (sym taken) f
   outlines_keys rows E with_pages items nodes (t ∷ ts) [] before after p s told taken f = absurd s

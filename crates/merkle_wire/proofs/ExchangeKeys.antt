@@ -2,7 +2,7 @@
 use Rattle.std.specs.Prelude.{⊤}
 use Rattle.std.proofs.Common.{◌≡◌, ℕ, Bool, List, [], ◌∷◌, ◌++◌, length, map, flat_map, slice_get, Option, Some, None, refl, sym, ap, subst, ◌∙◌, ◌⊎◌, inl, inr}
 use Rattle.std.specs.Global.{Vec}
-use Rattle.std.specs.List.{AllByRecursion}
+use Rattle.std.specs.List.{AllByRecursion, AllZip}
 use Rattle.std.specs.Cmp.{IsTotalOrder, IsEquivalence}
 use Rattle.std.specs.Option.{option_map}
 use Rattle.std.specs.declared.cmp.Ordering.{Ordering}
@@ -10,7 +10,6 @@ use Rattle.key_order.specs.Map.{get}
 use Rattle.key_order.specs.Order.{Same}
 use Rattle.key_order.proofs.ListParts.{each-append, each-before, each-behind, join_tells}
 use Rattle.key_order.proofs.Maps.{at_head, get_same}
-use Rattle.merkle_bytes.specs.Encodings.{SameLists}
 use Rattle.merkle_bytes.specs.Options.{IsOption}
 use Rattle.merkle_diff.proofs.Each.{each-all, each-with}
 use Rattle.merkle_replica.specs.Contents.{Contents, Side, side, tree_map}
@@ -133,7 +132,7 @@ module _ {K V H : Type 0} (laws : Laws K V H) (o : IsTotalOrder laws.cmp) (eqv :
   again_keys ask F left again reads (inr (rest, is, some, e)) a = subst IsAgain (sym e) (reads rest (subst (AllByRecursion F) (sym is) a))
 
   outlines_next : (with_pages : Bool) (kind : Kind) (ask : Vec (OwnedGap K) → Question K) (gaps gaps' left : List (OwnedGap K)) (reply : List ℕ) (before after : Found K V) (again : Option (Question K)) (told' : List (OwnedGap K × Outline K V))
-      → ((xs : Vec (OwnedGap K)) → Gaps xs.items → IsQuestion IsKey (ask xs)) → Gaps gaps → Keys before → SameLists (SameGapTold laws.cmp encoding) gaps gaps'
+      → ((xs : Vec (OwnedGap K)) → Gaps xs.items → IsQuestion IsKey (ask xs)) → Gaps gaps → Keys before → AllZip (SameGapTold laws.cmp encoding) gaps gaps'
       → Answers (λ g. IsTold laws.cmp peer.rows with_pages (items_over laws.cmp laws.bytes_of peer.tree g)) gaps' told' → reply ≡ front kind ++ outlines_bytes encoding values told'
       → HasOutlines laws n encoding values local (front kind) gaps reply before after left → AsksAgain ask left again → IsAgain again × Keys after
   outlines_next with_pages kind ask gaps gaps' left reply before after again told' reads a keys alike answers sent (told, read, some, are, lies, taken) asks =
@@ -147,7 +146,7 @@ module _ {K V H : Type 0} (laws : Laws K V H) (o : IsTotalOrder laws.cmp) (eqv :
             (each-before (λ g. HasKeyBounds IsKey (owned_gap g)) (map (λ t. t.0) told) left all) lists answers.each taken keys,
       )
 
-  parts_next : (gaps gaps' left : List (OwnedGap K)) (reply : List ℕ) (before after : Found K V) (again : Option (Question K)) (told' : List (OwnedGap K × Part K V)) → Gaps gaps → Keys before → SameLists (SameGapTold laws.cmp encoding) gaps gaps'
+  parts_next : (gaps gaps' left : List (OwnedGap K)) (reply : List ℕ) (before after : Found K V) (again : Option (Question K)) (told' : List (OwnedGap K × Part K V)) → Gaps gaps → Keys before → AllZip (SameGapTold laws.cmp encoding) gaps gaps'
       → Answers (IsPartOf laws.cmp peer.rows) gaps' told' → reply ≡ front rows_in_kind ++ parts_bytes encoding values told'
       → HasParts laws n encoding values local gaps reply before after left → AsksAgain RowsIn left again → IsAgain again × Keys after
   parts_next gaps gaps' left reply before after again told' a keys alike answers sent (told, behind, rest, read, some, are, up, are_behind, is_left, taken) asks =

@@ -2,7 +2,7 @@
 use Rattle.std.specs.Prelude.{⊤}
 use Rattle.std.proofs.Common.{◌≡◌, ℕ, Bool, true, false, List, [], ◌∷◌, ◌++◌, length, map, Option, Some, None, refl, sym, ap, subst, ◌∙◌, ◌⊎◌, inl, inr}
 use Rattle.std.specs.Global.{Vec}
-use Rattle.std.specs.List.{AllByRecursion, flat_map}
+use Rattle.std.specs.List.{AllByRecursion, flat_map, AllZip}
 use Rattle.std.specs.Cmp.{IsTotalOrder, IsEquivalence}
 use Rattle.std.specs.Ordering.{is_eq}
 use Rattle.std.specs.declared.cmp.Ordering.{Ordering}
@@ -11,7 +11,6 @@ use Rattle.key_order.specs.Order.{AnyByRecursion, Same}
 use Rattle.key_order.proofs.ListParts.{each-append, join_tells}
 use Rattle.merkle_bytes.proofs.EqualByOrder.{eq_same}
 use Rattle.merkle_bytes.specs.Counts.{count_bytes, count_told}
-use Rattle.merkle_bytes.specs.Encodings.{SameLists}
 use Rattle.merkle_bytes.specs.Options.{option_bytes}
 use Rattle.merkle_diff.proofs.Each.{each-with, each-all, any-split}
 use Rattle.merkle_replica.specs.CatchUp.{IsLacked}
@@ -120,11 +119,11 @@ module _ {K V H : Type 0} (laws : Laws K V H) (o : IsTotalOrder laws.cmp) (eqv :
     sent_fits with_pages us a.1,
   )
 
-  pub same_begin : {X Y : Type 0} (E : X → X → Type 0) (asked asked' : List X) (ts us : List (X × Y)) (l m : List X) → SameLists E asked asked' → asked ≡ map (λ t. t.0) ts ++ l → asked' ≡ map (λ t. t.0) us ++ m
-      → SameLists E (map (λ t. t.0) ts ++ l) (map (λ t. t.0) us ++ m)
-  same_begin E asked asked' ts us l m s e f = subst (λ xs. SameLists E xs (map (λ t. t.0) us ++ m)) e (subst (SameLists E asked) f s)
+  pub same_begin : {X Y : Type 0} (E : X → X → Type 0) (asked asked' : List X) (ts us : List (X × Y)) (l m : List X) → AllZip E asked asked' → asked ≡ map (λ t. t.0) ts ++ l → asked' ≡ map (λ t. t.0) us ++ m
+      → AllZip E (map (λ t. t.0) ts ++ l) (map (λ t. t.0) us ++ m)
+  same_begin E asked asked' ts us l m s e f = subst (λ xs. AllZip E xs (map (λ t. t.0) us ++ m)) e (subst (AllZip E asked) f s)
 
-  outlines_take : (with_pages : Bool) (kind : Kind) (gaps gaps' left : List (OwnedGap K)) (reply : List ℕ) (before after : Found K V) (told' : List (OwnedGap K × Outline K V)) → SameLists (SameGapTold laws.cmp encoding) gaps gaps'
+  outlines_take : (with_pages : Bool) (kind : Kind) (gaps gaps' left : List (OwnedGap K)) (reply : List ℕ) (before after : Found K V) (told' : List (OwnedGap K × Outline K V)) → AllZip (SameGapTold laws.cmp encoding) gaps gaps'
       → Answers (λ g. IsTold laws.cmp peer.rows with_pages (items_over laws.cmp laws.bytes_of peer.tree g)) gaps' told' → reply ≡ front kind ++ outlines_bytes encoding values told'
       → HasOutlines laws n encoding values local (front kind) gaps reply before after left → TakesList (About with_pages) gaps left before after
   outlines_take with_pages kind gaps gaps' left reply before after told' same answers sent (told, read, some, are, lies, taken) =
@@ -153,7 +152,7 @@ module _ {K V H : Type 0} (laws : Laws K V H) (o : IsTotalOrder laws.cmp) (eqv :
   abbrev At : K → Wanted K → Type 0
   At k w = Same laws.cmp k w.key
 
-  values_take : (keys keys' left : List (Wanted K)) (reply : List ℕ) (before after : Found K V) (told' : List (Wanted K × Option V)) → SameLists (SameWanted laws.cmp encoding) keys keys'
+  values_take : (keys keys' left : List (Wanted K)) (reply : List ℕ) (before after : Found K V) (told' : List (Wanted K × Option V)) → AllZip (SameWanted laws.cmp encoding) keys keys'
       → Answers (λ w value. value ≡ get laws.cmp peer.rows w.key) keys' told' → reply ≡ front rows_at_kind ++ values_bytes values told'
       → HasValues laws n encoding values local keys reply before after left → TakesList At keys left before after
   values_take keys keys' left reply before after told' same answers sent (told, read, some, are, taken) =
@@ -176,7 +175,7 @@ module _ {K V H : Type 0} (laws : Laws K V H) (o : IsTotalOrder laws.cmp) (eqv :
   abbrev In : K → OwnedGap K → Type 0
   In k g = IsInGap laws.cmp k (owned_gap g)
 
-  parts_take : (gaps gaps' left : List (OwnedGap K)) (reply : List ℕ) (before after : Found K V) (told' : List (OwnedGap K × Part K V)) → SameLists (SameGapTold laws.cmp encoding) gaps gaps'
+  parts_take : (gaps gaps' left : List (OwnedGap K)) (reply : List ℕ) (before after : Found K V) (told' : List (OwnedGap K × Part K V)) → AllZip (SameGapTold laws.cmp encoding) gaps gaps'
       → Answers (IsPartOf laws.cmp peer.rows) gaps' told' → reply ≡ front rows_in_kind ++ parts_bytes encoding values told'
       → HasParts laws n encoding values local gaps reply before after left → TakesList In gaps left before after
   parts_take gaps gaps' left reply before after told' same answers sent (told, behind, rest, read, some, are, lies, are_behind, is_left, taken) =

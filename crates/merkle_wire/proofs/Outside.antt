@@ -1,11 +1,11 @@
 -- Keys that don't ascend within a gap.
 use Rattle.std.proofs.Common.{◌≡◌, ℕ, ◌+◌, ◌<◌, List, [], ◌∷◌, length, drop, get_or, map, Option, Some, None, ap, sym, subst, ◌∙◌}
+use Rattle.std.specs.List.{AllZip}
 use Rattle.std.proofs.lemmas.List.{drop_more}
 use Rattle.std.specs.Cmp.{IsTotalOrder, tied_itself}
 use Rattle.std.specs.declared.cmp.Ordering.{Ordering}
 use Rattle.key_order.specs.Order.{Same}
 use Rattle.key_order.proofs.Orders.{below-same}
-use Rattle.merkle_bytes.specs.Encodings.{SameLists}
 use Rattle.merkle_search_tree.proofs.SameItems.{same_gap-own}
 use Rattle.merkle_tree_theory.specs.Gap.{Gap, IsAfter, IsBefore, SameBound, SameGap}
 use Rattle.merkle_wire.specs.Coming.{AscendBetween, AscendIn}
@@ -39,17 +39,17 @@ module _ {K : Type 0} (cmp : K → K → Ordering) (o : IsTotalOrder cmp) where
   before-same (Some a) None j k s e l = absurd s
   before-same (Some a) (Some b) j k s e l = below-same cmp o j k a b e s l
 
-  pub ascend_between-same : (a b c d : Option K) (js ks : List K) → SameBound cmp a b → SameBound cmp c d → SameLists (Same cmp) js ks → AscendBetween cmp a c js → AscendBetween cmp b d ks
+  pub ascend_between-same : (a b c d : Option K) (js ks : List K) → SameBound cmp a b → SameBound cmp c d → AllZip (Same cmp) js ks → AscendBetween cmp a c js → AscendBetween cmp b d ks
   ascend_between-same a b c d [] [] s t e up = tt
   ascend_between-same a b c d [] (k ∷ ks) s t e up = absurd e
   ascend_between-same a b c d (j ∷ js) [] s t e up = absurd e
   ascend_between-same a b c d (j ∷ js) (k ∷ ks) s t e up = (after-same a b j k s e.0 up.0, before-same c d j k t e.0 up.1, ascend_between-same (Some j) (Some k) c d js ks e.0 t e.1 up.2)
 
   -- keys ascend within a gap where equal keys do
-  pub ascend-same : (g : Gap K) (js ks : List K) → SameLists (Same cmp) js ks → AscendIn cmp g js → AscendIn cmp g ks
+  pub ascend-same : (g : Gap K) (js ks : List K) → AllZip (Same cmp) js ks → AscendIn cmp g js → AscendIn cmp g ks
   ascend-same g js ks = let own = same_gap-own cmp o g in ascend_between-same g.after g.after g.before g.before js ks own.0 own.1
 
-  pub own_keys : (ks : List K) → SameLists (Same cmp) ks ks
+  pub own_keys : (ks : List K) → AllZip (Same cmp) ks ks
   own_keys [] = tt
   own_keys (k ∷ ks) = (tied_itself o k, own_keys ks)
 

@@ -1,7 +1,7 @@
 -- What is taken of what came covers the keys that it is about, while digests are faithful.
 use Rattle.std.specs.Prelude.{not}
 use Rattle.std.proofs.Common.{◌≡◌, ℕ, Bool, true, false, List, [], ◌∷◌, map, Option, Some, None, refl, sym, ap, subst, ◌∙◌, ◌⊎◌, inl, inr}
-use Rattle.std.specs.List.{AllByRecursion, filter}
+use Rattle.std.specs.List.{AllByRecursion, filter, AllZip}
 use Rattle.std.specs.Cmp.{IsTotalOrder, IsEquivalence, tied_back}
 use Rattle.std.specs.Cmp.Lexicographic.{bytes_decides}
 use Rattle.std.specs.Option.{option_map}
@@ -10,7 +10,6 @@ use Rattle.key_order.specs.Order.{AnyByRecursion, Same}
 use Rattle.key_order.proofs.SameKeys.{SameKeys}
 use Rattle.key_order.proofs.Bools.{which}
 use Rattle.key_order.proofs.Maps.{get_same}
-use Rattle.merkle_bytes.specs.Encodings.{SameLists}
 use Rattle.merkle_diff.proofs.Each.{each-both}
 use Rattle.merkle_replica.specs.CatchUp.{IsLacked}
 use Rattle.merkle_replica.specs.Contents.{Side, tree_map}
@@ -133,14 +132,14 @@ module _ {K V H : Type 0} (laws : Laws K V H) (o : IsTotalOrder laws.cmp) (eqv :
   rows_at_cover (j ∷ ks) rows k some (inr (row, rest, s, there, a, e)) (inr i) = subst (AnyByRecursion (λ r. Same laws.cmp k r.0)) (sym e) (inr (rows_at_cover ks rest k some a i))
 
   -- so are rows that are equal to them
-  pub theirs_alike : (rs ss : List (K × V)) → SameLists (SameRow laws.cmp laws.eq) rs ss → AllByRecursion Theirs ss → AllByRecursion Theirs rs
+  pub theirs_alike : (rs ss : List (K × V)) → AllZip (SameRow laws.cmp laws.eq) rs ss → AllByRecursion Theirs ss → AllByRecursion Theirs rs
   theirs_alike [] [] s a = tt
   theirs_alike [] (x ∷ ss) s a = absurd s
   theirs_alike (r ∷ rs) [] s a = absurd s
   theirs_alike (r ∷ rs) (x ∷ ss) s ((v, there, e), a) =
       ((v, get_same laws.cmp o peer.rows r.0 x.0 s.0.0 ∙ there, eqv.congr r.1 x.1 v s.0.1 ∙ e), theirs_alike rs ss s.1 a)
 
-  pub any_alike : (rs ss : List (K × V)) (k : K) → SameLists (SameRow laws.cmp laws.eq) rs ss → AnyByRecursion (λ r. Same laws.cmp k r.0) ss → AnyByRecursion (λ r. Same laws.cmp k r.0) rs
+  pub any_alike : (rs ss : List (K × V)) (k : K) → AllZip (SameRow laws.cmp laws.eq) rs ss → AnyByRecursion (λ r. Same laws.cmp k r.0) ss → AnyByRecursion (λ r. Same laws.cmp k r.0) rs
   any_alike [] [] k s i = absurd i
   any_alike [] (x ∷ ss) k s i = absurd s
   any_alike (r ∷ rs) [] k s i = absurd s

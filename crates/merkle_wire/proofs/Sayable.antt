@@ -1,14 +1,13 @@
 -- What a peer says of its pages and rows can be said to the question, where its pages fill the gaps and its rows can be told.
 use Rattle.std.proofs.Common.{◌≡◌, ◌≢◌, ℕ, Bool, List, [], ◌∷◌, ◌++◌, map, flat_map, Option, Some, None, refl, sym, ap, ap₂, subst, ◌∙◌, inl, inr, arith}
 use Rattle.std.specs.Cmp.{IsTotalOrder, tied_back, tied_itself}
-use Rattle.std.specs.List.{AllByRecursion}
+use Rattle.std.specs.List.{AllByRecursion, AllZip}
 use Rattle.std.specs.Option.{option_map}
 use Rattle.std.specs.declared.cmp.Ordering.{Ordering}
 use Rattle.key_order.specs.Map.{IsMap, get}
 use Rattle.key_order.specs.Order.{Below}
 use Rattle.key_order.proofs.ListParts.{each-before, each-behind, map-first, map-rest}
 use Rattle.key_order.proofs.Maps.{get_same}
-use Rattle.merkle_bytes.specs.Encodings.{SameLists}
 use Rattle.merkle_bytes.specs.Options.{IsOption}
 use Rattle.merkle_diff.proofs.Each.{each-both, each-mapped, each-with}
 use Rattle.merkle_replica.specs.Contents.{Side, tree_map}
@@ -170,38 +169,38 @@ module _ {X Y : Type 0} (E : X → X → Type 0) where
   abbrev Alike : X × Y → X × Y → Type 0
   Alike t u = E t.0 u.0 × (t.1 ≡ u.1)
 
-  pub told_again : (xs : List X) (us : List (X × Y)) (others : List X) → SameLists E xs (map (λ u. u.0) us ++ others) → (ts : List (X × Y)) × (left : List X) × (xs ≡ map (λ t. t.0) ts ++ left) × SameLists Alike ts us
+  pub told_again : (xs : List X) (us : List (X × Y)) (others : List X) → AllZip E xs (map (λ u. u.0) us ++ others) → (ts : List (X × Y)) × (left : List X) × (xs ≡ map (λ t. t.0) ts ++ left) × AllZip Alike ts us
   told_again xs [] others s = ([], xs, refl, tt)
   told_again [] (u ∷ us) others s = absurd s
   told_again (x ∷ xs) (u ∷ us) others s = let (ts, left, e, r) = told_again xs us others s.1 in ((x, u.1) ∷ ts, left, ap (λ ys. x ∷ ys) e, ((s.0, refl), r))
 
   module _ (bytes : X × Y → List ℕ) (one : (t u : X × Y) → Alike t u → bytes t ≡ bytes u) where
-    bytes_alike : (ts us : List (X × Y)) → SameLists Alike ts us → flat_map bytes ts ≡ flat_map bytes us
+    bytes_alike : (ts us : List (X × Y)) → AllZip Alike ts us → flat_map bytes ts ≡ flat_map bytes us
     bytes_alike [] [] s = refl
     bytes_alike [] (u ∷ us) s = absurd s
     bytes_alike (t ∷ ts) [] s = absurd s
     bytes_alike (t ∷ ts) (u ∷ us) s = ap₂ (λ a b. a ++ b) (one t u s.0) (bytes_alike ts us s.1)
 
     module _ (F : X → Type 0) (P Q : X → Y → Type 0) (says : (x x' : X) (y : Y) → E x x' → F x → Q x' y → P x y) where
-      each_alike : (ts us : List (X × Y)) → SameLists Alike ts us → AllByRecursion F (map (λ t. t.0) ts) → AllByRecursion (λ u. Q u.0 u.1) us → AllByRecursion (λ t. P t.0 t.1) ts
+      each_alike : (ts us : List (X × Y)) → AllZip Alike ts us → AllByRecursion F (map (λ t. t.0) ts) → AllByRecursion (λ u. Q u.0 u.1) us → AllByRecursion (λ t. P t.0 t.1) ts
       each_alike [] us s f q = tt
       each_alike (t ∷ ts) [] s f q = absurd s
       each_alike (t ∷ ts) (u ∷ us) s f q = (says t.0 u.0 t.1 s.0.0 f.0 (subst (Q u.0) (sym s.0.1) q.0), each_alike ts us s.1 f.1 q.1)
 
-      some_alike : (ts us : List (X × Y)) → SameLists Alike ts us → us ≢ [] → ts ≢ []
+      some_alike : (ts us : List (X × Y)) → AllZip Alike ts us → us ≢ [] → ts ≢ []
       some_alike [] [] s some e = some refl
       some_alike [] (u ∷ us) s some e = absurd s
       some_alike (t ∷ ts) us s some e = absurd (cc)
 
-      some_asked : (xs ys : List X) → SameLists E xs ys → xs ≢ [] → ys ≢ []
+      some_asked : (xs ys : List X) → AllZip E xs ys → xs ≢ [] → ys ≢ []
       some_asked [] ys s some e = some refl
       some_asked (x ∷ xs) [] s some e = absurd s
       some_asked (x ∷ xs) (y ∷ ys) s some e = absurd (cc)
 
       -- what answers one list says what can be said of the other
-      pub answers_say : (xs ys : List X) (us : List (X × Y)) → SameLists E xs ys → xs ≢ [] → AllByRecursion F xs → Answers Q ys us → Says P (flat_map bytes) xs (flat_map bytes us)
+      pub answers_say : (xs ys : List X) (us : List (X × Y)) → AllZip E xs ys → xs ≢ [] → AllByRecursion F xs → Answers Q ys us → Says P (flat_map bytes) xs (flat_map bytes us)
       answers_say xs ys us s some f a =
-          let (ts, left, begins, alike) = told_again xs us a.left (subst (SameLists E xs) a.begins s) in
+          let (ts, left, begins, alike) = told_again xs us a.left (subst (AllZip E xs) a.begins s) in
           record {
             told = ts;
             left = left;

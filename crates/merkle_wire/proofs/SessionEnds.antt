@@ -3,14 +3,13 @@ use Rattle.std.specs.Prelude.{⊤}
 use Rattle.std.proofs.Common.{◌≡◌, ◌≢◌, ℕ, ◌+◌, ◌*◌, ◌≤◌, Bool, true, false, not, List, [], ◌∷◌, ◌++◌, length, map, flat_map, Option, Some, None, refl, sym, ap, subst, ◌∙◌, ◌⊎◌, inl, inr, arith}
 use Rattle.std.proofs.lemmas.List.{length-append, length-map}
 use Rattle.std.specs.Global.{Vec}
-use Rattle.std.specs.List.{AllByRecursion, filter}
+use Rattle.std.specs.List.{AllByRecursion, filter, AllZip}
 use Rattle.std.specs.Cmp.{IsTotalOrder, IsEquivalence, tied_back}
 use Rattle.std.specs.declared.cmp.Ordering.{Ordering}
 use Rattle.key_order.specs.Map.{SameMap, get, last_key}
 use Rattle.key_order.proofs.SameKeys.{SameKeys}
 use Rattle.key_order.proofs.Bools.{which}
 use Rattle.key_order.proofs.ListParts.{each-before, each-behind, join_tells}
-use Rattle.merkle_bytes.specs.Encodings.{SameLists}
 use Rattle.merkle_diff.proofs.Each.{each-all, each-mapped, each-with}
 use Rattle.merkle_replica.specs.Contents.{Contents, Side, side, tree_map}
 use Rattle.merkle_replica.specs.Laws.{Laws}
@@ -183,7 +182,7 @@ module _ {K V H : Type 0} (laws : Laws K V H) (o : IsTotalOrder laws.cmp) (eqv :
   Filled rounds g = IsFilled laws (side peer) root 257 rounds (owned_gap g)
 
   outlines_less : (with_pages : Bool) (rounds : ℕ) (ts us : List (OwnedGap K × Outline K V)) (before after : Found K V) → AllByRecursion (Filled rounds) (map (λ t. t.0) ts)
-      → SameLists (λ t u. SameGapTold laws.cmp encoding t.0 u.0 × SameOutline laws.cmp laws.eq t.1 u.1) ts us → AllByRecursion (λ u. IsTold laws.cmp peer.rows with_pages (items_over laws.cmp laws.bytes_of peer.tree u.0) u.1) us
+      → AllZip (λ t u. SameGapTold laws.cmp encoding t.0 u.0 × SameOutline laws.cmp laws.eq t.1 u.1) ts us → AllByRecursion (λ u. IsTold laws.cmp peer.rows with_pages (items_over laws.cmp laws.bytes_of peer.tree u.0) u.1) us
       → AllByRecursion (λ t. LiesIn laws.cmp n (owned_gap t.0) t.1) ts → AreTaken laws local ts before after → left_found after + length ts ≤ left_found before + total (λ g. left_about with_pages (owned_gap g)) (map (λ t. t.0) ts)
   outlines_less with_pages rounds [] us before after filled s told lies taken = omega (arith, ap left_found taken)
   outlines_less with_pages rounds (t ∷ ts) [] before after filled s told lies taken = absurd s
@@ -214,7 +213,7 @@ module _ {K V H : Type 0} (laws : Laws K V H) (o : IsTotalOrder laws.cmp) (eqv :
   twice (g ∷ gs) = omega (arith, twice gs)
 
   outlines_left : (with_pages : Bool) (kind : Kind) (rounds : ℕ) (gaps gaps' left : List (OwnedGap K)) (reply : List ℕ) (before after : Found K V) (told' : List (OwnedGap K × Outline K V)) → AllByRecursion (Filled rounds) gaps
-      → SameLists (SameGapTold laws.cmp encoding) gaps gaps' → Answers (λ g. IsTold laws.cmp peer.rows with_pages (items_over laws.cmp laws.bytes_of peer.tree g)) gaps' told' → reply ≡ front kind ++ outlines_bytes encoding values told'
+      → AllZip (SameGapTold laws.cmp encoding) gaps gaps' → Answers (λ g. IsTold laws.cmp peer.rows with_pages (items_over laws.cmp laws.bytes_of peer.tree g)) gaps' told' → reply ≡ front kind ++ outlines_bytes encoding values told'
       → HasOutlines laws n encoding values local (front kind) gaps reply before after left
       → left_found after + total (λ g. left_about with_pages (owned_gap g)) left + 1 ≤ left_found before + total (λ g. left_about with_pages (owned_gap g)) gaps
   outlines_left with_pages kind rounds gaps gaps' left reply before after told' filled alike answers sent (told, read, some, are, lies, taken) =
@@ -263,7 +262,7 @@ module _ {K V H : Type 0} (laws : Laws K V H) (o : IsTotalOrder laws.cmp) (eqv :
         parts_less ts rest up.1 (each-behind IsKey t.1.rows others keys) more,
       ))
 
-  parts_left : (gaps gaps' left : List (OwnedGap K)) (reply : List ℕ) (before after : Found K V) (told' : List (OwnedGap K × Part K V)) → SameLists (SameGapTold laws.cmp encoding) gaps gaps'
+  parts_left : (gaps gaps' left : List (OwnedGap K)) (reply : List ℕ) (before after : Found K V) (told' : List (OwnedGap K × Part K V)) → AllZip (SameGapTold laws.cmp encoding) gaps gaps'
       → Answers (IsPartOf laws.cmp peer.rows) gaps' told' → reply ≡ front rows_in_kind ++ parts_bytes encoding values told' → HasParts laws n encoding values local gaps reply before after left
       → left_found after + in_gaps left + 1 ≤ left_found before + in_gaps gaps
   parts_left gaps gaps' left reply before after told' alike answers sent (told, behind, rest, read, some, are, up, are_behind, is_left, taken) =

@@ -2,7 +2,7 @@
 use Rattle.std.specs.Prelude.{⊤}
 use Rattle.std.proofs.Common.{◌≡◌, ◌≢◌, ℕ, ◌+◌, ◌<◌, ◌≤◌, Bool, true, false, List, [], ◌∷◌, ◌++◌, append_assoc, length, map, flat_map, Option, Some, None, refl, sym, ap, subst, ◌∙◌, inl, inr, arith}
 use Rattle.std.specs.Global.{Vec}
-use Rattle.std.specs.List.{AllByRecursion}
+use Rattle.std.specs.List.{AllByRecursion, AllZip}
 use Rattle.std.specs.Cmp.{IsTotalOrder, IsEquivalence, tied_itself}
 use Rattle.key_order.specs.Map.{IsMap, get}
 use Rattle.key_order.specs.Order.{Same}
@@ -10,7 +10,6 @@ use Rattle.key_order.proofs.ListParts.{each-append, each-before, each-behind, jo
 use Rattle.key_order.proofs.SameKeys.{SameKeys, same_keys-back}
 use Rattle.key_order.proofs.SameMaps.{ascends, same_is_map}
 use Rattle.merkle_bytes.specs.Counts.{count_bytes}
-use Rattle.merkle_bytes.specs.Encodings.{SameLists}
 use Rattle.merkle_bytes.specs.Options.{IsOption, option_bytes}
 use Rattle.merkle_bytes.specs.Runs.{bound_key}
 use Rattle.merkle_diff.proofs.Each.{each-all, each-with}
@@ -123,7 +122,7 @@ module _ {K V H : Type 0} (laws : Laws K V H) (o : IsTotalOrder laws.cmp) (eqv :
   SameTold t u = SameGapTold laws.cmp encoding t.0 u.0 × SameOutline laws.cmp laws.eq t.1 u.1
 
   all_pages : (with_pages : Bool) (rounds : ℕ) (ts us : List (OwnedGap K × Outline K V)) (before after : Found K V) → (with_pages ≡ true → AllByRecursion (λ g. Filled 257 rounds (owned_gap g)) (map (λ t. t.0) ts))
-      → SameLists SameTold ts us → AllByRecursion (Told with_pages) us → AreTaken laws local ts before after → Pages rounds before → Pages rounds after
+      → AllZip SameTold ts us → AllByRecursion (Told with_pages) us → AreTaken laws local ts before after → Pages rounds before → Pages rounds after
   all_pages with_pages rounds [] us before after filled s told taken p = subst (Pages rounds) (sym taken) p
   all_pages with_pages rounds (t ∷ ts) [] before after filled s told taken p = absurd s
   all_pages with_pages rounds (t ∷ ts) (u ∷ us) before after filled s told (mid, one, more) p =
@@ -139,7 +138,7 @@ module _ {K V H : Type 0} (laws : Laws K V H) (o : IsTotalOrder laws.cmp) (eqv :
       → ((xs : Vec (OwnedGap K)) → xs.items ≢ [] → AsksForSome (ask xs)) → ((xs : Vec (OwnedGap K)) → AllByRecursion (λ g. Filled 257 r (owned_gap g)) xs.items → AsksForPages laws (side peer) root rounds (ask xs))
       → ((k : K) (xs : Vec (OwnedGap K)) → times_asked laws (side peer) root k (ask xs) ≡ total (λ g. times_about laws o local (side peer) root tree sides.same n k with_pages (owned_gap g)) xs.items)
       → (with_pages ≡ true → r ≡ rounds) → AllByRecursion (λ g. Filled 257 r (owned_gap g)) gaps → Steady rounds (λ k. total (λ g. times_about laws o local (side peer) root tree sides.same n k with_pages (owned_gap g)) gaps) before
-      → SameLists (SameGapTold laws.cmp encoding) gaps gaps' → Answers (λ g. IsTold laws.cmp peer.rows with_pages (items_over laws.cmp laws.bytes_of peer.tree g)) gaps' told' → reply ≡ front kind ++ outlines_bytes encoding values told'
+      → AllZip (SameGapTold laws.cmp encoding) gaps gaps' → Answers (λ g. IsTold laws.cmp peer.rows with_pages (items_over laws.cmp laws.bytes_of peer.tree g)) gaps' told' → reply ≡ front kind ++ outlines_bytes encoding values told'
       → HasOutlines laws n encoding values local (front kind) gaps reply before after left → AsksAgain ask left again → StaySteady rounds again after
   outlines_stay with_pages kind ask r rounds gaps gaps' left reply before after again told' some pages count same_rounds filled s same answers sent (told, read, any, are, lies, taken) asks =
       let bytes = (join_tells (front kind) (front kind) (outlines_bytes encoding values told) (outlines_bytes encoding values told') refl (sym read ∙ sent)).1 in

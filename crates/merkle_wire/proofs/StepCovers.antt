@@ -1,6 +1,6 @@
 -- What is taken of a reply, and what is asked again, cover the keys that were asked about, while digests are faithful.
 use Rattle.std.proofs.Common.{◌≡◌, ℕ, Bool, true, false, List, [], ◌∷◌, ◌++◌, map, Option, Some, None, refl, sym, ap, subst, ◌∙◌, ◌⊎◌, inl, inr}
-use Rattle.std.specs.List.{AllByRecursion, flat_map}
+use Rattle.std.specs.List.{AllByRecursion, flat_map, AllZip}
 use Rattle.std.specs.Cmp.{IsTotalOrder, IsEquivalence, tied_itself, tied_back}
 use Rattle.std.specs.Ordering.{is_eq}
 use Rattle.std.specs.declared.cmp.Ordering.{Ordering}
@@ -11,7 +11,6 @@ use Rattle.key_order.proofs.Bools.{which, is_equal}
 use Rattle.key_order.proofs.Maps.{get_same, at_head, past_head}
 use Rattle.key_order.proofs.Orders.{up_low, low_up, same_up, same_down}
 use Rattle.merkle_digest.specs.Level.{level_of}
-use Rattle.merkle_bytes.specs.Encodings.{SameLists}
 use Rattle.merkle_diff.proofs.Each.{each-with, any-split}
 use Rattle.merkle_replica.specs.CatchUp.{IsLacked}
 use Rattle.merkle_replica.specs.Contents.{Side}
@@ -83,14 +82,14 @@ module _ {K V H : Type 0} (laws : Laws K V H) (o : IsTotalOrder laws.cmp) (eqv :
     pub outlines_keep : (ts : List (OwnedGap K × Outline K V)) (before after : Found K V) (k : K) → AreTaken laws local ts before after → Among k before → Among k after
     outlines_keep = all_keep
 
-    pub outlines_new : (ts us : List (OwnedGap K × Outline K V)) (before after : Found K V) → SameLists SameTold ts us → AllByRecursion IsToldOf us → AreTaken laws local ts before after → AllByRecursion New before.rows → AllByRecursion New after.rows
+    pub outlines_new : (ts us : List (OwnedGap K × Outline K V)) (before after : Found K V) → AllZip SameTold ts us → AllByRecursion IsToldOf us → AreTaken laws local ts before after → AllByRecursion New before.rows → AllByRecursion New after.rows
     outlines_new [] [] before after s told taken a = subst (λ f. AllByRecursion New f.rows) (sym taken) a
     outlines_new [] (u ∷ us) before after s told taken a = absurd s
     outlines_new (t ∷ ts) [] before after s told taken a = absurd s
     outlines_new (t ∷ ts) (u ∷ us) before after s told (mid, one, more) a =
         outlines_new ts us mid after s.1 told.1 more (one_new laws o eqv local peer root tree sides with_pages (owned_gap t.0) (owned_gap u.0) t.1 u.1 before mid s.0.1 told.0 one a)
 
-    pub outlines_cover : IsFaithfulSession laws local peer → (ts us : List (OwnedGap K × Outline K V)) (before after : Found K V) (k : K) → Lacked k → SameLists SameTold ts us → AllByRecursion IsToldOf us → AreTaken laws local ts before after
+    pub outlines_cover : IsFaithfulSession laws local peer → (ts us : List (OwnedGap K × Outline K V)) (before after : Found K V) (k : K) → Lacked k → AllZip SameTold ts us → AllByRecursion IsToldOf us → AreTaken laws local ts before after
         → AnyByRecursion (λ g. IsAbout laws o eqv local peer root tree sides with_pages k (owned_gap g)) (map (λ t. t.0) ts) → Among k after
     outlines_cover faith [] us before after k l s told taken i = absurd i
     outlines_cover faith (t ∷ ts) [] before after k l s told taken i = absurd s
@@ -125,7 +124,7 @@ module _ {K V H : Type 0} (laws : Laws K V H) (o : IsTotalOrder laws.cmp) (eqv :
     one_row_theirs (w, Some v) (x, None) s is = absurd s.1
     one_row_theirs (w, Some v) (x, Some y) s is = ((y, get_same laws.cmp o peer.rows w.key x.key (same_key w x s.0) ∙ sym is, s.1), tt)
 
-    pub values_theirs : (ts us : List (Wanted K × Option V)) → SameLists SameValueAt ts us → AllByRecursion IsValueAt us → AllByRecursion Theirs (flat_map value_row ts)
+    pub values_theirs : (ts us : List (Wanted K × Option V)) → AllZip SameValueAt ts us → AllByRecursion IsValueAt us → AllByRecursion Theirs (flat_map value_row ts)
     values_theirs [] us s a = tt
     values_theirs (t ∷ ts) [] s a = absurd s
     values_theirs (t ∷ ts) (u ∷ us) s a = each-append Theirs (value_row t) (flat_map value_row ts) (one_row_theirs t u s.0 a.0) (values_theirs ts us s.1 a.1)
@@ -135,7 +134,7 @@ module _ {K V H : Type 0} (laws : Laws K V H) (o : IsTotalOrder laws.cmp) (eqv :
     one_row_covers (w, None) (x, Some y) k l s is i = absurd s.1
     one_row_covers (w, None) (x, None) k l s is i = absurd (has_row_there laws o eqv local peer k l (get_same laws.cmp o peer.rows k w.key i ∙ get_same laws.cmp o peer.rows w.key x.key (same_key w x s.0) ∙ sym is))
 
-    pub values_cover : (ts us : List (Wanted K × Option V)) (k : K) → Lacked k → SameLists SameValueAt ts us → AllByRecursion IsValueAt us → AnyByRecursion (λ w. Same laws.cmp k w.key) (map (λ t. t.0) ts)
+    pub values_cover : (ts us : List (Wanted K × Option V)) (k : K) → Lacked k → AllZip SameValueAt ts us → AllByRecursion IsValueAt us → AnyByRecursion (λ w. Same laws.cmp k w.key) (map (λ t. t.0) ts)
         → AnyByRecursion (λ r. Same laws.cmp k r.0) (flat_map value_row ts)
     values_cover [] us k l s a i = absurd i
     values_cover (t ∷ ts) [] k l s a i = absurd s
@@ -155,7 +154,7 @@ module _ {K V H : Type 0} (laws : Laws K V H) (o : IsTotalOrder laws.cmp) (eqv :
         each-filter Theirs (λ r. is_in_gap laws.cmp r.0 g) peer.rows
         (each-with (λ r. get laws.cmp peer.rows r.0 ≡ Some r.1) Theirs peer.rows (λ r e. (r.1, e, eqv.refl r.1)) (finds_own laws.cmp o peer.rows sides.up_peer))
 
-    pub parts_theirs : (ts us : List (OwnedGap K × Part K V)) → SameLists SamePartOf ts us → AllByRecursion IsPart us → AllByRecursion Theirs (flat_map (λ t. t.1.rows) ts)
+    pub parts_theirs : (ts us : List (OwnedGap K × Part K V)) → AllZip SamePartOf ts us → AllByRecursion IsPart us → AllByRecursion Theirs (flat_map (λ t. t.1.rows) ts)
     parts_theirs [] us s a = tt
     parts_theirs (t ∷ ts) [] s a = absurd s
     parts_theirs (t ∷ ts) (u ∷ us) s ((more, is, whole, some), a) =
@@ -171,7 +170,7 @@ module _ {K V H : Type 0} (laws : Laws K V H) (o : IsTotalOrder laws.cmp) (eqv :
         by (Some v) e = (v, e)
 
     -- the last of rows is below what equal rows are below
-    last_low : (r : K × V) (rs ss : List (K × V)) (k : K) → SameLists (SameRow laws.cmp laws.eq) (r ∷ rs) ss → AllByRecursion (λ s. Below laws.cmp s.0 k) ss → Below laws.cmp (last_key r.0 rs) k
+    last_low : (r : K × V) (rs ss : List (K × V)) (k : K) → AllZip (SameRow laws.cmp laws.eq) (r ∷ rs) ss → AllByRecursion (λ s. Below laws.cmp s.0 k) ss → Below laws.cmp (last_key r.0 rs) k
     last_low r rs [] k s a = absurd s
     last_low r [] (x ∷ ss) k s a = up_low laws.cmp o r.0 x.0 k (same_up laws.cmp o r.0 x.0 s.0.0) a.0
     last_low r (q ∷ rs) (x ∷ ss) k s a = last_low q rs ss k s.1 a.1
@@ -200,10 +199,10 @@ module _ {K V H : Type 0} (laws : Laws K V H) (o : IsTotalOrder laws.cmp) (eqv :
         go (inr a) (inl (all, none)) = absurd (subst (AnyByRecursion (λ r. Same laws.cmp k r.0)) (whole (sym s.1.1 ∙ all)) a)
         go (inr a) (inr (row, rows, own, part, e, same, is_own)) =
             let ascends : IsMap laws.cmp (u.1.rows ++ more) = subst (IsMap laws.cmp) is (map_at laws.cmp o (λ j. is_in_gap laws.cmp j (owned_gap u.0)) peer.rows sides.up_peer) in
-            let low = last_low row rows u.1.rows k (subst (λ xs. SameLists (SameRow laws.cmp laws.eq) xs u.1.rows) e s.1.0) (before_low u.1.rows more k ascends a) in
+            let low = last_low row rows u.1.rows k (subst (λ xs. AllZip (SameRow laws.cmp laws.eq) xs u.1.rows) e s.1.0) (before_low u.1.rows more k ascends a) in
             inr (subst (AnyByRecursion (λ g. IsInGap laws.cmp k (owned_gap g))) (sym is_own) (inl (in_gap-alike laws.cmp o (part_behind (owned_gap t.0) (last_key row.0 rows)) (owned_gap own) k same (low, i.1))))
 
-    pub parts_cover : (ts us : List (OwnedGap K × Part K V)) (left : List (OwnedGap K)) (k : K) → Lacked k → SameLists SamePartOf ts us → AllByRecursion IsPart us → AreBehind laws local ts left
+    pub parts_cover : (ts us : List (OwnedGap K × Part K V)) (left : List (OwnedGap K)) (k : K) → Lacked k → AllZip SamePartOf ts us → AllByRecursion IsPart us → AreBehind laws local ts left
         → AnyByRecursion (λ g. IsInGap laws.cmp k (owned_gap g)) (map (λ t. t.0) ts) → AnyByRecursion (λ r. Same laws.cmp k r.0) (flat_map (λ t. t.1.rows) ts) ⊎ AnyByRecursion (λ g. IsInGap laws.cmp k (owned_gap g)) left
     parts_cover [] us left k l s a behind i = absurd i
     parts_cover (t ∷ ts) [] left k l s a behind i = absurd s

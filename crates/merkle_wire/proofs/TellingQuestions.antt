@@ -1,10 +1,10 @@
 -- Bytes tell a question, up to equal keys.
 use Rattle.std.specs.Prelude.{⊤}
+use Rattle.std.specs.List.{AllZip}
 use Rattle.std.proofs.Common.{◌≡◌, ℕ, List, [], ◌∷◌, ◌++◌, append_assoc, Option, Some, None, refl, sym, ap, ◌∙◌, arith}
 use Rattle.std.specs.declared.cmp.Ordering.{Ordering}
 use Rattle.key_order.specs.Order.{Same}
 use Rattle.merkle_bytes.specs.Counts.{count_bytes, count_told}
-use Rattle.merkle_bytes.specs.Encodings.{SameLists}
 use Rattle.merkle_bytes.specs.Keys.{key_behind}
 use Rattle.merkle_bytes.specs.RunTelling.{behind_told}
 use Rattle.merkle_bytes.specs.Runs.{bound_behind, bound_key}
@@ -42,10 +42,10 @@ module _ {K : Type 0} (cmp : K → K → Ordering) (encoding : K → List ℕ) w
   -- questions that bytes tell: of one kind, about the same gaps or keys
   abbrev pub SameQuestion : Question K → Question K → Type 0
   SameQuestion (Root s) (Root t) = ⊤
-  SameQuestion (Outlines m gs) (Outlines n hs) = SameLists SameGapTold gs.items hs.items
-  SameQuestion (Nodes m gs) (Nodes n hs) = SameLists SameGapTold gs.items hs.items
-  SameQuestion (RowsAt ws) (RowsAt xs) = SameLists SameWanted ws.items xs.items
-  SameQuestion (RowsIn gs) (RowsIn hs) = SameLists SameGapTold gs.items hs.items
+  SameQuestion (Outlines m gs) (Outlines n hs) = AllZip SameGapTold gs.items hs.items
+  SameQuestion (Nodes m gs) (Nodes n hs) = AllZip SameGapTold gs.items hs.items
+  SameQuestion (RowsAt ws) (RowsAt xs) = AllZip SameWanted ws.items xs.items
+  SameQuestion (RowsIn gs) (RowsIn hs) = AllZip SameGapTold gs.items hs.items
   SameQuestion x y = ⊥
 
 module _ {K : Type 0} (cmp : K → K → Ordering) (encoding : K → List ℕ) (tells : (x y : K) → encoding x ≡ encoding y → Same cmp x y) where
@@ -68,17 +68,17 @@ module _ {K : Type 0} (cmp : K → K → Ordering) (encoding : K → List ℕ) (
       let (next, rest) = bound_tells (behind g.after) g.before h.before r s (more ∙ ap (λ l. bound_behind encoding l h.before ++ s) (sym (first.1 last))) in
       (((first.0, next.0), first.1 []), next.1 (behind g.after) ∙ ap (λ l. bound_key encoding l h.before) (first.1 last), rest)
 
-  gaps_tell : (gs hs : List (OwnedGap K)) → gaps_bytes encoding gs ≡ gaps_bytes encoding hs → SameLists (SameGapTold cmp encoding) gs hs
+  gaps_tell : (gs hs : List (OwnedGap K)) → gaps_bytes encoding gs ≡ gaps_bytes encoding hs → AllZip (SameGapTold cmp encoding) gs hs
   gaps_tell gs hs e =
       (run_told (λ last g. gap_behind encoding last (owned_gap g)) (λ last g. gap_key encoding last (owned_gap g)) (SameGapTold cmp encoding) gap_tells [] gs hs [] [] (ap (λ t. t ++ []) e)).0
 
   wanted_tell : (last : List ℕ) (w x : Wanted K) (r s : List ℕ) → key_behind last (encoding w.key) ++ r ≡ key_behind last (encoding x.key) ++ s → (SameWanted cmp encoding) w x × (encoding w.key ≡ encoding x.key) × (r ≡ s)
   wanted_tell last w x r s e = let both = behind_told last (encoding w.key) (encoding x.key) r s e in (tells w.key x.key both.0, both.0, both.1)
 
-  keys_tell : (ws xs : List (Wanted K)) → keys_bytes encoding [] ws ≡ keys_bytes encoding [] xs → SameLists (SameWanted cmp encoding) ws xs
+  keys_tell : (ws xs : List (Wanted K)) → keys_bytes encoding [] ws ≡ keys_bytes encoding [] xs → AllZip (SameWanted cmp encoding) ws xs
   keys_tell ws xs e = (run_told (λ last w. key_behind last (encoding w.key)) (λ last w. encoding w.key) (SameWanted cmp encoding) wanted_tell [] ws xs [] [] (ap (λ t. t ++ []) e)).0
 
-  counted_tell : (m n : ℕ) (gs hs : List (OwnedGap K)) → count_bytes m ++ gaps_bytes encoding gs ≡ count_bytes n ++ gaps_bytes encoding hs → SameLists (SameGapTold cmp encoding) gs hs
+  counted_tell : (m n : ℕ) (gs hs : List (OwnedGap K)) → count_bytes m ++ gaps_bytes encoding gs ≡ count_bytes n ++ gaps_bytes encoding hs → AllZip (SameGapTold cmp encoding) gs hs
   counted_tell m n gs hs e = gaps_tell gs hs (count_told m n (gaps_bytes encoding gs) (gaps_bytes encoding hs) e).1
 
   pub question_tells : (x y : Question K) → question_bytes encoding x ≡ question_bytes encoding y → (SameQuestion cmp encoding) x y

@@ -2,13 +2,12 @@
 use Rattle.std.specs.Prelude.{⊤, cond, false}
 use Rattle.std.proofs.Common.{◌≡◌, ℕ, suc, ◌<◌, ◌≤◌, Bool, true, List, [], ◌∷◌, ◌++◌, append_assoc, length, map, Option, Some, None, refl, sym, ap, ◌∙◌, arith}
 use Rattle.std.proofs.lemmas.List.{length-append}
-use Rattle.std.specs.List.{AllByRecursion, flat_map}
+use Rattle.std.specs.List.{AllByRecursion, flat_map, AllZip}
 use Rattle.std.specs.declared.cmp.Ordering.{Ordering}
 use Rattle.key_order.specs.Map.{SameMap}
 use Rattle.key_order.specs.Order.{Same}
 use Rattle.key_order.proofs.SameKeys.{SameKeys}
 use Rattle.key_order.proofs.ListParts.{join_tells}
-use Rattle.merkle_bytes.specs.Encodings.{SameLists}
 use Rattle.merkle_bytes.specs.Keys.{key_behind}
 use Rattle.merkle_bytes.specs.Options.{option_bytes}
 use Rattle.merkle_bytes.specs.RunTelling.{behind_told}
@@ -23,8 +22,8 @@ use Rattle.merkle_wire.specs.declared.wanted.Wanted.{Wanted}
 -- what was told of the first of one list is what was told of the first of another
 module _ {X Y : Type 0} (bytes : X × Y → List ℕ) (E : X → X → Type 0) (P Q : X × Y → Type 0) (F : X × Y → X × Y → Type 0) (some : (t : X × Y) → 1 ≤ length (bytes t))
     (told : (t u : X × Y) (r s : List ℕ) → E t.0 u.0 → P t → Q u → bytes t ++ r ≡ bytes u ++ s → F t u × (r ≡ s)) where
-  pub told_alike : (ts us : List (X × Y)) (l m : List X) → SameLists E (map (λ t. t.0) ts ++ l) (map (λ t. t.0) us ++ m) → AllByRecursion P ts → AllByRecursion Q us → flat_map bytes ts ≡ flat_map bytes us
-      → SameLists (λ t u. E t.0 u.0 × F t u) ts us
+  pub told_alike : (ts us : List (X × Y)) (l m : List X) → AllZip E (map (λ t. t.0) ts ++ l) (map (λ t. t.0) us ++ m) → AllByRecursion P ts → AllByRecursion Q us → flat_map bytes ts ≡ flat_map bytes us
+      → AllZip (λ t u. E t.0 u.0 × F t u) ts us
   told_alike [] [] l m s p q e = tt
   told_alike [] (u ∷ us) l m s p q e = absurd (omega (arith, ap length e, some u, length-append (bytes u) (flat_map bytes us)))
   told_alike (t ∷ ts) [] l m s p q e = absurd (omega (arith, ap length e, some t, length-append (bytes t) (flat_map bytes ts)))
@@ -82,14 +81,14 @@ module _ {K V : Type 0} (cmp : K → K → Ordering) (eq : V → V → Bool) whe
 
   -- what was told of a page, up to equal keys and equal values
   abbrev pub SameOutline : Outline K V → Outline K V → Type 0
-  SameOutline (rows_told js) (rows_told bs) = SameLists SameRow js bs
+  SameOutline (rows_told js) (rows_told bs) = AllZip SameRow js bs
   SameOutline (digests_told js) (digests_told bs) = SameMap cmp (λ d e. d ≡ e) js bs
   SameOutline (page_told c js ps) (page_told d bs qs) = (c ≡ d) × SameKeys cmp js bs × (ps ≡ qs)
   SameOutline x y = ⊥
 
   -- the first parts of rows, up to equal keys and equal values
   abbrev pub SamePart : Part K V → Part K V → Type 0
-  SamePart a b = SameLists SameRow a.rows b.rows × (a.whole ≡ b.whole)
+  SamePart a b = AllZip SameRow a.rows b.rows × (a.whole ≡ b.whole)
 
   -- values, each where there is one
   abbrev pub SameFound : Option V → Option V → Type 0
@@ -99,13 +98,13 @@ module _ {K V : Type 0} (cmp : K → K → Ordering) (eq : V → V → Bool) whe
   SameFound (Some a) (Some b) = eq a b ≡ true
 
 module _ {K : Type 0} (cmp : K → K → Ordering) where
-  same_keys : (js bs : List K) → SameLists (Same cmp) js bs → SameKeys cmp js bs
+  same_keys : (js bs : List K) → AllZip (Same cmp) js bs → SameKeys cmp js bs
   same_keys [] [] s = tt
   same_keys [] (b ∷ bs) s = absurd s
   same_keys (a ∷ js) [] s = absurd s
   same_keys (a ∷ js) (b ∷ bs) s = (s.0, same_keys js bs s.1)
 
-  pub same_length : (js bs : List K) → SameLists (Same cmp) js bs → length js ≡ length bs
+  pub same_length : (js bs : List K) → AllZip (Same cmp) js bs → length js ≡ length bs
   same_length [] [] s = refl
   same_length [] (b ∷ bs) s = absurd s
   same_length (a ∷ js) [] s = absurd s
@@ -115,7 +114,7 @@ module _ {K : Type 0} (cmp : K → K → Ordering) where
     key_tells : (last : List ℕ) (a b : K) (r s : List ℕ) → key_behind last (encoding a) ++ r ≡ key_behind last (encoding b) ++ s → Same cmp a b × (encoding a ≡ encoding b) × (r ≡ s)
     key_tells last a b r s e = let both = behind_told last (encoding a) (encoding b) r s e in (tells a b both.0, both.0, both.1)
 
-    pub keys_tell : (last : List ℕ) (js bs : List K) (r s : List ℕ) → keys_told encoding last js ++ r ≡ keys_told encoding last bs ++ s → SameLists (Same cmp) js bs × (r ≡ s)
+    pub keys_tell : (last : List ℕ) (js bs : List K) (r s : List ℕ) → keys_told encoding last js ++ r ≡ keys_told encoding last bs ++ s → AllZip (Same cmp) js bs × (r ≡ s)
     keys_tell last js bs r s e = let told = run_told (λ l k. key_behind l (encoding k)) (λ l k. encoding k) (Same cmp) key_tells last js bs r s e in (told.0, told.2)
 
 module _ {K V : Type 0} (cmp : K → K → Ordering) (eq : V → V → Bool) (encoding : K → List ℕ) (values : V → List ℕ)
@@ -128,11 +127,11 @@ module _ {K V : Type 0} (cmp : K → K → Ordering) (eq : V → V → Bool) (en
       ((tells a.0 b.0 keys.0, rest.0), keys.0, rest.1)
 
   pub rows_tell : (last : List ℕ) (js bs : List (K × V)) (r s : List ℕ) → run_bytes (row_behind encoding values) (row_key encoding) last js ++ r ≡ run_bytes (row_behind encoding values) (row_key encoding) last bs ++ s
-      → SameLists (SameRow cmp eq) js bs × (r ≡ s)
+      → AllZip (SameRow cmp eq) js bs × (r ≡ s)
   rows_tell last js bs r s e = let told = run_told (row_behind encoding values) (row_key encoding) (SameRow cmp eq) row_tells last js bs r s e in (told.0, told.2)
 
   -- nodes with equal keys and digests of n bytes
-  digests_tell : (n : ℕ) (js bs : List (K × List ℕ)) (r s : List ℕ) → SameLists (Same cmp) (keys_among js) (keys_among bs) → AllByRecursion (λ d. length d.1 ≡ n) js → AllByRecursion (λ d. length d.1 ≡ n) bs
+  digests_tell : (n : ℕ) (js bs : List (K × List ℕ)) (r s : List ℕ) → AllZip (Same cmp) (keys_among js) (keys_among bs) → AllByRecursion (λ d. length d.1 ≡ n) js → AllByRecursion (λ d. length d.1 ≡ n) bs
       → flat_map (λ p. p.1) js ++ r ≡ flat_map (λ p. p.1) bs ++ s → SameMap cmp (λ d e. d ≡ e) js bs × (r ≡ s)
   digests_tell n [] [] r s k a b e = (tt, e)
   digests_tell n [] (y ∷ bs) r s k a b e = absurd k
@@ -207,18 +206,18 @@ module _ {K V : Type 0} (cmp : K → K → Ordering) (eq : V → V → Bool) (en
 
   -- replies to questions about the same gaps or keys
   module _ (E : OwnedGap K → OwnedGap K → Type 0) (after : (g h : OwnedGap K) → E g h → bound_key encoding [] g.after ≡ bound_key encoding [] h.after) where
-    pub outlines_tell : (n : ℕ) (ts us : List (OwnedGap K × Outline K V)) (l m : List (OwnedGap K)) → SameLists E (map (λ t. t.0) ts ++ l) (map (λ t. t.0) us ++ m)
-        → AllByRecursion (λ t. Fits n t.1) ts → AllByRecursion (λ t. Fits n t.1) us → outlines_bytes encoding values ts ≡ outlines_bytes encoding values us → SameLists (λ t u. E t.0 u.0 × (SameOutline cmp eq) t.1 u.1) ts us
+    pub outlines_tell : (n : ℕ) (ts us : List (OwnedGap K × Outline K V)) (l m : List (OwnedGap K)) → AllZip E (map (λ t. t.0) ts ++ l) (map (λ t. t.0) us ++ m)
+        → AllByRecursion (λ t. Fits n t.1) ts → AllByRecursion (λ t. Fits n t.1) us → outlines_bytes encoding values ts ≡ outlines_bytes encoding values us → AllZip (λ t u. E t.0 u.0 × (SameOutline cmp eq) t.1 u.1) ts us
     outlines_tell n = told_alike (λ t. outline_bytes encoding values (bound_key encoding [] t.0.after) t.1) E (λ t. Fits n t.1) (λ t. Fits n t.1) (λ t u. (SameOutline cmp eq) t.1 u.1)
         (λ t. outline_some (bound_key encoding [] t.0.after) t.1)
         (λ t u r s same f g e. outline_tells n (bound_key encoding [] t.0.after) t.1 u.1 r s f g (e ∙ ap (λ l. outline_bytes encoding values l u.1 ++ s) (sym (after t.0 u.0 same))))
 
-    pub parts_tell : (ts us : List (OwnedGap K × Part K V)) (l m : List (OwnedGap K)) → SameLists E (map (λ t. t.0) ts ++ l) (map (λ t. t.0) us ++ m)
-        → AllByRecursion (λ t. ⊤) ts → AllByRecursion (λ t. ⊤) us → parts_bytes encoding values ts ≡ parts_bytes encoding values us → SameLists (λ t u. E t.0 u.0 × (SamePart cmp eq) t.1 u.1) ts us
+    pub parts_tell : (ts us : List (OwnedGap K × Part K V)) (l m : List (OwnedGap K)) → AllZip E (map (λ t. t.0) ts ++ l) (map (λ t. t.0) us ++ m)
+        → AllByRecursion (λ t. ⊤) ts → AllByRecursion (λ t. ⊤) us → parts_bytes encoding values ts ≡ parts_bytes encoding values us → AllZip (λ t u. E t.0 u.0 × (SamePart cmp eq) t.1 u.1) ts us
     parts_tell = told_alike (λ t. part_bytes encoding values (bound_key encoding [] t.0.after) t.1) E (λ t. ⊤) (λ t. ⊤) (λ t u. (SamePart cmp eq) t.1 u.1)
         (λ t. part_some (bound_key encoding [] t.0.after) t.1)
         (λ t u r s same f g e. part_tells (bound_key encoding [] t.0.after) t.1 u.1 r s (e ∙ ap (λ l. part_bytes encoding values l u.1 ++ s) (sym (after t.0 u.0 same))))
 
-  pub values_tell : (E : Wanted K → Wanted K → Type 0) (ts us : List (Wanted K × Option V)) (l m : List (Wanted K)) → SameLists E (map (λ t. t.0) ts ++ l) (map (λ t. t.0) us ++ m)
-      → AllByRecursion (λ t. ⊤) ts → AllByRecursion (λ t. ⊤) us → values_bytes values ts ≡ values_bytes values us → SameLists (λ t u. E t.0 u.0 × (SameFound cmp eq) t.1 u.1) ts us
+  pub values_tell : (E : Wanted K → Wanted K → Type 0) (ts us : List (Wanted K × Option V)) (l m : List (Wanted K)) → AllZip E (map (λ t. t.0) ts ++ l) (map (λ t. t.0) us ++ m)
+      → AllByRecursion (λ t. ⊤) ts → AllByRecursion (λ t. ⊤) us → values_bytes values ts ≡ values_bytes values us → AllZip (λ t u. E t.0 u.0 × (SameFound cmp eq) t.1 u.1) ts us
   values_tell E = told_alike (λ t. option_bytes values t.1) E (λ t. ⊤) (λ t. ⊤) (λ t u. (SameFound cmp eq) t.1 u.1) (λ t. value_some t.1) (λ t u r s same f g e. value_tells t.1 u.1 r s e)

@@ -1,10 +1,9 @@
 -- What is taken of a reply: a key is found as often as it was asked about, at most.
 use Rattle.std.proofs.Common.{◌≡◌, ℕ, ◌+◌, ◌≤◌, Bool, true, false, not, List, [], ◌∷◌, map, flat_map, Option, Some, None, refl, sym, ap, subst, inl, inr, arith}
-use Rattle.std.specs.List.{AllByRecursion, filter}
+use Rattle.std.specs.List.{AllByRecursion, filter, AllZip}
 use Rattle.std.specs.Cmp.{IsTotalOrder}
 use Rattle.key_order.specs.Map.{SameMap, last_key}
 use Rattle.key_order.proofs.SameKeys.{SameKeys}
-use Rattle.merkle_bytes.specs.Encodings.{SameLists}
 use Rattle.merkle_replica.specs.Contents.{Side}
 use Rattle.merkle_replica.specs.Laws.{Laws}
 use Rattle.merkle_search_tree.proofs.SameItems.{same_gap-back, same_gap-trans}
@@ -47,7 +46,7 @@ module _ {K V H : Type 0} (laws : Laws K V H) (o : IsTotalOrder laws.cmp) (local
   times_about true g = inside g
   times_about false g = times_over laws peer root k g
 
-  same_rows_times : (rs ss : List (K × V)) → SameLists (SameRow laws.cmp laws.eq) rs ss → total at_row rs ≡ total at_row ss
+  same_rows_times : (rs ss : List (K × V)) → AllZip (SameRow laws.cmp laws.eq) rs ss → total at_row rs ≡ total at_row ss
   same_rows_times [] [] s = refl
   same_rows_times [] (y ∷ ss) s = absurd s
   same_rows_times (r ∷ rs) [] s = absurd s
@@ -112,7 +111,7 @@ module _ {K V H : Type 0} (laws : Laws K V H) (o : IsTotalOrder laws.cmp) (local
 
   -- what was told of pages is taken
   pub outlines_times : (E : OwnedGap K → OwnedGap K → Type 0) → ((g h : OwnedGap K) → E g h → SameGap laws.cmp (owned_gap g) (owned_gap h)) → (with_pages : Bool) (ts us : List (OwnedGap K × Outline K V)) (before after : Found K V)
-      → SameLists (λ t u. E t.0 u.0 × SameOutline laws.cmp laws.eq t.1 u.1) ts us → AllByRecursion (λ u. IsTold laws.cmp peer.rows with_pages (outline_over peer.format laws.bytes_of laws.cmp tree (owned_gap u.0)) u.1) us
+      → AllZip (λ t u. E t.0 u.0 × SameOutline laws.cmp laws.eq t.1 u.1) ts us → AllByRecursion (λ u. IsTold laws.cmp peer.rows with_pages (outline_over peer.format laws.bytes_of laws.cmp tree (owned_gap u.0)) u.1) us
       → AllByRecursion (λ t. LiesIn laws.cmp n (owned_gap t.0) t.1) ts → AreTaken laws local ts before after → found after ≤ found before + total (λ g. times_about with_pages (owned_gap g)) (map (λ t. t.0) ts)
   outlines_times E gap with_pages [] us before after s told lies taken = omega (arith, ap found taken)
   outlines_times E gap with_pages (t ∷ ts) [] before after s told lies taken = absurd s

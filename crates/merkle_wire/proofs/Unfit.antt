@@ -2,12 +2,11 @@
 use Rattle.std.proofs.Common.{◌≡◌, ◌≢◌, ℕ, ◌+◌, ◌<◌, Bool, true, false, cond, List, [], ◌∷◌, ◌++◌, append_assoc, append-nil, length, map, Option, Some, None, refl, sym, ap, subst, ◌∙◌, arith}
 use Rattle.std.proofs.lemmas.List.{length-append, length-map}
 use Rattle.std.specs.Cmp.{IsTotalOrder}
-use Rattle.std.specs.List.{AllByRecursion, flat_map}
+use Rattle.std.specs.List.{AllByRecursion, flat_map, AllZip}
 use Rattle.std.specs.declared.cmp.Ordering.{Ordering}
 use Rattle.key_order.specs.Order.{Same}
 use Rattle.key_order.proofs.ListParts.{join_tells}
 use Rattle.merkle_bytes.specs.Counts.{count_bytes, count_told}
-use Rattle.merkle_bytes.specs.Encodings.{SameLists}
 use Rattle.merkle_bytes.specs.Keys.{key_behind}
 use Rattle.merkle_bytes.specs.Options.{option_bytes}
 use Rattle.merkle_bytes.specs.Runs.{bound_key, run_bytes, row_behind, row_key}
@@ -27,7 +26,7 @@ use Rattle.merkle_wire.proofs.Outside.{ascend-same}
 first_byte : (a b : ℕ) (r s : List ℕ) → a ∷ r ≡ b ∷ s → (a ≡ b) × (r ≡ s)
 first_byte a b r s e = (cc, cc)
 
-none_same : {X : Type 0} (E : X → X → Type 0) (xs : List X) → SameLists E xs [] → xs ≡ []
+none_same : {X : Type 0} (E : X → X → Type 0) (xs : List X) → AllZip E xs [] → xs ≡ []
 none_same E [] s = refl
 none_same E (x ∷ xs) s = absurd s
 
@@ -66,7 +65,7 @@ module _ {K : Type 0} (encoding : K → List ℕ) (is_key : K → Type 0) where
 module _ {K : Type 0} (cmp : K → K → Ordering) (o : IsTotalOrder cmp) (encoding : K → List ℕ) (tells : (x y : K) → encoding x ≡ encoding y → Same cmp x y) (is_key : K → Type 0) where
   -- what stands behind keys that were read
   behind_keys : (last : List ℕ) (keys others : List K) (tail left rest more : List ℕ) → left ≡ keys_told encoding last keys ++ rest → left ≡ (keys_told encoding last others ++ tail) ++ more
-      → SameLists (Same cmp) others keys × (rest ≡ tail ++ more)
+      → AllZip (Same cmp) others keys × (rest ≡ tail ++ more)
   behind_keys last keys others tail left rest more read e =
       let both = keys_tell cmp encoding tells last others keys (tail ++ more) rest (sym (append_assoc (keys_told encoding last others) tail more) ∙ sym e ∙ read) in
       (both.0, sym both.1)
@@ -106,7 +105,7 @@ module _ {K : Type 0} (cmp : K → K → Ordering) (o : IsTotalOrder cmp) (encod
         pub no_page-empty : keys ≡ [] → NoPage cmp is_key encoding last gap left
         no_page-empty none digest others pages more is e =
             let both = behind_keys last keys others (pages_bytes pages) mid rest more then (behind_digest digest others pages more is.3 e) in
-            is.0 (none_same (Same cmp) others (subst (SameLists (Same cmp) others) none both.0))
+            is.0 (none_same (Same cmp) others (subst (AllZip (Same cmp) others) none both.0))
 
         pub no_page-outside : ¬ AscendIn cmp (owned_gap gap) keys → NoPage cmp is_key encoding last gap left
         no_page-outside not digest others pages more is e =
@@ -120,7 +119,7 @@ module _ {K : Type 0} (cmp : K → K → Ordering) (o : IsTotalOrder cmp) (encod
 
 module _ {K V : Type 0} (cmp : K → K → Ordering) (o : IsTotalOrder cmp) (eq : V → V → Bool) (encoding : K → List ℕ) (values : V → List ℕ) (tells : (x y : K) → encoding x ≡ encoding y → Same cmp x y)
     (tell_value : (x y : V) (r s : List ℕ) → values x ++ r ≡ values y ++ s → (eq x y ≡ true) × (r ≡ s)) (is_key : K → Type 0) (is_value : V → Type 0) where
-  keys_alike : (rs ss : List (K × V)) → SameLists (SameRow cmp eq) rs ss → SameLists (Same cmp) (map (λ r. r.0) rs) (map (λ r. r.0) ss)
+  keys_alike : (rs ss : List (K × V)) → AllZip (SameRow cmp eq) rs ss → AllZip (Same cmp) (map (λ r. r.0) rs) (map (λ r. r.0) ss)
   keys_alike [] [] s = tt
   keys_alike [] (b ∷ bs) s = absurd s
   keys_alike (a ∷ rs) [] s = absurd s
@@ -165,7 +164,7 @@ module _ {K V : Type 0} (cmp : K → K → Ordering) (o : IsTotalOrder cmp) (eq 
     no_part none part more is e = none part.rows (cond part.whole 1 0 ∷ more) is.0 (part_begins part more e)
 
     module _ (rows : List (K × V)) (rest : List ℕ) (read : left ≡ rows_bytes gap_key rows ++ rest) where
-      behind_rows : (part : Part K V) (more : List ℕ) → left ≡ part_bytes encoding values gap_key part ++ more → SameLists (SameRow cmp eq) part.rows rows × (rest ≡ cond part.whole 1 0 ∷ more)
+      behind_rows : (part : Part K V) (more : List ℕ) → left ≡ part_bytes encoding values gap_key part ++ more → AllZip (SameRow cmp eq) part.rows rows × (rest ≡ cond part.whole 1 0 ∷ more)
       behind_rows part more e =
           let both = rows_tell cmp eq encoding values tells tell_value gap_key part.rows rows (cond part.whole 1 0 ∷ more) rest (sym (part_begins part more e) ∙ read) in
           (both.0, sym both.1)
@@ -177,7 +176,7 @@ module _ {K V : Type 0} (cmp : K → K → Ordering) (o : IsTotalOrder cmp) (eq 
       pub no_part-empty : (behind : List ℕ) → rest ≡ 0 ∷ behind → rows ≡ [] → NoPart cmp is_key is_value encoding values gap left
       no_part-empty behind flag none part more is e =
           let both = behind_rows part more e in
-          is.1 (cut part.whole (sym flag ∙ both.1)) (none_same (SameRow cmp eq) part.rows (subst (SameLists (SameRow cmp eq) part.rows) none both.0))
+          is.1 (cut part.whole (sym flag ∙ both.1)) (none_same (SameRow cmp eq) part.rows (subst (AllZip (SameRow cmp eq) part.rows) none both.0))
         where
           cut : (whole : Bool) → 0 ∷ behind ≡ cond whole 1 0 ∷ more → whole ≡ false
           cut true f = absurd (omega (arith, (first_byte 0 1 behind more f).0))
