@@ -1,3 +1,4 @@
 pub mod After
 pub mod Course
+pub mod Refusals
 pub mod Runs

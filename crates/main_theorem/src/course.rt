@@ -1,8 +1,9 @@
 //! How two replicas come together.
-ghost use Rattle.std.specs.Prelude.{◌≡◌, IfOk, IfErr};
+ghost use Rattle.std.specs.Prelude.{◌≡◌, IfOk, IfErr, Some};
 ghost use Rattle.key_order.specs.Order.{Same};
 ghost use Rattle.merkle_tree_theory.specs.State.{SameSettings};
 ghost use Rattle.main_theorem.specs.Course.{ComeTogether, IsDone, IsStopped};
+ghost use Rattle.main_theorem.specs.Refusals.{run_text};
 
 use merkle_digest::Key;
 use merkle_replica::{
@@ -10,6 +11,8 @@ use merkle_replica::{
     pull_by_turns,
 };
 use std::alloc::Global;
+use std::error::Error;
+use std::fmt;
 
 /// How two replicas are to come together.
 #[derive(Clone, Copy, Debug, PartialEq, Eq)]
@@ -43,6 +46,21 @@ pub enum RunRefused<K> {
     /// In a catch-up.
     InCatchUps(CatchUpsError),
 }
+
+/// Says where memory was refused.
+impl<K> fmt::Display for RunRefused<K> {
+    ghost output = { λ refused. Some (run_text refused) };
+
+    fn fmt<W: fmt::Write>(&self, f: &mut fmt::Formatter<W>) -> fmt::Result {
+        match self {
+            RunRefused::Before => write!(f, "memory was refused before the exchange"),
+            RunRefused::InTurns(error) => error.fmt(f),
+            RunRefused::InCatchUps(error) => error.fmt(f),
+        }
+    }
+}
+
+impl<K: fmt::Debug + Drop> Error for RunRefused<K> {}
 
 /// Brings two replicas together.
 pub(crate) fn come_together<K: Key + Drop, V: Join + Drop, H: RowHasher<N, K, V>, const N: usize>(

@@ -3,3 +3,5 @@
 
 #[cfg(test)]
 mod random_runs;
+#[cfg(test)]
+mod refusals;
