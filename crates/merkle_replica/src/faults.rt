@@ -123,10 +123,12 @@ impl fmt::Display for CatchUpAllError {
     fn fmt<W: fmt::Write>(&self, f: &mut fmt::Formatter<W>) -> fmt::Result {
         match self {
             CatchUpAllError::Gathering { done, fault } => {
-                write!(f, "after {done} catch-ups by the hub {fault}")
+                write!(f, "after {done} catch-ups by the hub ")?;
+                fault.fmt(f)
             }
             CatchUpAllError::Spreading { done, fault } => {
-                write!(f, "after {done} catch-ups with the hub {fault}")
+                write!(f, "after {done} catch-ups with the hub ")?;
+                fault.fmt(f)
             }
         }
     }

@@ -23,7 +23,7 @@ returns-clause-turns g c = rw g.met.H.RowHasher.laws_are (
     (met, turns, λ f n. all f (let t = c.turning.invariant.taken in let k = length-map c.turning.all.items answer_of in omega arith)))
 
 pub push_reserved-requires : goal.push_reserved-requires
-push_reserved-requires g c = let t = c.turning.invariant.counted in let r = c.turning.invariant.room in record { room = omega arith }
+push_reserved-requires g c = let t = c.turning.invariant.counted in let r = c.turning.invariant.room in omega arith
 
 pub turning-preserved : goal.turning-preserved
 turning-preserved g c =
@@ -36,7 +36,7 @@ turning-preserved g c =
       room = let r = c.turning.invariant.room in let u = c.push_reserved.ensures.capacity in omega arith;
     }
 
-pub returns-in-Err-turn-clause-stopped : goal.returns-in-Err-turn-clause-stopped
-returns-in-Err-turn-clause-stopped g c = rw g.met.H.RowHasher.laws_are (
+pub returns-in-Err-clause-stopped : goal.returns-in-Err-clause-stopped
+returns-in-Err-clause-stopped g c = rw g.met.H.RowHasher.laws_are (
     stops_here (laws_of g.K.Ord.cmp g.K.KeyBytes.bytes_of g.H.Hasher-1.digest_of g.V.PartialEq.eq g.V.Join.join_of g.H.Hasher-2.digest_of)
-    c.args.a.now c.args.b.now c.turning.a c.turning.b c.turning.all.items c.turning.a_pulls c.in-Err-turn.fault c.turn.new.a c.turn.new.b (rw g.met.H.RowHasher.laws_are at c.in-Err-turn.ensures.refused) c.turning.invariant.goes.turns)
+    c.args.a.now c.args.b.now c.turning.a c.turning.b c.turning.all.items c.turning.a_pulls c.in-Err.fault c.turn.new.a c.turn.new.b (rw g.met.H.RowHasher.laws_are at c.in-Err.ensures.refused) c.turning.invariant.goes.turns)
