@@ -5,8 +5,9 @@ ghost use Rattle.mst_pair.specs.Parsing.{request_of};
 ghost use Rattle.mst_pair.specs.Requests.{put, del, pages, diff, pull, same, turns, set_format};
 
 use crate::engine::{Engine, ReplicaName};
+use crate::page_reply::write_pages;
 use crate::parse::{Command, parse};
-use crate::reply::{write_list, write_no_memory, write_pages, write_pull, write_root};
+use crate::reply::{write_list, write_no_memory, write_pull, write_root};
 use crate::sink::{Sink, write_all};
 use crate::source::Failed;
 use merkle_search_tree::builder::PageFormat;

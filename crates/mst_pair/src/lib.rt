@@ -20,6 +20,7 @@ mod answers;
 mod engine;
 mod line;
 mod number;
+mod page_reply;
 mod parse;
 mod pending;
 pub mod reader;

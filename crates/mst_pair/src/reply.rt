@@ -3,17 +3,14 @@ ghost use Rattle.std.specs.Prelude.{◌≡◌, ◌++◌, ℕ, List, codes};
 ghost use Rattle.std.specs.Fmt.{decimal};
 ghost use Rattle.std.specs.List.{flat_map};
 ghost use Rattle.merkle_digest.specs.Digest.{base64_of};
-ghost use Rattle.merkle_tree_theory.specs.declared.page_format.PageFormat.{PageFormat};
 ghost use Rattle.merkle_replica.specs.Answers.{answer_of};
 ghost use Rattle.mst_pair.specs.Devices.{Writes, Passes, MarksFailure};
-ghost use Rattle.mst_pair.specs.Engine.{no_memory, WritesItsPages};
-ghost use Rattle.mst_pair.specs.Pages.{HasDefaults};
+ghost use Rattle.mst_pair.specs.Engine.{no_memory};
 ghost use Rattle.mst_pair.specs.Replies.{text_line, end_line, row_text, range_text, joined_text, pull_text};
 
 use crate::pending::Pending;
 use crate::sink::{Sink, write_all};
 use crate::source::Failed;
-use crate::text_replica::{TextReplica, shows_its_rows};
 use base64::engine::general_purpose::STANDARD;
 use itoa::Buffer;
 use merkle_diff::PageRange;
@@ -109,22 +106,6 @@ pub fn write_pull<W: Sink>(pulled: &Pulled<String>, writer: &mut W) -> Result<()
     add_list(&pulled.ranges, &mut pending, writer)?;
     pulled.write_line(&mut pending, writer)?;
     pending.flush(writer)
-}
-
-/// Writes the range of each page of a replica, and the line `end`. Pages that lack a digest get it.
-pub fn write_pages<W: Sink>(replica: &mut TextReplica, writer: &mut W) -> Result<(), Failed>
-    ensures bytes { WritesItsPages replica.old result (W.taken writer.old) (W.taken writer.new) }
-    ensures failed { MarksFailure result (W.has_failed writer.old) (W.has_failed writer.new) }
-    ensures rows { replica.new.rows ≡ replica.old.rows }
-    ensures defaults { (format : PageFormat) → HasDefaults format replica.old → HasDefaults format replica.new }
-{
-    replica.hash();
-    shows_its_rows(replica);
-    match replica.tree().serialise_page_ranges() {
-        Ok(Some(ranges)) => write_list(&ranges, writer),
-        Ok(None) => unreachable!(),
-        Err(_) => write_no_memory(writer),
-    }
 }
 
 fn add_list<T: ReplyLine, W: Sink>(

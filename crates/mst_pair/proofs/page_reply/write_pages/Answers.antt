@@ -6,7 +6,7 @@ use Rattle.mst_pair.specs.Devices.{Writes}
 use Rattle.mst_pair.specs.Pages.{page_ranges, HasDefaults}
 use Rattle.mst_pair.specs.Replies.{range_text, ranges_text, end_line}
 use Rattle.mst_pair.proofs.Replies.{lines_as_twice}
-use Rattle.mst_pair.proofs.reply.write_pages.Goals as goal
+use Rattle.mst_pair.proofs.page_reply.write_pages.Goals as goal
 
 -- src/text_replica.rt:37:1
 pub returns-in-Ok-Some-clause-bytes : goal.returns-in-Ok-Some-clause-bytes
