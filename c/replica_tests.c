@@ -404,6 +404,18 @@ static void asking_at(struct mst_replica *a, size_t round) {
     for (i = 0; i < round; i++) WANT(mst_replica_take(a, replies[i].at, replies[i].len, &len, &joined) == MST_DONE && len);
 }
 
+/* Whether the keys of the rows ascend: a tree takes no others. */
+static int ascends(struct mst_replica *replica) {
+    struct mst_tree tree = MST_NO_TREE;
+    struct bytes rows = rows_of(replica);
+    int is;
+    WANT(mst_tree_new_with(&tree, KEY, 2, 2) == MST_DONE);
+    is = mst_tree_load(&tree, rows.at, rows.len) == MST_DONE;
+    mst_tree_free(&tree);
+    __real_free(rows.at);
+    return is;
+}
+
 static long refusals_seen;
 
 static void hostile_question(struct mst_replica *b, struct bytes rows, const uint8_t *bytes, size_t len) {
@@ -428,7 +440,7 @@ static void hostile_reply(size_t round, struct bytes rows, const uint8_t *bytes,
     if (status != MST_DONE) WANT(message_len == 99 && joined == 88);
     if (status != MST_DONE) WANT(mst_replica_take(&a, bytes, len, &message_len, &joined) == MST_ABSENT);
     if (status != MST_DONE || message_len) WANT(has_rows(&a, rows));
-    else WANT(mst_replica_len(&a, &now) == MST_DONE && now >= 53);
+    else WANT(mst_replica_len(&a, &now) == MST_DONE && now >= 53 && ascends(&a));
     refusals_seen += status != MST_DONE;
     mst_replica_free(&a);
 }

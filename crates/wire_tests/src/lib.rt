@@ -2,8 +2,6 @@
 #![tactic(auto)]
 
 #[cfg(test)]
-mod altered;
-#[cfg(test)]
 mod endless_rounds;
 #[cfg(test)]
 mod faults;

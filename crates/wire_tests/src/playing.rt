@@ -1,8 +1,8 @@
-//! Sessions between two replicas in memory, from any message on, with any replies.
+//! Sessions between two replicas in memory.
 use merkle_bytes::Decode;
 use merkle_digest::{HashBytes, Key, SipHasher};
 use merkle_replica::{Join, Replica};
-use merkle_wire::{CatchingUp, Next, SessionError, answer_within};
+use merkle_wire::{CatchingUp, Next, answer_within};
 use std::alloc::Global;
 use std::test::Fail;
 
@@ -28,53 +28,19 @@ pub fn begun<K: Key + Decode + HashBytes, V: Join + Decode + HashBytes>(
     Ok(Waiting { session, message })
 }
 
-/// The rows that a session brings in the end from the peer, whose replies end at so many bytes, or why it refused a reply.
-pub fn brought<K: Key + Decode + HashBytes, V: Join + Decode + HashBytes>(
-    alloc: Global,
-    waiting: Waiting<K, V>,
-    sides: (&mut Rows<K, V>, &mut Rows<K, V>),
-    most_bytes: usize,
-) -> Result<Result<Vec<(K, V)>, SessionError>, Fail> {
-    let (local, peer) = sides;
-    let mut waiting = waiting;
-    for _ in 0..MOST_MESSAGES {
-        let reply = answer_within(alloc, peer, &waiting.message, most_bytes)?;
-        match waiting.session.take(local, &reply) {
-            Ok(Next::Ask(session, message)) => waiting = Waiting { session, message },
-            Ok(Next::Came(rows)) => return Ok(Ok(rows)),
-            Err(error) => return Ok(Err(error)),
-        }
-    }
-    Err(Fail::new("no end"))
-}
-
-/// The rows that a session brings from its first message on.
+/// The rows that a session brings from the peer, whose replies end at so many bytes.
 pub fn rows_lacked<K: Key + Decode + HashBytes, V: Join + Decode + HashBytes>(
     alloc: Global,
     local: &mut Rows<K, V>,
     peer: &mut Rows<K, V>,
     most_bytes: usize,
 ) -> Result<Vec<(K, V)>, Fail> {
-    let waiting = begun(alloc, local)?;
-    Ok(brought(alloc, waiting, (local, peer), most_bytes)??)
-}
-
-/// The replies of the peer in a session, in turn.
-pub fn replies_of<K: Key + Decode + HashBytes, V: Join + Decode + HashBytes>(
-    alloc: Global,
-    local: &mut Rows<K, V>,
-    peer: &mut Rows<K, V>,
-    most_bytes: usize,
-) -> Result<Vec<(Vec<u8>, Vec<u8>)>, Fail> {
-    let mut steps = Vec::new(alloc);
     let mut waiting = begun(alloc, local)?;
     for _ in 0..MOST_MESSAGES {
         let reply = answer_within(alloc, peer, &waiting.message, most_bytes)?;
-        let next = waiting.session.take(local, &reply)?;
-        steps.push((waiting.message, reply))?;
-        match next {
+        match waiting.session.take(local, &reply)? {
             Next::Ask(session, message) => waiting = Waiting { session, message },
-            Next::Came(_) => return Ok(steps),
+            Next::Came(rows) => return Ok(rows),
         }
     }
     Err(Fail::new("no end"))
