@@ -3,14 +3,19 @@ use crate::playing::{by_deltas, plainly};
 use crate::rows::{Random, Rows};
 use merkle_search_tree::builder::{Builder, PageFormat};
 use merkle_wire::MOST_BYTES;
-use std::alloc::Global;
+use std::alloc::{AllocError, Global};
 use std::test::Fail;
 
 /// At how many bytes plain replies end.
 const MOST: [usize; 4] = [64, 1000, 5000, MOST_BYTES];
 
 /// Puts a random value at a random one of so many keys, or takes the key out.
-fn update(alloc: Global, rows: &mut Rows, keys: u64, random: &mut Random) -> Result<(), Fail> {
+fn update(
+    alloc: Global,
+    rows: &mut Rows,
+    keys: u64,
+    random: &mut Random,
+) -> Result<(), AllocError> {
     let number = random.below(keys).wrapping_mul(0x9e37_79b9_7f4a_7c15);
     let key = format!(in alloc; "k{number:016x}")?;
     let value = random.below(5);
@@ -29,7 +34,7 @@ fn updates(
     keys: u64,
     count: u64,
     random: &mut Random,
-) -> Result<(), Fail> {
+) -> Result<(), AllocError> {
     for _update in 0..count {
         update(alloc, rows, keys, random)?;
     }
@@ -37,7 +42,11 @@ fn updates(
 }
 
 /// Two replicas with the same random updates, and then some of their own.
-fn pair(alloc: Global, format: PageFormat, random: &mut Random) -> Result<(Rows, Rows), Fail> {
+fn pair(
+    alloc: Global,
+    format: PageFormat,
+    random: &mut Random,
+) -> Result<(Rows, Rows), AllocError> {
     let keys = random.below(400).saturating_add(1);
     let own = random.below(20);
     let mut again = *random;

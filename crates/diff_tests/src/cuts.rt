@@ -74,24 +74,30 @@ fn built<'a>(
     builder.into_diff_vec()
 }
 
+/// Whether these ranges are left, in the merge of the bad ones and by a builder.
+fn leaves(
+    alloc: Global,
+    bad: &[Bounds],
+    good: &[Bounds],
+    left: &[Bounds],
+) -> Result<bool, AllocError> {
+    let found = bounds_of(alloc, &cut(alloc, bad, good)?)?;
+    let made = bounds_of(alloc, &built(alloc, bad, good)?)?;
+    Ok(found.as_slice() == left && made.as_slice() == left)
+}
+
+/// Whether it is so with the ranges of a line.
+fn is_cut(alloc: Global, line: &str) -> Result<bool, Fail> {
+    let (bad, rest) = line.split_once('|').ok_or("no good ranges")?;
+    let (good, left) = rest.split_once('|').ok_or("nothing left")?;
+    let (bad, good) = (ranges(alloc, bad)?, ranges(alloc, good)?);
+    Ok(leaves(alloc, &bad, &good, &ranges(alloc, left)?)?)
+}
+
 #[test]
 fn cuts_as_worked_out(rt: HostRuntime) -> Result<(), Fail> {
     for line in CUTS.lines() {
-        let (bad, rest) = line.split_once('|').ok_or("no good ranges")?;
-        let (good, left) = rest.split_once('|').ok_or("nothing left")?;
-        let bad = ranges(rt.alloc(), bad)?;
-        let good = ranges(rt.alloc(), good)?;
-        let left = ranges(rt.alloc(), left)?;
-        let found = cut(rt.alloc(), &bad, &good)?;
-        assert!(rt;
-            bounds_of(rt.alloc(), &found)?.as_slice() == left.as_slice(),
-            "at {line}"
-        );
-        let found = built(rt.alloc(), &bad, &good)?;
-        assert!(rt;
-            bounds_of(rt.alloc(), &found)?.as_slice() == left.as_slice(),
-            "built, at {line}"
-        );
+        assert!(rt; is_cut(rt.alloc(), line)?, "at {line}");
     }
     Ok(())
 }
@@ -162,8 +168,8 @@ fn expect(rt: &impl Abort, found: Result<Vec<DiffRange<'_, u64>>, AllocError>, l
 // Under `rt try --test --fail-alloc N` the Nth request for memory is refused: the cut is right, or it is want of memory.
 #[test]
 fn cuts_or_wants_memory(rt: HostRuntime) {
-    for (bad, good, left) in REFUSED {
-        expect(&rt, cut(rt.alloc(), bad, good), left);
-        expect(&rt, built(rt.alloc(), bad, good), left);
+    for case in &REFUSED {
+        expect(&rt, cut(rt.alloc(), case.0, case.1), case.2);
+        expect(&rt, built(rt.alloc(), case.0, case.1), case.2);
     }
 }

@@ -51,19 +51,30 @@ fn merged_in_place<'a>(
     Ok(ranges)
 }
 
+/// Whether the ranges of a line are merged as it says, in a list and in place.
+fn is_merged(alloc: Global, line: &str) -> Result<bool, Fail> {
+    let (list, merge) = line.split_once('|').ok_or("no merge")?;
+    let list = ranges(alloc, list)?;
+    let merge = ranges(alloc, merge)?;
+    let merged = inserted(alloc, &list)?.into_vec()?;
+    Ok(bounds_of(alloc, &merged)? == merge && merged_in_place(alloc, &list)? == merged)
+}
+
 #[test]
 fn merges_as_worked_out(rt: HostRuntime) -> Result<(), Fail> {
     for line in MERGES.lines() {
-        let (list, merge) = line.split_once('|').ok_or("no merge")?;
-        let list = ranges(rt.alloc(), list)?;
-        let merged = inserted(rt.alloc(), &list)?.into_vec()?;
-        assert!(rt;
-            bounds_of(rt.alloc(), &merged)? == ranges(rt.alloc(), merge)?,
-            "at {line}"
-        );
-        assert!(rt; merged_in_place(rt.alloc(), &list)? == merged, "at {line}");
+        assert!(rt; is_merged(rt.alloc(), line)?, "at {line}");
     }
     Ok(())
+}
+
+/// Whether ranges have these bounds.
+fn are(ranges: &[DiffRange<'_, u64>], wanted: &[Bounds]) -> bool {
+    let mut are_so = ranges.len() == wanted.len();
+    for (range, want) in ranges.iter().zip(wanted) {
+        are_so = are_so && (*range.start(), *range.end()) == *want;
+    }
+    are_so
 }
 
 /// Ranges that are inserted, and what they become.
@@ -77,32 +88,38 @@ const REFUSED: [(&[Bounds], &[Bounds]); 4] = [
 // Under `rt try --test --fail-alloc N` the Nth request for memory is refused: then an insert is. The merge takes none.
 #[test]
 fn merges_or_wants_memory(rt: HostRuntime) -> Result<(), Fail> {
-    for (list, merge) in REFUSED {
+    for (list, merge) in &REFUSED {
         if let Ok(list) = inserted(rt.alloc(), list) {
-            let merged = list.into_vec()?;
-            assert!(rt; merged.len() == merge.len());
-            for (range, want) in merged.iter().zip(merge) {
-                assert!(rt; (*range.start(), *range.end()) == *want);
-            }
+            assert!(rt; are(&list.into_vec()?, merge));
         }
     }
     Ok(())
 }
 
+/// A hundred ranges of numbers up to 100.
+fn hundred(alloc: Global) -> Result<Vec<Bounds>, AllocError> {
+    let mut ranges = Vec::new(alloc);
+    for i in 0..100u64 {
+        let (a, b) = (i.wrapping_mul(37) % 101, i.wrapping_mul(53) % 101);
+        ranges.push((a.min(b), a.max(b)))?;
+    }
+    Ok(ranges)
+}
+
+/// Whether each range ends before the next one begins.
+fn stand_apart(ranges: &[DiffRange<'_, u64>]) -> bool {
+    let mut are_so = true;
+    for (range, next) in ranges.iter().zip(ranges.iter().skip(1)) {
+        are_so = are_so && range.end() < next.start();
+    }
+    are_so
+}
+
 #[test]
 fn leaves_no_two_that_meet(rt: HostRuntime) -> Result<(), Fail> {
-    let mut pairs = Vec::new(rt.alloc());
-    for i in 0..100u64 {
-        let a = 37 * i % 101;
-        let b = 53 * i % 101;
-        pairs.push((a.min(b), a.max(b)))?;
-    }
-    let merged = inserted(rt.alloc(), &pairs)?.into_vec()?;
-    assert!(rt; !merged.is_empty());
-    for pair in merged.windows(2) {
-        assert!(rt; pair.len() == 2);
-        assert!(rt; pair[0].end() < pair[1].start());
-    }
+    let ranges = hundred(rt.alloc())?;
+    let merged = inserted(rt.alloc(), &ranges)?.into_vec()?;
+    assert!(rt; !merged.is_empty() && stand_apart(&merged));
     Ok(())
 }
 

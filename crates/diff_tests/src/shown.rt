@@ -58,7 +58,7 @@ fn ranges_that_meet_become_one(rt: HostRuntime) -> Result<(), Fail> {
 }
 
 #[test]
-fn lists_at_hand_and_marks(rt: HostRuntime) -> Result<(), Fail> {
+fn lists_at_hand(rt: HostRuntime) -> Result<(), Fail> {
     let alloc = rt.alloc();
     let local = [PageRange::new(&1, &4, digest(1))];
     let peer = [PageRange::new(&1, &5, digest(2))];
@@ -70,6 +70,12 @@ fn lists_at_hand_and_marks(rt: HostRuntime) -> Result<(), Fail> {
     let found = diff_lists(alloc, Vec::new(alloc), theirs)?;
     assert_eq!(rt; found.len(), 1);
     assert_eq!(rt; (*found[0].start(), *found[0].end()), (1, 5));
+    Ok(())
+}
+
+#[test]
+fn marks_of_a_builder(rt: HostRuntime) -> Result<(), Fail> {
+    let alloc = rt.alloc();
     let mut builder = DiffListBuilder::new(alloc);
     builder.inconsistent(&1, &5)?;
     builder.consistent(&1, &2)?;

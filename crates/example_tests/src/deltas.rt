@@ -1,6 +1,6 @@
-use crate::rows::{are_rows, numbers};
+use crate::rows::{are_rows, opened};
 use examples::deltas::{exchange, most_told};
-use examples::store::{Store, open_rows};
+use examples::store::Store;
 use merkle_delta::{CatchingUp, Chunks, Next};
 use std::alloc::Global;
 use std::test::Fail;
@@ -63,8 +63,8 @@ fn rows_by_exchanges(
 
 /// Whether these rows come to a replica with those, from a peer with others.
 fn come(alloc: Global, rows: Rows, peer_rows: Rows, expected: Rows) -> Result<bool, Fail> {
-    let mut local = open_rows(alloc, numbers(alloc, rows)?)?;
-    let mut peer = open_rows(alloc, numbers(alloc, peer_rows)?)?;
+    let mut local = opened(alloc, rows)?;
+    let mut peer = opened(alloc, peer_rows)?;
     let came = rows_by_exchanges(alloc, &mut local, &mut peer)?;
     Ok(are_rows(&came, expected))
 }

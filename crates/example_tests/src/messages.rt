@@ -1,6 +1,6 @@
-use crate::rows::{are_rows, numbers};
+use crate::rows::{are_rows, opened};
 use examples::messages::gossip_by_messages;
-use examples::store::{Store, open_rows};
+use examples::store::Store;
 use std::alloc::Global;
 use std::test::Fail;
 
@@ -20,17 +20,21 @@ const JOIN: [(&str, u64); 4] = [("a", 4), ("b", 7), ("c", 9), ("d", 2)];
 fn others(alloc: Global) -> Result<Vec<Store<u64>>, Fail> {
     let mut others = Vec::new(alloc);
     for rows in &ROWS[1..] {
-        others.push(open_rows(alloc, numbers(alloc, rows)?)?)?;
+        others.push(opened(alloc, rows)?)?;
     }
     Ok(others)
 }
 
+/// Whether gossip came to its end.
+fn gossips(alloc: Global, hub: &mut Store<u64>, others: &mut [Store<u64>]) -> bool {
+    gossip_by_messages(alloc, hub, others).is_ok()
+}
+
 #[test]
 fn five_replicas_come_to_the_join_of_all(rt: HostRuntime) -> Result<(), Fail> {
-    let alloc = rt.alloc();
-    let mut hub = open_rows(alloc, numbers(alloc, ROWS[0])?)?;
-    let mut others = others(alloc)?;
-    assert!(rt; gossip_by_messages(alloc, &mut hub, &mut others).is_ok());
+    let mut hub = opened(rt.alloc(), ROWS[0])?;
+    let mut others = others(rt.alloc())?;
+    assert!(rt; gossips(rt.alloc(), &mut hub, &mut others));
     assert!(rt; are_rows(hub.rows(), &JOIN));
     for other in &others {
         assert!(rt; are_rows(other.rows(), &JOIN));
@@ -40,9 +44,8 @@ fn five_replicas_come_to_the_join_of_all(rt: HostRuntime) -> Result<(), Fail> {
 
 #[test]
 fn a_hub_alone_keeps_its_rows(rt: HostRuntime) -> Result<(), Fail> {
-    let alloc = rt.alloc();
-    let mut hub = open_rows(alloc, numbers(alloc, ROWS[0])?)?;
-    assert!(rt; gossip_by_messages(alloc, &mut hub, &mut []).is_ok());
+    let mut hub = opened(rt.alloc(), ROWS[0])?;
+    assert!(rt; gossips(rt.alloc(), &mut hub, &mut []));
     assert!(rt; are_rows(hub.rows(), ROWS[0]));
     Ok(())
 }

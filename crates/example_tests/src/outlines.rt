@@ -1,6 +1,5 @@
-use crate::rows::numbers;
+use crate::rows::opened;
 use examples::outlines::holds_all;
-use examples::store::open_rows;
 use std::alloc::Global;
 use std::test::Fail;
 
@@ -19,8 +18,8 @@ const CASES: [(Rows, Rows, bool); 6] = [
 
 /// Whether a replica with these rows is said to hold all of one with those.
 fn is_said_to_hold(alloc: Global, rows: Rows, peer_rows: Rows) -> Result<bool, Fail> {
-    let mut local = open_rows(alloc, numbers(alloc, rows)?)?;
-    let mut peer = open_rows(alloc, numbers(alloc, peer_rows)?)?;
+    let mut local = opened(alloc, rows)?;
+    let mut peer = opened(alloc, peer_rows)?;
     Ok(holds_all(alloc, &mut local, &mut peer)?)
 }
 

@@ -1,6 +1,7 @@
 use crate::rows::text;
 use examples::register::{Register, Registers, Signed, Stamped, settle, sign, stamp, write};
 use examples::store::{Store, open_rows};
+use std::alloc::Global;
 use std::test::Fail;
 
 /// Writes to one register, in turn: the time, the writer and the value, and the value that the register then has.
@@ -59,22 +60,32 @@ const TWO_WRITERS: [((u64, u64, u64), (u64, u64, u64), u64); 4] = [
     ((2, 1, 70), (2, 1, 70), 70),
 ];
 
+/// The store with what a writer writes: the time, the writer and the value.
+fn signed(alloc: Global, write: (u64, u64, u64)) -> Result<Store<Signed>, Fail> {
+    let mut store: Store<Signed> = open_rows(alloc, Vec::new(alloc))?;
+    sign(&mut store, text(alloc, "door")?, write.0, write.1, write.2)?;
+    Ok(store)
+}
+
+/// The values that two stores with these writes hold, once they settled.
+fn settled(
+    alloc: Global,
+    write: (u64, u64, u64),
+    other: (u64, u64, u64),
+) -> Result<(u64, u64), Fail> {
+    let mut a = signed(alloc, write)?;
+    let mut b = signed(alloc, other)?;
+    settle(&mut a, &mut b)?;
+    match (a.rows(), b.rows()) {
+        ([(_, here)], [(_, there)]) => Ok((here.0.1.1, there.0.1.1)),
+        _ => Err(Fail::from("not one register each")),
+    }
+}
+
 #[test]
 fn two_writers_settle(rt: HostRuntime) -> Result<(), Fail> {
-    let alloc = rt.alloc();
-    for ((time, writer, value), (other_time, other, other_value), after) in TWO_WRITERS {
-        let mut a: Store<Signed> = open_rows(alloc, Vec::new(alloc))?;
-        let mut b: Store<Signed> = open_rows(alloc, Vec::new(alloc))?;
-        sign(&mut a, text(alloc, "door")?, time, writer, value)?;
-        sign(&mut b, text(alloc, "door")?, other_time, other, other_value)?;
-        settle(&mut a, &mut b)?;
-        match (a.rows(), b.rows()) {
-            ([(_, here)], [(_, there)]) => {
-                assert_eq!(rt; here.0.1.1, after);
-                assert_eq!(rt; there.0.1.1, after);
-            }
-            _ => return Err(Fail::from("not one register each")),
-        }
+    for (write, other, after) in TWO_WRITERS {
+        assert_eq!(rt; settled(rt.alloc(), write, other)?, (after, after));
     }
     Ok(())
 }

@@ -1,5 +1,7 @@
 //! Texts, and rows of numbers.
+use examples::store::{Store, open_rows};
 use std::alloc::{AllocError, Global};
+use std::test::Fail;
 
 /// A text.
 pub fn text(alloc: Global, text: &str) -> Result<String, AllocError> {
@@ -13,6 +15,11 @@ pub fn numbers(alloc: Global, rows: &[(&str, u64)]) -> Result<Vec<(String, u64)>
         all.push((text(alloc, name)?, *number))?;
     }
     Ok(all)
+}
+
+/// The store of rows of numbers.
+pub fn opened(alloc: Global, rows: &[(&str, u64)]) -> Result<Store<u64>, Fail> {
+    Ok(open_rows(alloc, numbers(alloc, rows)?)?)
 }
 
 /// Whether these are the rows.

@@ -1,12 +1,11 @@
-use crate::rows::numbers;
+use crate::rows::opened;
 use examples::sessions::most_replies;
-use examples::store::open_rows;
 use std::alloc::Global;
 use std::test::Fail;
 
 /// How many replies ask on at most where the peer has these rows.
 fn replies_of(alloc: Global, rows: &[(&str, u64)]) -> Result<u128, Fail> {
-    let peer = open_rows(alloc, numbers(alloc, rows)?)?;
+    let peer = opened(alloc, rows)?;
     Ok(most_replies(&peer))
 }
 

@@ -1,23 +1,15 @@
-use crate::rows::{are_rows, numbers};
-use examples::store::{Store, open_rows};
+use crate::rows::{are_rows, opened};
+use examples::store::Store;
 use examples::wire::{
     WireFault, ask, join, pull_over_bytes, rows_to_come, send_page_ranges, send_rows,
 };
 use std::alloc::Global;
 use std::test::Fail;
 
-/// A pull of `local` from `peer`, of which each sees nothing but bytes of the other.
-fn pull(alloc: Global, local: &mut Store<u64>, peer: &mut Store<u64>) -> Result<(), WireFault> {
-    let page_ranges = send_page_ranges(alloc, peer)?;
-    let asked = ask(alloc, local, &page_ranges)?;
-    let rows = send_rows(alloc, peer, &asked)?;
-    join(alloc, local, &rows)
-}
-
 /// Two stores that differ at each name, or lack it.
 fn two_stores(alloc: Global) -> Result<(Store<u64>, Store<u64>), Fail> {
-    let a = open_rows(alloc, numbers(alloc, &[("x", 1), ("y", 5)])?)?;
-    let b = open_rows(alloc, numbers(alloc, &[("w", 4), ("y", 3), ("z", 2)])?)?;
+    let a = opened(alloc, &[("x", 1), ("y", 5)])?;
+    let b = opened(alloc, &[("w", 4), ("y", 3), ("z", 2)])?;
     Ok((a, b))
 }
 
@@ -31,17 +23,6 @@ fn have_both(a: &Store<u64>, b: &Store<u64>) -> bool {
 
 #[test]
 fn four_pulls_over_bytes_leave_both_with_the_greater_numbers(rt: HostRuntime) -> Result<(), Fail> {
-    let (a, b) = &mut two_stores(rt.alloc())?;
-    for _ in 0..2 {
-        pull(rt.alloc(), a, b)?;
-        pull(rt.alloc(), b, a)?;
-    }
-    assert!(rt; have_both(a, b));
-    Ok(())
-}
-
-#[test]
-fn pulls_over_bytes_leave_both_with_the_greater_numbers(rt: HostRuntime) -> Result<(), Fail> {
     let (a, b) = &mut two_stores(rt.alloc())?;
     for _ in 0..2 {
         pull_over_bytes(rt.alloc(), a, b)?;
@@ -65,7 +46,7 @@ const MALFORMED: [&[u8]; 7] = [
 #[test]
 fn bytes_that_are_no_rows_change_nothing(rt: HostRuntime) -> Result<(), Fail> {
     let alloc = rt.alloc();
-    let mut store = open_rows(alloc, numbers(alloc, &[("a", 9)])?)?;
+    let mut store = opened(alloc, &[("a", 9)])?;
     for bytes in MALFORMED {
         assert!(rt; join(alloc, &mut store, bytes) == Err(WireFault::Malformed));
         assert!(rt; are_rows(store.rows(), &[("a", 9)]));
@@ -84,7 +65,7 @@ const FALLING: &[u8] = b"\x02\x01b\x01b\x01a\x01a";
 
 /// A store with this number at a, and 7 at b.
 fn store_of(alloc: Global, number: u64) -> Result<Store<u64>, Fail> {
-    Ok(open_rows(alloc, numbers(alloc, &[("a", number), ("b", 7)])?)?)
+    opened(alloc, &[("a", number), ("b", 7)])
 }
 
 #[test]
@@ -115,7 +96,7 @@ const BOUNDS: &[u8] = b"\x01\x01a\x01b\x10";
 #[test]
 fn a_page_range_is_its_bounds_and_its_digest(rt: HostRuntime) -> Result<(), Fail> {
     let alloc = rt.alloc();
-    let mut store = open_rows(alloc, numbers(alloc, &[("a", 9), ("b", 7)])?)?;
+    let mut store = opened(alloc, &[("a", 9), ("b", 7)])?;
     let sent = send_page_ranges(alloc, &mut store)?;
     let Some(digest) = sent.strip_prefix(BOUNDS) else {
         return Err(Fail::from("other bounds"));
@@ -131,7 +112,7 @@ const BACKWARD: &[u8] = b"\x01\x01b\x01a\x10................";
 #[test]
 fn bytes_that_are_no_page_ranges_are_malformed(rt: HostRuntime) -> Result<(), Fail> {
     let alloc = rt.alloc();
-    let mut store = open_rows(alloc, numbers(alloc, &[("a", 9)])?)?;
+    let mut store = opened(alloc, &[("a", 9)])?;
     for bytes in MALFORMED {
         assert!(rt; ask(alloc, &mut store, bytes).err() == Some(WireFault::Malformed));
     }

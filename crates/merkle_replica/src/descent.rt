@@ -66,8 +66,9 @@ impl<K: Key + Drop, V: Join + Drop, H: RowHasher<N, K, V>, const N: usize> Repli
     ///
     /// ```rust crates/replica_tests/src/catch_ups.rt
     /// let asked = local.sort_out(&items)?;
-    /// for key in &asked.keys {
-    ///     keys.push(**key)?;
+    /// add_keys(&mut keys, &asked.keys)?;
+    /// if asked.gaps.is_empty() {
+    ///     break;
     /// }
     /// ```
     ///

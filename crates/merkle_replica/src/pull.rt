@@ -83,7 +83,7 @@ impl<K: Key + Drop, V: Join + Drop, H: RowHasher<N, K, V>, const N: usize> Repli
     /// pull then asks for ranges, and joins what is there already. Whatever it joins is right all the same, and no row is lost.
     ///
     /// ```rust crates/replica_tests/src/agreeing.rt
-    /// // the keys of `a` now span those of `b`, so that one pull is enough
+    /// // the keys of `a` span those of `b`, so that one pull is enough
     /// let pulled = b.pull(&mut a)?;
     /// assert_eq!(rt; pulled.joined, 3);
     /// assert!(rt; agree(&mut a, &mut b));

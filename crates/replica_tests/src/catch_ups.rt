@@ -1,8 +1,8 @@
 //! Catch-ups between random maps, whose keys are on random levels: the rows afterwards, and how many rows and rounds it took.
 
-use merkle_replica::{CatchUpError, CaughtUp, Replica, catch_up_both, lie_within};
-use merkle_search_tree::Gap;
+use merkle_replica::{CatchUpError, CaughtUp, Replica, lie_within};
 use merkle_search_tree::builder::{Builder, PageFormat};
+use merkle_search_tree::{Gap, OutlineItem};
 use std::alloc::{AllocError, Global};
 use std::test::Fail;
 use testing::{LevelHasher, Random, have_values, number_hasher, number_key};
@@ -49,11 +49,6 @@ fn put(replica: &mut Numbers, number: u16, value: u64) -> Result<(), AllocError>
 /// A catch-up.
 fn catch_up(a: &mut Numbers, b: &mut Numbers) -> Result<CaughtUp, CatchUpError> {
     a.catch_up(b)
-}
-
-/// Catch-ups in both directions, and whether memory was there.
-fn both_ways(a: &mut Numbers, b: &mut Numbers) -> bool {
-    catch_up_both(a, b).is_ok()
 }
 
 /// The map of these values, with a tree in a page format.
@@ -148,24 +143,39 @@ fn catch_ups_join_what_is_lacked(rt: HostRuntime) -> Result<(), Fail> {
     Ok(())
 }
 
+/// The items of the peer's whole tree.
+fn whole_of(
+    alloc: Global,
+    peer: &Numbers,
+) -> Result<Vec<OutlineItem<'_, 32, [u8; 2]>>, AllocError> {
+    let mut items = Vec::new(alloc);
+    if let Some(item) = peer.tree().whole() {
+        items.push(item)?;
+    }
+    Ok(items)
+}
+
+/// Adds copies of keys.
+fn add_keys(keys: &mut Vec<[u8; 2]>, found: &[&[u8; 2]]) -> Result<(), AllocError> {
+    for key in found {
+        keys.push(**key)?;
+    }
+    Ok(())
+}
+
 /// The keys that the steps of a catch-up leave to ask `peer` for, both hashed, in the order in which they are found. What the peer sends lies
 /// within the gaps that it was asked for.
 fn keys_to_ask(alloc: Global, local: &Numbers, peer: &Numbers) -> Result<Vec<[u8; 2]>, Fail> {
     let mut keys = Vec::new(alloc);
     let mut gaps = Vec::new(alloc);
     gaps.push(Gap::everywhere())?;
-    let mut items = Vec::new(alloc);
-    if let Some(item) = peer.tree().whole() {
-        items.push(item)?;
-    }
+    let mut items = whole_of(alloc, peer)?;
     for _ in 0..256 {
         if !lie_within(&gaps, &items) {
             return Err(Fail::from("items outside the gaps"));
         }
         let asked = local.sort_out(&items)?;
-        for key in &asked.keys {
-            keys.push(**key)?;
-        }
+        add_keys(&mut keys, &asked.keys)?;
         if asked.gaps.is_empty() {
             break;
         }
@@ -234,29 +244,6 @@ fn steps_join_what_is_lacked(rt: HostRuntime) -> Result<(), Fail> {
             steps_meet(rt.alloc(), &levels, &ours, &theirs)?,
             "turn {turn}"
         );
-    }
-    Ok(())
-}
-
-#[test]
-fn catch_ups_in_both_directions_join_both(rt: HostRuntime) -> Result<(), Fail> {
-    let alloc = rt.alloc();
-    let mut random = Random::new(13);
-    for turn in 0..50u64 {
-        let levels = levels_of(&mut random);
-        let ours = values_of(&mut random);
-        let theirs = values_of(&mut random);
-        let mut a = numbers(alloc, PageFormat::V2, &ours, number_hasher(alloc, &levels)?)?;
-        let mut b = numbers(
-            alloc,
-            PageFormat::V1,
-            &theirs,
-            number_hasher(alloc, &levels)?,
-        )?;
-        let (both, _) = joined(&ours, &theirs);
-        assert!(rt; both_ways(&mut a, &mut b), "turn {turn}");
-        assert!(rt; have_values(a.rows(), &both), "turn {turn}");
-        assert!(rt; have_values(b.rows(), &both), "turn {turn}");
     }
     Ok(())
 }

@@ -83,9 +83,9 @@ fn named<D: Disk>(error: OpenError, before: Tally, left: &Unopened<D>) -> OpenFa
 /// Opens the file of a store, and reads of it the header, the list of free pages and the list of tables.
 ///
 /// ```rust crates/store_file/src/tests.rt
-/// let files = close_files(first)?;
-/// written?;
 /// let mut second = open(alloc, files)?;
+/// let found = is_filled(rt, &mut second, &mut row);
+/// close(second)?;
 /// ```
 ///
 /// # Errors
@@ -117,7 +117,7 @@ pub fn open<D: Disk + Drop>(alloc: Global, files: Files<D>) -> Result<FileStore<
 ///
 /// ```rust crates/store_file/src/tests.rt
 /// let mut first = create(alloc, blank(alloc))?;
-/// let written = fill(&rt, &mut first, &mut row);
+/// let written = fill(rt, &mut first, &mut row);
 /// let files = close_files(first)?;
 /// ```
 ///

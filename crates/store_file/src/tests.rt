@@ -144,18 +144,35 @@ fn is_filled<S: Store>(rt: &impl Abort, store: &mut S, row: &mut Row) -> Result<
     Ok(first && second && third && ended && about)
 }
 
-#[test]
-fn keeps_what_is_committed(rt: HostRuntime) -> Result<(), Fail> {
-    let alloc = rt.alloc();
+/// The files of a store that was filled.
+fn filled(rt: &impl Abort, alloc: Global) -> Result<Pair, Fail>
+    ensures log { IfOk result (λ files. IsTrue (memory_is_usable (disk_below files.log))) }
+    ensures db { IfOk result (λ files. IsTrue (memory_is_usable (disk_below files.db))) }
+{
     let mut row = Row::new(alloc);
     let mut first = create(alloc, blank(alloc))?;
-    let written = fill(&rt, &mut first, &mut row);
+    let written = fill(rt, &mut first, &mut row);
     let files = close_files(first)?;
     written?;
+    Ok(files)
+}
+
+/// Whether files are those of such a store, which is opened and closed.
+fn are_filled(rt: &impl Abort, alloc: Global, files: Pair) -> Result<bool, Fail>
+    requires log { IsTrue (memory_is_usable (disk_below files.log)) }
+    requires db { IsTrue (memory_is_usable (disk_below files.db)) }
+{
+    let mut row = Row::new(alloc);
     let mut second = open(alloc, files)?;
-    let found = is_filled(&rt, &mut second, &mut row);
+    let found = is_filled(rt, &mut second, &mut row);
     close(second)?;
-    assert!(rt; found?);
+    Ok(found?)
+}
+
+#[test]
+fn keeps_what_is_committed(rt: HostRuntime) -> Result<(), Fail> {
+    let files = filled(&rt, rt.alloc())?;
+    assert!(rt; are_filled(&rt, rt.alloc(), files)?);
     Ok(())
 }
 
@@ -176,19 +193,19 @@ fn opens_no_other_file(rt: HostRuntime) -> Result<(), Fail> {
     Ok(())
 }
 
+/// Whether the files of such a database are given back as those of a store by neither call.
+fn is_no_store(alloc: Global, entries: &str, notes: &str) -> Result<bool, Fail> {
+    let files = close_files(open_database(alloc, entries, notes)?).err();
+    let counted = close(open_database(alloc, entries, notes)?).err();
+    Ok(files == Some(StoreError::Broken) && counted == Some(StoreError::Broken))
+}
+
 #[test]
 fn gives_back_no_other_file(rt: HostRuntime) -> Result<(), Fail> {
     let alloc = rt.alloc();
-    for (entries, notes) in [
-        ("CREATE TABLE entry (a)", ABOUT_SQL),
-        (FORMER_ENTRIES_SQL, FORMER_ABOUT_SQL),
-        (ENTRIES_SQL, FORMER_ABOUT_SQL),
-    ] {
-        let other = open_database(alloc, entries, notes)?;
-        assert_eq!(rt; close_files(other).err(), Some(StoreError::Broken));
-        let other = open_database(alloc, entries, notes)?;
-        assert_eq!(rt; close(other).err(), Some(StoreError::Broken));
-    }
+    assert!(rt; is_no_store(alloc, "CREATE TABLE entry (a)", ABOUT_SQL)?);
+    assert!(rt; is_no_store(alloc, FORMER_ENTRIES_SQL, FORMER_ABOUT_SQL)?);
+    assert!(rt; is_no_store(alloc, ENTRIES_SQL, FORMER_ABOUT_SQL)?);
     Ok(())
 }
 

@@ -4,14 +4,26 @@ use crate::refusals::{NONE, ROOT};
 use crate::sessions::numbers;
 use merkle_bytes::KeyRun;
 use merkle_wire::{CatchingUp, Next, SessionError};
-use std::alloc::Global;
+use std::alloc::{AllocError, Global};
 use std::test::Fail;
 
+/// A key behind another one, or behind none.
+fn key_behind(alloc: Global, after: Option<[u8; 8]>, key: &[u8; 8]) -> Result<Vec<u8>, AllocError> {
+    let mut bytes = Vec::new(alloc);
+    let mut run = KeyRun::behind(alloc, after.as_ref())?;
+    run.encode(key, &mut bytes)?;
+    Ok(bytes)
+}
+
 /// The outline of a page over a gap above a key: one node, a page behind it, and a digest of nodes.
-fn page_above(alloc: Global, after: Option<[u8; 8]>, node: [u8; 8]) -> Result<Vec<u8>, Fail> {
+fn page_above(
+    alloc: Global,
+    after: Option<[u8; 8]>,
+    node: &[u8; 8],
+) -> Result<Vec<u8>, AllocError> {
     let mut reply = bytes_of(alloc, "0182 02 05050505050505050505050505050505 01")?;
-    KeyRun::behind(alloc, after.as_ref())?.encode(&node, &mut reply)?;
-    reply.extend_from_slice(&bytes_of(alloc, "00 01 06060606060606060606060606060606")?)?;
+    reply.append(&mut key_behind(alloc, after, node)?)?;
+    reply.append(&mut bytes_of(alloc, "00 01 06060606060606060606060606060606")?)?;
     Ok(reply)
 }
 
@@ -21,15 +33,15 @@ fn next_reply(
     message: &[u8],
     rounds: &mut u64,
     node: &mut Option<[u8; 8]>,
-) -> Result<Vec<u8>, Fail> {
+) -> Result<Vec<u8>, AllocError> {
     if message.get(1) == Some(&3) {
-        return Ok(bytes_of(alloc, NONE)?);
+        return bytes_of(alloc, NONE);
     }
     *rounds = (*rounds).saturating_add(1);
     let next = (*rounds).saturating_add(10).to_be_bytes();
-    let reply = page_above(alloc, *node, next)?;
+    let after = *node;
     *node = Some(next);
-    Ok(reply)
+    page_above(alloc, after, &next)
 }
 
 /// How many rounds a session takes in which the peer has a page below each page, until it is refused.

@@ -1,6 +1,7 @@
 //! What errors say.
 
 use merkle_wire::{AnswerError, BothMessagesError, MessagesError, SessionError};
+use std::alloc::{AllocError, Global};
 use std::test::Fail;
 
 /// Why catch-ups by messages end early, and what that says.
@@ -20,19 +21,22 @@ const FAULTS: [(MessagesError, &str); 4] = [
     (MessagesError::Join(2), "memory was refused after 2 rows"),
 ];
 
+/// Whether a fault says a text, and so in the first and in the second of two catch-ups.
+fn says(alloc: Global, fault: MessagesError, text: &str) -> Result<bool, AllocError> {
+    let alone = format!(in alloc; "{fault}")?;
+    let first = format!(in alloc; "{}", BothMessagesError::First(fault))?;
+    let second = format!(in alloc; "{}", BothMessagesError::Second(3, fault))?;
+    Ok(
+        alone.as_str() == text
+            && first.as_str().strip_prefix("in the first catch-up ") == Some(text)
+            && second.as_str().strip_prefix("in the second catch-up ") == Some(text),
+    )
+}
+
 #[test]
 fn faults_of_messages_say_why(rt: HostRuntime) -> Result<(), Fail> {
-    let alloc = rt.alloc();
     for (fault, text) in FAULTS {
-        assert!(rt; format!(in alloc; "{fault}")?.as_str() == text);
-        let first = BothMessagesError::First(fault);
-        assert!(rt;
-            format!(in alloc; "{first}")? == format!(in alloc; "in the first catch-up {text}")?
-        );
-        let second = BothMessagesError::Second(3, fault);
-        assert!(rt;
-            format!(in alloc; "{second}")? == format!(in alloc; "in the second catch-up {text}")?
-        );
+        assert!(rt; says(rt.alloc(), fault, text)?, "{text}");
     }
     Ok(())
 }

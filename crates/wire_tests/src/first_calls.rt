@@ -13,6 +13,13 @@ fn a_replica_catches_up_by_messages(rt: HostRuntime) -> Result<(), Fail> {
     laptop.put(String::from_str(alloc, "bananas")?, 7)?;
     let joined = catch_up_by_messages(alloc, &mut office, &mut laptop)?;
     assert_eq!(rt; joined, 1);
+    Ok(())
+}
+
+#[test]
+fn a_first_message_asks_for_the_root(rt: HostRuntime) -> Result<(), Fail> {
+    let alloc = rt.alloc();
+    let laptop: Numbers<String> = Replica::new(alloc, Builder::default());
     let (_, message) = CatchingUp::begin(alloc, &laptop)?;
     match decode_question::<String>(alloc, &message)? {
         Question::Root(settings) => assert_eq!(rt; settings.level_base, 16),

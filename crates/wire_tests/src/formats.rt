@@ -7,7 +7,7 @@ use merkle_bytes::{
 use merkle_diff::OwnedPageRange;
 use merkle_digest::PageDigest;
 use merkle_wire::OwnedGap;
-use std::alloc::Global;
+use std::alloc::{AllocError, Global};
 use std::test::Fail;
 
 /// The bytes of a value.
@@ -75,41 +75,6 @@ fn other_spellings_of_counts_are_refused(rt: HostRuntime) -> Result<(), Fail> {
     Ok(())
 }
 
-#[test]
-fn a_row_is_its_key_and_its_value(rt: HostRuntime) -> Result<(), Fail> {
-    let alloc = rt.alloc();
-    let row = (String::from_str(alloc, "ab")?, 258u64);
-    let bytes = written(alloc, &row)?;
-    let wanted = [2, 97, 98, 130, 2];
-    assert!(rt; bytes.as_slice() == wanted.as_slice());
-    let mut reader = Reader::new(alloc, &bytes);
-    let back = <(String, u64)>::decode(&mut reader)?;
-    assert!(rt; back.0.as_str() == "ab");
-    assert!(rt; back.1 == 258);
-    assert!(rt; reader.end().is_ok());
-    Ok(())
-}
-
-#[test]
-fn a_cut_row_is_refused_where_it_ends(rt: HostRuntime) -> Result<(), Fail> {
-    let alloc = rt.alloc();
-    let bytes = [2u8, 97, 98, 130];
-    let mut reader = Reader::new(alloc, &bytes);
-    match <(String, u64)>::decode(&mut reader) {
-        Ok(_) => assert!(rt; false),
-        Err(error) => {
-            assert!(rt;
-                error
-                    == ReadError::Unexpected {
-                        offset: 3,
-                        expected: Expected::Count
-                    }
-            );
-        }
-    }
-    Ok(())
-}
-
 /// Keys of a run and the bytes of each behind the one before it: how many bytes it keeps and how many more it has, in one byte or behind
 /// f0, and these.
 const KEYS: [(&str, &str); 6] = [
@@ -143,9 +108,8 @@ fn keys_are_told_by_what_they_share(rt: HostRuntime) -> Result<(), Fail> {
     Ok(())
 }
 
-#[test]
-fn gaps_are_two_bounds(rt: HostRuntime) -> Result<(), Fail> {
-    let alloc = rt.alloc();
+/// Two gaps.
+fn two_gaps(alloc: Global) -> Result<Vec<OwnedGap<[u8; 2]>>, AllocError> {
     let mut gaps = Vec::new(alloc);
     gaps.push(OwnedGap {
         after: None,
@@ -155,14 +119,20 @@ fn gaps_are_two_bounds(rt: HostRuntime) -> Result<(), Fail> {
         after: Some([7, 10]),
         before: None,
     })?;
+    Ok(gaps)
+}
+
+#[test]
+fn gaps_are_two_bounds(rt: HostRuntime) -> Result<(), Fail> {
+    let alloc = rt.alloc();
+    let gaps = two_gaps(alloc)?;
     let mut bytes = Vec::new(alloc);
     encode_run(&gaps, &mut KeyRun::new(alloc), &mut bytes)?;
     let wanted = [2, 0, 1, 3, 2, 7, 9, 1, 33, 10, 0];
     assert!(rt; bytes.as_slice() == wanted.as_slice());
     let mut reader = Reader::new(alloc, &bytes);
     let back = decode_run::<OwnedGap<[u8; 2]>>(&mut KeyRun::new(alloc), &mut reader)?;
-    assert!(rt; back == gaps);
-    assert!(rt; reader.end().is_ok());
+    assert!(rt; back == gaps && reader.end().is_ok());
     Ok(())
 }
 
@@ -193,6 +163,13 @@ fn values_have_these_bytes(rt: HostRuntime) -> Result<(), Fail> {
             "05 c3a974c3a9"
         )?
     );
+    assert!(rt;
+        has_bytes(
+            alloc,
+            &(String::from_str(alloc, "ab")?, 258u64),
+            "02 6162 8202"
+        )?
+    );
     assert!(rt; has_bytes(alloc, &(7u8, (300u64, [1u8])), "07 ac02 0101")?);
     Ok(())
 }
@@ -221,6 +198,7 @@ fn bytes_that_are_no_number_are_refused(rt: HostRuntime) -> Result<(), Fail> {
     assert!(rt; refused::<u64>(alloc, "8000")? == behind(0, Expected::Count));
     assert!(rt; refused::<()>(alloc, "01")? == behind(0, Expected::Flag));
     assert!(rt; refused::<(u8, u16)>(alloc, "07")? == behind(1, Expected::Count));
+    assert!(rt; refused::<(String, u64)>(alloc, "02 6162 82")? == behind(3, Expected::Count));
     Ok(())
 }
 
@@ -277,15 +255,32 @@ const LONG_KEYS: [(&str, usize, usize, Option<(usize, Expected)>); 4] = [
 ];
 
 /// So many letters a, and so many letters b.
-fn letters(alloc: Global, first: usize, second: usize) -> Result<Vec<u8>, Fail> {
-    let mut letters = Vec::new(alloc);
-    for _ in 0..first {
-        letters.push(b'a')?;
-    }
-    for _ in 0..second {
-        letters.push(b'b')?;
-    }
+fn letters(alloc: Global, first: usize, second: usize) -> Result<Vec<u8>, AllocError> {
+    let mut letters = vec![in alloc; b'a'; first]?;
+    letters.append(&mut vec![in alloc; b'b'; second]?)?;
     Ok(letters)
+}
+
+/// The key behind the last one that bytes say, of a front in hex and so many letters.
+fn read_behind(
+    alloc: Global,
+    last: &Vec<u8>,
+    case: &(&str, usize, usize),
+) -> Result<Vec<u8>, ReadError> {
+    let mut bytes = bytes_of(alloc, case.0)?;
+    bytes.append(&mut letters(alloc, case.1, case.2)?)?;
+    let mut reader = Reader::new(alloc, &bytes);
+    let key = KeyRun::behind(alloc, Some(last))?.decode::<Vec<u8>>(&mut reader)?;
+    reader.end()?;
+    Ok(key)
+}
+
+/// The bytes of a key behind the last one.
+fn written_behind(alloc: Global, last: &Vec<u8>, key: &Vec<u8>) -> Result<Vec<u8>, AllocError> {
+    let mut bytes = Vec::new(alloc);
+    let mut run = KeyRun::behind(alloc, Some(last))?;
+    run.encode(key, &mut bytes)?;
+    Ok(bytes)
 }
 
 #[test]
@@ -293,29 +288,19 @@ fn a_key_keeps_255_bytes_at_most(rt: HostRuntime) -> Result<(), Fail> {
     let alloc = rt.alloc();
     let last = letters(alloc, 298, 0)?;
     let key = letters(alloc, 288, 10)?;
-    for case in &LONG_KEYS {
-        let mut bytes = bytes_of(alloc, case.0)?;
-        bytes.extend_from_slice(&letters(alloc, case.1, case.2)?)?;
-        let mut reader = Reader::new(alloc, &bytes);
-        let mut run = KeyRun::behind(alloc, Some(&last))?;
-        let read = run.decode::<Vec<u8>>(&mut reader);
-        match case.3 {
-            None => assert!(rt; read? == key && reader.end().is_ok(), "{}", case.0),
+    for (front, first, second, expected) in &LONG_KEYS {
+        let read = read_behind(alloc, &last, &(*front, *first, *second));
+        match *expected {
+            None => assert!(rt; read? == key, "{front}"),
             Some((offset, expected)) => {
-                assert!(rt;
-                    read == Err(ReadError::Unexpected { offset, expected }),
-                    "{}",
-                    case.0
-                );
+                let wanted = ReadError::Unexpected { offset, expected };
+                assert!(rt; read == Err(wanted), "{front}");
             }
         }
     }
-    let mut written = Vec::new(alloc);
-    let mut run = KeyRun::behind(alloc, Some(&last))?;
-    run.encode(&key, &mut written)?;
     let mut wanted = bytes_of(alloc, "f0 ff01 2d")?;
-    wanted.extend_from_slice(&letters(alloc, 35, 10)?)?;
-    assert!(rt; written == wanted);
+    wanted.append(&mut letters(alloc, 35, 10)?)?;
+    assert!(rt; written_behind(alloc, &last, &key)? == wanted);
     Ok(())
 }
 

@@ -31,7 +31,7 @@ fn empty<K: Sample, V: Worth>(
     alloc: Global,
     settings: (u8, PageFormat),
     keys: u64,
-) -> Result<Side<K, V>, Fail> {
+) -> Result<Side<K, V>, AllocError> {
     let base = NonZeroU8::new(settings.0).ok_or(AllocError)?;
     let builder = Builder::default().with_level_base(base);
     let replica = Replica::new(alloc, builder.with_page_format(settings.1));
@@ -46,7 +46,7 @@ fn update<K: Sample, V: Worth>(
     alloc: Global,
     side: &mut Side<K, V>,
     random: &mut Random,
-) -> Result<(), Fail> {
+) -> Result<(), AllocError> {
     let number = random.below(side.values.len() as u64);
     let value = random.below(5);
     let key = K::of(alloc, number)?;
@@ -67,7 +67,7 @@ fn updates<K: Sample, V: Worth>(
     side: &mut Side<K, V>,
     count: u64,
     random: &mut Random,
-) -> Result<(), Fail> {
+) -> Result<(), AllocError> {
     for _update in 0..count {
         update(alloc, side, random)?;
     }
@@ -79,7 +79,7 @@ fn part<K: Sample, V: Worth>(
     alloc: Global,
     sides: (&mut Side<K, V>, &mut Side<K, V>),
     random: &mut Random,
-) -> Result<(), Fail> {
+) -> Result<(), AllocError> {
     let (a, b) = sides;
     let keys = a.values.len() as u64;
     let same = random.below(keys.saturating_mul(2));
@@ -127,7 +127,7 @@ fn catches_up<K: Sample, V: Worth>(
 }
 
 /// Whether a replica has the values that it is to have, and no other rows.
-fn holds<K: Sample, V: Worth>(alloc: Global, side: &Side<K, V>) -> Result<bool, Fail> {
+fn holds<K: Sample, V: Worth>(alloc: Global, side: &Side<K, V>) -> Result<bool, AllocError> {
     let mut rows = Vec::new(alloc);
     for (number, value) in side.values.iter().enumerate() {
         if *value > 0 {
@@ -142,7 +142,7 @@ fn pair<K: Sample, V: Worth>(
     alloc: Global,
     format: PageFormat,
     random: &mut Random,
-) -> Result<(Side<K, V>, Side<K, V>), Fail> {
+) -> Result<(Side<K, V>, Side<K, V>), AllocError> {
     let most = if random.below(50) == 0 { 300 } else { 20 };
     let keys = random.below(most).saturating_add(1);
     let base = BASES.get(random.below(3) as usize).copied().unwrap_or(16);
@@ -209,30 +209,50 @@ fn long_values_meet(rt: HostRuntime) -> Result<(), Fail> {
     Ok(())
 }
 
-/// Whether five random replicas in a ring come to hold the join of all by messages, where each catches up with the one before it, twice round.
-fn five_meet<K: Sample, V: Worth>(alloc: Global, random: &mut Random) -> Result<bool, Fail> {
+/// Replicas that catch up in a ring, and the join that they are to come to.
+#[derive(Drop)]
+struct Ring<K: Sample, V: Worth> {
+    sides: Vec<Side<K, V>>,
+    joined: Vec<u64>,
+}
+
+/// Five random replicas.
+fn five<K: Sample, V: Worth>(alloc: Global, random: &mut Random) -> Result<Ring<K, V>, Fail> {
     let mut joined = vec![in alloc; 0; 100]?;
-    let mut ring = Vec::new(alloc);
+    let mut sides = Vec::new(alloc);
     for _replica in 0..5 {
         let mut side: Side<K, V> = empty(alloc, (4, PageFormat::V2), 100)?;
         let count = random.below(200);
         updates(alloc, &mut side, count, random)?;
         raise(&mut joined, &side.values);
-        ring.push(side)?;
+        sides.push(side)?;
     }
+    Ok(Ring { sides, joined })
+}
+
+/// Whether the first replica catches up with the last as it is to; it then stands behind that.
+fn turns<K: Sample, V: Worth>(alloc: Global, sides: &mut Vec<Side<K, V>>) -> Result<bool, Fail> {
+    if sides.is_empty() {
+        return Ok(false);
+    }
+    let mut first = sides.remove(0);
+    let is_right = match sides.last_mut() {
+        None => false,
+        Some(last) => catches_up(alloc, &mut first, last, 200)?,
+    };
+    sides.push(first)?;
+    Ok(is_right)
+}
+
+/// Whether five random replicas in a ring come to hold the join of all by messages, where each catches up with the one before it, twice round.
+fn five_meet<K: Sample, V: Worth>(alloc: Global, random: &mut Random) -> Result<bool, Fail> {
+    let mut ring: Ring<K, V> = five(alloc, random)?;
     let mut are_met = true;
     for _turn in 0..10 {
-        if ring.is_empty() {
-            return Ok(false);
-        }
-        let mut first = ring.remove(0);
-        if let Some(last) = ring.last_mut() {
-            are_met = catches_up(alloc, &mut first, last, 200)? && are_met;
-        }
-        ring.push(first)?;
+        are_met = turns(alloc, &mut ring.sides)? && are_met;
     }
-    for side in &ring {
-        are_met = are_met && side.values == joined;
+    for side in &ring.sides {
+        are_met = are_met && side.values == ring.joined;
     }
     Ok(are_met)
 }
@@ -254,7 +274,7 @@ fn five_meet_in_a_ring(rt: HostRuntime) -> Result<(), Fail> {
 }
 
 /// A replica of 40 numbers with 60 random updates.
-fn numbers_of(alloc: Global, random: &mut Random) -> Result<Rows<Number, u64>, Fail> {
+fn numbers_of(alloc: Global, random: &mut Random) -> Result<Rows<Number, u64>, AllocError> {
     let mut side: Side<Number, u64> = empty(alloc, (2, PageFormat::V1), 40)?;
     updates(alloc, &mut side, 60, random)?;
     Ok(side.replica)

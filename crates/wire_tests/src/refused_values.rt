@@ -66,25 +66,35 @@ fn values_come_back(alloc: Global) -> Result<bool, ReadError> {
     )
 }
 
-/// Whether page ranges, lists, and lists of keys come back.
-fn lists_come_back(alloc: Global) -> Result<bool, ReadError> {
+/// A page range between two texts.
+fn page_range(alloc: Global) -> Result<Option<OwnedPageRange<String>>, AllocError> {
     let (first, last) = (text(alloc, "apple")?, text(alloc, "apricot")?);
-    let Some(range) = OwnedPageRange::try_new(first, last, PageDigest::new([7; 16])) else {
-        return Ok(false);
-    };
-    let texts = [
-        text(alloc, "apple")?,
-        text(alloc, "apricot")?,
-        text(alloc, "fig")?,
-    ];
+    Ok(OwnedPageRange::try_new(first, last, PageDigest::new([7; 16])))
+}
+
+/// Three texts.
+fn three(alloc: Global) -> Result<Vec<String>, AllocError> {
+    let mut texts = Vec::new(alloc);
+    for word in ["apple", "apricot", "fig"] {
+        texts.push(text(alloc, word)?)?;
+    }
+    Ok(texts)
+}
+
+/// Whether page ranges and lists come back.
+fn lists_come_back(alloc: Global) -> Result<bool, ReadError> {
+    match page_range(alloc)? {
+        None => Ok(false),
+        Some(range) => Ok(comes_back(alloc, &range)? && list_comes_back(alloc, &three(alloc)?)?),
+    }
+}
+
+/// Whether lists of rows and of bounds come back behind a key.
+fn runs_come_back(alloc: Global) -> Result<bool, ReadError> {
+    let bound = text(alloc, "apple")?;
     let rows = [(text(alloc, "apple")?, 1u64), (text(alloc, "apricot")?, 2)];
     let bounds = [None, Some(text(alloc, "apricot")?)];
-    Ok(
-        comes_back(alloc, &range)?
-            && list_comes_back(alloc, &texts)?
-            && run_comes_back(alloc, &texts[0], &rows)?
-            && run_comes_back(alloc, &texts[0], &bounds)?,
-    )
+    Ok(run_comes_back(alloc, &bound, &rows)? && run_comes_back(alloc, &bound, &bounds)?)
 }
 
 /// Whether a round trip came back, or wanted memory.
@@ -100,10 +110,12 @@ fn values_are_read_back_or_want_memory(rt: HostRuntime) {
 #[test]
 fn lists_are_read_back_or_want_memory(rt: HostRuntime) {
     assert!(rt; came_back_or_wanted_memory(lists_come_back(rt.alloc())));
+    assert!(rt; came_back_or_wanted_memory(runs_come_back(rt.alloc())));
 }
 
 #[test]
 fn all_are_read_back_where_memory_is_at_hand(rt: HostRuntime) {
     assert!(rt; values_come_back(rt.alloc()) == Ok(true));
     assert!(rt; lists_come_back(rt.alloc()) == Ok(true));
+    assert!(rt; runs_come_back(rt.alloc()) == Ok(true));
 }

@@ -141,23 +141,40 @@ fn nothing_comes_where_nothing_differs(rt: HostRuntime) -> Result<(), Fail> {
     Ok(())
 }
 
+/// How many rows a catch-up joins, where it comes to its end.
+fn caught_up<K: Sample>(
+    alloc: Global,
+    local: &mut Numbers<K>,
+    peer: &mut Numbers<K>,
+) -> Option<usize> {
+    catch_up_by_messages(alloc, local, peer).ok()
+}
+
+/// Whether two replicas have these rows, and one root hash.
+fn are_joined<K: Sample>(a: &mut Numbers<K>, b: &mut Numbers<K>, wanted: &Numbers<K>) -> bool {
+    a.rows() == wanted.rows() && b.rows() == wanted.rows() && a.root_hash() == b.root_hash()
+}
+
+/// The join of both.
+fn joined<K: Sample>(alloc: Global) -> Result<Numbers<K>, Fail> {
+    let mut wanted = numbers::<K>(alloc, 600, 3, 5)?;
+    match wanted.put_all(twos::<K>(alloc)?) {
+        Ok(()) => Ok(wanted),
+        Err(_) => Err(Fail::new("memory")),
+    }
+}
+
 /// Whether catch-ups in both directions, between replicas of different sizes and values, bring the 267 rows in which the first differs from the
 /// second, and then the 334 in which that does from their join, and leave both with the greater number at each key.
 fn joins_both_ways<K: Sample>(alloc: Global) -> Result<bool, Fail> {
     let mut a = numbers::<K>(alloc, 600, 3, 5)?;
     let mut b = numbers::<K>(alloc, 400, 2, 4)?;
     let brought = (
-        catch_up_by_messages(alloc, &mut a, &mut b),
-        catch_up_by_messages(alloc, &mut b, &mut a),
+        caught_up(alloc, &mut a, &mut b),
+        caught_up(alloc, &mut b, &mut a),
     );
-    if brought != (Ok(267), Ok(334)) {
-        return Ok(false);
-    }
-    let mut wanted = numbers::<K>(alloc, 600, 3, 5)?;
-    if wanted.put_all(twos::<K>(alloc)?).is_err() {
-        return Err(Fail::new("memory"));
-    }
-    Ok(a.rows() == wanted.rows() && b.rows() == wanted.rows() && a.root_hash() == b.root_hash())
+    let wanted = joined::<K>(alloc)?;
+    Ok(brought == (Some(267), Some(334)) && are_joined(&mut a, &mut b, &wanted))
 }
 
 /// The rows of the smaller replica.

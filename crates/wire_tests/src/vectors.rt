@@ -68,7 +68,7 @@ type Animals<V> = Replica<String, V, SipHasher, 16>;
 fn animals<V: Join + HashBytes + Copy + Drop>(
     alloc: Global,
     rows: &[(&str, V)],
-) -> Result<Animals<V>, Fail> {
+) -> Result<Animals<V>, AllocError> {
     let base = NonZeroU8::new(2).ok_or(AllocError)?;
     let mut replica = Replica::new(alloc, Builder::default().with_level_base(base));
     for row in rows {
