@@ -8,6 +8,7 @@ use merkle_digest::{Hasher, KeyBytes};
 use merkle_search_tree::visitor::Visitor;
 use merkle_search_tree::{MerkleSearchTree, Node, Page};
 use sample_trees::trees::{keys_of, numbers_of, tree_of};
+use std::alloc::Global;
 use std::test::Fail;
 
 /// Counts the nodes.
@@ -66,13 +67,17 @@ fn lacking_once_hashed<K: Ord + KeyBytes, V, H: Hasher<N, K>, const N: usize>(
     tree.pages_to_hash()
 }
 
+/// Whether the tree of a line has as many nodes as the line has keys, and lacks no digest once it is hashed.
+fn is_counted(alloc: Global, line: &str) -> Result<bool, Fail> {
+    let keys = numbers_of(alloc, &keys_of(alloc, line)?)?;
+    let mut tree = tree_of(alloc, line)?;
+    Ok(count_nodes(&tree) == keys.len() && lacking_once_hashed(&mut tree) == 0)
+}
+
 #[test]
 fn counts_the_different_keys(rt: HostRuntime) -> Result<(), Fail> {
     for line in UPSERTS.lines() {
-        let keys = numbers_of(rt.alloc(), &keys_of(rt.alloc(), line)?)?;
-        let mut tree = tree_of(rt.alloc(), line)?;
-        assert!(rt; count_nodes(&tree) == keys.len(), "at {line}");
-        assert!(rt; lacking_once_hashed(&mut tree) == 0, "at {line}");
+        assert!(rt; is_counted(rt.alloc(), line)?, "at {line}");
     }
     Ok(())
 }

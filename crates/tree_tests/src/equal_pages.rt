@@ -3,7 +3,7 @@
 use merkle_digest::SipHasher;
 use merkle_search_tree::{MerkleSearchTree, Page};
 use sample_trees::root_pages::root_copy;
-use std::alloc::Global;
+use std::alloc::{AllocError, Global};
 use std::test::Fail;
 use testing::number_key;
 
@@ -11,15 +11,13 @@ use testing::number_key;
 type Tree = MerkleSearchTree<[u8; 2], u64, SipHasher, 16>;
 
 /// Sets a key to a value.
-fn put(tree: &mut Tree, key: u16, value: u64) -> Result<(), Fail> {
-    match tree.upsert(number_key(key), &value) {
-        Ok(()) => Ok(()),
-        Err(_) => Err(Fail::from("no memory")),
-    }
+fn put(tree: &mut Tree, key: u16, value: u64) -> Result<(), AllocError> {
+    tree.upsert(number_key(key), &value)?;
+    Ok(())
 }
 
 /// The tree of the keys `factor * i` modulo 64, with value 1, for i from 0 to `count` - 1.
-fn built(alloc: Global, factor: u16, count: u16) -> Result<Tree, Fail> {
+fn built(alloc: Global, factor: u16, count: u16) -> Result<Tree, AllocError> {
     let mut tree: Tree = MerkleSearchTree::with_defaults(alloc);
     for i in 0..count {
         put(&mut tree, factor.wrapping_mul(i) % 64, 1)?;
@@ -32,7 +30,7 @@ fn common_root(
     alloc: Global,
     left: &Tree,
     right: &Tree,
-) -> Result<Option<Page<16, [u8; 2]>>, Fail> {
+) -> Result<Option<Page<16, [u8; 2]>>, AllocError> {
     let root = root_copy(alloc, left)?.page;
     if root == root_copy(alloc, right)?.page {
         Ok(Some(root))
@@ -46,7 +44,7 @@ fn hashed_root(
     alloc: Global,
     left: &mut Tree,
     right: &mut Tree,
-) -> Result<Option<Page<16, [u8; 2]>>, Fail> {
+) -> Result<Option<Page<16, [u8; 2]>>, AllocError> {
     left.root_hash();
     right.root_hash();
     common_root(alloc, left, right)
@@ -78,7 +76,7 @@ fn differ_until_both_change(
     alloc: Global,
     left: &mut Tree,
     right: &mut Tree,
-) -> Result<bool, Fail> {
+) -> Result<bool, AllocError> {
     put(left, 0, 2)?;
     let differ = hashed_root(alloc, left, right)?.is_none();
     put(right, 0, 2)?;

@@ -3,18 +3,16 @@
 use merkle_diff::{PageRangeSnapshot, diff};
 use merkle_digest::{RootHash, SipHasher};
 use merkle_search_tree::MerkleSearchTree;
-use std::alloc::Global;
+use std::alloc::{AllocError, Global};
 use std::test::Fail;
 
 /// The default tree of texts.
 type Tree = MerkleSearchTree<String, u64, SipHasher, 16>;
 
 /// Sets the one key of these trees.
-fn put(alloc: Global, tree: &mut Tree, value: u64) -> Result<(), Fail> {
-    match tree.upsert(format!(in alloc; "bananas")?, &value) {
-        Ok(()) => Ok(()),
-        Err(_) => Err(Fail::from("no memory")),
-    }
+fn put(alloc: Global, tree: &mut Tree, value: u64) -> Result<(), AllocError> {
+    tree.upsert(format!(in alloc; "bananas")?, &value)?;
+    Ok(())
 }
 
 /// A snapshot of the page ranges of a tree, which it hashes.
@@ -38,7 +36,7 @@ fn spans_to_fetch(
     alloc: Global,
     local: &PageRangeSnapshot<String>,
     peer: &PageRangeSnapshot<String>,
-) -> Result<String, Fail> {
+) -> Result<String, AllocError> {
     let mut spans = String::new(alloc);
     for range in &diff(alloc, local.iter(), peer.iter())? {
         spans.push_str(format!(in alloc; " {}-{}", range.start(), range.end())?.as_str())?;
