@@ -207,11 +207,15 @@ fn maps_of_numbers_meet_in_format_2(rt: HostRuntime) -> Result<(), Fail> {
     Ok(())
 }
 
-/// Five maps of up to 300 rows, and their join.
-fn five<K: Kind + Drop>(
-    alloc: Global,
-    random: &mut Random,
-) -> Result<(Vec<Map<K>>, Vec<u64>), AllocError> {
+/// Maps, and the values that they are to come to have.
+#[derive(Drop)]
+struct Maps<K: Key + HashBytes> {
+    maps: Vec<Map<K>>,
+    joined: Vec<u64>,
+}
+
+/// Five maps of up to 300 rows.
+fn five<K: Kind + Drop>(alloc: Global, random: &mut Random) -> Result<Maps<K>, AllocError> {
     let mut joined = vec![in alloc; 0; 300]?;
     let mut maps = Vec::with_capacity(alloc, 5)?;
     for _map in 0..5 {
@@ -221,7 +225,7 @@ fn five<K: Kind + Drop>(
         raise(&mut joined, &side.values);
         maps.push(side.map)?;
     }
-    Ok((maps, joined))
+    Ok(Maps { maps, joined })
 }
 
 /// Whether all maps have these values and no other rows.
@@ -242,12 +246,13 @@ fn meet_through_a_hub<K: Kind + Drop>(
     alloc: Global,
     random: &mut Random,
 ) -> Result<bool, AllocError> {
-    let (mut others, joined) = five::<K>(alloc, random)?;
-    match others.pop() {
+    let mut five: Maps<K> = five(alloc, random)?;
+    match five.maps.pop() {
         None => Ok(false),
         Some(mut hub) => {
-            let are_made = all_through(&mut hub, &mut others);
-            Ok(are_made && holds(alloc, &hub, &joined)? && all_hold(alloc, &others, &joined)?)
+            let are_made = all_through(&mut hub, &mut five.maps);
+            let hub_holds = holds(alloc, &hub, &five.joined)?;
+            Ok(are_made && hub_holds && all_hold(alloc, &five.maps, &five.joined)?)
         }
     }
 }
@@ -268,12 +273,12 @@ fn catch_up_with_the_last<K: Kind + Drop>(ring: &mut Vec<Map<K>>) -> Result<bool
 
 /// Whether five maps in a ring come to hold the join of all, where each catches up with the one before it, twice round.
 fn meet_in_a_ring<K: Kind + Drop>(alloc: Global, random: &mut Random) -> Result<bool, AllocError> {
-    let (mut ring, joined) = five::<K>(alloc, random)?;
+    let mut ring: Maps<K> = five(alloc, random)?;
     let mut are_made = true;
     for _turn in 0..10 {
-        are_made = catch_up_with_the_last(&mut ring)? && are_made;
+        are_made = catch_up_with_the_last(&mut ring.maps)? && are_made;
     }
-    Ok(are_made && all_hold(alloc, &ring, &joined)?)
+    Ok(are_made && all_hold(alloc, &ring.maps, &ring.joined)?)
 }
 
 /// Whether five maps of a kind of keys come to hold the join of all, through a hub and in a ring.

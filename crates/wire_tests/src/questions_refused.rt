@@ -79,26 +79,31 @@ fn first_message(alloc: Global, builder: Builder<SipHasher>) -> Result<Vec<u8>, 
     Ok(message)
 }
 
+/// Why the peer refuses a replica with these settings, where it does.
+fn refused_for(
+    alloc: Global,
+    peer: &mut Bytes,
+    builder: Builder<SipHasher>,
+) -> Result<Option<AnswerError>, Fail> {
+    let message = first_message(alloc, builder)?;
+    Ok(refused_with(alloc, peer, &message))
+}
+
 /// A replica with another level base, page format or key of its hasher than the peer's is refused by the peer. Other lengths of digests are in the
 /// table above.
 #[test]
 fn other_settings_are_refused(rt: HostRuntime) -> Result<(), Fail> {
     let alloc = rt.alloc();
     let mut peer = three(alloc)?;
+    let others = Some(AnswerError::OtherSettings);
     let base = NonZeroU8::new(4).ok_or(AllocError)?;
-    let messages = [
-        first_message(alloc, Builder::default().with_level_base(base))?,
-        first_message(alloc, Builder::default().with_page_format(PageFormat::V2))?,
-        first_message(
-            alloc,
-            Builder::default().with_hasher(SipHasher::new(&[7; 16])),
-        )?,
-    ];
-    for message in &messages {
-        assert!(rt; refused_with(alloc, &mut peer, message) == Some(AnswerError::OtherSettings));
-    }
-    let same = first_message(alloc, Builder::default())?;
-    assert!(rt; refused_with(alloc, &mut peer, &same) == None);
+    let builder = Builder::default().with_level_base(base);
+    assert!(rt; refused_for(alloc, &mut peer, builder)? == others);
+    let builder = Builder::default().with_page_format(PageFormat::V2);
+    assert!(rt; refused_for(alloc, &mut peer, builder)? == others);
+    let builder = Builder::default().with_hasher(SipHasher::new(&[7; 16]));
+    assert!(rt; refused_for(alloc, &mut peer, builder)? == others);
+    assert!(rt; refused_for(alloc, &mut peer, Builder::default())? == None);
     assert!(rt; is_as_before(&peer));
     Ok(())
 }

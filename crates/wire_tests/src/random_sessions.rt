@@ -244,6 +244,15 @@ fn turns<K: Sample, V: Worth>(alloc: Global, sides: &mut Vec<Side<K, V>>) -> Res
     Ok(is_right)
 }
 
+/// Whether all replicas of a ring are to have the join.
+fn are_joined<K: Sample, V: Worth>(ring: &Ring<K, V>) -> bool {
+    let mut are_so = true;
+    for side in &ring.sides {
+        are_so = are_so && side.values == ring.joined;
+    }
+    are_so
+}
+
 /// Whether five random replicas in a ring come to hold the join of all by messages, where each catches up with the one before it, twice round.
 fn five_meet<K: Sample, V: Worth>(alloc: Global, random: &mut Random) -> Result<bool, Fail> {
     let mut ring: Ring<K, V> = five(alloc, random)?;
@@ -251,10 +260,7 @@ fn five_meet<K: Sample, V: Worth>(alloc: Global, random: &mut Random) -> Result<
     for _turn in 0..10 {
         are_met = turns(alloc, &mut ring.sides)? && are_met;
     }
-    for side in &ring.sides {
-        are_met = are_met && side.values == ring.joined;
-    }
-    Ok(are_met)
+    Ok(are_met && are_joined(&ring))
 }
 
 #[test]

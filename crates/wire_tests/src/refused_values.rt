@@ -89,12 +89,30 @@ fn lists_come_back(alloc: Global) -> Result<bool, ReadError> {
     }
 }
 
+/// Two rows.
+fn rows(alloc: Global) -> Result<Vec<(String, u64)>, AllocError> {
+    let mut rows = Vec::new(alloc);
+    for (word, number) in [("apple", 1), ("apricot", 2)] {
+        rows.push((text(alloc, word)?, number))?;
+    }
+    Ok(rows)
+}
+
+/// A bound that is none, and one.
+fn bounds(alloc: Global) -> Result<Vec<Option<String>>, AllocError> {
+    let mut bounds = Vec::new(alloc);
+    bounds.push(None)?;
+    bounds.push(Some(text(alloc, "apricot")?))?;
+    Ok(bounds)
+}
+
 /// Whether lists of rows and of bounds come back behind a key.
 fn runs_come_back(alloc: Global) -> Result<bool, ReadError> {
     let bound = text(alloc, "apple")?;
-    let rows = [(text(alloc, "apple")?, 1u64), (text(alloc, "apricot")?, 2)];
-    let bounds = [None, Some(text(alloc, "apricot")?)];
-    Ok(run_comes_back(alloc, &bound, &rows)? && run_comes_back(alloc, &bound, &bounds)?)
+    Ok(
+        run_comes_back(alloc, &bound, &rows(alloc)?)?
+            && run_comes_back(alloc, &bound, &bounds(alloc)?)?,
+    )
 }
 
 /// Whether a round trip came back, or wanted memory.
