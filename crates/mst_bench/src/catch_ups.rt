@@ -175,64 +175,49 @@ fn sessions<S: Session, R: Clock>(
     Ok((best, cost))
 }
 
-/// Times a catch-up, and answers how many rows it joined.
-fn time_catch_up<R: Clock>(
+/// How the rows of a peer are joined.
+#[derive(Clone, Copy)]
+enum Way {
+    /// By a catch-up.
+    CatchUp,
+    /// By a pull.
+    Pull,
+}
+
+/// Joins the rows of a peer, and answers how many were joined.
+fn join(local: &mut Numbers, peer: &mut Numbers, way: Way) -> Option<usize> {
+    match way {
+        Way::CatchUp => Some(local.catch_up(peer).ok()?.joined),
+        Way::Pull => Some(local.pull(peer).ok()?.joined),
+    }
+}
+
+/// Times the joining of a peer's rows, and answers how many were joined.
+fn time_join<R: Clock>(
     rt: &R,
     local: Numbers,
     peer: &mut Numbers,
+    way: Way,
     best: &mut Best,
 ) -> Result<usize, Fault> {
     let mut local = local;
     let start = now(rt)?;
-    let caught = local.catch_up(peer);
+    let joined = join(&mut local, peer, way);
     best.note_since(rt, start)?;
-    match caught {
-        Ok(caught) => Ok(caught.joined),
-        Err(_) => Err(Fault::Memory),
-    }
+    joined.ok_or(Fault::Memory)
 }
 
-/// The best time of three catch-ups, and how many rows the last joined.
-fn catch_ups<R: Clock>(
+/// The best time of three such joins, and how many rows the last joined.
+fn joins<R: Clock>(
     rt: &R,
     alloc: Global,
     case: Case<'_>,
+    way: Way,
     peer: &mut Numbers,
 ) -> Result<(Best, usize), Fault> {
     let (mut best, mut joined) = (Best::new(), 0);
     for _ in 0..3 {
-        joined = time_catch_up(rt, case.asking(alloc)?, peer, &mut best)?;
-    }
-    Ok((best, joined))
-}
-
-/// Times a pull, and answers how many rows it joined.
-fn time_pull<R: Clock>(
-    rt: &R,
-    local: Numbers,
-    peer: &mut Numbers,
-    best: &mut Best,
-) -> Result<usize, Fault> {
-    let mut local = local;
-    let start = now(rt)?;
-    let pulled = local.pull(peer);
-    best.note_since(rt, start)?;
-    match pulled {
-        Ok(pulled) => Ok(pulled.joined),
-        Err(_) => Err(Fault::Memory),
-    }
-}
-
-/// The best time of three pulls, and how many rows the last joined.
-fn pulls<R: Clock>(
-    rt: &R,
-    alloc: Global,
-    case: Case<'_>,
-    peer: &mut Numbers,
-) -> Result<(Best, usize), Fault> {
-    let (mut best, mut joined) = (Best::new(), 0);
-    for _ in 0..3 {
-        joined = time_pull(rt, case.asking(alloc)?, peer, &mut best)?;
+        joined = time_join(rt, case.asking(alloc)?, peer, way, &mut best)?;
     }
     Ok((best, joined))
 }
@@ -264,8 +249,8 @@ fn measure<R: Clock>(rt: &R, alloc: Global, case: Case<'_>) -> Result<Measured, 
     let mut peer = case.asked(alloc)?;
     let (session, plain) = sessions::<Plain, R>(rt, alloc, case, &mut peer)?;
     let (by_deltas, less) = sessions::<ByDeltas, R>(rt, alloc, case, &mut peer)?;
-    let (catch_up, joined) = catch_ups(rt, alloc, case, &mut peer)?;
-    let (pull, pulled) = pulls(rt, alloc, case, &mut peer)?;
+    let (catch_up, joined) = joins(rt, alloc, case, Way::CatchUp, &mut peer)?;
+    let (pull, pulled) = joins(rt, alloc, case, Way::Pull, &mut peer)?;
     let pull_bytes = bytes_of_pull(&peer, pulled)?;
     Ok(Measured {
         catch_up: catch_up.each(1000),
