@@ -176,16 +176,6 @@ where
     Ok(is_right && place == end)
 }
 
-/// Whether two keys are those at these places.
-fn are_at<K: Kind + Ord + Drop>(
-    alloc: Global,
-    start: &K,
-    end: &K,
-    places: &Places,
-) -> Result<bool, AllocError> {
-    Ok(*start == K::at(alloc, places.0)? && *end == K::at(alloc, places.1)?)
-}
-
 /// Whether a hashed tree has pages of these spans.
 fn has_spans<K: Kind + Ord + KeyBytes + Drop, const N: usize>(
     alloc: Global,
@@ -197,8 +187,10 @@ where
 {
     let ranges = tree.serialise_page_ranges()?.ok_or("not hashed")?;
     let mut is_right = ranges.len() == spans.len();
-    for (range, span) in ranges.iter().zip(spans) {
-        is_right = are_at(alloc, range.start(), range.end(), span)? && is_right;
+    for (range, (start, end)) in ranges.iter().zip(spans) {
+        is_right = is_right
+            && *range.start() == K::at(alloc, *start)?
+            && *range.end() == K::at(alloc, *end)?;
     }
     Ok(is_right)
 }
@@ -217,8 +209,10 @@ where
     let peer = peer.serialise_page_ranges()?.ok_or("not hashed")?;
     let found = diff(alloc, local, peer)?;
     let mut is_right = found.len() == asked.len();
-    for (range, span) in found.iter().zip(asked) {
-        is_right = are_at(alloc, range.start(), range.end(), span)? && is_right;
+    for (range, (start, end)) in found.iter().zip(asked) {
+        is_right = is_right
+            && *range.start() == K::at(alloc, *start)?
+            && *range.end() == K::at(alloc, *end)?;
     }
     Ok(is_right)
 }
