@@ -1,6 +1,6 @@
 //! Sessions between two replicas in memory, by deltas and plainly.
 use crate::rows::Rows;
-use merkle_delta::{CatchingUp, Next, answer_within};
+use merkle_delta::{CatchingUp, Next, answer_in_full, answer_within};
 use std::alloc::Global;
 use std::test::Fail;
 
@@ -52,7 +52,32 @@ pub(crate) fn by_deltas(
     Err(Fail::new("no end"))
 }
 
-/// The same of a session without deltas.
+/// Whether each reply of a session by deltas tells nothing else than what the peer told in full.
+pub(crate) fn tells_safely(
+    alloc: Global,
+    local: &mut Rows,
+    peer: &mut Rows,
+    most_bytes: usize,
+) -> Result<bool, Fail> {
+    let (mut session, mut message) = CatchingUp::begin(alloc, local)?;
+    for _message in 0..MOST_MESSAGES {
+        let (reply, plain) = answer_in_full(alloc, peer, &message, most_bytes)?;
+        let whole = plain.as_ref().unwrap_or(&reply);
+        if !session.tells_only(&reply, whole)? {
+            return Ok(false);
+        }
+        match session.take(local, &reply)? {
+            Next::Ask(next, question) => {
+                session = next;
+                message = question;
+            }
+            Next::Came(_) => return Ok(true),
+        }
+    }
+    Err(Fail::new("no end"))
+}
+
+/// The rows that a session without deltas brings, and what it took.
 pub(crate) fn plainly(
     alloc: Global,
     local: &mut Rows,

@@ -1,5 +1,5 @@
 -- Messages that ask nothing, neither plainly nor behind checksums.
-use Rattle.std.proofs.Common.{◌≡◌, ℕ, List, [], ◌∷◌, ◌++◌, ◌≢◌, inr, refl, sym, ap, ap₂, ◌∙◌, arith}
+use Rattle.std.proofs.Common.{◌≡◌, ℕ, List, [], ◌∷◌, ◌++◌, ◌≢◌, Some, refl, sym, ap, ap₂, ◌∙◌, arith}
 use Rattle.std.specs.List.{AllZip}
 use Rattle.std.specs.Global.{Vec}
 use Rattle.merkle_bytes.specs.Counts.{count_bytes, count_told}
@@ -9,7 +9,7 @@ use Rattle.merkle_wire.specs.Questions.{AsksNothing, question_bytes}
 use Rattle.merkle_wire.specs.declared.question.Question.{Question}
 use Rattle.merkle_wire.specs.declared.question.Question.TheVariants.{Root, Outlines, Nodes, RowsAt, RowsIn}
 use Rattle.merkle_delta.specs.Deltas.{IsDelta}
-use Rattle.merkle_delta.specs.Messages.{AnswersBy, asking_bytes, telling_bytes}
+use Rattle.merkle_delta.specs.Messages.{AnswersAs, asking_bytes, telling_bytes}
 
 -- the second byte, that of the kind
 abbrev second : List ℕ → ℕ
@@ -57,12 +57,11 @@ module _ {K : Type 0} (encoding : K → List ℕ) where
 -- a question was read behind checksums, and of it and its plain reply P holds: so it does by the delta of that
 pub answered_by_delta : (P : List ℕ → Vec ℕ → Type 0) (message asked left checksums delta : List ℕ) (plain reply : Vec ℕ) {old : List ℕ}
     → message ≡ 1 ∷ 6 ∷ asked → asked ≡ list_bytes count_bytes checksums ++ old → left ≡ old → P left plain → reply.items ≡ telling_bytes delta
-    → IsDelta checksums plain.items delta → AnswersBy P message reply
-answered_by_delta P message asked left checksums delta plain reply asks read rest holds tells made = inr (
+    → IsDelta checksums plain.items delta → AnswersAs P message reply (Some plain)
+answered_by_delta P message asked left checksums delta plain reply asks read rest holds tells made = (
   checksums,
   left,
   delta,
-  plain,
   asks ∙ ap (λ t. 1 ∷ 6 ∷ t) (read ∙ ap (λ t. list_bytes count_bytes checksums ++ t) (sym rest)),
   holds,
   tells,

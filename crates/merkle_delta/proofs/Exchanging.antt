@@ -15,13 +15,12 @@ use Rattle.merkle_wire.specs.declared.catching_up.Next.{Next as PlainNext}
 use Rattle.merkle_wire.specs.declared.catching_up.Next.TheVariants as plain
 use Rattle.merkle_wire.specs.declared.question.Question.{Question}
 use Rattle.merkle_delta.specs.CatchUps.{GoesOnAs, GoesOnFrom, IsNext, IsSentFor}
-use Rattle.merkle_delta.specs.Exchanges.{Exchanges, LeadTo, IsReplyBy, AreRepliesBy, IsSafe, NoneCollides, RepliesBring}
-use Rattle.merkle_delta.specs.Messages.{IsAnswered}
+use Rattle.merkle_delta.specs.Exchanges.{Exchanges, LeadTo, IsReplyBy, AreRepliesBy, IsSafe, NoneCollides, RepliesBring, whole_told}
 use Rattle.merkle_delta.specs.Sessions.{AreExchanges, IsExchange, IsToldAs, Tells}
 use Rattle.merkle_delta.specs.Underway.{Told, Underway}
 use Rattle.merkle_delta.specs.declared.catching_up.Next.{Next}
 use Rattle.merkle_delta.specs.declared.catching_up.Next.TheVariants.{Ask, Came}
-use Rattle.merkle_delta.proofs.Answered.{answers_tell}
+use Rattle.merkle_delta.proofs.Answered.{answer_tells}
 use Rattle.merkle_delta.proofs.Plain.{sessions_plain}
 
 -- what a reply tells is the plain one, where no digest collides
@@ -66,48 +65,47 @@ module _ {K V H : Type 0} (laws : Laws K V H) (n : ℕ) (encoding : K → List �
     module _ (peer : Contents K V H) where
       -- a reply of the peer that was taken is an exchange
       exchanged : (before : Underway K V) (message : Vec ℕ) (asked reply : List ℕ) (next : Next K V) → IsSent before message → asked ≡ message.items
-          → IsReplyBy laws n encoding values peer asked reply
-          → ((whole : List ℕ) → IsPlainAnswer laws n encoding values local (side peer) before.session whole → IsSafe before.told reply whole)
+          → (by : IsReplyBy laws n encoding values peer asked reply) → IsSafe before.told reply (whole_told laws n encoding values peer asked reply by)
           → IsNext laws n encoding values local before reply next → IsExchange laws n encoding values local (side peer) before next
       exchanged before message asked reply next (question, asks, sent) is by safe takes =
           let same = same_side peer by.before by.rows.0 by.settings.0 in
           let settings : SameSettings by.before.tree by.after.tree = (by.settings.1.0 ∙ sym by.settings.0.0, by.settings.1.1 ∙ sym by.settings.0.1, by.settings.1.2 ∙ sym by.settings.0.2) in
           let of_rows = subst (λ s. IsTreeOf laws.cmp (laws.key_digest s.hasher) s.base by.after.tree.root (tree_map laws s)) (sym same) by.of_rows in
-          let (whole, answers, tells) = answers_tell laws n encoding values local by.before by.after settings of_rows before question message by.bytes asks sent
-          (subst (λ m. IsAnswered laws n encoding values by.before by.after m by.bytes) is by.answered) in
-          let answer = subst (λ s. IsPlainAnswer laws n encoding values local s before.session whole) same answers in
+          let whole = whole_told laws n encoding values peer asked reply by in
+          let (answers, tells) = answer_tells laws n encoding values local by.before by.after settings of_rows before.session before.told question message asked by.bytes by.answered.0
+          asks sent is by.answered.1 in
           record {
             reply = reply;
             whole = whole;
-            answer = answer;
-            told = told_as before.told reply whole (subst (λ r. Tells before.told r whole) by.reply_bytes tells) (safe whole answer);
+            answer = subst (λ s. IsPlainAnswer laws n encoding values local s before.session whole) same answers;
+            told = told_as before.told reply whole (subst (λ r. Tells before.told r whole) by.reply_bytes tells) safe;
             takes = takes;
           }
 
       are_exchanges : (exchanges : Exchanges) (before : Underway K V) (message : Vec ℕ) (rows : List (K × V)) → IsSent before message
-          → LeadTo laws n encoding values local rows exchanges (Ask before message) → AreRepliesBy laws n encoding values peer exchanges
-          → NoneCollides laws n encoding values local (side peer) exchanges (Ask before message)
+          → (leads : LeadTo laws n encoding values local rows exchanges (Ask before message)) (replies : AreRepliesBy laws n encoding values peer exchanges)
+          → NoneCollides laws n encoding values local peer rows exchanges (Ask before message) leads replies
           → (more : List (Underway K V)) × AreExchanges laws n encoding values local (side peer) before more rows
       are_exchanges [] before message rows sent leads replies none = absurd leads
       are_exchanges (exchange ∷ others) before message rows sent (is, next, takes, leads) (by, replies) (safe, none) =
-          behind next leads (none next takes) (exchanged before message exchange.0 exchange.1 next sent is by safe takes)
-          (λ underway question goes. are_exchanges others underway question rows (sent_next before message exchange.1 underway question sent goes)) takes
+          behind next leads none (exchanged before message exchange.0 exchange.1 next sent is by safe takes)
+          (λ underway question goes leads none. are_exchanges others underway question rows (sent_next before message exchange.1 underway question sent goes) leads replies none) takes
         where
           last : (left : Exchanges) (came : Vec (K × V)) → LeadTo laws n encoding values local rows left (Came came) → IsExchange laws n encoding values local (side peer) before (Came came)
               → (more : List (Underway K V)) × AreExchanges laws n encoding values local (side peer) before more rows
           last [] came leads one = ([], (came, one, sym leads))
           last (e ∷ left) came leads one = absurd leads
 
-          behind : (next : Next K V) → LeadTo laws n encoding values local rows others next
-              → NoneCollides laws n encoding values local (side peer) others next → IsExchange laws n encoding values local (side peer) before next
+          behind : (next : Next K V) (leads : LeadTo laws n encoding values local rows others next)
+              → NoneCollides laws n encoding values local peer rows others next leads replies → IsExchange laws n encoding values local (side peer) before next
               → ((underway : Underway K V) (question : Vec ℕ) → IsNext laws n encoding values local before exchange.1 (Ask underway question)
-              → LeadTo laws n encoding values local rows others (Ask underway question) → AreRepliesBy laws n encoding values peer others
-              → NoneCollides laws n encoding values local (side peer) others (Ask underway question)
+              → (leads : LeadTo laws n encoding values local rows others (Ask underway question))
+              → NoneCollides laws n encoding values local peer rows others (Ask underway question) leads replies
               → (more : List (Underway K V)) × AreExchanges laws n encoding values local (side peer) underway more rows)
               → IsNext laws n encoding values local before exchange.1 next → (more : List (Underway K V)) × AreExchanges laws n encoding values local (side peer) before more rows
           behind (Came came) leads none one others_are takes = last others came leads one
           behind (Ask underway question) leads none one others_are takes =
-              let (more, rest) = others_are underway question takes leads replies none in
+              let (more, rest) = others_are underway question takes leads none in
               (underway ∷ more, (question, one, rest))
 
   pub replies_bring : SessionsBring laws n encoding values → RepliesBring laws n encoding values

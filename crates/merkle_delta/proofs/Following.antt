@@ -8,7 +8,7 @@ use Rattle.merkle_tree_theory.proofs.StreamParts.{hash_length}
 use Rattle.merkle_delta.specs.Chunks.{digest_of}
 use Rattle.merkle_delta.specs.Deltas.{IsDeltaOver, Step, step_bytes, given_by, left_by, left_behind, bytes_from_steps, IsStepOver, AreStepsOver}
 use Rattle.merkle_delta.specs.Steps.{IsStepTaken, BeginNoStep, AreGiven, AreNoSteps}
-use Rattle.merkle_delta.proofs.Stepping.{over-more, patched-more, left-more, step-some, step_told}
+use Rattle.merkle_delta.proofs.Stepping.{over-more, patched-more, left-more, step-some, step_told, steps_told}
 
 -- no bytes are none
 pub no_bytes : (bytes : List ℕ) → length bytes ≡ 0 → bytes ≡ []
@@ -105,3 +105,9 @@ module _ (own : List (List ℕ)) (whole bytes : List ℕ) where
   other_digest digest left given read long all other over =
       let (same, (steps, are, gives, is)) = delta_parts digest left read long over in
       other (ap digest_of (all.1 steps are is ∙ sym gives) ∙ sym same)
+
+-- over the same chunks a delta is that of one byte string
+pub delta_alone : (own : List (List ℕ)) (whole a b : List ℕ) → IsDeltaOver own whole a → IsDeltaOver own whole b → a ≡ b
+delta_alone own whole a b (steps, over, gives, is) (others, are, gave, was) =
+    let told = join_tells (digest_of a) (digest_of b) (flat_map step_bytes steps) (flat_map step_bytes others) (hash_length zero_key a ∙ sym (hash_length zero_key b)) (sym is ∙ was) in
+    gives ∙ ap (bytes_from_steps own) (steps_told own steps others over are told.1) ∙ sym gave

@@ -7,3 +7,4 @@ pub mod Answered
 pub mod Plain
 pub mod Taking
 pub mod Exchanging
+pub mod Alone

@@ -1,5 +1,5 @@
 -- Steps one behind the other, and that their bytes tell them.
-use Rattle.std.proofs.Common.{◌≡◌, ◌≢◌, ℕ, ◌+◌, ◌<◌, ◌≤◌, ◌^◌, List, [], ◌∷◌, ◌++◌, length, take, drop, inl, inr, refl, sym, ap, ap₂, ◌∙◌, arith}
+use Rattle.std.proofs.Common.{◌≡◌, ◌≢◌, ℕ, ◌+◌, ◌<◌, ◌≤◌, ◌^◌, List, [], ◌∷◌, ◌++◌, length, take, drop, inl, inr, refl, sym, ap, ap₂, subst, ◌∙◌, arith}
 use Rattle.std.specs.List.{concat, flat_map}
 use Rattle.std.proofs.lemmas.List.{append_assoc, append-nil, drop-drop, length-append, take-append-drop}
 use Rattle.key_order.proofs.ListParts.{join_tells}
@@ -69,6 +69,15 @@ step_told chunks (inr a) (inr b) r u is was e =
     (sym (append_assoc (count_bytes (length a)) a r) ∙ first.1 ∙ append_assoc (count_bytes (length b)) b u) in
     let rest = join_tells a b r u heads.0 heads.1 in
     (ap inr rest.0, rest.1)
+
+-- bytes are the steps over chunks in one way
+pub steps_told : (chunks : List (List ℕ)) (ss ts : List Step) → AreStepsOver chunks ss → AreStepsOver chunks ts → flat_map step_bytes ss ≡ flat_map step_bytes ts → ss ≡ ts
+steps_told chunks [] [] over are e = refl
+steps_told chunks [] (t ∷ ts) over are e = absurd (omega (arith, ap length e, step-some t, length-append (step_bytes t) (flat_map step_bytes ts)))
+steps_told chunks (s ∷ ss) [] over are e = absurd (omega (arith, ap length e, step-some s, length-append (step_bytes s) (flat_map step_bytes ss)))
+steps_told chunks (s ∷ ss) (t ∷ ts) over are e =
+    let first = step_told chunks s t (flat_map step_bytes ss) (flat_map step_bytes ts) over.0 are.0 e in
+    ap₂ (λ x xs. x ∷ xs) first.0 (steps_told (left_by chunks s) ss ts over.1 (subst (λ x. AreStepsOver (left_by chunks x) ts) (sym first.0) are.1) first.1)
 
 -- of chunks that are passed by or taken the others are left
 run_long : (chunks : List (List ℕ)) (passed taken : ℕ) → length (concat (take taken (drop passed chunks))) + length (concat (drop (passed + taken) chunks)) ≤ length (concat chunks)

@@ -10,9 +10,9 @@ use Rattle.merkle_tree_theory.specs.Canonical.{IsTreeOf}
 use Rattle.merkle_tree_theory.specs.State.{SameSettings}
 use Rattle.merkle_wire.specs.Found.{nothing}
 use Rattle.merkle_wire.specs.Questions.{AsksForOwnRoot, AsksForRoot, question_bytes}
-use Rattle.merkle_wire.specs.Sessions.{AreBrought, IsAnswer as IsPlainAnswer}
+use Rattle.merkle_wire.specs.Sessions.{AreBrought}
 use Rattle.merkle_delta.specs.CatchUps.{IsNext}
-use Rattle.merkle_delta.specs.Messages.{IsAnswered}
+use Rattle.merkle_delta.specs.Messages.{IsAnswered, whole_of}
 use Rattle.merkle_delta.specs.Sessions.{NoReplyCollides}
 use Rattle.merkle_delta.specs.Underway.{Told, Underway}
 use Rattle.merkle_delta.specs.declared.catching_up.Next.{Next}
@@ -63,17 +63,20 @@ module _ {K V H : Type 0} (laws : Laws K V H) (n : ℕ) (encoding : K → List �
   abbrev pub AreRepliesBy : Contents K V H → Exchanges → Type 0
   AreRepliesBy replica = AllByRecursion (λ e. IsReplyBy replica e.0 e.1)
 
-  -- at each of the exchanges no digest of a reply that the peer may give is that of other bytes, which the delta tells
-  abbrev pub NoneCollides : Side K V H → Side K V H → Exchanges → Next K V → Type 0
-  NoneCollides local peer [] next = ⊤
-  NoneCollides local peer (exchange ∷ others) (Ask underway message) =
-      ((whole : List ℕ) → IsPlainAnswer laws n encoding values local peer underway.session whole → IsSafe underway.told exchange.1 whole)
-      × ((next : Next K V) → IsNext laws n encoding values local underway exchange.1 next → NoneCollides local peer others next)
-  NoneCollides local peer (exchange ∷ others) (Came came) = ⊤
+  -- what the replica's reply tells in full
+  abbrev pub whole_told : (replica : Contents K V H) (message reply : List ℕ) → IsReplyBy replica message reply → List ℕ
+  whole_told replica message reply by = whole_of by.bytes by.answered.0
 
-  -- a catch-up to each of whose messages a peer replied brings what is lacked, while no digest of a reply collides
+  -- at each of the exchanges that led to the rows, the reply tells no other bytes with the digest of what the peer told in full
+  abbrev pub NoneCollides : (local : Side K V H) (peer : Contents K V H) (rows : List (K × V)) (exchanges : Exchanges) (next : Next K V) → LeadTo local rows exchanges next → AreRepliesBy peer exchanges → Type 0
+  NoneCollides local peer rows [] next leads replies = ⊤
+  NoneCollides local peer rows (exchange ∷ others) (Ask underway message) (is, next, takes, leads) (by, replies) =
+      IsSafe underway.told exchange.1 (whole_told peer exchange.0 exchange.1 by) × NoneCollides local peer rows others next leads replies
+  NoneCollides local peer rows (exchange ∷ others) (Came came) leads replies = ⊤
+
+  -- a catch-up to each of whose messages a peer replied brings what is missing, while no digest of its replies collides
   abbrev pub RepliesBring : Type 0
   RepliesBring = (local peer : Contents K V H) (underway : Underway K V) (message : Vec ℕ) (exchanges : Exchanges) (rows : List (K × V))
       → IsMap laws.cmp local.rows → IsMap laws.cmp peer.rows → HasSmallMap laws n (side peer) → Begins laws n encoding local underway message.items
-      → LeadTo (side local) rows exchanges (Ask underway message) → AreRepliesBy peer exchanges → NoneCollides (side local) (side peer) exchanges (Ask underway message)
-      → AreBrought laws (side local) (side peer) rows
+      → (leads : LeadTo (side local) rows exchanges (Ask underway message)) (replies : AreRepliesBy peer exchanges)
+      → NoneCollides (side local) peer rows exchanges (Ask underway message) leads replies → AreBrought laws (side local) (side peer) rows

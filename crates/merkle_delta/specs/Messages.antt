@@ -1,5 +1,5 @@
 -- Messages that tell checksums, and replies that are deltas.
-use Rattle.std.specs.Prelude.{◌≡◌, ◌≢◌, ℕ, ◌<◌, ◌^◌, List, ◌∷◌, ◌++◌, ◌⊎◌}
+use Rattle.std.specs.Prelude.{◌≡◌, ◌≢◌, ℕ, ◌<◌, ◌^◌, List, ◌∷◌, ◌++◌, Option, Some, None, ◌⊎◌}
 use Rattle.std.specs.Global.{Vec}
 use Rattle.std.specs.List.{AllByRecursion}
 use Rattle.merkle_bytes.specs.Counts.{count_bytes}
@@ -28,17 +28,35 @@ telling_bytes delta = 1 ∷ 134 ∷ delta
 abbrev pub IsReplyOver : List (List ℕ) → List ℕ → List ℕ → Type 0
 IsReplyOver own reply plain = (delta : List ℕ) × (reply ≡ telling_bytes delta) × IsDeltaOver own delta plain
 
--- P holds of the message and the reply; or the message asks a question behind checksums, the reply is a delta of a plain one for them, and P holds of
--- these two
+-- the reply tells a plain one as its delta for the checksums
+abbrev pub IsToldBy : List ℕ → List ℕ → Vec ℕ → Type 0
+IsToldBy checksums plain reply = (delta : List ℕ) × (reply.items ≡ telling_bytes delta) × IsDelta checksums plain delta
+
+-- P holds of the message and the reply; or, where the reply is told as a delta of a plain one, the message asks a question after checksums, the delta is
+-- that of the plain one for them, and P holds of the question and the plain one
+abbrev pub AnswersAs : (List ℕ → Vec ℕ → Type 0) → List ℕ → Vec ℕ → Option (Vec ℕ) → Type 0
+AnswersAs P message reply None = P message reply
+AnswersAs P message reply (Some plain) = (checksums question delta : List ℕ) × (message ≡ asking_bytes checksums question)
+    × P question plain × (reply.items ≡ telling_bytes delta) × IsDelta checksums plain.items delta
+
+-- so it is with the reply itself, or with the plain one that it tells
 abbrev pub AnswersBy : (List ℕ → Vec ℕ → Type 0) → List ℕ → Vec ℕ → Type 0
-AnswersBy P message reply = P message reply ⊎ ((checksums question delta : List ℕ) × (plain : Vec ℕ) × (message ≡ asking_bytes checksums question)
-    × P question plain × (reply.items ≡ telling_bytes delta) × IsDelta checksums plain.items delta)
+AnswersBy P message reply = (plain : Option (Vec ℕ)) × AnswersAs P message reply plain
+
+-- what a reply tells in full: the plain reply that it is a delta of, or itself
+abbrev pub whole_of : Vec ℕ → Option (Vec ℕ) → List ℕ
+whole_of reply None = reply.items
+whole_of reply (Some plain) = plain.items
+
+-- the reply to a message, told plainly or as a delta of this plain one
+abbrev pub IsAnsweredAs : {K V H : Type 0} → Laws K V H → ℕ → (K → List ℕ) → (V → List ℕ) → Contents K V H → Contents K V H → List ℕ → Vec ℕ → Option (Vec ℕ) → Type 0
+IsAnsweredAs laws n encoding values old new = AnswersAs (IsAnsweredBy laws n encoding values old new)
 
 -- the reply to a message, plain or by a delta, as it asks
 abbrev pub IsAnswered : {K V H : Type 0} → Laws K V H → ℕ → (K → List ℕ) → (V → List ℕ) → Contents K V H → Contents K V H → List ℕ → Vec ℕ → Type 0
 IsAnswered laws n encoding values old new = AnswersBy (IsAnsweredBy laws n encoding values old new)
 
--- the plain reply ends with the entry by which it has so many bytes
+-- the plain reply tells all that is asked for, or the first of it up to the entry by which it has so many bytes
 abbrev pub AnswersWithin : {K V : Type 0} → (K → List ℕ) → (V → List ℕ) → ℕ → List ℕ → Vec ℕ → Type 0
 AnswersWithin encoding values most = AnswersBy (IsAnsweredWithin encoding values most)
 

@@ -16,7 +16,7 @@ use Rattle.merkle_delta.specs.CatchUps.{GoesOnAs, IsNext, IsSentFor}
 use Rattle.merkle_delta.specs.Underway.{Told, Underway}
 use Rattle.merkle_delta.specs.Chunks.{checksum, digest_of}
 use Rattle.merkle_delta.specs.Deltas.{IsDelta}
-use Rattle.merkle_delta.specs.Messages.{IsAnswered, IsReplyOver, telling_bytes}
+use Rattle.merkle_delta.specs.Messages.{IsAnsweredAs, IsReplyOver, telling_bytes, whole_of}
 use Rattle.merkle_delta.specs.declared.catching_up.Next.{Next}
 use Rattle.merkle_delta.specs.declared.catching_up.Next.TheVariants.{Ask, Came}
 
@@ -64,13 +64,14 @@ AsksAgain session (Ask underway message) = (underway.session ≡ session) × (un
 AsksAgain session (Came rows) = ⊥
 
 module _ {K V H : Type 0} (laws : Laws K V H) (n : ℕ) (encoding : K → List ℕ) (values : V → List ℕ) where
-  -- what a replica answers to the message of a catch-up, by a tree of its map: it answers what the catch-up asks, and the reply tells that
+  -- what a replica replies to the message of a catch-up, by a tree of its map: what it tells in full answers what the catch-up asks, and the reply tells
+  -- that
   abbrev pub AnswersTell : Type 0
   AnswersTell = (local : Side K V H) (old new : Contents K V H) → SameSettings old.tree new.tree
       → IsTreeOf laws.cmp (laws.key_digest old.tree.hasher) old.tree.base new.tree.root (tree_map laws (side old))
-      → (before : Underway K V) (question message reply : Vec ℕ) → question.items ≡ question_bytes encoding before.session.asked → IsSentFor question before.told message
-      → IsAnswered laws n encoding values old new message.items reply
-      → (whole : List ℕ) × IsPlainAnswer laws n encoding values local (side old) before.session whole × Tells before.told reply.items whole
+      → (before : Underway K V) (question message reply : Vec ℕ) (plain : Option (Vec ℕ)) → question.items ≡ question_bytes encoding before.session.asked
+      → IsSentFor question before.told message → IsAnsweredAs laws n encoding values old new message.items reply plain
+      → IsPlainAnswer laws n encoding values local (side old) before.session (whole_of reply plain) × Tells before.told reply.items (whole_of reply plain)
 
   -- an exchange is a plain one, or the question is asked again, plainly
   abbrev pub ExchangesArePlain : Type 0

@@ -1,5 +1,5 @@
 //! The asking side: a catch-up of [`merkle_wire`] that tells with each question what it has there itself.
-ghost use Rattle.std.specs.Prelude.{◌≡◌, ◌++◌, ◌≤◌, None, Some, ℕ, List, IfOk, IfErr, MatchOption};
+ghost use Rattle.std.specs.Prelude.{◌≡◌, ◌≢◌, ◌++◌, ◌≤◌, ◌⊎◌, None, Some, ℕ, List, IfOk, IfErr, IsTrue, MatchOption};
 ghost use Rattle.merkle_replica.specs.Contents.{side};
 ghost use Rattle.merkle_tree_theory.specs.State.{SameSettings};
 ghost use Rattle.merkle_wire.specs.Next.{AsksFew};
@@ -7,11 +7,13 @@ ghost use Rattle.merkle_wire.specs.Questions.{IsQuestion, question_bytes};
 ghost use Rattle.merkle_wire.specs.Steady.{IsKeyOf};
 ghost use Rattle.merkle_wire.specs.declared.session_error.SessionError.TheVariants.{Memory};
 ghost use Rattle.merkle_delta.specs.CatchUps.{GoesOnAs, IsStopped, OnlyAskedFor, Takes};
-ghost use Rattle.merkle_delta.specs.Exchanges.{BeginsAtRoot};
+ghost use Rattle.merkle_delta.specs.Chunks.{digest_of};
+ghost use Rattle.merkle_delta.specs.Exchanges.{BeginsAtRoot, IsSafe};
 ghost use Rattle.merkle_delta.specs.Messages.{IsReplyOver};
 ghost use Rattle.merkle_delta.specs.Underway.{HasFoundNothing};
 ghost use Rattle.merkle_delta.specs.declared.patch.PatchError.TheVariants.{Unlike};
 
+use crate::checksum::digest_of;
 use crate::chunks::Chunks;
 use crate::message::{TELLS, behind, encode_asking};
 use crate::patch::{PatchError, patch};
@@ -141,6 +143,26 @@ impl<K: Key + Decode, V: Join + Decode> CatchingUp<K, V> {
         self.session.rounds()
     }
 
+    /// Whether a reply tells nothing but these bytes, or bytes with another digest than theirs: so where a peer told them in full, what is taken
+    /// of the reply is what it told, or nothing. It is for an audit of a session whose both sides are at hand
+    /// ([`answer_in_full`](crate::answer_in_full)). It takes the time and memory of reading the delta.
+    ///
+    /// # Errors
+    ///
+    /// Out of memory.
+    pub fn tells_only(&self, reply: &[u8], whole: &[u8]) -> Result<bool, AllocError>
+        ensures { IfOk result (λ only. IsTrue only → IsSafe self.now.told reply.now whole.now) }
+    {
+        let Some(told) = &self.told else {
+            return Ok(true);
+        };
+        match plain_reply(self.alloc, &told.own, reply) {
+            Ok(plain) => Ok(has_bytes_or_other_digest(&plain, whole)),
+            Err(PatchError::Memory) => Err(AllocError),
+            Err(PatchError::Unlike) => Ok(true),
+        }
+    }
+
     /// Takes a reply, as [`merkle_wire::CatchingUp::take`] does, which it tells plainly or as a delta. Where it is the delta of no reply, which comes of
     /// chunks with equal checksums, or of a peer that doesn't know such messages, the question is asked again, plainly. The replica keeps its rows;
     /// pages that lack a digest get it.
@@ -192,6 +214,13 @@ impl<K: Key + Decode, V: Join + Decode> CatchingUp<K, V> {
             }
         }
     }
+}
+
+/// Whether bytes are the others, or have another digest.
+fn has_bytes_or_other_digest(bytes: &[u8], others: &[u8]) -> bool
+    ensures { IsTrue result → (bytes.now ≡ others.now) ⊎ (digest_of bytes.now ≢ digest_of others.now) }
+{
+    bytes == others || digest_of(bytes) != digest_of(others)
 }
 
 /// The plain reply that a reply is the delta of.

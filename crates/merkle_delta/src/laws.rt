@@ -10,8 +10,8 @@ use merkle_replica::{Join, RowHasher};
 use merkle_wire::laws::a_session_is_a_catch_up;
 
 /// A session by deltas is a plain one, whatever carries the messages: where each message is answered as [`answer`](crate::answer) does, each reply taken as
-/// [`CatchingUp::take`](crate::CatchingUp::take) does, and no two plain replies of which a delta tells one have one digest, each exchange is a plain one, or
-/// the question is asked again, plainly (`exchanges`); and where rows come they are those of a plain session (`sessions`), of which
+/// [`CatchingUp::take`](crate::CatchingUp::take) does, and no delta tells other bytes with the digest of the plain reply that it was made of, each exchange
+/// is a plain one, or the question is asked again, plainly (`exchanges`); and where rows come they are those of a plain session (`sessions`), of which
 /// [`a_session_is_a_catch_up`](merkle_wire::laws::a_session_is_a_catch_up) says that they are what the side lacks. What [`answer`](crate::answer) says of
 /// its reply is what an exchange wants of it, but that no digest collides (`answers`), by a tree of the peer's map, as
 /// [`Replica::tree`](merkle_replica::Replica::tree) and [`every_tree_is_sound`](merkle_search_tree::laws::every_tree_is_sound) have it.
@@ -27,8 +27,9 @@ pub fn a_session_by_deltas_is_a_session<
 {}
 
 /// A catch-up brings what is lacked, whatever carries its messages: where the first is that of [`begin`](crate::CatchingUp::begin), each is replied to as
-/// [`answer`](crate::answer) does by a tree of the peer's map, each reply taken as [`take`](crate::CatchingUp::take) does, until rows come, and no two plain
-/// replies of which a delta tells one have one digest. The rows are the peer's, new to the side, and while digests are faithful all that it lacks.
+/// [`answer`](crate::answer) does by a tree of the peer's map, each reply taken as [`take`](crate::CatchingUp::take) does, until rows come, and no delta
+/// among them tells other bytes with the digest of the plain reply that it was made of, which [`tells_only`](crate::CatchingUp::tells_only) decides. The
+/// rows are the peer's, new to the side, and while digests are faithful all that are missing there.
 pub fn replies_bring_what_is_lacked<
     K: Key + Decode,
     V: Join + Decode,

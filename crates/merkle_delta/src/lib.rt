@@ -13,6 +13,6 @@ mod message;
 mod patch;
 mod table;
 
-pub use answering::{answer, answer_within};
+pub use answering::{answer, answer_in_full, answer_within};
 pub use catching_up::{CatchingUp, Next};
 pub use chunks::Chunks;

@@ -141,8 +141,8 @@ impl<K: Key + Drop, V: Join + Drop, H: RowHasher<N, K, V>, const N: usize> Repli
     /// Whether the page over the gap has this digest, so that the tree has a page with it. It goes down one path of the tree, and takes no
     /// memory.
     ///
-    /// ```rust crates/merkle_wire/src/catching_up.rt
-    /// if replica.has_page(&Gap::everywhere(), &digest) {
+    /// ```rust crates/merkle_replica/src/descent.rt
+    /// if self.has_page(gap, *digest) {
     ///     return Ok(());
     /// }
     /// ```

@@ -106,7 +106,7 @@ module _ {K D : Type 0} (cmp : K → K → Ordering) (o : IsTotalOrder cmp) wher
       ap (λ w. get cmp w k) c ∙ get_behind pre (pairs s ++ post) k d (subst (IsMap cmp) c m) (get_before (pairs s) post k d e)
 
 module _ {K D : Type 0} (lev : K → ℕ) where
-  page_canonical : (s t : Tree K D) → IsCanonicalRoot lev t → IsPageIn s t → HasNode s → IsCanonical lev s
+  pub page_canonical : (s t : Tree K D) → IsCanonicalRoot lev t → IsPageIn s t → HasNode s → IsCanonical lev s
   page_canonical s (page l c (high nothing)) g (inl e) n = absurd (subst (λ (u : Tree K D). HasNode u) e n)
   page_canonical s (page l c (high nothing)) g (inr i) n = absurd i
   page_canonical s (page l c (high (below t))) g i n = absurd g
@@ -136,7 +136,7 @@ module _ {K : Type 0} (cmp : K → K → Ordering) (o : IsTotalOrder cmp) (forma
   items_in = row_items (λ t. Some (page_digest format bytes_of t))
 
   -- the pairs of a row, or of what stands before its first node, are all that the tree has in a gap
-  abbrev AreAll : Gap K → List (K × List ℕ) → Type 0
+  abbrev pub AreAll : Gap K → List (K × List ℕ) → Type 0
   AreAll g ps = pairs_within cmp g (pairs root) ≡ ps
 
   module _ (g : Gap K) (h : Held K (List ℕ)) (k : K) (d : List ℕ) (r : Row K (List ℕ)) (all : AreAll g (row_pairs (node h k d r))) (up : IsMap cmp (row_pairs (node h k d r))) where
@@ -146,7 +146,7 @@ module _ {K : Type 0} (cmp : K → K → Ordering) (o : IsTotalOrder cmp) (forma
     key_in : IsInGap cmp k g
     key_in = each-at (λ (p : K × List ℕ). IsInGap cmp p.0 g) (held_pairs h) (k, d) (row_pairs r) (subst (AllByRecursion (λ (p : K × List ℕ). IsInGap cmp p.0 g)) all (each_within cmp g (pairs root)))
 
-    held_all : AreAll (part_before g k) (held_pairs h)
+    pub held_all : AreAll (part_before g k) (held_pairs h)
     held_all =
         within_before cmp o g k key_in (pairs root) ∙ ap (rows_at (is_before cmp (Some k))) all ∙ filter-append (λ (p : K × List ℕ). is_before cmp (Some k) p.0) (held_pairs h) ((k, d) ∷ row_pairs r)
         ∙ ap (λ w. w ++ rows_at (is_before cmp (Some k)) ((k, d) ∷ row_pairs r)) (all_pass (is_before cmp (Some k)) (held_pairs h) (map-before cmp (held_pairs h) (k, d) (row_pairs r) up))
@@ -160,7 +160,7 @@ module _ {K : Type 0} (cmp : K → K → Ordering) (o : IsTotalOrder cmp) (forma
         all_not [] a = tt
         all_not (p ∷ ps) a = (not_less (λ low. not_both cmp o k p.0 (low_is_up cmp o k p.0 a.0) low), all_not ps a.1)
 
-    rest_all : AreAll (part_behind g k) (row_pairs r)
+    pub rest_all : AreAll (part_behind g k) (row_pairs r)
     rest_all =
         within_after cmp o g k key_in (pairs root) ∙ ap (rows_at (is_after cmp (Some k))) all ∙ filter-append (λ (p : K × List ℕ). is_after cmp (Some k) p.0) (held_pairs h) ((k, d) ∷ row_pairs r)
         ∙ ap (λ w. w ++ rows_at (is_after cmp (Some k)) ((k, d) ∷ row_pairs r)) (none_pass (is_after cmp (Some k)) (held_pairs h) (all_not (held_pairs h) (map-before cmp (held_pairs h) (k, d) (row_pairs r) up)))

@@ -26,7 +26,8 @@ use Rattle.merkle_tree_theory.specs.declared.page_format.PageFormat.{PageFormat}
 use Rattle.merkle_tree_theory.proofs.PagesIn.{itself}
 
 module _ {K : Type 0} (cmp : K → K → Ordering) (o : IsTotalOrder cmp) where
-  fails : (k : K) (s : Span K) → (IsIn cmp k s → ⊥) → is_in cmp k s ≡ false
+  -- the test of a span fails for a key that is not in it
+  pub fails : (k : K) (s : Span K) → (IsIn cmp k s → ⊥) → is_in cmp k s ≡ false
   fails k s h = go (which (is_in cmp k s))
     where
       go : (is_in cmp k s ≡ false) ⊎ (is_in cmp k s ≡ true) → is_in cmp k s ≡ false
@@ -56,7 +57,7 @@ module _ {K X : Type 0} (cmp : K → K → Ordering) (o : IsTotalOrder cmp) wher
       rw (fails cmp o x.0 (record { first = p.0; last = last_key p.0 ps }) (λ i. not_both cmp o p.0 x.0 i.0 (each-at (λ r. Below cmp x.0 r.0) pre p (ps ++ post) a.0))) (after_front pre p ps post a.1)
 
   -- the pairs of equal maps that pass a test
-  same_part : (R : X → X → Type 0) (test : K → Bool) → ((k j : K) → Same cmp k j → test k ≡ test j) → (a b : List (K × X)) → SameMap cmp R a b → SameMap cmp R (rows_at test a) (rows_at test b)
+  pub same_part : (R : X → X → Type 0) (test : K → Bool) → ((k j : K) → Same cmp k j → test k ≡ test j) → (a b : List (K × X)) → SameMap cmp R a b → SameMap cmp R (rows_at test a) (rows_at test b)
   same_part R test resp [] [] s = tt
   same_part R test resp [] (q ∷ qs) s = absurd s
   same_part R test resp (p ∷ ps) [] s = absurd s

@@ -71,7 +71,7 @@ module _ {K V H : Type 0} (laws : Laws K V H) (o : IsTotalOrder laws.cmp) (local
   taken_in_gap : (n : ℕ) (g : Gap K) (told : Outline K V) (before after : Found K V) → LiesIn laws.cmp n g told → IsTaken laws local g told before after → AddsOnly (λ k. IsInGap laws.cmp k g) before after
   taken_in_gap n g (rows_told rows) before after lies taken = (new_rows laws local rows, new_in_gap g rows lies, ap (λ f. f.rows) taken)
   taken_in_gap n g (digests_told nodes) before after lies taken = adds_none (λ k. IsInGap laws.cmp k g) before after (ap (λ f. f.rows) taken)
-  taken_in_gap n g (page_told digest keys pages) before after lies taken = adds_none (λ k. IsInGap laws.cmp k g) before after (ap (λ f. f.rows) taken.5)
+  taken_in_gap n g (page_told digest keys pages) before after lies taken = adds_none (λ k. IsInGap laws.cmp k g) before after (ap (λ f. f.rows) taken.4)
 
   taken_in_gaps : (n : ℕ) (told : List (OwnedGap K × Outline K V)) (before after : Found K V) → AllByRecursion (λ t. LiesIn laws.cmp n (owned_gap t.0) t.1) told → AreTaken laws local told before after
       → AddsOnly (IsInOneOf laws.cmp (map (λ t. t.0) told)) before after
@@ -102,11 +102,11 @@ module _ {K V H : Type 0} (laws : Laws K V H) (o : IsTotalOrder laws.cmp) (local
   root_adds_none : (digest : Option (List ℕ)) (before after : Found K V) → IsRootTaken laws local digest before after → after.rows ≡ before.rows
   root_adds_none None before after e = ap (λ f. f.rows) e
   root_adds_none (Some d) before after (inl p) = ap (λ f. f.rows) p.1
-  root_adds_none (Some d) before after (inr (inl p)) = ap (λ f. f.rows) p
-  root_adds_none (Some d) before after (inr (inr p)) = ap (λ f. f.rows) p
+  root_adds_none (Some d) before after (inr (lacks, inl p)) = ap (λ f. f.rows) p
+  root_adds_none (Some d) before after (inr (lacks, inr p)) = ap (λ f. f.rows) p
 
   -- a reply adds rows that were asked for alone
-  taken_asked : (n : ℕ) (encoding : K → List ℕ) (values : V → List ℕ) (asked : Question K) (reply : List ℕ) (before after : Found K V) (again : Option (Question K))
+  pub taken_asked : (n : ℕ) (encoding : K → List ℕ) (values : V → List ℕ) (asked : Question K) (reply : List ℕ) (before after : Found K V) (again : Option (Question K))
       → HasTaken laws n encoding values local asked reply before after again → AddsOnly (IsAskedFor laws.cmp asked) before after
   taken_asked n encoding values (Root settings) reply before after again t = adds_none (λ k. ⊥) before after (root_adds_none t.1 before after t.3)
   taken_asked n encoding values (Outlines most gaps) reply before after again t =

@@ -20,11 +20,12 @@ use Rattle.merkle_wire.specs.Outlines.{Outline, rows_told, digests_told, page_to
 use Rattle.merkle_wire.specs.Questions.{IsQuestion}
 use Rattle.merkle_wire.specs.Replies.{Part}
 use Rattle.merkle_wire.specs.Steady.{AreKeysOf}
-use Rattle.merkle_wire.specs.Taking.{AreBehind, AreNewGaps, AreTaken, IsBehind, IsGapOrNone, IsNewGap, IsRootTaken, IsTaken, has_digest, new_keys}
+use Rattle.merkle_wire.specs.Taking.{AreBehind, AreNewGaps, AreTaken, IsBehind, IsNewGap, IsRootTaken, IsTaken, has_digest, new_keys}
 use Rattle.merkle_wire.specs.declared.gaps.OwnedGap.{OwnedGap}
 use Rattle.merkle_wire.specs.declared.question.Question.{Question}
 use Rattle.merkle_wire.specs.declared.question.Question.TheVariants.{Root, Outlines, Nodes, RowsAt, RowsIn}
 use Rattle.merkle_wire.proofs.RoundCovers.{each-filter}
+use Rattle.merkle_wire.proofs.TakenGaps.{IsGapOrNone, gap_or_none, nodes_or_none}
 use Rattle.merkle_wire.proofs.TellingReplies.{SameOutline}
 
 module _ {K V H : Type 0} (laws : Laws K V H) (o : IsTotalOrder laws.cmp) (is_key : K → Type 0) (alike : (j k : K) → Same laws.cmp j k → is_key j → is_key k) (local : Side K V H) where
@@ -57,7 +58,7 @@ module _ {K V H : Type 0} (laws : Laws K V H) (o : IsTotalOrder laws.cmp) (is_ke
 
   new_gap_keys : (g : Gap K) (page : Option (List ℕ)) (new : List (Gap K)) → IsNewGap laws local g page new → HasKeyBounds is_key g → AllByRecursion (HasKeyBounds is_key) new
   new_gap_keys g None new none p = subst (AllByRecursion (HasKeyBounds is_key)) (sym none) tt
-  new_gap_keys g (Some d) new is p = or_none_keys g new is.0 p
+  new_gap_keys g (Some d) new is p = or_none_keys g new (gap_or_none laws local g d new is) p
 
   new_gaps_keys : (g : Gap K) (ks : List K) (pages : List (Option (List ℕ))) (new : List (Gap K)) → AreNewGaps laws local g ks pages new → HasKeyBounds is_key g → AllByRecursion is_key ks → AllByRecursion (HasKeyBounds is_key) new
   new_gaps_keys g [] [] new is p a = absurd is
@@ -83,11 +84,11 @@ module _ {K V H : Type 0} (laws : Laws K V H) (o : IsTotalOrder laws.cmp) (is_ke
   one_keys rows with_pages items g (digests_told ns) (digests_told ms) before after nodes p same (none, told) taken f =
       let keys = same_nodes_each ns (nodes_among items) (subst (SameMap laws.cmp (λ d e. d ≡ e) ns) told same) nodes in
       subst Keys (sym taken) (record { below = f.below; nodes = f.nodes; wanted = each-append is_key before.wanted (new_keys laws local ns) f.wanted (new_keys_keys ns keys); whole = f.whole })
-  one_keys rows with_pages items g (page_told c js ps) (page_told d ks qs) before after nodes p same (with, is, are, beside) (gaps, own, new, one, few, taken) f =
+  one_keys rows with_pages items g (page_told c js ps) (page_told d ks qs) before after nodes p same (with, is, are, beside) (gaps, own, new, kept, taken) f =
       let keys = same_keys_each js (keys_among (nodes_among items)) (subst (SameKeys laws.cmp js) are same.1) (each-mapped (λ m. m.0) is_key (nodes_among items) nodes) in
       subst Keys (sym taken) (record {
         below = each-append (HasKeyBounds is_key) before.below gaps f.below (new_gaps_keys g js ps gaps new p keys);
-        nodes = each-append (HasKeyBounds is_key) before.nodes own f.nodes (or_none_keys g own one p);
+        nodes = each-append (HasKeyBounds is_key) before.nodes own f.nodes (or_none_keys g own (nodes_or_none laws local g js c own kept) p);
         wanted = f.wanted;
         whole = f.whole;
       })
@@ -134,9 +135,9 @@ module _ {K V H : Type 0} (laws : Laws K V H) (o : IsTotalOrder laws.cmp) (is_ke
   pub root_keys : (digest : Option (List ℕ)) (before after : Found K V) → IsRootTaken laws local digest before after → Keys before → Keys after
   root_keys None before after e f = subst Keys (sym e) f
   root_keys (Some d) before after (inl (own, e)) f = subst Keys (sym e) f
-  root_keys (Some d) before after (inr (inl e)) f =
+  root_keys (Some d) before after (inr (lacks, inl e)) f =
       subst Keys (sym e) (record { below = f.below; nodes = f.nodes; wanted = f.wanted; whole = each-append (HasKeyBounds is_key) before.whole (everywhere ∷ []) f.whole ((tt, tt), tt) })
-  root_keys (Some d) before after (inr (inr e)) f =
+  root_keys (Some d) before after (inr (lacks, inr e)) f =
       subst Keys (sym e) (record { below = each-append (HasKeyBounds is_key) before.below (everywhere ∷ []) f.below ((tt, tt), tt); nodes = f.nodes; wanted = f.wanted; whole = f.whole })
 
   -- what is asked of what was found

@@ -44,7 +44,7 @@ module _ {K V H : Type 0} (laws : Laws K V H) (o : IsTotalOrder laws.cmp) (eqv :
   lacked : IsFaithfulSession laws local peer → (row : K × V) → IsNewRow laws local peer row → IsLacked laws local peer row.0
   lacked faith row ((v, there, e), new) =
       let d = laws.value_digest peer.hasher v in
-      let same : laws.value_digest local.hasher row.1 ≡ d = respects local.hasher row.1 v e ∙ faith.values v in (
+      let same : laws.value_digest local.hasher row.1 ≡ d = respects local.hasher row.1 v e ∙ faith.values row.0 v there in (
         d,
         get_digests laws.cmp o (laws.value_digest peer.hasher) peer.rows row.0 ∙ ap (option_map (laws.value_digest peer.hasher)) there,
         λ own.

@@ -31,6 +31,7 @@ use Rattle.merkle_wire.specs.Taking.{AreNewGaps, IsNewGap}
 use Rattle.merkle_wire.proofs.InGaps.{all_pass}
 use Rattle.merkle_wire.proofs.PagesBelow.{items_in, nodes_in}
 use Rattle.merkle_wire.proofs.SameNodes.{SameFound, over-same}
+use Rattle.merkle_wire.proofs.TakenGaps.{IsGapOrNone, gap_or_none}
 
 -- of three lists that together are as long as the second the others are empty
 only_second : {X : Type 0} (xs ys zs : List X) → length (xs ++ (ys ++ zs)) ≡ length ys → xs ++ (ys ++ zs) ≡ ys
@@ -40,10 +41,10 @@ only_second (x ∷ xs) ys zs e = absurd (omega (arith, e, length-append xs (ys +
 
 module _ {K : Type 0} (cmp : K → K → Ordering) (o : IsTotalOrder cmp) where
   -- where the pairs of a page stand among others
-  abbrev Context : List (K × List ℕ) → List (K × List ℕ) → Type 0
+  abbrev pub Context : List (K × List ℕ) → List (K × List ℕ) → Type 0
   Context whole ps = (pre : List (K × List ℕ)) × (post : List (K × List ℕ)) × (whole ≡ pre ++ (ps ++ post))
 
-  context_down : (whole : List (K × List ℕ)) → GoesDown (λ (t : Tree K (List ℕ)). Context whole (pairs t)) (λ (r : Row K (List ℕ)). Context whole (row_pairs r))
+  pub context_down : (whole : List (K × List ℕ)) → GoesDown (λ (t : Tree K (List ℕ)). Context whole (pairs t)) (λ (r : Row K (List ℕ)). Context whole (row_pairs r))
   context_down whole = record {
     to_row = row_of;
     to_high = λ t c. c;
@@ -136,9 +137,12 @@ module _ {K V H : Type 0} (laws : Laws K V H) (o : IsTotalOrder laws.cmp) (local
 
   new_filled : (n : ℕ) (g h : Gap K) (digest : List ℕ) (new : List (Gap K)) → IsItemOf format laws.bytes_of laws.cmp tree n (of_page g digest) → SameGap laws.cmp g h → IsNewGap laws local h (Some digest) new
       → AllByRecursion (IsBelow n) new
-  new_filled n g h digest [] (t, f, low, is) same new = tt
-  new_filled n g h digest (own ∷ []) (t, f, low, is) same new = ((t, fills-alike laws.cmp o g own t tree (same_gap-trans laws.cmp o g h own same new.0) f, low), tt)
-  new_filled n g h digest (own ∷ other ∷ others) item same new = absurd new.0
+  new_filled n g h digest new (t, f, low, is) same a = by new (gap_or_none laws local h digest new a)
+    where
+      by : (new : List (Gap K)) → IsGapOrNone laws local h new → AllByRecursion (IsBelow n) new
+      by [] one = tt
+      by (own ∷ []) one = ((t, fills-alike laws.cmp o g own t tree (same_gap-trans laws.cmp o g h own same one) f, low), tt)
+      by (own ∷ other ∷ others) one = absurd one
 
   -- the pages of a row fill the parts of a gap that keys equal to its own make of it
   row_filled : (n : ℕ) (g h : Gap K) (r : Row K (List ℕ)) (ks : List K) (new : List (Gap K)) → Items n g r → SameGap laws.cmp g h → SameKeys laws.cmp (keys_among (nodes_in laws.cmp o format laws.bytes_of g r)) ks

@@ -47,7 +47,7 @@ module _ {K V H : Type 0} (laws : Laws K V H) (local : Side K V H) (n : ℕ) whe
   one_fits : (gap : Gap K) (x : Outline K V) (before after : Found K V) → LiesIn laws.cmp n gap x → IsTaken laws local gap x before after → Fits n x
   one_fits gap (rows_told rows) before after l t = tt
   one_fits gap (digests_told nodes) before after l t = l.1
-  one_fits gap (page_told digest keys pages) before after l (gaps, nodes, new, one, few, t) = (l.2, gaps_length gap keys pages gaps new, l.3)
+  one_fits gap (page_told digest keys pages) before after l (gaps, nodes, new, own, t) = (l.2, gaps_length gap keys pages gaps new, l.3)
 
   pub fits_read : (ts : List (OwnedGap K × Outline K V)) (before after : Found K V) → AllByRecursion (λ t. LiesIn laws.cmp n (owned_gap t.0) t.1) ts → AreTaken laws local ts before after → AllByRecursion (λ t. Fits n t.1) ts
   fits_read [] before after l a = tt

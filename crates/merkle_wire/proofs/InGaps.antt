@@ -51,7 +51,7 @@ pub all_pass : {K X : Type 0} (test : K → Bool) (ps : List (K × X)) → AllBy
 all_pass test [] a = refl
 all_pass test (p ∷ ps) a = rw a.0 (ap (λ qs. p ∷ qs) (all_pass test ps a.1))
 
-none_pass : {K X : Type 0} (test : K → Bool) (ps : List (K × X)) → AllByRecursion (λ p. test p.0 ≡ false) ps → rows_at test ps ≡ []
+pub none_pass : {K X : Type 0} (test : K → Bool) (ps : List (K × X)) → AllByRecursion (λ p. test p.0 ≡ false) ps → rows_at test ps ≡ []
 none_pass test [] a = refl
 none_pass test (p ∷ ps) a = rw a.0 (none_pass test ps a.1)
 

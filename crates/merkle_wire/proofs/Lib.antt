@@ -8,6 +8,7 @@ pub mod Ascending
 pub mod Reading
 pub mod TakenMore
 pub mod NewGaps
+pub mod TakenGaps
 pub mod LastRows
 pub mod OverGaps
 pub mod PagesBelow
@@ -39,6 +40,7 @@ pub mod Twins
 pub mod SettingsTold
 pub mod Times
 pub mod FilledGaps
+pub mod PagesAt
 pub mod Sayable
 pub mod TimesTaken
 pub mod CatchUpKeys
@@ -47,5 +49,11 @@ pub mod AskedNext
 pub mod SteadyCatchUps
 pub mod RowsCounted
 pub mod SessionEnds
+pub mod PartsFilled
+pub mod PagesLacked
+pub mod OwnPages
+pub mod Costs
+pub mod CostExchanges
+pub mod CostKeys
 pub mod SteadyExchanges
 pub mod SteadySessions

@@ -1,5 +1,5 @@
 -- What is taken of what was told of one page covers the keys in its gap, or its nodes, while digests are faithful.
-use Rattle.std.proofs.Common.{◌≡◌, ℕ, Bool, true, false, List, [], ◌∷◌, ◌++◌, Option, Some, None, refl, sym, ap, subst, ◌∙◌, ◌⊎◌, inl, inr}
+use Rattle.std.proofs.Common.{◌≡◌, ℕ, Bool, true, false, List, [], ◌∷◌, ◌++◌, map, Option, Some, None, refl, sym, ap, subst, ◌∙◌, ◌⊎◌, inl, inr}
 use Rattle.std.specs.List.{AllByRecursion}
 use Rattle.std.specs.Cmp.{IsTotalOrder, IsEquivalence, tied_back}
 use Rattle.key_order.specs.Map.{IsMap, SameMap, get}
@@ -22,7 +22,7 @@ use Rattle.merkle_tree_theory.specs.Canonical.{IsTreeOf, SamePages}
 use Rattle.merkle_tree_theory.specs.Gap.{Gap, IsInGap, SameGap}
 use Rattle.merkle_tree_theory.specs.Lookup.{page_over}
 use Rattle.merkle_tree_theory.specs.Outline.{Item, outline_where, outline_over}
-use Rattle.merkle_tree_theory.specs.Page.{pairs}
+use Rattle.merkle_tree_theory.specs.Page.{nodes_of, pair_of, pairs}
 use Rattle.merkle_tree_theory.specs.Ranges.{IsPageIn}
 use Rattle.merkle_tree_theory.specs.Stream.{page_digest}
 use Rattle.merkle_tree_theory.specs.Tree.{Tree, page}
@@ -31,11 +31,12 @@ use Rattle.merkle_tree_theory.proofs.PagesIn.{page_in}
 use Rattle.merkle_wire.specs.Found.{Found}
 use Rattle.merkle_wire.specs.Outlines.{Outline, rows_told, digests_told, page_told, IsTold, HasNoPage, nodes_among, keys_among, pages_beside, nodes_digest}
 use Rattle.merkle_wire.specs.Sessions.{IsFaithfulSession, IsNodeOver, IsAmong, IsRowOfPeer, IsNewRow}
-use Rattle.merkle_wire.specs.Taking.{HasNodes, IsGapOrNone, AreNewGaps, IsTaken, new_rows, new_keys}
+use Rattle.merkle_wire.specs.Taking.{HasNodes, AreNewGaps, IsTaken, new_rows, new_keys}
 use Rattle.merkle_wire.proofs.RoundCovers.{new_keys_cover, has_not_all, rows_at_theirs, rows_at_cover, theirs_alike, any_alike, has_row_there, new_rows_new, new_rows_cover}
 use Rattle.merkle_wire.proofs.OverGaps.{over_has}
-use Rattle.merkle_wire.proofs.PagesBelow.{in_gap-alike, map_inside, items_in, nodes_over_in, all_nodes, IsShown, shown}
+use Rattle.merkle_wire.proofs.PagesBelow.{in_gap-alike, map_inside, items_in, nodes_are, nodes_over_in, all_nodes, IsShown, shown}
 use Rattle.merkle_wire.proofs.SameNodes.{node_over-same}
+use Rattle.merkle_wire.proofs.TakenGaps.{IsGapOrNone, nodes_or_none, nodes_spared}
 use Rattle.merkle_wire.proofs.TellingReplies.{SameOutline}
 
 -- what is known of the two sides and of the peer's tree: rows ascend, equal values have equal digests, and two trees of the peer's map are the same
@@ -117,7 +118,7 @@ module _ {K V H : Type 0} (laws : Laws K V H) (o : IsTotalOrder laws.cmp) (eqv :
   about_is_node false g h k l s i none = node_over-same laws.cmp o peer.format laws.bytes_of root tree g h k sides.same s i
 
   -- the same nodes
-  same_nodes : (ns ms : List (K × List ℕ)) → SameMap laws.cmp (λ d e. d ≡ e) ns ms → AllByRecursion IsPeers ms → AllByRecursion IsPeers ns
+  pub same_nodes : (ns ms : List (K × List ℕ)) → SameMap laws.cmp (λ d e. d ≡ e) ns ms → AllByRecursion IsPeers ms → AllByRecursion IsPeers ns
   same_nodes [] [] s a = tt
   same_nodes [] (m ∷ ms) s a = absurd s
   same_nodes (n ∷ ns) [] s a = absurd s
@@ -138,12 +139,13 @@ module _ {K V H : Type 0} (laws : Laws K V H) (o : IsTotalOrder laws.cmp) (eqv :
       let (p, f, inside, found) = over_has laws.cmp o h k d (in_gap-alike laws.cmp o g h k s i) tree up_tree (at_tree k ∙ there) in
       go p f inside found
     where
-      node_covers : (nodes : List (Gap K)) → IsGapOrNone laws local g nodes → (nodes ≡ [] → HasNodes laws local keys digest) → AnyByRecursion (Same laws.cmp k) (keys_among (nodes_among (items h))) → AnyByRecursion (IsNodeOver laws peer root k) nodes
-      node_covers [] one few a =
-          absurd (has_not_all laws o eqv local peer faith.nodes (nodes_among (items h)) keys digest k (d, there, lacks) (nodes_peers h) (same_keys-back laws.cmp o keys (keys_among (nodes_among (items h))) are) digests (few refl) a)
-      node_covers (own ∷ []) one few a =
+      node_covers : (p : Tree K (List ℕ)) → IsPageIn p tree → nodes_among (items h) ≡ map pair_of (nodes_of p) → (nodes : List (Gap K)) → IsGapOrNone laws local g nodes → (nodes ≡ [] → HasNodes laws local keys digest)
+          → AnyByRecursion (Same laws.cmp k) (keys_among (nodes_among (items h))) → AnyByRecursion (IsNodeOver laws peer root k) nodes
+      node_covers p inside nodes_of_p [] one few a =
+          absurd (has_not_all laws o eqv local peer faith.nodes p (tree, sides.is_tree, inside) (nodes_among (items h)) nodes_of_p keys digest k (d, there, lacks) (nodes_peers h) (same_keys-back laws.cmp o keys (keys_among (nodes_among (items h))) are) digests (few refl) a)
+      node_covers p inside nodes_of_p (own ∷ []) one few a =
           inl (node_over-same laws.cmp o peer.format laws.bytes_of tree root h own k sides.back (same_gap-trans laws.cmp o h g own (same_gap-back laws.cmp o g h s) one) a)
-      node_covers (own ∷ other ∷ others) one few a = absurd one
+      node_covers p inside nodes_of_p (own ∷ other ∷ others) one few a = absurd one
 
       go : (p : Tree K (List ℕ)) → page_over laws.cmp h tree ≡ Some p → IsPageIn p tree → get laws.cmp (pairs p) k ≡ Some d → AnyByRecursion (IsInGap laws.cmp k) gaps ⊎ AnyByRecursion (IsNodeOver laws peer root k) nodes
       go (page l c r) f inside found =
@@ -153,7 +155,7 @@ module _ {K V H : Type 0} (laws : Laws K V H) (o : IsTotalOrder laws.cmp) (eqv :
           (subst (λ ps. AreNewGaps laws local g keys ps gaps) (beside ∙ ap (pages_beside None) is) new) i)
         where
           by : IsShown laws o local peer.format h r gaps k d → AnyByRecursion (IsInGap laws.cmp k) gaps ⊎ AnyByRecursion (IsNodeOver laws peer root k) nodes
-          by (inl a) = inr (node_covers nodes one few (subst (λ xs. AnyByRecursion (Same laws.cmp k) (keys_among (nodes_among xs))) (sym (ap (outline_where peer.format laws.bytes_of h) f)) a))
+          by (inl a) = inr (node_covers (page l c r) inside (ap nodes_among (ap (outline_where peer.format laws.bytes_of h) f) ∙ nodes_are laws.cmp o peer.format laws.bytes_of h r) nodes one few (subst (λ xs. AnyByRecursion (Same laws.cmp k) (keys_among (nodes_among xs))) (sym (ap (outline_where peer.format laws.bytes_of h) f)) a))
           by (inr (inl b)) = inl b
           by (inr (inr (t, lower, own, q))) = absurd (none_hidden faith.faithful.same_pages k (d, there, lacks) t (page_in t (page l c r) tree (inr lower) inside) own d q)
 
@@ -171,8 +173,8 @@ module _ {K V H : Type 0} (laws : Laws K V H) (o : IsTotalOrder laws.cmp) (eqv :
       let is = subst (SameMap laws.cmp (λ d e. d ≡ e) ns) told same in
       let new = new_keys_cover laws o eqv local peer ns k l (same_nodes ns (nodes_among (items h)) is (nodes_peers h)) (any_nodes ns (nodes_among (items h)) k is node) in
       subst (IsAmong laws peer root k) (sym taken) (inr (inr (inl (any-append (Same laws.cmp k) before.wanted (new_keys laws local ns) (inr new)))))
-  one_covers faith true g h (page_told c js ps) (page_told d ks qs) before after k l s same about (yes', digests, are, beside) (gaps, nodes, new, one, few, taken) =
-      subst (IsAmong laws peer root k) (sym taken) (go (page_covers faith g h c js ps gaps nodes k l s about (same.0 ∙ digests) (subst (SameKeys laws.cmp js) are same.1) (same.2 ∙ beside) new one few))
+  one_covers faith true g h (page_told c js ps) (page_told d ks qs) before after k l s same about (yes', digests, are, beside) (gaps, nodes, new, own, taken) =
+      subst (IsAmong laws peer root k) (sym taken) (go (page_covers faith g h c js ps gaps nodes k l s about (same.0 ∙ digests) (subst (SameKeys laws.cmp js) are same.1) (same.2 ∙ beside) new (nodes_or_none laws local g js c nodes own) (nodes_spared laws local g js c nodes own)))
     where
       go : AnyByRecursion (IsInGap laws.cmp k) gaps ⊎ AnyByRecursion (IsNodeOver laws peer root k) nodes → IsAmong laws peer root k (record before { below = before.below ++ gaps; nodes = before.nodes ++ nodes })
       go (inl a) = inl (any-append (IsInGap laws.cmp k) before.below gaps (inr a))
@@ -197,7 +199,7 @@ module _ {K V H : Type 0} (laws : Laws K V H) (o : IsTotalOrder laws.cmp) (eqv :
       (λ a. subst (λ f. AnyByRecursion (IsInGap laws.cmp k) f.below) (sym taken) a) (λ a. subst (λ f. AnyByRecursion (IsNodeOver laws peer root k) f.nodes) (sym taken) a)
       (λ a. subst (λ f. AnyByRecursion (Same laws.cmp k) f.wanted) (sym taken) (any-append (Same laws.cmp k) before.wanted (new_keys laws local ns) (inl a))) (λ a. subst (λ f. AnyByRecursion (IsInGap laws.cmp k) f.whole) (sym taken) a)
       (λ a. subst (λ f. AnyByRecursion (λ r. Same laws.cmp k r.0) f.rows) (sym taken) a)
-  one_keeps g (page_told c js ps) before after k (gaps, nodes, new, one, few, taken) =
+  one_keeps g (page_told c js ps) before after k (gaps, nodes, new, own, taken) =
       among-more laws o local peer root tree k before after
       (λ a. subst (λ f. AnyByRecursion (IsInGap laws.cmp k) f.below) (sym taken) (any-append (IsInGap laws.cmp k) before.below gaps (inl a)))
       (λ a. subst (λ f. AnyByRecursion (IsNodeOver laws peer root k) f.nodes) (sym taken) (any-append (IsNodeOver laws peer root k) before.nodes nodes (inl a)))
@@ -213,4 +215,4 @@ module _ {K V H : Type 0} (laws : Laws K V H) (o : IsTotalOrder laws.cmp) (eqv :
   one_new with_pages g h (rows_told rs) (digests_told ms) before after same told taken a = absurd same
   one_new with_pages g h (rows_told rs) (page_told d ks qs) before after same told taken a = absurd same
   one_new with_pages g h (digests_told ns) y before after same told taken a = subst (λ f. AllByRecursion New f.rows) (sym taken) a
-  one_new with_pages g h (page_told c js ps) y before after same told (gaps, nodes, new, one, few, taken) a = subst (λ f. AllByRecursion New f.rows) (sym taken) a
+  one_new with_pages g h (page_told c js ps) y before after same told (gaps, nodes, new, own, taken) a = subst (λ f. AllByRecursion New f.rows) (sym taken) a

@@ -1,5 +1,5 @@
 -- What is told of the page over a gap covers the keys in the gap.
-use Rattle.std.proofs.Common.{◌≡◌, ℕ, true, false, List, [], ◌∷◌, ◌++◌, Option, Some, None, refl, sym, subst, ◌∙◌, ◌⊎◌, inl, inr}
+use Rattle.std.proofs.Common.{◌≡◌, ℕ, true, false, List, [], ◌∷◌, ◌++◌, map, Option, Some, None, refl, sym, ap, subst, ◌∙◌, ◌⊎◌, inl, inr}
 use Rattle.std.specs.List.{AllByRecursion}
 use Rattle.std.specs.Cmp.{IsTotalOrder, tied_itself}
 use Rattle.std.specs.Ordering.{is_eq}
@@ -18,7 +18,7 @@ use Rattle.merkle_replica.proofs.Rounds.{any-append}
 use Rattle.merkle_tree_theory.specs.Gap.{Gap, IsInGap, SameGap, part_before, part_behind}
 use Rattle.merkle_tree_theory.specs.Lookup.{page_over}
 use Rattle.merkle_tree_theory.specs.Outline.{Item, row_items, outline_where, outline_over}
-use Rattle.merkle_tree_theory.specs.Page.{pairs, row_pairs, held_pairs}
+use Rattle.merkle_tree_theory.specs.Page.{pair_of, row_nodes, pairs, row_pairs, held_pairs}
 use Rattle.merkle_tree_theory.specs.Ranges.{IsPageIn, IsPageInRow}
 use Rattle.merkle_tree_theory.specs.Stream.{page_digest}
 use Rattle.merkle_tree_theory.specs.Tree.{Tree, page, Row, high, node, Held, nothing, below}
@@ -30,6 +30,7 @@ use Rattle.merkle_tree_theory.proofs.PagesIn.{GoesDown, MatchRow, inside}
 use Rattle.merkle_wire.specs.Outlines.{nodes_among, keys_among, pages_beside, HasNoPage}
 use Rattle.merkle_wire.specs.Taking.{IsNewGap, AreNewGaps}
 use Rattle.merkle_wire.proofs.OverGaps.{above, IsParted, get_parted}
+use Rattle.merkle_wire.proofs.TakenGaps.{IsGapOrNone, gap_or_none, page_spared}
 
 module _ {K : Type 0} (cmp : K → K → Ordering) (o : IsTotalOrder cmp) where
   -- a key in a gap is in one with equal bounds
@@ -70,6 +71,13 @@ module _ {K : Type 0} (cmp : K → K → Ordering) (o : IsTotalOrder cmp) where
 
     abbrev pub nodes_in : Gap K → Row K (List ℕ) → List (K × List ℕ)
     nodes_in g r = nodes_among (items_in g r)
+
+    -- the nodes among what is told of a row are its nodes
+    pub nodes_are : (g : Gap K) (r : Row K (List ℕ)) → nodes_in g r ≡ map pair_of (row_nodes r)
+    nodes_are g (high nothing) = refl
+    nodes_are g (high (below t)) = refl
+    nodes_are g (node nothing j e r) = ap (λ ns. (j, e) ∷ ns) (nodes_are (part_behind g j) r)
+    nodes_are g (node (below t) j e r) = ap (λ ns. (j, e) ∷ ns) (nodes_are (part_behind g j) r)
 
     -- the nodes of a row are among its pairs
     row_nodes_in : (g : Gap K) (r : Row K (List ℕ)) → IsMap cmp (row_pairs r) → AllByRecursion (λ n. get cmp (row_pairs r) n.0 ≡ Some n.1) (nodes_in g r)
@@ -117,9 +125,12 @@ module _ {K : Type 0} (cmp : K → K → Ordering) (o : IsTotalOrder cmp) where
 module _ {K V H : Type 0} (laws : Laws K V H) (o : IsTotalOrder laws.cmp) (local : Side K V H) (format : PageFormat) where
   -- the gap is there, or the side has the page
   new_gap_covers : (gap : Gap K) (digest : List ℕ) (new : List (Gap K)) (k : K) → IsNewGap laws local gap (Some digest) new → IsInGap laws.cmp k gap → AnyByRecursion (IsInGap laws.cmp k) new ⊎ HasPage laws local digest
-  new_gap_covers gap digest [] k n i = inr (n.1 refl)
-  new_gap_covers gap digest (own ∷ []) k n i = inl (inl (in_gap-alike laws.cmp o gap own k n.0 i))
-  new_gap_covers gap digest (own ∷ other ∷ others) k n i = absurd n.0
+  new_gap_covers gap digest new k a i = by new (gap_or_none laws local gap digest new a) (page_spared laws local gap digest new a)
+    where
+      by : (new : List (Gap K)) → IsGapOrNone laws local gap new → (new ≡ [] → HasPage laws local digest) → AnyByRecursion (IsInGap laws.cmp k) new ⊎ HasPage laws local digest
+      by [] one spared = inr (spared refl)
+      by (own ∷ []) one spared = inl (inl (in_gap-alike laws.cmp o gap own k one i))
+      by (own ∷ other ∷ others) one spared = absurd one
 
   -- a key of a row is a node's, or in one of the gaps that are asked for, or in a page that has the digest of a page of the side
   abbrev pub IsShown : Gap K → Row K (List ℕ) → List (Gap K) → K → List ℕ → Type 0

@@ -15,9 +15,12 @@ use Rattle.merkle_replica.specs.CatchUp.{IsLacked}
 use Rattle.merkle_replica.specs.Contents.{Side, tree_map}
 use Rattle.merkle_replica.specs.Laws.{Laws}
 use Rattle.merkle_replica.proofs.Bounds.{get_digests}
+use Rattle.merkle_tree_theory.specs.Page.{nodes_of, pair_of}
+use Rattle.merkle_tree_theory.specs.Ranges.{IsPageOf}
+use Rattle.merkle_tree_theory.specs.Tree.{Tree, Node}
 use Rattle.merkle_wire.specs.Outlines.{keys_among, nodes_digest}
 use Rattle.merkle_wire.specs.RowsAt.{AreRowsAt}
-use Rattle.merkle_wire.specs.Sessions.{HaveFaithfulNodes, IsRowOfPeer, IsNewRow}
+use Rattle.merkle_wire.specs.Sessions.{DigestTheirValuesAlike, HaveFaithfulNodes, IsRowOfPeer, IsNewRow}
 use Rattle.merkle_wire.specs.Taking.{is_digest, has_digest, has_row, new_rows, new_keys, HasNodes}
 use Rattle.merkle_wire.proofs.TellingReplies.{SameRow}
 
@@ -30,7 +33,7 @@ each-filter P test (x ∷ xs) a = go (which (test x)) (each-filter P test xs a.1
     go (inl n) more = rw n more
     go (inr n) more = rw n (a.0, more)
 
-all-filter : {X : Type 0} (test : X → Bool) (xs : List X) → AllByRecursion (λ x. test x ≡ true) (filter test xs)
+pub all-filter : {X : Type 0} (test : X → Bool) (xs : List X) → AllByRecursion (λ x. test x ≡ true) (filter test xs)
 all-filter test [] = tt
 all-filter test (x ∷ xs) = go (which (test x)) (all-filter test xs)
   where
@@ -89,16 +92,6 @@ module _ {K V H : Type 0} (laws : Laws K V H) (o : IsTotalOrder laws.cmp) (eqv :
       (any-filter (λ n. Same laws.cmp k n.0) (λ n. get laws.cmp (tree_map laws peer) n.0 ≡ Some n.1) (λ n. not (has_digest laws local n.0 n.1)) (λ n t of_peer. no_digest k n.0 n.1 l t of_peer) nodes a (any-unmap (Same laws.cmp k) (λ n. n.0) nodes s))
 
   -- of nodes of which one is lacked the side doesn't have all, up to equal keys
-  peer_has : (nodes : List (K × List ℕ)) (keys : List K) → AllByRecursion (λ n. get laws.cmp (tree_map laws peer) n.0 ≡ Some n.1) nodes → SameKeys laws.cmp (keys_among nodes) keys
-      → map (get laws.cmp (tree_map laws peer)) keys ≡ map Some (map (λ n. n.1) nodes)
-  peer_has [] [] a s = refl
-  peer_has [] (k ∷ ks) a s = absurd s
-  peer_has (n ∷ ns) [] a s = absurd s
-  peer_has (n ∷ ns) (k ∷ ks) a s =
-      let here : get laws.cmp (tree_map laws peer) k ≡ Some n.1 = sym (get_same laws.cmp o (tree_map laws peer) n.0 k s.0) ∙ a.0 in
-      let rest = peer_has ns ks a.1 s.1 in
-      (λ i. here i ∷ rest i)
-
   none_lacked : (nodes : List (K × List ℕ)) (keys : List K) (k : K) → Lacked k → AllByRecursion (λ n. get laws.cmp (tree_map laws peer) n.0 ≡ Some n.1) nodes → SameKeys laws.cmp (keys_among nodes) keys
       → map (get laws.cmp (tree_map laws local)) keys ≡ map Some (map (λ n. n.1) nodes) → AnyByRecursion (Same laws.cmp k) (keys_among nodes) → ⊥
   none_lacked [] keys k l a s e i = i
@@ -110,12 +103,35 @@ module _ {K V H : Type 0} (laws : Laws K V H) (o : IsTotalOrder laws.cmp) (eqv :
       let rest : map (get laws.cmp (tree_map laws local)) js ≡ map Some (map (λ m. m.1) ns) = cc in
       none_lacked ns js k l a.1 s.1 rest i
 
-  pub has_not_all : HaveFaithfulNodes laws local peer → (nodes : List (K × List ℕ)) (keys : List K) (digest : List ℕ) (k : K) → Lacked k → AllByRecursion (λ n. get laws.cmp (tree_map laws peer) n.0 ≡ Some n.1) nodes
+  -- what the side has at the keys of nodes it has at equal keys
+  own_at : (ns : List (Node K (List ℕ))) (keys : List K) → SameKeys laws.cmp (keys_among (map pair_of ns)) keys → map (λ n. get laws.cmp (tree_map laws local) n.key) ns ≡ map (get laws.cmp (tree_map laws local)) keys
+  own_at [] [] s = refl
+  own_at [] (k ∷ ks) s = absurd s
+  own_at (n ∷ ns) [] s = absurd s
+  own_at (n ∷ ns) (k ∷ ks) s =
+      let here = get_same laws.cmp o (tree_map laws local) n.key k s.0 in
+      let rest = own_at ns ks s.1 in
+      (λ i. here i ∷ rest i)
+
+  -- the digests of nodes are those of their pairs
+  digests_at : (ns : List (Node K (List ℕ))) → map (λ n. n.digest) ns ≡ map (λ p. p.1) (map pair_of ns)
+  digests_at [] = refl
+  digests_at (n ∷ ns) = ap (λ ds. n.digest ∷ ds) (digests_at ns)
+
+  -- of the nodes of a page of which one is lacked the side doesn't have all with the digest of these nodes, while digests are faithful
+  pub has_not_all : HaveFaithfulNodes laws local peer → (s : Tree K (List ℕ)) → IsPageOf laws.cmp (laws.key_digest peer.hasher) peer.base s (tree_map laws peer) → (nodes : List (K × List ℕ)) → nodes ≡ map pair_of (nodes_of s)
+      → (keys : List K) (digest : List ℕ) (k : K) → Lacked k → AllByRecursion (λ n. get laws.cmp (tree_map laws peer) n.0 ≡ Some n.1) nodes
       → SameKeys laws.cmp (keys_among nodes) keys → digest ≡ nodes_digest nodes → HasNodes laws local keys digest → AnyByRecursion (Same laws.cmp k) (keys_among nodes) → ⊥
-  has_not_all faithful nodes keys digest k l a s q (ds, own, is) i =
+  has_not_all faithful s of_peer nodes are keys digest k l a same_keys q (ds, own, is) i =
       let es = map (λ n. n.1) nodes in
-      let same : ds ≡ es = faithful keys ds es own (peer_has nodes keys a s) (is ∙ q) in
-      none_lacked nodes keys k l a s (own ∙ ap (map Some) same) i
+      let same : ds ≡ es = faithful ds es (record {
+        page = s;
+        of_peer = of_peer;
+        own = own_at (nodes_of s) keys (subst (λ ns. SameKeys laws.cmp (keys_among ns) keys) are same_keys) ∙ own;
+        theirs = digests_at (nodes_of s) ∙ ap (map (λ p. p.1)) (sym are);
+        same = is ∙ q;
+      }) in
+      none_lacked nodes keys k l a same_keys (own ∙ ap (map Some) same) i
 
   -- rows of the peer
   pub rows_at_theirs : (ks : List K) (rows : List (K × V)) → AreRowsAt laws.cmp peer.rows ks rows → AllByRecursion Theirs rows
@@ -163,11 +179,11 @@ module _ {K V H : Type 0} (laws : Laws K V H) (o : IsTotalOrder laws.cmp) (eqv :
       not_so false n = refl
 
   -- of rows of the peer one whose key is lacked is taken
-  pub new_rows_cover : ((h : H) (a b : V) → laws.eq a b ≡ true → laws.value_digest h a ≡ laws.value_digest h b) → ((v : V) → laws.value_digest local.hasher v ≡ laws.value_digest peer.hasher v)
+  pub new_rows_cover : ((h : H) (a b : V) → laws.eq a b ≡ true → laws.value_digest h a ≡ laws.value_digest h b) → DigestTheirValuesAlike laws local peer
       → (rows : List (K × V)) (k : K) → Lacked k → AllByRecursion Theirs rows → AnyByRecursion (λ r. Same laws.cmp k r.0) rows → AnyByRecursion (λ r. Same laws.cmp k r.0) (new_rows laws local rows)
   new_rows_cover respects alike rows k l = any-filter (λ r. Same laws.cmp k r.0) Theirs (λ row. not (has_row laws local row)) passes rows
     where
       passes : (r : K × V) → Same laws.cmp k r.0 → Theirs r → not (has_row laws local r) ≡ true
       passes r s (v, there, e) =
           no_digest k r.0 (laws.value_digest local.hasher r.1) l s
-          (get_digests laws.cmp o (laws.value_digest peer.hasher) peer.rows r.0 ∙ ap (option_map (laws.value_digest peer.hasher)) there ∙ ap Some (sym (respects local.hasher r.1 v e ∙ alike v)))
+          (get_digests laws.cmp o (laws.value_digest peer.hasher) peer.rows r.0 ∙ ap (option_map (laws.value_digest peer.hasher)) there ∙ ap Some (sym (respects local.hasher r.1 v e ∙ alike r.0 v there)))

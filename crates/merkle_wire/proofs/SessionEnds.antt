@@ -27,7 +27,7 @@ use Rattle.merkle_wire.specs.Outlines.{Outline, rows_told, digests_told, page_to
 use Rattle.merkle_wire.specs.Replies.{Answers, IsPartOf, IsReply, Part, items_over, outlines_bytes, parts_bytes}
 use Rattle.merkle_wire.specs.Sessions.{IsRowOfPeer}
 use Rattle.merkle_wire.specs.Steady.{AsksForPages, IsFilled, IsKeyOf, IsSteady, LeavesLess, left_by, left_for, left_of, nodes_over, rows_in, times_in, total}
-use Rattle.merkle_wire.specs.Taking.{AddsKeys, AreBehind, AreTaken, IsBehind, IsGapOrNone, IsRootTaken, IsTaken, has_digest, new_keys}
+use Rattle.merkle_wire.specs.Taking.{AddsKeys, AreBehind, AreTaken, IsBehind, IsRootTaken, IsTaken, has_digest, new_keys}
 use Rattle.merkle_wire.specs.Underway.{AsksAgain, HasOutlines, HasParts, HasTaken, Underway}
 use Rattle.merkle_wire.specs.declared.catching_up.Next.{Next}
 use Rattle.merkle_wire.specs.declared.catching_up.Next.TheVariants.{Ask, Came}
@@ -46,6 +46,7 @@ use Rattle.merkle_wire.proofs.Outside.{ascend-alike}
 use Rattle.merkle_wire.proofs.SameNodes.{keys_over-same}
 use Rattle.merkle_wire.proofs.SteadyCatchUps.{stay, up_root, up_tree}
 use Rattle.merkle_wire.proofs.StepCovers.{parts_theirs}
+use Rattle.merkle_wire.proofs.TakenGaps.{IsGapOrNone, nodes_or_none}
 use Rattle.merkle_wire.proofs.TellingQuestions.{SameGapTold, SameQuestion}
 use Rattle.merkle_wire.proofs.TellingReplies.{SameOutline, outlines_tell, parts_tell}
 use Rattle.merkle_wire.proofs.Times.{total-append, total-mapped}
@@ -153,14 +154,14 @@ module _ {K V H : Type 0} (laws : Laws K V H) (o : IsTotalOrder laws.cmp) (eqv :
         nodes.some,
         ascending_counted laws o local peer.rows g (keys_of h) nodes.up nodes.keys,
       )
-  one_less true g h (page_told c js ps) (page_told d ks qs) before after nodes s same (with, is, are, beside) lies (gaps, own, new, one, few, taken) =
+  one_less true g h (page_told c js ps) (page_told d ks qs) before after nodes s same (with, is, are, beside) lies (gaps, own, new, kept, taken) =
       let keys = subst (SameKeys laws.cmp js) are same.1 in
       subst (λ f. left_found f + 1 ≤ left_found before + 3 * rows_of g) (sym taken)
       (omega (
         arith,
         total-append rows_of before.below gaps,
         total-append nodes_of before.nodes own,
-        own_left g h own nodes s one,
+        own_left g h own nodes s (nodes_or_none laws local g js c own kept),
         same_keys_length laws.cmp js (keys_of h) keys,
         nodes.some,
         parts_counted laws o local peer.rows g js ps gaps new lies.1 (keys_alike js (keys_of h) keys nodes.keys),
@@ -212,15 +213,22 @@ module _ {K V H : Type 0} (laws : Laws K V H) (o : IsTotalOrder laws.cmp) (eqv :
   twice [] = refl
   twice (g ∷ gs) = omega (arith, twice gs)
 
+  -- what was read of a reply is what was sent
+  pub lists_alike : (with_pages : Bool) (kind : Kind) (gaps gaps' left : List (OwnedGap K)) (reply : List ℕ) (before after : Found K V) (told' : List (OwnedGap K × Outline K V)) → AllZip (SameGapTold laws.cmp encoding) gaps gaps'
+      → (answers : Answers (λ g. IsTold laws.cmp peer.rows with_pages (items_over laws.cmp laws.bytes_of peer.tree g)) gaps' told') → reply ≡ front kind ++ outlines_bytes encoding values told'
+      → (has : HasOutlines laws n encoding values local (front kind) gaps reply before after left) → AllZip (λ t u. SameGapTold laws.cmp encoding t.0 u.0 × SameOutline laws.cmp laws.eq t.1 u.1) has.0 told'
+  lists_alike with_pages kind gaps gaps' left reply before after told' alike answers sent (told, read, some, are, lies, taken) =
+      let bytes = (join_tells (front kind) (front kind) (outlines_bytes encoding values told) (outlines_bytes encoding values told') refl (sym read ∙ sent)).1 in
+      outlines_tell laws.cmp laws.eq encoding values tell.keys tell.value (SameGapTold laws.cmp encoding) (λ g h e. e.1) n told told' left answers.left
+      (same_begin laws o eqv encoding values tell n local peer root sides small (SameGapTold laws.cmp encoding) gaps gaps' told told' left answers.left alike are answers.begins) (fits_read laws local n told before after lies taken)
+      (sent_fits laws o eqv encoding values tell n local peer root sides small with_pages told' answers.each) bytes
+
   outlines_left : (with_pages : Bool) (kind : Kind) (rounds : ℕ) (gaps gaps' left : List (OwnedGap K)) (reply : List ℕ) (before after : Found K V) (told' : List (OwnedGap K × Outline K V)) → AllByRecursion (Filled rounds) gaps
       → AllZip (SameGapTold laws.cmp encoding) gaps gaps' → Answers (λ g. IsTold laws.cmp peer.rows with_pages (items_over laws.cmp laws.bytes_of peer.tree g)) gaps' told' → reply ≡ front kind ++ outlines_bytes encoding values told'
       → HasOutlines laws n encoding values local (front kind) gaps reply before after left
       → left_found after + total (λ g. left_about with_pages (owned_gap g)) left + 1 ≤ left_found before + total (λ g. left_about with_pages (owned_gap g)) gaps
   outlines_left with_pages kind rounds gaps gaps' left reply before after told' filled alike answers sent (told, read, some, are, lies, taken) =
-      let bytes = (join_tells (front kind) (front kind) (outlines_bytes encoding values told) (outlines_bytes encoding values told') refl (sym read ∙ sent)).1 in
-      let lists = outlines_tell laws.cmp laws.eq encoding values tell.keys tell.value (SameGapTold laws.cmp encoding) (λ g h e. e.1) n told told' left answers.left
-      (same_begin laws o eqv encoding values tell n local peer root sides small (SameGapTold laws.cmp encoding) gaps gaps' told told' left answers.left alike are answers.begins) (fits_read laws local n told before after lies taken)
-      (sent_fits laws o eqv encoding values tell n local peer root sides small with_pages told' answers.each) bytes in
+      let lists = lists_alike with_pages kind gaps gaps' left reply before after told' alike answers sent (told, read, some, are, lies, taken) in
       let about : OwnedGap K → ℕ = λ g. left_about with_pages (owned_gap g) in
       omega (
         arith,
@@ -293,10 +301,10 @@ module _ {K V H : Type 0} (laws : Laws K V H) (o : IsTotalOrder laws.cmp) (eqv :
   root_left : (digest : Option (List ℕ)) (before after : Found K V) → IsRootTaken laws local digest before after → left_found after + 1 ≤ left_found before + (3 * length peer.rows + 2)
   root_left None before after e = omega (arith, ap left_found e)
   root_left (Some d) before after (inl (own, e)) = omega (arith, ap left_found e)
-  root_left (Some d) before after (inr (inl e)) =
+  root_left (Some d) before after (inr (lacks, inl e)) =
       subst (λ f. left_found f + 1 ≤ left_found before + (3 * length peer.rows + 2)) (sym e)
       (omega (arith, all_rows peer.rows, total-append rows_of before.whole (everywhere ∷ []), length-append before.whole (everywhere ∷ [])))
-  root_left (Some d) before after (inr (inr e)) =
+  root_left (Some d) before after (inr (lacks, inr e)) =
       subst (λ f. left_found f + 1 ≤ left_found before + (3 * length peer.rows + 2)) (sym e) (omega (arith, all_rows peer.rows, total-append rows_of before.below (everywhere ∷ [])))
 
   -- a reply leaves less to ask for

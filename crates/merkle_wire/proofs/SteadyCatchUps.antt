@@ -39,7 +39,7 @@ use Rattle.merkle_wire.specs.Next.{HaveTwins, IsStopped}
 use Rattle.merkle_wire.specs.Outlines.{Outline, rows_told, digests_told, page_told, IsTold, keys_among, nodes_among, outline_bytes, pages_beside}
 use Rattle.merkle_wire.specs.Replies.{Answers, IsPartOf, IsReply, items_over, outlines_bytes, part_bytes, parts_bytes, values_bytes, whole_digest}
 use Rattle.merkle_wire.specs.Steady.{AsksForPages, CanBeTold, IsFilled, IsSteady, times_asked, times_at, times_in, total}
-use Rattle.merkle_wire.specs.Taking.{AreNewGaps, AreTaken, IsGapOrNone, IsRootTaken, IsTaken, value_row}
+use Rattle.merkle_wire.specs.Taking.{AreNewGaps, AreTaken, IsRootTaken, IsTaken, value_row}
 use Rattle.merkle_wire.specs.Underway.{AsksAgain, HasOutlines, HasParts, HasTaken, HasValues, Underway}
 use Rattle.merkle_wire.specs.declared.gaps.OwnedGap.{OwnedGap}
 use Rattle.merkle_wire.specs.declared.message.Kind.{Kind}
@@ -54,6 +54,7 @@ use Rattle.merkle_wire.proofs.FilledGaps.{IsBelow, fills-alike, fills-same, part
 use Rattle.merkle_wire.proofs.Fitting.{fits_read}
 use Rattle.merkle_wire.proofs.PageCovers.{AreSides, nodes_peers}
 use Rattle.merkle_wire.proofs.Sayable.{answers_say, outline_said, part_said, value_said}
+use Rattle.merkle_wire.proofs.TakenGaps.{IsGapOrNone, nodes_or_none}
 use Rattle.merkle_wire.proofs.TellingQuestions.{SameGapTold, SameQuestion, SameWanted}
 use Rattle.merkle_wire.proofs.TellingReplies.{Fits, SameOutline, outlines_tell}
 use Rattle.merkle_wire.proofs.Times.{total-append, total-permuted}
@@ -107,10 +108,10 @@ module _ {K V H : Type 0} (laws : Laws K V H) (o : IsTotalOrder laws.cmp) (eqv :
       → IsTold laws.cmp peer.rows with_pages (items h) y → IsTaken laws local g x before after → Pages rounds before → Pages rounds after
   one_pages with_pages rounds g h (rows_told rs) y before after filled s same told taken p = subst (Pages rounds) (sym taken) p
   one_pages with_pages rounds g h (digests_told ns) y before after filled s same told taken p = subst (Pages rounds) (sym taken) p
-  one_pages with_pages rounds g h (page_told c js ps) (page_told d ks qs) before after filled s same (with, is, are, beside) (gaps, nodes, new, one, few, taken) p =
+  one_pages with_pages rounds g h (page_told c js ps) (page_told d ks qs) before after filled s same (with, is, are, beside) (gaps, nodes, new, kept, taken) p =
       subst (Pages rounds) (sym taken) (
         each-append (Filled 256 rounds) before.below gaps p.0 (page_steady rounds g h js ps gaps (filled with) s (subst (SameKeys laws.cmp js) are same.1) (same.2 ∙ beside) new),
-        each-append (Filled 257 0) before.nodes nodes p.1 (own_steady rounds g nodes (filled with) one),
+        each-append (Filled 257 0) before.nodes nodes p.1 (own_steady rounds g nodes (filled with) (nodes_or_none laws local g js c nodes kept)),
       )
   one_pages with_pages rounds g h (page_told c js ps) (rows_told ss) before after filled s same told taken p = absurd same
   one_pages with_pages rounds g h (page_told c js ps) (digests_told ms) before after filled s same told taken p = absurd same
@@ -241,16 +242,16 @@ module _ {K V H : Type 0} (laws : Laws K V H) (o : IsTotalOrder laws.cmp) (eqv :
       by : (d : Option (List ℕ)) → d ≡ whole_digest (whole_item peer.tree.format laws.bytes_of tree) → IsRootTaken laws local d before after → AllByRecursion (Filled 256 rounds) after.below
       by None e t = subst (λ f. AllByRecursion (Filled 256 rounds) f.below) (sym t) s.below
       by (Some d) e (inl (own, t)) = subst (λ f. AllByRecursion (Filled 256 rounds) f.below) (sym t) s.below
-      by (Some d) e (inr (inl t)) = subst (λ f. AllByRecursion (Filled 256 rounds) f.below) (sym t) s.below
-      by (Some d) e (inr (inr t)) =
+      by (Some d) e (inr (lacks, inl t)) = subst (λ f. AllByRecursion (Filled 256 rounds) f.below) (sym t) s.below
+      by (Some d) e (inr (lacks, inr t)) =
           subst (λ f. AllByRecursion (Filled 256 rounds) f.below) (sym t)
           (each-append (Filled 256 rounds) before.below (everywhere ∷ []) s.below (subst (λ r. Filled 256 r everywhere) (sym zero) (everywhere_filled d (sym e)), tt))
 
       keeps : (d : Option (List ℕ)) → IsRootTaken laws local d before after → AllByRecursion (Filled 257 0) after.nodes
       keeps None t = subst (λ f. AllByRecursion (Filled 257 0) f.nodes) (sym t) s.nodes
       keeps (Some d) (inl (own, t)) = subst (λ f. AllByRecursion (Filled 257 0) f.nodes) (sym t) s.nodes
-      keeps (Some d) (inr (inl t)) = subst (λ f. AllByRecursion (Filled 257 0) f.nodes) (sym t) s.nodes
-      keeps (Some d) (inr (inr t)) = subst (λ f. AllByRecursion (Filled 257 0) f.nodes) (sym t) s.nodes
+      keeps (Some d) (inr (lacks, inl t)) = subst (λ f. AllByRecursion (Filled 257 0) f.nodes) (sym t) s.nodes
+      keeps (Some d) (inr (lacks, inr t)) = subst (λ f. AllByRecursion (Filled 257 0) f.nodes) (sym t) s.nodes
 
   pub stay : (digest_of : K → List ℕ) (asked question : Question K) (rounds : ℕ) (reply : List ℕ) (before after : Found K V) (again : Option (Question K)) → IsSteady laws (side peer) root (record { asked = asked; found = before; rounds = rounds })
       → SameQuestion laws.cmp encoding asked question → IsReply laws.cmp laws.bytes_of encoding values digest_of n peer.rows peer.tree question reply → HasTaken laws n encoding values local asked reply before after again → StaySteady rounds again after

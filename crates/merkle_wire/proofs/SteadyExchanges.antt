@@ -1,6 +1,6 @@
 -- An exchange of messages with an honest peer whose rows and settings stayed as it answered, by any tree of its map: what comes next is steady, leaves less
 -- to ask for, and has keys of the two sides alone; and the reply is refused for want of memory alone.
-use Rattle.std.proofs.Common.{◌≡◌, ℕ, true, List, length, refl, sym, ap, subst, ◌∙◌, arith}
+use Rattle.std.proofs.Common.{◌≡◌, ℕ, Bool, true, List, length, refl, sym, ap, subst, ◌∙◌, arith}
 use Rattle.std.specs.List.{AllByRecursion}
 use Rattle.std.specs.Cmp.{IsTotalOrder, IsEquivalence}
 use Rattle.key_order.specs.Map.{IsMap, SameMap}
@@ -10,9 +10,13 @@ use Rattle.merkle_replica.specs.Faithful.{HasSmallMap}
 use Rattle.merkle_replica.specs.Laws.{Laws}
 use Rattle.merkle_replica.proofs.SideLaws.{same_side}
 use Rattle.merkle_tree_theory.specs.Canonical.{IsCanonicalRoot, IsTreeOf, SamePages}
+use Rattle.merkle_tree_theory.specs.Gap.{Gap}
 use Rattle.merkle_tree_theory.specs.State.{SameSettings, map_of}
+use Rattle.merkle_tree_theory.specs.Stream.{page_digest}
 use Rattle.merkle_tree_theory.specs.Tree.{Tree}
+use Rattle.merkle_tree_theory.specs.declared.page_format.PageFormat.{PageFormat}
 use Rattle.merkle_wire.specs.Asking.{AsksForSome}
+use Rattle.merkle_wire.specs.Cost.{keys_taken, nodes_taken, pages_taken}
 use Rattle.merkle_wire.specs.Faults.{IsOfOthers, IsUnread}
 use Rattle.merkle_wire.specs.Found.{nothing}
 use Rattle.merkle_wire.specs.Next.{IsNext, IsStopped}
@@ -29,10 +33,14 @@ use Rattle.merkle_wire.specs.declared.question.Question.TheVariants.{Root}
 use Rattle.merkle_wire.specs.declared.session_error.SessionError.{SessionError}
 use Rattle.merkle_wire.specs.declared.session_error.SessionError.TheVariants.{Memory}
 use Rattle.merkle_wire.specs.declared.settings.Settings.{Settings}
+use Rattle.merkle_wire.proofs.CostExchanges.{exchange_pays}
+use Rattle.merkle_wire.proofs.CostKeys.{AsksLacked, PayForKeys, Wants, exchange_pays_for_keys}
+use Rattle.merkle_wire.proofs.Costs.{PayFor}
 use Rattle.merkle_wire.proofs.Exchanges.{Tell}
 use Rattle.merkle_wire.proofs.ExchangeKeys.{next_keys}
 use Rattle.merkle_wire.proofs.NextCovers.{exchanged, sides_met}
 use Rattle.merkle_wire.proofs.PageCovers.{AreSides}
+use Rattle.merkle_wire.proofs.PagesLacked.{TellsOwnPages}
 use Rattle.merkle_wire.proofs.TellingQuestions.{SameQuestion, question_tells}
 use Rattle.merkle_wire.proofs.SessionEnds.{leaves_less}
 use Rattle.merkle_wire.proofs.AskedNext.{next_steady}
@@ -96,6 +104,23 @@ module _ {K V H : Type 0} (laws : Laws K V H) (o : IsTotalOrder laws.cmp) (eqv :
     stops_for_memory is_key is_value error stopped root of_peer small steady told =
         memory_alone laws o eqv encoding values tell n local peer root (sides root of_peer small) (lengths small) is_key is_value (subst (CanBeTold laws is_key is_value) (sym same) told) digest_of before question reply error
         (subst (λ s. IsSteady laws s root before) (sym same) steady) alike replies stopped
+
+    -- and what it tells of pages is paid for
+    pub exchanged_pays : (one_digest : (format : PageFormat) (t u : Tree K (List ℕ)) → SamePages laws.cmp t u → page_digest format laws.bytes_of t ≡ page_digest format laws.bytes_of u) (is_there : Gap K → List ℕ → Bool) (tells : TellsOwnPages laws local is_there)
+        (next : Next K V) (takes : IsNext laws n encoding values local before reply next)
+        → WhileSteady laws n (side met) (λ root. PayFor laws (side met) root is_there (pages_taken laws n encoding values local before.asked reply before.found takes.0 takes.1 takes.2) (nodes_taken laws n encoding values local before.asked reply before.found takes.0 takes.1 takes.2) before next) before
+    exchanged_pays one_digest is_there tells next takes root of_peer small steady =
+        subst (λ s. PayFor laws s root is_there (pages_taken laws n encoding values local before.asked reply before.found takes.0 takes.1 takes.2) (nodes_taken laws n encoding values local before.asked reply before.found takes.0 takes.1 takes.2) before next) same
+        (exchange_pays laws o eqv encoding values tell n local peer root (sides root of_peer small) (lengths small) one_digest is_there tells digest_of before question reply next
+        (subst (λ s. IsSteady laws s root before) (sym same) steady) alike replies takes)
+
+    -- so are the values that it tells at keys
+    pub exchanged_pays_for_keys : (next : Next K V) (takes : IsNext laws n encoding values local before reply next) (root : Tree K (List ℕ)) → IsTreeOf laws.cmp (laws.key_digest met.tree.hasher) met.tree.base root (tree_map laws (side met)) → HasSmallMap laws n (side met)
+        → Wants laws local (side met) before.found → AsksLacked laws local (side met) before.asked → PayForKeys laws local (side met) root (keys_taken laws n encoding values local before.asked reply before.found takes.0 takes.1 takes.2) before next
+    exchanged_pays_for_keys next takes root of_peer small wants lacked =
+        subst (λ s. PayForKeys laws local s root (keys_taken laws n encoding values local before.asked reply before.found takes.0 takes.1 takes.2) before next) same
+        (exchange_pays_for_keys laws o eqv encoding values tell n local peer root (sides root of_peer small) (lengths small) digest_of before question reply next
+        (subst (λ s. Wants laws local s before.found) (sym same) wants) (subst (λ s. AsksLacked laws local s before.asked) (sym same) lacked) alike replies takes)
 
     pub comes : Comes laws n encoding values local (side met) before reply
     comes = record {

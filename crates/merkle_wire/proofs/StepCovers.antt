@@ -230,19 +230,19 @@ module _ {K V H : Type 0} (laws : Laws K V H) (o : IsTotalOrder laws.cmp) (eqv :
           let t = page l c (node h j x r) in
           absurd (none_hidden laws o eqv local peer root tree sides faith.faithful.same_pages k (d, there, lacks) t (subst (IsPageIn t) e (itself t)) own d
           (ap (λ (u : Tree K (List ℕ)). get laws.cmp (pairs u) k) e ∙ at_tree laws o eqv local peer root tree sides k ∙ there))
-      by (page l c (node h j x r)) e (inr (inl taken)) = subst (Among k) (sym taken) (inr (inr (inr (inl (any-append (IsInGap laws.cmp k) before.whole (everywhere ∷ []) (inr (inl (tt, tt))))))))
-      by (page l c (node h j x r)) e (inr (inr taken)) = subst (Among k) (sym taken) (inl (any-append (IsInGap laws.cmp k) before.below (everywhere ∷ []) (inr (inl (tt, tt)))))
+      by (page l c (node h j x r)) e (inr (lacks, inl taken)) = subst (Among k) (sym taken) (inr (inr (inr (inl (any-append (IsInGap laws.cmp k) before.whole (everywhere ∷ []) (inr (inl (tt, tt))))))))
+      by (page l c (node h j x r)) e (inr (lacks, inr taken)) = subst (Among k) (sym taken) (inl (any-append (IsInGap laws.cmp k) before.below (everywhere ∷ []) (inr (inl (tt, tt)))))
 
   -- what was found before still is, and the rows stay
   pub root_takes : (digest : Option (List ℕ)) (before after : Found K V) → IsRootTaken laws local digest before after
       → ((k : K) → Among k before → Among k after) × (after.rows ≡ before.rows)
   root_takes None before after taken = ((λ k a. subst (Among k) (sym taken) a), ap (λ f. f.rows) taken)
   root_takes (Some d) before after (inl (own, taken)) = ((λ k a. subst (Among k) (sym taken) a), ap (λ f. f.rows) taken)
-  root_takes (Some d) before after (inr (inl taken)) = (
+  root_takes (Some d) before after (inr (lacks, inl taken)) = (
     (λ k a. subst (Among k) (sym taken) (among-more laws o local peer root tree k before (record before { whole = before.whole ++ everywhere ∷ [] }) (λ b. b) (λ b. b) (λ b. b) (λ b. any-append (IsInGap laws.cmp k) before.whole (everywhere ∷ []) (inl b)) (λ b. b) a)),
     ap (λ f. f.rows) taken,
   )
-  root_takes (Some d) before after (inr (inr taken)) = (
+  root_takes (Some d) before after (inr (lacks, inr taken)) = (
     (λ k a. subst (Among k) (sym taken) (among-more laws o local peer root tree k before (record before { below = before.below ++ everywhere ∷ [] }) (λ b. any-append (IsInGap laws.cmp k) before.below (everywhere ∷ []) (inl b)) (λ b. b) (λ b. b) (λ b. b) (λ b. b) a)),
     ap (λ f. f.rows) taken,
   )

@@ -1,68 +1,58 @@
--- What is told of the first of what was asked for, entry by entry.
-use Rattle.std.proofs.Common.{◌≡◌, ℕ, ◌+◌, ◌<◌, ◌≤◌, List, [], ◌∷◌, ◌++◌, length, take, drop, get_or, map, refl, ap, sym, subst, ◌∙◌, arith}
+-- What is told of what was asked for, entry by entry.
+use Rattle.std.proofs.Common.{◌≡◌, ◌≢◌, ℕ, ◌+◌, ◌<◌, ◌≤◌, ◌⊎◌, inl, inr, List, [], ◌∷◌, ◌++◌, length, drop, get_or, map, refl, ap, sym, subst, ◌∙◌, arith}
 use Rattle.std.specs.List.{AllByRecursion, flat_map}
-use Rattle.std.proofs.lemmas.List.{append_assoc, append-nil, take_all, take_more, take-append-drop, map-append}
-use Rattle.std.proofs.lemmas.Grind.{flat_map-append}
-use Rattle.key_order.proofs.ListParts.{each-append}
-use Rattle.merkle_wire.specs.Replies.{Answers, EachFits, TellsWhatFits}
+use Rattle.std.proofs.lemmas.List.{append_assoc, append-nil, drop_all, drop_more}
+use Rattle.merkle_wire.specs.Replies.{Answers, IsFull, TellsWhatFits}
 
--- where entries fit, and one more behind them, so do all of these
-fits_more : {X : Type 0} (bytes : X → List ℕ) (Fits : List ℕ → X → Type 0) (begun : List ℕ) (ts : List X) (t : X)
-    → EachFits bytes Fits begun ts → Fits (begun ++ flat_map bytes ts) t → EachFits bytes Fits begun (ts ++ t ∷ [])
-fits_more bytes Fits begun [] t each fits = (subst (λ b. Fits b t) (append-nil begun) fits, tt)
-fits_more bytes Fits begun (u ∷ us) t each fits = (
-  each.0,
-  fits_more bytes Fits (begun ++ bytes u) us t each.1 (subst (λ b. Fits b t) (sym (append_assoc begun (bytes u) (flat_map bytes us))) fits),
-)
+module _ {X Y : Type 0} (P : X → Y → Type 0) (bytes : X × Y → List ℕ) (Fits : List ℕ → X × Y → Type 0) (most : ℕ) where
+  -- a reply that begins so tells of what was asked for what fits, and P holds of each entry
+  pub record IsTelling (asked : List X) (begun reply : List ℕ) : Type 0 where
+    pub fits : TellsWhatFits bytes Fits most asked begun reply
+    pub holds : AllByRecursion (λ t. P t.0 t.1) fits.told
 
-module _ {X Y : Type 0} (P : X → Y → Type 0) (bytes : X × Y → List ℕ) (Fits : List ℕ → X × Y → Type 0) (asked : List X) where
-  -- of the first entries something is told, behind what had begun
-  pub record IsTelling (begun : List ℕ) (done : ℕ) (now : List ℕ) : Type 0 where
-    pub told : List (X × Y)
-    pub of : map (λ t. t.0) told ≡ take done asked
-    pub each : AllByRecursion (λ t. P t.0 t.1) told
-    pub is : now ≡ begun ++ flat_map bytes told
-    pub fits : EachFits bytes Fits begun told
-
-  pub telling_none : (begun : List ℕ) → IsTelling begun 0 begun
-  telling_none begun = record { told = []; of = refl; each = tt; is = sym (append-nil begun); fits = tt }
-
-  pub telling_more : (begun old new : List ℕ) (i : ℕ) (x : X) (y : Y) → i < length asked → x ≡ get_or asked i x → IsTelling begun i old → P x y → new ≡ old ++ bytes (x, y) → Fits old (x, y) → IsTelling begun (i + 1) new
-  telling_more begun old new i x y low is t p put fit = record {
-    told = t.told ++ (x, y) ∷ [];
-    of = map-append (λ (t : X × Y). t.0) t.told ((x, y) ∷ []) ∙ ap (λ xs. xs ++ x ∷ []) t.of ∙ sym (take_more asked i x low ∙ ap (λ z. take i asked ++ z ∷ []) (sym is));
-    each = each-append (λ (t : X × Y). P t.0 t.1) t.told ((x, y) ∷ []) t.each (p, tt);
-    is = put ∙ ap (λ b. b ++ bytes (x, y)) t.is ∙ append_assoc begun (flat_map bytes t.told) (bytes (x, y))
-        ∙ ap (λ b. begun ++ b) (ap (λ b. flat_map bytes t.told ++ b) (sym (append-nil (bytes (x, y)))) ∙ sym (flat_map-append bytes t.told ((x, y) ∷ [])));
-    fits = fits_more bytes Fits begun t.told (x, y) t.fits (subst (λ b. Fits b (x, y)) t.is fit);
+  -- nothing more is told where there is nothing more, or where the reply is full
+  told_upto : (asked : List X) (begun : List ℕ) → (asked ≡ []) ⊎ IsFull most begun → IsTelling asked begun begun
+  told_upto asked begun ends = record {
+    fits = record { told = []; left = asked; begins = refl; is = sym (append-nil begun); each = tt; ends = ends };
+    holds = tt;
   }
 
-  -- what is told fits
-  pub telling_fits : (begun now : List ℕ) (i : ℕ) → IsTelling begun i now → TellsWhatFits bytes Fits begun now
-  telling_fits begun now i t = (t.told, t.is, t.fits)
+  told_more : (x : X) (y : Y) (xs : List X) (begun reply : List ℕ) → P x y → Fits begun (x, y) → IsTelling xs (begun ++ bytes (x, y)) reply → IsTelling (x ∷ xs) begun reply
+  told_more x y xs begun reply p fit t = record {
+    fits = record {
+      told = (x, y) ∷ t.fits.told;
+      left = t.fits.left;
+      begins = ap (λ z. x ∷ z) t.fits.begins;
+      is = t.fits.is ∙ append_assoc begun (bytes (x, y)) (flat_map bytes t.fits.told);
+      each = (fit, t.fits.each);
+      ends = t.fits.ends;
+    };
+    holds = (p, t.holds);
+  }
 
-  -- where more stands than had begun, something is told, and that answers
-  pub telling_ends : (begun now : List ℕ) (i : ℕ) → IsTelling begun i now → length begun < length now → (told : List (X × Y)) × (now ≡ begun ++ flat_map bytes told) × Answers P asked told
-  telling_ends begun now i t more = (
-    t.told,
-    t.is,
-    record {
-      left = drop i asked;
-      begins = sym (take-append-drop i asked) ∙ ap (λ xs. xs ++ drop i asked) (sym t.of);
-      some = λ asks none. absurd (omega (arith, more, ap length (t.is ∙ ap (λ ts. begun ++ flat_map bytes ts) none ∙ append-nil begun)));
-      each = t.each;
-    },
-  )
+  -- what is told of the entries from this one on continues what there is now
+  abbrev pub IsContinued : List X → List ℕ → ℕ → List ℕ → Type 0
+  IsContinued asked begun i now = (reply : List ℕ) → IsTelling (drop i asked) now reply → IsTelling asked begun reply
 
-  -- where something is told of all of them, that answers
-  pub telling_all : (begun now : List ℕ) (i : ℕ) → length asked ≤ i → IsTelling begun i now → (told : List (X × Y)) × (now ≡ begun ++ flat_map bytes told) × Answers P asked told
-  telling_all begun now i all t = (
-    t.told,
-    t.is,
-    record {
-      left = [];
-      begins = sym (t.of ∙ take_all i asked all) ∙ sym (append-nil (map (λ t. t.0) t.told));
-      some = λ asks none. asks (sym (ap (map (λ t. t.0)) (sym none) ∙ t.of ∙ take_all i asked all));
-      each = t.each;
-    },
-  )
+  pub continued_more : (asked : List X) (begun now new : List ℕ) (i : ℕ) (x : X) (y : Y) → i < length asked → x ≡ get_or asked i x → IsContinued asked begun i now → P x y → Fits now (x, y) → new ≡ now ++ bytes (x, y)
+      → IsContinued asked begun (i + 1) new
+  continued_more asked begun now new i x y low is on p fit put reply t =
+      on reply (subst (λ xs. IsTelling xs now reply) (sym (drop_more asked i x low ∙ ap (λ z. z ∷ drop (i + 1) asked) (sym is)))
+      (told_more x y (drop (i + 1) asked) now reply p fit (subst (λ b. IsTelling (drop (i + 1) asked) b reply) put t)))
+
+  pub continued_full : (asked : List X) (begun now : List ℕ) (i : ℕ) → IsContinued asked begun i now → IsFull most now → IsTelling asked begun now
+  continued_full asked begun now i on full = on now (told_upto (drop i asked) now (inr full))
+
+  pub continued_all : (asked : List X) (begun now : List ℕ) (i : ℕ) → IsContinued asked begun i now → length asked ≤ i → IsTelling asked begun now
+  continued_all asked begun now i on all = on now (told_upto (drop i asked) now (inl (drop_all i asked all)))
+
+  -- behind a front of two bytes that answers, since at least one entry is told
+  pub telling_answers : (asked : List X) (begun reply : List ℕ) → length begun ≡ 2 → IsTelling asked begun reply → (told : List (X × Y)) × Answers P asked told × (reply ≡ begun ++ flat_map bytes told)
+  telling_answers asked begun reply two t = (t.fits.told, record { left = t.fits.left; begins = t.fits.begins; some = some; each = t.holds }, t.fits.is)
+    where
+      some : asked ≢ [] → t.fits.told ≢ []
+      some asks none = by t.fits.ends
+        where
+          by : (t.fits.left ≡ []) ⊎ IsFull most reply → ⊥
+          by (inl nothing) = asks (t.fits.begins ∙ ap (λ ts. map (λ t. t.0) ts ++ t.fits.left) none ∙ nothing)
+          by (inr full) = absurd (omega (arith, full, two, ap length (t.fits.is ∙ ap (λ ts. begun ++ flat_map bytes ts) none ∙ append-nil begun)))

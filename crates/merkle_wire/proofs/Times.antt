@@ -21,6 +21,7 @@ use Rattle.merkle_tree_theory.proofs.InGaps.{after_low, before_low, in_gap-same,
 use Rattle.merkle_wire.specs.Coming.{AscendIn}
 use Rattle.merkle_wire.specs.Steady.{times_at, times_in, total}
 use Rattle.merkle_wire.specs.Taking.{AreNewGaps, IsNewGap}
+use Rattle.merkle_wire.proofs.TakenGaps.{IsGapOrNone, gap_or_none}
 
 module _ {X : Type 0} (times : X → ℕ) where
   pub total-append : (xs ys : List X) → total times (xs ++ ys) ≡ total times xs + total times ys
@@ -125,9 +126,12 @@ module _ {K : Type 0} (cmp : K → K → Ordering) (o : IsTotalOrder cmp) (k : K
 module _ {K V H : Type 0} (laws : Laws K V H) (o : IsTotalOrder laws.cmp) (local : Side K V H) (k : K) where
   new_gap_times : (g : Gap K) (page : Option (List ℕ)) (new : List (Gap K)) → IsNewGap laws local g page new → total (times_in laws.cmp k) new ≤ times_in laws.cmp k g
   new_gap_times g None new none = subst (λ hs. total (times_in laws.cmp k) hs ≤ times_in laws.cmp k g) (sym none) (omega arith)
-  new_gap_times g (Some d) [] is = omega arith
-  new_gap_times g (Some d) (own ∷ []) is = omega (arith, in-alike laws.cmp o k g own is.0)
-  new_gap_times g (Some d) (own ∷ other ∷ others) is = absurd is.0
+  new_gap_times g (Some d) new is = by new (gap_or_none laws local g d new is)
+    where
+      by : (new : List (Gap K)) → IsGapOrNone laws local g new → total (times_in laws.cmp k) new ≤ times_in laws.cmp k g
+      by [] one = omega arith
+      by (own ∷ []) one = omega (arith, in-alike laws.cmp o k g own one)
+      by (own ∷ other ∷ others) one = absurd one
 
   -- of the gaps into which keys part a gap, and the keys, it is in one or none
   pub new_gaps_times : (g : Gap K) (ks : List K) (pages : List (Option (List ℕ))) (new : List (Gap K)) → AreNewGaps laws local g ks pages new → AscendIn laws.cmp g ks

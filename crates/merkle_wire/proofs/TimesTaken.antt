@@ -18,10 +18,11 @@ use Rattle.merkle_wire.specs.Outlines.{Outline, rows_told, digests_told, page_to
 use Rattle.merkle_wire.specs.Replies.{Part}
 use Rattle.merkle_wire.specs.RowsAt.{AreRowsAt}
 use Rattle.merkle_wire.specs.Steady.{times_at, times_found, times_in, times_over, total}
-use Rattle.merkle_wire.specs.Taking.{AddsKeys, AddsRows, AreBehind, AreTaken, IsBehind, IsGapOrNone, IsRootTaken, IsTaken, has_digest, has_row, new_keys, new_rows, value_row}
+use Rattle.merkle_wire.specs.Taking.{AddsKeys, AddsRows, AreBehind, AreTaken, IsBehind, IsRootTaken, IsTaken, has_digest, has_row, new_keys, new_rows, value_row}
 use Rattle.merkle_wire.specs.declared.gaps.OwnedGap.{OwnedGap}
 use Rattle.merkle_wire.specs.declared.wanted.Wanted.{Wanted}
 use Rattle.merkle_wire.proofs.SameNodes.{keys_over-same}
+use Rattle.merkle_wire.proofs.TakenGaps.{IsGapOrNone, nodes_or_none}
 use Rattle.merkle_wire.proofs.TellingReplies.{SameOutline, SameRow}
 use Rattle.merkle_wire.proofs.Times.{ascend_and_behind, ascend_times, at-same, in-alike, new_gaps_times, total-append, total-filter, total-mapped, total-same}
 
@@ -91,8 +92,8 @@ module _ {K V H : Type 0} (laws : Laws K V H) (o : IsTotalOrder laws.cmp) (local
       omega (arith, rows_added before after rs taken, total-mapped at (λ r. r.0) rs, ascend_times laws.cmp o k g (map (λ r. r.0) rs) lies)
   one_times true g h (digests_told ns) y before after s same told lies taken =
       omega (arith, keys_added before after ns taken, ascend_times laws.cmp o k g (keys_among ns) lies.0)
-  one_times true g h (page_told c js ps) (page_told d ks qs) before after s same (with, is, are, beside) lies (gaps, nodes, new, one, few, taken) =
-      let own = own_times g h js nodes s (subst (SameKeys laws.cmp js) are same.1) one in
+  one_times true g h (page_told c js ps) (page_told d ks qs) before after s same (with, is, are, beside) lies (gaps, nodes, new, kept, taken) =
+      let own = own_times g h js nodes s (subst (SameKeys laws.cmp js) are same.1) (nodes_or_none laws local g js c nodes kept) in
       let parts = new_gaps_times laws o local k g js ps gaps new lies.1 in
       subst (λ f. found f ≤ found before + inside g) (sym taken) (omega (arith, total-append inside before.below gaps, total-append (times_over laws peer root k) before.nodes nodes, own, parts))
   one_times false g h (rows_told rs) (rows_told ss) before after s same (none, told) lies taken =
@@ -150,5 +151,5 @@ module _ {K V H : Type 0} (laws : Laws K V H) (o : IsTotalOrder laws.cmp) (local
   pub root_times : (digest : Option (List ℕ)) (before after : Found K V) → IsRootTaken laws local digest before after → found after ≤ found before + 1
   root_times None before after e = omega (arith, ap found e)
   root_times (Some d) before after (inl (own, e)) = omega (arith, ap found e)
-  root_times (Some d) before after (inr (inl e)) = subst (λ f. found f ≤ found before + 1) (sym e) (omega (arith, total-append inside before.whole (everywhere ∷ [])))
-  root_times (Some d) before after (inr (inr e)) = subst (λ f. found f ≤ found before + 1) (sym e) (omega (arith, total-append inside before.below (everywhere ∷ [])))
+  root_times (Some d) before after (inr (lacks, inl e)) = subst (λ f. found f ≤ found before + 1) (sym e) (omega (arith, total-append inside before.whole (everywhere ∷ [])))
+  root_times (Some d) before after (inr (lacks, inr e)) = subst (λ f. found f ≤ found before + 1) (sym e) (omega (arith, total-append inside before.below (everywhere ∷ [])))

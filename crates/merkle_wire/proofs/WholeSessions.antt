@@ -3,14 +3,18 @@ use Rattle.std.proofs.Common.{◌≡◌, ℕ, true, List, [], ◌∷◌, length,
 use Rattle.std.proofs.lemmas.List.{length-map}
 use Rattle.std.specs.Cmp.{IsTotalOrder, IsEquivalence}
 use Rattle.std.specs.List.{AllByRecursion, flat_map}
+use Rattle.std.specs.declared.cmp.Ordering.{Ordering}
 use Rattle.key_order.specs.Map.{IsMap, SameMap, get}
-use Rattle.key_order.proofs.ListParts.{join_tells}
+use Rattle.key_order.proofs.ListParts.{each-behind, join_tells}
 use Rattle.merkle_replica.specs.Contents.{Contents, Side, side, tree_map, IsKept}
 use Rattle.merkle_replica.specs.Faithful.{HasSmallMap}
 use Rattle.merkle_replica.specs.Laws.{Laws}
 use Rattle.merkle_replica.proofs.Rounds.{contents_of}
 use Rattle.merkle_tree_theory.specs.Canonical.{IsTreeOf, SamePages}
-use Rattle.merkle_tree_theory.specs.Tree.{Tree}
+use Rattle.merkle_tree_theory.specs.Page.{nodes_of, row_nodes, pairs, row_pairs, held_pairs}
+use Rattle.merkle_tree_theory.specs.Ranges.{IsPageOf}
+use Rattle.merkle_tree_theory.specs.Tree.{Tree, page, Row, high, node, Node}
+use Rattle.merkle_tree_theory.proofs.PagesIn.{pairs_down, inside}
 use Rattle.merkle_wire.specs.Sessions.{HaveFaithfulNodes, NoNodesCollide, AreBrought, Covers, CoversNext, IsExchange, AreExchanges, IsSession}
 use Rattle.merkle_wire.specs.Underway.{Underway}
 use Rattle.merkle_wire.specs.declared.catching_up.Next.{Next}
@@ -58,18 +62,36 @@ digests_tell n (x ∷ ds) (y ∷ es) a b c e =
     let rest = digests_tell n ds es a.1 b.1 (omega (arith, c)) more in
     (λ i. first i ∷ rest i)
 
+-- what holds of all digests of a map holds of those of an equal map
+each_of : {K : Type 0} (cmp : K → K → Ordering) (P : List ℕ → Type 0) (ps qs : List (K × List ℕ)) → SameMap cmp (λ d e. d ≡ e) ps qs → AllByRecursion (λ p. P p.1) qs → AllByRecursion (λ p. P p.1) ps
+each_of cmp P [] [] s a = tt
+each_of cmp P [] (q ∷ qs) s a = absurd s
+each_of cmp P (p ∷ ps) [] s a = absurd s
+each_of cmp P (p ∷ ps) (q ∷ qs) s a = (subst P (sym s.1) a.0, each_of cmp P ps qs s.2 a.1)
+
+-- and of those of the nodes of a row
+each_node : {K : Type 0} (P : List ℕ → Type 0) (r : Row K (List ℕ)) → AllByRecursion (λ p. P p.1) (row_pairs r) → AllByRecursion P (map (λ n. n.digest) (row_nodes r))
+each_node P (high h) a = tt
+each_node P (node h k d r) a = let (here, rest) = each-behind (λ p. P p.1) (held_pairs h) ((k, d) ∷ row_pairs r) a in (here, each_node P r rest)
+
 module _ {K V H : Type 0} (laws : Laws K V H) (o : IsTotalOrder laws.cmp) (n : ℕ) where
-  lengths : (s : Side K V H) → HasSmallMap laws n s → (keys : List K) (ds : List (List ℕ)) → map (get laws.cmp (tree_map laws s)) keys ≡ map Some ds → AllByRecursion (λ d. length d ≡ n) ds
-  lengths s small keys [] e = tt
+  lengths : (s : Side K V H) → HasSmallMap laws n s → (nodes : List (Node K (List ℕ))) (ds : List (List ℕ)) → map (λ m. get laws.cmp (tree_map laws s) m.key) nodes ≡ map Some ds → AllByRecursion (λ d. length d ≡ n) ds
+  lengths s small nodes [] e = tt
   lengths s small [] (d ∷ ds) e = absurd (cc)
-  lengths s small (k ∷ ks) (d ∷ ds) e =
-      let here : get laws.cmp (tree_map laws s) k ≡ Some d = cc in
-      let rest : map (get laws.cmp (tree_map laws s)) ks ≡ map Some ds = cc in
-      (found_each laws.cmp o (λ x. length x ≡ n) (tree_map laws s) k d small.digests here, lengths s small ks ds rest)
+  lengths s small (m ∷ ms) (d ∷ ds) e =
+      let here : get laws.cmp (tree_map laws s) m.key ≡ Some d = cc in
+      let rest : map (λ m. get laws.cmp (tree_map laws s) m.key) ms ≡ map Some ds = cc in
+      (found_each laws.cmp o (λ x. length x ≡ n) (tree_map laws s) m.key d small.digests here, lengths s small ms ds rest)
+
+  -- the digests of the nodes of a page have n bytes
+  page_lengths : (s : Side K V H) → HasSmallMap laws n s → (p : Tree K (List ℕ)) → IsPageOf laws.cmp (laws.key_digest s.hasher) s.base p (tree_map laws s) → AllByRecursion (λ d. length d ≡ n) (map (λ m. m.digest) (nodes_of p))
+  page_lengths s small (page l c r) (t, is_tree, in_t) =
+      each_node (λ d. length d ≡ n) r (inside (pairs_down (λ p. length p.1 ≡ n)) (page l c r) t (each_of laws.cmp (λ d. length d ≡ n) (pairs t) (tree_map laws s) is_tree.1 small.digests) in_t)
 
   -- where no nodes collide, their digests are faithful
   pub faithful_nodes : (a b : Side K V H) → HasSmallMap laws n a → HasSmallMap laws n b → NoNodesCollide laws a b → HaveFaithfulNodes laws a b
-  faithful_nodes a b small small' none keys ds es own theirs same =
-      digests_tell n ds es (lengths a small keys ds own) (lengths b small' keys es theirs)
-      (sym (length-map ds Some) ∙ sym (ap length own) ∙ length-map keys (get laws.cmp (tree_map laws a)) ∙ sym (length-map keys (get laws.cmp (tree_map laws b))) ∙ ap length theirs ∙ length-map es Some)
-      (none keys ds es own theirs same)
+  faithful_nodes a b small small' none ds es one =
+      let nodes = nodes_of one.page in
+      digests_tell n ds es (lengths a small nodes ds one.own) (subst (AllByRecursion (λ e. length e ≡ n)) one.theirs (page_lengths b small' one.page one.of_peer))
+      (sym (length-map ds Some) ∙ sym (ap length one.own) ∙ length-map nodes (λ m. get laws.cmp (tree_map laws a) m.key) ∙ sym (length-map nodes (λ m. m.digest)) ∙ ap length one.theirs)
+      (none ds es one)

@@ -16,6 +16,7 @@ pub mod Underway
 pub mod Next
 pub mod Sessions
 pub mod Steady
+pub mod Cost
 pub mod Faults
 pub mod Steps
 pub mod Told

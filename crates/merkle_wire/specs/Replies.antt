@@ -1,5 +1,5 @@
 -- Replies, as bytes. Each begins to answer a list of what was asked for, and says something of the first of it or of all.
-use Rattle.std.specs.Prelude.{◌≡◌, ◌≢◌, ℕ, ◌+◌, ◌<◌, max, List, [], ◌∷◌, ◌++◌, length, map, flat_map, take, Bool, true, false, cond, Option, Some, None, ⊤}
+use Rattle.std.specs.Prelude.{◌≡◌, ◌≢◌, ℕ, ◌+◌, ◌<◌, ◌≤◌, max, List, [], ◌∷◌, ◌++◌, length, map, flat_map, take, Bool, true, false, cond, Option, Some, None, ⊤, ◌⊎◌}
 use Rattle.std.specs.Global.{Vec}
 use Rattle.std.specs.List.{AllByRecursion}
 use Rattle.std.specs.declared.cmp.Ordering.{Ordering}
@@ -37,13 +37,22 @@ abbrev pub EachFits : {X : Type 0} → (X → List ℕ) → (List ℕ → X → 
 EachFits bytes Fits begun [] = ⊤
 EachFits bytes Fits begun (t ∷ ts) = Fits begun t × EachFits bytes Fits (begun ++ bytes t) ts
 
--- a reply that begins so tells entries by these bytes, each of which fits
-abbrev pub TellsWhatFits : {X : Type 0} → (X → List ℕ) → (List ℕ → X → Type 0) → List ℕ → List ℕ → Type 0
-TellsWhatFits {X} bytes Fits begun reply = (told : List X) × (reply ≡ begun ++ flat_map bytes told) × EachFits bytes Fits begun told
-
 -- behind these bytes of a reply there is room for an entry: they are fewer than so many, or the two of the front
 abbrev pub HasRoom : ℕ → List ℕ → Type 0
 HasRoom most bytes = length bytes < max most 3
+
+-- behind these there is none
+abbrev pub IsFull : ℕ → List ℕ → Type 0
+IsFull most bytes = max most 3 ≤ length bytes
+
+-- a reply that begins so tells all of what was asked for, or the first of it up to the entry with which the reply is full, and each entry fits
+pub record TellsWhatFits {X Y : Type 0} (bytes : X × Y → List ℕ) (Fits : List ℕ → X × Y → Type 0) (most : ℕ) (asked : List X) (begun reply : List ℕ) : Type 0 where
+  pub told : List (X × Y)
+  pub left : List X
+  pub begins : asked ≡ map (λ t. t.0) told ++ left
+  pub is : reply ≡ begun ++ flat_map bytes told
+  pub each : EachFits bytes Fits begun told
+  pub ends : (left ≡ []) ⊎ IsFull most reply
 
 -- the rows in a gap that are told: the first of them, and whether they are all
 pub record Part (K V : Type 0) : Type 0 where
@@ -77,10 +86,14 @@ module _ {K V : Type 0} (encoding : K → List ℕ) (values : V → List ℕ) wh
   abbrev pub parts_bytes : List (OwnedGap K × Part K V) → List ℕ
   parts_bytes = flat_map part_in_bytes
 
-  -- behind these bytes there is room for each row of a part but the first
+  -- how many bytes stand before a part and in these rows of it; its count and its flag don't count
+  abbrev pub length_with_rows : List ℕ → OwnedGap K → List (K × V) → ℕ
+  length_with_rows bytes gap rows = length bytes + length (rows_bytes (bound_key encoding [] gap.after) rows)
+
+  -- a part has all rows, or ends with the row by which there are so many bytes, which leaves no room for another part
   abbrev pub RowsFit : ℕ → List ℕ → OwnedGap K × Part K V → Type 0
-  RowsFit most bytes t = (i : ℕ) → i ≢ 0 → i < length t.1.rows
-      → length bytes + length (rows_bytes (bound_key encoding [] t.0.after) (take i t.1.rows)) < most
+  RowsFit most bytes t = ((i : ℕ) → i ≢ 0 → i < length t.1.rows → length_with_rows bytes t.0 (take i t.1.rows) < most)
+      × ((t.1.whole ≡ true) ⊎ (most ≤ length_with_rows bytes t.0 t.1.rows))
 
 -- values, each where there is one
 abbrev pub value_at_bytes : {K V : Type 0} → (V → List ℕ) → Wanted K × Option V → List ℕ
@@ -89,27 +102,28 @@ value_at_bytes values t = option_bytes values t.1
 abbrev pub values_bytes : {K V : Type 0} → (V → List ℕ) → List (Wanted K × Option V) → List ℕ
 values_bytes values = flat_map (value_at_bytes values)
 
--- a reply that begins so tells values, and ends with the one by which it has so many bytes
-abbrev pub ValuesFit : (K : Type 0) {V : Type 0} → (V → List ℕ) → ℕ → List ℕ → List ℕ → Type 0
-ValuesFit K values most = TellsWhatFits (value_at_bytes {K = K} values) (λ bytes t. HasRoom most bytes)
+-- a reply that begins so tells the values at all keys, or at the first up to that by which it has so many bytes
+abbrev pub ValuesFit : {K V : Type 0} → (V → List ℕ) → ℕ → List (Wanted K) → List ℕ → List ℕ → Type 0
+ValuesFit values most = TellsWhatFits (value_at_bytes values) (λ bytes t. HasRoom most bytes) most
 
 module _ {K V : Type 0} (encoding : K → List ℕ) (values : V → List ℕ) where
-  -- so does one that tells outlines, or parts, and of a part it ends with the row by which it has so many bytes
-  abbrev pub OutlinesFit : ℕ → List ℕ → List ℕ → Type 0
-  OutlinesFit most = TellsWhatFits (outline_over_bytes encoding values) (λ bytes t. HasRoom most bytes)
+  -- it tells the outlines over all gaps, or over the first up to that by which it has so many bytes
+  abbrev pub OutlinesFit : ℕ → List (OwnedGap K) → List ℕ → List ℕ → Type 0
+  OutlinesFit most = TellsWhatFits (outline_over_bytes encoding values) (λ bytes t. HasRoom most bytes) most
 
-  abbrev pub PartsFit : ℕ → List ℕ → List ℕ → Type 0
-  PartsFit most = TellsWhatFits (part_in_bytes encoding values) (λ bytes t. HasRoom most bytes × RowsFit encoding values most bytes t)
+  -- it tells the rows in all gaps, or in the first, and of the rows in a gap all, or the first, up to that by which it has so many bytes
+  abbrev pub PartsFit : ℕ → List (OwnedGap K) → List ℕ → List ℕ → Type 0
+  PartsFit most = TellsWhatFits (part_in_bytes encoding values) (λ bytes t. HasRoom most bytes × RowsFit encoding values most bytes t) most
 
-  -- the reply to a question ends so
+  -- the reply to a question tells all that it asks for, or the first of it up to that by which it has so many bytes
   abbrev pub EndsWithin : ℕ → Question K → List ℕ → Type 0
   EndsWithin most (Root settings) reply = ⊤
-  EndsWithin most (Outlines n gaps) reply = OutlinesFit most (front outlines_kind) reply
-  EndsWithin most (Nodes n gaps) reply = OutlinesFit most (front nodes_kind) reply
-  EndsWithin most (RowsAt keys) reply = ValuesFit K values most (front rows_at_kind) reply
-  EndsWithin most (RowsIn gaps) reply = PartsFit most (front rows_in_kind) reply
+  EndsWithin most (Outlines n gaps) reply = OutlinesFit most gaps.items (front outlines_kind) reply
+  EndsWithin most (Nodes n gaps) reply = OutlinesFit most gaps.items (front nodes_kind) reply
+  EndsWithin most (RowsAt keys) reply = ValuesFit values most keys.items (front rows_at_kind) reply
+  EndsWithin most (RowsIn gaps) reply = PartsFit most gaps.items (front rows_in_kind) reply
 
-  -- the message asks a question, and the reply to it ends so
+  -- the message asks a question, and the reply to it tells so much
   abbrev pub IsAnsweredWithin : ℕ → List ℕ → Vec ℕ → Type 0
   IsAnsweredWithin most message reply = (question : Question K) × (message ≡ question_bytes encoding question) × EndsWithin most question reply.items
 
@@ -161,6 +175,14 @@ module _ {K V H : Type 0} (laws : Laws K V H) (n : ℕ) (encoding : K → List �
   IsAnsweredBy old new message reply = (question : Question K) × (message ≡ question_bytes encoding question) × IsReplyBy old.rows new.tree question reply
 
 module _ {K V H : Type 0} (laws : Laws K V H) (n : ℕ) where
+  -- where the question is for the root, its settings are those of the tree
+  abbrev pub TellsSettings : State K H → Question K → Type 0
+  TellsSettings tree (Root settings) = AreSettingsOf (laws.key_digest tree.hasher) n tree settings
+  TellsSettings tree (Outlines most gaps) = ⊤
+  TellsSettings tree (Nodes most gaps) = ⊤
+  TellsSettings tree (RowsAt keys) = ⊤
+  TellsSettings tree (RowsIn gaps) = ⊤
+
   -- the question is for the root, with settings that are not those of the tree
   abbrev pub TellsOthers : State K H → Question K → Type 0
   TellsOthers tree (Root settings) = ¬ AreSettingsOf (laws.key_digest tree.hasher) n tree settings

@@ -5,7 +5,6 @@ use Rattle.std.specs.List.{AllByRecursion}
 use Rattle.key_order.specs.Join.{IsJoin}
 use Rattle.key_order.specs.Order.{AnyByRecursion, Same}
 use Rattle.key_order.specs.Map.{IsMap, get}
-use Rattle.merkle_replica.specs.Agreeing.{GiveOneDigest}
 use Rattle.merkle_replica.specs.CatchUp.{IsCatchUp, IsCatchUpOf, IsLacked}
 use Rattle.merkle_replica.specs.Contents.{Contents, Side, side, with_rows, tree_map}
 use Rattle.merkle_replica.specs.Faithful.{AreSetAlike, HasSmallMap, IsCollisionFree, IsFaithful}
@@ -14,6 +13,8 @@ use Rattle.merkle_replica.specs.Pulls.{HoldTheJoin}
 use Rattle.merkle_tree_theory.specs.Canonical.{IsTreeOf}
 use Rattle.merkle_tree_theory.specs.Gap.{Gap, IsInGap}
 use Rattle.merkle_tree_theory.specs.Outline.{outline_over}
+use Rattle.merkle_tree_theory.specs.Page.{nodes_of}
+use Rattle.merkle_tree_theory.specs.Ranges.{IsPageOf}
 use Rattle.merkle_tree_theory.specs.State.{State}
 use Rattle.merkle_tree_theory.specs.Tree.{Tree}
 use Rattle.merkle_tree_theory.specs.declared.page_format.PageFormat.TheVariants.{V2}
@@ -63,22 +64,33 @@ module _ {K V H : Type 0} (laws : Laws K V H) (local peer : Side K V H) where
   IsEarly (Session error) = ⊤
   IsEarly (Join done) = ⊥
 
-  -- where both sides have all of some keys, and the digest of the digests of their values is equal on both, these digests are equal
-  abbrev pub HaveFaithfulNodes : Type 0
-  HaveFaithfulNodes = (keys : List K) (ds es : List (List ℕ)) → map (get laws.cmp (tree_map laws local)) keys ≡ map Some ds → map (get laws.cmp (tree_map laws peer)) keys ≡ map Some es
-      → digest_of_all ds ≡ digest_of_all es → ds ≡ es
+  -- local has the keys of the nodes of a page of the peer's tree, with the digests ds of values, and the peer has es there; and the digest of these
+  -- digests is equal on both
+  pub record HaveOneNodesDigest (ds es : List (List ℕ)) : Type 0 where
+    pub page : Tree K (List ℕ)
+    pub of_peer : IsPageOf laws.cmp (laws.key_digest peer.hasher) peer.base page (tree_map laws peer)
+    pub own : map (λ n. get laws.cmp (tree_map laws local) n.key) (nodes_of page) ≡ map Some ds
+    pub theirs : map (λ n. n.digest) (nodes_of page) ≡ es
+    pub same : digest_of_all ds ≡ digest_of_all es
 
-  -- digests are faithful: those of pages and of values, those of the nodes of a page, and both sides give each value one digest
+  -- where the digest of the nodes of a page of the peer is equal on both sides, the digests of the values are
+  abbrev pub HaveFaithfulNodes : Type 0
+  HaveFaithfulNodes = (ds es : List (List ℕ)) → HaveOneNodesDigest ds es → ds ≡ es
+
+  -- both sides give each value of the peer's rows one digest
+  abbrev pub DigestTheirValuesAlike : Type 0
+  DigestTheirValuesAlike = (k : K) (v : V) → get laws.cmp peer.rows k ≡ Some v → laws.value_digest local.hasher v ≡ laws.value_digest peer.hasher v
+
+  -- digests are faithful: those of pages and of values, those of the nodes of a page, and both sides digest the peer's values alike
   pub record IsFaithfulSession : Type 0 where
     pub faithful : IsFaithful laws local peer
     pub nodes : HaveFaithfulNodes
-    pub values : GiveOneDigest laws local peer
+    pub values : DigestTheirValuesAlike
 
-  -- no two lists of the digests of values collide: where both sides have all of some keys, and the digest of the digests of their values is equal on
-  -- both, these digests, one behind the other, are the same bytes
+  -- the nodes of no page of the peer collide: where their digest is equal on both sides, the digests of the values, one behind the other, are the
+  -- same bytes
   abbrev pub NoNodesCollide : Type 0
-  NoNodesCollide = (keys : List K) (ds es : List (List ℕ)) → map (get laws.cmp (tree_map laws local)) keys ≡ map Some ds → map (get laws.cmp (tree_map laws peer)) keys ≡ map Some es
-      → digest_of_all ds ≡ digest_of_all es → flat_map (λ d. d) ds ≡ flat_map (λ e. e) es
+  NoNodesCollide = (ds es : List (List ℕ)) → HaveOneNodesDigest ds es → flat_map (λ d. d) ds ≡ flat_map (λ e. e) es
 
   -- the row is one of the peer's: an equal key, with an equal value
   abbrev pub IsRowOfPeer : K × V → Type 0
@@ -232,5 +244,5 @@ module _ {K V H : Type 0} (laws : Laws K V H) where
 
   -- in page format 2 digests are faithful in a session of two sides that are set alike, where nothing collides
   abbrev pub NoCollisionIsFaithful : ℕ → Type 0
-  NoCollisionIsFaithful n = (a b : Side K V H) → AreSetAlike laws a b → GiveOneDigest laws a b → a.format ≡ V2
+  NoCollisionIsFaithful n = (a b : Side K V H) → AreSetAlike laws a b → DigestTheirValuesAlike laws a b → a.format ≡ V2
       → IsCollisionFree laws n a b → NoNodesCollide laws a b → IsFaithfulSession laws a b

@@ -1,12 +1,16 @@
 -- What the asking side makes of what came, by what it has itself.
-use Rattle.std.specs.Prelude.{◌≡◌, ℕ, List, [], ◌∷◌, ◌++◌, map, Bool, true, false, not, nat_eq, Option, Some, None, ⊤, ◌⊎◌}
+use Rattle.std.specs.Prelude.{◌≡◌, ℕ, List, [], ◌∷◌, ◌++◌, map, Bool, true, false, not, nat_eq, Option, Some, None, ◌⊎◌}
 use Rattle.std.specs.List.{filter}
 use Rattle.std.specs.Cmp.Lexicographic.{pointwise}
 use Rattle.key_order.specs.Map.{get, last_key}
 use Rattle.merkle_replica.specs.Contents.{Side, tree_map}
 use Rattle.merkle_replica.specs.Descent.{HasPage}
 use Rattle.merkle_replica.specs.Laws.{Laws}
+use Rattle.merkle_tree_theory.specs.Canonical.{IsTreeOf}
 use Rattle.merkle_tree_theory.specs.Gap.{Gap, SameGap, everywhere, part_before, part_behind}
+use Rattle.merkle_tree_theory.specs.Lookup.{Fills}
+use Rattle.merkle_tree_theory.specs.Stream.{page_digest}
+use Rattle.merkle_tree_theory.specs.Tree.{Tree}
 use Rattle.merkle_wire.specs.Found.{Found}
 use Rattle.merkle_wire.specs.Gaps.{owned_gap}
 use Rattle.merkle_wire.specs.Outlines.{Outline, rows_told, digests_told, page_told, digest_of_all}
@@ -57,23 +61,36 @@ module _ {K V H : Type 0} (laws : Laws K V H) (local : Side K V H) where
   abbrev pub HasNodes : List K → List ℕ → Type 0
   HasNodes keys digest = (ds : List (List ℕ)) × (map (get laws.cmp (tree_map laws local)) keys ≡ map Some ds) × (digest_of_all ds ≡ digest)
 
-  -- a gap, up to equal keys, or none
-  abbrev pub IsGapOrNone : Gap K → List (Gap K) → Type 0
-  IsGapOrNone gap [] = ⊤
-  IsGapOrNone gap (own ∷ []) = SameGap laws.cmp gap own
-  IsGapOrNone gap (own ∷ other ∷ others) = ⊥
+  -- a page of its tree fills the gap, and has this digest
+  abbrev pub HasPageAt : Gap K → List ℕ → Type 0
+  HasPageAt gap digest = (root : Tree K (List ℕ)) × (page : Tree K (List ℕ))
+      × IsTreeOf laws.cmp (laws.key_digest local.hasher) local.base root (tree_map laws local)
+      × Fills laws.cmp gap page root × (page_digest local.format laws.bytes_of page ≡ digest)
 
-  -- the digest of the peer's root page is taken: nothing is added where there is none or the side has a page with it, else the gap of all keys is
+  -- the gap alone, up to equal keys
+  abbrev pub IsOneGap : Gap K → List (Gap K) → Type 0
+  IsOneGap gap [] = ⊥
+  IsOneGap gap (own ∷ []) = SameGap laws.cmp gap own
+  IsOneGap gap (own ∷ other ∷ others) = ⊥
+
+  -- the digest of the peer's root page is taken: nothing is added where there is none, or the side has a page with it, and the gap of all keys is
+  -- where its own root page hasn't this digest
   abbrev pub IsRootTaken : Option (List ℕ) → Found K V → Found K V → Type 0
   IsRootTaken None before after = after ≡ before
   IsRootTaken (Some digest) before after =
       (HasPage laws local digest × (after ≡ before))
-      ⊎ ((after ≡ record before { whole = before.whole ++ everywhere ∷ [] }) ⊎ (after ≡ record before { below = before.below ++ everywhere ∷ [] }))
+      ⊎ ((¬ HasPageAt everywhere digest)
+      × ((after ≡ record before { whole = before.whole ++ everywhere ∷ [] }) ⊎ (after ≡ record before { below = before.below ++ everywhere ∷ [] })))
 
-  -- `new` is the gap where a page with this digest fills it, unless the side has a page with the digest
+  -- a page with this digest fills the gap: `new` is none where the side has a page with the digest, and the gap where its own page that fills the gap
+  -- hasn't the digest
   abbrev pub IsNewGap : Gap K → Option (List ℕ) → List (Gap K) → Type 0
   IsNewGap gap None new = new ≡ []
-  IsNewGap gap (Some d) new = IsGapOrNone gap new × (new ≡ [] → HasPage laws local d)
+  IsNewGap gap (Some d) new = ((new ≡ []) × HasPage laws local d) ⊎ (IsOneGap gap new × ¬ HasPageAt gap d)
+
+  -- nodes with this digest are those of the page over the gap: `new` is none where the side has all of them, and else the gap
+  abbrev pub AreNewNodes : Gap K → List K → List ℕ → List (Gap K) → Type 0
+  AreNewNodes gap keys digest new = ((new ≡ []) × HasNodes keys digest) ⊎ (IsOneGap gap new × ¬ HasNodes keys digest)
 
   -- `new` are such gaps of those into which the keys part a gap, by the digests of the pages that fill them
   abbrev pub AreNewGaps : Gap K → List K → List (Option (List ℕ)) → List (Gap K) → Type 0
@@ -89,7 +106,7 @@ module _ {K V H : Type 0} (laws : Laws K V H) (local : Side K V H) where
   IsTaken gap (rows_told rows) before after = AddsRows rows before after
   IsTaken gap (digests_told nodes) before after = AddsKeys nodes before after
   IsTaken gap (page_told digest keys pages) before after =
-      (gaps : List (Gap K)) × (nodes : List (Gap K)) × AreNewGaps gap keys pages gaps × IsGapOrNone gap nodes × (nodes ≡ [] → HasNodes keys digest)
+      (gaps : List (Gap K)) × (nodes : List (Gap K)) × AreNewGaps gap keys pages gaps × AreNewNodes gap keys digest nodes
       × (after ≡ record before { below = before.below ++ gaps; nodes = before.nodes ++ nodes })
 
   -- so was what was told of the pages over several gaps

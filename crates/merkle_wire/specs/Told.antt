@@ -11,12 +11,15 @@ use Rattle.merkle_bytes.specs.Runs.{bound_key}
 use Rattle.merkle_replica.specs.Contents.{Contents}
 use Rattle.merkle_search_tree.specs.Items.{items}
 use Rattle.merkle_search_tree.specs.declared.outline.OutlineItemOf.{OutlineItemOf}
+use Rattle.merkle_wire.specs.Messages.{front}
 use Rattle.merkle_wire.specs.Nodes.{node_pairs}
 use Rattle.merkle_wire.specs.Outlines.{Outline, rows_told, AreNodes, IsTold, outline_bytes, keys_told, keys_among}
 use Rattle.merkle_wire.specs.Outlines.{nodes_digest, pages_beside, pages_bytes}
 use Rattle.merkle_wire.specs.Replies.{Answers, IsPartOf, Part, RowsFit, items_over, outlines_bytes, part_bytes, parts_bytes, rows_bytes, values_bytes}
 use Rattle.merkle_wire.specs.RowsAt.{AreRowsAt, HasRowAt}
 use Rattle.merkle_wire.specs.declared.gaps.OwnedGap.{OwnedGap}
+use Rattle.merkle_wire.specs.declared.message.Kind.{Kind}
+use Rattle.merkle_wire.specs.declared.message.Kind.TheVariants.{RowsAt as rows_at_kind, RowsIn as rows_in_kind}
 use Rattle.merkle_wire.specs.declared.outlines.Telling.{Telling}
 use Rattle.merkle_wire.specs.declared.wanted.Wanted.{Wanted}
 
@@ -77,20 +80,20 @@ module _ {K V : Type 0} (cmp : K → K → Ordering) (encoding : K → List ℕ)
       × AddsBytes old (part_bytes encoding values (bound_key encoding [] gap.after) part) new
       × RowsFit encoding values most old.items (gap, part)
 
-  -- so are the rows in the first of the gaps
-  abbrev pub TellsParts : List (OwnedGap K) → Vec ℕ → Vec ℕ → Type 0
-  TellsParts gaps old new = (told : List (OwnedGap K × Part K V)) × AddsBytes old (parts_bytes encoding values told) new
-      × Answers (IsPartOf cmp rows) gaps told
+  -- so are the rows in the first of the gaps, behind the front
+  abbrev pub TellsParts : List (OwnedGap K) → Vec ℕ → Type 0
+  TellsParts gaps reply = (told : List (OwnedGap K × Part K V)) × Answers (IsPartOf cmp rows) gaps told
+      × (reply.items ≡ front rows_in_kind ++ parts_bytes encoding values told)
 
 module _ {K V : Type 0} (cmp : K → K → Ordering) (values : V → List ℕ) (rows : List (K × V)) where
   -- the value at a key is written, where there is one
   abbrev pub TellsValue : K → Vec ℕ → Vec ℕ → Type 0
   TellsValue key old new = AddsBytes old (option_bytes values (get cmp rows key)) new
 
-  -- so are the values at the first of the keys
-  abbrev pub TellsValues : List (Wanted K) → Vec ℕ → Vec ℕ → Type 0
-  TellsValues keys old new = (told : List (Wanted K × Option V)) × AddsBytes old (values_bytes values told) new
-      × Answers (λ wanted value. value ≡ get cmp rows wanted.key) keys told
+  -- so are the values at the first of the keys, behind the front
+  abbrev pub TellsValues : List (Wanted K) → Vec ℕ → Type 0
+  TellsValues keys reply = (told : List (Wanted K × Option V)) × Answers (λ wanted value. value ≡ get cmp rows wanted.key) keys told
+      × (reply.items ≡ front rows_at_kind ++ values_bytes values told)
 
 module _ {K V H : Type 0} (cmp : K → K → Ordering) (bytes_of encoding : K → List ℕ) (values : V → List ℕ) (replica : Contents K V H)
     (telling : Telling) where
@@ -99,7 +102,7 @@ module _ {K V H : Type 0} (cmp : K → K → Ordering) (bytes_of encoding : K �
   TellsPage gap old new = (told : Outline K V) × IsTold cmp replica.rows telling.with_pages (items_over cmp bytes_of replica.tree gap) told
       × AddsBytes old (outline_bytes encoding values (bound_key encoding [] gap.after) told) new
 
-  -- so is what is told of the pages over the first of the gaps
-  abbrev pub TellsPages : List (OwnedGap K) → Vec ℕ → Vec ℕ → Type 0
-  TellsPages gaps old new = (told : List (OwnedGap K × Outline K V)) × AddsBytes old (outlines_bytes encoding values told) new
-      × Answers (λ g. IsTold cmp replica.rows telling.with_pages (items_over cmp bytes_of replica.tree g)) gaps told
+  -- so is what is told of the pages over the first of the gaps, behind the front of this kind
+  abbrev pub TellsPages : Kind → List (OwnedGap K) → Vec ℕ → Type 0
+  TellsPages kind gaps reply = (told : List (OwnedGap K × Outline K V)) × Answers (λ g. IsTold cmp replica.rows telling.with_pages (items_over cmp bytes_of replica.tree g)) gaps told
+      × (reply.items ≡ front kind ++ outlines_bytes encoding values told)

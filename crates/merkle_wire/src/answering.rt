@@ -1,11 +1,11 @@
 //! The answering side: a reply to a message, with nothing kept between messages.
-ghost use Rattle.std.specs.Prelude.{◌≡◌, IsSome, IfOk, IfErr, Some};
+ghost use Rattle.std.specs.Prelude.{◌≡◌, false, IsSome, IsTrue, IfOk, IfErr, Some};
 ghost use Rattle.std.specs.Option.{option_map};
 ghost use Rattle.merkle_tree_theory.specs.State.{SameSettings};
 ghost use Rattle.merkle_wire.specs.Faults.{IsUnread, answer_error_text};
 ghost use Rattle.merkle_wire.specs.Questions.{AsksNothing};
 ghost use Rattle.merkle_wire.specs.Replies.{EndsWithin, IsAnsweredBy, IsAnsweredWithin, RefusesOthers, RefusesQuestionOfOthers, Replies};
-ghost use Rattle.merkle_wire.specs.Replies.{root_bytes, root_page_digest};
+ghost use Rattle.merkle_wire.specs.Replies.{TellsOthers, TellsSettings, root_bytes, root_page_digest};
 
 use crate::message::{Kind, begin};
 use crate::outlines::{Telling, tell_pages};
@@ -21,7 +21,7 @@ use merkle_search_tree::OutlineItem;
 use std::alloc::{AllocError, AllocFailed, Global};
 use std::fmt;
 
-/// How many bytes a reply of [`answer`] has at which it ends: 64 MiB.
+/// How many bytes a reply of [`answer`] has at which it ends, if it can't tell all before: 64 MiB.
 pub const MOST_BYTES: usize = 67_108_864;
 
 /// Why a message has no reply. The asking side is to be sent a [`refusal`](crate::refusal).
@@ -108,8 +108,9 @@ pub fn answer<K: Key + Decode, V: Join + Encode + Drop, H: RowHasher<N, K, V>, c
     answer_within(alloc, replica, message, MOST_BYTES)
 }
 
-/// The reply to a message, which ends with the entry by which it has so many bytes, and of the rows in a gap with the row, and has at least one. So
-/// it may answer the first of what is asked for, and the asking side asks for the rest. The replica keeps its rows; pages that lack a digest get it.
+/// The reply to a message: all that is asked for, or the first entries, one at least, up to that by which it has so many bytes. Of the rows in a gap it
+/// tells all, or the first, one at least, up to that by which it has so many bytes, and then nothing more. The asking side asks for the rest. The
+/// replica keeps its rows; pages that lack a digest get it.
 ///
 /// # Errors
 ///
@@ -150,21 +151,50 @@ fn reply_to<K: Key + Decode, V: Join + Encode + Drop, H: RowHasher<N, K, V>, con
     ensures read { IfErr result (λ error. ¬ IsUnread error) }
     ensures others { IfErr result (RefusesQuestionOfOthers H.laws N replica.now.tree question.now) }
 {
+    if !tells_settings(replica, question) {
+        return Err(AnswerError::OtherSettings);
+    }
+    Ok(tell(alloc, replica, question, most_bytes)?)
+}
+
+/// Whether a question tells the settings of the replica, where it tells any.
+fn tells_settings<K: Key, V: Join, H: RowHasher<N, K, V>, const N: usize>(
+    replica: &Replica<K, V, H, N>,
+    question: &Question<K>,
+) -> bool
+    ensures own { IsTrue result → TellsSettings H.laws N replica.now.tree question.now }
+    ensures others { result ≡ false → TellsOthers H.laws N replica.now.tree question.now }
+{
     match question {
-        Question::Root(settings) => {
-            if !agree(replica, settings) {
-                return Err(AnswerError::OtherSettings);
-            }
-            Ok(root_reply(alloc, replica)?)
-        }
+        Question::Root(settings) => agree(replica, settings),
+        Question::Outlines(_, _) => true,
+        Question::Nodes(_, _) => true,
+        Question::RowsAt(_) => true,
+        Question::RowsIn(_) => true,
+    }
+}
+
+/// What the question asks for.
+fn tell<K: Key + Decode, V: Join + Encode + Drop, H: RowHasher<N, K, V>, const N: usize>(
+    alloc: Global,
+    replica: &Replica<K, V, H, N>,
+    question: &Question<K>,
+    most_bytes: usize,
+) -> Result<Vec<u8>, AllocError>
+    requires hashed { IsSome replica.now.tree.root_hash }
+    requires settings { TellsSettings H.laws N replica.now.tree question.now }
+    ensures reply { IfOk result (Replies H.laws N K.encoding V.encoding replica.now question.now) }
+    ensures within { IfOk result (λ reply. EndsWithin K.encoding V.encoding most_bytes question.now reply.items) }
+{
+    match question {
+        Question::Root(_) => root_reply(alloc, replica),
         Question::Outlines(most, gaps) => {
             let telling = Telling {
                 with_pages: true,
                 most: *most,
                 most_bytes,
             };
-            let begun = begin(alloc, Kind::Outlines)?;
-            Ok(tell_pages(replica, telling, gaps, begun)?)
+            tell_pages(replica, Kind::Outlines, telling, gaps)
         }
         Question::Nodes(most, gaps) => {
             let telling = Telling {
@@ -172,17 +202,10 @@ fn reply_to<K: Key + Decode, V: Join + Encode + Drop, H: RowHasher<N, K, V>, con
                 most: *most,
                 most_bytes,
             };
-            let begun = begin(alloc, Kind::Nodes)?;
-            Ok(tell_pages(replica, telling, gaps, begun)?)
+            tell_pages(replica, Kind::Nodes, telling, gaps)
         }
-        Question::RowsAt(keys) => {
-            let begun = begin(alloc, Kind::RowsAt)?;
-            Ok(tell_values(replica, most_bytes, keys, begun)?)
-        }
-        Question::RowsIn(gaps) => {
-            let begun = begin(alloc, Kind::RowsIn)?;
-            Ok(tell_rows(alloc, replica.rows(), most_bytes, gaps, begun)?)
-        }
+        Question::RowsAt(keys) => tell_values(replica, most_bytes, keys),
+        Question::RowsIn(gaps) => tell_rows(alloc, replica.rows(), most_bytes, gaps),
     }
 }
 

@@ -1,5 +1,5 @@
 //! The asking side: what to ask next, and the rows that came in the end.
-ghost use Rattle.std.specs.Prelude.{◌≡◌, ◌≤◌, IfOk, IfErr, OnOk};
+ghost use Rattle.std.specs.Prelude.{◌≡◌, ◌≤◌, IsSome, IfOk, IfErr, OnOk};
 ghost use Rattle.merkle_replica.specs.Contents.{side};
 ghost use Rattle.merkle_tree_theory.specs.State.{SameSettings};
 ghost use Rattle.merkle_wire.specs.Asking.{AsksForOutlines};
@@ -23,6 +23,7 @@ use crate::question::{Question, encode_question};
 use crate::replies::{expect, take_outlines, take_parts, take_values};
 use crate::session_error::SessionError;
 use crate::settings::settings_of;
+use crate::sifting::has_page;
 use crate::within::rows_ascend;
 use crate::work::Work;
 use merkle_bytes::{Decode, Reader};
@@ -130,6 +131,10 @@ impl<K: Key + Decode, V: Join + Decode> CatchingUp<K, V> {
     /// Takes a reply: what this side doesn't have of what came is added to what was found, and the next question is made of that, or the rows
     /// are handed out where nothing is left to ask. The replica keeps its rows; pages that lack a digest get it.
     ///
+    /// A page that the peer tells by its digest is asked for where this side's own page that fills the same gap hasn't that digest, and is spared
+    /// only where this side has a page with it. The nodes of a page are asked for where, by their one digest, this side hasn't all of them, and
+    /// nowhere else.
+    ///
     /// It looks up each key and each page that came, down one path of the tree, and takes memory in proportion to the bytes that came.
     ///
     /// # Errors
@@ -177,6 +182,7 @@ fn take_reply<K: Key + Decode, V: Join + Decode, H: RowHasher<N, K, V>, const N:
     reply: &[u8],
     work: &mut Work<K, V>,
 ) -> Result<Option<Question<K>>, SessionError>
+    requires { IsSome replica.now.tree.root_hash }
     ensures taken { IfOk result (HasTaken H.laws N K.encoding V.encoding (side replica.now) asked
         reply.now work.old work.new) }
     ensures refused { IfErr result (RefusesReply K.cmp K.is_value V.is_value K.encoding V.encoding N asked reply.now) }
@@ -224,6 +230,7 @@ fn take_root<K: Key + Decode, V: Join + Decode, H: RowHasher<N, K, V>, const N: 
     reply: &[u8],
     work: &mut Work<K, V>,
 ) -> Result<(), SessionError>
+    requires { IsSome replica.now.tree.root_hash }
     ensures taken { OnOk result (TakesRoot H.laws replica.now reply.now work.old work.new) }
     ensures refused { IfErr result (IsRefusedFor (SaysNot root_kind SaysRoot reply.now)) }
 {
@@ -231,7 +238,7 @@ fn take_root<K: Key + Decode, V: Join + Decode, H: RowHasher<N, K, V>, const N: 
     let Some(digest) = digest else {
         return Ok(());
     };
-    if replica.has_page(&Gap::everywhere(), &digest) {
+    if has_page(replica, &Gap::everywhere(), &digest) {
         return Ok(());
     }
     if has_few(replica.rows().len() as u64, rows) {

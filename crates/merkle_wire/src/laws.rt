@@ -1,5 +1,6 @@
 //! Laws over the definitions alone: that a session of messages is a catch-up, whatever carries the messages, that one with an honest peer
-//! ends, and when digests are faithful in one. Each function has no effect and takes no memory.
+//! ends, and what it costs, and when digests are faithful in one. Each function has no effect and takes no memory.
+ghost use Rattle.merkle_wire.specs.Cost.{LackedKeysAreTold, LackedPagesAreTold, OwnPagesAreKnown};
 ghost use Rattle.merkle_wire.specs.Sessions.{BroughtRowsCatchUp, BroughtRowsJoin, NoCollisionIsFaithful, SessionsBring};
 ghost use Rattle.merkle_wire.specs.Steady.{AnswersAreTaken, SessionsEnd};
 
@@ -7,7 +8,7 @@ use merkle_bytes::Decode;
 use merkle_digest::{Key, KeyBytesExact};
 use merkle_replica::laws::no_collision_is_enough;
 use merkle_replica::{Join, RowHasher};
-use merkle_search_tree::laws::a_map_has_one_tree;
+use merkle_search_tree::laws::{a_map_has_one_tree, equal_pages_have_equal_maps};
 
 /// A session of messages is a catch-up, whatever carries the messages: where the first of them asks for the root, each is answered as
 /// [`answer`](crate::answer) does, and each reply taken as [`CatchingUp::take`](crate::CatchingUp::take) does, until rows come. These ascend, each is one
@@ -44,8 +45,27 @@ pub fn an_honest_session_ends<
     a_map_has_one_tree::<K, H, N>();
 }
 
+/// A session with an honest peer costs what the side lacks, whatever carries the messages. Outlines tell no more pages of the peer than this side hasn't
+/// at their places, and the nodes of no more come alone (`pages`). A page is there where this side's own page that fills the same gap has its
+/// digest, which a test decides (`known`); those below one that is there don't count. Values are told at no more keys than this side lacks of the
+/// peer's, or has with another digest (`keys`). A page that is told and has none below it comes with all of its nodes, as rows or digests,
+/// and where this side asks for all rows in gaps, it says nothing of these.
+pub fn a_session_costs_what_is_lacked<
+    K: Key + Decode,
+    V: Join + Decode,
+    H: RowHasher<N, K, V>,
+    const N: usize,
+>()
+    ensures pages { LackedPagesAreTold H.laws N K.encoding V.encoding }
+    ensures keys { LackedKeysAreTold H.laws N K.encoding V.encoding }
+    ensures known { OwnPagesAreKnown H.laws }
+{
+    a_map_has_one_tree::<K, H, N>();
+    equal_pages_have_equal_maps::<K>();
+}
+
 /// In page format 2, where the bytes of a key tell it from every other, it is premise enough for faithful digests in a session that no streams
-/// of pages, no values and no nodes of pages collide. It holds of any two sides that are alike: one digest a key and a value, one level base.
+/// of pages, no values and no nodes of pages collide. It holds of any two sides that are set alike and digest the peer's values alike.
 pub fn no_collision_makes_a_session_faithful<
     K: Ord + KeyBytesExact,
     V: Join,

@@ -1,13 +1,14 @@
 //! What the answering side tells of pages.
-ghost use Rattle.std.specs.Prelude.{◌≡◌, ◌<◌, true, false, IfOk, OnOk, IsSome, IsTrue, length, None};
+ghost use Rattle.std.specs.Prelude.{◌≡◌, true, false, IfOk, OnOk, IsSome, IsTrue, None};
 ghost use Rattle.merkle_bytes.specs.Encodings.{AddsBytes};
 ghost use Rattle.merkle_search_tree.specs.Items.{items};
 ghost use Rattle.merkle_wire.specs.Messages.{front};
 ghost use Rattle.merkle_wire.specs.Outlines.{HasNoPage, pages_beside, pages_bytes};
-ghost use Rattle.merkle_wire.specs.Replies.{HasRoom, OutlinesFit, items_over};
+ghost use Rattle.merkle_wire.specs.Replies.{HasRoom, IsFull, OutlinesFit, items_over};
 ghost use Rattle.merkle_wire.specs.Told.{TellsItems, TellsPage, TellsPages, page_bytes};
 
 use crate::gaps::OwnedGap;
+use crate::message::{Kind, begin};
 use crate::nodes::{NodeRef, encode_keys, nodes_digest, nodes_of, write_nodes};
 use crate::pages::encode_page;
 use merkle_bytes::{Decode, Encode, KeyRun};
@@ -30,7 +31,7 @@ pub(crate) struct Telling {
     pub(crate) most_bytes: usize,
 }
 
-/// Adds what is told of the pages over the gaps to a message, one behind the other, as far as the bytes suffice.
+/// A message of this kind that tells of the pages over the gaps, one behind the other, as far as the bytes suffice.
 pub(crate) fn tell_pages<
     K: Key + Encode + Drop,
     V: Join + Encode + Drop,
@@ -38,16 +39,15 @@ pub(crate) fn tell_pages<
     const N: usize,
 >(
     replica: &Replica<K, V, H, N>,
+    kind: Kind,
     telling: Telling,
     gaps: &[OwnedGap<K>],
-    begun: Vec<u8>,
 ) -> Result<Vec<u8>, AllocError>
     requires hashed { IsSome replica.now.tree.root_hash }
-    requires front { length begun.items ≡ 2 }
-    ensures told { IfOk result (TellsPages K.cmp K.bytes_of K.encoding V.encoding replica.now telling gaps.now begun) }
-    ensures fits { IfOk result (λ bytes. OutlinesFit K.encoding V.encoding telling.most_bytes begun.items bytes.items) }
+    ensures told { IfOk result (TellsPages K.cmp K.bytes_of K.encoding V.encoding replica.now telling kind gaps.now) }
+    ensures fits { IfOk result (λ reply. OutlinesFit K.encoding V.encoding telling.most_bytes gaps.now (front kind) reply.items) }
 {
-    let mut bytes = begun;
+    let mut bytes = begin(replica.alloc(), kind)?;
     'gaps: for gap in gaps {
         if is_full(&bytes, telling.most_bytes) {
             return Ok(bytes);
@@ -59,7 +59,7 @@ pub(crate) fn tell_pages<
 
 /// Whether a message that has an entry has as many bytes as it may have.
 pub(crate) fn is_full(bytes: &[u8], most: usize) -> bool
-    ensures some { IsTrue result → 2 < length bytes.now }
+    ensures full { IsTrue result → IsFull most bytes.now }
     ensures room { result ≡ false → HasRoom most bytes.now }
 {
     bytes.len() > FRONT && bytes.len() >= most

@@ -1,5 +1,5 @@
 //! Replies that came, read entry by entry: each answers the first of what was asked for, or all of it.
-ghost use Rattle.std.specs.Prelude.{◌≡◌, ◌≢◌, ◌++◌, [], length, IfOk, IfErr, OnOk};
+ghost use Rattle.std.specs.Prelude.{◌≡◌, ◌≢◌, ◌++◌, [], length, IsSome, IfOk, IfErr, OnOk};
 ghost use Rattle.merkle_bytes.specs.Reading.{Reads};
 ghost use Rattle.merkle_wire.specs.Faults.{IsRefusedFor};
 ghost use Rattle.merkle_wire.specs.Messages.{front};
@@ -62,6 +62,7 @@ pub(crate) fn take_outlines<
     reply: &[u8],
     work: &mut Work<K, V>,
 ) -> Result<Vec<OwnedGap<K>>, SessionError>
+    requires { IsSome replica.now.tree.root_hash }
     ensures taken { IfOk result (TakesOutlines H.laws N K.encoding V.encoding replica.now kind gaps
         reply.now work.old work.new) }
     ensures refused { IfErr result (RefusesOutlines K.cmp K.is_value V.is_value K.encoding V.encoding N with_pages kind gaps reply.now) }
@@ -81,6 +82,7 @@ fn take_first_outlines<K: Key + Decode, V: Join + Decode, H: RowHasher<N, K, V>,
     gaps: &[OwnedGap<K>],
     work: &mut Work<K, V>,
 ) -> Result<usize, SessionError>
+    requires { IsSome replica.now.tree.root_hash }
     ensures taken { IfOk result (TakesOutlinesOf H.laws N K.encoding V.encoding replica.now gaps.now
         reader.old reader.new work.old work.new) }
     ensures all { IfOk result (λ count. reader.new.left.now ≢ [] → count ≡ length gaps.now) }

@@ -1,8 +1,10 @@
 //! The values of a replica at keys.
-ghost use Rattle.std.specs.Prelude.{◌≡◌, IfOk, OnOk, length};
+ghost use Rattle.std.specs.Prelude.{IfOk, OnOk};
+ghost use Rattle.merkle_wire.specs.Messages.{front};
 ghost use Rattle.merkle_wire.specs.Replies.{ValuesFit};
 ghost use Rattle.merkle_wire.specs.Told.{TellsValue, TellsValues};
 
+use crate::message::{Kind, begin};
 use crate::outlines::is_full;
 use crate::wanted::Wanted;
 use merkle_bytes::Encode;
@@ -10,7 +12,7 @@ use merkle_digest::{Hasher, Key};
 use merkle_replica::{Join, Replica};
 use std::alloc::AllocError;
 
-/// Adds the values at the keys to a message, one behind the other, as far as the bytes suffice.
+/// A message that tells the values at the keys, one behind the other, as far as the bytes suffice.
 pub(crate) fn tell_values<
     K: Key + Drop,
     V: Join + Encode + Drop,
@@ -20,13 +22,11 @@ pub(crate) fn tell_values<
     replica: &Replica<K, V, H, N>,
     most_bytes: usize,
     keys: &[Wanted<K>],
-    begun: Vec<u8>,
 ) -> Result<Vec<u8>, AllocError>
-    requires { length begun.items ≡ 2 }
-    ensures told { IfOk result (TellsValues K.cmp V.encoding replica.now.rows keys.now begun) }
-    ensures fits { IfOk result (λ bytes. ValuesFit K V.encoding most_bytes begun.items bytes.items) }
+    ensures told { IfOk result (TellsValues K.cmp V.encoding replica.now.rows keys.now) }
+    ensures fits { IfOk result (λ reply. ValuesFit V.encoding most_bytes keys.now (front Kind.RowsAt) reply.items) }
 {
-    let mut bytes = begun;
+    let mut bytes = begin(replica.alloc(), Kind::RowsAt)?;
     'keys: for wanted in keys {
         if is_full(&bytes, most_bytes) {
             return Ok(bytes);

@@ -1,31 +1,31 @@
 //! The rows of a map in gaps.
-ghost use Rattle.std.specs.Prelude.{◌≡◌, ◌≢◌, ◌≤◌, true, false, cond, not, length, take, drop, [], IfOk, OnOk};
+ghost use Rattle.std.specs.Prelude.{◌≡◌, ◌≢◌, ◌≤◌, ◌⊎◌, true, false, cond, not, length, take, drop, [], IfOk, OnOk};
 ghost use Rattle.std.specs.List.{AllByRecursion};
 ghost use Rattle.key_order.specs.Map.{IsMap};
 ghost use Rattle.merkle_tree_theory.specs.Gap.{is_after, is_before, pairs_within};
 ghost use Rattle.merkle_wire.specs.Gaps.{owned_gap};
+ghost use Rattle.merkle_wire.specs.Messages.{front};
 ghost use Rattle.merkle_wire.specs.Replies.{PartsFit};
 ghost use Rattle.merkle_wire.specs.Told.{AddsFirst, LeavesRoom, TellsPart, TellsParts};
 
 use crate::gaps::OwnedGap;
+use crate::message::{Kind, begin};
 use crate::outlines::is_full;
 use merkle_bytes::{Encode, EncodeInRun, KeyRun, encode_count};
 use std::alloc::{AllocError, Global};
 
-/// Adds the rows in the gaps to a message, one gap behind the other, as far as the bytes suffice.
+/// A message that tells the rows in the gaps, one gap behind the other, as far as the bytes suffice.
 pub(crate) fn tell_rows<K: Ord + Encode, V: Encode>(
     alloc: Global,
     rows: &[(K, V)],
     most_bytes: usize,
     gaps: &[OwnedGap<K>],
-    begun: Vec<u8>,
 ) -> Result<Vec<u8>, AllocError>
-    requires ascending { IsMap K.cmp rows.now }
-    requires front { length begun.items ≡ 2 }
-    ensures told { IfOk result (TellsParts K.cmp K.encoding V.encoding rows.now gaps.now begun) }
-    ensures fits { IfOk result (λ bytes. PartsFit K.encoding V.encoding most_bytes begun.items bytes.items) }
+    requires { IsMap K.cmp rows.now }
+    ensures told { IfOk result (TellsParts K.cmp K.encoding V.encoding rows.now gaps.now) }
+    ensures fits { IfOk result (λ reply. PartsFit K.encoding V.encoding most_bytes gaps.now (front Kind.RowsIn) reply.items) }
 {
-    let mut bytes = begun;
+    let mut bytes = begin(alloc, Kind::RowsIn)?;
     'gaps: for gap in gaps {
         if is_full(&bytes, most_bytes) {
             return Ok(bytes);
@@ -76,6 +76,7 @@ fn encode_first<K: Encode, V: Encode>(
     ensures some { IfOk result (λ count. rows.now ≢ [] → count ≢ 0) }
     ensures written { IfOk result (AddsFirst K.encoding V.encoding run.old rows.now bytes.old bytes.new) }
     ensures room { IfOk result (LeavesRoom K.encoding V.encoding run.old rows.now room bytes.old) }
+    ensures ends { IfOk result (λ count. (count ≡ length rows.now) ⊎ (room ≤ length bytes.new.items)) }
 {
     let mut count = 0;
     'rows: for row in rows {

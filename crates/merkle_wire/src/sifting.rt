@@ -1,12 +1,19 @@
 //! What a side has of what came.
-ghost use Rattle.std.specs.Prelude.{◌≡◌, IsTrue};
+ghost use Rattle.std.specs.Prelude.{◌≡◌, false, IsSome, IsTrue};
 ghost use Rattle.merkle_replica.specs.Contents.{side};
+ghost use Rattle.merkle_replica.specs.Descent.{HasPage};
+ghost use Rattle.merkle_search_tree.specs.Items.{gap_of};
 ghost use Rattle.merkle_wire.specs.Steps.{HasNodesAt};
-ghost use Rattle.merkle_wire.specs.Taking.{has_digest, has_row};
+ghost use Rattle.merkle_wire.specs.Taking.{HasPageAt, has_digest, has_row};
 
 use crate::wanted::Wanted;
-use merkle_digest::{Key, Sip24};
+use merkle_digest::{Key, PageDigest, Sip24};
+use merkle_replica::laws::a_replica_has_the_tree_of_its_rows;
 use merkle_replica::{Join, Replica, RowHasher};
+use merkle_search_tree::Gap;
+use merkle_search_tree::laws::{
+    a_map_has_one_tree, equal_pages_have_equal_maps, every_tree_is_sound,
+};
 
 /// Whether the key is there with this digest of its value.
 pub(crate) fn has_digest<K: Key + Drop, V: Join + Drop, H: RowHasher<N, K, V>, const N: usize>(
@@ -40,7 +47,8 @@ pub(crate) fn has_nodes<K: Key + Drop, V: Join + Drop, H: RowHasher<N, K, V>, co
     keys: &[Wanted<K>],
     digest: &[u8; 16],
 ) -> bool
-    ensures { IsTrue result → HasNodesAt H.laws replica.now keys.now digest.now }
+    ensures there { IsTrue result → HasNodesAt H.laws replica.now keys.now digest.now }
+    ensures lacked { result ≡ false → ¬ HasNodesAt H.laws replica.now keys.now digest.now }
 {
     let mut sip = Sip24::new();
     'keys: for wanted in keys {
@@ -50,4 +58,21 @@ pub(crate) fn has_nodes<K: Key + Drop, V: Join + Drop, H: RowHasher<N, K, V>, co
         }
     }
     sip.finish128() == *digest
+}
+
+/// Whether the page over the gap has this digest, where the tree is hashed.
+pub(crate) fn has_page<K: Key + Drop, V: Join + Drop, H: RowHasher<N, K, V>, const N: usize>(
+    replica: &Replica<K, V, H, N>,
+    gap: &Gap<'_, K>,
+    digest: &PageDigest,
+) -> bool
+    requires { IsSome replica.now.tree.root_hash }
+    ensures there { IsTrue result → HasPage H.laws (side replica.now) digest.now }
+    ensures lacked { result ≡ false → ¬ HasPageAt H.laws (side replica.now) (gap_of gap.now) digest.now }
+{
+    every_tree_is_sound(replica.tree());
+    a_replica_has_the_tree_of_its_rows(replica);
+    a_map_has_one_tree::<K, H, N>();
+    equal_pages_have_equal_maps::<K>();
+    replica.tree().has_page(gap, digest)
 }

@@ -1,5 +1,5 @@
 //! What came of pages, rows and values, read and compared with what this side has.
-ghost use Rattle.std.specs.Prelude.{◌≡◌, [], length, ◌+◌, OnOk, IfErr};
+ghost use Rattle.std.specs.Prelude.{◌≡◌, [], length, ◌+◌, IsSome, OnOk, IfErr};
 ghost use Rattle.merkle_replica.specs.Contents.{side};
 ghost use Rattle.merkle_wire.specs.Faults.{IsRefusedFor};
 ghost use Rattle.merkle_wire.specs.Gaps.{between};
@@ -12,7 +12,7 @@ ghost use Rattle.merkle_wire.specs.Unfit.{NoDigests, NoPage, NoPageDigest, NoPag
 use crate::gaps::OwnedGap;
 use crate::pages::decode_page;
 use crate::session_error::SessionError;
-use crate::sifting::{has_digest, has_nodes, has_value};
+use crate::sifting::{has_digest, has_nodes, has_page, has_value};
 use crate::wanted::Wanted;
 use crate::within::{keys_lie_in, rows_lie_in};
 use crate::work::Work;
@@ -35,6 +35,7 @@ pub(crate) fn take_outline<
     gap: &OwnedGap<K>,
     work: &mut Work<K, V>,
 ) -> Result<(), SessionError>
+    requires { IsSome replica.now.tree.root_hash }
     ensures taken { OnOk result (TakesOutline H.laws N K.encoding V.encoding replica.now gap.now
         reader.old reader.new work.old work.new) }
     ensures refused { IfErr result (RefusesOutline K.cmp K.is_value V.is_value K.encoding V.encoding N with_pages gap.now reader.old) }
@@ -139,6 +140,7 @@ fn take_page<K: Key + Decode, V: Join + Drop, H: RowHasher<N, K, V>, const N: us
     run: &mut KeyRun,
     work: &mut Work<K, V>,
 ) -> Result<(), SessionError>
+    requires { IsSome replica.now.tree.root_hash }
     ensures taken { OnOk result (TakesPage H.laws N K.encoding replica.now run.old gap.now
         reader.old reader.new work.old work.new) }
     ensures refused { IfErr result (IsRefusedFor (NoPage K.cmp K.is_value K.encoding run.old gap.now reader.old.left.now)) }
@@ -171,6 +173,7 @@ fn take_pages<K: Key + Decode, V: Join + Drop, H: RowHasher<N, K, V>, const N: u
     keys: &[Wanted<K>],
     work: &mut Work<K, V>,
 ) -> Result<(), SessionError>
+    requires { IsSome replica.now.tree.root_hash }
     ensures taken { OnOk result (TakesPages H.laws replica.now gap.now keys.now reader.old reader.new work.old work.new) }
     ensures refused { IfErr result (IsRefusedFor (NoPageDigests (length keys.now + 1) reader.old.left.now)) }
 {
@@ -191,6 +194,7 @@ fn take_below<K: Key + Drop, V: Join + Drop, H: RowHasher<N, K, V>, const N: usi
     before: Option<&K>,
     work: &mut Work<K, V>,
 ) -> Result<(), SessionError>
+    requires { IsSome replica.now.tree.root_hash }
     ensures taken { OnOk result (TakesBelow H.laws replica.now (between after.entry before.entry)
         reader.old reader.new work.old work.new) }
     ensures refused { IfErr result (IsRefusedFor (NoPageDigest reader.old.left.now)) }
@@ -199,7 +203,7 @@ fn take_below<K: Key + Drop, V: Join + Drop, H: RowHasher<N, K, V>, const N: usi
         return Ok(());
     };
     let gap = Gap { after, before };
-    if replica.has_page(&gap, &digest) {
+    if has_page(replica, &gap, &digest) {
         return Ok(());
     }
     let own = OwnedGap::between(gap.after, gap.before)?;

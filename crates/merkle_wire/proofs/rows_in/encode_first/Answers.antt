@@ -45,3 +45,9 @@ returns-then-len-room-clause-room g c i some below = c.rows.invariant.3 i some (
 
 pub returns-clause-room : goal.returns-clause-room
 returns-clause-room g c i some below = c.rows.invariant.3 i some (omega (arith, below, c.rows.invariant.0))
+
+pub returns-then-len-room-clause-ends : goal.returns-then-len-room-clause-ends
+returns-then-len-room-clause-ends g c = inr (omega arith)
+
+pub returns-clause-ends : goal.returns-clause-ends
+returns-clause-ends g c = inl (omega (arith, c.rows.invariant.0))

@@ -1,4 +1,4 @@
-use Rattle.std.proofs.Common.{◌++◌, ◌∷◌, [], ℕ, List, Some, map, take, refl, ap, ap₂, sym, subst, ◌∙◌, append-nil}
+use Rattle.std.proofs.Common.{◌≡◌, ◌++◌, ◌∷◌, [], ℕ, zero, suc, ◌<◌, true, false, List, length, Option, Some, None, map, take, get_or, arith, refl, ap, ap₂, sym, subst, ◌∙◌, append-nil}
 use Rattle.std.proofs.lemmas.List.{take_all, map-append}
 use Rattle.std.proofs.lemmas.Grind.{flat_map-append}
 use Rattle.std.specs.Cmp.Lexicographic.{bytes_decides}
@@ -8,6 +8,7 @@ use Rattle.merkle_digest.specs.SipHash.{zero_key}
 use Rattle.merkle_digest.specs.Sip24.{Holds}
 use Rattle.merkle_replica.specs.Contents.{side, tree_map}
 use Rattle.merkle_replica.proofs.SideLaws.{laws_of}
+use Rattle.merkle_wire.specs.Outlines.{digest_of_all}
 use Rattle.merkle_wire.proofs.ItemsMore.{map_more}
 use Rattle.merkle_wire.proofs.sifting.has_nodes.Goals as goal
 
@@ -28,11 +29,50 @@ keys-preserved g c =
           (c.write.ensures zero_key (flat_map (λ d. d) ds) c.keys.invariant.2),
     )
 
-pub returns : goal.returns
-returns g c = rw g.met.H.RowHasher.laws_are (λ t.
+-- what is made of each, where one is of nothing, isn't what there is
+none_at : {X A B : Type 0} (f : A → Option B) (h : X → A) (xs : List X) (i : ℕ) (x : X) → i < length xs → x ≡ get_or xs i x → f (h x) ≡ None → (ds : List B) → map f (map h xs) ≡ map Some ds → ⊥
+none_at f h [] i x low is none ds e = absurd (omega (arith, low))
+none_at f h (y ∷ ys) i x low is none [] e = absurd (cc)
+none_at f h (y ∷ ys) zero x low is none (d ∷ ds) e =
+    let first : f (h y) ≡ Some d = cc in
+    let never : None ≡ Some d = sym none ∙ ap (λ z. f (h z)) is ∙ first in
+    absurd (cc)
+none_at f h (y ∷ ys) (suc i) x low is none (d ∷ ds) e =
+    let rest : map f (map h ys) ≡ map Some ds = cc in
+    none_at f h ys i x (omega (arith, low)) is none ds rest
+
+-- what there is is one list
+one_list : {B : Type 0} (ds es : List B) → map Some ds ≡ map Some es → ds ≡ es
+one_list [] [] e = refl
+one_list [] (y ∷ es) e = absurd (cc)
+one_list (x ∷ ds) [] e = absurd (cc)
+one_list (x ∷ ds) (y ∷ es) e =
+    let first : x ≡ y = cc in
+    let rest = one_list ds es (cc) in
+    (λ i. first i ∷ rest i)
+
+pub returns-in-None-clause-lacked : goal.returns-in-None-clause-lacked
+returns-in-None-clause-lacked g c = rw g.met.H.RowHasher.laws_are (λ e (ds, own, is).
+    let laws = laws_of g.K.Ord.cmp g.K.KeyBytes.bytes_of g.H.Hasher-1.digest_of g.V.PartialEq.eq g.V.Join.join_of g.H.Hasher-2.digest_of in
+    none_at (get g.K.Ord.cmp (tree_map laws (side c.args.replica.now))) (λ w. w.key) c.args.keys.now c.keys.wanted-index c.wanted-item.result c.keys-test.true c.wanted-item.is
+    (sym (rw g.met.H.RowHasher.laws_are at c.in-None.ensures)) ds own)
+
+pub returns-clause-there : goal.returns-clause-there
+returns-clause-there g c = rw g.met.H.RowHasher.laws_are (λ t.
     let laws = laws_of g.K.Ord.cmp g.K.KeyBytes.bytes_of g.H.Hasher-1.digest_of g.V.PartialEq.eq g.V.Join.join_of g.H.Hasher-2.digest_of in
     let all = ap (λ xs. map (get g.K.Ord.cmp (tree_map laws (side c.args.replica.now))) (map (λ w. w.key) xs)) (take_all c.keys.wanted-index c.args.keys.now c.keys-test.false) in (
       c.keys.invariant.0,
       sym all ∙ (rw g.met.H.RowHasher.laws_are at c.keys.invariant.1),
       sym (c.finish128.ensures zero_key (flat_map (λ d. d) c.keys.invariant.0) c.keys.invariant.2) ∙ (bytes_decides c.finish128.result c.args.digest.now).0 (sym c.eq.ensures ∙ t),
     ))
+
+pub returns-clause-lacked : goal.returns-clause-lacked
+returns-clause-lacked g c = rw g.met.H.RowHasher.laws_are (λ no (es, own, is).
+    let laws = laws_of g.K.Ord.cmp g.K.KeyBytes.bytes_of g.H.Hasher-1.digest_of g.V.PartialEq.eq g.V.Join.join_of g.H.Hasher-2.digest_of in
+    let ds = c.keys.invariant.0 in
+    let all = ap (λ xs. map (get g.K.Ord.cmp (tree_map laws (side c.args.replica.now))) (map (λ w. w.key) xs)) (take_all c.keys.wanted-index c.args.keys.now c.keys-test.false) in
+    let same : ds ≡ es = one_list ds es (sym (rw g.met.H.RowHasher.laws_are at c.keys.invariant.1) ∙ all ∙ own) in
+    let digests : c.finish128.result ≡ c.args.digest.now = c.finish128.ensures zero_key (flat_map (λ d. d) ds) c.keys.invariant.2 ∙ ap digest_of_all same ∙ is in
+    let yes : c.eq.result ≡ true = c.eq.ensures ∙ (bytes_decides c.finish128.result c.args.digest.now).1 digests in
+    let never : true ≡ false = sym yes ∙ no in
+    cc)

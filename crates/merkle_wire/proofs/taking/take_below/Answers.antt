@@ -1,4 +1,5 @@
-use Rattle.std.proofs.Common.{[], Some, sym, append-nil}
+use Rattle.std.proofs.Common.{[], ◌∷◌, Some, refl, sym, append-nil, inl, inr}
+use Rattle.merkle_wire.specs.Gaps.{owned_gap}
 use Rattle.merkle_wire.proofs.taking.take_below.Goals as goal
 
 pub returns-then-has_page-clause-taken : goal.returns-then-has_page-clause-taken
@@ -7,6 +8,16 @@ returns-then-has_page-clause-taken g c = (
   [],
   rw c.in-Some.is at c.in_ok-digest.ensures.read,
   rw c.in-Some.is at c.in_ok-digest.ensures.len,
-  (tt, λ e. c.has_page.ensures c.if-has_page.true),
+  inl (refl, c.has_page.ensures.there c.if-has_page.true),
   λ i. record c.args.work.now { below = sym (append-nil c.args.work.now.below) i },
+)
+
+pub returns-clause-taken : goal.returns-clause-taken
+returns-clause-taken g c = (
+  Some c.in-Some.digest,
+  owned_gap c.in_ok-own.own ∷ [],
+  rw c.in-Some.is at c.in_ok-digest.ensures.read,
+  rw c.in-Some.is at c.in_ok-digest.ensures.len,
+  inr (rw g.met.H.RowHasher.laws_are c.in_ok-own.ensures, c.has_page.ensures.lacked c.if-has_page.false),
+  c.in_ok-add_below.ensures,
 )

@@ -1,0 +1,42 @@
+-- The gaps that are asked for: each is the gap that was told of, or it isn't asked for.
+use Rattle.std.specs.Prelude.{⊤}
+use Rattle.std.proofs.Common.{◌≡◌, ℕ, List, [], ◌∷◌, Some, inl, inr, sym, subst}
+use Rattle.merkle_replica.specs.Contents.{Side}
+use Rattle.merkle_replica.specs.Descent.{HasPage}
+use Rattle.merkle_replica.specs.Laws.{Laws}
+use Rattle.merkle_tree_theory.specs.Gap.{Gap, SameGap}
+use Rattle.merkle_wire.specs.Taking.{AreNewNodes, HasNodes, IsNewGap, IsOneGap}
+
+module _ {K V H : Type 0} (laws : Laws K V H) (local : Side K V H) where
+  -- a gap, up to equal keys, or none
+  abbrev pub IsGapOrNone : Gap K → List (Gap K) → Type 0
+  IsGapOrNone gap [] = ⊤
+  IsGapOrNone gap (own ∷ []) = SameGap laws.cmp gap own
+  IsGapOrNone gap (own ∷ other ∷ others) = ⊥
+
+  one_or_none : (gap : Gap K) (new : List (Gap K)) → IsOneGap laws local gap new → IsGapOrNone gap new
+  one_or_none gap [] one = absurd one
+  one_or_none gap (own ∷ []) one = one
+  one_or_none gap (own ∷ other ∷ others) one = absurd one
+
+  one_is_some : (gap : Gap K) (new : List (Gap K)) → IsOneGap laws local gap new → new ≡ [] → ⊥
+  one_is_some gap [] one e = one
+  one_is_some gap (own ∷ new) one e = cc
+
+  -- the gap of a page
+  pub gap_or_none : (gap : Gap K) (d : List ℕ) (new : List (Gap K)) → IsNewGap laws local gap (Some d) new → IsGapOrNone gap new
+  gap_or_none gap d new (inl (none, own)) = subst (IsGapOrNone gap) (sym none) tt
+  gap_or_none gap d new (inr (one, lacks)) = one_or_none gap new one
+
+  pub page_spared : (gap : Gap K) (d : List ℕ) (new : List (Gap K)) → IsNewGap laws local gap (Some d) new → new ≡ [] → HasPage laws local d
+  page_spared gap d new (inl (none, own)) e = own
+  page_spared gap d new (inr (one, lacks)) e = absurd (one_is_some gap new one e)
+
+  -- the gap of nodes
+  pub nodes_or_none : (gap : Gap K) (keys : List K) (d : List ℕ) (new : List (Gap K)) → AreNewNodes laws local gap keys d new → IsGapOrNone gap new
+  nodes_or_none gap keys d new (inl (none, own)) = subst (IsGapOrNone gap) (sym none) tt
+  nodes_or_none gap keys d new (inr (one, lacks)) = one_or_none gap new one
+
+  pub nodes_spared : (gap : Gap K) (keys : List K) (d : List ℕ) (new : List (Gap K)) → AreNewNodes laws local gap keys d new → new ≡ [] → HasNodes laws local keys d
+  nodes_spared gap keys d new (inl (none, own)) e = own
+  nodes_spared gap keys d new (inr (one, lacks)) e = absurd (one_is_some gap new one e)
