@@ -86,25 +86,29 @@ module _ (replica : EntryContents) (most : ℕ) (before : Streams) where
 
   -- no message was answered yet
   pub has_served_none : HasServed replica most before before
-  has_served_none = record { exchanges = []; replies = tt; fits = tt; asked = Consumes-nil before.1; told = Appends-nil before.0 }
+  has_served_none = ([], record { replies = tt; fits = tt; asked = Consumes-nil before.1; told = Appends-nil before.0 })
 
   -- one more was
   pub has_served_more : (mid after : Streams) (message reply : List ℕ) → HasServed replica most before mid → IsReplyBy entry_laws 16 key_encoding register_encoding replica message reply
       → length message ≤ most → Consumes mid.1 after.1 (frame_of message) → Appends mid.0 after.0 (frame_of reply) → HasServed replica most before after
-  has_served_more mid after message reply served is fits came sent = record {
-    exchanges = served.exchanges ++ (message, reply) ∷ [];
-    replies = each-append (λ e. IsReplyBy entry_laws 16 key_encoding register_encoding replica e.0 e.1) served.exchanges ((message, reply) ∷ []) served.replies (is, tt);
-    fits = each-append (λ e. length e.0 ≤ most) served.exchanges ((message, reply) ∷ []) served.fits (fits, tt);
-    asked = all_read (λ e. frame_of e.0) before.1 mid.1 after.1 served.exchanges (message, reply) served.asked came;
-    told = all_written (λ e. frame_of e.1) before.0 mid.0 after.0 served.exchanges (message, reply) served.told sent;
-  }
+  has_served_more mid after message reply (exchanges, served) is fits came sent = (
+    exchanges ++ (message, reply) ∷ [],
+    record {
+      replies = each-append (λ e. IsReplyBy entry_laws 16 key_encoding register_encoding replica e.0 e.1) exchanges ((message, reply) ∷ []) served.replies (is, tt);
+      fits = each-append (λ e. length e.0 ≤ most) exchanges ((message, reply) ∷ []) served.fits (fits, tt);
+      asked = all_read (λ e. frame_of e.0) before.1 mid.1 after.1 exchanges (message, reply) served.asked came;
+      told = all_written (λ e. frame_of e.1) before.0 mid.0 after.0 exchanges (message, reply) served.told sent;
+    },
+  )
 
   -- nothing was read since
   pub has_served_all : (mid after : Streams) → HasServed replica most before mid → Consumes mid.1 after.1 [] → after.0 ≡ mid.0 → HasServed replica most before after
-  has_served_all mid after served none same = record {
-    exchanges = served.exchanges;
-    replies = served.replies;
-    fits = served.fits;
-    asked = subst (Consumes before.1 after.1) (append-nil (all_asked served.exchanges)) (Consumes-trans before.1 mid.1 after.1 _ _ served.asked none);
-    told = subst (λ w. Appends before.0 w (all_told served.exchanges)) (sym same) served.told;
-  }
+  has_served_all mid after (exchanges, served) none same = (
+    exchanges,
+    record {
+      replies = served.replies;
+      fits = served.fits;
+      asked = subst (Consumes before.1 after.1) (append-nil (all_asked exchanges)) (Consumes-trans before.1 mid.1 after.1 _ _ served.asked none);
+      told = subst (λ w. Appends before.0 w (all_told exchanges)) (sym same) served.told;
+    },
+  )

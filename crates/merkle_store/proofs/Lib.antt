@@ -4,6 +4,5 @@ pub mod Keeping
 pub mod Latest
 pub mod Found
 pub mod SomeNews
-pub mod Reopened
 pub mod Messages
 pub mod Exchanged

@@ -2,5 +2,4 @@ pub mod Kept
 pub mod Framing
 pub mod Sessions
 pub mod Pulls
-pub mod Reopening
 pub mod Writes

@@ -59,18 +59,22 @@ pub record CatchesUp (replica : EntryContents) (most : ℕ) (before after : Stre
   pub asked : Appends before.0 after.0 (all_asked exchanges)
   pub told : Consumes before.1 after.1 (all_told exchanges)
 
--- the replica replies to each message that is read from one stream, of so many bytes at most, on the other
-pub record HasServed (replica : EntryContents) (most : ℕ) (before after : Streams) : Type 0 where
-  pub exchanges : Exchanges
+-- the replica replies to these messages, read from one stream, of so many bytes at most each, on the other
+pub record IsServed (replica : EntryContents) (most : ℕ) (before after : Streams) (exchanges : Exchanges) : Type 0 where
   pub replies : AreRepliesBy entry_laws 16 key_encoding register_encoding replica exchanges
   pub fits : AllByRecursion (λ e. length e.0 ≤ most) exchanges
   pub asked : Consumes before.1 after.1 (all_asked exchanges)
   pub told : Appends before.0 after.0 (all_told exchanges)
 
--- a catch-up over two streams, to each of whose messages a peer replied over its own, brings what is lacked, while no digest of a reply collides
+-- it does so to all messages that are read
+abbrev pub HasServed : EntryContents → ℕ → Streams → Streams → Type 0
+HasServed replica most before after = (exchanges : Exchanges) × IsServed replica most before after exchanges
+
+-- a catch-up over two streams, to each of whose messages a peer replied over its own, brings what is missing, while no digest of its replies collides
 abbrev pub ServedBring : Type 0
 ServedBring = (local peer : EntryContents) (most its_most : ℕ) (before after its_before its_after : Streams) (entries : List (Text × Register))
-    (caught_up : CatchesUp local most before after entries) (served : HasServed peer its_most its_before its_after) → caught_up.exchanges ≡ served.exchanges
+    (caught_up : CatchesUp local most before after entries) (served : IsServed peer its_most its_before its_after caught_up.exchanges)
     → IsMap text_order local.rows → IsMap text_order peer.rows → HasSmallMap entry_laws 16 (side peer)
-    → NoneCollides entry_laws 16 key_encoding register_encoding (side local) (side peer) caught_up.exchanges (Ask caught_up.underway caught_up.message)
+    → NoneCollides entry_laws 16 key_encoding register_encoding (side local) peer entries caught_up.exchanges (Ask caught_up.underway caught_up.message)
+    caught_up.leads served.replies
     → AreBrought entry_laws (side local) (side peer) entries

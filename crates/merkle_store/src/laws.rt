@@ -12,8 +12,8 @@ pub fn what_is_found_is_kept()
 {}
 
 /// A catch-up brings what is lacked where a peer replied to each of its messages, as [`pull`](crate::pulling::pull) and
-/// [`serve`](crate::pulling::serve) say of the two sides, and no two plain replies of which a delta tells one have one digest: the entries are the
-/// peer's, later or of keys that the side doesn't have, and while digests are faithful all that it lacks.
+/// [`serve`](crate::pulling::serve) say of the two sides, and no delta among the replies tells other bytes with the digest of the plain reply that it
+/// was made of: the entries are the peer's, later or of keys that the side doesn't have, and while digests are faithful all that are missing there.
 pub fn a_served_catch_up_brings_what_is_lacked()
     ensures { ServedBring }
 {

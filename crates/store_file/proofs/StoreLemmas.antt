@@ -8,20 +8,21 @@ use Rattle.sqlite_wal.specs.Reads.{OnlyReads, are_clean, AreClean}
 use Rattle.sqlite_wal.proofs.LogLemmas.{SeenMayStay}
 use Rattle.sqlite_wal.proofs.StateLemmas.{clean_of}
 use Rattle.sqlite_pool.specs.Stored.{Recovers}
-use Rattle.sqlite_pool.proofs.StateLemmas.{clean_is, size_is_allowed, settled, file_alone}
+use Rattle.sqlite_pool.proofs.StateLemmas.{clean_is, size_is_allowed, settled, file_alone, may_leave_is}
 use Rattle.sqlite_value.specs.Keys.{plain}
 use Rattle.sqlite_trees.specs.declared.store.Shape.TheVariants.{Table, Index}
+use Rattle.sqlite_trees.specs.Tree.{Trees}
 use Rattle.sqlite_trees.specs.View.{IsClean}
 use Rattle.sqlite_trees.proofs.Doubt.{no_doubt, clean_of as sure}
 use Rattle.sqlite_store.specs.declared.store.FileStore.{FileStore}
 use Rattle.sqlite_store.specs.declared.store.open.Unopened.{Unopened}
-use Rattle.sqlite_store.specs.FileStore.{state, view, schema_of, log_frames, files, IsReady}
+use Rattle.sqlite_store.specs.FileStore.{state, view, schema_of, log_frames, files, recovers, IsReady}
 use Rattle.sqlite_store.specs.Db.{IsFile}
 use Rattle.sqlite_store.specs.Listing.{all_shapes, file_trees}
-use Rattle.sqlite_store.specs.Saved.{kept_schema}
+use Rattle.sqlite_store.specs.Saved.{kept_schema, schema_for}
 use Rattle.sqlite_store.specs.Unopened.{state_of, files_of}
 use Rattle.store_file.specs.Catalog.{laid_out}
-use Rattle.store_file.specs.Files.{HasTables, HoldsAlone, HoldsStore, HoldsTrees, IsLaidOut, image_of}
+use Rattle.store_file.specs.Files.{HasTables, HoldsAlone, HoldsStore, HoldsTrees, IsLaidOut, LeavesStore, image_of}
 
 entries_shape : all_shapes laid_out 0 ≡ Index plain
 unfolding all_shapes
@@ -85,3 +86,32 @@ module _ {D : Type 0} {g : Ghosts D} where
       both = holds_commit has left ((settled it.pool stays is_open).durable left may);
       alone = holds_commit has _ (file_alone it.pool stays is_open empty left may);
     }
+
+  -- what a crash leaves of the files of a store is one, with trees that it may come back with
+  pub left_in : (it : FileStore D g) → HasTables it → LeavesStore it
+  left_in it has clean left may =
+      let can = may_leave_is it.pool left clean may in
+      let size = (state it).page_size in
+      ∥∥₁_elim (size_is_allowed it.pool) squash₁ (λ allowed. ∥∥₁_elim it.safe squash₁ (λ all.
+      let found = all left can in
+      let listing : schema_for it.saved it.schema.items found.0 ≡ laid_out = ap (λ o. schema_for o it.schema.items found.0) has.unaltered ∙ has.schema in
+      let db = file_trees size (schema_for it.saved it.schema.items found.0) found.0 in
+      ∥∥₁_map found.2 (λ ours. let r : (db : Trees) × HoldsTrees left db × recovers it db = (
+        db,
+        ∣ (
+          record {
+            db = db;
+            holds = record {
+              size = size;
+              allowed = allowed;
+              pages = found.0;
+              found = found.1;
+              file = subst (λ s. IsFile size s found.0) listing ours.file;
+              reads = ap (λ s. file_trees size s found.0) listing;
+            };
+            plain = has.plain;
+          },
+          refl,
+        ) ∣₁,
+        (left, found.0, can, ∣ found.1 ∣₁, refl),
+      ) in r)))

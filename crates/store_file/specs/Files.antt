@@ -16,7 +16,7 @@ use Rattle.sqlite_trees.specs.declared.store.Shape.TheVariants.{Table, Index}
 use Rattle.sqlite_store.specs.declared.catalog.Wanted.{Wanted}
 use Rattle.sqlite_store.specs.declared.store.FileStore.{FileStore}
 use Rattle.sqlite_store.specs.Db.{IsFile}
-use Rattle.sqlite_store.specs.FileStore.{state, schema_of, IsUnaltered}
+use Rattle.sqlite_store.specs.FileStore.{state, schema_of, files, recovers, IsUnaltered}
 use Rattle.sqlite_store.specs.Listing.{file_trees}
 use Rattle.sqlite_store.specs.Opening.{IsEmptyFile}
 use Rattle.store_file.specs.Catalog.{laid_out}
@@ -55,10 +55,6 @@ pub record HasTables {D : Type 0} {g : Ghosts D} (it : FileStore D g) : Type 0 w
   pub schema : schema_of it ≡ laid_out
   pub unaltered : IsUnaltered it
 
--- whatever the disk has of these files, where it kept what was written, the database file alone has these trees
-abbrev pub KeepAlone : {D : Type 0} → Ghosts D → Trees → disk.Files D → Type 0
-KeepAlone g db files = AreClean g files.log files.db → (image : Image) → outcomes g files.log files.db image → HoldsAlone image db
-
 -- a store with the two trees, in which nothing is written that isn't committed
 pub record IsLaidOut (v : View) : Type 0 where
   pub entries : v.shape 0 ≡ Index plain
@@ -69,3 +65,14 @@ pub record IsLaidOut (v : View) : Type 0 where
 
 abbrev pub image_of : {D : Type 0} → Ghosts D → disk.Files D → Image
 image_of g files = seen_image g files.log files.db
+
+-- where the disks kept what was written, the two files hold a store with these trees: as they read now, and whatever a crash leaves of them, with
+-- the log and without it
+pub record KeepStore {D : Type 0} (g : Ghosts D) (db : Trees) (files : disk.Files D) : Type 0 where
+  pub now : AreClean g files.log files.db → HoldsTrees (image_of g files) db
+  pub later : AreClean g files.log files.db → (image : Image) → outcomes g files.log files.db image → HoldsAlone image db
+
+-- where the disks kept what was written, whatever a crash leaves of the files now holds a store, with trees that the database may come back with
+abbrev pub LeavesStore : {D : Type 0} {g : Ghosts D} → FileStore D g → Type 0
+LeavesStore {D} {g} it = AreClean g (files it).0 (files it).1 → (image : Image) → outcomes g (files it).0 (files it).1 image
+    → ∥ ((db : Trees) × HoldsTrees image db × recovers it db) ∥₁

@@ -3,6 +3,7 @@ ghost use Rattle.std.specs.Prelude.{◌≡◌};
 ghost use Rattle.store_file.specs.Catalog.{fault_of, fault_of_probe};
 
 use sqlite_store::OpenError;
+use sqlite_trees::error::StoreError;
 use sqlite_wal::Error as ProbeError;
 use std::error::Error;
 use std::fmt;
@@ -24,6 +25,15 @@ pub enum OpenFault {
     Corrupt,
     /// There is a database already, so that none is made.
     Exists,
+}
+
+/// Why a store isn't closed and opened again.
+#[derive(Clone, Copy, Debug, PartialEq, Eq)]
+pub enum ReopenFault {
+    /// It isn't closed.
+    Close(StoreError),
+    /// It is closed, and its files aren't opened.
+    Open(OpenFault),
 }
 
 /// What a refusal to open a store means.
@@ -66,3 +76,26 @@ impl fmt::Display for OpenFault {
 }
 
 impl Error for OpenFault {}
+
+impl From<StoreError> for ReopenFault {
+    fn from(error: StoreError) -> ReopenFault {
+        ReopenFault::Close(error)
+    }
+}
+
+impl From<OpenFault> for ReopenFault {
+    fn from(error: OpenFault) -> ReopenFault {
+        ReopenFault::Open(error)
+    }
+}
+
+impl fmt::Display for ReopenFault {
+    fn fmt<W: fmt::Write>(&self, f: &mut fmt::Formatter<W>) -> fmt::Result {
+        match self {
+            ReopenFault::Close(error) => error.fmt(f),
+            ReopenFault::Open(error) => error.fmt(f),
+        }
+    }
+}
+
+impl Error for ReopenFault {}

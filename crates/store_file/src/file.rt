@@ -2,13 +2,14 @@
 ghost use Rattle.std.specs.Prelude.{◌≡◌, ◌≢◌, ◌⊎◌, [], IsTrue, IfOk, OnOk};
 ghost use Rattle.sqlite_wal.specs.PageSize.{bytes_of};
 ghost use Rattle.sqlite_wal.specs.Reads.{AreClean, OnlyReads};
+ghost use Rattle.sqlite_trees.specs.Tree.{Trees};
 ghost use Rattle.sqlite_store.specs.FileStore.{view};
 ghost use Rattle.sqlite_store.specs.Unopened.{state_of, files_of, wanted_by};
 ghost use Rattle.store_file.specs.Catalog.{fault_of, laid_out};
-ghost use Rattle.store_file.specs.Files.{HasTables, HoldsStore, HoldsNothing, IsLaidOut, KeepAlone, image_of};
+ghost use Rattle.store_file.specs.Files.{HasTables, HoldsStore, HoldsTrees, HoldsNothing, IsLaidOut, KeepStore, LeavesStore, image_of};
 
 use crate::catalog::{objects, recognise};
-use crate::fault::{OpenFault, fault_of, fault_of_probe};
+use crate::fault::{OpenFault, ReopenFault, fault_of, fault_of_probe};
 use sqlite_disk::{Disk, Files, Tally, digest_of};
 use sqlite_pager::{Options, Pager};
 use sqlite_store::{FileStore, OpenError, Unopened, name_fault};
@@ -94,10 +95,10 @@ fn named<D: Disk>(error: OpenError, before: Tally, left: &Unopened<D>) -> OpenFa
 pub fn open<D: Disk + Drop>(alloc: Global, files: Files<D>) -> Result<FileStore<D>, OpenFault>
     requires log { IsTrue (D.Disk.is_usable files.log) }
     requires db { IsTrue (D.Disk.is_usable files.db) }
-    requires sound { AreClean D.Disk files.log files.db → HoldsStore (image_of D.Disk files) }
+    requires sound { AreClean D.Disk files.log files.db → ∥ HoldsStore (image_of D.Disk files) ∥₁ }
     ensures honest { IfOk result (λ it. IsTrue (view it).is_clean → AreClean D.Disk files.log files.db) }
     ensures laid_out { IfOk result (λ it. IsTrue (view it).is_clean → IsLaidOut (view it)) }
-    ensures found { IfOk result (λ it. IsTrue (view it).is_clean → (held : HoldsStore (image_of D.Disk files)) → (view it).committed ≡ held.db) }
+    ensures found { IfOk result (λ it. IsTrue (view it).is_clean → (db : Trees) → HoldsTrees (image_of D.Disk files) db → (view it).committed ≡ db) }
 {
     let mut files = files;
     let size = find_size(alloc, &mut files)?;
@@ -127,6 +128,7 @@ pub fn open<D: Disk + Drop>(alloc: Global, files: Files<D>) -> Result<FileStore<
 pub fn create<D: Disk + Drop>(alloc: Global, files: Files<D>) -> Result<FileStore<D>, OpenFault>
     requires log { IsTrue (D.Disk.is_usable files.log) }
     requires db { IsTrue (D.Disk.is_usable files.db) }
+    ensures honest { IfOk result (λ it. IsTrue (view it).is_clean → AreClean D.Disk files.log files.db) }
     ensures laid_out { IfOk result (λ it. IsTrue (view it).is_clean → IsLaidOut (view it)) }
     ensures entries { IfOk result (λ it. IsTrue (view it).is_clean → (view it).committed 0 ≡ []) }
     ensures about { IfOk result (λ it. IsTrue (view it).is_clean → (view it).committed 1 ≡ []) }
@@ -145,9 +147,20 @@ pub fn create<D: Disk + Drop>(alloc: Global, files: Files<D>) -> Result<FileStor
 /// The sizes that pages of a SQLite database may have.
 const SIZES: [usize; 8] = [512, 1024, 2048, 4096, 8192, 16_384, 32_768, 65_536];
 
-/// Whether the database has the tables of a store, as each has that was opened or made here.
-fn is_store<D: Disk>(store: &FileStore<D>) -> Result<bool, AllocError>
-    ensures { IfOk result (λ is. IsTrue is → HasTables store.now) }
+/// Whether the database has the tables of a store, as each has that was opened or made here. If so, `open` takes the files as a crash leaves them
+/// at this moment, also one in the middle of a command: they hold a store, with the trees of which the clauses on crashes speak.
+///
+/// ```rust crates/store_file/src/tests.rt
+/// let tables = is_store(&store);
+/// ```
+///
+/// # Errors
+///
+/// [`AllocError`] where memory is refused.
+#[tactic(auto, using(crate::proofs::StoreLemmas::left_in))]
+pub fn is_store<D: Disk>(store: &FileStore<D>) -> Result<bool, AllocError>
+    ensures tables { IfOk result (λ is. IsTrue is → HasTables store.now) }
+    ensures left { IfOk result (λ is. IsTrue is → LeavesStore store.now) }
 {
     for bytes in SIZES {
         let Some(size) = PageSize::new(bytes) else {
@@ -164,7 +177,8 @@ fn is_store<D: Disk>(store: &FileStore<D>) -> Result<bool, AllocError>
 /// store.
 pub(crate) fn close_any<D: Disk + Drop>(store: FileStore<D>) -> Result<(Files<D>, bool), StoreError>
     ensures usable { IfOk result (λ closed. IsTrue (D.Disk.is_usable closed.0.log) × IsTrue (D.Disk.is_usable closed.0.db)) }
-    ensures copied { IfOk result (λ closed. IsTrue closed.1 → KeepAlone D.Disk (view store).committed closed.0) }
+    ensures copied { IfOk result (λ closed. IsTrue closed.1 → KeepStore D.Disk (view store).committed closed.0) }
+    ensures honest { IfOk result (λ closed. AreClean D.Disk closed.0.log closed.0.db → IsTrue (view store).is_clean × IsTrue (view store).is_open) }
 {
     let mut store = store;
     store.rollback();
@@ -185,7 +199,8 @@ pub(crate) fn close_any<D: Disk + Drop>(store: FileStore<D>) -> Result<(Files<D>
 /// the files then too.
 pub fn close_files<D: Disk + Drop>(store: FileStore<D>) -> Result<Files<D>, StoreError>
     ensures usable { IfOk result (λ files. IsTrue (D.Disk.is_usable files.log) × IsTrue (D.Disk.is_usable files.db)) }
-    ensures copied { IfOk result (KeepAlone D.Disk (view store).committed) }
+    ensures copied { IfOk result (KeepStore D.Disk (view store).committed) }
+    ensures honest { IfOk result (λ files. AreClean D.Disk files.log files.db → IsTrue (view store).is_clean × IsTrue (view store).is_open) }
 {
     let (files, is_store) = close_any(store)?;
     if is_store {
@@ -202,8 +217,31 @@ pub fn close_files<D: Disk + Drop>(store: FileStore<D>) -> Result<Files<D>, Stor
 /// As those of `close_files`.
 pub fn close<D: Disk + Drop>(store: FileStore<D>) -> Result<(), StoreError>
     // There were files then, which keep what was committed.
-    ensures copied { OnOk result ((files : _) × KeepAlone D.Disk (view store).committed files) }
+    ensures copied { OnOk result ((files : _) × KeepStore D.Disk (view store).committed files) }
 {
     close_files(store)?;
     Ok(())
+}
+
+/// Closes a store and opens its files again, as two runs of a program do, one after the other. It has what was committed, and takes the time
+/// of `close_files` and of `open`.
+///
+/// ```rust crates/store_file/src/tests.rt
+/// let mut second = reopen(alloc, first)?;
+/// let found = is_filled(rt, &mut second, &mut row);
+/// ```
+///
+/// # Errors
+///
+/// [`ReopenFault::Close`] and [`ReopenFault::Open`], with the errors of `close_files` and `open`.
+pub fn reopen<D: Disk + Drop>(
+    alloc: Global,
+    store: FileStore<D>,
+) -> Result<FileStore<D>, ReopenFault>
+    ensures same { IfOk result (λ again. IsTrue (view again).is_clean → (view again).committed ≡ (view store).committed) }
+    ensures laid_out { IfOk result (λ again. IsTrue (view again).is_clean → IsLaidOut (view again)) }
+    ensures honest { IfOk result (λ again. IsTrue (view again).is_clean → IsTrue (view store).is_clean × IsTrue (view store).is_open) }
+{
+    let files = close_files(store)?;
+    Ok(open(alloc, files)?)
 }

@@ -8,6 +8,6 @@ pub mod file;
 mod tests;
 pub mod unsure;
 
-pub use fault::OpenFault;
-pub use file::{close, close_files, create, open};
+pub use fault::{OpenFault, ReopenFault};
+pub use file::{close, close_files, create, is_store, open, reopen};
 pub use unsure::Unsure;

@@ -1,13 +1,14 @@
 //! Stores over files in memory.
-ghost use Rattle.std.specs.Prelude.{IsSome, IsTrue, IfOk, OnOk};
+ghost use Rattle.std.specs.Prelude.{◌≡◌, [], IsSome, IsTrue, IfOk, OnOk};
 ghost use Rattle.sqlite_disk.specs.Memory.{memory_is_usable};
+ghost use Rattle.sqlite_store.specs.FileStore.{view};
 ghost use Rattle.store_file.specs.Unsure.{disk_below};
 
 use crate::catalog::{
     ABOUT, ABOUT_SQL, ENTRIES, ENTRIES_SQL, FORMER_ABOUT_SQL, FORMER_ENTRIES_SQL,
 };
 use crate::file::close_any;
-use crate::{OpenFault, Unsure, close, close_files, create, open};
+use crate::{OpenFault, Unsure, close, close_files, create, is_store, open, reopen};
 use sqlite_disk::{Disk, Files, Memory};
 use sqlite_pager::{Options, Pager};
 use sqlite_store::{FileStore, Unopened};
@@ -173,6 +174,51 @@ fn are_filled(rt: &impl Abort, alloc: Global, files: Pair) -> Result<bool, Fail>
 fn keeps_what_is_committed(rt: HostRuntime) -> Result<(), Fail> {
     let files = filled(&rt, rt.alloc())?;
     assert!(rt; are_filled(&rt, rt.alloc(), files)?);
+    Ok(())
+}
+
+/// Whether a store that was filled has its rows once it is closed and opened again.
+fn is_filled_again(rt: &impl Abort, alloc: Global) -> Result<bool, Fail> {
+    let mut row = Row::new(alloc);
+    let mut first = create(alloc, blank(alloc))?;
+    fill(rt, &mut first, &mut row)?;
+    let mut second = reopen(alloc, first)?;
+    let found = is_filled(rt, &mut second, &mut row);
+    close(second)?;
+    Ok(found?)
+}
+
+#[test]
+fn opens_again_what_it_closed(rt: HostRuntime) -> Result<(), Fail> {
+    assert!(rt; is_filled_again(&rt, rt.alloc())?);
+    Ok(())
+}
+
+/// A store that is made, closed and opened again.
+fn made_again<D: Disk + Drop>(alloc: Global, files: Files<D>) -> Result<FileStore<D>, Fail>
+    requires log { IsTrue (D.Disk.is_usable files.log) }
+    requires db { IsTrue (D.Disk.is_usable files.db) }
+    ensures entries { IfOk result (λ it. IsTrue (view it).is_clean → (view it).committed 0 ≡ []) }
+    ensures about { IfOk result (λ it. IsTrue (view it).is_clean → (view it).committed 1 ≡ []) }
+{
+    let new = create(alloc, files)?;
+    Ok(reopen(alloc, new)?)
+}
+
+#[test]
+fn opens_again_what_it_made(rt: HostRuntime) -> Result<(), Fail> {
+    let alloc = rt.alloc();
+    let files = Files {
+        log: Memory::new(alloc),
+        db: Memory::new(alloc),
+    };
+    let mut store = made_again(alloc, files)?;
+    let mut row = Row::new(alloc);
+    let tables = is_store(&store);
+    let filled = is_filled(&rt, &mut store, &mut row);
+    close(store)?;
+    assert!(rt; tables?);
+    assert!(rt; !filled?);
     Ok(())
 }
 

@@ -7,8 +7,11 @@ use Rattle.sqlite_wal.specs.Recovery.{Image}
 use Rattle.sqlite_pool.specs.Opening.{IsBlankFile}
 use Rattle.sqlite_pool.specs.Stored.{Recovers}
 use Rattle.sqlite_store.specs.Opening.{IsEmptyFile}
-use Rattle.store_file.proofs.StoreLemmas.{is_laid_out}
+use Rattle.store_file.proofs.StoreLemmas.{clean_files, is_laid_out}
 use Rattle.store_file.proofs.file.create.Goals as goal
+
+pub returns-in-Ok-clause-honest : goal.returns-in-Ok-clause-honest
+returns-in-Ok-clause-honest g c = λ now. clean_files c.in_ok-fresh.fresh c.args.files c.in_ok-fresh.ensures.files (c.in-Ok.ensures.honest now)
 
 pub returns-in-Ok-clause-laid_out : goal.returns-in-Ok-clause-laid_out
 returns-in-Ok-clause-laid_out g c = is_laid_out c.in-Ok.store c.in-Ok.ensures.ready (c.in-Ok.ensures.schema ∙ c.in_ok-fresh.ensures.schema)

@@ -1,19 +1,22 @@
 use Rattle.std.proofs.Common.{◌≡◌, sym, ap, ap₂, subst, ◌∙◌}
+use Rattle.std.proofs.Math.Logic.{∥∥₁_elim, ∥∥₁_map}
 use Rattle.std.proofs.Math.Path.{subst₃}
 use Rattle.std.proofs.lemmas.Bool.{cond-true}
 use Rattle.sqlite_wal.specs.Files.{seen_image}
 use Rattle.sqlite_wal.proofs.CleanLemmas.{both_clean}
 use Rattle.sqlite_pool.specs.Stored.{Recovers}
 use Rattle.sqlite_pool.specs.StoredLaws.{recovers_once}
+use Rattle.sqlite_trees.specs.Props.{Trees-set}
 use Rattle.sqlite_trees.specs.Tree.{no_trees}
 use Rattle.sqlite_store.specs.Db.{IsFile}
 use Rattle.sqlite_store.specs.FileStore.{state}
 use Rattle.sqlite_store.specs.Listing.{file_trees}
 use Rattle.sqlite_store.specs.Saved.{kept_schema}
-use Rattle.sqlite_store.specs.Unopened.{state_of, image}
+use Rattle.sqlite_store.specs.Unopened.{state_of, wanted_by, image}
 use Rattle.store_file.specs.Catalog.{laid_out}
-use Rattle.store_file.specs.Files.{image_of}
+use Rattle.store_file.specs.Files.{HoldsStore, image_of}
 use Rattle.store_file.proofs.StoreLemmas.{clean_files, same_image, is_laid_out}
+use Rattle.store_file.proofs.TakenFile.{is_file}
 use Rattle.store_file.proofs.file.open.Goals as goal
 
 pub open_trusted-requires-clause-sound : goal.open_trusted-requires-clause-sound
@@ -27,15 +30,16 @@ open_trusted-requires-clause-sound g c =
     let later = clean_files fresh c.find_size.new.files made.files (c.read_catalog.ensures.honest clean) in
     let held = c.requires.sound (both_clean _ _ _ _ read.log.clean read.file.clean later) in
     let seen : image fresh ≡ start = ap (λ f. seen_image g.D.Disk f.0 f.1) made.files ∙ same_image read.log read.file in
-    let sized : held.holds.size ≡ (state_of fresh).page_size = c.in_ok-size.ensures.named later held ∙ sym made.size in
     let listed = c.in-Ok.ensures.ok clean in
     let kept = c.read_catalog.ensures.kept clean in
-    let pages : held.holds.pages ≡ listed.pages =
-    recovers_once (state_of fresh).page_size start _ _ (subst (λ n. Recovers n start held.holds.pages) sized held.holds.found)
+    let sized = λ (h : HoldsStore start). c.in_ok-size.ensures.named later h ∙ sym made.size in
+    let pages = λ (h : HoldsStore start).
+    recovers_once (state_of fresh).page_size start _ _ (subst (λ n. Recovers n start h.holds.pages) (sized h) h.holds.found)
     (subst (λ i. Recovers (state_of fresh).page_size i listed.pages) seen listed.found) in (
       listed.pages,
       subst (λ n. Recovers n (image mid) listed.pages) (sym kept.size) listed.again,
-      subst₃ IsFile (sized ∙ sym kept.size) (sym (c.read_catalog.ensures.schema ∙ made.schema)) pages held.holds.file,
+      is_file (state_of mid).page_size (wanted_by mid) listed.pages
+          (∥∥₁_map held (λ h. subst₃ IsFile (sized h ∙ sym kept.size) (sym (c.read_catalog.ensures.schema ∙ made.schema)) (pages h) h.holds.file)),
     )
 
 pub returns-in-Ok-open_trusted-clause-honest : goal.returns-in-Ok-open_trusted-clause-honest
@@ -51,7 +55,8 @@ returns-in-Ok-open_trusted-clause-laid_out g c =
 
 pub returns-in-Ok-open_trusted-clause-found : goal.returns-in-Ok-open_trusted-clause-found
 returns-in-Ok-open_trusted-clause-found g c =
-    λ now held.
+    λ now db there. ∥∥₁_elim there (Trees-set _ _) (λ x.
+    let held = x.0 in
     let start = image_of g.D.Disk c.args.files in
     let fresh = c.in_ok-fresh.fresh in
     let mid = c.read_catalog.new.self in
@@ -74,4 +79,4 @@ returns-in-Ok-open_trusted-clause-found g c =
     let listing : kept_schema store.saved store.schema.items ≡ laid_out =
     ap (λ o. kept_schema o store.schema.items) e.ready.unaltered ∙ e.schema ∙ c.read_catalog.ensures.schema ∙ made.schema in
     cond-true _ (file_trees (state store).page_size (kept_schema store.saved store.schema.items) (state store).committed) no_trees now
-    ∙ ap₂ (λ n s. file_trees n s (state store).committed) sizes listing ∙ ap (λ p. file_trees held.holds.size laid_out p) (sym (early ∙ same)) ∙ sym held.holds.reads
+    ∙ ap₂ (λ n s. file_trees n s (state store).committed) sizes listing ∙ ap (λ p. file_trees held.holds.size laid_out p) (sym (early ∙ same)) ∙ sym held.holds.reads ∙ x.1)
