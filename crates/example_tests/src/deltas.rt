@@ -1,5 +1,5 @@
 use crate::rows::{are_rows, opened};
-use examples::deltas::{exchange, most_told};
+use examples::deltas::{audited_exchange, exchange, most_told};
 use examples::store::Store;
 use merkle_delta::{CatchingUp, Chunks, Next};
 use std::alloc::Global;
@@ -76,6 +76,32 @@ fn exchanges_bring_what_is_lacked(rt: HostRuntime) -> Result<(), Fail> {
             come(rt.alloc(), rows, peer_rows, expected)?,
             "{expected:?}"
         );
+    }
+    Ok(())
+}
+
+/// Whether each exchange of a catch-up passes its audit.
+fn are_audited(alloc: Global, rows: Rows, peer_rows: Rows) -> Result<bool, Fail> {
+    let mut local = opened(alloc, rows)?;
+    let mut peer = opened(alloc, peer_rows)?;
+    let (mut session, mut message) = CatchingUp::begin(alloc, &local)?;
+    for _exchange in 0..20 {
+        match audited_exchange(alloc, &mut local, &mut peer, session, message) {
+            Ok((Next::Came(_), is_sure)) => return Ok(is_sure),
+            Ok((Next::Ask(next, question), true)) => {
+                session = next;
+                message = question;
+            }
+            _ => return Ok(false),
+        }
+    }
+    Err(Fail::new("no end"))
+}
+
+#[test]
+fn audits_are_passed(rt: HostRuntime) -> Result<(), Fail> {
+    for (rows, peer_rows, expected) in &CASES {
+        assert!(rt; are_audited(rt.alloc(), rows, peer_rows)?, "{expected:?}");
     }
     Ok(())
 }

@@ -1,4 +1,5 @@
 pub mod EqualSets
+pub mod Exchanged
 pub mod GossipSessions
 pub mod Outcomes
 pub mod RemovedKeys

@@ -1,5 +1,5 @@
 -- Replies by deltas, and exchanges of them.
-use Rattle.std.specs.Prelude.{◌≡◌, ℕ, ◌≤◌, List, length, ◌⊎◌}
+use Rattle.std.specs.Prelude.{◌≡◌, ℕ, ◌≤◌, Bool, IsTrue, List, length, ◌⊎◌}
 use Rattle.std.specs.Global.{Vec}
 use Rattle.merkle_replica.specs.Contents.{Contents, side}
 use Rattle.merkle_replica.specs.Laws.{Laws}
@@ -33,3 +33,7 @@ module _ {K V H : Type 0} (laws : Laws K V H) (n : ℕ) (encoding : K → List �
   IsExchanged before message next = IsSent encoding before message → (reply whole : List ℕ)
       × IsPlainAnswer laws n encoding values (side replica) (side peer) before.session whole × Tells before.told reply whole
       × (IsSafe before.told reply whole → IsPlainly before next)
+
+  -- where the message was sent for what the catch-up asks, and the audit was passed, the exchange is made plainly
+  abbrev pub IsAudited : Underway K V → Vec ℕ → Next K V × Bool → Type 0
+  IsAudited before message done = IsSent encoding before message → IsTrue done.1 → IsPlainly before done.0

@@ -1,3 +1,4 @@
+pub mod Audited
 pub mod Deltas
 pub mod Gossip
 pub mod GossipMessages

@@ -11,7 +11,7 @@ use Rattle.merkle_wire.specs.Steady.{AreExchangesTo, IsBegun}
 use Rattle.merkle_wire.specs.Underway.{Underway}
 
 module _ {K V H : Type 0} (laws : Laws K V H) where
-  -- where no streams of pages, no values and no nodes of pages collide in two replicas, the one has the join of both afterwards
+  -- where no streams of pages, no values and no nodes of pages of the peer collide in two replicas, the one has the join of both afterwards
   abbrev pub JoinsWhereNothingCollides : ℕ → Contents K V H → Contents K V H → Contents K V H → Type 0
   JoinsWhereNothingCollides n replica peer after = IsCollisionFree laws n (side replica) (side peer) → NoNodesCollide laws (side replica) (side peer)
       → IsJoin laws.cmp laws.eq laws.join replica.rows peer.rows after.rows

@@ -3,6 +3,7 @@
 
 pub mod accounts;
 pub mod asking;
+pub mod audited;
 pub mod deltas;
 pub mod gossip;
 pub mod hashing;

@@ -5,9 +5,9 @@ ghost use Rattle.merkle_diff.specs.DiffRange.{spans};
 ghost use Rattle.merkle_diff.specs.Difference.{IsAnswer};
 ghost use Rattle.merkle_diff.specs.Merge.{SameSpans};
 ghost use Rattle.merkle_tree_theory.specs.declared.page_format.PageFormat.TheVariants.{V2};
-ghost use Rattle.merkle_replica.specs.Agreeing.{GiveOneDigest};
 ghost use Rattle.merkle_replica.specs.Contents.{side};
 ghost use Rattle.merkle_replica.specs.Faithful.{AreSetAlike};
+ghost use Rattle.merkle_wire.specs.Sessions.{DigestTheirValuesAlike};
 ghost use Rattle.examples.specs.Sessions.{AreMostKeyBytes, AreMostReplies, HaveOneMap, JoinsWhereNothingCollides};
 
 use merkle_bytes::laws::keys_of_a_run_are_bounded;
@@ -38,7 +38,7 @@ pub fn catch_up_exact<
     peer: &mut Replica<K, V, H, N>,
 ) -> Result<usize, MessagesError>
     requires alike { AreSetAlike H.laws (side replica.old) (side peer.old) }
-    requires one_digest { GiveOneDigest H.laws (side replica.old) (side peer.old) }
+    requires values { DigestTheirValuesAlike H.laws (side replica.old) (side peer.old) }
     requires format_2 { replica.old.tree.format ≡ V2 }
     ensures join { OnOk result (JoinsWhereNothingCollides H.laws N replica.old peer.old replica.new) }
     ensures peer_rows { peer.new.rows ≡ peer.old.rows }

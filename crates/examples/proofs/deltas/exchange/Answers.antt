@@ -1,18 +1,11 @@
-use Rattle.std.proofs.Common.{ℕ, List, Option, Some, None, subst}
+use Rattle.std.proofs.Common.{subst}
 use Rattle.merkle_replica.specs.CatchUpSteps.{IsTreeOfSide}
 use Rattle.merkle_replica.specs.Contents.{side}
 use Rattle.merkle_replica.proofs.SideLaws.{same_side}
 use Rattle.merkle_delta.specs.CatchUps.{IsNext}
-use Rattle.merkle_delta.specs.Exchanges.{IsSafe}
-use Rattle.merkle_delta.specs.Messages.{IsAnswered}
-use Rattle.merkle_delta.specs.Sessions.{IsToldAs, Tells}
-use Rattle.merkle_delta.specs.Underway.{Told}
+use Rattle.merkle_delta.specs.Messages.{IsAnswered, whole_of}
+use Rattle.examples.proofs.Exchanged.{told_as}
 use Rattle.examples.proofs.deltas.exchange.Goals as goal
-
--- a reply that tells the plain one tells no other, while no digest collides
-told_as : (told : Option Told) (reply whole : List ℕ) → Tells told reply whole → IsSafe told reply whole → IsToldAs told reply whole
-told_as None reply whole tells safe = tells
-told_as (Some told) reply whole tells safe = (tells, safe)
 
 pub returns-in-Ok-take-clause-exchanged : goal.returns-in-Ok-take-clause-exchanged
 returns-in-Ok-take-clause-exchanged g c (question, asks, sent) =
@@ -25,7 +18,9 @@ returns-in-Ok-take-clause-exchanged g c (question, asks, sent) =
     let reply = c.in-Ok.reply in
     let tree = subst (λ s. IsTreeOfSide laws s after.tree.root) (same_side peer after c.in-Ok.ensures.rows c.in-Ok.ensures.settings) c.a_replica_has_the_tree_of_its_rows.ensures in
     let answered = subst (λ message. IsAnswered laws g.row.N g.K.Encode.encoding g.V.Encode.encoding peer after message reply) c.deref.ensures.value c.in-Ok.ensures.answered in
-    let (whole, answer, tells) = law.answers local peer after c.in-Ok.ensures.settings tree before question c.args.message reply asks sent answered in
+    let (plain, by) = answered in
+    let whole = whole_of reply plain in
+    let (answer, tells) = law.answers local peer after c.in-Ok.ensures.settings tree before question c.args.message reply plain asks sent by in
     let takes = subst (λ reply. IsNext laws g.row.N g.K.Encode.encoding g.V.Encode.encoding local before reply c.in-Ok-take.next) c.deref-2.ensures.value c.in-Ok-take.ensures.next in (
       reply.items,
       whole,

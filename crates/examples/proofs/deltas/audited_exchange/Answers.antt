@@ -1,0 +1,30 @@
+use Rattle.std.proofs.Common.{subst}
+use Rattle.merkle_replica.specs.CatchUpSteps.{IsTreeOfSide}
+use Rattle.merkle_replica.specs.Contents.{side}
+use Rattle.merkle_replica.proofs.SideLaws.{same_side}
+use Rattle.merkle_delta.specs.CatchUps.{IsNext}
+use Rattle.merkle_delta.specs.Messages.{IsAnsweredAs, whole_of}
+use Rattle.examples.proofs.Exchanged.{told_as}
+use Rattle.examples.proofs.deltas.audited_exchange.Goals as goal
+
+pub returns-in-Ok-take-clause-audited : goal.returns-in-Ok-take-clause-audited
+returns-in-Ok-take-clause-audited g c (question, asks, sent) sure =
+    let laws = g.H.RowHasher.laws in
+    let law = c.a_session_by_deltas_is_a_session.ensures in
+    let local = side c.args.replica.now in
+    let peer = c.args.peer.now in
+    let after = c.answer_in_full.new.replica in
+    let before = c.args.session in
+    let reply = c.in-Ok.told.0 in
+    let plain = c.in-Ok.told.1 in
+    let whole = whole_of reply plain in
+    let tree = subst (λ s. IsTreeOfSide laws s after.tree.root) (same_side peer after c.in-Ok.ensures.rows c.in-Ok.ensures.settings) c.a_replica_has_the_tree_of_its_rows.ensures in
+    let by = subst (λ message. IsAnsweredAs laws g.row.N g.K.Encode.encoding g.V.Encode.encoding peer after message reply plain) c.deref.ensures.value c.in-Ok.ensures.answered in
+    let (answer, tells) = law.answers local peer after c.in-Ok.ensures.settings tree before question c.args.message reply plain asks sent by in
+    law.exchanges local (side peer) before c.in-Ok-take.next (record {
+      reply = reply.items;
+      whole = whole;
+      answer = answer;
+      told = told_as before.told reply.items whole tells (c.in-Ok-tells_nothing_else.ensures sure);
+      takes = subst (λ reply. IsNext laws g.row.N g.K.Encode.encoding g.V.Encode.encoding local before reply c.in-Ok-take.next) c.deref-2.ensures.value c.in-Ok-take.ensures.next;
+    })
