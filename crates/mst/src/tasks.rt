@@ -1,4 +1,8 @@
 //! What each command does.
+ghost use Rattle.std.specs.Prelude.{string_bytes};
+ghost use Rattle.mst_commands.specs.Carries.{Carries};
+ghost use Rattle.store_table.specs.Logs.{IsSteady, Leaves, LeavesNoMore, Makes, StaysInOk};
+
 use crate::fault::Failure;
 use crate::files::{Closing, close_behind, make_store, open_file};
 use crate::{peers, shell};
@@ -16,7 +20,11 @@ use store_table::format::{Note, recognise};
 use store_table::log::Log;
 
 /// The root hash of what the file holds.
-fn root_of<S: Trees>(rt: &HostRuntime, log: &mut Log<S>, note: &Note) -> Result<RootHash, Failure> {
+fn root_of<S: Trees>(rt: &HostRuntime, log: &mut Log<S>, note: &Note) -> Result<RootHash, Failure>
+    ensures unchanged { StaysInOk S.Store log.old log.new result }
+    ensures steady { IsSteady S.Store log.old log.new }
+    ensures crash { LeavesNoMore S.Store log.old log.new }
+{
     let mut replica = read_replica(rt.alloc(), log, &note.hash_key)?;
     Ok(replica.root_hash().clone()?)
 }
@@ -28,7 +36,10 @@ pub fn run_open<S: Trees>(
     note: &Note,
     verb: Verb,
     given: &Given<'_>,
-) -> Result<(), Failure> {
+) -> Result<(), Failure>
+    ensures carried { Makes S.Store log.old log.new result (Carries verb (string_bytes note.now.writer) given.now) }
+    ensures crash { Leaves S.Store log.old log.new (Carries verb (string_bytes note.now.writer) given.now) }
+{
     if verb == Verb::HashKey {
         println!(rt; "{:032x}", number_of(&note.hash_key))?;
         return Ok(());

@@ -1,3 +1,4 @@
+pub mod CarryLemmas
 pub mod CsvLemmas
 pub mod EscapeLemmas
 pub mod LineLemmas

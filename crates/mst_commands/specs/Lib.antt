@@ -1,4 +1,5 @@
 pub mod Bounds
+pub mod Carries
 pub mod Escapes
 pub mod Faults
 pub mod Imports

@@ -2,6 +2,7 @@
 ghost use Rattle.std.specs.Prelude.{◌≡◌, ◌≢◌, ◌+◌, if◌then◌else◌, ◌++◌, [], ◌∷◌, length, string_bytes, IfOk, IfErr, OnOk};
 ghost use Rattle.std.specs.Io.KnownBytes.{Appends};
 ghost use Rattle.store_table.specs.Logs.{Finds, Shows, Refuses, StaysInOk, StaysInErr, LeavesNoMore};
+ghost use Rattle.mst_commands.specs.Faults.{IsDevice, StaysAtDevice};
 ghost use Rattle.mst_commands.specs.Malformed.{IsFailure};
 ghost use Rattle.mst_commands.specs.Reads.{IsTextAt, WritesText, WritesList, WritesCount, WritesStatus, WritesPairs, WritesLog, IsSummary, SumsOn, status_text};
 
@@ -22,6 +23,7 @@ use store_table::{Register, StoreFault, latest};
 /// The text of a key.
 fn text_of<S: Store>(alloc: Global, log: &mut Log<S>, key: &str) -> Result<Option<String>, Fault>
     ensures text { Finds S.Store log.old log.new result (λ trees text. IsTextAt trees key.now text) }
+    ensures store { IfErr result (λ why. ¬ IsDevice why) }
     ensures faults { IfErr result IsFailure }
     ensures unchanged { StaysInOk S.Store log.old log.new result }
     ensures crash { LeavesNoMore S.Store log.old log.new }
@@ -55,6 +57,7 @@ pub fn get<S: Store, W: Write>(
     ensures absent { Refuses S.Store log.old log.new result Fault.NoKey (λ trees. IsTextAt trees key.now None) }
     ensures faults { IfErr result (λ why. why ≢ Fault.NoKey → IsFailure why) }
     ensures unchanged { StaysInOk S.Store log.old log.new result }
+    ensures device { StaysAtDevice S.Store log.old log.new result }
     ensures crash { LeavesNoMore S.Store log.old log.new }
 {
     let said = text_of(alloc, log, key)?;
@@ -78,6 +81,7 @@ pub fn list<S: Store, W: Write>(
     ensures written { Shows S.Store log.old log.new result (WritesList listing.now W.contents out.old out.new) }
     ensures faults { IfErr result IsFailure }
     ensures unchanged { StaysInOk S.Store log.old log.new result }
+    ensures device { StaysAtDevice S.Store log.old log.new result }
     ensures crash { LeavesNoMore S.Store log.old log.new }
 {
     let mut walk = begin(alloc, log)?;
@@ -213,6 +217,7 @@ pub fn export<S: Store, W: Write + Drop>(
     ensures written { Finds S.Store log.old log.new result (WritesPairs W.contents out) }
     ensures faults { IfErr result IsFailure }
     ensures unchanged { StaysInOk S.Store log.old log.new result }
+    ensures device { StaysAtDevice S.Store log.old log.new result }
     ensures crash { LeavesNoMore S.Store log.old log.new }
 {
     let mut writer = begin_pairs(out)?;
@@ -239,6 +244,7 @@ pub fn export_log<S: Store, W: Write + Drop>(
     ensures written { Finds S.Store log.old log.new result (WritesLog W.contents out) }
     ensures faults { IfErr result IsFailure }
     ensures unchanged { StaysInOk S.Store log.old log.new result }
+    ensures device { StaysAtDevice S.Store log.old log.new result }
     ensures crash { LeavesNoMore S.Store log.old log.new }
 {
     let entries = read_log(alloc, log)?;

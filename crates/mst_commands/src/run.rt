@@ -1,4 +1,9 @@
 //! A command on an open store.
+ghost use Rattle.std.specs.Prelude.{◌≡◌, IfErr, OnOk};
+ghost use Rattle.store_table.specs.Logs.{Makes, Leaves, LeavesNoMore, StaysInOk};
+ghost use Rattle.mst_commands.specs.Carries.{Carries, Compacts, ImportsGiven, Puts};
+ghost use Rattle.mst_commands.specs.Faults.{IsDevice, StaysAtDevice};
+
 use crate::bounds::{Bounds, Listing};
 use crate::clock::{latest, now};
 use crate::fault::Fault;
@@ -17,7 +22,10 @@ fn put_given<S: Store>(
     log: &mut Log<S>,
     writer: &str,
     given: &Given<'_>,
-) -> Result<(), Fault> {
+) -> Result<(), Fault>
+    ensures carried { Makes S.Store log.old log.new result (Puts writer.now given.now) }
+    ensures crash { Leaves S.Store log.old log.new (Puts writer.now given.now) }
+{
     let alloc = rt.alloc();
     let text = if given.is_input {
         read_text(alloc, rt.stdin())?
@@ -28,7 +36,11 @@ fn put_given<S: Store>(
 }
 
 /// Prints the value of a key.
-fn print_value<S: Store>(rt: &HostRuntime, log: &mut Log<S>, key: &str) -> Result<(), Fault> {
+fn print_value<S: Store>(rt: &HostRuntime, log: &mut Log<S>, key: &str) -> Result<(), Fault>
+    ensures unchanged { StaysInOk S.Store log.old log.new result }
+    ensures device { StaysAtDevice S.Store log.old log.new result }
+    ensures crash { LeavesNoMore S.Store log.old log.new }
+{
     let mut out = BufWriter::new(rt.alloc(), io::writer(rt))?;
     get(rt.alloc(), log, &mut out, key)?;
     out.flush()?;
@@ -36,11 +48,11 @@ fn print_value<S: Store>(rt: &HostRuntime, log: &mut Log<S>, key: &str) -> Resul
 }
 
 /// Prints the keys with their values.
-fn print_list<S: Store>(
-    rt: &HostRuntime,
-    log: &mut Log<S>,
-    given: &Given<'_>,
-) -> Result<(), Fault> {
+fn print_list<S: Store>(rt: &HostRuntime, log: &mut Log<S>, given: &Given<'_>) -> Result<(), Fault>
+    ensures unchanged { StaysInOk S.Store log.old log.new result }
+    ensures device { StaysAtDevice S.Store log.old log.new result }
+    ensures crash { LeavesNoMore S.Store log.old log.new }
+{
     let mut out = BufWriter::new(rt.alloc(), io::writer(rt))?;
     let listing = Listing {
         bounds: Bounds {
@@ -57,7 +69,10 @@ fn print_list<S: Store>(
 }
 
 /// What was printed. A reader who has gone wanted no more, so that it is no failure.
-fn unless_gone(printed: Result<(), Fault>) -> Result<(), Fault> {
+fn unless_gone(printed: Result<(), Fault>) -> Result<(), Fault>
+    ensures gone { OnOk result (IfErr printed IsDevice) }
+    ensures told { IfErr result (λ why. printed ≡ Err why) }
+{
     match printed {
         Err(Fault::Device(error)) if error.kind() == ErrorKind::BrokenPipe => Ok(()),
         printed => printed,
@@ -65,7 +80,10 @@ fn unless_gone(printed: Result<(), Fault>) -> Result<(), Fault> {
 }
 
 /// Prints how many keys there are.
-fn print_count<S: Store>(rt: &HostRuntime, log: &mut Log<S>) -> Result<(), Fault> {
+fn print_count<S: Store>(rt: &HostRuntime, log: &mut Log<S>) -> Result<(), Fault>
+    ensures unchanged { StaysInOk S.Store log.old log.new result }
+    ensures crash { LeavesNoMore S.Store log.old log.new }
+{
     let mut out = BufWriter::new(rt.alloc(), io::writer(rt))?;
     count(rt.alloc(), log, &mut out)?;
     out.flush()?;
@@ -73,7 +91,10 @@ fn print_count<S: Store>(rt: &HostRuntime, log: &mut Log<S>) -> Result<(), Fault
 }
 
 /// Prints what the file holds.
-fn print_status<S: Store>(rt: &HostRuntime, log: &mut Log<S>, writer: &str) -> Result<(), Fault> {
+fn print_status<S: Store>(rt: &HostRuntime, log: &mut Log<S>, writer: &str) -> Result<(), Fault>
+    ensures unchanged { StaysInOk S.Store log.old log.new result }
+    ensures crash { LeavesNoMore S.Store log.old log.new }
+{
     let mut out = BufWriter::new(rt.alloc(), io::writer(rt))?;
     status(rt.alloc(), log, &mut out, writer)?;
     out.flush()?;
@@ -81,7 +102,11 @@ fn print_status<S: Store>(rt: &HostRuntime, log: &mut Log<S>, writer: &str) -> R
 }
 
 /// Prints the keys and values, or the log, as CSV.
-fn print_csv<S: Store>(rt: &HostRuntime, log: &mut Log<S>, is_log: bool) -> Result<(), Fault> {
+fn print_csv<S: Store>(rt: &HostRuntime, log: &mut Log<S>, is_log: bool) -> Result<(), Fault>
+    ensures unchanged { StaysInOk S.Store log.old log.new result }
+    ensures device { StaysAtDevice S.Store log.old log.new result }
+    ensures crash { LeavesNoMore S.Store log.old log.new }
+{
     let alloc = rt.alloc();
     let out = BufWriter::new(alloc, io::writer(rt))?;
     if is_log {
@@ -98,7 +123,10 @@ fn import_given<S: Store>(
     log: &mut Log<S>,
     writer: &str,
     given: &Given<'_>,
-) -> Result<(), Fault> {
+) -> Result<(), Fault>
+    ensures carried { Makes S.Store log.old log.new result (ImportsGiven writer.now given.now) }
+    ensures crash { Leaves S.Store log.old log.new (ImportsGiven writer.now given.now) }
+{
     let time = now(rt)?;
     let limit = if given.log {
         Some(latest(time, given.ahead))
@@ -116,9 +144,12 @@ fn import_given<S: Store>(
 fn compact_given<S: Store>(
     rt: &HostRuntime,
     log: &mut Log<S>,
-    forget: Option<u64>,
-) -> Result<(), Fault> {
-    let before = match forget {
+    given: &Given<'_>,
+) -> Result<(), Fault>
+    ensures carried { Makes S.Store log.old log.new result (Compacts given.now) }
+    ensures crash { Leaves S.Store log.old log.new (Compacts given.now) }
+{
+    let before = match given.forget {
         Some(span) => now(rt)?.saturating_sub(span),
         None => 0,
     };
@@ -133,7 +164,11 @@ pub fn run<S: Store>(
     writer: &str,
     verb: Verb,
     given: &Given<'_>,
-) -> Result<(), Fault> {
+) -> Result<(), Fault>
+    ensures carried { Makes S.Store log.old log.new result (Carries verb writer.now given.now) }
+    // A crash leaves what it could leave before, or trees with what the command writes.
+    ensures crash { Leaves S.Store log.old log.new (Carries verb writer.now given.now) }
+{
     let alloc = rt.alloc();
     match verb {
         Verb::Put => put_given(rt, log, writer, given),
@@ -144,7 +179,7 @@ pub fn run<S: Store>(
         Verb::Status => print_status(rt, log, writer),
         Verb::Import => import_given(rt, log, writer, given),
         Verb::Export => unless_gone(print_csv(rt, log, given.log)),
-        Verb::Compact => compact_given(rt, log, given.forget),
+        Verb::Compact => compact_given(rt, log, given),
         _ => Ok(()),
     }
 }

@@ -1,2 +1,4 @@
 pub mod HashKeyLemmas
+pub mod LineLemmas
 pub mod SpanLemmas
+pub mod WordLemmas

@@ -1,5 +1,6 @@
 //! The words of a line of the shell.
-ghost use Rattle.std.specs.Prelude.{◌≡◌};
+ghost use Rattle.std.specs.Prelude.{◌≡◌, None, Some, IfOk, IsErrOf, map, string_bytes};
+ghost use Rattle.mst_words.specs.Lines.{IsRead, ended, line_of, meant_by as meaning_of, next, read_plain as plainly_read, start, words_in};
 
 use std::alloc::{AllocError, Global};
 
@@ -36,7 +37,9 @@ enum Place {
 }
 
 /// The character for which one behind a backslash stands.
-fn meant_by(character: char) -> Option<char> {
+fn meant_by(character: char) -> Option<char>
+    ensures { result ≡ meaning_of character }
+{
     match character {
         't' => Some('\t'),
         'n' => Some('\n'),
@@ -56,7 +59,9 @@ struct Reading {
 }
 
 /// Ends the word.
-fn end_word(alloc: Global, reading: Reading) -> Result<Reading, NoWords> {
+fn end_word(alloc: Global, reading: Reading) -> Result<Reading, NoWords>
+    ensures { IsRead (Some (ended (line_of reading))) result }
+{
     let mut reading = reading;
     let word = reading.word;
     reading.word = String::new(alloc);
@@ -68,7 +73,9 @@ fn end_word(alloc: Global, reading: Reading) -> Result<Reading, NoWords> {
 }
 
 /// Reads a character outside of quotes.
-fn read_plain(alloc: Global, reading: Reading, character: char) -> Result<Reading, NoWords> {
+fn read_plain(alloc: Global, reading: Reading, character: char) -> Result<Reading, NoWords>
+    ensures { IsRead (Some (plainly_read character (line_of reading))) result }
+{
     let mut reading = reading;
     match character {
         ' ' | '\t' => {
@@ -86,7 +93,9 @@ fn read_plain(alloc: Global, reading: Reading, character: char) -> Result<Readin
 }
 
 /// Reads a character.
-fn read(alloc: Global, reading: Reading, character: char) -> Result<Reading, NoWords> {
+fn read(alloc: Global, reading: Reading, character: char) -> Result<Reading, NoWords>
+    ensures { IsRead (next character (line_of reading)) result }
+{
     let mut reading = reading;
     match reading.place {
         Place::Between | Place::Within => return read_plain(alloc, reading, character),
@@ -112,13 +121,16 @@ fn read(alloc: Global, reading: Reading, character: char) -> Result<Reading, NoW
 /// # Errors
 ///
 /// [`NoWords`]
-pub fn words_of(alloc: Global, line: &str) -> Result<Vec<String>, NoWords> {
+pub fn words_of(alloc: Global, line: &str) -> Result<Vec<String>, NoWords>
+    ensures words { IfOk result (λ words. words_in line.now ≡ Some (map string_bytes words.items)) }
+    ensures none { IsErrOf result NoWords.Wrong → words_in line.now ≡ None }
+{
     let mut reading = Reading {
         words: Vec::new(alloc),
         word: String::new(alloc),
         place: Place::Between,
     };
-    for character in line.chars() {
+    'characters: for character in line.chars() {
         reading = read(alloc, reading, character)?;
     }
     match reading.place {

@@ -1,7 +1,15 @@
 //! A command line as what it asks for.
+ghost use Rattle.std.specs.Prelude.{◌≡◌, map, codes, slice_get, string_bytes, false};
+ghost use Rattle.std.specs.Option.{option_copied, option_map_or};
+ghost use Rattle.mst_words.specs.Commands.{Asks, AsksNamed, Gives, IsBeforeValue, IsNumber, Reads, Sets, Takes, TakesOption, finished, is_alone as said_alone, is_option as begins_option, placed as says_at, stands};
+ghost use Rattle.mst_words.specs.Forms.{least_of, place_name, places_of};
+ghost use Rattle.mst_words.specs.Said.{NoNumber, begun, command_of, reading_of, request_of, said_by, told};
+
 use crate::hash_key::hash_key_of;
 use crate::span::milliseconds_of;
-use crate::verb::{Form, Place, Setting, Verb, form_of, has_value, setting_of, verb_of};
+use crate::verb::{
+    Form, Place, Setting, Verb, form_of, has_value, setting_of, takes_setting, verb_of,
+};
 use crate::wrong::Wrong;
 
 /// What the words of a command give.
@@ -54,7 +62,9 @@ struct Taken<'a> {
 }
 
 /// No words, of a file that is known or to come.
-fn nothing<'a>(file: Option<&'a str>) -> Taken<'a> {
+fn nothing<'a>(file: Option<&'a str>) -> Taken<'a>
+    ensures { reading_of result ≡ begun (option_copied file.entry) }
+{
     Taken {
         given: Given {
             key: "",
@@ -80,7 +90,9 @@ fn nothing<'a>(file: Option<&'a str>) -> Taken<'a> {
 }
 
 /// What is given, with a word at its place.
-fn placed<'a>(given: Given<'a>, place: Place, word: &'a str, is_behind: bool) -> Given<'a> {
+fn placed<'a>(given: Given<'a>, place: Place, word: &'a str, is_behind: bool) -> Given<'a>
+    ensures { said_by result ≡ says_at place word.now is_behind (said_by given.entry) }
+{
     let mut given = given;
     match place {
         Place::Key => given.key = word,
@@ -96,9 +108,13 @@ fn placed<'a>(given: Given<'a>, place: Place, word: &'a str, is_behind: bool) ->
 /// Takes a word at its place.
 fn at_place<'a>(
     taken: Taken<'a>,
+    verb: Verb,
     places: &'static [Place],
     word: &'a str,
-) -> Result<Taken<'a>, Wrong<'a>> {
+) -> Result<Taken<'a>, Wrong<'a>>
+    requires { places.now ≡ places_of verb }
+    ensures { told reading_of result ≡ stands verb (option_copied taken.entry.file) word.now (reading_of taken.entry) }
+{
     let mut taken = taken;
     if taken.file.is_none() {
         taken.file = Some(word);
@@ -113,7 +129,9 @@ fn at_place<'a>(
 }
 
 /// The number that a word is.
-fn number_of(word: &str) -> Result<u64, Wrong<'_>> {
+fn number_of(word: &str) -> Result<u64, Wrong<'_>>
+    ensures { Reads IsNumber word.now (λ number. number) (NoNumber word.now) (told (λ number. number) result) }
+{
     match word.parse() {
         Ok(number) => Ok(number),
         Err(_) => Err(Wrong::NoNumber(word)),
@@ -121,11 +139,9 @@ fn number_of(word: &str) -> Result<u64, Wrong<'_>> {
 }
 
 /// Takes the value of a setting.
-fn with_value<'a>(
-    given: Given<'a>,
-    setting: Setting,
-    word: &'a str,
-) -> Result<Given<'a>, Wrong<'a>> {
+fn with_value<'a>(given: Given<'a>, setting: Setting, word: &'a str) -> Result<Given<'a>, Wrong<'a>>
+    ensures { Sets setting word.now (said_by given.entry) (told said_by result) }
+{
     let mut given = given;
     match setting {
         Setting::From => given.from = Some(word),
@@ -149,11 +165,9 @@ fn with_value<'a>(
 }
 
 /// Takes an option, and its value where it has one behind `=`.
-fn at_option<'a>(
-    taken: Taken<'a>,
-    settings: &'static [Setting],
-    word: &'a str,
-) -> Result<Taken<'a>, Wrong<'a>> {
+fn at_option<'a>(taken: Taken<'a>, verb: Verb, word: &'a str) -> Result<Taken<'a>, Wrong<'a>>
+    ensures { TakesOption verb word.now (reading_of taken.entry) (told reading_of result) }
+{
     let mut taken = taken;
     let (name, value) = match word.split_once('=') {
         Some((name, value)) => (name, Some(value)),
@@ -162,7 +176,7 @@ fn at_option<'a>(
     let Some(setting) = setting_of(name) else {
         return Err(Wrong::NoSuchOption(name));
     };
-    if !settings.contains(&setting) {
+    if !takes_setting(verb, setting) {
         return Err(Wrong::NoSuchOption(name));
     }
     match value {
@@ -184,12 +198,22 @@ fn at_option<'a>(
 }
 
 /// Whether a word is an option, where `--` hasn't come.
-fn is_option(word: &str) -> bool {
+fn is_option(word: &str) -> bool
+    ensures { result ≡ begins_option word.now }
+{
     word != "-" && word.as_bytes().starts_with(b"-")
 }
 
 /// Takes the next word.
-fn take<'a>(taken: Taken<'a>, form: &Form, word: &'a str) -> Result<Taken<'a>, Wrong<'a>> {
+fn take<'a>(
+    taken: Taken<'a>,
+    verb: Verb,
+    form: &Form,
+    word: &'a str,
+) -> Result<Taken<'a>, Wrong<'a>>
+    requires { form.now.places.now ≡ places_of verb }
+    ensures { Takes verb taken.entry.pending word.now (reading_of taken.entry) (told reading_of result) }
+{
     let mut taken = taken;
     if let Some(setting) = taken.pending {
         taken.pending = None;
@@ -197,17 +221,19 @@ fn take<'a>(taken: Taken<'a>, form: &Form, word: &'a str) -> Result<Taken<'a>, W
         return Ok(taken);
     }
     if taken.is_behind || !is_option(word) {
-        return at_place(taken, form.places, word);
+        return at_place(taken, verb, form.places, word);
     }
     if word == "--" {
         taken.is_behind = true;
         return Ok(taken);
     }
-    at_option(taken, form.settings, word)
+    at_option(taken, verb, word)
 }
 
 /// What a place is called.
-fn name_of(places: &'static [Place], at: usize) -> &'static str {
+fn name_of(places: &'static [Place], at: usize) -> &'static str
+    ensures { result.now ≡ option_map_or place_name (slice_get places.now at) (codes "WRITER") }
+{
     match places.get(at) {
         Some(Place::Key) => "KEY",
         Some(Place::Value) => "VALUE",
@@ -216,12 +242,18 @@ fn name_of(places: &'static [Place], at: usize) -> &'static str {
 }
 
 /// Whether entries may be ahead of the clock where a command takes none of another copy, as an import without a log does.
-fn is_alone(given: &Given<'_>, form: &Form) -> bool {
-    given.ahead && !given.log && form.settings.contains(&Setting::Log)
+fn is_alone(given: &Given<'_>, verb: Verb) -> bool
+    ensures { result ≡ said_alone verb (said_by given.now) }
+{
+    given.ahead && !given.log && takes_setting(verb, Setting::Log)
 }
 
 /// The file and what is given, once all words are taken.
-fn finish<'a>(taken: Taken<'a>, form: &Form) -> Result<(&'a str, Given<'a>), Wrong<'a>> {
+fn finish<'a>(taken: Taken<'a>, verb: Verb, form: &Form) -> Result<(&'a str, Given<'a>), Wrong<'a>>
+    requires places { form.now.places.now ≡ places_of verb }
+    requires least { form.now.least ≡ least_of verb }
+    ensures { told command_of result ≡ finished verb taken.entry.pending (option_copied taken.entry.file) (reading_of taken.entry) }
+{
     if taken.pending.is_some() {
         return Err(Wrong::NoValue("the last option"));
     }
@@ -231,7 +263,7 @@ fn finish<'a>(taken: Taken<'a>, form: &Form) -> Result<(&'a str, Given<'a>), Wro
     if taken.places < form.least {
         return Err(Wrong::Missing(name_of(form.places, taken.places)));
     }
-    if is_alone(&taken.given, form) {
+    if is_alone(&taken.given, verb) {
         return Err(Wrong::NoLog("--allow-ahead"));
     }
     Ok((file, taken.given))
@@ -246,27 +278,31 @@ pub fn given_of<'a>(
     verb: Verb,
     file: Option<&'a str>,
     words: &'a [String],
-) -> Result<(&'a str, Given<'a>), Wrong<'a>> {
+) -> Result<(&'a str, Given<'a>), Wrong<'a>>
+    ensures { Gives verb (option_copied file.entry) (map string_bytes words.now) (told command_of result) }
+{
     let form = form_of(verb);
     let mut taken = nothing(file);
-    for word in words {
-        taken = take(taken, &form, word.as_str())?;
+    'words: for word in words {
+        taken = take(taken, verb, &form, word.as_str())?;
     }
-    finish(taken, &form)
+    finish(taken, verb, &form)
 }
 
 /// Whether the word behind this one is the value of an option that the command takes.
-fn is_before_value(form: &Form, word: &str) -> bool {
+fn is_before_value(verb: Verb, word: &str) -> bool
+    ensures { IsBeforeValue verb word.now result }
+{
     match setting_of(word) {
-        Some(setting) => form.settings.contains(&setting) && has_value(setting),
+        Some(setting) => takes_setting(verb, setting) && has_value(setting),
         None => false,
     }
 }
 
 /// Whether the words behind a command ask for help, where an option may stand: neither as the value of one, nor behind `--`.
-fn asks_help(form: &Form, words: &[String]) -> bool {
+fn asks_help(verb: Verb, words: &[String]) -> bool {
     let mut is_value = false;
-    for word in words {
+    'words: for word in words {
         if is_value {
             is_value = false;
             continue;
@@ -274,18 +310,20 @@ fn asks_help(form: &Form, words: &[String]) -> bool {
         match word.as_str() {
             "--help" | "-h" => return true,
             "--" => return false,
-            name => is_value = is_before_value(form, name),
+            name => is_value = is_before_value(verb, name),
         }
     }
     false
 }
 
 /// What the words behind a command ask for.
-fn of_command<'a>(name: &'a str, words: &'a [String]) -> Result<Asked<'a>, Wrong<'a>> {
+fn of_command<'a>(name: &'a str, words: &'a [String]) -> Result<Asked<'a>, Wrong<'a>>
+    ensures { AsksNamed name.now (map string_bytes words.now) (told request_of result) }
+{
     let Some(verb) = verb_of(name) else {
         return Err(Wrong::NoSuchCommand(name));
     };
-    if asks_help(&form_of(verb), words) {
+    if asks_help(verb, words) {
         return Ok(Asked::HelpOf(verb));
     }
     let (file, given) = given_of(verb, None, words)?;
@@ -297,7 +335,9 @@ fn of_command<'a>(name: &'a str, words: &'a [String]) -> Result<Asked<'a>, Wrong
 /// # Errors
 ///
 /// [`Wrong`] says the first word that is wrong, or what is missing.
-pub fn read_words<'a>(words: &'a [String]) -> Result<Asked<'a>, Wrong<'a>> {
+pub fn read_words<'a>(words: &'a [String]) -> Result<Asked<'a>, Wrong<'a>>
+    ensures { Asks (map string_bytes words.now) (told request_of result) }
+{
     let Some((first, rest)) = words.split_first() else {
         return Err(Wrong::NoCommand);
     };

@@ -1,5 +1,6 @@
 //! The commands, and what each takes.
 ghost use Rattle.std.specs.Prelude.{◌≡◌};
+ghost use Rattle.mst_words.specs.Forms.{places_of as places_behind, least_of, takes};
 ghost use Rattle.mst_words.specs.Names.{IsVerbOf, IsSettingOf, takes_value};
 
 /// A command.
@@ -53,8 +54,6 @@ pub struct Form {
     pub places: &'static [Place],
     /// How many of the places have to be there.
     pub least: usize,
-    /// Which settings the command takes.
-    pub settings: &'static [Setting],
     /// Its usage, and what it does.
     pub help: &'static str,
 }
@@ -227,7 +226,9 @@ Answers a peer that pulls, on standard input and standard output.
 ";
 
 /// What stands at each place behind the file.
-fn places_of(verb: Verb) -> &'static [Place] {
+fn places_of(verb: Verb) -> &'static [Place]
+    ensures { result.now ≡ places_behind verb }
+{
     match verb {
         Verb::Init => &[Place::Writer],
         Verb::Put => &[Place::Key, Place::Value],
@@ -236,23 +237,19 @@ fn places_of(verb: Verb) -> &'static [Place] {
     }
 }
 
-/// Which settings a command takes.
-fn settings_of(verb: Verb) -> &'static [Setting] {
-    match verb {
-        Verb::Init => &[Setting::HashKey],
-        Verb::List => &[
-            Setting::From,
-            Setting::To,
-            Setting::Prefix,
-            Setting::Limit,
-            Setting::Json,
-            Setting::Wait,
-        ],
-        Verb::Import => &[Setting::Log, Setting::Ahead, Setting::Wait],
-        Verb::Export => &[Setting::Log, Setting::Wait],
-        Verb::Compact => &[Setting::Forget, Setting::Wait],
-        Verb::Pull | Verb::Diff => &[Setting::Ahead, Setting::Wait],
-        _ => &[Setting::Wait],
+/// Whether a command takes a setting.
+pub fn takes_setting(verb: Verb, setting: Setting) -> bool
+    ensures { result ≡ takes verb setting }
+{
+    match setting {
+        Setting::Wait => !matches!(verb, Verb::Init),
+        Setting::HashKey => matches!(verb, Verb::Init),
+        Setting::From | Setting::To | Setting::Prefix | Setting::Limit | Setting::Json => {
+            matches!(verb, Verb::List)
+        }
+        Setting::Log => matches!(verb, Verb::Import | Verb::Export),
+        Setting::Ahead => matches!(verb, Verb::Import | Verb::Pull | Verb::Diff),
+        Setting::Forget => matches!(verb, Verb::Compact),
     }
 }
 
@@ -279,14 +276,16 @@ fn help_of(verb: Verb) -> &'static str {
 }
 
 /// How the words of a command are given.
-pub fn form_of(verb: Verb) -> Form {
+pub fn form_of(verb: Verb) -> Form
+    ensures places { result.places.now ≡ places_behind verb }
+    ensures least { result.least ≡ least_of verb }
+{
     Form {
         places: places_of(verb),
         least: match verb {
             Verb::Init => 0,
             _ => places_of(verb).len(),
         },
-        settings: settings_of(verb),
         help: help_of(verb),
     }
 }

@@ -1,0 +1,52 @@
+-- What each command makes of the table of a store.
+use Rattle.std.specs.Prelude.{◌≡◌, ◌+◌, ◌-◌, ◌^◌, min, ℕ, false, true, List, Option, Some, None, if◌then◌else◌, string_bytes}
+use Rattle.key_order.specs.Text.{Text as Key}
+use Rattle.mst_words.specs.declared.parse.Given.{Given}
+use Rattle.mst_words.specs.declared.verb.Verb.{Verb}
+use Rattle.mst_words.specs.declared.verb.Verb.TheVariants.{Put, Del, Import, Compact}
+use Rattle.sqlite_trees.specs.Tree.{Trees}
+use Rattle.store_table.specs.Latest.{IsThere}
+use Rattle.store_table.specs.Rows.{IsCompacted}
+use Rattle.mst_commands.specs.Imports.{Imports}
+use Rattle.mst_commands.specs.Writes.{WritesBy}
+
+-- the text is the value that was given, unless that is read from the input
+abbrev pub IsGiven : Given → Key → Type 0
+IsGiven given text = given.is_input ≡ false → string_bytes text ≡ given.value.now
+
+-- a put writes the value under the key, at some time of the clock
+abbrev pub Puts : List ℕ → Given → Trees → Trees → Type 0
+Puts name given old new = (now : ℕ) × (text : Key) × IsGiven given text × WritesBy given.key.now name now (Some text) old new
+
+-- a removal is written of the key
+abbrev pub Dels : List ℕ → Given → Trees → Trees → Type 0
+Dels name given old new = (now : ℕ) × WritesBy given.key.now name now None old new
+
+-- the latest time that an entry of a log may have: a day ahead of the clock, or any that there is
+abbrev pub latest_time : Given → ℕ → ℕ
+latest_time given now = if given.ahead then 2 ^ 64 - 1 else min (now + 86400000) (2 ^ 64 - 1)
+
+-- it is asked for where a log is imported
+abbrev pub limit_of : Given → ℕ → Option ℕ
+limit_of given now = if given.log then Some (latest_time given now) else None
+
+-- an import adds the entries of what the input had
+abbrev pub ImportsGiven : List ℕ → Given → Trees → Trees → Type 0
+ImportsGiven name given old new = (now : ℕ) × (text : Option (List ℕ)) × Imports text (limit_of given now) name now old new
+
+-- the time below which a compaction drops removals: so long before the clock's, or none
+abbrev pub forgets_below : Option ℕ → ℕ → ℕ
+forgets_below None now = 0
+forgets_below (Some span) now = now - span
+
+-- a compaction leaves the latest row of each key, but for old removals
+abbrev pub Compacts : Given → Trees → Trees → Type 0
+Compacts given old new = (now : ℕ) × IsCompacted (forgets_below given.forget now) old new
+
+-- what a command makes of the table, by the writer of this name and with what it is given: those that read leave it as it is
+abbrev pub Carries : Verb → List ℕ → Given → Trees → Trees → Type 0
+Carries Put name given old new = Puts name given old new
+Carries Del name given old new = Dels name given old new
+Carries Import name given old new = ImportsGiven name given old new
+Carries Compact name given old new = Compacts given old new
+Carries _ name given old new = new ≡ old

@@ -1,0 +1,183 @@
+-- What the words of a command line ask for, and what of them is wrong.
+use Rattle.std.specs.Prelude.{◌≡◌, ◌+◌, ◌^◌, ◌<◌, ℕ, nat_eq, nat_lt, Bool, true, false, not, ◌&&◌, ◌||◌, ◌==◌, if◌then◌else◌, List, [], ◌∷◌, length, codes, Option, Some, None, is_some, option_map, Result, Ok, Err, MatchBool, slice_get}
+use Rattle.std.specs.List.{position_or_len, before_first, after_first, starts_with}
+use Rattle.std.specs.Option.{option_map_or}
+use Rattle.std.specs.Str.{bytes_eq}
+use Rattle.std.specs.Str.Parse.{IsNumeral, digits_value, without_leading_plus}
+use Rattle.mst_words.specs.Forms.{places_of, least_of, place_name, takes}
+use Rattle.mst_words.specs.HashKeys.{IsHashKey}
+use Rattle.mst_words.specs.Names.{IsVerbOf, IsSettingOf, setting_name, takes_value}
+use Rattle.mst_words.specs.Said.{Word, Said, Reading, Request, Help, HelpOf, Version, Run, Mistake, NoCommand, NoSuchCommand, NoSuchOption, NoValue, HasValue, NoNumber, NoSpan, NoHashKey, LeftOver, Missing, NoLog, begun}
+use Rattle.mst_words.specs.Spans.{IsSpan}
+use Rattle.mst_words.specs.declared.verb.Place.{Place}
+use Rattle.mst_words.specs.declared.verb.Place.TheVariants.{Key, Value, Writer}
+use Rattle.mst_words.specs.declared.verb.Setting.{Setting}
+use Rattle.mst_words.specs.declared.verb.Setting.TheVariants.{From, To, Prefix, Limit, Json, Log, Forget, Ahead, Wait, HashKey as ForHashKey}
+use Rattle.mst_words.specs.declared.verb.Verb.{Verb}
+
+-- the word is the decimal digits of this number of 64 bits, which may stand behind a plus
+abbrev pub IsNumber : Word → ℕ → Type 0
+IsNumber word number =
+    IsNumeral 10 (without_leading_plus word) × (number ≡ digits_value 10 (without_leading_plus word)) × (number < 2 ^ 64)
+
+-- what is made of the thing that a word is, or this mistake where it is none
+abbrev pub Reads : {A B : Type 0} → (Word → A → Type 0) → Word → (A → B) → Mistake → Result B Mistake → Type 0
+Reads {A} Is word make wrong (Ok made) = (thing : A) × Is word thing × (made ≡ make thing)
+Reads {A} Is word make wrong (Err why) = ((thing : A) → ¬ Is word thing) × (why ≡ wrong)
+
+-- what a word at a place says; the value `-` is read from standard input, unless `--` stands before it
+abbrev pub placed : Place → Word → Bool → Said → Said
+placed Key word is_behind said = record said { key = word }
+placed Value word is_behind said = record said { value = word; is_input = bytes_eq word (codes "-") && not is_behind }
+placed Writer word is_behind said = record said { writer = Some word }
+
+-- what a setting with this value says beside what is said
+abbrev pub Sets : Setting → Word → Said → Result Said Mistake → Type 0
+Sets From word said result = result ≡ Ok (record said { from = Some word })
+Sets To word said result = result ≡ Ok (record said { to = Some word })
+Sets Prefix word said result = result ≡ Ok (record said { prefix = Some word })
+Sets Limit word said result = Reads IsNumber word (λ number. record said { limit = Some number }) (NoNumber word) result
+Sets Wait word said result = Reads IsNumber word (λ number. record said { wait = number }) (NoNumber word) result
+Sets Forget word said result = Reads IsSpan word (λ span. record said { forget = Some span }) (NoSpan word) result
+Sets ForHashKey word said result = Reads IsHashKey word (λ key. record said { hash_key = Some key }) (NoHashKey word) result
+Sets Json word said result = result ≡ Ok (record said { json = true })
+Sets Log word said result = result ≡ Ok (record said { log = true })
+Sets Ahead word said result = result ≡ Ok (record said { ahead = true })
+
+-- the same where words were read before
+abbrev pub SetsOn : Setting → Word → Reading → Result Reading Mistake → Type 0
+SetsOn setting word reading (Ok next) = (said : Said) × Sets setting word reading.said (Ok said) × (next ≡ record reading { said = said })
+SetsOn setting word reading (Err why) = Sets setting word reading.said (Err why)
+
+-- the place at which the next word stands has this word, or it is left over
+abbrev pub at_place : Option Place → Word → Reading → Result Reading Mistake
+at_place None word reading = Err (LeftOver word)
+at_place (Some place) word reading =
+    Ok (record reading { said = placed place word reading.is_behind reading.said; places = reading.places + 1 })
+
+-- the first word that is no option is the file, and those behind it stand at the places of the command
+abbrev pub stands : Verb → Option Word → Word → Reading → Result Reading Mistake
+stands verb None word reading = Ok (record reading { file = Some word })
+stands verb (Some file) word reading = at_place (slice_get (places_of verb) reading.places) word reading
+
+-- whether a word has an equals sign
+abbrev pub has_equals : Word → Bool
+has_equals word = nat_lt (position_or_len (λ b. b == 61) word) (length word)
+
+-- the name of an option: what stands before the first equals sign
+abbrev pub option_name : Word → Word
+option_name word = if has_equals word then before_first (λ b. b == 61) word else word
+
+-- its value, where it has an equals sign
+abbrev pub option_value : Word → Option Word
+option_value word = if has_equals word then Some (after_first (λ b. b == 61) word) else None
+
+-- a setting that has a value, or has none, comes with a value or without one
+abbrev pub Comes : Bool → Setting → Word → Option Word → Reading → Result Reading Mistake → Type 0
+Comes true setting name (Some value) reading result = SetsOn setting value reading result
+Comes true setting name None reading result = result ≡ Ok (record reading { pending = Some setting })
+Comes false setting name (Some value) reading result = result ≡ Err (HasValue name)
+Comes false setting name None reading result = SetsOn setting name reading result
+
+-- the option of a setting that the command takes, or none that it has
+abbrev pub Opts : Verb → Option Setting → Word → Option Word → Reading → Result Reading Mistake → Type 0
+Opts verb None name value reading result = result ≡ Err (NoSuchOption name)
+Opts verb (Some setting) name value reading result =
+    MatchBool (takes verb setting) (Comes (takes_value setting) setting name value reading result) (result ≡ Err (NoSuchOption name))
+
+-- the option that a word is
+abbrev pub TakesOption : Verb → Word → Reading → Result Reading Mistake → Type 0
+TakesOption verb word reading result =
+    (found : Option Setting) × IsSettingOf (option_name word) found × Opts verb found (option_name word) (option_value word) reading result
+
+-- whether a word begins as an option does
+abbrev pub is_option : Word → Bool
+is_option word = not (bytes_eq word (codes "-")) && starts_with nat_eq word (codes "-")
+
+-- the next word, where no value is to come: behind `--` no word is an option
+abbrev pub TakesWord : Verb → Word → Reading → Result Reading Mistake → Type 0
+TakesWord verb word reading result =
+    MatchBool (reading.is_behind || not (is_option word)) (result ≡ stands verb reading.file word reading)
+    (MatchBool (bytes_eq word (codes "--")) (result ≡ Ok (record reading { is_behind = true })) (TakesOption verb word reading result))
+
+-- the next word, which is the value of the setting that is to have one
+abbrev pub Takes : Verb → Option Setting → Word → Reading → Result Reading Mistake → Type 0
+Takes verb (Some setting) word reading result = SetsOn setting word (record reading { pending = None }) result
+Takes verb None word reading result = TakesWord verb word reading result
+
+-- whether entries may be ahead of the clock where an import takes no log
+abbrev pub is_alone : Verb → Said → Bool
+is_alone verb said = said.ahead && (not said.log && takes verb Log)
+
+-- the name of the place that is missing
+abbrev pub missing : Verb → ℕ → Mistake
+missing verb place = Missing (option_map_or place_name (slice_get (places_of verb) place) (codes "WRITER"))
+
+-- the file and what is said, where the words at places are there
+abbrev pub completed : Verb → Word → Reading → Result (Word × Said) Mistake
+completed verb file reading =
+    if nat_lt reading.places (least_of verb) then Err (missing verb reading.places)
+    else (if is_alone verb reading.said then Err (NoLog (codes "--allow-ahead")) else Ok (file, reading.said))
+
+-- the file and what is said, once all words are read
+abbrev pub finished : Verb → Option Setting → Option Word → Reading → Result (Word × Said) Mistake
+finished verb (Some setting) file reading = Err (NoValue (codes "the last option"))
+finished verb None None reading = Err (Missing (codes "FILE"))
+finished verb None (Some file) reading = completed verb file reading
+
+-- where a word was taken, the words behind it are read, and else its mistake is that of all
+abbrev pub GoesOn : Result Reading Mistake → (Reading → Type 0) → (Mistake → Type 0) → Type 0
+GoesOn (Ok next) Rest Wrong = Rest next
+GoesOn (Err why) Rest Wrong = Wrong why
+
+-- the words of a command are read one by one, up to the first mistake
+abbrev pub ReadsOn : Verb → Reading → List Word → Result (Word × Said) Mistake → Type 0
+ReadsOn verb reading [] result = result ≡ finished verb reading.pending reading.file reading
+ReadsOn verb reading (word ∷ words) result =
+    (next : Result Reading Mistake) × Takes verb reading.pending word reading next
+    × GoesOn next (λ (to : Reading). ReadsOn verb to words result) (λ why. result ≡ Err why)
+
+-- the words of a command, whose file is known or their first word at a place, give the file and this
+abbrev pub Gives : Verb → Option Word → List Word → Result (Word × Said) Mistake → Type 0
+Gives verb file words result = ReadsOn verb (begun file) words result
+
+-- whether a value stands behind a word, which is an option of the command
+abbrev pub IsBeforeValue : Verb → Word → Bool → Type 0
+IsBeforeValue verb word is_before =
+    (found : Option Setting) × IsSettingOf word found × (is_before ≡ option_map_or (λ setting. takes verb setting && takes_value setting) found false)
+
+-- whether a word asks for help
+abbrev pub is_help : Word → Bool
+is_help word = bytes_eq word (codes "--help") || bytes_eq word (codes "-h")
+
+-- what the words behind the name of a command ask for: its help, or that it is run with what they give
+abbrev pub AsksOf : Verb → List Word → Result Request Mistake → Type 0
+AsksOf verb words (Ok (HelpOf other)) = other ≡ verb
+AsksOf verb words (Ok (Run other file said)) = (other ≡ verb) × Gives verb None words (Ok (file, said))
+AsksOf verb words (Err why) = Gives verb None words (Err why)
+AsksOf verb words (Ok Help) = ⊥
+AsksOf verb words (Ok Version) = ⊥
+
+-- the command of the first word, or no command
+abbrev pub AsksBy : Option Verb → Word → List Word → Result Request Mistake → Type 0
+AsksBy None name words result = result ≡ Err (NoSuchCommand name)
+AsksBy (Some verb) name words result = AsksOf verb words result
+
+-- what a word that names a command and the words behind it ask for
+abbrev pub AsksNamed : Word → List Word → Result Request Mistake → Type 0
+AsksNamed name words result = (found : Option Verb) × IsVerbOf name found × AsksBy found name words result
+
+-- whether the first word asks for the help of the program
+abbrev pub is_help_word : Word → Bool
+is_help_word word = is_help word || bytes_eq word (codes "help")
+
+-- whether it asks for the version
+abbrev pub is_version_word : Word → Bool
+is_version_word word = bytes_eq word (codes "--version") || bytes_eq word (codes "-V")
+
+-- what the words of a command line ask for, without the name of the program
+abbrev pub Asks : List Word → Result Request Mistake → Type 0
+Asks [] result = result ≡ Err NoCommand
+Asks (name ∷ words) result =
+    MatchBool (is_help_word name) (result ≡ Ok Help)
+    (MatchBool (is_version_word name) (result ≡ Ok Version) (AsksNamed name words result))

@@ -1,0 +1,147 @@
+-- What the words of a command line say, as bytes.
+use Rattle.std.specs.Prelude.{ℕ, Bool, false, List, [], Option, Some, None, Result}
+use Rattle.std.specs.Option.{option_copied}
+use Rattle.std.specs.Result.{result_map_both}
+use Rattle.mst_words.specs.declared.parse.Asked.{Asked}
+use Rattle.mst_words.specs.declared.parse.Asked.TheVariants as asked
+use Rattle.mst_words.specs.declared.parse.Given.{Given}
+use Rattle.mst_words.specs.declared.parse.Taken.{Taken}
+use Rattle.mst_words.specs.declared.verb.Setting.{Setting}
+use Rattle.mst_words.specs.declared.verb.Verb.{Verb}
+use Rattle.mst_words.specs.declared.wrong.Wrong.{Wrong}
+use Rattle.mst_words.specs.declared.wrong.Wrong.TheVariants as wrong
+use Rattle.std.specs.Borrow.{Bor}
+
+-- a word
+abbrev pub Word : Type 0
+Word = List ℕ
+
+-- what the words of a command give
+pub record Said : Type 0 where
+  pub key : Word
+  pub value : Word
+  pub is_input : Bool
+  pub writer : Option Word
+  pub hash_key : Option (List ℕ)
+  pub from : Option Word
+  pub to : Option Word
+  pub prefix : Option Word
+  pub limit : Option ℕ
+  pub json : Bool
+  pub log : Bool
+  pub forget : Option ℕ
+  pub ahead : Bool
+  pub wait : ℕ
+
+-- what no words give
+abbrev pub nothing_said : Said
+nothing_said = record {
+  key = [];
+  value = [];
+  is_input = false;
+  writer = None;
+  hash_key = None;
+  from = None;
+  to = None;
+  prefix = None;
+  limit = None;
+  json = false;
+  log = false;
+  forget = None;
+  ahead = false;
+  wait = 0;
+}
+
+-- how far the words of a command have been read: what they give, the file, how many stood at places behind it, the setting whose value is to
+-- come, and whether `--` has come
+pub record Reading : Type 0 where
+  pub said : Said
+  pub file : Option Word
+  pub places : ℕ
+  pub pending : Option Setting
+  pub is_behind : Bool
+
+-- no word has been read, and the file is known or to come
+abbrev pub begun : Option Word → Reading
+begun file = record { said = nothing_said; file = file; places = 0; pending = None; is_behind = false }
+
+-- what a command line asks for
+pub data Request : Type 0 where
+  Help : Request
+  HelpOf : Verb → Request
+  Version : Request
+  Run : Verb → Word → Said → Request
+
+-- what is wrong in a command line
+pub data Mistake : Type 0 where
+  NoCommand : Mistake
+  NoSuchCommand : Word → Mistake
+  NoSuchOption : Word → Mistake
+  NoValue : Word → Mistake
+  HasValue : Word → Mistake
+  NoNumber : Word → Mistake
+  NoSpan : Word → Mistake
+  NoHashKey : Word → Mistake
+  LeftOver : Word → Mistake
+  Missing : Word → Mistake
+  NoLog : Word → Mistake
+  NotText : Mistake
+
+-- what is given, as bytes
+abbrev pub said_by : Given → Said
+said_by given = record {
+  key = given.key.now;
+  value = given.value.now;
+  is_input = given.is_input;
+  writer = option_copied given.writer;
+  hash_key = given.hash_key;
+  from = option_copied given.from;
+  to = option_copied given.to;
+  prefix = option_copied given.prefix;
+  limit = given.limit;
+  json = given.json;
+  log = given.log;
+  forget = given.forget;
+  ahead = given.ahead;
+  wait = given.wait;
+}
+
+-- how far words were taken, as bytes
+abbrev pub reading_of : Taken → Reading
+reading_of taken = record {
+  said = said_by taken.given;
+  file = option_copied taken.file;
+  places = taken.places;
+  pending = taken.pending;
+  is_behind = taken.is_behind;
+}
+
+-- what is asked for, as bytes
+abbrev pub request_of : Asked → Request
+request_of asked.Help = Help
+request_of (asked.HelpOf verb) = HelpOf verb
+request_of asked.Version = Version
+request_of (asked.Run verb file given) = Run verb file.now (said_by given)
+
+-- what is wrong, as bytes
+abbrev pub mistake_of : Wrong → Mistake
+mistake_of wrong.NoCommand = NoCommand
+mistake_of (wrong.NoSuchCommand name) = NoSuchCommand name.now
+mistake_of (wrong.NoSuchOption name) = NoSuchOption name.now
+mistake_of (wrong.NoValue name) = NoValue name.now
+mistake_of (wrong.HasValue name) = HasValue name.now
+mistake_of (wrong.NoNumber word) = NoNumber word.now
+mistake_of (wrong.NoSpan word) = NoSpan word.now
+mistake_of (wrong.NoHashKey word) = NoHashKey word.now
+mistake_of (wrong.LeftOver word) = LeftOver word.now
+mistake_of (wrong.Missing name) = Missing name.now
+mistake_of (wrong.NoLog name) = NoLog name.now
+mistake_of wrong.NotText = NotText
+
+-- an answer as bytes, by what it is in `Ok`
+abbrev pub told : {A B : Type 0} → (A → B) → Result A Wrong → Result B Mistake
+told view result = result_map_both view mistake_of result
+
+-- the file and what is given, as bytes
+abbrev pub command_of : Bor (List ℕ) × Given → Word × Said
+command_of command = (command.0.now, said_by command.1)
