@@ -16,8 +16,6 @@ mod messages;
 #[cfg(test)]
 mod one_tree;
 #[cfg(test)]
-mod outlines;
-#[cfg(test)]
 mod readme;
 #[cfg(test)]
 mod register;

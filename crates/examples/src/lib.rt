@@ -12,7 +12,6 @@ mod lists;
 pub mod meeting;
 pub mod messages;
 pub mod order;
-pub mod outlines;
 pub mod readme;
 pub mod register;
 pub mod removable;

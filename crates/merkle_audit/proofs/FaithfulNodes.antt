@@ -5,8 +5,7 @@ use Rattle.std.specs.declared.cmp.Ordering.{Ordering}
 use Rattle.key_order.specs.Map.{get}
 use Rattle.key_order.proofs.Maps.{get_same}
 use Rattle.key_order.proofs.SameMaps.{same_map-own}
-use Rattle.merkle_replica.specs.CatchUpSteps.{IsTreeOfSide}
-use Rattle.merkle_replica.specs.Contents.{Side, tree_map}
+use Rattle.merkle_replica.specs.Contents.{IsTreeOfSide, Side, tree_map}
 use Rattle.merkle_replica.specs.Laws.{Laws}
 use Rattle.merkle_tree_theory.specs.Canonical.{SameHeld, SamePages, SameRow}
 use Rattle.merkle_tree_theory.specs.OneTree.{TreesOfEqualMaps}

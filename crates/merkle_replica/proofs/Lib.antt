@@ -23,11 +23,6 @@ pub mod Sorting
 pub mod Descents
 pub mod RoundStates
 pub mod Rounds
-pub mod SameGaps
-pub mod ItemsInGaps
-pub mod OutlinesWithin
-pub mod SameItemsInGaps
-pub mod SameDescents
 pub mod RowCopies
 pub mod OnceEach
 pub mod CatchUpJoins

@@ -251,42 +251,6 @@ pub no_gaps : {K : Type 0} (gs : List (BorrowedGap K)) → length gs ≡ 0 → g
 no_gaps [] e = refl
 no_gaps (g ∷ gs) e = absurd (omega arith)
 
-module _ {K V H : Type 0} (laws : Laws K V H) (local peer : Side K V H) (root : Tree K (List ℕ)) where
-  -- a descent in which what came is what was sent
-  abbrev pub IsExactDescent : List (Item K (List ℕ)) → List (List (Item K (List ℕ))) → List K → Type 0
-  IsExactDescent came [] keys = AreSortedOut laws local came [] keys
-  IsExactDescent came (next ∷ rounds) keys =
-      (gaps : List (Gap K)) × (own : List K) × (rest : List K) × AreSortedOut laws local came gaps own × ¬ (gaps ≡ [])
-      × (next ≡ flat_map (outline_over peer.format laws.bytes_of laws.cmp root) gaps) × IsExactDescent next rounds rest × (keys ≡ own ++ rest)
-
--- a whole descent, of which the rounds are few and the keys are all that is lacked
-module _ {K V H : Type 0} (laws : Laws K V H) (o : IsTotalOrder laws.cmp) (local peer : Contents K V H) (p : Premises laws local peer) where
-  abbrev outlines : List (Gap K) → List (Item K (List ℕ))
-  outlines = flat_map (outline_over peer.tree.format laws.bytes_of laws.cmp peer.tree.root)
-
-  down_from : (n : ℕ) (gaps : List (Gap K)) (so_far : List K) (came : List (Item K (List ℕ))) (rounds : List (List (Item K (List ℕ)))) (keys : List K) → 0 < n → IsUnderway laws local peer n gaps so_far
-      → came ≡ outlines gaps → IsExactDescent laws (side local) (side peer) peer.tree.root came rounds keys → HasFound laws (side local) (side peer) (so_far ++ keys) × (length rounds < n)
-  down_from n gaps so_far came [] keys some u out d =
-      let le : n ≤ n - 1 + 1 = omega arith in
-      (ends laws o local peer p (n - 1) [] (so_far ++ keys) refl (goes_on laws o local peer p n (n - 1) gaps [] so_far keys le u (subst (λ es. AreSortedOut laws (side local) es [] keys) out d)), some)
-  down_from n gaps so_far came (next ∷ rounds) keys some u out (gaps', own, rest, s, left, more, d, e) =
-      let le : n ≤ n - 1 + 1 = omega arith in
-      let v = goes_on laws o local peer p n (n - 1) gaps gaps' so_far own le u (subst (λ es. AreSortedOut laws (side local) es gaps' own) out s) in
-      let some' = some_left laws o local peer p (n - 1) gaps' (so_far ++ own) v left in
-      let r = down_from (n - 1) gaps' (so_far ++ own) next rounds rest some' v more d in
-      let few = r.1 in
-      (subst (HasFound laws (side local) (side peer)) (append_assoc so_far own rest ∙ ap (λ w. so_far ++ w) (sym e)) r.0, omega arith)
-
-  pub descended : (rounds : List (List (Item K (List ℕ)))) (keys : List K) → IsExactDescent laws (side local) (side peer) peer.tree.root (whole_item peer.tree.format laws.bytes_of peer.tree.root) rounds keys
-      → HasFound laws (side local) (side peer) keys × (length rounds ≤ level peer.tree.root + 1)
-  descended [] keys d = (ends laws o local peer p (level peer.tree.root + 1) [] keys refl (starts laws o local peer p _ [] keys refl d), omega arith)
-  descended (next ∷ rounds) keys (gaps, own, rest, s, left, more, d, e) =
-      let u = starts laws o local peer p _ gaps own refl s in
-      let some = some_left laws o local peer p (level peer.tree.root + 1) gaps own u left in
-      let r = down_from (level peer.tree.root + 1) gaps own next rounds rest some u more d in
-      let few = r.1 in
-      (subst (HasFound laws (side local) (side peer)) (sym e) r.0, omega arith)
-
 -- the sides of a descent as contents, of which only the peer's root page is looked at
 abbrev pub contents_of : {K V H : Type 0} → Side K V H → Tree K (List ℕ) → Contents K V H
 contents_of s root = record { rows = s.rows; tree = record { hasher = s.hasher; base = s.base; format = s.format; root = root; root_hash = None } }

@@ -5,7 +5,9 @@ use Rattle.std.specs.declared.cmp.Ordering.{Ordering}
 use Rattle.std.proofs.Common.{refl}
 use Rattle.key_order.specs.Map.{IsMap, SameMap}
 use Rattle.merkle_search_tree.specs.Loading.{digests}
+use Rattle.merkle_tree_theory.specs.Canonical.{IsTreeOf}
 use Rattle.merkle_tree_theory.specs.State.{State, state_code, map_of, IsNew}
+use Rattle.merkle_tree_theory.specs.Tree.{Tree}
 use Rattle.merkle_tree_theory.specs.declared.page_format.PageFormat.{PageFormat}
 use Rattle.merkle_replica.specs.Laws.{Laws}
 
@@ -36,6 +38,10 @@ with_rows s rows = record s { rows = rows }
 -- the map of a side's tree: its rows with each value replaced by its digest
 abbrev pub tree_map : {K V H : Type 0} → Laws K V H → Side K V H → List (K × List ℕ)
 tree_map laws s = digests (laws.value_digest s.hasher) s.rows
+
+-- it is the tree of the side's map
+abbrev pub IsTreeOfSide : {K V H : Type 0} → Laws K V H → Side K V H → Tree K (List ℕ) → Type 0
+IsTreeOfSide laws s root = IsTreeOf laws.cmp (laws.key_digest s.hasher) s.base root (tree_map laws s)
 
 -- the tree's map is the digests of the rows
 abbrev pub HasItsDigests : {K V H : Type 0} → (K → K → Ordering) → (H → V → List ℕ) → Contents K V H → Type 0

@@ -5,14 +5,13 @@ use Rattle.std.specs.Global.{Vec}
 use Rattle.std.specs.declared.cmp.Ordering.{Ordering}
 use Rattle.key_order.specs.Map.{get}
 use Rattle.merkle_tree_theory.specs.Tree.{Tree}
-use Rattle.merkle_tree_theory.specs.Gap.{Gap, SameGaps}
+use Rattle.merkle_tree_theory.specs.Gap.{Gap}
 use Rattle.merkle_tree_theory.specs.Outline.{Item, of_node, of_page, outline_over, whole_item}
 use Rattle.merkle_tree_theory.specs.Ranges.{IsPageOf}
 use Rattle.merkle_tree_theory.specs.State.{State}
 use Rattle.merkle_search_tree.specs.declared.gap.Gap.{Gap as BorrowedGap}
 use Rattle.merkle_search_tree.specs.declared.outline.OutlineItemOf.{OutlineItemOf}
 use Rattle.merkle_search_tree.specs.Items.{gap_of, item, items}
-use Rattle.merkle_search_tree.specs.SameItems.{SameItems}
 use Rattle.merkle_tree_theory.specs.Stream.{page_digest}
 use Rattle.merkle_replica.specs.Laws.{Laws}
 use Rattle.merkle_replica.specs.Contents.{Side, tree_map}
@@ -68,15 +67,3 @@ module _ {K H : Type 0} (bytes_of : K → List ℕ) where
   abbrev pub GivesOutlines : (K → K → Ordering) → State K H → List (BorrowedGap K) → Option (Vec (OutlineItemOf K (List ℕ))) → Type 0
   GivesOutlines cmp tree gaps found =
       MatchOption found (tree.root_hash ≡ None) (λ list. items list.items ≡ flat_map (outline_over tree.format bytes_of cmp tree.root) (gaps_of gaps))
-
-module _ {K V H : Type 0} (laws : Laws K V H) (local peer : Side K V H) (root : Tree K (List ℕ)) where
-  -- a descent: `came` was sorted out, then what came in each round, the last of which left no gap. What came are the outlines over the
-  -- gaps that were asked for, and these are those that the round before left, both up to equal keys. `keys` are the keys that all of them
-  -- left to ask for
-  abbrev pub IsDescent : List (Item K (List ℕ)) → List (List (Item K (List ℕ))) → List K → Type 0
-  IsDescent came [] keys = AreSortedOut laws local came [] keys
-  IsDescent came (next ∷ rounds) keys =
-      (gaps : List (Gap K)) × (asked : List (Gap K)) × (own : List K) × (rest : List K)
-      × AreSortedOut laws local came gaps own × ¬ (gaps ≡ []) × SameGaps laws.cmp gaps asked
-      × SameItems laws.cmp (flat_map (outline_over peer.format laws.bytes_of laws.cmp root) asked) next
-      × IsDescent next rounds rest × (keys ≡ own ++ rest)

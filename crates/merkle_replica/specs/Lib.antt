@@ -14,9 +14,7 @@ pub mod Steps
 pub mod PullSteps
 pub mod Descent
 pub mod CatchUp
-pub mod CatchUpSteps
 pub mod Gossip
-pub mod LieWithin
 pub mod Faults
 pub mod Seek
 pub use Rattle.key_order.specs.Order

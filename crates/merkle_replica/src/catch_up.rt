@@ -24,7 +24,7 @@ use std::alloc::{AllocError, Global};
 pub struct CaughtUp {
     /// How many rows of the peer were joined.
     pub joined: usize,
-    /// How many times outlines were asked for.
+    /// How many rounds were made: in each, pages of the peer were opened, from the root down.
     pub rounds: usize,
 }
 
@@ -42,7 +42,7 @@ pub enum CatchUpError {
     },
 }
 
-/// The keys that a replica lacks of a peer, and how many times outlines were asked for.
+/// The keys that a replica lacks of a peer, and how many rounds were made.
 #[derive(Drop)]
 struct Lacked<'a, K> {
     keys: Vec<&'a K>,
@@ -59,9 +59,7 @@ impl<K: Key + Drop, V: Join + Drop, H: RowHasher<N, K, V>, const N: usize> Repli
     /// level of the peer's root and one. The keys that are lacked are then sorted, and the rows at them copied, each value by a join with
     /// itself. Where few of them are new, each is then put; else they are joined in one pass, as [`put_all`](Self::put_all) joins rows.
     ///
-    /// The same in steps, with a wire between them: [`outlines`](Self::outlines) and [`rows_within`](Self::rows_within) on the peer's
-    /// side, [`sort_out`](Self::sort_out) and [`join_rows`](Self::join_rows) on this one
-    /// ([`steps_are_a_catch_up`](crate::laws::steps_are_a_catch_up)).
+    /// Over a wire the messages of `merkle_wire` do the same.
     ///
     /// Replicas whose trees differ in hasher, level base or page format spare each other nothing, but whatever is joined is right.
     ///
@@ -109,7 +107,7 @@ impl<K: Key + Drop, V: Join + Drop, H: RowHasher<N, K, V>, const N: usize> Repli
         }
     }
 
-    /// Copies of the rows of a peer that this side lacks, and how many times outlines were asked for.
+    /// Copies of the rows of a peer that this side lacks, and how many rounds were made.
     fn lacked_rows(&self, peer: &Replica<K, V, H, N>) -> Result<(Vec<(K, V)>, usize), AllocError>
         requires hashed { IsSome peer.now.tree.root_hash }
         ensures rows { IfOk result (λ found. LacksRows H.laws self.now peer.now found.0.items) }
@@ -122,7 +120,7 @@ impl<K: Key + Drop, V: Join + Drop, H: RowHasher<N, K, V>, const N: usize> Repli
     }
 }
 
-/// The keys that `local` lacks of `peer`, where both are hashed, and how many times outlines were asked for.
+/// The keys that `local` lacks of `peer`, where both are hashed, and how many rounds were made.
 fn lacked_keys<'a, K: Key + Drop, V: Join + Drop, H: RowHasher<N, K, V>, const N: usize>(
     alloc: Global,
     local: &Replica<K, V, H, N>,

@@ -1,4 +1,4 @@
-//! The steps of a catch-up, each on its own side: outlines of pages of the peer, and what they leave to ask for.
+//! The rounds of a catch-up: outlines of pages of the peer, and what they leave to look for.
 
 ghost use Rattle.std.specs.Prelude.{◌≡◌, ◌↔◌, IfOk, OnOk, IsTrue};
 ghost use Rattle.std.specs.Option.{option_map};
@@ -14,31 +14,19 @@ use merkle_search_tree::laws::every_tree_is_sound;
 use merkle_search_tree::{Gap, OutlineItem};
 use std::alloc::AllocError;
 
-/// What a peer is still to be asked for. The keys are those of the items that came.
+/// What is still to be looked for in a peer.
 #[derive(Drop)]
-pub struct ToAsk<'a, K> {
-    /// The gaps that pages of the peer fill which this side doesn't have: their outlines are asked for.
-    pub gaps: Vec<Gap<'a, K>>,
-    /// Keys of the peer that this side lacks, or has with another digest: their rows are asked for.
-    pub keys: Vec<&'a K>,
+pub(crate) struct ToAsk<'a, K> {
+    /// The gaps that pages of the peer fill which this side doesn't have: these are opened next.
+    pub(crate) gaps: Vec<Gap<'a, K>>,
+    /// Keys of the peer that this side lacks, or has with another digest.
+    pub(crate) keys: Vec<&'a K>,
 }
 
 impl<K: Key + Drop, V: Join + Drop, H: RowHasher<N, K, V>, const N: usize> Replica<K, V, H, N> {
-    /// The peer's step of a catch-up: the outlines over these gaps, one behind the other, as
-    /// [`MerkleSearchTree::outline`](merkle_search_tree::MerkleSearchTree::outline) gives them; `None` where the tree isn't hashed. Any gaps
-    /// will do: those that no page fills, that overlap, or that have no key.
-    ///
-    /// It goes down one path of the tree for each gap, and takes memory for the items alone.
-    ///
-    /// ```rust crates/replica_tests/src/catch_ups.rt
-    /// items = peer.outlines(&asked.gaps)?.ok_or("not hashed")?;
-    /// gaps = asked.gaps;
-    /// ```
-    ///
-    /// # Errors
-    ///
-    /// `AllocError` where memory is refused for the items.
-    pub fn outlines<'a>(
+    /// The outlines over these gaps, one behind the other; `None` where the tree isn't hashed. It goes down one path of the tree for each
+    /// gap, and takes memory for the items alone.
+    pub(crate) fn outlines<'a>(
         &'a self,
         gaps: &[Gap<'a, K>],
     ) -> Result<Option<Vec<OutlineItem<'a, N, K>>>, AllocError>
@@ -57,25 +45,12 @@ impl<K: Key + Drop, V: Join + Drop, H: RowHasher<N, K, V>, const N: usize> Repli
         Ok(Some(all))
     }
 
-    /// The local step of a catch-up, for any items that a peer sent: the pages that this side doesn't have are to be outlined, and of the
-    /// nodes those are wanted whose key this side lacks or has with another digest. Each page and each key is looked up in the tree of
-    /// this side, down one path.
-    ///
-    /// Who takes items over a wire calls [`lie_within`](crate::lie_within) first: of items that a peer made up, what is to be asked next
-    /// can be any gaps and keys.
-    ///
-    /// ```rust crates/replica_tests/src/catch_ups.rt
-    /// let asked = local.sort_out(&items)?;
-    /// add_keys(&mut keys, &asked.keys)?;
-    /// if asked.gaps.is_empty() {
-    ///     break;
-    /// }
-    /// ```
-    ///
-    /// # Errors
-    ///
-    /// `AllocError` where memory is refused for the lists.
-    pub fn sort_out<'a>(&self, came: &[OutlineItem<'a, N, K>]) -> Result<ToAsk<'a, K>, AllocError>
+    /// What the items of a peer leave to look for: the pages that this side doesn't have, and the keys of the nodes that it lacks or has with
+    /// another digest. Each page and each key is looked up in the tree of this side, down one path.
+    pub(crate) fn sort_out<'a>(
+        &self,
+        came: &[OutlineItem<'a, N, K>],
+    ) -> Result<ToAsk<'a, K>, AllocError>
         ensures { IfOk result (LeaveToAsk H.laws (side self.now) came.now) }
     {
         let mut asked = ToAsk {
@@ -88,7 +63,7 @@ impl<K: Key + Drop, V: Join + Drop, H: RowHasher<N, K, V>, const N: usize> Repli
         Ok(asked)
     }
 
-    /// Adds what an item leaves to ask for.
+    /// Adds what an item leaves to look for.
     fn sort_one<'a>(
         &self,
         item: &OutlineItem<'a, N, K>,
@@ -138,15 +113,8 @@ impl<K: Key + Drop, V: Join + Drop, H: RowHasher<N, K, V>, const N: usize> Repli
         }
     }
 
-    /// Whether the page over the gap has this digest, so that the tree has a page with it. It goes down one path of the tree, and takes no
-    /// memory.
-    ///
-    /// ```rust crates/merkle_replica/src/descent.rt
-    /// if self.has_page(gap, *digest) {
-    ///     return Ok(());
-    /// }
-    /// ```
-    pub fn has_page(&self, gap: &Gap<'_, K>, digest: &PageDigest) -> bool
+    /// Whether the page over the gap has this digest, so that the tree has a page with it. It goes down one path of the tree.
+    fn has_page(&self, gap: &Gap<'_, K>, digest: &PageDigest) -> bool
         ensures { IsTrue result → HasPage H.laws (side self.now) digest.now }
     {
         every_tree_is_sound(self.tree());

@@ -1,13 +1,10 @@
 //! Laws over the definitions alone: what is premise enough in page format 2, that a map in memory is small, which tree a replica has, that
-//! three steps are a pull, that the steps of a catch-up are one, that outlines lie within gaps, and what gossip joins. Each function has no
-//! effect and takes no memory.
+//! three steps are a pull, and what gossip joins. Each function has no effect and takes no memory.
 
-ghost use Rattle.merkle_replica.specs.CatchUpSteps.{CatchUpsJoin, IsTreeOfSide, RoundsAreFew, StepsAreACatchUp};
-ghost use Rattle.merkle_replica.specs.Contents.{side};
+ghost use Rattle.merkle_replica.specs.Contents.{IsTreeOfSide, side};
 ghost use Rattle.merkle_replica.specs.Faithful.{HasSmallMap};
 ghost use Rattle.merkle_replica.specs.Faithfully.{CollisionFreeIsFaithful, CollisionFreePullsCover, CollisionFreeTurnsAreFaithful, CollisionFreeTurnsConverge};
 ghost use Rattle.merkle_replica.specs.Gossip.{GossipJoins, OrderIsIndifferent};
-ghost use Rattle.merkle_replica.specs.LieWithin.{OutlinesLieWithin, SortedOutGapsAscend, WholeTreesLieWithin};
 ghost use Rattle.merkle_replica.specs.PullSteps.{AnswersAreThoseOfAPull, PullsHaveOneAnswer, PullsLeaveOneMap, StepsAreAPull};
 
 use crate::join::Join;
@@ -16,7 +13,7 @@ use crate::row_hasher::RowHasher;
 use merkle_digest::{Key, KeyBytes, KeyBytesExact};
 use merkle_search_tree::laws::{
     a_map_has_one_tree, a_tree_in_memory_is_small, equal_keys_have_equal_bytes,
-    every_tree_is_sound, exact_keys_make_pages_faithful, outlines_lead_down, page_ranges_of_a_map,
+    every_tree_is_sound, exact_keys_make_pages_faithful, page_ranges_of_a_map,
 };
 
 /// In format 2, where the bytes of a key tell it from every other, it is premise enough that no streams and no values collide, for
@@ -56,7 +53,7 @@ pub fn a_replica_in_memory_is_small<K: Key, V: Join, H: RowHasher<N, K, V>, cons
 }
 
 /// The pages of a replica are the tree of its rows, each value replaced by its digest. So the page ranges that it tells a peer are those that
-/// [`steps_are_a_pull`] asks for, and its outlines those of [`steps_are_a_catch_up`].
+/// [`steps_are_a_pull`] asks for.
 pub fn a_replica_has_the_tree_of_its_rows<K: Key, V: Join, H: RowHasher<N, K, V>, const N: usize>(
     replica: &Replica<K, V, H, N>,
 )
@@ -86,30 +83,6 @@ pub fn a_pull_has_one_answer<K: Ord + KeyBytes, V: Join, H: RowHasher<N, K, V>, 
     ensures pulls { PullsLeaveOneMap H.laws }
 {
     a_map_has_one_tree::<K, H, N>();
-}
-
-/// The steps of a catch-up are one, whatever lies between them: where the whole tree of the peer was sorted out first, and then, round
-/// by round, the outlines that the peer has over the gaps that were left, and the peer's rows at the keys that they left, each once, were
-/// joined; each message read on the other side as what was sent, up to equal keys and equal values. The rounds are few, and while digests
-/// are faithful the rows are then the join of both sides' rows. It holds of any two hashers, level bases and page formats.
-pub fn steps_are_a_catch_up<K: Ord + KeyBytes, V: Join, H: RowHasher<N, K, V>, const N: usize>()
-    ensures catch_up { StepsAreACatchUp H.laws }
-    ensures few { RoundsAreFew H.laws }
-    ensures joins { CatchUpsJoin H.laws }
-{
-    outlines_lead_down::<K, H, N>();
-}
-
-/// Outlines lie within the gaps that they are over, so that [`lie_within`](crate::lie_within) refuses no peer that keeps to the steps of a
-/// catch-up: the whole tree lies within the gap that has all keys, outlines over ascending gaps that pages of the tree fill lie within
-/// these, and items that lie within any gaps leave ascending gaps when they are sorted out. That pages fill the gaps of outlines says
-/// [`outlines_lead_down`](merkle_search_tree::laws::outlines_lead_down).
-pub fn outlines_lie_within<K: Ord + KeyBytes, V: Join, H: RowHasher<N, K, V>, const N: usize>()
-    ensures whole { WholeTreesLieWithin K.cmp K.bytes_of }
-    ensures outlines { OutlinesLieWithin K.cmp K.bytes_of }
-    ensures left { SortedOutGapsAscend H.laws }
-{
-    outlines_lead_down::<K, H, N>();
 }
 
 /// Gossip joins what came. Whatever catch-ups are made among any number of replicas, in whatever order, the rows of each are then the

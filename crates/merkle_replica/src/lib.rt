@@ -27,12 +27,10 @@ mod steps;
 mod turns;
 mod value_hasher;
 mod wanted;
-mod within_gaps;
 
 pub use agreeing::agree;
 pub use both_ways::{CatchUpsError, catch_up_both};
 pub use catch_up::{CatchUpError, CaughtUp};
-pub use descent::ToAsk;
 pub use gossip::{CatchUpAllError, catch_up_all};
 pub use greatest::Greatest;
 pub use join::Join;
@@ -44,5 +42,3 @@ pub use rows_within::RowsWithin;
 pub use steps::JoinRefused;
 pub use turns::{TurnsError, pull_by_turns};
 pub use value_hasher::ValueHasher;
-pub use wanted::in_order as keys_in_order;
-pub use within_gaps::lie_within;

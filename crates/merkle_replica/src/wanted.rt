@@ -12,13 +12,11 @@ use merkle_digest::{Hasher, Key};
 use std::alloc::{AllocError, Global};
 use std::cmp::Ordering;
 
-/// The keys in ascending order, each of equal ones once: those that a catch-up in steps asks for at last. It sorts them, in time
-/// n log n for n keys, compares each with the one before it, and takes memory for as many references.
-///
-/// # Errors
-///
-/// `AllocError` where memory is refused.
-pub fn in_order<'a, K: Ord>(alloc: Global, keys: Vec<&'a K>) -> Result<Vec<&'a K>, AllocError>
+/// The keys in ascending order, each of equal ones once.
+pub(crate) fn in_order<'a, K: Ord>(
+    alloc: Global,
+    keys: Vec<&'a K>,
+) -> Result<Vec<&'a K>, AllocError>
     ensures { IfOk result (λ once. IsOnceEach K.cmp (keys_of keys.entry.items) (keys_of once.items)) }
 {
     let mut sorted = keys;

@@ -6,7 +6,6 @@ pub mod Split
 pub mod Loading
 pub mod Updates
 pub mod Items
-pub mod SameItems
 pub mod Pages
 pub mod WhereHashed
 pub mod Hashing

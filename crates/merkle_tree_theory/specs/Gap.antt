@@ -1,5 +1,5 @@
 -- Gaps between keys: all keys above one key and below another, where there are these.
-use Rattle.std.specs.Prelude.{Bool, true, ◌&&◌, List, [], ◌∷◌, Option, Some, None, ⊤}
+use Rattle.std.specs.Prelude.{Bool, true, ◌&&◌, List, Option, Some, None, ⊤}
 use Rattle.std.specs.declared.cmp.Ordering.{Ordering}
 use Rattle.key_order.specs.Order.{Below, Same, below}
 use Rattle.key_order.specs.Map.{rows_at}
@@ -45,12 +45,6 @@ module _ {K : Type 0} (cmp : K → K → Ordering) where
   -- both bounds are equal
   abbrev pub SameGap : Gap K → Gap K → Type 0
   SameGap g h = SameBound g.after h.after × SameBound g.before h.before
-
-  abbrev pub SameGaps : List (Gap K) → List (Gap K) → Type 0
-  SameGaps [] [] = ⊤
-  SameGaps [] (h ∷ hs) = ⊥
-  SameGaps (g ∷ gs) [] = ⊥
-  SameGaps (g ∷ gs) (h ∷ hs) = SameGap g h × SameGaps gs hs
 
   -- the test of `IsAfter`
   abbrev pub is_after : Option K → K → Bool

@@ -1,8 +1,7 @@
 //! Catch-ups between random maps, whose keys are on random levels: the rows afterwards, and how many rows and rounds it took.
 
-use merkle_replica::{CatchUpError, CaughtUp, Replica, lie_within};
+use merkle_replica::{CatchUpError, CaughtUp, Replica};
 use merkle_search_tree::builder::{Builder, PageFormat};
-use merkle_search_tree::{Gap, OutlineItem};
 use std::alloc::{AllocError, Global};
 use std::test::Fail;
 use testing::{LevelHasher, Random, have_values, number_hasher, number_key};
@@ -137,111 +136,6 @@ fn catch_ups_join_what_is_lacked(rt: HostRuntime) -> Result<(), Fail> {
         };
         assert!(rt;
             values_meet(rt.alloc(), format, &levels, &ours, &theirs)?,
-            "turn {turn}"
-        );
-    }
-    Ok(())
-}
-
-/// The items of the peer's whole tree.
-fn whole_of(
-    alloc: Global,
-    peer: &Numbers,
-) -> Result<Vec<OutlineItem<'_, 32, [u8; 2]>>, AllocError> {
-    let mut items = Vec::new(alloc);
-    if let Some(item) = peer.tree().whole() {
-        items.push(item)?;
-    }
-    Ok(items)
-}
-
-/// Adds copies of keys.
-fn add_keys(keys: &mut Vec<[u8; 2]>, found: &[&[u8; 2]]) -> Result<(), AllocError> {
-    for key in found {
-        keys.push(**key)?;
-    }
-    Ok(())
-}
-
-/// The keys that the steps of a catch-up leave to ask `peer` for, both hashed, in the order in which they are found. What the peer sends lies
-/// within the gaps that it was asked for.
-fn keys_to_ask(alloc: Global, local: &Numbers, peer: &Numbers) -> Result<Vec<[u8; 2]>, Fail> {
-    let mut keys = Vec::new(alloc);
-    let mut gaps = Vec::new(alloc);
-    gaps.push(Gap::everywhere())?;
-    let mut items = whole_of(alloc, peer)?;
-    for _ in 0..256 {
-        if !lie_within(&gaps, &items) {
-            return Err(Fail::from("items outside the gaps"));
-        }
-        let asked = local.sort_out(&items)?;
-        add_keys(&mut keys, &asked.keys)?;
-        if asked.gaps.is_empty() {
-            break;
-        }
-        items = peer.outlines(&asked.gaps)?.ok_or("not hashed")?;
-        gaps = asked.gaps;
-    }
-    Ok(keys)
-}
-
-/// Joins the peer's rows at the keys, which come over a wire.
-fn join_rows_at(
-    alloc: Global,
-    local: &mut Numbers,
-    peer: &Numbers,
-    keys: &[[u8; 2]],
-) -> Result<(), Fail> {
-    let mut ranges = Vec::new(alloc);
-    for key in keys {
-        ranges.push((*key, *key))?;
-    }
-    let mut rows = Vec::new(alloc);
-    for row in peer.rows_within(&ranges).ok_or("not ascending")? {
-        rows.push((row.0, row.1))?;
-    }
-    local.join_rows(rows).ok().ok_or("refused")?;
-    Ok(())
-}
-
-/// Whether the steps of a catch-up of `a` with `b` join what is lacked.
-fn steps_join(
-    alloc: Global,
-    a: &mut Numbers,
-    b: &mut Numbers,
-    ours: &[u64; COUNT],
-    theirs: &[u64; COUNT],
-) -> Result<bool, Fail> {
-    a.hash();
-    b.hash();
-    let (both, lacked) = joined(ours, theirs);
-    let mut keys = keys_to_ask(alloc, a, b)?;
-    keys.sort_unstable();
-    join_rows_at(alloc, a, b, &keys)?;
-    Ok(keys.len() == lacked && have_values(a.rows(), &both))
-}
-
-/// The same of maps of these values, with keys on these levels.
-fn steps_meet(
-    alloc: Global,
-    levels: &[u8; COUNT],
-    ours: &[u64; COUNT],
-    theirs: &[u64; COUNT],
-) -> Result<bool, Fail> {
-    let mut a = numbers(alloc, PageFormat::V2, ours, number_hasher(alloc, levels)?)?;
-    let mut b = numbers(alloc, PageFormat::V2, theirs, number_hasher(alloc, levels)?)?;
-    steps_join(alloc, &mut a, &mut b, ours, theirs)
-}
-
-#[test]
-fn steps_join_what_is_lacked(rt: HostRuntime) -> Result<(), Fail> {
-    let mut random = Random::new(11);
-    for turn in 0..100u64 {
-        let levels = levels_of(&mut random);
-        let ours = values_of(&mut random);
-        let theirs = changed(&mut random, &ours, turn % 16 + 1);
-        assert!(rt;
-            steps_meet(rt.alloc(), &levels, &ours, &theirs)?,
             "turn {turn}"
         );
     }

@@ -16,8 +16,6 @@ mod kinds;
 #[cfg(test)]
 mod loads;
 #[cfg(test)]
-mod made_up;
-#[cfg(test)]
 mod memory;
 #[cfg(test)]
 mod mixed_formats;

@@ -1,6 +1,5 @@
 use Rattle.std.proofs.Common.{subst}
-use Rattle.merkle_replica.specs.CatchUpSteps.{IsTreeOfSide}
-use Rattle.merkle_replica.specs.Contents.{side}
+use Rattle.merkle_replica.specs.Contents.{IsTreeOfSide, side}
 use Rattle.merkle_replica.proofs.SideLaws.{same_side}
 use Rattle.merkle_delta.specs.CatchUps.{IsNext}
 use Rattle.merkle_delta.specs.Messages.{IsAnsweredAs, whole_of}

@@ -1,7 +1,6 @@
 use Rattle.std.proofs.Common.{subst}
 use Rattle.std.proofs.lemmas.Result.{IfOk-weaker}
-use Rattle.merkle_replica.specs.CatchUpSteps.{IsTreeOfSide}
-use Rattle.merkle_replica.specs.Contents.{side}
+use Rattle.merkle_replica.specs.Contents.{IsTreeOfSide, side}
 use Rattle.merkle_replica.proofs.SideLaws.{laws_of, same_side}
 use Rattle.merkle_audit.proofs.FaithfulNodes.{faithful_in_all}
 use Rattle.merkle_audit.proofs.nodes.have_faithful_nodes.Goals as goal
