@@ -91,9 +91,9 @@ impl<K: Key + Drop, V: Join + Drop, H: RowHasher<N, K, V>, const N: usize> Repli
 
     /// The digest of the value at a key, where the key is there. It goes down one path of the tree, and takes no memory.
     ///
-    /// ```rust crates/merkle_wire/src/sifting.rt
-    /// match replica.value_hash(key) {
-    ///     Some(own) => own.as_bytes().as_slice() == digest,
+    /// ```rust crates/merkle_audit/src/nodes.rt
+    /// match local.value_hash(key) {
+    ///     Some(own) => *own == *digest,
     ///     None => false,
     /// }
     /// ```

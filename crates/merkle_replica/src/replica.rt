@@ -322,12 +322,12 @@ impl<K: Key + Drop, V: Join + Drop, H: Hasher<N, K> + Hasher<N, V>, const N: usi
 
     /// The row at a key, where there is one. It finds it by halving, and takes no memory.
     ///
-    /// ```rust crates/merkle_wire/src/nodes.rt
-    /// match replica.row_at(key) {
-    ///     None => Ok(()),
+    /// ```rust crates/merkle_wire/src/kept_rows.rt
+    /// match self.row_at(key) {
+    ///     None => Ok(false),
     ///     Some(row) => {
-    ///         found.push(row)?;
-    ///         Ok(())
+    ///         row.1.encode(bytes)?;
+    ///         Ok(true)
     ///     }
     /// }
     /// ```

@@ -68,7 +68,7 @@ impl<K: Ord + KeyBytes, V, H: Hasher<N, K>, const N: usize> MerkleSearchTree<K, 
     /// the page has nodes and pages right below it.
     ///
     /// ```rust crates/merkle_wire/src/outlines.rt
-    /// match replica.tree().outline(gap.as_gap())? {
+    /// match tree.outline(gap.as_gap())? {
     ///     Some(list) => Ok(list),
     ///     None => unreachable!(),
     /// }

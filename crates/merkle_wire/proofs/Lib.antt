@@ -1,7 +1,9 @@
 pub mod RowsMore
+pub mod FoundRows
 pub mod ToldAlone
 pub mod ItemsMore
 pub mod Telling
+pub mod OfMessages
 pub mod InGaps
 pub mod RowParts
 pub mod Ascending
@@ -45,6 +47,7 @@ pub mod Sayable
 pub mod TimesTaken
 pub mod CatchUpKeys
 pub mod ExchangeKeys
+pub mod ItsSides
 pub mod AskedNext
 pub mod SteadyCatchUps
 pub mod RowsCounted

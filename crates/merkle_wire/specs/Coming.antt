@@ -1,5 +1,5 @@
 -- What came lies in the gap that was asked for.
-use Rattle.std.specs.Prelude.{◌≡◌, ◌≢◌, ℕ, List, [], ◌∷◌, length, map, Option, Some, None, ⊤}
+use Rattle.std.specs.Prelude.{◌≡◌, ◌≢◌, ℕ, ◌+◌, List, [], ◌∷◌, length, map, Option, Some, None, ⊤}
 use Rattle.std.specs.List.{AllByRecursion}
 use Rattle.std.specs.declared.cmp.Ordering.{Ordering}
 use Rattle.key_order.specs.Order.{AnyByRecursion, Same}
@@ -29,12 +29,13 @@ module _ {K : Type 0} (cmp : K → K → Ordering) where
   abbrev pub AscendIn : Gap K → List K → Type 0
   AscendIn g = AscendBetween g.after g.before
 
-  -- the keys of what was told of the page over a gap ascend within it; a page that has others below it has a node; and the digests of values have
-  -- n bytes, those of pages 16
+  -- the keys of what was told of the page over a gap ascend within it; a page that has others below it has a node, and a page or none before each
+  -- node and behind the last; and the digests of values have n bytes, those of pages 16
   abbrev pub LiesIn : {V : Type 0} → ℕ → Gap K → Outline K V → Type 0
   LiesIn n g (rows_told rows) = AscendIn g (map (λ r. r.0) rows)
   LiesIn n g (digests_told nodes) = AscendIn g (map (λ d. d.0) nodes) × AllByRecursion (λ d. length d.1 ≡ n) nodes
   LiesIn n g (page_told digest keys pages) = (keys ≢ []) × AscendIn g keys × (length digest ≡ 16) × AllByRecursion IsPageDigest pages
+      × (length pages ≡ length keys + 1)
 
   -- the key is in one of the gaps
   abbrev pub IsInOneOf : List (OwnedGap K) → K → Type 0

@@ -6,6 +6,8 @@ use Rattle.merkle_bytes.specs.declared.error.ReadError.{ReadError}
 use Rattle.merkle_bytes.specs.declared.error.ReadError.TheVariants as read
 use Rattle.merkle_wire.specs.declared.answering.AnswerError.{AnswerError}
 use Rattle.merkle_wire.specs.declared.answering.AnswerError.TheVariants as answer
+use Rattle.merkle_wire.specs.declared.answering.KeptError.{KeptError}
+use Rattle.merkle_wire.specs.declared.answering.KeptError.TheVariants.{Answer, Rows}
 use Rattle.merkle_wire.specs.declared.session.BothMessagesError.{BothMessagesError}
 use Rattle.merkle_wire.specs.declared.session.BothMessagesError.TheVariants.{First, Second}
 use Rattle.merkle_wire.specs.declared.session.MessagesError.{MessagesError}
@@ -34,6 +36,11 @@ abbrev pub IsOfOthers : AnswerError → Type 0
 IsOfOthers answer.Memory = ⊥
 IsOfOthers (answer.Malformed error) = ⊥
 IsOfOthers answer.OtherSettings = ⊤
+
+-- this holds of an error of the message; of one of the rows nothing is said
+abbrev pub OfMessage : {E : Type 0} → (AnswerError → Type 0) → KeptError E → Type 0
+OfMessage Holds (Answer error) = Holds error
+OfMessage Holds (Rows error) = ⊤
 
 -- a reply is refused for want of memory, or for this reason
 abbrev pub IsRefusedFor : Type 0 → SessionError → Type 0

@@ -18,5 +18,6 @@ pub mod Sessions
 pub mod Steady
 pub mod Cost
 pub mod Faults
+pub mod ItsRows
 pub mod Steps
 pub mod Told

@@ -166,13 +166,13 @@ module _ {K V H : Type 0} (laws : Laws K V H) (n : ℕ) (encoding : K → List �
   abbrev pub IsReplyBy : List (K × V) → State K H → Question K → Vec ℕ → Type 0
   IsReplyBy rows tree question reply = IsReply laws.cmp laws.bytes_of encoding values (laws.key_digest tree.hasher) n rows tree question reply.items
 
-  -- a replica replies so to a question
-  abbrev pub Replies : Contents K V H → Question K → Vec ℕ → Type 0
-  Replies replica question reply = IsReplyBy replica.rows replica.tree question reply
+  -- the message asks a question, and this is the reply to it of a side with these rows and this tree
+  abbrev pub IsAnsweredOf : List (K × V) → State K H → List ℕ → Vec ℕ → Type 0
+  IsAnsweredOf rows tree message reply = (question : Question K) × (message ≡ question_bytes encoding question) × IsReplyBy rows tree question reply
 
-  -- the message asks a question, and this is the reply to it, by the rows that a replica had and the tree that it has
+  -- so it is by the rows that a replica had and the tree that it has
   abbrev pub IsAnsweredBy : Contents K V H → Contents K V H → List ℕ → Vec ℕ → Type 0
-  IsAnsweredBy old new message reply = (question : Question K) × (message ≡ question_bytes encoding question) × IsReplyBy old.rows new.tree question reply
+  IsAnsweredBy old new message reply = IsAnsweredOf old.rows new.tree message reply
 
 module _ {K V H : Type 0} (laws : Laws K V H) (n : ℕ) where
   -- where the question is for the root, its settings are those of the tree

@@ -1,5 +1,5 @@
 -- What the asking side reads of a reply, step by step, and what it makes of it.
-use Rattle.std.specs.Prelude.{◌≡◌, ℕ, ◌≤◌, Bool, List, [], ◌∷◌, ◌++◌, length, map, flat_map, take, Option}
+use Rattle.std.specs.Prelude.{◌≡◌, ℕ, ◌+◌, ◌≤◌, Bool, List, [], ◌∷◌, ◌++◌, length, map, flat_map, take, Option}
 use Rattle.std.specs.Global.{Vec}
 use Rattle.std.specs.List.{AllByRecursion}
 use Rattle.std.specs.declared.cmp.Ordering.{Ordering}
@@ -9,18 +9,19 @@ use Rattle.merkle_bytes.specs.Options.{option_bytes}
 use Rattle.merkle_bytes.specs.Reading.{Reads}
 use Rattle.merkle_bytes.specs.Runs.{bound_key, run_bytes, row_behind, row_key}
 use Rattle.merkle_bytes.specs.declared.reader.Reader.{Reader}
-use Rattle.merkle_replica.specs.Contents.{Contents, side}
 use Rattle.merkle_replica.specs.Laws.{Laws}
 use Rattle.merkle_tree_theory.specs.Gap.{Gap, SameGap, part_behind}
+use Rattle.merkle_tree_theory.specs.State.{State}
 use Rattle.merkle_wire.specs.Coming.{AscendIn, IsPageDigest, LiesIn}
 use Rattle.merkle_wire.specs.Faults.{IsRefusedFor}
 use Rattle.merkle_wire.specs.Fit.{IsFit, SaysOutlines, SaysParts, SaysValues}
 use Rattle.merkle_wire.specs.Found.{Found}
 use Rattle.merkle_wire.specs.Gaps.{owned_gap}
+use Rattle.merkle_wire.specs.ItsRows.{ForItsRows}
 use Rattle.merkle_wire.specs.Messages.{front}
 use Rattle.merkle_wire.specs.Outlines.{Outline, page_told, outline_bytes, keys_told, keys_among, pages_bytes}
 use Rattle.merkle_wire.specs.Replies.{Part, outlines_bytes, part_bytes, parts_bytes}
-use Rattle.merkle_wire.specs.Taking.{AddsGaps, AddsKeys, AddsRows, AreBehind, AreNewGaps, AreTaken, HasNodes}
+use Rattle.merkle_wire.specs.Taking.{AddsKeys, AddsRows, AreBehind, AreNewGaps, AreTaken, HasNodes}
 use Rattle.merkle_wire.specs.Taking.{IsBehind, IsNewGap, IsRootTaken, IsTaken, value_row}
 use Rattle.merkle_wire.specs.Underway.{HasOutlines, HasParts, HasValues}
 use Rattle.merkle_wire.specs.Unfit.{NoNodes, NoOutline, NoOutlines, NoPart, NoParts, NoRows, SaysNot}
@@ -37,64 +38,77 @@ module _ {K V : Type 0} (cmp : K → K → Ordering) where
   AddsBehind rows gap left left' = (row : K × V) × (behind : List (K × V)) × (own : OwnedGap K) × (rows ≡ row ∷ behind)
       × SameGap cmp (part_behind (owned_gap gap) (last_key row.0 behind)) (owned_gap own) × (left' ≡ left ++ own ∷ [])
 
-module _ {K V H : Type 0} (laws : Laws K V H) (replica : Contents K V H) where
-  -- the replica has all keys, with digests whose digest is this one
+module _ {K V H : Type 0} (laws : Laws K V H) (tree : State K H) where
+  -- the side of the tree has all keys, with digests whose digest is this one
   abbrev pub HasNodesAt : List (Wanted K) → List ℕ → Type 0
-  HasNodesAt keys digest = HasNodes laws (side replica) (map (λ w. w.key) keys) digest
+  HasNodesAt keys digest = ForItsRows laws tree (λ local. HasNodes laws local (map (λ w. w.key) keys) digest)
+
+  -- it doesn't have all, or with other digests
+  abbrev pub LacksNodesAt : List (Wanted K) → List ℕ → Type 0
+  LacksNodesAt keys digest = ForItsRows laws tree (λ local. ¬ HasNodes laws local (map (λ w. w.key) keys) digest)
+
+  -- rows are taken: those that the side of the tree doesn't have are added to what was found
+  abbrev pub AddsItsRows : List (K × V) → Found K V → Found K V → Type 0
+  AddsItsRows rows before after = ForItsRows laws tree (λ local. AddsRows laws local rows before after)
 
   -- the digest of the root page was read of a reply, and taken
   abbrev pub TakesRoot : List ℕ → Found K V → Found K V → Type 0
   TakesRoot reply before after = (count : ℕ) × (digest : Option (List ℕ))
-      × (reply ≡ (front root_kind ++ count_bytes count) ++ option_bytes (λ d. d) digest) × IsRootTaken laws (side replica) digest before after
+      × (reply ≡ (front root_kind ++ count_bytes count) ++ option_bytes (λ d. d) digest)
+      × ForItsRows laws tree (λ local. IsRootTaken laws local digest before after)
 
   -- the digest of the page in a gap was read, where there is one, and the gap is added where the page is new
   abbrev pub TakesBelow : Gap K → Reader → Reader → Found K V → Found K V → Type 0
   TakesBelow gap old new before after = (page : Option (List ℕ)) × (gaps : List (Gap K))
       × Reads old (option_bytes (λ d. d) page) new × IsPageDigest page
-      × IsNewGap laws (side replica) gap page gaps × AddsGaps laws (side replica) gaps before after
+      × ForItsRows laws tree (λ local. IsNewGap laws local gap page gaps) × (after ≡ record before { below = before.below ++ gaps })
 
   -- so were those of the pages before the keys and behind the last
   abbrev pub TakesPages : OwnedGap K → List (Wanted K) → Reader → Reader → Found K V → Found K V → Type 0
   TakesPages gap keys old new before after = (pages : List (Option (List ℕ))) × (gaps : List (Gap K))
-      × Reads old (pages_bytes pages) new × AllByRecursion IsPageDigest pages
-      × AreNewGaps laws (side replica) (owned_gap gap) (map (λ w. w.key) keys) pages gaps × AddsGaps laws (side replica) gaps before after
+      × Reads old (pages_bytes pages) new × AllByRecursion IsPageDigest pages × (length pages ≡ length (map (λ w. w.key) keys) + 1)
+      × ForItsRows laws tree (λ local. AreNewGaps laws local (owned_gap gap) (map (λ w. w.key) keys) pages gaps)
+      × (after ≡ record before { below = before.below ++ gaps })
 
   -- the value at a key was read, where there is one, and taken
   abbrev pub TakesValue : (V → List ℕ) → Wanted K → Reader → Reader → Found K V → Found K V → Type 0
   TakesValue values wanted old new before after = (value : Option V)
-      × Reads old (option_bytes values value) new × AddsRows laws (side replica) (value_row (wanted, value)) before after
+      × Reads old (option_bytes values value) new × ForItsRows laws tree (λ local. AddsRows laws local (value_row (wanted, value)) before after)
 
   -- a digest for each of the keys was read, of n bytes, and taken
   abbrev pub TakesNodes : ℕ → List (Wanted K) → Reader → Reader → Found K V → Found K V → Type 0
   TakesNodes n keys old new before after = (nodes : List (K × List ℕ)) × (keys_among nodes ≡ map (λ w. w.key) keys)
-      × Reads old (flat_map (λ d. d.1) nodes) new × AllByRecursion (λ d. length d.1 ≡ n) nodes × AddsKeys laws (side replica) nodes before after
+      × Reads old (flat_map (λ d. d.1) nodes) new × AllByRecursion (λ d. length d.1 ≡ n) nodes
+      × ForItsRows laws tree (λ local. AddsKeys laws local nodes before after)
 
-module _ {K V H : Type 0} (laws : Laws K V H) (n : ℕ) (encoding : K → List ℕ) (replica : Contents K V H) where
+module _ {K V H : Type 0} (laws : Laws K V H) (n : ℕ) (encoding : K → List ℕ) (tree : State K H) where
   -- keys behind a key were read, with digests of their values, in a gap, and taken
   abbrev pub TakesDigests : List ℕ → OwnedGap K → Reader → Reader → Found K V → Found K V → Type 0
   TakesDigests last gap old new before after = (nodes : List (K × List ℕ))
       × Reads old (keys_told encoding last (keys_among nodes) ++ flat_map (λ d. d.1) nodes) new
-      × AscendIn laws.cmp (owned_gap gap) (keys_among nodes) × AllByRecursion (λ d. length d.1 ≡ n) nodes × AddsKeys laws (side replica) nodes before after
+      × AscendIn laws.cmp (owned_gap gap) (keys_among nodes) × AllByRecursion (λ d. length d.1 ≡ n) nodes
+      × ForItsRows laws tree (λ local. AddsKeys laws local nodes before after)
 
   -- a page with others below it was read, and taken
   abbrev pub TakesPage : List ℕ → OwnedGap K → Reader → Reader → Found K V → Found K V → Type 0
   TakesPage last gap old new before after = (digest : List ℕ) × (keys : List K) × (pages : List (Option (List ℕ)))
       × Reads old (digest ++ (keys_told encoding last keys ++ pages_bytes pages)) new
-      × LiesIn laws.cmp {V = V} n (owned_gap gap) (page_told digest keys pages) × IsTaken laws (side replica) (owned_gap gap) (page_told digest keys pages) before after
+      × LiesIn laws.cmp {V = V} n (owned_gap gap) (page_told digest keys pages)
+      × ForItsRows laws tree (λ local. IsTaken laws local (owned_gap gap) (page_told digest keys pages) before after)
 
-module _ {K V H : Type 0} (laws : Laws K V H) (encoding : K → List ℕ) (values : V → List ℕ) (replica : Contents K V H) where
+module _ {K V H : Type 0} (laws : Laws K V H) (encoding : K → List ℕ) (values : V → List ℕ) (tree : State K H) where
   -- rows behind a key were read, in a gap, and taken
   abbrev pub TakesRows : List ℕ → OwnedGap K → Reader → Reader → Found K V → Found K V → Type 0
   TakesRows last gap old new before after = (rows : List (K × V))
       × Reads old (run_bytes (row_behind encoding values) (row_key encoding) last rows) new
-      × AscendIn laws.cmp (owned_gap gap) (map (λ r. r.0) rows) × AddsRows laws (side replica) rows before after
+      × AscendIn laws.cmp (owned_gap gap) (map (λ r. r.0) rows) × ForItsRows laws tree (λ local. AddsRows laws local rows before after)
 
-module _ {K V H : Type 0} (laws : Laws K V H) (n : ℕ) (encoding : K → List ℕ) (values : V → List ℕ) (replica : Contents K V H) where
+module _ {K V H : Type 0} (laws : Laws K V H) (n : ℕ) (encoding : K → List ℕ) (values : V → List ℕ) (tree : State K H) where
   -- what was told of the page over a gap was read, and taken
   abbrev pub TakesOutline : OwnedGap K → Reader → Reader → Found K V → Found K V → Type 0
   TakesOutline gap old new before after = (told : Outline K V)
       × Reads old (outline_bytes encoding values (bound_key encoding [] gap.after) told) new
-      × LiesIn laws.cmp n (owned_gap gap) told × IsTaken laws (side replica) (owned_gap gap) told before after
+      × LiesIn laws.cmp n (owned_gap gap) told × ForItsRows laws tree (λ local. IsTaken laws local (owned_gap gap) told before after)
 
   -- so was what was told of the pages over the first gaps, so many of them
   abbrev pub TakesOutlinesOf : List (OwnedGap K) → Reader → Reader → Found K V → Found K V → ℕ → Type 0
@@ -102,27 +116,28 @@ module _ {K V H : Type 0} (laws : Laws K V H) (n : ℕ) (encoding : K → List �
       × ((told : List (OwnedGap K × Outline K V)) × (map (λ t. t.0) told ≡ take count gaps)
       × Reads old (outlines_bytes encoding values told) new
       × AllByRecursion (λ t. LiesIn laws.cmp n (owned_gap t.0) t.1) told
-      × AreTaken laws (side replica) told before after)
+      × ForItsRows laws tree (λ local. AreTaken laws local told before after))
 
   -- a reply of a kind was read, and taken; these gaps are left
   abbrev pub TakesOutlines : Kind → Vec (OwnedGap K) → List ℕ → Found K V → Found K V → Vec (OwnedGap K) → Type 0
-  TakesOutlines kind gaps reply before after left = HasOutlines laws n encoding values (side replica) (front kind) gaps.items reply before after left.items
+  TakesOutlines kind gaps reply before after left =
+      ForItsRows laws tree (λ local. HasOutlines laws n encoding values local (front kind) gaps.items reply before after left.items)
 
   -- a reply to keys was; these are left
   abbrev pub TakesValues : Vec (Wanted K) → List ℕ → Found K V → Found K V → Vec (Wanted K) → Type 0
-  TakesValues keys reply before after left = HasValues laws n encoding values (side replica) keys.items reply before after left.items
+  TakesValues keys reply before after left = ForItsRows laws tree (λ local. HasValues laws n encoding values local keys.items reply before after left.items)
 
   -- a reply to gaps of which all rows are wanted was; these are left
   abbrev pub TakesParts : Vec (OwnedGap K) → List ℕ → Found K V → Found K V → Vec (OwnedGap K) → Type 0
-  TakesParts gaps reply before after left = HasParts laws n encoding values (side replica) gaps.items reply before after left.items
+  TakesParts gaps reply before after left = ForItsRows laws tree (λ local. HasParts laws n encoding values local gaps.items reply before after left.items)
 
   -- a part of the rows in a gap was read, and taken; the gap behind it is added where there are more
   abbrev pub TakesPart : OwnedGap K → Reader → Reader → Vec (OwnedGap K) → Vec (OwnedGap K) → Found K V → Found K V → Type 0
   TakesPart gap old new left left' before after = (part : Part K V) × (behind : List (OwnedGap K))
       × Reads old (part_bytes encoding values (bound_key encoding [] gap.after) part) new
       × AscendIn laws.cmp (owned_gap gap) (map (λ r. r.0) part.rows)
-      × IsBehind laws (side replica) (owned_gap gap) part behind
-      × (left'.items ≡ left.items ++ behind) × AddsRows laws (side replica) part.rows before after
+      × ForItsRows laws tree (λ local. IsBehind laws local (owned_gap gap) part behind)
+      × (left'.items ≡ left.items ++ behind) × ForItsRows laws tree (λ local. AddsRows laws local part.rows before after)
 
   -- so were parts of the first gaps, so many of them
   abbrev pub TakesPartsOf : List (OwnedGap K) → Reader → Reader → Vec (OwnedGap K) → Vec (OwnedGap K) → Found K V → Found K V → ℕ → Type 0
@@ -130,8 +145,8 @@ module _ {K V H : Type 0} (laws : Laws K V H) (n : ℕ) (encoding : K → List �
       × ((told : List (OwnedGap K × Part K V)) × (behind : List (OwnedGap K)) × (map (λ t. t.0) told ≡ take count gaps)
       × Reads old (parts_bytes encoding values told) new
       × AllByRecursion (λ t. AscendIn laws.cmp (owned_gap t.0) (map (λ r. r.0) t.1.rows)) told
-      × AreBehind laws (side replica) told behind × (left'.items ≡ left.items ++ behind)
-      × AddsRows laws (side replica) (flat_map (λ t. t.1.rows) told) before after)
+      × ForItsRows laws tree (λ local. AreBehind laws local told behind) × (left'.items ≡ left.items ++ behind)
+      × ForItsRows laws tree (λ local. AddsRows laws local (flat_map (λ t. t.1.rows) told) before after))
 
 module _ {K : Type 0} (cmp : K → K → Ordering) (is_key : K → Type 0) (encoding : K → List ℕ) where
   -- a reply is refused for want of memory, or where no nodes in the gap stood at the front, behind a key

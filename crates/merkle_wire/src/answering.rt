@@ -1,12 +1,13 @@
 //! The answering side: a reply to a message, with nothing kept between messages.
 ghost use Rattle.std.specs.Prelude.{◌≡◌, false, IsSome, IsTrue, IfOk, IfErr, Some};
 ghost use Rattle.std.specs.Option.{option_map};
-ghost use Rattle.merkle_tree_theory.specs.State.{SameSettings};
-ghost use Rattle.merkle_wire.specs.Faults.{IsUnread, answer_error_text};
+ghost use Rattle.merkle_tree_theory.specs.State.{SameSettings, map_of};
+ghost use Rattle.merkle_wire.specs.Faults.{IsUnread, OfMessage, answer_error_text};
 ghost use Rattle.merkle_wire.specs.Questions.{AsksNothing};
-ghost use Rattle.merkle_wire.specs.Replies.{EndsWithin, IsAnsweredBy, IsAnsweredWithin, RefusesOthers, RefusesQuestionOfOthers, Replies};
-ghost use Rattle.merkle_wire.specs.Replies.{TellsOthers, TellsSettings, root_bytes, root_page_digest};
+ghost use Rattle.merkle_wire.specs.Replies.{EndsWithin, IsAnsweredBy, IsAnsweredOf, IsAnsweredWithin, IsReplyBy, RefusesOthers, RefusesQuestionOfOthers};
+ghost use Rattle.merkle_wire.specs.Replies.{TellsOthers, TellsSettings, root_page_digest, root_reply_bytes};
 
+use crate::kept_rows::KeptRows;
 use crate::message::{Kind, begin};
 use crate::outlines::{Telling, tell_pages};
 use crate::pages::encode_page;
@@ -17,7 +18,7 @@ use crate::settings::agree;
 use merkle_bytes::{Decode, Encode, ReadError, encode_count};
 use merkle_digest::{Hasher, Key, PageDigest};
 use merkle_replica::{Join, Replica, RowHasher};
-use merkle_search_tree::OutlineItem;
+use merkle_search_tree::{MerkleSearchTree, OutlineItem};
 use std::alloc::{AllocError, AllocFailed, Global};
 use std::fmt;
 
@@ -135,38 +136,94 @@ pub fn answer_within<
 {
     replica.hash();
     let question = decode_question::<K>(alloc, message)?;
-    reply_to(alloc, replica, &question, most_bytes)
+    match reply_to(alloc, replica.tree(), replica, &question, most_bytes) {
+        Ok(reply) => Ok(reply),
+        Err(KeptError::Answer(error)) => Err(error),
+        Err(KeptError::Rows(_)) => Err(AnswerError::Memory),
+    }
+}
+
+/// Why a message has no reply of a side whose rows are kept elsewhere.
+#[derive(Drop)]
+pub enum KeptError<E> {
+    /// The message has none. The asking side is to be sent a [`refusal`](crate::refusal).
+    Answer(AnswerError),
+    /// The rows couldn't be told.
+    Rows(E),
+}
+
+/// The reply to a message, as [`answer_within`] gives it, of a side whose rows are kept anywhere, and the digests of their values in a tree. Pages that
+/// lack a digest get it.
+///
+/// # Errors
+///
+/// [`KeptError`]
+pub fn answer_by<
+    K: Key + Decode,
+    V: Join + Encode + Drop,
+    H: RowHasher<N, K, V>,
+    R: KeptRows<K, V>,
+    const N: usize,
+>(
+    alloc: Global,
+    tree: &mut MerkleSearchTree<K, V, H, N>,
+    rows: &R,
+    message: &[u8],
+    most_bytes: usize,
+) -> Result<Vec<u8>, KeptError<R::Error>>
+    ensures answered { IfOk result (IsAnsweredOf H.laws N K.encoding V.encoding (R.rows rows.now) tree.new message.now) }
+    ensures within { IfOk result (IsAnsweredWithin K.encoding V.encoding most_bytes message.now) }
+    ensures malformed { IfErr result (OfMessage (λ error. IsUnread error → AsksNothing K.encoding K.is_value message.now)) }
+    ensures other_settings { IfErr result (OfMessage (RefusesOthers H.laws N K.encoding tree.new message.now)) }
+    ensures map { map_of tree.new ≡ map_of tree.old }
+    ensures settings { SameSettings tree.old tree.new }
+{
+    let _ = tree.root_hash_counted();
+    match decode_question::<K>(alloc, message) {
+        Ok(question) => reply_to(alloc, tree, rows, &question, most_bytes),
+        Err(error) => Err(KeptError::Answer(AnswerError::from(error))),
+    }
 }
 
 /// The reply to a question, where the tree is hashed.
-fn reply_to<K: Key + Decode, V: Join + Encode + Drop, H: RowHasher<N, K, V>, const N: usize>(
+fn reply_to<
+    K: Key + Decode,
+    V: Join + Encode + Drop,
+    H: RowHasher<N, K, V>,
+    R: KeptRows<K, V>,
+    const N: usize,
+>(
     alloc: Global,
-    replica: &Replica<K, V, H, N>,
+    tree: &MerkleSearchTree<K, V, H, N>,
+    rows: &R,
     question: &Question<K>,
     most_bytes: usize,
-) -> Result<Vec<u8>, AnswerError>
-    requires hashed { IsSome replica.now.tree.root_hash }
-    ensures reply { IfOk result (Replies H.laws N K.encoding V.encoding replica.now question.now) }
+) -> Result<Vec<u8>, KeptError<R::Error>>
+    requires hashed { IsSome tree.now.root_hash }
+    ensures reply { IfOk result (IsReplyBy H.laws N K.encoding V.encoding (R.rows rows.now) tree.now question.now) }
     ensures within { IfOk result (λ reply. EndsWithin K.encoding V.encoding most_bytes question.now reply.items) }
-    ensures read { IfErr result (λ error. ¬ IsUnread error) }
-    ensures others { IfErr result (RefusesQuestionOfOthers H.laws N replica.now.tree question.now) }
+    ensures read { IfErr result (OfMessage (λ error. ¬ IsUnread error)) }
+    ensures others { IfErr result (OfMessage (RefusesQuestionOfOthers H.laws N tree.now question.now)) }
 {
-    if !tells_settings(replica, question) {
-        return Err(AnswerError::OtherSettings);
+    if !tells_settings(tree, question) {
+        return Err(KeptError::Answer(AnswerError::OtherSettings));
     }
-    Ok(tell(alloc, replica, question, most_bytes)?)
+    match tell(alloc, tree, rows, question, most_bytes) {
+        Ok(reply) => Ok(reply),
+        Err(error) => Err(KeptError::Rows(error)),
+    }
 }
 
-/// Whether a question tells the settings of the replica, where it tells any.
+/// Whether a question tells the settings of the tree, where it tells any.
 fn tells_settings<K: Key, V: Join, H: RowHasher<N, K, V>, const N: usize>(
-    replica: &Replica<K, V, H, N>,
+    tree: &MerkleSearchTree<K, V, H, N>,
     question: &Question<K>,
 ) -> bool
-    ensures own { IsTrue result → TellsSettings H.laws N replica.now.tree question.now }
-    ensures others { result ≡ false → TellsOthers H.laws N replica.now.tree question.now }
+    ensures own { IsTrue result → TellsSettings H.laws N tree.now question.now }
+    ensures others { result ≡ false → TellsOthers H.laws N tree.now question.now }
 {
     match question {
-        Question::Root(settings) => agree(replica, settings),
+        Question::Root(settings) => agree(tree, settings),
         Question::Outlines(_, _) => true,
         Question::Nodes(_, _) => true,
         Question::RowsAt(_) => true,
@@ -175,26 +232,36 @@ fn tells_settings<K: Key, V: Join, H: RowHasher<N, K, V>, const N: usize>(
 }
 
 /// What the question asks for.
-fn tell<K: Key + Decode, V: Join + Encode + Drop, H: RowHasher<N, K, V>, const N: usize>(
+fn tell<
+    K: Key + Decode,
+    V: Join + Encode + Drop,
+    H: RowHasher<N, K, V>,
+    R: KeptRows<K, V>,
+    const N: usize,
+>(
     alloc: Global,
-    replica: &Replica<K, V, H, N>,
+    tree: &MerkleSearchTree<K, V, H, N>,
+    rows: &R,
     question: &Question<K>,
     most_bytes: usize,
-) -> Result<Vec<u8>, AllocError>
-    requires hashed { IsSome replica.now.tree.root_hash }
-    requires settings { TellsSettings H.laws N replica.now.tree question.now }
-    ensures reply { IfOk result (Replies H.laws N K.encoding V.encoding replica.now question.now) }
+) -> Result<Vec<u8>, R::Error>
+    requires hashed { IsSome tree.now.root_hash }
+    requires settings { TellsSettings H.laws N tree.now question.now }
+    ensures reply { IfOk result (IsReplyBy H.laws N K.encoding V.encoding (R.rows rows.now) tree.now question.now) }
     ensures within { IfOk result (λ reply. EndsWithin K.encoding V.encoding most_bytes question.now reply.items) }
 {
     match question {
-        Question::Root(_) => root_reply(alloc, replica),
+        Question::Root(_) => {
+            let count = rows.count()?;
+            Ok(root_reply(alloc, tree, count)?)
+        }
         Question::Outlines(most, gaps) => {
             let telling = Telling {
                 with_pages: true,
                 most: *most,
                 most_bytes,
             };
-            tell_pages(replica, Kind::Outlines, telling, gaps)
+            tell_pages(alloc, tree, rows, Kind::Outlines, telling, gaps)
         }
         Question::Nodes(most, gaps) => {
             let telling = Telling {
@@ -202,35 +269,36 @@ fn tell<K: Key + Decode, V: Join + Encode + Drop, H: RowHasher<N, K, V>, const N
                 most: *most,
                 most_bytes,
             };
-            tell_pages(replica, Kind::Nodes, telling, gaps)
+            tell_pages(alloc, tree, rows, Kind::Nodes, telling, gaps)
         }
-        Question::RowsAt(keys) => tell_values(replica, most_bytes, keys),
-        Question::RowsIn(gaps) => tell_rows(alloc, replica.rows(), most_bytes, gaps),
+        Question::RowsAt(keys) => tell_values(alloc, rows, most_bytes, keys),
+        Question::RowsIn(gaps) => tell_rows(alloc, rows, most_bytes, gaps),
     }
 }
 
 /// The number of rows, and the digest of the root page, or none.
-fn root_reply<K: Key + Encode, V: Join + Encode, H: Hasher<N, K> + Hasher<N, V>, const N: usize>(
+fn root_reply<K: Key + Encode, V, H: Hasher<N, K>, const N: usize>(
     alloc: Global,
-    replica: &Replica<K, V, H, N>,
+    tree: &MerkleSearchTree<K, V, H, N>,
+    count: u64,
 ) -> Result<Vec<u8>, AllocError>
-    requires hashed { IsSome replica.now.tree.root_hash }
-    ensures { IfOk result (λ bytes. bytes.items ≡ root_bytes K.bytes_of replica.now.rows replica.now.tree) }
+    requires hashed { IsSome tree.now.root_hash }
+    ensures { IfOk result (λ bytes. bytes.items ≡ root_reply_bytes count (root_page_digest K.bytes_of tree.now)) }
 {
     let mut bytes = begin(alloc, Kind::Root)?;
-    encode_count(replica.rows().len() as u64, &mut bytes)?;
-    encode_page(root_digest(replica), &mut bytes)?;
+    encode_count(count, &mut bytes)?;
+    encode_page(root_digest(tree), &mut bytes)?;
     Ok(bytes)
 }
 
 /// The digest of the root page, where there is a row.
-fn root_digest<K: Key, V: Join, H: Hasher<N, K> + Hasher<N, V>, const N: usize>(
-    replica: &Replica<K, V, H, N>,
+fn root_digest<K: Key, V, H: Hasher<N, K>, const N: usize>(
+    tree: &MerkleSearchTree<K, V, H, N>,
 ) -> Option<&PageDigest>
-    requires hashed { IsSome replica.now.tree.root_hash }
-    ensures { option_map (λ digest. digest.now) result ≡ root_page_digest K.bytes_of replica.now.tree }
+    requires hashed { IsSome tree.now.root_hash }
+    ensures { option_map (λ digest. digest.now) result ≡ root_page_digest K.bytes_of tree.now }
 {
-    match replica.tree().whole() {
+    match tree.whole() {
         Some(OutlineItem::Page(_, digest)) => Some(digest),
         _ => None,
     }

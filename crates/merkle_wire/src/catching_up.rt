@@ -1,13 +1,14 @@
 //! The asking side: what to ask next, and the rows that came in the end.
 ghost use Rattle.std.specs.Prelude.{◌≡◌, ◌≤◌, IsSome, IfOk, IfErr, OnOk};
 ghost use Rattle.merkle_replica.specs.Contents.{side};
-ghost use Rattle.merkle_tree_theory.specs.State.{SameSettings};
+ghost use Rattle.merkle_tree_theory.specs.State.{SameSettings, map_of};
 ghost use Rattle.merkle_wire.specs.Asking.{AsksForOutlines};
 ghost use Rattle.merkle_wire.specs.Faults.{IsRefusedFor};
 ghost use Rattle.merkle_wire.specs.Fit.{SaysRoot};
 ghost use Rattle.merkle_wire.specs.Found.{nothing};
-ghost use Rattle.merkle_wire.specs.Next.{AsksFew, GoesOn, IsAsked, IsCame, IsEnded, IsStopped, IsTwice, OnlyAskedFor, Takes, rounds_with};
-ghost use Rattle.merkle_wire.specs.Questions.{AsksForOwnRoot, IsQuestion, question_bytes};
+ghost use Rattle.merkle_wire.specs.ItsRows.{ForItsRows};
+ghost use Rattle.merkle_wire.specs.Next.{AsksFew, GoesOn, IsAsked, IsCame, IsEnded, IsNext, IsStopped, IsTwice, OnlyAskedFor, Takes, rounds_with};
+ghost use Rattle.merkle_wire.specs.Questions.{AsksForOwnRoot, AsksForRoot, IsQuestion, question_bytes};
 ghost use Rattle.merkle_wire.specs.Replies.{root_reply_bytes};
 ghost use Rattle.merkle_wire.specs.Steady.{IsKeyOf};
 ghost use Rattle.merkle_wire.specs.Steps.{RefusesReply, TakesRoot};
@@ -22,14 +23,14 @@ use crate::pages::decode_page;
 use crate::question::{Question, encode_question};
 use crate::replies::{expect, take_outlines, take_parts, take_values};
 use crate::session_error::SessionError;
-use crate::settings::settings_of;
+use crate::settings::{Settings, settings_of, settings_of_tree};
 use crate::sifting::has_page;
 use crate::within::rows_ascend;
 use crate::work::Work;
 use merkle_bytes::{Decode, Reader};
 use merkle_digest::{Hasher, Key, PageDigest};
 use merkle_replica::{Join, Replica, RowHasher};
-use merkle_search_tree::Gap;
+use merkle_search_tree::{Gap, MerkleSearchTree};
 use std::alloc::{AllocError, Global};
 use std::cmp::Ordering;
 use std::marker::Model;
@@ -109,15 +110,27 @@ impl<K: Key + Decode, V: Join + Decode> CatchingUp<K, V> {
         ensures keys { IfOk result (λ begun. IsQuestion (IsKeyOf K.cmp replica.now.rows) begun.0.asked) }
         ensures nothing { IfOk result (λ begun. (begun.0.found ≡ nothing) × (begun.0.rounds ≡ 0)) }
     {
-        let asked = Question::Root(settings_of(alloc, replica)?);
-        let message = encode_question(alloc, &asked)?;
-        let session = CatchingUp {
-            alloc,
-            asked,
-            work: Work::new(alloc),
-            rounds: 0,
-        };
-        Ok((session, message))
+        begin(alloc, settings_of(alloc, replica)?)
+    }
+
+    /// A catch-up of a side whose rows are kept anywhere that begins, and the first message, which tells the settings of the tree of their digests.
+    ///
+    /// # Errors
+    ///
+    /// Want of memory.
+    pub fn begin_of<H: RowHasher<N, K, V>, const N: usize>(
+        alloc: Global,
+        tree: &MerkleSearchTree<K, V, H, N>,
+    ) -> Result<(Self, Vec<u8>), AllocError>
+        ensures settings { IfOk result (λ begun. AsksForRoot (⟦<H as Hasher<N, K>>⟧.digest_of tree.now.hasher) N tree.now begun.0.asked) }
+        ensures asks { IfOk result (λ begun. begun.1.items ≡ question_bytes K.encoding begun.0.asked) }
+
+        // Whatever rows the tree has the digests of, the key that is told is one of theirs.
+        ensures keys { IfOk result (λ begun. ForItsRows H.laws tree.now (λ local. IsQuestion (IsKeyOf K.cmp local.rows) begun.0.asked)) }
+
+        ensures nothing { IfOk result (λ begun. (begun.0.found ≡ nothing) × (begun.0.rounds ≡ 0)) }
+    {
+        begin(alloc, settings_of_tree(alloc, tree)?)
     }
 
     /// How many rounds of outlines were asked for: 256 at most.
@@ -160,6 +173,49 @@ impl<K: Key + Decode, V: Join + Decode> CatchingUp<K, V> {
         ensures settings { SameSettings replica.old.tree replica.new.tree }
     {
         replica.hash();
+        let count = replica.rows().len() as u64;
+        self.take_hashed(replica.tree(), count, reply)
+    }
+
+    /// Takes a reply, as [`take`](Self::take) does, for a side whose rows are kept anywhere: it looks at the tree of their digests alone. `count` is
+    /// about how many rows there are, by which all of the peer's are asked for where they are few; the answer is right whatever it is.
+    ///
+    /// # Errors
+    ///
+    /// [`SessionError`]
+    pub fn take_by<H: RowHasher<N, K, V>, const N: usize>(
+        self,
+        tree: &mut MerkleSearchTree<K, V, H, N>,
+        count: u64,
+        reply: &[u8],
+    ) -> Result<Next<K, V>, SessionError>
+        // Whatever rows the tree has the digests of, it is what a replica with them makes of the reply.
+        ensures next { IfOk result (λ next. ForItsRows H.laws tree.old (λ local. IsNext H.laws N K.encoding V.encoding local self reply.now next)) }
+        ensures few { IfOk result AsksFew }
+        ensures asked_for { IfOk result (λ next. ForItsRows H.laws tree.old (λ local. OnlyAskedFor K.cmp self next)) }
+        ensures ended { IfErr result (λ error. ForItsRows H.laws tree.old (λ local. IsStopped H.laws N K.encoding V.encoding K.is_value V.is_value
+            local self reply.now error)) }
+        ensures map { map_of tree.new ≡ map_of tree.old }
+        ensures settings { SameSettings tree.old tree.new }
+    {
+        let _ = tree.root_hash_counted();
+        self.take_hashed(tree, count, reply)
+    }
+
+    /// Takes a reply, by a hashed tree.
+    fn take_hashed<H: RowHasher<N, K, V>, const N: usize>(
+        self,
+        tree: &MerkleSearchTree<K, V, H, N>,
+        count: u64,
+        reply: &[u8],
+    ) -> Result<Next<K, V>, SessionError>
+        requires { IsSome tree.now.root_hash }
+        ensures next { IfOk result (λ next. ForItsRows H.laws tree.now (λ local. IsNext H.laws N K.encoding V.encoding local self reply.now next)) }
+        ensures few { IfOk result AsksFew }
+        ensures asked_for { IfOk result (λ next. ForItsRows H.laws tree.now (λ local. OnlyAskedFor K.cmp self next)) }
+        ensures ended { IfErr result (λ error. ForItsRows H.laws tree.now (λ local. IsStopped H.laws N K.encoding V.encoding K.is_value V.is_value
+            local self reply.now error)) }
+    {
         let CatchingUp {
             alloc,
             asked,
@@ -167,54 +223,75 @@ impl<K: Key + Decode, V: Join + Decode> CatchingUp<K, V> {
             rounds,
         } = self;
         let mut work = work;
-        match take_reply(alloc, replica, asked, reply, &mut work)? {
+        match take_reply(alloc, tree, count, asked, reply, &mut work)? {
             Some(question) => ask(alloc, question, work, rounds),
             None => go_on(alloc, work, rounds, N),
         }
     }
 }
 
+/// A catch-up that begins with these settings.
+fn begin<K: Key + Decode, V: Join + Decode>(
+    alloc: Global,
+    settings: Settings<K>,
+) -> Result<(CatchingUp<K, V>, Vec<u8>), AllocError>
+    ensures asked { IfOk result (λ begun. begun.0.asked ≡ Question.Root settings) }
+    ensures asks { IfOk result (λ begun. begun.1.items ≡ question_bytes K.encoding begun.0.asked) }
+    ensures nothing { IfOk result (λ begun. (begun.0.found ≡ nothing) × (begun.0.rounds ≡ 0)) }
+{
+    let asked = Question::Root(settings);
+    let message = encode_question(alloc, &asked)?;
+    let session = CatchingUp {
+        alloc,
+        asked,
+        work: Work::new(alloc),
+        rounds: 0,
+    };
+    Ok((session, message))
+}
+
 /// Takes a reply to a question, and answers what of it is to be asked again.
 fn take_reply<K: Key + Decode, V: Join + Decode, H: RowHasher<N, K, V>, const N: usize>(
     alloc: Global,
-    replica: &Replica<K, V, H, N>,
+    tree: &MerkleSearchTree<K, V, H, N>,
+    count: u64,
     asked: Question<K>,
     reply: &[u8],
     work: &mut Work<K, V>,
 ) -> Result<Option<Question<K>>, SessionError>
-    requires { IsSome replica.now.tree.root_hash }
-    ensures taken { IfOk result (HasTaken H.laws N K.encoding V.encoding (side replica.now) asked
-        reply.now work.old work.new) }
+    requires { IsSome tree.now.root_hash }
+    ensures taken { IfOk result (λ again. ForItsRows H.laws tree.now (λ local. HasTaken H.laws N K.encoding V.encoding local asked
+        reply.now work.old work.new again)) }
     ensures refused { IfErr result (RefusesReply K.cmp K.is_value V.is_value K.encoding V.encoding N asked reply.now) }
 {
     match asked {
         Question::Root(_) => {
-            take_root(alloc, replica, reply, work)?;
+            take_root(alloc, tree, count, reply, work)?;
             Ok(None)
         }
         Question::Outlines(most, gaps) => {
-            let left = take_outlines(alloc, replica, Kind::Outlines, true, gaps, reply, work)?;
+            let left = take_outlines(alloc, tree, Kind::Outlines, true, gaps, reply, work)?;
             if left.is_empty() {
                 return Ok(None);
             }
             Ok(Some(Question::Outlines(most, left)))
         }
         Question::Nodes(most, gaps) => {
-            let left = take_outlines(alloc, replica, Kind::Nodes, false, gaps, reply, work)?;
+            let left = take_outlines(alloc, tree, Kind::Nodes, false, gaps, reply, work)?;
             if left.is_empty() {
                 return Ok(None);
             }
             Ok(Some(Question::Nodes(most, left)))
         }
         Question::RowsAt(keys) => {
-            let left = take_values(alloc, replica, keys, reply, work)?;
+            let left = take_values(alloc, tree, keys, reply, work)?;
             if left.is_empty() {
                 return Ok(None);
             }
             Ok(Some(Question::RowsAt(left)))
         }
         Question::RowsIn(gaps) => {
-            let left = take_parts(alloc, replica, gaps, reply, work)?;
+            let left = take_parts(alloc, tree, gaps, reply, work)?;
             if left.is_empty() {
                 return Ok(None);
             }
@@ -226,22 +303,23 @@ fn take_reply<K: Key + Decode, V: Join + Decode, H: RowHasher<N, K, V>, const N:
 /// Takes the number of the peer's rows and the digest of its root page.
 fn take_root<K: Key + Decode, V: Join + Decode, H: RowHasher<N, K, V>, const N: usize>(
     alloc: Global,
-    replica: &Replica<K, V, H, N>,
+    tree: &MerkleSearchTree<K, V, H, N>,
+    count: u64,
     reply: &[u8],
     work: &mut Work<K, V>,
 ) -> Result<(), SessionError>
-    requires { IsSome replica.now.tree.root_hash }
-    ensures taken { OnOk result (TakesRoot H.laws replica.now reply.now work.old work.new) }
+    requires { IsSome tree.now.root_hash }
+    ensures taken { OnOk result (TakesRoot H.laws tree.now reply.now work.old work.new) }
     ensures refused { IfErr result (IsRefusedFor (SaysNot root_kind SaysRoot reply.now)) }
 {
     let (rows, digest) = decode_root(alloc, reply)?;
     let Some(digest) = digest else {
         return Ok(());
     };
-    if has_page(replica, &Gap::everywhere(), &digest) {
+    if has_page(tree, &Gap::everywhere(), &digest) {
         return Ok(());
     }
-    if has_few(replica.rows().len() as u64, rows) {
+    if has_few(count, rows) {
         work.add_whole(OwnedGap::everywhere())?;
         return Ok(());
     }

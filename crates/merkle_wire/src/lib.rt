@@ -4,6 +4,7 @@
 mod answering;
 mod catching_up;
 mod gaps;
+mod kept_rows;
 pub mod laws;
 mod message;
 mod nodes;
@@ -22,15 +23,18 @@ mod wanted;
 mod within;
 mod work;
 
-pub use answering::{AnswerError, MOST_BYTES, answer, answer_within};
+pub use answering::{AnswerError, KeptError, MOST_BYTES, answer, answer_by, answer_within};
 pub use catching_up::{CatchingUp, Next};
 pub use gaps::OwnedGap;
+pub use kept_rows::KeptRows;
 pub use merkle_bytes as bytes;
 pub use message::{Kind, refusal};
 pub use question::{Question, decode_question};
+pub use rows_in::tell_part;
 pub use session::{
     BothMessagesError, MessagesError, catch_up_both_by_messages, catch_up_by_messages,
 };
 pub use session_error::SessionError;
 pub use settings::Settings;
 pub use wanted::Wanted;
+pub use within::rows_ascend;

@@ -1,14 +1,15 @@
 //! The nodes of a page in messages.
-ghost use Rattle.std.specs.Prelude.{◌≡◌, IfOk, OnOk, flat_map};
+ghost use Rattle.std.specs.Prelude.{◌≡◌, ◌+◌, ◌<◌, ◌^◌, ◌++◌, ◌∷◌, IfOk, IfSome, OnOk, flat_map};
+ghost use Rattle.merkle_bytes.specs.Counts.{count_bytes};
 ghost use Rattle.merkle_bytes.specs.Encodings.{AddsBytes};
 ghost use Rattle.merkle_search_tree.specs.Items.{items};
 ghost use Rattle.merkle_wire.specs.Nodes.{node_pairs};
 ghost use Rattle.merkle_wire.specs.Outlines.{nodes_among, nodes_digest};
-ghost use Rattle.merkle_wire.specs.Told.{AddsRowAt, FindsRows, TellsNodes, digests_bytes, lent_rows_bytes, node_keys_bytes};
+ghost use Rattle.merkle_wire.specs.Told.{AddsRowAt, AreRowsOf, TellsNodes, bound_before, digests_bytes, node_keys_bytes};
 
-use merkle_bytes::{Encode, KeyRun, encode_count, encode_run};
-use merkle_digest::{Hasher, Key, Sip24, ValueDigest};
-use merkle_replica::{Join, Replica};
+use crate::kept_rows::KeptRows;
+use merkle_bytes::{Encode, KeyRun, encode_count};
+use merkle_digest::{Key, Sip24, ValueDigest};
 use merkle_search_tree::OutlineItem;
 use std::alloc::{AllocError, Global};
 
@@ -57,41 +58,110 @@ pub(crate) fn encode_keys<K: Encode, const N: usize>(
     Ok(())
 }
 
-/// Writes nodes: their rows, where their values have at most so many bytes on average, else their keys and the digests of their values.
-pub(crate) fn write_nodes<
-    K: Key + Encode + Drop,
-    V: Join + Encode + Drop,
-    H: Hasher<N, K> + Hasher<N, V>,
-    const N: usize,
->(
-    replica: &Replica<K, V, H, N>,
+/// Writes nodes: their rows, where the values are at hand and have at most so many bytes on average, else their keys and the digests of their values.
+pub(crate) fn write_nodes<K: Key + Encode, V: Encode, R: KeptRows<K, V>, const N: usize>(
+    alloc: Global,
+    rows: &R,
     nodes: &[NodeRef<'_, N, K>],
     most: u64,
-    run: &mut KeyRun,
+    after: Option<&K>,
     bytes: &mut Vec<u8>,
-) -> Result<(), AllocError>
-    ensures { OnOk result (TellsNodes K.cmp K.encoding V.encoding replica.now nodes.now run.old bytes.old bytes.new) }
+) -> Result<(), R::Error>
+    ensures { OnOk result (TellsNodes K.cmp K.encoding V.encoding (R.rows rows.now) nodes.now (bound_before K.encoding after.entry) bytes.old bytes.new) }
 {
-    let found = rows_of(replica, nodes)?;
-    if values_fit(replica.alloc(), &found, most)? {
-        write_rows(&found, run, bytes)?;
-        Ok(())
-    } else {
-        write_digests(nodes, run, bytes)?;
-        Ok(())
+    match short_rows(alloc, rows, nodes, most, after)? {
+        Some(told) => {
+            write_rows(&told, bytes)?;
+            Ok(())
+        }
+        None => {
+            let mut run = KeyRun::behind(alloc, after)?;
+            write_digests(nodes, &mut run, bytes)?;
+            Ok(())
+        }
     }
 }
 
-/// Writes rows: a byte 0, how many they are, and the rows.
-fn write_rows<K: Encode, V: Encode>(
-    rows: &[&(K, V)],
+/// Rows as their bytes, and how many they are.
+#[derive(Drop)]
+struct ToldRows {
+    count: usize,
+    bytes: Vec<u8>,
+}
+
+/// The rows of nodes, where the values are at hand and have at most so many bytes on average.
+fn short_rows<K: Key + Encode, V: Encode, R: KeptRows<K, V>, const N: usize>(
+    alloc: Global,
+    rows: &R,
+    nodes: &[NodeRef<'_, N, K>],
+    most: u64,
+    after: Option<&K>,
+) -> Result<Option<ToldRows>, R::Error>
+    ensures { IfOk result (λ found. IfSome found
+        (AreRowsOf K.cmp K.encoding V.encoding (R.rows rows.now) nodes.now (bound_before K.encoding after.entry))) }
+{
+    if !rows.are_at_hand() {
+        return Ok(None);
+    }
+    let mut run = KeyRun::behind(alloc, after)?;
+    let limit = most.saturating_mul(nodes.len() as u64);
+    let found = rows_of(alloc, rows, nodes, limit, &mut run)?;
+    Ok(found)
+}
+
+/// The rows of nodes behind a key, where their values have at most so many bytes.
+fn rows_of<K: Key + Encode, V: Encode, R: KeptRows<K, V>, const N: usize>(
+    alloc: Global,
+    rows: &R,
+    nodes: &[NodeRef<'_, N, K>],
+    limit: u64,
     run: &mut KeyRun,
-    bytes: &mut Vec<u8>,
-) -> Result<(), AllocError>
-    ensures { OnOk result (AddsBytes bytes.old (lent_rows_bytes K.encoding V.encoding run.old rows.now) bytes.new) }
+) -> Result<Option<ToldRows>, R::Error>
+    ensures { IfOk result (λ found. IfSome found (AreRowsOf K.cmp K.encoding V.encoding (R.rows rows.now) nodes.now run.old)) }
+{
+    let mut told = ToldRows {
+        count: 0,
+        bytes: Vec::new(alloc),
+    };
+    let mut value = Vec::new(alloc);
+    let mut size: u64 = 0;
+    'nodes: for node in nodes {
+        add_row(rows, node.0, &mut value, run, &mut told)?;
+        size = size.saturating_add(value.len() as u64);
+        if size > limit {
+            return Ok(None);
+        }
+    }
+    Ok(Some(told))
+}
+
+/// Adds the row at a key behind the last one, where there is one. `value` has the bytes of its value then, and none else.
+fn add_row<K: Key + Encode, V: Encode, R: KeptRows<K, V>>(
+    rows: &R,
+    key: &K,
+    value: &mut Vec<u8>,
+    run: &mut KeyRun,
+    told: &mut ToldRows,
+) -> Result<(), R::Error>
+    requires { told.old.count + 1 < 2 ^ 64 }
+    ensures { OnOk result (AddsRowAt K.cmp K.encoding V.encoding (R.rows rows.now) key.now run.old run.new told.old told.new) }
+{
+    value.clear();
+    if rows.add_value(key, value)? {
+        run.encode(key, &mut told.bytes)?;
+        told.bytes.extend_from_slice(value)?;
+        told.count += 1;
+    }
+    Ok(())
+}
+
+/// Writes rows: a byte 0, how many they are, and the rows.
+fn write_rows(told: &ToldRows, bytes: &mut Vec<u8>) -> Result<(), AllocError>
+    ensures { OnOk result (AddsBytes bytes.old (0 ∷ (count_bytes told.now.count ++ told.now.bytes.items)) bytes.new) }
 {
     bytes.extend_from_slice(&[0])?;
-    encode_run(rows, run, bytes)?;
+    encode_count(told.count as u64, bytes)?;
+    bytes.extend_from_slice(&told.bytes)?;
     Ok(())
 }
 
@@ -107,54 +177,6 @@ fn write_digests<K: Encode, const N: usize>(
     encode_keys(nodes, run, bytes)?;
     encode_digests(nodes, bytes)?;
     Ok(())
-}
-
-/// The rows of nodes.
-fn rows_of<'a, K: Key + Drop, V: Join + Drop, H: Hasher<N, K> + Hasher<N, V>, const N: usize>(
-    replica: &'a Replica<K, V, H, N>,
-    nodes: &[NodeRef<'_, N, K>],
-) -> Result<Vec<&'a (K, V)>, AllocError>
-    ensures { IfOk result (FindsRows K.cmp replica.now.rows nodes.now) }
-{
-    let mut found = Vec::new(replica.alloc());
-    'nodes: for node in nodes {
-        add_row(replica, node.0, &mut found)?;
-    }
-    Ok(found)
-}
-
-/// Adds the row at a key, where there is one.
-fn add_row<'a, K: Key + Drop, V: Join + Drop, H: Hasher<N, K> + Hasher<N, V>, const N: usize>(
-    replica: &'a Replica<K, V, H, N>,
-    key: &K,
-    found: &mut Vec<&'a (K, V)>,
-) -> Result<(), AllocError>
-    ensures { OnOk result (AddsRowAt K.cmp replica.now.rows key.now found.old found.new) }
-{
-    match replica.row_at(key) {
-        None => Ok(()),
-        Some(row) => {
-            found.push(row)?;
-            Ok(())
-        }
-    }
-}
-
-/// Whether the values of rows have at most so many bytes, on average.
-fn values_fit<K, V: Encode>(
-    alloc: Global,
-    rows: &[&(K, V)],
-    most: u64,
-) -> Result<bool, AllocError> {
-    let limit = most.saturating_mul(rows.len() as u64);
-    let mut values = Vec::new(alloc);
-    'rows: for row in rows {
-        row.1.encode(&mut values)?;
-        if values.len() as u64 > limit {
-            return Ok(false);
-        }
-    }
-    Ok(true)
 }
 
 /// Writes the digests of the values of nodes.

@@ -5,16 +5,16 @@ ghost use Rattle.merkle_search_tree.specs.Items.{items};
 ghost use Rattle.merkle_wire.specs.Messages.{front};
 ghost use Rattle.merkle_wire.specs.Outlines.{HasNoPage, pages_beside, pages_bytes};
 ghost use Rattle.merkle_wire.specs.Replies.{HasRoom, IsFull, OutlinesFit, items_over};
-ghost use Rattle.merkle_wire.specs.Told.{TellsItems, TellsPage, TellsPages, page_bytes};
+ghost use Rattle.merkle_wire.specs.Told.{TellsItems, TellsPage, TellsPages, bound_before, page_bytes};
 
 use crate::gaps::OwnedGap;
+use crate::kept_rows::KeptRows;
 use crate::message::{Kind, begin};
 use crate::nodes::{NodeRef, encode_keys, nodes_digest, nodes_of, write_nodes};
 use crate::pages::encode_page;
-use merkle_bytes::{Decode, Encode, KeyRun};
+use merkle_bytes::{Encode, KeyRun};
 use merkle_digest::{Hasher, Key, PageDigest};
-use merkle_replica::{Join, Replica};
-use merkle_search_tree::OutlineItem;
+use merkle_search_tree::{MerkleSearchTree, OutlineItem};
 use std::alloc::{AllocError, Global};
 
 /// How many bytes stand at the front of a message.
@@ -34,25 +34,28 @@ pub(crate) struct Telling {
 /// A message of this kind that tells of the pages over the gaps, one behind the other, as far as the bytes suffice.
 pub(crate) fn tell_pages<
     K: Key + Encode + Drop,
-    V: Join + Encode + Drop,
-    H: Hasher<N, K> + Hasher<N, V>,
+    V: Encode,
+    H: Hasher<N, K>,
+    R: KeptRows<K, V>,
     const N: usize,
 >(
-    replica: &Replica<K, V, H, N>,
+    alloc: Global,
+    tree: &MerkleSearchTree<K, V, H, N>,
+    rows: &R,
     kind: Kind,
     telling: Telling,
     gaps: &[OwnedGap<K>],
-) -> Result<Vec<u8>, AllocError>
-    requires hashed { IsSome replica.now.tree.root_hash }
-    ensures told { IfOk result (TellsPages K.cmp K.bytes_of K.encoding V.encoding replica.now telling kind gaps.now) }
+) -> Result<Vec<u8>, R::Error>
+    requires hashed { IsSome tree.now.root_hash }
+    ensures told { IfOk result (TellsPages K.cmp K.bytes_of K.encoding V.encoding (R.rows rows.now) tree.now telling kind gaps.now) }
     ensures fits { IfOk result (λ reply. OutlinesFit K.encoding V.encoding telling.most_bytes gaps.now (front kind) reply.items) }
 {
-    let mut bytes = begin(replica.alloc(), kind)?;
+    let mut bytes = begin(alloc, kind)?;
     'gaps: for gap in gaps {
         if is_full(&bytes, telling.most_bytes) {
             return Ok(bytes);
         }
-        tell_page(replica, telling, gap, &mut bytes)?;
+        tell_page(alloc, tree, rows, telling, gap, &mut bytes)?;
     }
     Ok(bytes)
 }
@@ -66,61 +69,55 @@ pub(crate) fn is_full(bytes: &[u8], most: usize) -> bool
 }
 
 /// Writes what is told of the page over a gap.
-fn tell_page<
-    K: Key + Encode + Drop,
-    V: Join + Encode + Drop,
-    H: Hasher<N, K> + Hasher<N, V>,
-    const N: usize,
->(
-    replica: &Replica<K, V, H, N>,
+fn tell_page<K: Key + Encode + Drop, V: Encode, H: Hasher<N, K>, R: KeptRows<K, V>, const N: usize>(
+    alloc: Global,
+    tree: &MerkleSearchTree<K, V, H, N>,
+    rows: &R,
     telling: Telling,
     gap: &OwnedGap<K>,
     bytes: &mut Vec<u8>,
-) -> Result<(), AllocError>
-    requires { IsSome replica.now.tree.root_hash }
-    ensures { OnOk result (TellsPage K.cmp K.bytes_of K.encoding V.encoding replica.now telling gap.now bytes.old bytes.new) }
+) -> Result<(), R::Error>
+    requires { IsSome tree.now.root_hash }
+    ensures { OnOk result (TellsPage K.cmp K.bytes_of K.encoding V.encoding (R.rows rows.now) tree.now telling gap.now bytes.old bytes.new) }
 {
-    let list = outline_over(replica, gap)?;
-    let mut run = KeyRun::behind(replica.alloc(), gap.after.as_ref())?;
-    tell_items(replica, telling, &list, &mut run, bytes)?;
+    let list = outline_over(tree, gap)?;
+    tell_items(alloc, rows, telling, &list, gap.after.as_ref(), bytes)?;
     Ok(())
 }
 
 /// The items of the page over a gap.
-fn outline_over<'a, K: Key + Drop, V: Join + Drop, H: Hasher<N, K> + Hasher<N, V>, const N: usize>(
-    replica: &'a Replica<K, V, H, N>,
+fn outline_over<'a, K: Key + Drop, V, H: Hasher<N, K>, const N: usize>(
+    tree: &'a MerkleSearchTree<K, V, H, N>,
     gap: &'a OwnedGap<K>,
 ) -> Result<Vec<OutlineItem<'a, N, K>>, AllocError>
-    requires { IsSome replica.now.tree.root_hash }
-    ensures { IfOk result (λ list. items list.items ≡ items_over K.cmp K.bytes_of replica.now.tree gap.now) }
+    requires { IsSome tree.now.root_hash }
+    ensures { IfOk result (λ list. items list.items ≡ items_over K.cmp K.bytes_of tree.now gap.now) }
 {
-    match replica.tree().outline(gap.as_gap())? {
+    match tree.outline(gap.as_gap())? {
         Some(list) => Ok(list),
         None => unreachable!(),
     }
 }
 
 /// Writes what is told of a page with these items.
-fn tell_items<
-    K: Key + Encode + Drop,
-    V: Join + Encode + Drop,
-    H: Hasher<N, K> + Hasher<N, V>,
-    const N: usize,
->(
-    replica: &Replica<K, V, H, N>,
+fn tell_items<K: Key + Encode + Drop, V: Encode, R: KeptRows<K, V>, const N: usize>(
+    alloc: Global,
+    rows: &R,
     telling: Telling,
     list: &[OutlineItem<'_, N, K>],
-    run: &mut KeyRun,
+    after: Option<&K>,
     bytes: &mut Vec<u8>,
-) -> Result<(), AllocError>
-    ensures { OnOk result (TellsItems K.cmp K.encoding V.encoding replica.now telling list.now run.old bytes.old bytes.new) }
+) -> Result<(), R::Error>
+    ensures { OnOk result (TellsItems K.cmp K.encoding V.encoding (R.rows rows.now) telling list.now
+        (bound_before K.encoding after.entry) bytes.old bytes.new) }
 {
-    let nodes = nodes_of(replica.alloc(), list)?;
+    let nodes = nodes_of(alloc, list)?;
     if are_told(telling.with_pages, list) {
-        write_page(list, &nodes, run, bytes)?;
+        let mut run = KeyRun::behind(alloc, after)?;
+        write_page(list, &nodes, &mut run, bytes)?;
         Ok(())
     } else {
-        write_nodes(replica, &nodes, telling.most, run, bytes)?;
+        write_nodes(alloc, rows, &nodes, telling.most, after, bytes)?;
         Ok(())
     }
 }

@@ -15,7 +15,8 @@ use crate::wanted::Wanted;
 use crate::work::Work;
 use merkle_bytes::{Decode, Reader};
 use merkle_digest::Key;
-use merkle_replica::{Join, Replica, RowHasher};
+use merkle_replica::{Join, RowHasher};
+use merkle_search_tree::MerkleSearchTree;
 use std::alloc::Global;
 
 /// Reads the front of a reply of this kind.
@@ -55,21 +56,21 @@ pub(crate) fn take_outlines<
     const N: usize,
 >(
     alloc: Global,
-    replica: &Replica<K, V, H, N>,
+    tree: &MerkleSearchTree<K, V, H, N>,
     kind: Kind,
     with_pages: bool,
     gaps: Vec<OwnedGap<K>>,
     reply: &[u8],
     work: &mut Work<K, V>,
 ) -> Result<Vec<OwnedGap<K>>, SessionError>
-    requires { IsSome replica.now.tree.root_hash }
-    ensures taken { IfOk result (TakesOutlines H.laws N K.encoding V.encoding replica.now kind gaps
+    requires { IsSome tree.now.root_hash }
+    ensures taken { IfOk result (TakesOutlines H.laws N K.encoding V.encoding tree.now kind gaps
         reply.now work.old work.new) }
     ensures refused { IfErr result (RefusesOutlines K.cmp K.is_value V.is_value K.encoding V.encoding N with_pages kind gaps reply.now) }
 {
     let mut gaps = gaps;
     let mut reader = reader_of(alloc, reply, kind)?;
-    let count = take_first_outlines(&mut reader, replica, with_pages, &gaps, work)?;
+    let count = take_first_outlines(&mut reader, tree, with_pages, &gaps, work)?;
     reader.end()?;
     Ok(gaps.split_off(count)?)
 }
@@ -77,13 +78,13 @@ pub(crate) fn take_outlines<
 /// Takes what came of the pages over the first of the gaps, as far as bytes came, and answers how many these are.
 fn take_first_outlines<K: Key + Decode, V: Join + Decode, H: RowHasher<N, K, V>, const N: usize>(
     reader: &mut Reader<'_>,
-    replica: &Replica<K, V, H, N>,
+    tree: &MerkleSearchTree<K, V, H, N>,
     with_pages: bool,
     gaps: &[OwnedGap<K>],
     work: &mut Work<K, V>,
 ) -> Result<usize, SessionError>
-    requires { IsSome replica.now.tree.root_hash }
-    ensures taken { IfOk result (TakesOutlinesOf H.laws N K.encoding V.encoding replica.now gaps.now
+    requires { IsSome tree.now.root_hash }
+    ensures taken { IfOk result (TakesOutlinesOf H.laws N K.encoding V.encoding tree.now gaps.now
         reader.old reader.new work.old work.new) }
     ensures all { IfOk result (λ count. reader.new.left.now ≢ [] → count ≡ length gaps.now) }
     ensures refused { IfErr result (RefusesOutlinesOf K.cmp K.is_value V.is_value K.encoding V.encoding N with_pages gaps.now reader.old) }
@@ -93,7 +94,7 @@ fn take_first_outlines<K: Key + Decode, V: Join + Decode, H: RowHasher<N, K, V>,
         if reader.left().is_empty() {
             return Ok(count);
         }
-        take_outline(reader, replica, with_pages, gap, work)?;
+        take_outline(reader, tree, with_pages, gap, work)?;
         count += 1;
     }
     Ok(count)
@@ -102,12 +103,12 @@ fn take_first_outlines<K: Key + Decode, V: Join + Decode, H: RowHasher<N, K, V>,
 /// Takes the values at the first of the keys, or at all of them, and answers the others.
 pub(crate) fn take_values<K: Key + Decode, V: Join + Decode, H: RowHasher<N, K, V>, const N: usize>(
     alloc: Global,
-    replica: &Replica<K, V, H, N>,
+    tree: &MerkleSearchTree<K, V, H, N>,
     keys: Vec<Wanted<K>>,
     reply: &[u8],
     work: &mut Work<K, V>,
 ) -> Result<Vec<Wanted<K>>, SessionError>
-    ensures taken { IfOk result (TakesValues H.laws N K.encoding V.encoding replica.now keys reply.now work.old work.new) }
+    ensures taken { IfOk result (TakesValues H.laws N K.encoding V.encoding tree.now keys reply.now work.old work.new) }
     ensures refused { IfErr result (RefusesValues V.is_value V.encoding keys reply.now) }
 {
     let mut reader = reader_of(alloc, reply, Kind::RowsAt)?;
@@ -116,7 +117,7 @@ pub(crate) fn take_values<K: Key + Decode, V: Join + Decode, H: RowHasher<N, K, 
         if reader.left().is_empty() {
             left.push(wanted)?;
         } else {
-            take_value(&mut reader, replica, wanted, work)?;
+            take_value(&mut reader, tree, wanted, work)?;
         }
     }
     reader.end()?;
@@ -126,18 +127,18 @@ pub(crate) fn take_values<K: Key + Decode, V: Join + Decode, H: RowHasher<N, K, 
 /// Takes the rows in the first of the gaps, or in all of them, and answers the others, with what is left of a gap of which not all rows came.
 pub(crate) fn take_parts<K: Key + Decode, V: Join + Decode, H: RowHasher<N, K, V>, const N: usize>(
     alloc: Global,
-    replica: &Replica<K, V, H, N>,
+    tree: &MerkleSearchTree<K, V, H, N>,
     gaps: Vec<OwnedGap<K>>,
     reply: &[u8],
     work: &mut Work<K, V>,
 ) -> Result<Vec<OwnedGap<K>>, SessionError>
-    ensures taken { IfOk result (TakesParts H.laws N K.encoding V.encoding replica.now gaps reply.now work.old work.new) }
+    ensures taken { IfOk result (TakesParts H.laws N K.encoding V.encoding tree.now gaps reply.now work.old work.new) }
     ensures refused { IfErr result (RefusesParts K.cmp K.is_value V.is_value K.encoding V.encoding gaps reply.now) }
 {
     let mut gaps = gaps;
     let mut left = Vec::new(alloc);
     let mut reader = reader_of(alloc, reply, Kind::RowsIn)?;
-    let count = take_first_parts(&mut reader, replica, &gaps, &mut left, work)?;
+    let count = take_first_parts(&mut reader, tree, &gaps, &mut left, work)?;
     reader.end()?;
     let mut rest = gaps.split_off(count)?;
     left.append(&mut rest)?;
@@ -148,12 +149,12 @@ pub(crate) fn take_parts<K: Key + Decode, V: Join + Decode, H: RowHasher<N, K, V
 /// gaps these are.
 fn take_first_parts<K: Key + Decode, V: Join + Decode, H: RowHasher<N, K, V>, const N: usize>(
     reader: &mut Reader<'_>,
-    replica: &Replica<K, V, H, N>,
+    tree: &MerkleSearchTree<K, V, H, N>,
     gaps: &[OwnedGap<K>],
     left: &mut Vec<OwnedGap<K>>,
     work: &mut Work<K, V>,
 ) -> Result<usize, SessionError>
-    ensures taken { IfOk result (TakesPartsOf H.laws N K.encoding V.encoding replica.now gaps.now reader.old reader.new
+    ensures taken { IfOk result (TakesPartsOf H.laws N K.encoding V.encoding tree.now gaps.now reader.old reader.new
         left.old left.new work.old work.new) }
     ensures all { IfOk result (λ count. reader.new.left.now ≢ [] → count ≡ length gaps.now) }
     ensures refused { IfErr result (RefusesPartsOf K.cmp K.is_value V.is_value K.encoding V.encoding gaps.now reader.old) }
@@ -163,7 +164,7 @@ fn take_first_parts<K: Key + Decode, V: Join + Decode, H: RowHasher<N, K, V>, co
         if reader.left().is_empty() {
             return Ok(count);
         }
-        take_part(reader, replica, gap, left, work)?;
+        take_part(reader, tree, gap, left, work)?;
         count += 1;
     }
     Ok(count)

@@ -9,20 +9,20 @@ ghost use Rattle.merkle_wire.specs.Replies.{PartsFit};
 ghost use Rattle.merkle_wire.specs.Told.{AddsFirst, LeavesRoom, TellsPart, TellsParts};
 
 use crate::gaps::OwnedGap;
+use crate::kept_rows::KeptRows;
 use crate::message::{Kind, begin};
 use crate::outlines::is_full;
 use merkle_bytes::{Encode, EncodeInRun, KeyRun, encode_count};
 use std::alloc::{AllocError, Global};
 
 /// A message that tells the rows in the gaps, one gap behind the other, as far as the bytes suffice.
-pub(crate) fn tell_rows<K: Ord + Encode, V: Encode>(
+pub(crate) fn tell_rows<K: Ord + Encode, V: Encode, R: KeptRows<K, V>>(
     alloc: Global,
-    rows: &[(K, V)],
+    rows: &R,
     most_bytes: usize,
     gaps: &[OwnedGap<K>],
-) -> Result<Vec<u8>, AllocError>
-    requires { IsMap K.cmp rows.now }
-    ensures told { IfOk result (TellsParts K.cmp K.encoding V.encoding rows.now gaps.now) }
+) -> Result<Vec<u8>, R::Error>
+    ensures told { IfOk result (TellsParts K.cmp K.encoding V.encoding (R.rows rows.now) gaps.now) }
     ensures fits { IfOk result (λ reply. PartsFit K.encoding V.encoding most_bytes gaps.now (front Kind.RowsIn) reply.items) }
 {
     let mut bytes = begin(alloc, Kind::RowsIn)?;
@@ -30,13 +30,17 @@ pub(crate) fn tell_rows<K: Ord + Encode, V: Encode>(
         if is_full(&bytes, most_bytes) {
             return Ok(bytes);
         }
-        tell_part(alloc, rows, most_bytes, gap, &mut bytes)?;
+        rows.add_part(most_bytes, gap, &mut bytes)?;
     }
     Ok(bytes)
 }
 
 /// Writes the rows in a gap, or the first of them: how many they are, the rows, and a byte 1 where they are all, or 0 where more are behind.
-fn tell_part<K: Ord + Encode, V: Encode>(
+///
+/// # Errors
+///
+/// Want of memory.
+pub fn tell_part<K: Ord + Encode, V: Encode>(
     alloc: Global,
     rows: &[(K, V)],
     most_bytes: usize,

@@ -4,12 +4,14 @@ ghost use Rattle.merkle_bytes.specs.Encodings.{AddsBytes};
 ghost use Rattle.merkle_bytes.specs.Reading.{Reads};
 ghost use Rattle.merkle_bytes.specs.Refusals.{IsMalformed, IsRefusal};
 ghost use Rattle.merkle_bytes.specs.Options.{IsOption};
+ghost use Rattle.merkle_tree_theory.specs.State.{map_of};
 ghost use Rattle.merkle_wire.specs.Settings.{format_byte, settings_bytes, AreOwnSettings, AreSettings, IsDigested, IsNoFormat, NoSettings};
 ghost use Rattle.merkle_wire.specs.Steady.{IsKeyOf};
 
 use merkle_bytes::{Decode, Encode, Expected, ReadError, Reader, encode_count};
 use merkle_digest::{Hasher, Key};
 use merkle_replica::{Join, Replica};
+use merkle_search_tree::MerkleSearchTree;
 use merkle_search_tree::builder::PageFormat;
 use std::alloc::{AllocError, Global};
 
@@ -101,6 +103,41 @@ pub(crate) fn settings_of<K: Key + Drop, V: Join, H: Hasher<N, K> + Hasher<N, V>
     })
 }
 
+/// The settings of a tree.
+pub(crate) fn settings_of_tree<K: Key + Drop, V, H: Hasher<N, K>, const N: usize>(
+    alloc: Global,
+    tree: &MerkleSearchTree<K, V, H, N>,
+) -> Result<Settings<K>, AllocError>
+    ensures settings { IfOk result (AreOwnSettings H.digest_of N tree.now) }
+    ensures keys { IfOk result (AreSettings (IsKeyOf K.cmp (map_of tree.now))) }
+{
+    Ok(Settings {
+        level_base: tree.level_base().get(),
+        page_format: tree.page_format(),
+        digest_bytes: N as u64,
+        sample: sample_of_tree(alloc, tree)?,
+    })
+}
+
+/// The first key of a tree with its digest, where it has a key.
+fn sample_of_tree<K: Key + Drop, V, H: Hasher<N, K>, const N: usize>(
+    alloc: Global,
+    tree: &MerkleSearchTree<K, V, H, N>,
+) -> Result<Option<(K, Vec<u8>)>, AllocError>
+    ensures digested { IfOk result (IsDigested (H.digest_of tree.now.hasher)) }
+    ensures own { IfOk result (IsOption (λ sample. IsKeyOf K.cmp (map_of tree.now) sample.0)) }
+{
+    match tree.node_iter()?.next() {
+        None => Ok(None),
+        Some(node) => {
+            let key = node.key().clone()?;
+            let digest = tree.key_digest(&key);
+            let bytes = Vec::from_slice(alloc, digest.as_bytes().as_slice())?;
+            Ok(Some((key, bytes)))
+        }
+    }
+}
+
 /// The first key of a replica with its digest, where it has a row.
 fn sample_of<K: Key + Drop, V: Join, H: Hasher<N, K> + Hasher<N, V>, const N: usize>(
     alloc: Global,
@@ -120,14 +157,13 @@ fn sample_of<K: Key + Drop, V: Join, H: Hasher<N, K> + Hasher<N, V>, const N: us
     }
 }
 
-/// Whether these are the settings of the replica.
-pub(crate) fn agree<K: Key, V: Join, H: Hasher<N, K> + Hasher<N, V>, const N: usize>(
-    replica: &Replica<K, V, H, N>,
+/// Whether these are the settings of the tree.
+pub(crate) fn agree<K: Key, V, H: Hasher<N, K>, const N: usize>(
+    tree: &MerkleSearchTree<K, V, H, N>,
     settings: &Settings<K>,
 ) -> bool
-    ensures { IsTrue result ↔ AreOwnSettings ⟦<H as Hasher<N, K>>⟧.digest_of N replica.now.tree settings.now }
+    ensures { IsTrue result ↔ AreOwnSettings H.digest_of N tree.now settings.now }
 {
-    let tree = replica.tree();
     if settings.level_base != tree.level_base().get() {
         return false;
     }
@@ -137,20 +173,20 @@ pub(crate) fn agree<K: Key, V: Join, H: Hasher<N, K> + Hasher<N, V>, const N: us
     if settings.digest_bytes != N as u64 {
         return false;
     }
-    has_digest(replica, &settings.sample)
+    has_digest(tree, &settings.sample)
 }
 
-/// Whether the digest of a sample is that of its key by the replica's hasher.
-fn has_digest<K: Key, V: Join, H: Hasher<N, K> + Hasher<N, V>, const N: usize>(
-    replica: &Replica<K, V, H, N>,
+/// Whether the digest of a sample is that of its key by the tree's hasher.
+fn has_digest<K: Key, V, H: Hasher<N, K>, const N: usize>(
+    tree: &MerkleSearchTree<K, V, H, N>,
     sample: &Option<(K, Vec<u8>)>,
 ) -> bool
-    ensures { IsTrue result ↔ IsDigested (⟦<H as Hasher<N, K>>⟧.digest_of replica.now.tree.hasher) sample.now }
+    ensures { IsTrue result ↔ IsDigested (H.digest_of tree.now.hasher) sample.now }
 {
     match sample {
         None => true,
         Some(pair) => {
-            let digest = replica.tree().key_digest(&pair.0);
+            let digest = tree.key_digest(&pair.0);
             digest.as_bytes().as_slice() == pair.1.as_slice()
         }
     }

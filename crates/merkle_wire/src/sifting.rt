@@ -1,58 +1,70 @@
-//! What a side has of what came.
+//! Whether what came is there already, by a tree of digests.
 ghost use Rattle.std.specs.Prelude.{◌≡◌, false, IsSome, IsTrue};
-ghost use Rattle.merkle_replica.specs.Contents.{side};
+ghost use Rattle.key_order.specs.Map.{get};
 ghost use Rattle.merkle_replica.specs.Descent.{HasPage};
 ghost use Rattle.merkle_search_tree.specs.Items.{gap_of};
-ghost use Rattle.merkle_wire.specs.Steps.{HasNodesAt};
-ghost use Rattle.merkle_wire.specs.Taking.{HasPageAt, has_digest, has_row};
+ghost use Rattle.merkle_tree_theory.specs.State.{map_of};
+ghost use Rattle.merkle_wire.specs.ItsRows.{ForItsRows};
+ghost use Rattle.merkle_wire.specs.Steps.{HasNodesAt, LacksNodesAt};
+ghost use Rattle.merkle_wire.specs.Taking.{HasPageAt, has_digest, has_row, is_digest};
 
 use crate::wanted::Wanted;
-use merkle_digest::{Key, PageDigest, Sip24};
-use merkle_replica::laws::a_replica_has_the_tree_of_its_rows;
-use merkle_replica::{Join, Replica, RowHasher};
-use merkle_search_tree::Gap;
+use merkle_digest::{Hasher, Key, PageDigest, Sip24};
+use merkle_replica::{Join, RowHasher};
 use merkle_search_tree::laws::{
     a_map_has_one_tree, equal_pages_have_equal_maps, every_tree_is_sound,
 };
+use merkle_search_tree::{Gap, MerkleSearchTree};
 
-/// Whether the key is there with this digest of its value.
-pub(crate) fn has_digest<K: Key + Drop, V: Join + Drop, H: RowHasher<N, K, V>, const N: usize>(
-    replica: &Replica<K, V, H, N>,
+/// Whether the tree has the key with this digest.
+fn is_digest<K: Key, V, H: Hasher<N, K>, const N: usize>(
+    tree: &MerkleSearchTree<K, V, H, N>,
     key: &K,
     digest: &[u8],
 ) -> bool
-    ensures { result ≡ has_digest H.laws (side replica.now) key.now digest.now }
+    ensures { result ≡ is_digest (get K.cmp (map_of tree.now) key.now) digest.now }
 {
-    match replica.value_hash(key) {
+    match tree.value_hash(key) {
         Some(own) => own.as_bytes().as_slice() == digest,
         None => false,
     }
 }
 
+/// Whether the key is there with this digest of its value.
+pub(crate) fn has_digest<K: Key + Drop, V: Join + Drop, H: RowHasher<N, K, V>, const N: usize>(
+    tree: &MerkleSearchTree<K, V, H, N>,
+    key: &K,
+    digest: &[u8],
+) -> bool
+    ensures { ForItsRows H.laws tree.now (λ local. result ≡ has_digest H.laws local key.now digest.now) }
+{
+    is_digest(tree, key, digest)
+}
+
 /// Whether the key is there with the digest of this value.
 pub(crate) fn has_value<K: Key + Drop, V: Join + Drop, H: RowHasher<N, K, V>, const N: usize>(
-    replica: &Replica<K, V, H, N>,
+    tree: &MerkleSearchTree<K, V, H, N>,
     key: &K,
     value: &V,
 ) -> bool
-    ensures { result ≡ has_row H.laws (side replica.now) (key.now, value.now) }
+    ensures { ForItsRows H.laws tree.now (λ local. result ≡ has_row H.laws local (key.now, value.now)) }
 {
-    let digest = replica.tree().value_digest(value);
-    has_digest(replica, key, digest.as_bytes().as_slice())
+    let digest = tree.value_digest(value);
+    has_digest(tree, key, digest.as_bytes().as_slice())
 }
 
 /// Whether all keys are there, and the digest of the digests of their values is this one.
 pub(crate) fn has_nodes<K: Key + Drop, V: Join + Drop, H: RowHasher<N, K, V>, const N: usize>(
-    replica: &Replica<K, V, H, N>,
+    tree: &MerkleSearchTree<K, V, H, N>,
     keys: &[Wanted<K>],
     digest: &[u8; 16],
 ) -> bool
-    ensures there { IsTrue result → HasNodesAt H.laws replica.now keys.now digest.now }
-    ensures lacked { result ≡ false → ¬ HasNodesAt H.laws replica.now keys.now digest.now }
+    ensures there { IsTrue result → HasNodesAt H.laws tree.now keys.now digest.now }
+    ensures lacked { result ≡ false → LacksNodesAt H.laws tree.now keys.now digest.now }
 {
     let mut sip = Sip24::new();
     'keys: for wanted in keys {
-        match replica.value_hash(&wanted.key) {
+        match tree.value_hash(&wanted.key) {
             None => return false,
             Some(own) => sip.write(own.as_bytes()),
         }
@@ -62,17 +74,16 @@ pub(crate) fn has_nodes<K: Key + Drop, V: Join + Drop, H: RowHasher<N, K, V>, co
 
 /// Whether the page over the gap has this digest, where the tree is hashed.
 pub(crate) fn has_page<K: Key + Drop, V: Join + Drop, H: RowHasher<N, K, V>, const N: usize>(
-    replica: &Replica<K, V, H, N>,
+    tree: &MerkleSearchTree<K, V, H, N>,
     gap: &Gap<'_, K>,
     digest: &PageDigest,
 ) -> bool
-    requires { IsSome replica.now.tree.root_hash }
-    ensures there { IsTrue result → HasPage H.laws (side replica.now) digest.now }
-    ensures lacked { result ≡ false → ¬ HasPageAt H.laws (side replica.now) (gap_of gap.now) digest.now }
+    requires { IsSome tree.now.root_hash }
+    ensures there { IsTrue result → ForItsRows H.laws tree.now (λ local. HasPage H.laws local digest.now) }
+    ensures lacked { result ≡ false → ForItsRows H.laws tree.now (λ local. ¬ HasPageAt H.laws local (gap_of gap.now) digest.now) }
 {
-    every_tree_is_sound(replica.tree());
-    a_replica_has_the_tree_of_its_rows(replica);
+    every_tree_is_sound(tree);
     a_map_has_one_tree::<K, H, N>();
     equal_pages_have_equal_maps::<K>();
-    replica.tree().has_page(gap, digest)
+    tree.has_page(gap, digest)
 }

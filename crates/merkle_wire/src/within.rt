@@ -41,7 +41,7 @@ pub(crate) fn rows_lie_in<K: Ord, V>(rows: &[(K, V)], gap: &OwnedGap<K>) -> bool
 }
 
 /// Whether the key of each row is above the one before it.
-pub(crate) fn rows_ascend<K: Ord + Drop, V>(rows: &[(K, V)]) -> bool
+pub fn rows_ascend<K: Ord + Drop, V>(rows: &[(K, V)]) -> bool
     ensures ascending { IsTrue result → IsMap K.cmp rows.now }
     ensures others { result ≡ false → ¬ AscendIn K.cmp everywhere (map (λ r. r.0) rows.now) }
 {

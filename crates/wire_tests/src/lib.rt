@@ -4,6 +4,8 @@
 #[cfg(test)]
 mod endless_rounds;
 #[cfg(test)]
+mod exchanging;
+#[cfg(test)]
 mod faults;
 #[cfg(test)]
 mod first_calls;
@@ -11,6 +13,8 @@ mod first_calls;
 mod formats;
 #[cfg(test)]
 mod hex;
+#[cfg(test)]
+mod kept_rows;
 #[cfg(test)]
 mod keys;
 #[cfg(test)]
@@ -29,6 +33,8 @@ mod refusals;
 mod refused_values;
 #[cfg(test)]
 mod sessions;
+#[cfg(test)]
+mod shelf;
 #[cfg(test)]
 mod values;
 #[cfg(test)]

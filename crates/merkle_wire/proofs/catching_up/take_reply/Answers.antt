@@ -1,7 +1,7 @@
 use Rattle.std.proofs.Common.{Some, None, sym, subst, ◌∙◌}
 use Rattle.std.proofs.lemmas.Result.{err_from_is_err_and}
-use Rattle.merkle_replica.specs.Contents.{side}
 use Rattle.merkle_wire.specs.Fit.{IsFit}
+use Rattle.merkle_wire.specs.ItsRows.{side_with}
 use Rattle.merkle_wire.specs.Underway.{HasTaken}
 use Rattle.merkle_wire.specs.declared.question.Question.TheVariants.{Outlines, Nodes, RowsAt, RowsIn}
 use Rattle.merkle_wire.proofs.Fronts.{refused_for}
@@ -9,52 +9,52 @@ use Rattle.merkle_wire.proofs.LeftToAsk.{asks_none, asks_some}
 use Rattle.merkle_wire.proofs.catching_up.take_reply.Goals as goal
 
 pub returns-then-is_empty-clause-taken : goal.returns-then-is_empty-clause-taken
-returns-then-is_empty-clause-taken g c =
+returns-then-is_empty-clause-taken g c = λ rows of.
     let laws = g.H.RowHasher.laws in
-    subst (λ q. HasTaken laws g.row.N g.K.Encode.encoding g.V.Encode.encoding (side c.args.replica.now) q c.args.reply.now c.args.work.now c.take_outlines.new.work (None)) (sym c.in-Outlines.is)
-    (c.in_ok-left-in-Outlines.left.items, c.in_ok-left-in-Outlines.ensures.taken, asks_none (Outlines c.in-Outlines.most) c.in_ok-left-in-Outlines.left (sym c.is_empty.ensures ∙ c.if-is_empty.true))
+    subst (λ q. HasTaken laws g.row.N g.K.Encode.encoding g.V.Encode.encoding (side_with c.args.tree.now rows) q c.args.reply.now c.args.work.now c.take_outlines.new.work (None)) (sym c.in-Outlines.is)
+    (c.in_ok-left-in-Outlines.left.items, c.in_ok-left-in-Outlines.ensures.taken rows of, asks_none (Outlines c.in-Outlines.most) c.in_ok-left-in-Outlines.left (sym c.is_empty.ensures ∙ c.if-is_empty.true))
 
 pub returns-in-Outlines-clause-taken : goal.returns-in-Outlines-clause-taken
-returns-in-Outlines-clause-taken g c =
+returns-in-Outlines-clause-taken g c = λ rows of.
     let laws = g.H.RowHasher.laws in
-    subst (λ q. HasTaken laws g.row.N g.K.Encode.encoding g.V.Encode.encoding (side c.args.replica.now) q c.args.reply.now c.args.work.now c.take_outlines.new.work (Some (Outlines c.in-Outlines.most c.in_ok-left-in-Outlines.left))) (sym c.in-Outlines.is)
-    (c.in_ok-left-in-Outlines.left.items, c.in_ok-left-in-Outlines.ensures.taken, asks_some (Outlines c.in-Outlines.most) c.in_ok-left-in-Outlines.left (sym c.is_empty.ensures ∙ c.if-is_empty.false))
+    subst (λ q. HasTaken laws g.row.N g.K.Encode.encoding g.V.Encode.encoding (side_with c.args.tree.now rows) q c.args.reply.now c.args.work.now c.take_outlines.new.work (Some (Outlines c.in-Outlines.most c.in_ok-left-in-Outlines.left))) (sym c.in-Outlines.is)
+    (c.in_ok-left-in-Outlines.left.items, c.in_ok-left-in-Outlines.ensures.taken rows of, asks_some (Outlines c.in-Outlines.most) c.in_ok-left-in-Outlines.left (sym c.is_empty.ensures ∙ c.if-is_empty.false))
 
 pub returns-then-is_empty-2-clause-taken : goal.returns-then-is_empty-2-clause-taken
-returns-then-is_empty-2-clause-taken g c =
+returns-then-is_empty-2-clause-taken g c = λ rows of.
     let laws = g.H.RowHasher.laws in
-    subst (λ q. HasTaken laws g.row.N g.K.Encode.encoding g.V.Encode.encoding (side c.args.replica.now) q c.args.reply.now c.args.work.now c.take_outlines-in-Nodes.new.work (None)) (sym c.in-Nodes.is)
-    (c.in_ok-left-in-Nodes.left.items, c.in_ok-left-in-Nodes.ensures.taken, asks_none (Nodes c.in-Nodes.most) c.in_ok-left-in-Nodes.left (sym c.is_empty-in-Nodes.ensures ∙ c.if-is_empty-2.true))
+    subst (λ q. HasTaken laws g.row.N g.K.Encode.encoding g.V.Encode.encoding (side_with c.args.tree.now rows) q c.args.reply.now c.args.work.now c.take_outlines-in-Nodes.new.work (None)) (sym c.in-Nodes.is)
+    (c.in_ok-left-in-Nodes.left.items, c.in_ok-left-in-Nodes.ensures.taken rows of, asks_none (Nodes c.in-Nodes.most) c.in_ok-left-in-Nodes.left (sym c.is_empty-in-Nodes.ensures ∙ c.if-is_empty-2.true))
 
 pub returns-in-Nodes-clause-taken : goal.returns-in-Nodes-clause-taken
-returns-in-Nodes-clause-taken g c =
+returns-in-Nodes-clause-taken g c = λ rows of.
     let laws = g.H.RowHasher.laws in
-    subst (λ q. HasTaken laws g.row.N g.K.Encode.encoding g.V.Encode.encoding (side c.args.replica.now) q c.args.reply.now c.args.work.now c.take_outlines-in-Nodes.new.work (Some (Nodes c.in-Nodes.most c.in_ok-left-in-Nodes.left))) (sym c.in-Nodes.is)
-    (c.in_ok-left-in-Nodes.left.items, c.in_ok-left-in-Nodes.ensures.taken, asks_some (Nodes c.in-Nodes.most) c.in_ok-left-in-Nodes.left (sym c.is_empty-in-Nodes.ensures ∙ c.if-is_empty-2.false))
+    subst (λ q. HasTaken laws g.row.N g.K.Encode.encoding g.V.Encode.encoding (side_with c.args.tree.now rows) q c.args.reply.now c.args.work.now c.take_outlines-in-Nodes.new.work (Some (Nodes c.in-Nodes.most c.in_ok-left-in-Nodes.left))) (sym c.in-Nodes.is)
+    (c.in_ok-left-in-Nodes.left.items, c.in_ok-left-in-Nodes.ensures.taken rows of, asks_some (Nodes c.in-Nodes.most) c.in_ok-left-in-Nodes.left (sym c.is_empty-in-Nodes.ensures ∙ c.if-is_empty-2.false))
 
 pub returns-then-is_empty-3-clause-taken : goal.returns-then-is_empty-3-clause-taken
-returns-then-is_empty-3-clause-taken g c =
+returns-then-is_empty-3-clause-taken g c = λ rows of.
     let laws = g.H.RowHasher.laws in
-    subst (λ q. HasTaken laws g.row.N g.K.Encode.encoding g.V.Encode.encoding (side c.args.replica.now) q c.args.reply.now c.args.work.now c.take_values.new.work (None)) (sym c.in-RowsAt.is)
-    (c.in_ok-left-in-RowsAt.left.items, c.in_ok-left-in-RowsAt.ensures.taken, asks_none (RowsAt) c.in_ok-left-in-RowsAt.left (sym c.is_empty-in-RowsAt.ensures ∙ c.if-is_empty-3.true))
+    subst (λ q. HasTaken laws g.row.N g.K.Encode.encoding g.V.Encode.encoding (side_with c.args.tree.now rows) q c.args.reply.now c.args.work.now c.take_values.new.work (None)) (sym c.in-RowsAt.is)
+    (c.in_ok-left-in-RowsAt.left.items, c.in_ok-left-in-RowsAt.ensures.taken rows of, asks_none (RowsAt) c.in_ok-left-in-RowsAt.left (sym c.is_empty-in-RowsAt.ensures ∙ c.if-is_empty-3.true))
 
 pub returns-in-RowsAt-clause-taken : goal.returns-in-RowsAt-clause-taken
-returns-in-RowsAt-clause-taken g c =
+returns-in-RowsAt-clause-taken g c = λ rows of.
     let laws = g.H.RowHasher.laws in
-    subst (λ q. HasTaken laws g.row.N g.K.Encode.encoding g.V.Encode.encoding (side c.args.replica.now) q c.args.reply.now c.args.work.now c.take_values.new.work (Some (RowsAt c.in_ok-left-in-RowsAt.left))) (sym c.in-RowsAt.is)
-    (c.in_ok-left-in-RowsAt.left.items, c.in_ok-left-in-RowsAt.ensures.taken, asks_some (RowsAt) c.in_ok-left-in-RowsAt.left (sym c.is_empty-in-RowsAt.ensures ∙ c.if-is_empty-3.false))
+    subst (λ q. HasTaken laws g.row.N g.K.Encode.encoding g.V.Encode.encoding (side_with c.args.tree.now rows) q c.args.reply.now c.args.work.now c.take_values.new.work (Some (RowsAt c.in_ok-left-in-RowsAt.left))) (sym c.in-RowsAt.is)
+    (c.in_ok-left-in-RowsAt.left.items, c.in_ok-left-in-RowsAt.ensures.taken rows of, asks_some (RowsAt) c.in_ok-left-in-RowsAt.left (sym c.is_empty-in-RowsAt.ensures ∙ c.if-is_empty-3.false))
 
 pub returns-then-is_empty-4-clause-taken : goal.returns-then-is_empty-4-clause-taken
-returns-then-is_empty-4-clause-taken g c =
+returns-then-is_empty-4-clause-taken g c = λ rows of.
     let laws = g.H.RowHasher.laws in
-    subst (λ q. HasTaken laws g.row.N g.K.Encode.encoding g.V.Encode.encoding (side c.args.replica.now) q c.args.reply.now c.args.work.now c.take_parts.new.work (None)) (sym c.in-RowsIn.is)
-    (c.in_ok-left-in-RowsIn.left.items, c.in_ok-left-in-RowsIn.ensures.taken, asks_none (RowsIn) c.in_ok-left-in-RowsIn.left (sym c.is_empty-in-RowsIn.ensures ∙ c.if-is_empty-4.true))
+    subst (λ q. HasTaken laws g.row.N g.K.Encode.encoding g.V.Encode.encoding (side_with c.args.tree.now rows) q c.args.reply.now c.args.work.now c.take_parts.new.work (None)) (sym c.in-RowsIn.is)
+    (c.in_ok-left-in-RowsIn.left.items, c.in_ok-left-in-RowsIn.ensures.taken rows of, asks_none (RowsIn) c.in_ok-left-in-RowsIn.left (sym c.is_empty-in-RowsIn.ensures ∙ c.if-is_empty-4.true))
 
 pub returns-clause-taken : goal.returns-clause-taken
-returns-clause-taken g c =
+returns-clause-taken g c = λ rows of.
     let laws = g.H.RowHasher.laws in
-    subst (λ q. HasTaken laws g.row.N g.K.Encode.encoding g.V.Encode.encoding (side c.args.replica.now) q c.args.reply.now c.args.work.now c.take_parts.new.work (Some (RowsIn c.in_ok-left-in-RowsIn.left))) (sym c.in-RowsIn.is)
-    (c.in_ok-left-in-RowsIn.left.items, c.in_ok-left-in-RowsIn.ensures.taken, asks_some (RowsIn) c.in_ok-left-in-RowsIn.left (sym c.is_empty-in-RowsIn.ensures ∙ c.if-is_empty-4.false))
+    subst (λ q. HasTaken laws g.row.N g.K.Encode.encoding g.V.Encode.encoding (side_with c.args.tree.now rows) q c.args.reply.now c.args.work.now c.take_parts.new.work (Some (RowsIn c.in_ok-left-in-RowsIn.left))) (sym c.in-RowsIn.is)
+    (c.in_ok-left-in-RowsIn.left.items, c.in_ok-left-in-RowsIn.ensures.taken rows of, asks_some (RowsIn) c.in_ok-left-in-RowsIn.left (sym c.is_empty-in-RowsIn.ensures ∙ c.if-is_empty-4.false))
 
 pub returns-in_err-left-in-Outlines-clause-refused : goal.returns-in_err-left-in-Outlines-clause-refused
 returns-in_err-left-in-Outlines-clause-refused g c =

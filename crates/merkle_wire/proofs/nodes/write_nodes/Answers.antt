@@ -1,14 +1,18 @@
-use Rattle.std.proofs.Common.{map, refl, ap, ◌∙◌, ◌++◌}
+use Rattle.std.proofs.Common.{◌++◌, ◌∷◌, refl, ap, ap₂, ◌∙◌}
+use Rattle.merkle_bytes.specs.Counts.{count_bytes}
 use Rattle.merkle_wire.specs.Nodes.{node_pairs}
-use Rattle.merkle_wire.specs.Outlines.{rows_told, digests_told, outline_bytes}
+use Rattle.merkle_wire.specs.Outlines.{rows_told, digests_told}
+use Rattle.merkle_wire.specs.Told.{digests_bytes}
 use Rattle.merkle_wire.proofs.nodes.write_nodes.Goals as goal
 
-pub returns-then-branch : goal.returns-then-branch
-returns-then-branch g c = (
-  rows_told (map (λ row. row.now) c.in_ok-found.found.items),
-  c.in_ok-found.ensures,
-  c.in_ok-write_rows.ensures ∙ ap (λ rows. c.args.bytes.now.items ++ outline_bytes g.K.Encode.encoding g.V.Encode.encoding c.args.run.now (rows_told (map (λ row. row.now) rows))) c.deref-then-branch.ensures.value,
-)
+pub returns-in_ok-write_rows-in-Some : goal.returns-in_ok-write_rows-in-Some
+returns-in_ok-write_rows-in-Some g c =
+    let (found, are, count, bytes) = rw c.in-Some.is at c.in_ok-told.ensures in
+    (rows_told found, are, c.in_ok-write_rows-in-Some.ensures ∙ ap₂ (λ n t. c.args.bytes.now.items ++ 0 ∷ (count_bytes n ++ t)) count bytes)
 
-pub returns : goal.returns
-returns g c = (digests_told (node_pairs c.args.nodes.now), refl, c.in_ok-write_digests.ensures)
+pub returns-in_ok-write_digests-in-None : goal.returns-in_ok-write_digests-in-None
+returns-in_ok-write_digests-in-None g c = (
+  digests_told (node_pairs c.args.nodes.now),
+  refl,
+  c.in_ok-write_digests-in-None.ensures ∙ ap (λ last. c.args.bytes.now.items ++ digests_bytes g.K.Encode.encoding last c.args.nodes.now) c.in_ok-run-in-None.ensures,
+)

@@ -1,12 +1,12 @@
 use Rattle.std.proofs.Common.{◌+◌, ◌∷◌, [], ◌++◌, take, drop, refl, ap, sym, ◌∙◌, arith}
 use Rattle.std.proofs.lemmas.Result.{err_from_is_err_and}
 use Rattle.merkle_bytes.specs.Runs.{bound_key}
-use Rattle.merkle_replica.specs.Contents.{side}
 use Rattle.merkle_wire.specs.Fit.{IsOutlineIn}
 use Rattle.merkle_wire.specs.Gaps.{owned_gap}
+use Rattle.merkle_wire.specs.ItsRows.{side_with}
 use Rattle.merkle_wire.specs.Outlines.{outline_bytes}
 use Rattle.merkle_wire.proofs.Exchanges.{key_tells}
-use Rattle.merkle_wire.proofs.Fitting.{fits_read}
+use Rattle.merkle_wire.proofs.Fitting.{fits_lie}
 use Rattle.merkle_wire.proofs.Fronts.{refused_for}
 use Rattle.merkle_wire.proofs.LeftToAsk.{no_bytes, some_bytes}
 use Rattle.merkle_wire.proofs.Others.{next_of, none_next}
@@ -17,7 +17,7 @@ use Rattle.merkle_wire.proofs.Unfit.{outlines_end}
 use Rattle.merkle_wire.proofs.replies.take_first_outlines.Goals as goal
 
 pub gaps-init : goal.gaps-init
-gaps-init g c = ([], refl, read_none _ _ c.args.gaps.now c.args.reader.now.left.now, refl)
+gaps-init g c = ([], refl, read_none _ _ c.args.gaps.now c.args.reader.now.left.now, λ rows of. refl)
 
 pub gaps-preserved : goal.gaps-preserved
 gaps-preserved g c =
@@ -29,7 +29,7 @@ gaps-preserved g c =
       kept.0 ++ (x, came.0) ∷ [],
       ap (λ n. n + 1) kept.1,
       read_more _ _ c.args.gaps.now c.args.reader.now.left.now c.gaps.reader.left.now c.take_outline.new.reader.left.now i kept.0 x came.0 c.gaps-test.true c.gap-item.is kept.2 came.2 came.1,
-      taken-more laws (side c.args.replica.now) kept.0 (x, came.0) c.args.work.now c.gaps.work c.take_outline.new.work kept.3 came.3,
+      λ rows of. taken-more laws (side_with c.args.tree.now rows) kept.0 (x, came.0) c.args.work.now c.gaps.work c.take_outline.new.work (kept.3 rows of) (came.3 rows of),
     )
 
 pub returns-then-is_empty-clause-taken : goal.returns-then-is_empty-clause-taken
@@ -56,7 +56,7 @@ returns-in_err-take_outline-clause-refused g c =
     none_next (λ t. outline_bytes g.K.Encode.encoding g.V.Encode.encoding (bound_key g.K.Encode.encoding [] t.0.after) t.1) (λ t. Fits g.row.N t.1) (λ t. IsOutlineIn g.K.Ord.cmp g.K.Decode.is_value g.V.Decode.is_value g.row.N c.args.with_pages (owned_gap t.0) t.1)
     (λ t. outline_some g.K.Ord.cmp g.V.PartialEq.eq g.K.Encode.encoding g.V.Encode.encoding (key_tells g.K.Ord.cmp g.K.Encode.encoding g.K.PartialEq.eq g.met.K.Ord.matches_eq g.met.K.Decode.told) g.met.V.Decode.told (bound_key g.K.Encode.encoding [] t.0.after) t.1)
     (λ gap y z r s. outlines_end g.K.Ord.cmp g.V.PartialEq.eq g.K.Encode.encoding g.V.Encode.encoding (key_tells g.K.Ord.cmp g.K.Encode.encoding g.K.PartialEq.eq g.met.K.Ord.matches_eq g.met.K.Decode.told) g.met.V.Decode.told g.K.Decode.is_value g.V.Decode.is_value g.row.N c.args.with_pages gap y z r s)
-    kept.0 gaps c.args.reader.now.left.now c.gaps.reader.left.now (fits_read laws (side c.args.replica.now) g.row.N kept.0 c.args.work.now c.gaps.work kept.2.each kept.3) kept.2.is
+    kept.0 gaps c.args.reader.now.left.now c.gaps.reader.left.now (fits_lie laws.cmp g.row.N kept.0 kept.2.each) kept.2.is
     (λ e. some_bytes c.left.result.now (sym c.is_empty.ensures ∙ c.if-is_empty.false) (c.left.ensures ∙ e))
     next (drop (c.gaps.gap-index + 1) gaps) (next_of (λ t. outline_bytes g.K.Encode.encoding g.V.Encode.encoding (bound_key g.K.Encode.encoding [] t.0.after) t.1) (λ t. Fits g.row.N t.1) (λ t. IsOutlineIn g.K.Ord.cmp g.K.Decode.is_value g.V.Decode.is_value g.row.N c.args.with_pages (owned_gap t.0) t.1)
     (λ t. outline_some g.K.Ord.cmp g.V.PartialEq.eq g.K.Encode.encoding g.V.Encode.encoding (key_tells g.K.Ord.cmp g.K.Encode.encoding g.K.PartialEq.eq g.met.K.Ord.matches_eq g.met.K.Decode.told) g.met.V.Decode.told (bound_key g.K.Encode.encoding [] t.0.after) t.1)

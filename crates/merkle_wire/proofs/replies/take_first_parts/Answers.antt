@@ -3,10 +3,10 @@ use Rattle.std.proofs.lemmas.Grind.{flat_map-append}
 use Rattle.std.proofs.lemmas.Result.{err_from_is_err_and}
 use Rattle.std.specs.List.{flat_map}
 use Rattle.merkle_bytes.specs.Runs.{bound_key}
-use Rattle.merkle_replica.specs.Contents.{side}
 use Rattle.merkle_wire.specs.Coming.{AscendIn}
 use Rattle.merkle_wire.specs.Fit.{IsPartIn}
 use Rattle.merkle_wire.specs.Gaps.{owned_gap}
+use Rattle.merkle_wire.specs.ItsRows.{side_with}
 use Rattle.merkle_wire.specs.Replies.{part_bytes}
 use Rattle.merkle_wire.specs.Taking.{new_rows}
 use Rattle.merkle_wire.proofs.Exchanges.{key_tells}
@@ -25,9 +25,9 @@ gaps-init g c = (
   [],
   refl,
   read_none _ _ c.args.gaps.now c.args.reader.now.left.now,
-  refl,
+  λ rows of. refl,
   sym (append-nil c.args.left.now.items),
-  λ i. record c.args.work.now { rows = sym (append-nil c.args.work.now.rows) i },
+  λ rows of i. record c.args.work.now { rows = sym (append-nil c.args.work.now.rows) i },
 )
 
 pub gaps-preserved : goal.gaps-preserved
@@ -42,10 +42,10 @@ gaps-preserved g c =
       kept.1 ++ came.1,
       ap (λ n. n + 1) kept.2,
       read_more _ _ c.args.gaps.now c.args.reader.now.left.now c.gaps.reader.left.now c.take_part.new.reader.left.now i kept.0 x came.0 c.gaps-test.true c.gap-item.is kept.3 came.3 came.2,
-      behind-more laws (side c.args.replica.now) kept.0 (x, came.0) kept.1 came.1 kept.4 came.4,
+      λ rows of. behind-more laws (side_with c.args.tree.now rows) kept.0 (x, came.0) kept.1 came.1 (kept.4 rows of) (came.4 rows of),
       came.5 ∙ ap (λ l. l ++ came.1) kept.5 ∙ append_assoc c.args.left.now.items kept.1 came.1,
-      rows-more laws (side c.args.replica.now) c.args.work.now c.gaps.work c.take_part.new.work (flat_map (λ t. t.1.rows) kept.0) came.0.rows kept.6 came.6
-          ∙ ap (λ rs. record c.args.work.now { rows = c.args.work.now.rows ++ new_rows laws (side c.args.replica.now) rs }) (sym all),
+      λ rows of. rows-more laws (side_with c.args.tree.now rows) c.args.work.now c.gaps.work c.take_part.new.work (flat_map (λ t. t.1.rows) kept.0) came.0.rows (kept.6 rows of) (came.6 rows of)
+          ∙ ap (λ rs. record c.args.work.now { rows = c.args.work.now.rows ++ new_rows laws (side_with c.args.tree.now rows) rs }) (sym all),
     )
 
 pub returns-then-is_empty-clause-taken : goal.returns-then-is_empty-clause-taken

@@ -1,9 +1,9 @@
 use Rattle.std.proofs.Common.{◌≡◌, ◌++◌, List, [], map}
 use Rattle.std.specs.List.{flat_map}
 use Rattle.merkle_bytes.specs.Runs.{bound_key}
-use Rattle.merkle_replica.specs.Contents.{side}
 use Rattle.merkle_wire.specs.Coming.{AscendIn}
 use Rattle.merkle_wire.specs.Gaps.{owned_gap}
+use Rattle.merkle_wire.specs.ItsRows.{ForItsRows}
 use Rattle.merkle_wire.specs.Replies.{Part, part_bytes}
 use Rattle.merkle_wire.specs.Taking.{AreBehind, new_rows}
 use Rattle.merkle_wire.specs.declared.gaps.OwnedGap.{OwnedGap}
@@ -16,5 +16,5 @@ invariant-gaps g l =
     let laws = g.H.RowHasher.laws in
     (told : List (OwnedGap g.row.K.Denot × Part g.row.K.Denot g.row.V.Denot)) × (behind : List (OwnedGap g.row.K.Denot)) × (l.count ≡ l.gap-index)
     × AreRead (λ t. AscendIn g.H.RowHasher.laws.cmp (owned_gap t.0) (map (λ r. r.0) t.1.rows)) (λ t. part_bytes g.K.Encode.encoding g.V.Encode.encoding (bound_key g.K.Encode.encoding [] t.0.after) t.1) l.gaps l.fn.reader.left.now l.gap-index l.reader.left.now told
-    × AreBehind laws (side l.replica) told behind × (l.left.items ≡ l.fn.left.items ++ behind)
-    × (l.work ≡ record l.fn.work { rows = l.fn.work.rows ++ new_rows laws (side l.replica) (flat_map (λ t. t.1.rows) told) })
+    × ForItsRows laws l.tree (λ local. AreBehind laws local told behind) × (l.left.items ≡ l.fn.left.items ++ behind)
+    × ForItsRows laws l.tree (λ local. l.work ≡ record l.fn.work { rows = l.fn.work.rows ++ new_rows laws local (flat_map (λ t. t.1.rows) told) })

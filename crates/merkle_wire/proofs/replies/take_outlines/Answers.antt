@@ -2,14 +2,13 @@ use Rattle.std.proofs.Common.{◌≡◌, ◌++◌, [], ap, ◌∙◌, append-nil
 use Rattle.std.proofs.lemmas.List.{take_all}
 use Rattle.std.proofs.lemmas.Result.{err_from_is_err_and}
 use Rattle.merkle_bytes.specs.Runs.{bound_key}
-use Rattle.merkle_replica.specs.Contents.{side}
 use Rattle.merkle_wire.specs.Fit.{IsOutlineIn}
 use Rattle.merkle_wire.specs.Gaps.{owned_gap}
 use Rattle.merkle_wire.specs.Messages.{front}
 use Rattle.merkle_wire.specs.Outlines.{outline_bytes}
 use Rattle.merkle_wire.specs.Replies.{outlines_bytes}
 use Rattle.merkle_wire.proofs.Exchanges.{key_tells}
-use Rattle.merkle_wire.proofs.Fitting.{fits_read}
+use Rattle.merkle_wire.proofs.Fitting.{fits_lie}
 use Rattle.merkle_wire.proofs.Fronts.{refused_for, refused_unread}
 use Rattle.merkle_wire.proofs.LeftToAsk.{told_and_left}
 use Rattle.merkle_wire.proofs.Others.{none_left, says_no_entry, says_nothing}
@@ -18,7 +17,7 @@ use Rattle.merkle_wire.proofs.Unfit.{outlines_end}
 use Rattle.merkle_wire.proofs.replies.take_outlines.Goals as goal
 
 pub returns-clause-taken : goal.returns-clause-taken
-returns-clause-taken g c =
+returns-clause-taken g c = λ rows of.
     let bytes = outlines_bytes g.K.Encode.encoding g.V.Encode.encoding in
     let came = rw c.deref.ensures.value at c.in_ok-count.ensures.taken.1 in
     let told = came.0 in
@@ -28,7 +27,7 @@ returns-clause-taken g c =
       λ e. c.in_ok-reader.ensures.some (all ∙ ap bytes e),
       told_and_left told c.args.gaps.items c.in_ok-split_off.field-0.items c.in_ok-count.count came.1 c.in_ok-split_off.ensures.tail,
       came.3,
-      came.4,
+      came.4 rows of,
     )
 
 pub returns-in_err-reader-clause-refused : goal.returns-in_err-reader-clause-refused
@@ -54,5 +53,5 @@ returns-in_err-end-clause-refused g c =
     (none_left (λ t. outline_bytes g.K.Encode.encoding g.V.Encode.encoding (bound_key g.K.Encode.encoding [] t.0.after) t.1) (λ t. Fits g.row.N t.1) (λ t. IsOutlineIn g.K.Ord.cmp g.K.Decode.is_value g.V.Decode.is_value g.row.N c.args.with_pages (owned_gap t.0) t.1)
     (λ t. outline_some g.K.Ord.cmp g.V.PartialEq.eq g.K.Encode.encoding g.V.Encode.encoding (key_tells g.K.Ord.cmp g.K.Encode.encoding g.K.PartialEq.eq g.met.K.Ord.matches_eq g.met.K.Decode.told) g.met.V.Decode.told (bound_key g.K.Encode.encoding [] t.0.after) t.1)
     (λ gap y z r s. outlines_end g.K.Ord.cmp g.V.PartialEq.eq g.K.Encode.encoding g.V.Encode.encoding (key_tells g.K.Ord.cmp g.K.Encode.encoding g.K.PartialEq.eq g.met.K.Ord.matches_eq g.met.K.Decode.told) g.met.V.Decode.told g.K.Decode.is_value g.V.Decode.is_value g.row.N c.args.with_pages gap y z r s)
-    told gaps c.in_ok-reader.reader.left.now rest (fits_read laws (side c.args.replica.now) g.row.N told c.args.work.now c.take_first_outlines.new.work came.1.3 came.1.4) came.1.2 more
+    told gaps c.in_ok-reader.reader.left.now rest (fits_lie laws.cmp g.row.N told came.1.3) came.1.2 more
     (came.1.1 ∙ take_all c.in_ok-count.count gaps (omega (arith, all))))))

@@ -17,7 +17,7 @@ use Rattle.merkle_wire.proofs.Unfit.{parts_end}
 use Rattle.merkle_wire.proofs.replies.take_parts.Goals as goal
 
 pub returns-clause-taken : goal.returns-clause-taken
-returns-clause-taken g c =
+returns-clause-taken g c = λ rows of.
     let bytes = parts_bytes g.K.Encode.encoding g.V.Encode.encoding in
     let came = rw c.deref.ensures.value at c.in_ok-count.ensures.taken.1 in
     let told = came.0 in
@@ -29,9 +29,9 @@ returns-clause-taken g c =
       λ e. c.in_ok-reader.ensures.some (all ∙ ap bytes e),
       told_and_left told c.args.gaps.items c.in_ok-rest.rest.items c.in_ok-count.count came.2 c.in_ok-rest.ensures.tail,
       came.4,
-      came.5,
+      came.5 rows of,
       c.in_ok-append.ensures.items ∙ ap (λ t. t ++ c.in_ok-rest.rest.items) (came.6 ∙ ap (λ t. t ++ came.1) c.new-left.ensures.items),
-      came.7,
+      came.7 rows of,
     )
 
 pub returns-in_err-reader-clause-refused : goal.returns-in_err-reader-clause-refused

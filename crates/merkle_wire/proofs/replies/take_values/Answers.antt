@@ -5,8 +5,8 @@ use Rattle.std.proofs.lemmas.Result.{err_from_is_err_and}
 use Rattle.std.specs.List.{flat_map}
 use Rattle.std.specs.Vec.Iter.{into_iter_items}
 use Rattle.merkle_bytes.specs.Options.{IsOption, option_bytes}
-use Rattle.merkle_replica.specs.Contents.{side}
 use Rattle.merkle_replica.proofs.ListIterators.{one_yielded, all_yielded}
+use Rattle.merkle_wire.specs.ItsRows.{side_with}
 use Rattle.merkle_wire.specs.Messages.{front}
 use Rattle.merkle_wire.specs.Replies.{values_bytes}
 use Rattle.merkle_wire.specs.Taking.{new_rows, value_row}
@@ -38,7 +38,7 @@ keys-init g c = record {
   of = sym c.new-left.ensures.items;
   once = λ some. absurd (some c.new-left.ensures.items);
   read = c.in_ok-reader.ensures.read;
-  taken = λ i. record c.args.work.now { rows = sym (append-nil c.args.work.now.rows) i };
+  taken = λ rows of i. record c.args.work.now { rows = sym (append-nil c.args.work.now.rows) i };
 }
 
 pub keys-preserved-in-Continue-branch-2 : goal.keys-preserved-in-Continue-branch-2
@@ -73,12 +73,12 @@ keys-preserved g c =
           ∙ sym (append-nil (map (λ t. t.0) (kept.told ++ one ∷ []))) ∙ ap (λ l. map (λ t. t.0) (kept.told ++ one ∷ []) ++ l) (sym none);
       once = λ some. absurd (some none);
       read = kept.read ∙ ap (λ t. front rows_at_kind ++ t) (values_more g.V.Encode.encoding kept.told one c.keys.reader.left.now c.take_value.new.reader.left.now came.1);
-      taken = rows-more laws (side c.args.replica.now) c.args.work.now c.keys.work c.take_value.new.work (flat_map value_row kept.told) (value_row one) kept.taken came.2
-          ∙ ap (λ rs. record c.args.work.now { rows = c.args.work.now.rows ++ new_rows laws (side c.args.replica.now) rs }) (rows_of_more kept.told one);
+      taken = λ rows of. rows-more laws (side_with c.args.tree.now rows) c.args.work.now c.keys.work c.take_value.new.work (flat_map value_row kept.told) (value_row one) (kept.taken rows of) (came.2 rows of)
+          ∙ ap (λ rs. record c.args.work.now { rows = c.args.work.now.rows ++ new_rows laws (side_with c.args.tree.now rows) rs }) (rows_of_more kept.told one);
     }
 
 pub returns-clause-taken : goal.returns-clause-taken
-returns-clause-taken g c =
+returns-clause-taken g c = λ rows of.
     let kept = c.keys.invariant in
     let bytes = values_bytes g.V.Encode.encoding in
     let done = all_yielded c.keys.yielded (into_iter_items c.keys.wanted-iterator) c.args.keys.items kept.left (sym kept.count ∙ c.in-None.ensures.steps.0) in
@@ -87,7 +87,7 @@ returns-clause-taken g c =
       all,
       λ e. c.in_ok-reader.ensures.some (let same : front rows_at_kind ++ c.in_ok-reader.reader.left.now ≡ front rows_at_kind ++ [] = sym c.in_ok-reader.ensures.read ∙ all ∙ ap (λ t. front rows_at_kind ++ bytes t) e in cc),
       sym done ∙ kept.of,
-      kept.taken,
+      kept.taken rows of,
     )
 
 pub returns-in_err-reader-clause-refused : goal.returns-in_err-reader-clause-refused

@@ -1,7 +1,7 @@
 use Rattle.std.proofs.Common.{◌≡◌, ◌≢◌, ◌++◌, List, [], Option, length, map}
 use Rattle.std.specs.List.{flat_map}
 use Rattle.std.specs.Vec.Iter.{into_iter_items, into_iter_len}
-use Rattle.merkle_replica.specs.Contents.{side}
+use Rattle.merkle_wire.specs.ItsRows.{ForItsRows}
 use Rattle.merkle_wire.specs.Messages.{front}
 use Rattle.merkle_wire.specs.Replies.{values_bytes}
 use Rattle.merkle_wire.specs.Taking.{new_rows, value_row}
@@ -18,5 +18,5 @@ invariant-keys g l = record {
   of : l.yielded ≡ map (λ t. t.0) told ++ l.left.items;
   once : l.left.items ≢ [] → l.reader.left.now ≡ [];
   read : l.fn.reply ≡ front rows_at_kind ++ (values_bytes g.V.Encode.encoding told ++ l.reader.left.now);
-  taken : l.work ≡ record l.fn.work { rows = l.fn.work.rows ++ new_rows g.H.RowHasher.laws (side l.replica) (flat_map value_row told) };
+  taken : ForItsRows g.H.RowHasher.laws l.tree (λ local. l.work ≡ record l.fn.work { rows = l.fn.work.rows ++ new_rows g.H.RowHasher.laws local (flat_map value_row told) });
 }

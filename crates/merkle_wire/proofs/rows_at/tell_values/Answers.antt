@@ -12,7 +12,7 @@ keys-init g c reply t = rw c.in_ok-bytes.ensures at t
 pub keys-preserved : goal.keys-preserved
 keys-preserved g c =
     continued_more _ _ _ _ c.args.keys.now (front RowsAt) c.keys.bytes.items c.tell_value.new.bytes.items c.keys.wanted-index c.wanted-item.result
-    (get g.K.Ord.cmp c.args.replica.now.rows c.wanted-item.result.key) c.keys-test.true c.wanted-item.is c.keys.invariant refl
+    (get g.K.Ord.cmp (g.R.KeptRows.rows c.args.rows.now) c.wanted-item.result.key) c.keys-test.true c.wanted-item.is c.keys.invariant refl
     (subst (λ b. HasRoom c.args.most_bytes b) c.deref.ensures.value (c.if-is_full.ensures.room refl)) c.in_ok-tell_value.ensures
 
 pub returns-then-is_full-clause-told : goal.returns-then-is_full-clause-told

@@ -9,4 +9,4 @@ use Rattle.merkle_wire.proofs.rows_at.tell_values.Given as goal
 -- the values at the other keys continue those at the first
 abbrev pub invariant-keys : goal.invariant-keys
 invariant-keys g l =
-    IsContinued (λ wanted value. value ≡ get g.K.Ord.cmp l.replica.rows wanted.key) (value_at_bytes g.V.Encode.encoding) (λ before t. HasRoom l.most_bytes before) l.most_bytes l.keys (front RowsAt) l.wanted-index l.bytes.items
+    IsContinued (λ wanted value. value ≡ get g.K.Ord.cmp (g.R.KeptRows.rows l.rows) wanted.key) (value_at_bytes g.V.Encode.encoding) (λ before t. HasRoom l.most_bytes before) l.most_bytes l.keys (front RowsAt) l.wanted-index l.bytes.items

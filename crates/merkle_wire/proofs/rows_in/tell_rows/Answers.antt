@@ -10,8 +10,8 @@ gaps-init g c reply t = rw c.in_ok-bytes.ensures at t
 
 pub gaps-preserved : goal.gaps-preserved
 gaps-preserved g c =
-    let told = c.in_ok-tell_part.ensures in
-    continued_more _ _ _ _ c.args.gaps.now (front RowsIn) c.gaps.bytes.items c.tell_part.new.bytes.items c.gaps.gap-index c.gap-item.result told.0 c.gaps-test.true c.gap-item.is c.gaps.invariant told.1
+    let told = c.in_ok-add_part.ensures in
+    continued_more _ _ _ _ c.args.gaps.now (front RowsIn) c.gaps.bytes.items c.add_part.new.bytes.items c.gaps.gap-index c.gap-item.result told.0 c.gaps-test.true c.gap-item.is c.gaps.invariant told.1
     (subst (λ b. HasRoom c.args.most_bytes b) c.deref.ensures.value (c.if-is_full.ensures.room refl), told.3) told.2
 
 pub returns-then-is_full-clause-told : goal.returns-then-is_full-clause-told

@@ -7,5 +7,5 @@ use Rattle.merkle_wire.proofs.rows_in.tell_rows.Given as goal
 -- the rows in the other gaps continue those in the first
 abbrev pub invariant-gaps : goal.invariant-gaps
 invariant-gaps g l =
-    IsContinued (IsPartOf g.K.Ord.cmp l.rows) (part_in_bytes g.K.Encode.encoding g.V.Encode.encoding)
+    IsContinued (IsPartOf g.K.Ord.cmp (g.R.KeptRows.rows l.rows)) (part_in_bytes g.K.Encode.encoding g.V.Encode.encoding)
     (λ before t. HasRoom l.most_bytes before × RowsFit g.K.Encode.encoding g.V.Encode.encoding l.most_bytes before t) l.most_bytes l.gaps (front RowsIn) l.gap-index l.bytes.items

@@ -6,8 +6,11 @@ use Rattle.std.specs.List.{flat_map}
 use Rattle.key_order.specs.Map.{get}
 use Rattle.merkle_digest.specs.SipHash.{zero_key}
 use Rattle.merkle_digest.specs.Sip24.{Holds}
-use Rattle.merkle_replica.specs.Contents.{side, tree_map}
+use Rattle.merkle_replica.specs.Contents.{tree_map}
+use Rattle.merkle_replica.proofs.Descents.{same_get}
 use Rattle.merkle_replica.proofs.SideLaws.{laws_of}
+use Rattle.merkle_tree_theory.specs.State.{map_of}
+use Rattle.merkle_wire.specs.ItsRows.{side_with}
 use Rattle.merkle_wire.specs.Outlines.{digest_of_all}
 use Rattle.merkle_wire.proofs.ItemsMore.{map_more}
 use Rattle.merkle_wire.proofs.sifting.has_nodes.Goals as goal
@@ -17,8 +20,7 @@ keys-init g c = ([], refl, c.new-sip.ensures)
 
 pub keys-preserved : goal.keys-preserved
 keys-preserved g c =
-    let laws = g.H.RowHasher.laws in
-    let at = get g.K.Ord.cmp (tree_map laws (side c.args.replica.now)) in
+    let at = get g.K.Ord.cmp (map_of c.args.tree.now) in
     let ds = c.keys.invariant.0 in
     let own = c.in-Some.own.now in
     let keys = map (λ w. w.key) (take c.keys.wanted-index c.args.keys.now) in (
@@ -41,6 +43,10 @@ none_at f h (y ∷ ys) (suc i) x low is none (d ∷ ds) e =
     let rest : map f (map h ys) ≡ map Some ds = cc in
     none_at f h ys i x (omega (arith, low)) is none ds rest
 
+-- what is made of each is the same by functions that agree
+same_all : {A B : Type 0} {f h : A → B} → ((x : A) → f x ≡ h x) → (xs : List A) → map f xs ≡ map h xs
+same_all of xs = λ i. map (λ x. of x i) xs
+
 -- what there is is one list
 one_list : {B : Type 0} (ds es : List B) → map Some ds ≡ map Some es → ds ≡ es
 one_list [] [] e = refl
@@ -52,26 +58,29 @@ one_list (x ∷ ds) (y ∷ es) e =
     (λ i. first i ∷ rest i)
 
 pub returns-in-None-clause-lacked : goal.returns-in-None-clause-lacked
-returns-in-None-clause-lacked g c = rw g.met.H.RowHasher.laws_are (λ e (ds, own, is).
+returns-in-None-clause-lacked g c = rw g.met.H.RowHasher.laws_are (λ e rows kept (ds, own, is).
     let laws = laws_of g.K.Ord.cmp g.K.KeyBytes.bytes_of g.H.Hasher-1.digest_of g.V.PartialEq.eq g.V.Join.join_of g.H.Hasher-2.digest_of in
-    none_at (get g.K.Ord.cmp (tree_map laws (side c.args.replica.now))) (λ w. w.key) c.args.keys.now c.keys.wanted-index c.wanted-item.result c.keys-test.true c.wanted-item.is
-    (sym (rw g.met.H.RowHasher.laws_are at c.in-None.ensures)) ds own)
+    let of = same_get g.K.Ord.cmp g.met.K.Ord.total (map_of c.args.tree.now) (tree_map laws (side_with c.args.tree.now rows)) kept in
+    none_at (get g.K.Ord.cmp (map_of c.args.tree.now)) (λ w. w.key) c.args.keys.now c.keys.wanted-index c.wanted-item.result c.keys-test.true c.wanted-item.is
+    (sym c.in-None.ensures) ds (same_all of (map (λ w. w.key) c.args.keys.now) ∙ own))
 
 pub returns-clause-there : goal.returns-clause-there
-returns-clause-there g c = rw g.met.H.RowHasher.laws_are (λ t.
+returns-clause-there g c = rw g.met.H.RowHasher.laws_are (λ t rows kept.
     let laws = laws_of g.K.Ord.cmp g.K.KeyBytes.bytes_of g.H.Hasher-1.digest_of g.V.PartialEq.eq g.V.Join.join_of g.H.Hasher-2.digest_of in
-    let all = ap (λ xs. map (get g.K.Ord.cmp (tree_map laws (side c.args.replica.now))) (map (λ w. w.key) xs)) (take_all c.keys.wanted-index c.args.keys.now c.keys-test.false) in (
+    let of = same_get g.K.Ord.cmp g.met.K.Ord.total (map_of c.args.tree.now) (tree_map laws (side_with c.args.tree.now rows)) kept in
+    let all = ap (λ xs. map (get g.K.Ord.cmp (map_of c.args.tree.now)) (map (λ w. w.key) xs)) (take_all c.keys.wanted-index c.args.keys.now c.keys-test.false) in (
       c.keys.invariant.0,
-      sym all ∙ (rw g.met.H.RowHasher.laws_are at c.keys.invariant.1),
+      sym (same_all of (map (λ w. w.key) c.args.keys.now)) ∙ sym all ∙ c.keys.invariant.1,
       sym (c.finish128.ensures zero_key (flat_map (λ d. d) c.keys.invariant.0) c.keys.invariant.2) ∙ (bytes_decides c.finish128.result c.args.digest.now).0 (sym c.eq.ensures ∙ t),
     ))
 
 pub returns-clause-lacked : goal.returns-clause-lacked
-returns-clause-lacked g c = rw g.met.H.RowHasher.laws_are (λ no (es, own, is).
+returns-clause-lacked g c = rw g.met.H.RowHasher.laws_are (λ no rows kept (es, own, is).
     let laws = laws_of g.K.Ord.cmp g.K.KeyBytes.bytes_of g.H.Hasher-1.digest_of g.V.PartialEq.eq g.V.Join.join_of g.H.Hasher-2.digest_of in
+    let of = same_get g.K.Ord.cmp g.met.K.Ord.total (map_of c.args.tree.now) (tree_map laws (side_with c.args.tree.now rows)) kept in
     let ds = c.keys.invariant.0 in
-    let all = ap (λ xs. map (get g.K.Ord.cmp (tree_map laws (side c.args.replica.now))) (map (λ w. w.key) xs)) (take_all c.keys.wanted-index c.args.keys.now c.keys-test.false) in
-    let same : ds ≡ es = one_list ds es (sym (rw g.met.H.RowHasher.laws_are at c.keys.invariant.1) ∙ all ∙ own) in
+    let all = ap (λ xs. map (get g.K.Ord.cmp (map_of c.args.tree.now)) (map (λ w. w.key) xs)) (take_all c.keys.wanted-index c.args.keys.now c.keys-test.false) in
+    let same : ds ≡ es = one_list ds es (sym c.keys.invariant.1 ∙ all ∙ same_all of (map (λ w. w.key) c.args.keys.now) ∙ own) in
     let digests : c.finish128.result ≡ c.args.digest.now = c.finish128.ensures zero_key (flat_map (λ d. d) ds) c.keys.invariant.2 ∙ ap digest_of_all same ∙ is in
     let yes : c.eq.result ≡ true = c.eq.ensures ∙ (bytes_decides c.finish128.result c.args.digest.now).1 digests in
     let never : true ≡ false = sym yes ∙ no in

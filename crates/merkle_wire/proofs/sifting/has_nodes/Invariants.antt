@@ -3,12 +3,11 @@ use Rattle.std.specs.List.{flat_map}
 use Rattle.key_order.specs.Map.{get}
 use Rattle.merkle_digest.specs.SipHash.{zero_key}
 use Rattle.merkle_digest.specs.Sip24.{Holds}
-use Rattle.merkle_replica.specs.Contents.{side, tree_map}
+use Rattle.merkle_tree_theory.specs.State.{map_of}
 use Rattle.merkle_wire.proofs.sifting.has_nodes.Given as goal
 
 -- the first keys are there, and their digests are written
 abbrev pub invariant-keys : goal.invariant-keys
 invariant-keys g l =
-    let laws = g.H.RowHasher.laws in
-    (ds : List (List ℕ)) × (map (get g.K.Ord.cmp (tree_map laws (side l.replica))) (map (λ w. w.key) (take l.wanted-index l.keys)) ≡ map Some ds)
+    (ds : List (List ℕ)) × (map (get g.K.Ord.cmp (map_of l.tree)) (map (λ w. w.key) (take l.wanted-index l.keys)) ≡ map Some ds)
     × Holds l.sip zero_key (flat_map (λ d. d) ds)

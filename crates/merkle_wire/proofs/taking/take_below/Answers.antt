@@ -1,4 +1,4 @@
-use Rattle.std.proofs.Common.{[], ◌∷◌, Some, refl, sym, append-nil, inl, inr}
+use Rattle.std.proofs.Common.{[], ◌∷◌, Some, None, refl, sym, append-nil, inl, inr}
 use Rattle.merkle_wire.specs.Gaps.{owned_gap}
 use Rattle.merkle_wire.proofs.taking.take_below.Goals as goal
 
@@ -8,7 +8,17 @@ returns-then-has_page-clause-taken g c = (
   [],
   rw c.in-Some.is at c.in_ok-digest.ensures.read,
   rw c.in-Some.is at c.in_ok-digest.ensures.len,
-  inl (refl, c.has_page.ensures.there c.if-has_page.true),
+  λ rows of. inl (refl, c.has_page.ensures.there c.if-has_page.true rows of),
+  λ i. record c.args.work.now { below = sym (append-nil c.args.work.now.below) i },
+)
+
+pub returns-in_default-clause-taken : goal.returns-in_default-clause-taken
+returns-in_default-clause-taken g c = (
+  None,
+  [],
+  rw c.in_default.is at c.in_ok-digest.ensures.read,
+  tt,
+  λ rows of. refl,
   λ i. record c.args.work.now { below = sym (append-nil c.args.work.now.below) i },
 )
 
@@ -18,6 +28,6 @@ returns-clause-taken g c = (
   owned_gap c.in_ok-own.own ∷ [],
   rw c.in-Some.is at c.in_ok-digest.ensures.read,
   rw c.in-Some.is at c.in_ok-digest.ensures.len,
-  inr (rw g.met.H.RowHasher.laws_are c.in_ok-own.ensures, c.has_page.ensures.lacked c.if-has_page.false),
+  λ rows of. inr (rw g.met.H.RowHasher.laws_are c.in_ok-own.ensures, c.has_page.ensures.lacked c.if-has_page.false rows of),
   c.in_ok-add_below.ensures,
 )

@@ -5,8 +5,8 @@ use Rattle.std.proofs.lemmas.Result.{err_from_is_err_and}
 use Rattle.std.specs.List.{flat_map}
 use Rattle.std.specs.Vec.Iter.{into_iter_items}
 use Rattle.key_order.proofs.ListParts.{each-append}
-use Rattle.merkle_replica.specs.Contents.{side}
 use Rattle.merkle_replica.proofs.ListIterators.{one_yielded, all_yielded}
+use Rattle.merkle_wire.specs.ItsRows.{side_with}
 use Rattle.merkle_wire.proofs.TakenMore.{new_key, keys-more}
 use Rattle.merkle_wire.proofs.Fronts.{refused_unread}
 use Rattle.merkle_wire.proofs.Unfit.{each_digest, flat_digests, no_digests}
@@ -20,7 +20,7 @@ keys-init g c = record {
   of = refl;
   read = refl;
   lengths = tt;
-  taken = λ i. record c.args.work.now { wanted = sym (append-nil c.args.work.now.wanted) i };
+  taken = λ rows of i. record c.args.work.now { wanted = sym (append-nil c.args.work.now.wanted) i };
 }
 
 pub keys-preserved : goal.keys-preserved
@@ -40,8 +40,8 @@ keys-preserved g c =
       read = kept.read ∙ ap (λ t. flat_map (λ n. n.1) kept.nodes ++ t) (c.in_ok-digest.ensures.read ∙ ap (λ b. b ++ left) (sym (append-nil digest))) ∙ sym (append_assoc (flat_map (λ n. n.1) kept.nodes) (digest ++ []) left)
           ∙ ap (λ t. t ++ left) (sym (flat_map-append _ kept.nodes (node ∷ [])));
       lengths = each-append _ kept.nodes (node ∷ []) kept.lengths (c.in_ok-digest.ensures.len, tt);
-      taken = keys-more laws (side c.args.replica.now) c.args.work.now c.keys.work c.take_key.new.self kept.nodes (node ∷ []) kept.taken
-          (subst (λ ks. c.take_key.new.self ≡ record c.keys.work { wanted = c.keys.work.wanted ++ ks }) (sym (new_key laws (side c.args.replica.now) node)) (rw c.has_digest-is_there.ensures at c.in_ok-take_key.ensures));
+      taken = λ rows of. keys-more laws (side_with c.args.tree.now rows) c.args.work.now c.keys.work c.take_key.new.self kept.nodes (node ∷ []) (kept.taken rows of)
+          (subst (λ ks. c.take_key.new.self ≡ record c.keys.work { wanted = c.keys.work.wanted ++ ks }) (sym (new_key laws (side_with c.args.tree.now rows) node)) (rw (c.has_digest-is_there.ensures rows of) at c.in_ok-take_key.ensures));
     }
 
 pub returns-clause-taken : goal.returns-clause-taken

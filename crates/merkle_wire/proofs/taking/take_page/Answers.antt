@@ -2,10 +2,10 @@ use Rattle.std.proofs.Common.{◌≡◌, ◌+◌, ◌++◌, ◌∷◌, [], List,
 use Rattle.std.proofs.lemmas.List.{length-map}
 use Rattle.std.proofs.lemmas.Result.{err_from_is_err_and}
 use Rattle.key_order.specs.Order.{Same}
-use Rattle.merkle_replica.specs.Contents.{side}
 use Rattle.merkle_tree_theory.specs.Gap.{Gap}
 use Rattle.merkle_wire.specs.Found.{Found}
 use Rattle.merkle_wire.specs.Gaps.{owned_gap}
+use Rattle.merkle_wire.specs.ItsRows.{ForItsRows}
 use Rattle.merkle_wire.specs.Outlines.{keys_told, pages_bytes}
 use Rattle.merkle_wire.specs.Steps.{TakesPage}
 use Rattle.merkle_wire.specs.Taking.{AreNewNodes}
@@ -27,11 +27,12 @@ keys_tell g = key_tells g.K.Ord.cmp g.K.Encode.encoding g.K.PartialEq.eq g.met.K
 
 -- the page that was read lies in the gap, and is taken once its nodes are noted or added
 taken : (g : Over) (c : In_ok-take_pages g) (nodes : List (Gap g.row.K.Denot)) (after : Found g.row.K.Denot g.row.V.Denot)
-    → AreNewNodes g.H.RowHasher.laws (side c.args.replica.now) (owned_gap c.args.gap.now) (map (λ w. w.key) c.in_ok-keys.keys.items) c.in_ok-digest.digest nodes → after ≡ record c.take_pages.new.work { nodes = c.take_pages.new.work.nodes ++ nodes }
-    → TakesPage g.H.RowHasher.laws g.row.N g.K.Encode.encoding c.args.replica.now c.args.run.now c.args.gap.now c.args.reader.now c.take_pages.new.reader c.args.work.now after
+    → ForItsRows g.H.RowHasher.laws c.args.tree.now (λ local. AreNewNodes g.H.RowHasher.laws local (owned_gap c.args.gap.now) (map (λ w. w.key) c.in_ok-keys.keys.items) c.in_ok-digest.digest nodes)
+    → after ≡ record c.take_pages.new.work { nodes = c.take_pages.new.work.nodes ++ nodes }
+    → TakesPage g.H.RowHasher.laws g.row.N g.K.Encode.encoding c.args.tree.now c.args.run.now c.args.gap.now c.args.reader.now c.take_pages.new.reader c.args.work.now after
 taken g c nodes after = rw g.met.H.RowHasher.laws_are (λ own adds.
     let keys = map (λ w. w.key) c.in_ok-keys.keys.items in
-    let (pages, gaps, read, are, new, added) = rw c.deref-2.ensures.value at (rw g.met.H.RowHasher.laws_are at c.in_ok-take_pages.ensures.taken) in (
+    let (pages, gaps, read, are, count, new, added) = rw c.deref-2.ensures.value at (rw g.met.H.RowHasher.laws_are at c.in_ok-take_pages.ensures.taken) in (
       c.in_ok-digest.digest,
       keys,
       pages,
@@ -42,19 +43,20 @@ taken g c nodes after = rw g.met.H.RowHasher.laws_are (λ own adds.
         rw c.deref.ensures.value at (c.keys_lie_in.ensures.inside c.if-not-keys_lie_in.false),
         c.in_ok-digest.ensures.len,
         are,
+        count,
       ),
-      (gaps, nodes, new, own, page_taken c.args.work.now c.take_pages.new.work after gaps nodes added adds),
+      λ rows of. (gaps, nodes, new rows of, own rows of, page_taken c.args.work.now c.take_pages.new.work after gaps nodes added adds),
     ))
 
 pub returns-then-has_nodes-clause-taken : goal.returns-then-has_nodes-clause-taken
 returns-then-has_nodes-clause-taken g c =
-    taken g (goal.at.returns-then-has_nodes-clause-taken g c).In_ok-take_pages [] c.note_same.new.self (inl (refl, rw c.deref-3.ensures.value at (c.has_nodes.ensures.there c.if-has_nodes.true)))
+    taken g (goal.at.returns-then-has_nodes-clause-taken g c).In_ok-take_pages [] c.note_same.new.self (λ rows of. inl (refl, rw c.deref-3.ensures.value at (c.has_nodes.ensures.there c.if-has_nodes.true) rows of))
     (c.note_same.ensures ∙ (λ i. record c.take_pages.new.work { nodes = sym (append-nil c.take_pages.new.work.nodes) i }))
 
 pub returns-clause-taken : goal.returns-clause-taken
 returns-clause-taken g c =
     taken g (goal.at.returns-clause-taken g c).In_ok-take_pages (owned_gap c.in_ok-own.own ∷ []) c.add_nodes.new.self
-    (inr (rw g.met.H.RowHasher.laws_are (rw (c.as_ref.ensures.value, c.as_ref-2.ensures.value) at c.in_ok-own.ensures), rw c.deref-3.ensures.value at (c.has_nodes.ensures.lacked c.if-has_nodes.false))) c.in_ok-add_nodes.ensures
+    (λ rows of. inr (rw g.met.H.RowHasher.laws_are (rw (c.as_ref.ensures.value, c.as_ref-2.ensures.value) at c.in_ok-own.ensures), (rw c.deref-3.ensures.value at (c.has_nodes.ensures.lacked c.if-has_nodes.false)) rows of)) c.in_ok-add_nodes.ensures
 
 pub returns-in_err-keys-clause-refused : goal.returns-in_err-keys-clause-refused
 returns-in_err-keys-clause-refused g c =

@@ -1,7 +1,6 @@
 use Rattle.std.proofs.Common.{◌+◌, [], length, take, map, Some, sym, subst, arith}
 use Rattle.std.proofs.lemmas.List.{take_all, length-map, length-take}
 use Rattle.std.proofs.lemmas.Result.{err_from_is_err_and}
-use Rattle.merkle_replica.specs.Contents.{side}
 use Rattle.merkle_search_tree.specs.Items.{bound_of}
 use Rattle.merkle_wire.specs.Gaps.{owned_gap}
 use Rattle.merkle_wire.proofs.ItemsMore.{map_more}
@@ -15,7 +14,7 @@ keys-init g c =
     let laws = g.H.RowHasher.laws in
     let begun = c.args.reader.now.left.now in
     let gap = owned_gap c.args.gap.now in
-    subst (λ b. ArePagesSoFar laws (side c.args.replica.now) gap b [] begun begun c.args.work.now c.args.work.now) (sym c.as_ref-after.ensures.value) (pages_none laws (side c.args.replica.now) gap begun c.args.work.now)
+    subst (λ b. ArePagesSoFar laws c.args.tree.now gap b [] begun begun c.args.work.now c.args.work.now) (sym c.as_ref-after.ensures.value) (pages_none laws c.args.tree.now gap begun c.args.work.now)
 
 pub keys-preserved : goal.keys-preserved
 keys-preserved g c =
@@ -23,9 +22,9 @@ keys-preserved g c =
     let gap = owned_gap c.args.gap.now in
     let w = c.wanted-item.result in
     let below = c.in_ok-take_below.ensures.taken in
-    subst (λ ks. ArePagesSoFar laws (side c.args.replica.now) gap (Some w.key) ks c.args.reader.now.left.now c.take_below.new.reader.left.now c.args.work.now c.take_below.new.work)
+    subst (λ ks. ArePagesSoFar laws c.args.tree.now gap (Some w.key) ks c.args.reader.now.left.now c.take_below.new.reader.left.now c.args.work.now c.take_below.new.work)
     (sym (map_more (λ x. x.key) c.args.keys.now c.keys.wanted-index w c.keys-test.true c.wanted-item.is))
-    (pages_more_of laws (side c.args.replica.now) gap (bound_of c.keys.after) (map (λ x. x.key) (take c.keys.wanted-index c.args.keys.now)) w.key c.args.reader.now.left.now c.keys.reader.left.now c.take_below.new.reader.left.now
+    (pages_more_of laws c.args.tree.now gap (bound_of c.keys.after) (map (λ x. x.key) (take c.keys.wanted-index c.args.keys.now)) w.key c.args.reader.now.left.now c.keys.reader.left.now c.take_below.new.reader.left.now
     c.args.work.now c.keys.work c.take_below.new.work below.0 below.1 c.keys.invariant below.2 below.3 below.4 below.5)
 
 pub returns-clause-taken : goal.returns-clause-taken
@@ -33,10 +32,10 @@ returns-clause-taken g c =
     let laws = g.H.RowHasher.laws in
     let gap = owned_gap c.args.gap.now in
     let keys = map (λ x. x.key) c.args.keys.now in
-    let so = subst (λ xs. ArePagesSoFar laws (side c.args.replica.now) gap (bound_of c.keys.after) (map (λ x. x.key) xs) c.args.reader.now.left.now c.keys.reader.left.now c.args.work.now c.keys.work)
+    let so = subst (λ xs. ArePagesSoFar laws c.args.tree.now gap (bound_of c.keys.after) (map (λ x. x.key) xs) c.args.reader.now.left.now c.keys.reader.left.now c.args.work.now c.keys.work)
     (take_all c.keys.wanted-index c.args.keys.now c.keys-test.false) c.keys.invariant in
     let below = rw c.as_ref.ensures.value at c.in_ok-take_below-2.ensures.taken in
-    pages_end laws (side c.args.replica.now) gap (bound_of c.keys.after) keys c.args.reader.now.left.now c.keys.reader.left.now c.take_below-2.new.reader.left.now
+    pages_end laws c.args.tree.now gap (bound_of c.keys.after) keys c.args.reader.now.left.now c.keys.reader.left.now c.take_below-2.new.reader.left.now
     c.args.work.now c.keys.work c.take_below-2.new.work below.0 below.1 so below.2 below.3 below.4 below.5
 
 pub returns-in_err-take_below-clause-refused : goal.returns-in_err-take_below-clause-refused

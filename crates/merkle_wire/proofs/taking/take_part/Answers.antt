@@ -16,7 +16,7 @@ returns-then-branch-clause-taken g c = rw g.met.H.RowHasher.laws_are (
       part_read g.K.Encode.encoding g.V.Encode.encoding (last c.args.gap.now.after) c.in_ok-run.run' c.in_ok-rows.rows.items c.in_ok-flag.field-0 true c.args.reader.now.left.now c.decode_run.new.reader.left.now c.flag.new.self.left.now
           c.in_ok-rows.ensures.read c.in_ok-flag.ensures.read (c.in_ok-run.ensures ∙ ap last c.as_ref.ensures.value) c.if-branch.true,
       rw c.deref.ensures.value at (c.rows_lie_in.ensures.inside c.if-not-rows_lie_in.false),
-      inl (refl, refl),
+      (λ rows of. inl (refl, refl)),
       sym (append-nil c.args.left.now.items),
       (rw g.met.H.RowHasher.laws_are at c.in_ok-take_all.ensures),
     ))
@@ -30,7 +30,7 @@ returns-clause-taken g c = rw g.met.H.RowHasher.laws_are (
       part_read g.K.Encode.encoding g.V.Encode.encoding (last c.args.gap.now.after) c.in_ok-run.run' c.in_ok-rows.rows.items c.in_ok-flag.field-0 false c.args.reader.now.left.now c.decode_run.new.reader.left.now c.flag.new.self.left.now
           c.in_ok-rows.ensures.read c.in_ok-flag.ensures.read (c.in_ok-run.ensures ∙ ap last c.as_ref.ensures.value) c.if-branch.false,
       rw c.deref.ensures.value at (c.rows_lie_in.ensures.inside c.if-not-rows_lie_in.false),
-      inr (added.0, added.1, added.2, refl, added.3, added.4, refl),
+      (λ rows of. inr (added.0, added.1, added.2, refl, added.3, added.4, refl)),
       added.5,
       (rw g.met.H.RowHasher.laws_are at c.in_ok-take_all-2.ensures),
     ))
