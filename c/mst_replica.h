@@ -108,7 +108,8 @@ int mst_replica_ask(struct mst_replica *replica, size_t *message_len);
  *
  * MST_ABSENT where no catch-up is under way. MST_MALFORMED where the bytes are no reply to what was asked, MST_REFUSED where the peer
  * refused: the catch-up is over then, no message is kept, and the rows stay. MST_MALFORMED comes of an honest peer, too, into whose
- * replica rows were put between two of its replies, so that a key came twice: begin again by mst_replica_ask. MST_NO_MEMORY: the
+ * replica rows were put between two of its replies, so that a key came twice: begin again by mst_replica_ask. It also comes of a peer that
+ * sends more than 1,000,000 replies, 2^32 rows or 2^36 bytes in one catch-up. MST_NO_MEMORY: the
  * catch-up is over, no message is kept, and *joined says how many of the rows that came are joined, the first in the order of their keys:
  * where it is 0 the rows are as they were; begin again by mst_replica_ask. MST_BAD_ARGUMENT. But for MST_DONE, *message_len is as
  * before, and so is *joined, but for MST_NO_MEMORY.

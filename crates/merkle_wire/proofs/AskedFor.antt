@@ -133,7 +133,7 @@ module _ {K V : Type 0} where
   taken_from_keeps (RowsAt keys) before after t = ap (λ f. f.rows) t.1
   taken_from_keeps (RowsIn gaps) before after t = ap (λ f. f.rows) t.1
 
-  asked_of_keeps : (question : Question K) (before after : Found K V) → IsAskedOf (Some question) before after → after.rows ≡ before.rows
+  pub asked_of_keeps : (question : Question K) (before after : Found K V) → IsAskedOf (Some question) before after → after.rows ≡ before.rows
   asked_of_keeps question before after (some, inl t) = taken_from_keeps question before after t
   asked_of_keeps question before after (some, inr t) = taken_from_keeps question (all_whole before) after t
 

@@ -16,6 +16,7 @@ use Rattle.merkle_wire.specs.Steady.{AsksForPages, IsFilled, IsSteady, SteadyNex
 use Rattle.merkle_wire.specs.Underway.{AsksAgain}
 use Rattle.merkle_wire.specs.declared.catching_up.Next.{Next}
 use Rattle.merkle_wire.specs.declared.catching_up.Next.TheVariants.{Ask, Came}
+use Rattle.merkle_wire.specs.declared.limits.Limits.{Limits}
 use Rattle.merkle_wire.specs.declared.question.Question.{Question}
 use Rattle.merkle_wire.specs.declared.question.Question.TheVariants.{Root, Outlines, Nodes, RowsAt, RowsIn}
 use Rattle.merkle_wire.proofs.Times.{total-append, total-mapped}
@@ -33,10 +34,10 @@ module _ {K V H : Type 0} (laws : Laws K V H) (peer : Side K V H) (root : Tree K
   one_round_more : (rounds : ℕ) (g : Gap K) → IsFilled laws peer root 256 rounds g → IsFilled laws peer root 257 (rounds + 1) g
   one_round_more rounds g (t, f, low) = (t, f, omega (arith, low))
 
-  taken_steady : (question : Question K) (rounds : ℕ) (f after : Found K V) → AsksForSome question → AreSteady rounds none_besides f → IsTakenFrom question f after
-      → IsSteady laws peer root (record { asked = question; found = after; rounds = rounds_with rounds question })
-  taken_steady (Root settings) rounds f after some s t = absurd t
-  taken_steady (Outlines most gaps) rounds f after some s (is, e) = record {
+  taken_steady : (question : Question K) (rounds : ℕ) (left : Limits) (f after : Found K V) → AsksForSome question → AreSteady rounds none_besides f → IsTakenFrom question f after
+      → IsSteady laws peer root (record { asked = question; found = after; rounds = rounds_with rounds question; left = left })
+  taken_steady (Root settings) rounds left f after some s t = absurd t
+  taken_steady (Outlines most gaps) rounds left f after some s (is, e) = record {
     some = some;
     asked = each-with (λ g. IsFilled laws peer root 256 rounds (owned_gap g)) (λ g. IsFilled laws peer root 257 (rounds + 1) (owned_gap g)) gaps.items (λ g. one_round_more rounds (owned_gap g))
         (each-unmapped owned_gap (IsFilled laws peer root 256 rounds) gaps.items (subst (AllByRecursion (IsFilled laws peer root 256 rounds)) is s.below));
@@ -45,7 +46,7 @@ module _ {K V H : Type 0} (laws : Laws K V H) (peer : Side K V H) (root : Tree K
     once = λ k. subst (λ x. total (λ g. times_in laws.cmp k (owned_gap g)) gaps.items + times_found laws peer root k x ≤ 1) (sym e)
         (omega (arith, s.once k, ap (total (times_in laws.cmp k)) is, total-mapped (times_in laws.cmp k) owned_gap gaps.items));
   }
-  taken_steady (Nodes most gaps) rounds f after some s (is, e) = record {
+  taken_steady (Nodes most gaps) rounds left f after some s (is, e) = record {
     some = some;
     asked = each-unmapped owned_gap (IsFilled laws peer root 257 0) gaps.items (subst (AllByRecursion (IsFilled laws peer root 257 0)) is s.nodes);
     below = subst (λ x. AllByRecursion (IsFilled laws peer root 256 rounds) x.below) (sym e) s.below;
@@ -53,7 +54,7 @@ module _ {K V H : Type 0} (laws : Laws K V H) (peer : Side K V H) (root : Tree K
     once = λ k. subst (λ x. total (λ g. times_over laws peer root k (owned_gap g)) gaps.items + times_found laws peer root k x ≤ 1) (sym e)
         (omega (arith, s.once k, ap (total (times_over laws peer root k)) is, total-mapped (times_over laws peer root k) owned_gap gaps.items));
   }
-  taken_steady (RowsAt keys) rounds f after some s (is, e) = record {
+  taken_steady (RowsAt keys) rounds left f after some s (is, e) = record {
     some = some;
     asked = tt;
     below = subst (λ x. AllByRecursion (IsFilled laws peer root 256 rounds) x.below) (sym e) s.below;
@@ -61,7 +62,7 @@ module _ {K V H : Type 0} (laws : Laws K V H) (peer : Side K V H) (root : Tree K
     once = λ k. subst (λ x. total (λ w. times_at laws.cmp k w.key) keys.items + times_found laws peer root k x ≤ 1) (sym e)
         (omega (arith, s.once k, ap (total (times_at laws.cmp k)) is, total-mapped (times_at laws.cmp k) (λ w. w.key) keys.items));
   }
-  taken_steady (RowsIn gaps) rounds f after some s (is, e) = record {
+  taken_steady (RowsIn gaps) rounds left f after some s (is, e) = record {
     some = some;
     asked = tt;
     below = subst (λ x. AllByRecursion (IsFilled laws peer root 256 rounds) x.below) (sym e) s.below;
@@ -76,11 +77,11 @@ module _ {K V H : Type 0} (laws : Laws K V H) (peer : Side K V H) (root : Tree K
   goes_on_steady : (rounds : ℕ) (f : Found K V) (next : Next K V) → AreSteady rounds none_besides f → GoesOn laws.cmp encoding rounds f next → SteadyNext laws peer root next
   goes_on_steady rounds f (Came rows) s goes = tt
   goes_on_steady rounds f (Ask session message) s (asked, is, same) =
-      subst (IsSteady laws peer root) (λ i. record { asked = session.asked; found = session.found; rounds = sym same i }) (from asked.1)
+      subst (IsSteady laws peer root) (λ i. record { asked = session.asked; found = session.found; rounds = sym same i; left = session.left }) (from asked.1)
     where
-      from : IsTakenFrom session.asked f session.found ⊎ IsTakenFrom session.asked (all_whole f) session.found → IsSteady laws peer root (record { asked = session.asked; found = session.found; rounds = rounds_with rounds session.asked })
-      from (inl t) = taken_steady session.asked rounds f session.found asked.0 s t
-      from (inr t) = taken_steady session.asked rounds (all_whole f) session.found asked.0 (whole_steady rounds f s) t
+      from : IsTakenFrom session.asked f session.found ⊎ IsTakenFrom session.asked (all_whole f) session.found → IsSteady laws peer root (record { asked = session.asked; found = session.found; rounds = rounds_with rounds session.asked; left = session.left })
+      from (inl t) = taken_steady session.asked rounds session.left f session.found asked.0 s t
+      from (inr t) = taken_steady session.asked rounds session.left (all_whole f) session.found asked.0 (whole_steady rounds f s) t
 
   -- what is asked again
   abbrev pub times_again : Option (Question K) → K → ℕ

@@ -27,6 +27,7 @@ refused_for reason other session.NothingCame why r = why r
 refused_for reason other session.NotInGap why r = why r
 refused_for reason other session.NoNode why r = why r
 refused_for reason other session.TooManyRounds why r = r
+refused_for reason other (session.Limit limit) why r = r
 refused_for reason other session.Twice why r = r
 
 -- the kind of a byte

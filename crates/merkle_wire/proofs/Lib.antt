@@ -31,6 +31,7 @@ pub mod PartsRead
 pub mod ValuesRead
 pub mod OutlinesRead
 pub mod AskedFor
+pub mod WithinLimits
 pub mod WholeSessions
 pub mod NoSettings
 pub mod NoQuestion

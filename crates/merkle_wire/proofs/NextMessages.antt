@@ -17,7 +17,7 @@ use Rattle.merkle_wire.specs.Gaps.{owned_gap}
 use Rattle.merkle_wire.specs.declared.question.Question.{Question}
 use Rattle.merkle_wire.specs.declared.question.Question.TheVariants.{Root, Outlines, Nodes, RowsAt, RowsIn}
 use Rattle.merkle_wire.specs.declared.session_error.SessionError.{SessionError}
-use Rattle.merkle_wire.specs.declared.session_error.SessionError.TheVariants.{Malformed, Memory, NoNode, NotInGap, NothingCame, OtherKind, Refused, TooManyRounds, Twice}
+use Rattle.merkle_wire.specs.declared.session_error.SessionError.TheVariants.{Limit, Malformed, Memory, NoNode, NotInGap, NothingCame, OtherKind, Refused, TooManyRounds, Twice}
 use Rattle.merkle_wire.proofs.LeftToAsk.{some_mapped}
 
 module _ {K V H : Type 0} where
@@ -72,6 +72,7 @@ module _ {K V : Type 0} (cmp : K → K → Ordering) where
   twice_ends rounds before after rows NotInGap done is twice = absurd twice
   twice_ends rounds before after rows NoNode done is twice = absurd twice
   twice_ends rounds before after rows TooManyRounds done is twice = absurd twice
+  twice_ends rounds before after rows (Limit limit) done is twice = absurd twice
 
 module _ {K V H : Type 0} (laws : Laws K V H) (n : ℕ) (encoding : K → List ℕ) (values : V → List ℕ) (is_key : K → Type 0) (is_value : V → Type 0) (local : Side K V H) (before : Underway K V) (reply : List ℕ) where
   abbrev Stopped : SessionError → Type 0
@@ -88,6 +89,7 @@ module _ {K V H : Type 0} (laws : Laws K V H) (n : ℕ) (encoding : K → List �
   refused_stops NoNode not = not
   refused_stops TooManyRounds not = absurd not
   refused_stops Twice not = absurd not
+  refused_stops (Limit limit) not = absurd not
 
   -- so does one after which it doesn't go on
   pub ended_stops : (found : Found K V) (error : SessionError) → HasTaken laws n encoding values local before.asked reply before.found found None → IsEnded laws.cmp before.rounds found error → Stopped error
@@ -100,6 +102,7 @@ module _ {K V H : Type 0} (laws : Laws K V H) (n : ℕ) (encoding : K → List �
   ended_stops found NothingCame taken ended = absurd ended
   ended_stops found NotInGap taken ended = absurd ended
   ended_stops found NoNode taken ended = absurd ended
+  ended_stops found (Limit limit) taken ended = absurd ended
 
 -- a replica whose tree is hashed ends a catch-up as the side that it was
 module _ {K V H : Type 0} (laws : Laws K V H) (n : ℕ) (encoding : K → List ℕ) (values : V → List ℕ) (is_key : K → Type 0) (is_value : V → Type 0) where

@@ -372,5 +372,5 @@ module _ {K V H : Type 0} (laws : Laws K V H) (o : IsTotalOrder laws.cmp) (eqv :
       → IsReply laws.cmp laws.bytes_of encoding values digest_of n peer.rows peer.tree question reply → IsNext laws n encoding values local before reply next → LeavesLess laws (side peer) root before next
   leaves_less digest_of before question reply (Came rows) s alike is comes = tt
   leaves_less digest_of before question reply (Ask session message) s alike is (found, again, taken, goes) =
-      let t = stay laws o eqv encoding values tell n local peer root sides small digest_of before.asked question before.rounds reply before.found found again s alike is taken in
+      let t = stay laws o eqv encoding values tell n local peer root sides small digest_of before.asked question before.rounds before.left reply before.found found again s alike is taken in
       omega (arith, taken_less digest_of before question reply found again s alike is taken, next_left again before.rounds found session message t.steady.below goes)

@@ -38,16 +38,17 @@ use Rattle.merkle_wire.specs.Messages.{front}
 use Rattle.merkle_wire.specs.Next.{HaveTwins, IsStopped}
 use Rattle.merkle_wire.specs.Outlines.{Outline, rows_told, digests_told, page_told, IsTold, keys_among, nodes_among, outline_bytes, pages_beside}
 use Rattle.merkle_wire.specs.Replies.{Answers, IsPartOf, IsReply, items_over, outlines_bytes, part_bytes, parts_bytes, values_bytes, whole_digest}
-use Rattle.merkle_wire.specs.Steady.{AsksForPages, CanBeTold, IsFilled, IsSteady, times_asked, times_at, times_in, total}
+use Rattle.merkle_wire.specs.Steady.{AsksForPages, CanBeTold, IsFilled, IsMemoryOrLimit, IsSteady, times_asked, times_at, times_in, total}
 use Rattle.merkle_wire.specs.Taking.{AreNewGaps, AreTaken, IsRootTaken, IsTaken, value_row}
 use Rattle.merkle_wire.specs.Underway.{AsksAgain, HasOutlines, HasParts, HasTaken, HasValues, Underway}
 use Rattle.merkle_wire.specs.declared.gaps.OwnedGap.{OwnedGap}
 use Rattle.merkle_wire.specs.declared.message.Kind.{Kind}
 use Rattle.merkle_wire.specs.declared.message.Kind.TheVariants.{Root as root_kind, Outlines as outlines_kind, Nodes as nodes_kind}
+use Rattle.merkle_wire.specs.declared.limits.Limits.{Limits}
 use Rattle.merkle_wire.specs.declared.question.Question.{Question}
 use Rattle.merkle_wire.specs.declared.question.Question.TheVariants.{Root, Outlines, Nodes, RowsAt, RowsIn}
 use Rattle.merkle_wire.specs.declared.session_error.SessionError.{SessionError}
-use Rattle.merkle_wire.specs.declared.session_error.SessionError.TheVariants.{Malformed, Memory, NoNode, NotInGap, NothingCame, OtherKind, Refused, TooManyRounds, Twice}
+use Rattle.merkle_wire.specs.declared.session_error.SessionError.TheVariants.{Limit, Malformed, Memory, NoNode, NotInGap, NothingCame, OtherKind, Refused, TooManyRounds, Twice}
 use Rattle.merkle_wire.specs.declared.wanted.Wanted.{Wanted}
 use Rattle.merkle_wire.proofs.Exchanges.{Tell, root_tells, same_begin, sent_fits}
 use Rattle.merkle_wire.proofs.FilledGaps.{IsBelow, fills-alike, fills-same, parts_filled, same_level}
@@ -253,23 +254,23 @@ module _ {K V H : Type 0} (laws : Laws K V H) (o : IsTotalOrder laws.cmp) (eqv :
       keeps (Some d) (inr (lacks, inl t)) = subst (λ f. AllByRecursion (Filled 257 0) f.nodes) (sym t) s.nodes
       keeps (Some d) (inr (lacks, inr t)) = subst (λ f. AllByRecursion (Filled 257 0) f.nodes) (sym t) s.nodes
 
-  pub stay : (digest_of : K → List ℕ) (asked question : Question K) (rounds : ℕ) (reply : List ℕ) (before after : Found K V) (again : Option (Question K)) → IsSteady laws (side peer) root (record { asked = asked; found = before; rounds = rounds })
+  pub stay : (digest_of : K → List ℕ) (asked question : Question K) (rounds : ℕ) (limits : Limits) (reply : List ℕ) (before after : Found K V) (again : Option (Question K)) → IsSteady laws (side peer) root (record { asked = asked; found = before; rounds = rounds; left = limits })
       → SameQuestion laws.cmp encoding asked question → IsReply laws.cmp laws.bytes_of encoding values digest_of n peer.rows peer.tree question reply → HasTaken laws n encoding values local asked reply before after again → StaySteady rounds again after
-  stay digest_of (Root a) (Root b) rounds reply before after again s same (settings, sent) (count, digest, read, taken, none) =
+  stay digest_of (Root a) (Root b) rounds limits reply before after again s same (settings, sent) (count, digest, read, taken, none) =
       let is = root_tells laws o eqv encoding values tell n local peer root sides small count (length peer.rows) digest (whole_digest (whole_item peer.tree.format laws.bytes_of tree)) (sym read ∙ sent) in
       subst (λ x. StaySteady rounds x after) (sym none)
       (record { fit = tt; steady = root_stays rounds digest before after s.asked (record { below = s.below; nodes = s.nodes; once = s.once }) is taken })
-  stay digest_of (Outlines m gs) (Outlines m' hs) rounds reply before after again s same (told', answers, sent) (left, has, asks) =
+  stay digest_of (Outlines m gs) (Outlines m' hs) rounds limits reply before after again s same (told', answers, sent) (left, has, asks) =
       outlines_stay true outlines_kind (Outlines m) rounds rounds gs.items hs.items left reply before after again told' (λ xs e. (e, s.some.1)) (λ xs a. a) (λ k xs. refl) (λ with. refl) s.asked
       (record { below = s.below; nodes = s.nodes; once = s.once }) same answers sent has asks
-  stay digest_of (Nodes m gs) (Nodes m' hs) rounds reply before after again s same (told', answers, sent) (left, has, asks) =
+  stay digest_of (Nodes m gs) (Nodes m' hs) rounds limits reply before after again s same (told', answers, sent) (left, has, asks) =
       outlines_stay false nodes_kind (Nodes m) 0 rounds gs.items hs.items left reply before after again told' (λ xs e. (e, s.some.1)) (λ xs a. a) (λ k xs. refl) (λ with. let never : false ≡ true = with in absurd (cc)) s.asked
       (record { below = s.below; nodes = s.nodes; once = s.once }) same answers sent has asks
-  stay digest_of (RowsAt ws) (RowsAt xs) rounds reply before after again s same (told', answers, sent) (left, has, asks) =
+  stay digest_of (RowsAt ws) (RowsAt xs) rounds limits reply before after again s same (told', answers, sent) (left, has, asks) =
       values_stay rounds ws.items left reply before after again (record { below = s.below; nodes = s.nodes; once = s.once }) has asks
-  stay digest_of (RowsIn gs) (RowsIn hs) rounds reply before after again s same (told', answers, sent) (left, has, asks) =
+  stay digest_of (RowsIn gs) (RowsIn hs) rounds limits reply before after again s same (told', answers, sent) (left, has, asks) =
       parts_stay rounds gs.items left reply before after again (record { below = s.below; nodes = s.nodes; once = s.once }) has asks
-  stay digest_of asked question rounds reply before after again s same is taken = absurd same
+  stay digest_of asked question rounds limits reply before after again s same is taken = absurd same
 
   -- the reply can be taken
   module _ (is_key : K → Type 0) (is_value : V → Type 0) (told : CanBeTold laws is_key is_value (side peer)) where
@@ -341,9 +342,9 @@ module _ {K V H : Type 0} (laws : Laws K V H) (o : IsTotalOrder laws.cmp) (eqv :
     no_more_rounds rounds [] many some a = some refl
     no_more_rounds rounds (g ∷ gaps) many some ((t, f, low), a) = absurd (omega (arith, many, low))
 
-    -- so it is refused for want of memory alone
+    -- so it is not taken for want of memory or for a limit alone
     pub memory_alone : (digest_of : K → List ℕ) (before : Underway K V) (question : Question K) (reply : List ℕ) (error : SessionError) → IsSteady laws (side peer) root before → SameQuestion laws.cmp encoding before.asked question
-        → IsReply laws.cmp laws.bytes_of encoding values digest_of n peer.rows peer.tree question reply → IsStopped laws n encoding values is_key is_value local before reply error → error ≡ Memory
+        → IsReply laws.cmp laws.bytes_of encoding values digest_of n peer.rows peer.tree question reply → IsStopped laws n encoding values is_key is_value local before reply error → IsMemoryOrLimit error
     memory_alone digest_of before question reply error s same is = by error
       where
         fit : IsFit laws.cmp is_key is_value encoding values n before.asked reply
@@ -352,11 +353,12 @@ module _ {K V H : Type 0} (laws : Laws K V H) (o : IsTotalOrder laws.cmp) (eqv :
         twice : (found : Found K V) → HasTaken laws n encoding values local before.asked reply before.found found None → HaveTwins laws.cmp found.rows → ⊥
         twice found taken twins =
             let (k, many) = twins_twice found.rows twins.0.0 twins in
-            absurd (omega (arith, many, (stay digest_of before.asked question before.rounds reply before.found found None s same is taken).steady.once k))
+            absurd (omega (arith, many, (stay digest_of before.asked question before.rounds before.left reply before.found found None s same is taken).steady.once k))
 
-        by : (e : SessionError) → IsStopped laws n encoding values is_key is_value local before reply e → e ≡ Memory
-        by Memory stopped = refl
-        by TooManyRounds (many, found, taken, some) = absurd (no_more_rounds before.rounds found.below many some (stay digest_of before.asked question before.rounds reply before.found found None s same is taken).steady.below)
+        by : (e : SessionError) → IsStopped laws n encoding values is_key is_value local before reply e → IsMemoryOrLimit e
+        by Memory stopped = tt
+        by (Limit limit) stopped = tt
+        by TooManyRounds (many, found, taken, some) = absurd (no_more_rounds before.rounds found.below many some (stay digest_of before.asked question before.rounds before.left reply before.found found None s same is taken).steady.below)
         by Twice (found, taken, done, twins) = absurd (twice found taken twins)
         by (Malformed e) stopped = absurd (stopped fit)
         by OtherKind stopped = absurd (stopped fit)

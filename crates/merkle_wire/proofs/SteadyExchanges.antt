@@ -23,7 +23,7 @@ use Rattle.merkle_wire.specs.Next.{IsNext, IsStopped}
 use Rattle.merkle_wire.specs.Questions.{question_bytes}
 use Rattle.merkle_wire.specs.Replies.{IsReply}
 use Rattle.merkle_wire.specs.Sessions.{Covers, CoversNext}
-use Rattle.merkle_wire.specs.Steady.{AsksForPages, CanBeTold, GoesDown, HasKeysNext, HasKeysOfSides, IsFilled, IsSteady, KeepsKeys, LeavesLess, StaysSteady, SteadyNext, WhileSteady, times_asked, times_found}
+use Rattle.merkle_wire.specs.Steady.{AsksForPages, CanBeTold, GoesDown, HasKeysNext, HasKeysOfSides, IsFilled, IsMemoryOrLimit, IsSteady, KeepsKeys, LeavesLess, StaysSteady, SteadyNext, WhileSteady, times_asked, times_found}
 use Rattle.merkle_wire.specs.Underway.{Underway}
 use Rattle.merkle_wire.specs.declared.answering.AnswerError.{AnswerError}
 use Rattle.merkle_wire.specs.declared.answering.AnswerError.TheVariants as answer
@@ -55,7 +55,7 @@ pub record Comes {K V H : Type 0} (laws : Laws K V H) (n : ℕ) (encoding : K �
   pub less : (next : Next K V) → IsNext laws n encoding values local before reply next → GoesDown laws n peer before next
   pub keys : (next : Next K V) → IsNext laws n encoding values local before reply next → HasKeysOfSides laws local peer before → KeepsKeys laws n peer local next
   pub stops : (is_key : K → Type 0) (is_value : V → Type 0) (error : SessionError) → IsStopped laws n encoding values is_key is_value local before reply error
-      → WhileSteady laws n peer (λ root. CanBeTold laws is_key is_value peer → error ≡ Memory) before
+      → WhileSteady laws n peer (λ root. CanBeTold laws is_key is_value peer → IsMemoryOrLimit error) before
 
 module _ {K V H : Type 0} (laws : Laws K V H) (o : IsTotalOrder laws.cmp) (eqv : IsEquivalence laws.eq) (respects : (h : H) (a b : V) → laws.eq a b ≡ true → laws.value_digest h a ≡ laws.value_digest h b)
     (one_tree : (hasher : H) (base : ℕ) (a b : List (K × List ℕ)) (t u : Tree K (List ℕ)) → SameMap laws.cmp (λ d e. d ≡ e) a b → IsTreeOf laws.cmp (laws.key_digest hasher) base t a → IsTreeOf laws.cmp (laws.key_digest hasher) base u b → SamePages laws.cmp t u)
@@ -82,7 +82,7 @@ module _ {K V H : Type 0} (laws : Laws K V H) (o : IsTotalOrder laws.cmp) (eqv :
     stays_steady : (next : Next K V) → IsNext laws n encoding values local before reply next → WhileSteady laws n (side met) (λ root. SteadyNext laws (side met) root next) before
     stays_steady next (found, again, taken, goes) root of_peer small steady =
         let here = subst (λ s. IsSteady laws s root before) (sym same) steady in
-        let t = stay laws o eqv encoding values tell n local peer root (sides root of_peer small) (lengths small) digest_of before.asked question before.rounds reply before.found found again here alike replies taken in
+        let t = stay laws o eqv encoding values tell n local peer root (sides root of_peer small) (lengths small) digest_of before.asked question before.rounds before.left reply before.found found again here alike replies taken in
         subst (λ s. SteadyNext laws s root next) same (next_steady laws (side peer) root encoding again before.rounds found next t.fit t.steady goes)
 
     -- it leaves less to ask for
@@ -98,9 +98,9 @@ module _ {K V H : Type 0} (laws : Laws K V H) (o : IsTotalOrder laws.cmp) (eqv :
         subst (λ s. HasKeysNext laws local s next) same
         (next_keys laws o eqv encoding values tell n local peer peer.tree.root (sides peer.tree.root of_met small) (lengths small) digest_of before question reply next (subst (λ s. HasKeysOfSides laws local s before) (sym same) keys) alike replies comes)
 
-    -- and the reply is refused for want of memory alone
+    -- and the reply is not taken for want of memory or for a limit alone
     stops_for_memory : (is_key : K → Type 0) (is_value : V → Type 0) (error : SessionError) → IsStopped laws n encoding values is_key is_value local before reply error
-        → WhileSteady laws n (side met) (λ root. CanBeTold laws is_key is_value (side met) → error ≡ Memory) before
+        → WhileSteady laws n (side met) (λ root. CanBeTold laws is_key is_value (side met) → IsMemoryOrLimit error) before
     stops_for_memory is_key is_value error stopped root of_peer small steady told =
         memory_alone laws o eqv encoding values tell n local peer root (sides root of_peer small) (lengths small) is_key is_value (subst (CanBeTold laws is_key is_value) (sym same) told) digest_of before question reply error
         (subst (λ s. IsSteady laws s root before) (sym same) steady) alike replies stopped

@@ -15,7 +15,7 @@ use Rattle.merkle_tree_theory.specs.declared.page_format.PageFormat.{PageFormat}
 use Rattle.merkle_wire.specs.Cost.{keys_taken, keys_told, lacked_of_tree, nodes_taken, nodes_told, pages_taken, pages_told, told_in}
 use Rattle.merkle_wire.specs.Next.{IsNext, IsStopped}
 use Rattle.merkle_wire.specs.Sessions.{IsAnswer, IsExchange}
-use Rattle.merkle_wire.specs.Steady.{AreExchangesTo, CanBeTold, IsBegun, IsSteady, LeavesLess, SteadyNext, left_by, left_for, left_of, total}
+use Rattle.merkle_wire.specs.Steady.{AreExchangesTo, CanBeTold, IsBegun, IsMemoryOrLimit, IsSteady, LeavesLess, SteadyNext, left_by, left_for, left_of, total}
 use Rattle.merkle_wire.specs.Taking.{new_keys}
 use Rattle.merkle_wire.specs.Underway.{Underway}
 use Rattle.merkle_wire.specs.declared.catching_up.Next.{Next}
@@ -50,7 +50,7 @@ module _ {K V H : Type 0} (laws : Laws K V H) (o : IsTotalOrder laws.cmp) (eqv :
     answered_steady : (next : Next K V) → IsNext laws n encoding values local before reply next → SteadyNext laws peer root next
     answered_steady next takes = came.steady next takes root of_peer small steady
 
-    answered_for_memory : (is_key : K → Type 0) (is_value : V → Type 0) → CanBeTold laws is_key is_value peer → (error : SessionError) → IsStopped laws n encoding values is_key is_value local before reply error → error ≡ Memory
+    answered_for_memory : (is_key : K → Type 0) (is_value : V → Type 0) → CanBeTold laws is_key is_value peer → (error : SessionError) → IsStopped laws n encoding values is_key is_value local before reply error → IsMemoryOrLimit error
     answered_for_memory is_key is_value told error stopped = came.stops is_key is_value error stopped root of_peer small steady told
 
     answered_less : (next : Next K V) → IsNext laws n encoding values local before reply next → LeavesLess laws peer root before next
@@ -105,7 +105,7 @@ module _ {K V H : Type 0} (laws : Laws K V H) (o : IsTotalOrder laws.cmp) (eqv :
 
   module _ (is_key : K → Type 0) (is_value : V → Type 0) (told : CanBeTold laws is_key is_value peer) where
     pub answers_taken : (begun last : Underway K V) (more : List (Underway K V)) → IsBegun begun → AreExchangesTo laws n encoding values local peer begun more last
-        → (reply : List ℕ) (error : SessionError) → IsAnswer laws n encoding values local peer last reply → IsStopped laws n encoding values is_key is_value local last reply error → error ≡ Memory
+        → (reply : List ℕ) (error : SessionError) → IsAnswer laws n encoding values local peer last reply → IsStopped laws n encoding values is_key is_value local last reply error → IsMemoryOrLimit error
     answers_taken begun last more b exchanges reply error answer stopped =
         let root = answer.tree.root in
         let steady = chain_steady root answer.of_peer begun last more exchanges (begun_steady laws peer root begun b.settings b.asks_root b.nothing_found b.no_round) in

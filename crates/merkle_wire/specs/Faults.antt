@@ -4,6 +4,7 @@ use Rattle.std.specs.Fmt.{decimal}
 use Rattle.merkle_bytes.specs.Texts.{read_error_text}
 use Rattle.merkle_bytes.specs.declared.error.ReadError.{ReadError}
 use Rattle.merkle_bytes.specs.declared.error.ReadError.TheVariants as read
+use Rattle.merkle_wire.specs.Limits.{limit_text}
 use Rattle.merkle_wire.specs.declared.answering.AnswerError.{AnswerError}
 use Rattle.merkle_wire.specs.declared.answering.AnswerError.TheVariants as answer
 use Rattle.merkle_wire.specs.declared.answering.KeptError.{KeptError}
@@ -53,6 +54,7 @@ IsRefusedFor reason session.NotInGap = reason
 IsRefusedFor reason session.NoNode = reason
 IsRefusedFor reason session.TooManyRounds = ⊥
 IsRefusedFor reason session.Twice = ⊥
+IsRefusedFor reason (session.Limit limit) = ⊥
 
 -- why a message has no reply
 abbrev pub answer_error_text : AnswerError → List ℕ
@@ -71,6 +73,7 @@ session_error_text session.NotInGap = codes "the peer sent keys that don't ascen
 session_error_text session.NoNode = codes "the peer sent a page without a node"
 session_error_text session.TooManyRounds = codes "the peer's tree has no end"
 session_error_text session.Twice = codes "the peer sent a row twice"
+session_error_text (session.Limit limit) = codes "the peer sent more " ++ limit_text limit ++ codes " than the limit allows"
 
 -- why a catch-up through messages ended early
 abbrev pub messages_error_text : MessagesError → List ℕ

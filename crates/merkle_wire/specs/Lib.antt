@@ -12,6 +12,7 @@ pub mod Fit
 pub mod Unfit
 pub mod Taking
 pub mod Asking
+pub mod Limits
 pub mod Underway
 pub mod Next
 pub mod Sessions

@@ -1,5 +1,5 @@
 -- What comes after a reply.
-use Rattle.std.specs.Prelude.{◌≡◌, ◌≢◌, ℕ, ◌+◌, ◌≤◌, [], ◌∷◌, ◌++◌, List, Option, Some, None, ⊤}
+use Rattle.std.specs.Prelude.{◌≡◌, ◌≢◌, ℕ, ◌+◌, ◌≤◌, [], ◌∷◌, ◌++◌, List, length, Option, Some, None, ⊤}
 use Rattle.std.specs.List.{AllByRecursion}
 use Rattle.std.specs.List.Sorted.{IsPermutation}
 use Rattle.std.specs.declared.cmp.Ordering.{Ordering}
@@ -11,14 +11,17 @@ use Rattle.merkle_wire.specs.Asking.{IsAskedOf, IsDone}
 use Rattle.merkle_wire.specs.Coming.{IsAskedFor}
 use Rattle.merkle_wire.specs.Fit.{IsFit}
 use Rattle.merkle_wire.specs.Found.{Found}
+use Rattle.merkle_wire.specs.Limits.{Allows, IsAbove, IsLeftAfter, IsOverLimit, no_limits}
 use Rattle.merkle_wire.specs.Questions.{question_bytes}
 use Rattle.merkle_wire.specs.Underway.{Underway, HasTaken}
 use Rattle.merkle_wire.specs.declared.catching_up.Next.{Next}
 use Rattle.merkle_wire.specs.declared.catching_up.Next.TheVariants.{Ask, Came}
+use Rattle.merkle_wire.specs.declared.limits.Limit.TheVariants as limit
+use Rattle.merkle_wire.specs.declared.limits.Limits.{Limits}
 use Rattle.merkle_wire.specs.declared.question.Question.{Question}
 use Rattle.merkle_wire.specs.declared.question.Question.TheVariants.{Root, Outlines, Nodes, RowsAt, RowsIn}
 use Rattle.merkle_wire.specs.declared.session_error.SessionError.{SessionError}
-use Rattle.merkle_wire.specs.declared.session_error.SessionError.TheVariants.{Memory, TooManyRounds, Twice}
+use Rattle.merkle_wire.specs.declared.session_error.SessionError.TheVariants.{Limit, Memory, TooManyRounds, Twice}
 
 -- how many rounds of outlines there are with a question
 abbrev pub rounds_with : {K : Type 0} → ℕ → Question K → ℕ
@@ -61,7 +64,8 @@ module _ {K V : Type 0} (encoding : K → List ℕ) where
   -- the question is asked, with what was found besides, in so many rounds
   abbrev pub IsAsked : Question K → Found K V → ℕ → Next K V → Type 0
   IsAsked question found rounds (Ask session message) =
-      (message.items ≡ question_bytes encoding question) × (session ≡ record { asked = question; found = found; rounds = rounds })
+      (message.items ≡ question_bytes encoding question)
+      × (session ≡ record { asked = question; found = found; rounds = rounds; left = session.left })
   IsAsked question found rounds (Came rows) = ⊥
 
 module _ {K V : Type 0} (cmp : K → K → Ordering) (encoding : K → List ℕ) where
@@ -87,15 +91,32 @@ module _ {K V H : Type 0} (laws : Laws K V H) (n : ℕ) (encoding : K → List �
   abbrev pub Takes : Contents K V H → Underway K V → List ℕ → Next K V → Type 0
   Takes replica before reply next = IsNext (side replica) before reply next
 
-  -- it is not taken, where bytes of keys and values are those of which these hold: memory was refused, or it is no reply to what was asked; else
-  -- it could be taken, but the catch-up doesn't go on
+  -- it is not taken, where bytes of keys and values are those of which these hold: memory was refused, it is no reply to what was asked, or it goes
+  -- over a limit; else it could be taken, but the catch-up doesn't go on
   abbrev pub IsStopped : (K → Type 0) → (V → Type 0) → Side K V H → Underway K V → List ℕ → SessionError → Type 0
   IsStopped is_key is_value local before reply Memory = ⊤
   IsStopped is_key is_value local before reply TooManyRounds = (before.rounds ≡ 256) × (found : Found K V)
       × HasTaken laws n encoding values local before.asked reply before.found found None × (found.below ≢ [])
   IsStopped is_key is_value local before reply Twice = (found : Found K V) × HasTaken laws n encoding values local before.asked reply before.found found None
       × IsDone found × HaveTwins laws.cmp found.rows
+  IsStopped is_key is_value local before reply (Limit limit.Rows) = (found : Found K V) × (again : Option (Question K))
+      × HasTaken laws n encoding values local before.asked reply before.found found again × IsAbove (length found.rows) before.left.rows
+  IsStopped is_key is_value local before reply (Limit limit) = IsOverLimit (length reply) before.left (Limit limit)
   IsStopped is_key is_value local before reply _ = ¬ IsFit laws.cmp is_key is_value encoding values n before.asked reply
+
+-- this is left of the limits, and they allow the rows that were found
+abbrev pub HasLeft : {K V : Type 0} → Limits → Next K V → Type 0
+HasLeft left (Ask session message) = (session.left ≡ left) × Allows left.rows (length session.found.rows)
+HasLeft left (Came rows) = Allows left.rows (length rows.items)
+
+-- a reply of so many bytes is taken off the limits, and the rows that were found are within them
+abbrev pub StaysWithin : {K V : Type 0} → Underway K V → ℕ → Next K V → Type 0
+StaysWithin before reply next = (left : Limits) × IsLeftAfter reply before.left left × HasLeft left next
+
+-- a catch-up that asks on has no limits
+abbrev pub IsUnlimited : {K V : Type 0} → Next K V → Type 0
+IsUnlimited (Ask session message) = session.left ≡ no_limits
+IsUnlimited (Came rows) = ⊤
 
 module _ {K V : Type 0} (cmp : K → K → Ordering) where
   -- the rows that are found besides those that were found before are at keys that were asked for

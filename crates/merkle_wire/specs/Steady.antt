@@ -128,6 +128,12 @@ module _ {K V H : Type 0} (laws : Laws K V H) (peer : Side K V H) (root : Tree K
   LeavesLess before (Ask session message) = left_for session < left_for before
   LeavesLess before (Came rows) = ⊤
 
+-- memory was refused, or a limit was reached
+abbrev pub IsMemoryOrLimit : SessionError → Type 0
+IsMemoryOrLimit session.Memory = ⊤
+IsMemoryOrLimit (session.Limit limit) = ⊤
+IsMemoryOrLimit _ = ⊥
+
 -- of the keys among what was found, the bounds of gaps and the keys that are wanted, this holds
 pub record AreKeysOf {K V : Type 0} (is_key : K → Type 0) (f : Found K V) : Type 0 where
   pub below : AllByRecursion (HasKeyBounds is_key) f.below
@@ -154,7 +160,7 @@ module _ {K V H : Type 0} (laws : Laws K V H) (local peer : Side K V H) where
   HasKeysNext (Ask session message) = HasKeysOfSides session
   HasKeysNext (Came rows) = ⊤
 
-  -- between sides that are set alike and whose rows can be told, a message has no reply, and a reply is refused, for want of memory alone
+  -- between sides that are set alike and whose rows can be told, a message has no reply, and a reply isn't taken, for want of memory alone
   module _ (is_key : K → Type 0) (is_value : V → Type 0) where
     abbrev pub IsForMemory : MessagesError → Type 0
     IsForMemory (Answer error) = AreSetAlike laws local peer → CanBeTold laws is_key is_value local → CanBeTold laws is_key is_value peer → error ≡ answer.Memory
@@ -207,9 +213,9 @@ module _ {K V H : Type 0} (laws : Laws K V H) (n : ℕ) (encoding : K → List �
   SessionsEnd = (local peer : Side K V H) → IsMap laws.cmp local.rows → IsMap laws.cmp peer.rows → HasSmallMap laws n peer
       → (begun last : Underway K V) (more : List (Underway K V)) → IsBegun begun → AreExchangesTo local peer begun more last → length more ≤ 3 * length peer.rows + 2
 
-  -- and an answer of a peer whose rows can be told is refused then for want of memory alone
+  -- and an answer of a peer whose rows can be told is not taken then for want of memory or for a limit alone
   abbrev pub AnswersAreTaken : (K → Type 0) → (V → Type 0) → Type 0
   AnswersAreTaken is_key is_value = (local peer : Side K V H) → IsMap laws.cmp local.rows → IsMap laws.cmp peer.rows → HasSmallMap laws n peer → CanBeTold laws is_key is_value peer
       → (begun last : Underway K V) (more : List (Underway K V)) → IsBegun begun → AreExchangesTo local peer begun more last
       → (reply : List ℕ) (error : SessionError) → IsAnswer laws n encoding values local peer last reply
-      → IsStopped laws n encoding values is_key is_value local last reply error → error ≡ session.Memory
+      → IsStopped laws n encoding values is_key is_value local last reply error → IsMemoryOrLimit error

@@ -15,15 +15,17 @@ use Rattle.merkle_wire.specs.Replies.{Part, outlines_bytes, parts_bytes, values_
 use Rattle.merkle_wire.specs.Taking.{IsRootTaken, AddsRows, AreTaken, AreBehind, value_row}
 use Rattle.merkle_wire.specs.declared.gaps.OwnedGap.{OwnedGap}
 use Rattle.merkle_wire.specs.declared.message.Kind.TheVariants.{Root as root_kind, Outlines as outlines_kind, Nodes as nodes_kind, RowsAt as rows_at_kind, RowsIn as rows_in_kind}
+use Rattle.merkle_wire.specs.declared.limits.Limits.{Limits}
 use Rattle.merkle_wire.specs.declared.question.Question.{Question}
 use Rattle.merkle_wire.specs.declared.question.Question.TheVariants.{Root, Outlines, Nodes, RowsAt, RowsIn}
 use Rattle.merkle_wire.specs.declared.wanted.Wanted.{Wanted}
 
--- what was asked, what has been found, and how many rounds of outlines were asked for
+-- what was asked, what has been found, how many rounds of outlines were asked for, and what is left of the limits
 pub record Underway (K V : Type 0) : Type 0 where
   pub asked : Question K
   pub found : Found K V
   pub rounds : ℕ
+  pub left : Limits
 
 -- the question asks for what is left, where anything is
 abbrev pub AsksAgain : {K X : Type 0} → (Vec X → Question K) → List X → Option (Question K) → Type 0

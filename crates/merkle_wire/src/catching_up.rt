@@ -1,5 +1,5 @@
 //! The asking side: what to ask next, and the rows that came in the end.
-ghost use Rattle.std.specs.Prelude.{◌≡◌, ◌≤◌, IsSome, IfOk, IfErr, OnOk};
+ghost use Rattle.std.specs.Prelude.{◌≡◌, ◌≤◌, IsSome, IfOk, IfErr, OnOk, length};
 ghost use Rattle.merkle_replica.specs.Contents.{side};
 ghost use Rattle.merkle_tree_theory.specs.State.{SameSettings, map_of};
 ghost use Rattle.merkle_wire.specs.Asking.{AsksForOutlines};
@@ -7,7 +7,8 @@ ghost use Rattle.merkle_wire.specs.Faults.{IsRefusedFor};
 ghost use Rattle.merkle_wire.specs.Fit.{SaysRoot};
 ghost use Rattle.merkle_wire.specs.Found.{nothing};
 ghost use Rattle.merkle_wire.specs.ItsRows.{ForItsRows};
-ghost use Rattle.merkle_wire.specs.Next.{AsksFew, GoesOn, IsAsked, IsCame, IsEnded, IsNext, IsStopped, IsTwice, OnlyAskedFor, Takes, rounds_with};
+ghost use Rattle.merkle_wire.specs.Limits.{Allows};
+ghost use Rattle.merkle_wire.specs.Next.{AsksFew, GoesOn, HasLeft, IsAsked, IsCame, IsEnded, IsNext, IsStopped, IsTwice, OnlyAskedFor, StaysWithin, Takes, rounds_with};
 ghost use Rattle.merkle_wire.specs.Questions.{AsksForOwnRoot, AsksForRoot, IsQuestion, question_bytes};
 ghost use Rattle.merkle_wire.specs.Replies.{root_reply_bytes};
 ghost use Rattle.merkle_wire.specs.Steady.{IsKeyOf};
@@ -18,6 +19,7 @@ ghost use Rattle.merkle_wire.specs.declared.message.Kind.TheVariants.{Root as ro
 ghost use Rattle.merkle_wire.specs.declared.session_error.SessionError.TheVariants.{Memory, TooManyRounds};
 
 use crate::gaps::OwnedGap;
+use crate::limits::Limits;
 use crate::message::Kind;
 use crate::pages::decode_page;
 use crate::question::{Question, encode_question};
@@ -43,7 +45,7 @@ const FEWEST: u64 = 4;
 
 /// A catch-up that is under way: it waits for a reply.
 ///
-/// A contract sees what was asked, what has been found, and how many rounds of outlines were asked for.
+/// A contract sees what was asked, what has been found, how many rounds of outlines were asked for, and what is left of the limits.
 ///
 /// ```rust crates/merkle_wire/src/session.rt
 /// 'exchanges: loop {
@@ -61,6 +63,7 @@ pub struct CatchingUp<K, V> {
     asked: Question<K>,
     work: Work<K, V>,
     rounds: u32,
+    left: Limits,
 }
 
 // Written out, so that a caller doesn't prove again how each part is dropped.
@@ -71,6 +74,7 @@ impl<K: Drop, V: Drop> Drop for CatchingUp<K, V> {
             asked: _,
             work: _,
             rounds: _,
+            left: _,
         } = self;
     }
 }
@@ -81,7 +85,7 @@ impl<K, V> Model for CatchingUp<K, V> {
 
     ghost Value = { Underway K V };
 
-    ghost view = { λ s. record { asked = s.asked; found = s.work; rounds = s.rounds } };
+    ghost view = { λ s. record { asked = s.asked; found = s.work; rounds = s.rounds; left = s.left } };
 
     ghost invariant = { λ s. s.rounds ≤ 256 };
 }
@@ -96,7 +100,7 @@ pub enum Next<K, V> {
 }
 
 impl<K: Key + Decode, V: Join + Decode> CatchingUp<K, V> {
-    /// A catch-up of a replica that begins, and the first message, which tells the replica's settings.
+    /// A catch-up of a replica that begins, with the default limits, and the first message, which tells the replica's settings.
     ///
     /// # Errors
     ///
@@ -133,6 +137,20 @@ impl<K: Key + Decode, V: Join + Decode> CatchingUp<K, V> {
         begin(alloc, settings_of_tree(alloc, tree)?)
     }
 
+    /// The same catch-up, which takes no more of its peer from here on than the limits allow.
+    ///
+    /// ```rust crates/wire_tests/src/limits.rt
+    /// let (session, message) = CatchingUp::begin(alloc, local)?;
+    /// let session = session.within(limits);
+    /// ```
+    pub fn within(self, limits: Limits) -> Self
+        ensures { result ≡ record self { left = limits } }
+    {
+        let mut session = self;
+        session.left = limits;
+        session
+    }
+
     /// How many rounds of outlines were asked for: 256 at most.
     pub fn rounds(&self) -> u32
         ensures rounds { result ≡ self.now.rounds }
@@ -161,11 +179,14 @@ impl<K: Key + Decode, V: Join + Decode> CatchingUp<K, V> {
         ensures next { IfOk result (Takes H.laws N K.encoding V.encoding replica.old self reply.now) }
         ensures few { IfOk result AsksFew }
 
+        // Whatever the peer sends, each reply is taken off the limits, so a session ends after as many as they allow.
+        ensures limits { IfOk result (StaysWithin self (length reply.now)) }
+
         // What is added to the rows that were found lies in the gaps, or at the keys, that were asked for.
         ensures asked_for { IfOk result (OnlyAskedFor K.cmp self) }
 
-        // A reply to what was asked is taken, but for want of memory, or where the catch-up doesn't go on behind it: where outlines are to be asked
-        // for after 256 rounds of them, or two of the rows that were found have equal keys.
+        // A reply to what was asked is taken, unless memory or a limit doesn't allow it, or the catch-up can't go on after it: outlines
+        // are to be asked for after 256 rounds of them, or two of the rows that were found have equal keys.
         ensures ended { IfErr result (IsStopped H.laws N K.encoding V.encoding K.is_value V.is_value
             (side replica.old) self reply.now) }
 
@@ -192,6 +213,7 @@ impl<K: Key + Decode, V: Join + Decode> CatchingUp<K, V> {
         // Whatever rows the tree has the digests of, it is what a replica with them makes of the reply.
         ensures next { IfOk result (λ next. ForItsRows H.laws tree.old (λ local. IsNext H.laws N K.encoding V.encoding local self reply.now next)) }
         ensures few { IfOk result AsksFew }
+        ensures limits { IfOk result (StaysWithin self (length reply.now)) }
         ensures asked_for { IfOk result (λ next. ForItsRows H.laws tree.old (λ local. OnlyAskedFor K.cmp self next)) }
         ensures ended { IfErr result (λ error. ForItsRows H.laws tree.old (λ local. IsStopped H.laws N K.encoding V.encoding K.is_value V.is_value
             local self reply.now error)) }
@@ -212,6 +234,7 @@ impl<K: Key + Decode, V: Join + Decode> CatchingUp<K, V> {
         requires { IsSome tree.now.root_hash }
         ensures next { IfOk result (λ next. ForItsRows H.laws tree.now (λ local. IsNext H.laws N K.encoding V.encoding local self reply.now next)) }
         ensures few { IfOk result AsksFew }
+        ensures limits { IfOk result (StaysWithin self (length reply.now)) }
         ensures asked_for { IfOk result (λ next. ForItsRows H.laws tree.now (λ local. OnlyAskedFor K.cmp self next)) }
         ensures ended { IfErr result (λ error. ForItsRows H.laws tree.now (λ local. IsStopped H.laws N K.encoding V.encoding K.is_value V.is_value
             local self reply.now error)) }
@@ -221,11 +244,15 @@ impl<K: Key + Decode, V: Join + Decode> CatchingUp<K, V> {
             asked,
             work,
             rounds,
+            left,
         } = self;
+        let left = left.after(reply.len())?;
         let mut work = work;
-        match take_reply(alloc, tree, count, asked, reply, &mut work)? {
-            Some(question) => ask(alloc, question, work, rounds),
-            None => go_on(alloc, work, rounds, N),
+        let again = take_reply(alloc, tree, count, asked, reply, &mut work)?;
+        left.check_rows(work.row_count())?;
+        match again {
+            Some(question) => ask(alloc, question, work, rounds, left),
+            None => go_on(alloc, work, rounds, left, N),
         }
     }
 }
@@ -246,6 +273,7 @@ fn begin<K: Key + Decode, V: Join + Decode>(
         asked,
         work: Work::new(alloc),
         rounds: 0,
+        left: Limits::default(),
     };
     Ok((session, message))
 }
@@ -350,11 +378,14 @@ fn go_on<K: Key + Decode, V: Join + Decode>(
     alloc: Global,
     work: Work<K, V>,
     rounds: u32,
+    left: Limits,
     digest_bytes: usize,
 ) -> Result<Next<K, V>, SessionError>
-    requires { rounds ≤ 256 }
+    requires few { rounds ≤ 256 }
+    requires limits { Allows left.rows (length work.rows) }
     ensures goes_on { IfOk result (GoesOn K.cmp K.encoding rounds work) }
     ensures few { IfOk result AsksFew }
+    ensures limits { IfOk result (HasLeft left) }
     ensures ended { IfErr result (IsEnded K.cmp rounds work) }
 {
     let mut work = work;
@@ -362,7 +393,7 @@ fn go_on<K: Key + Decode, V: Join + Decode>(
         None => came(work.into_rows()),
         Some(question) => {
             let rounds = rounds_with(rounds, &question)?;
-            ask(alloc, question, work, rounds)
+            ask(alloc, question, work, rounds, left)
         }
     }
 }
@@ -391,10 +422,13 @@ fn ask<K: Key + Decode, V: Join + Decode>(
     question: Question<K>,
     work: Work<K, V>,
     rounds: u32,
+    left: Limits,
 ) -> Result<Next<K, V>, SessionError>
-    requires { rounds ≤ 256 }
+    requires few { rounds ≤ 256 }
+    requires limits { Allows left.rows (length work.rows) }
     ensures asked { IfOk result (IsAsked K.encoding question work rounds) }
     ensures few { IfOk result AsksFew }
+    ensures limits { IfOk result (HasLeft left) }
     ensures memory { IfErr result (λ error. error ≡ Memory) }
 {
     let message = encode_question(alloc, &question)?;
@@ -403,6 +437,7 @@ fn ask<K: Key + Decode, V: Join + Decode>(
         asked: question,
         work,
         rounds,
+        left,
     };
     Ok(Next::Ask(session, message))
 }

@@ -6,6 +6,7 @@ mod catching_up;
 mod gaps;
 mod kept_rows;
 pub mod laws;
+mod limits;
 mod message;
 mod nodes;
 mod outlines;
@@ -27,6 +28,7 @@ pub use answering::{AnswerError, KeptError, MOST_BYTES, answer, answer_by, answe
 pub use catching_up::{CatchingUp, Next};
 pub use gaps::OwnedGap;
 pub use kept_rows::KeptRows;
+pub use limits::{Limit, Limits};
 pub use merkle_bytes as bytes;
 pub use message::{Kind, refusal};
 pub use question::{Question, decode_question};

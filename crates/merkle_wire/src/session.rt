@@ -3,20 +3,24 @@ ghost use Rattle.std.specs.Prelude.{◌≡◌, IfOk, IfErr, OnOk, Some};
 ghost use Rattle.merkle_replica.specs.Contents.{side};
 ghost use Rattle.merkle_tree_theory.specs.State.{SameSettings};
 ghost use Rattle.merkle_wire.specs.Faults.{both_messages_error_text, messages_error_text};
-ghost use Rattle.merkle_wire.specs.Questions.{question_bytes};
+ghost use Rattle.merkle_wire.specs.Found.{nothing};
+ghost use Rattle.merkle_wire.specs.Limits.{no_limits};
+ghost use Rattle.merkle_wire.specs.Next.{IsUnlimited};
+ghost use Rattle.merkle_wire.specs.Questions.{AsksForOwnRoot, IsQuestion, question_bytes};
 ghost use Rattle.merkle_wire.specs.Sessions.{AreBothRefused, BringsRows, CatchesUpWhileFaithful, EndsEarly, GoesOnCovering, HaveJoined};
 ghost use Rattle.merkle_wire.specs.Sessions.{HoldTheJoinWhileFaithful, IsEarly, JoinsNewRows, JoinsWhileFaithful, TellsOwn, TellsOwnNext};
-ghost use Rattle.merkle_wire.specs.Steady.{EndsForMemory, GoesDown, HasKeysOfSides, KeepsKeys, LacksMemory, StaysSteady};
+ghost use Rattle.merkle_wire.specs.Steady.{EndsForMemory, GoesDown, HasKeysOfSides, IsKeyOf, KeepsKeys, LacksMemory, StaysSteady};
 
 use crate::answering::{AnswerError, answer};
 use crate::catching_up::{CatchingUp, Next};
+use crate::limits::Limits;
 use crate::session_error::SessionError;
 use merkle_bytes::Decode;
-use merkle_digest::Key;
+use merkle_digest::{Hasher, Key};
 use merkle_replica::laws::a_replica_in_memory_is_small;
 use merkle_replica::{Join, JoinRefused, Replica, RowHasher};
 use merkle_search_tree::laws::{a_map_has_one_tree, every_tree_is_sound};
-use std::alloc::Global;
+use std::alloc::{AllocError, Global};
 use std::fmt;
 
 /// Why a catch-up through messages ended early.
@@ -163,7 +167,7 @@ fn rows_by_messages<K: Key + Decode, V: Join + Decode, H: RowHasher<N, K, V>, co
     ensures peer_rows { peer.new.rows ≡ peer.old.rows }
     ensures peer_settings { SameSettings peer.old.tree peer.new.tree }
 {
-    let Ok((mut session, mut message)) = CatchingUp::begin(alloc, replica) else {
+    let Ok((mut session, mut message)) = begin_without_limits(alloc, replica) else {
         return Err(MessagesError::Session(SessionError::Memory));
     };
     every_tree_is_sound(peer.tree());
@@ -179,6 +183,21 @@ fn rows_by_messages<K: Key + Decode, V: Join + Decode, H: RowHasher<N, K, V>, co
     }
 }
 
+/// A catch-up that begins, without limits, and the first message.
+fn begin_without_limits<K: Key + Decode, V: Join + Decode, H: RowHasher<N, K, V>, const N: usize>(
+    alloc: Global,
+    replica: &Replica<K, V, H, N>,
+) -> Result<(CatchingUp<K, V>, Vec<u8>), AllocError>
+    ensures settings { IfOk result (λ begun. AsksForOwnRoot ⟦<H as Hasher<N, K>>⟧.digest_of N replica.now begun.0.asked) }
+    ensures asks { IfOk result (λ begun. begun.1.items ≡ question_bytes K.encoding begun.0.asked) }
+    ensures keys { IfOk result (λ begun. IsQuestion (IsKeyOf K.cmp replica.now.rows) begun.0.asked) }
+    ensures nothing { IfOk result (λ begun. (begun.0.found ≡ nothing) × (begun.0.rounds ≡ 0)) }
+    ensures limits { IfOk result (λ begun. begun.0.left ≡ no_limits) }
+{
+    let (session, message) = CatchingUp::begin(alloc, replica)?;
+    Ok((session.within(Limits::none()), message))
+}
+
 /// One exchange of messages: the peer's reply is taken. What comes next covers what the catch-up covered, by any tree of the peer's map.
 fn exchange<K: Key + Decode, V: Join + Decode, H: RowHasher<N, K, V>, const N: usize>(
     alloc: Global,
@@ -190,6 +209,8 @@ fn exchange<K: Key + Decode, V: Join + Decode, H: RowHasher<N, K, V>, const N: u
     requires asks { message.items ≡ question_bytes K.encoding session.asked }
     requires own { TellsOwn H.laws N (side replica.now) session.asked }
     requires keys { HasKeysOfSides H.laws (side replica.now) (side peer.now) session }
+    requires limits { session.left ≡ no_limits }
+    ensures limits { IfOk result IsUnlimited }
     ensures own { IfOk result (TellsOwnNext H.laws N (side replica.old)) }
     ensures covers { IfOk result (GoesOnCovering H.laws N K.encoding replica.old peer.old session) }
     ensures keys { IfOk result (KeepsKeys H.laws N (side peer.old) (side replica.old)) }

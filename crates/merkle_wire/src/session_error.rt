@@ -2,6 +2,7 @@
 ghost use Rattle.std.specs.Prelude.{◌≡◌, Some};
 ghost use Rattle.merkle_wire.specs.Faults.{session_error_text};
 
+use crate::limits::Limit;
 use merkle_bytes::ReadError;
 use std::alloc::{AllocError, AllocFailed};
 use std::fmt;
@@ -27,6 +28,8 @@ pub enum SessionError {
     TooManyRounds,
     /// A row came twice.
     Twice,
+    /// The peer sent more than a limit allows.
+    Limit(Limit),
 }
 
 impl From<AllocError> for SessionError {
@@ -80,6 +83,10 @@ impl fmt::Display for SessionError {
             SessionError::NoNode => f.write_str("the peer sent a page without a node"),
             SessionError::TooManyRounds => f.write_str("the peer's tree has no end"),
             SessionError::Twice => f.write_str("the peer sent a row twice"),
+            SessionError::Limit(limit) => write!(
+                f,
+                "the peer sent more {limit} than the limit allows"
+            ),
         }
     }
 }

@@ -1,5 +1,5 @@
 //! What a catch-up has found and is still to ask for.
-ghost use Rattle.std.specs.Prelude.{◌≡◌, ◌++◌, ◌∷◌, [], IfOk, OnOk};
+ghost use Rattle.std.specs.Prelude.{◌≡◌, ◌++◌, ◌∷◌, [], length, IfOk, OnOk};
 ghost use Rattle.merkle_wire.specs.Asking.{IsAskedOf};
 ghost use Rattle.merkle_wire.specs.Found.{AddsKeyUnless, AddsRowUnless};
 ghost use Rattle.merkle_wire.specs.Gaps.{owned_gap};
@@ -211,6 +211,13 @@ impl<K: Drop, V: Drop> Work<K, V> {
 }
 
 impl<K: Ord + Drop, V: Drop> Work<K, V> {
+    /// How many rows were found.
+    pub(crate) fn row_count(&self) -> usize
+        ensures { result ≡ length self.now.rows }
+    {
+        self.rows.len()
+    }
+
     /// The rows that came.
     pub(crate) fn into_rows(self) -> Vec<(K, V)>
         ensures { result.items ≡ self.rows }

@@ -1,11 +1,11 @@
 //! What errors say.
 
-use merkle_wire::{AnswerError, BothMessagesError, MessagesError, SessionError};
+use merkle_wire::{AnswerError, BothMessagesError, Limit, MessagesError, SessionError};
 use std::alloc::{AllocError, Global};
 use std::test::Fail;
 
 /// Why catch-ups by messages end early, and what that says.
-const FAULTS: [(MessagesError, &str); 4] = [
+const FAULTS: [(MessagesError, &str); 5] = [
     (
         MessagesError::Answer(AnswerError::OtherSettings),
         "a message has no reply: the asking side has other settings",
@@ -17,6 +17,10 @@ const FAULTS: [(MessagesError, &str); 4] = [
     (
         MessagesError::Session(SessionError::Twice),
         "the peer sent a row twice",
+    ),
+    (
+        MessagesError::Session(SessionError::Limit(Limit::Rows)),
+        "the peer sent more rows than the limit allows",
     ),
     (MessagesError::Join(2), "memory was refused after 2 rows"),
 ];

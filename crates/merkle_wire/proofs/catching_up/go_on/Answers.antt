@@ -1,7 +1,9 @@
-use Rattle.std.proofs.Common.{subst, sym}
+use Rattle.std.proofs.Common.{length, ap, subst, sym, ◌∙◌}
 use Rattle.std.proofs.lemmas.Result.{IfErr-weaker, IfOk-weaker, err_from_is_err_and}
-use Rattle.merkle_wire.specs.Next.{AsksFew, GoesOn, IsAsked, IsCame, IsEnded, IsTwice}
+use Rattle.merkle_wire.specs.Limits.{Allows}
+use Rattle.merkle_wire.specs.Next.{AsksFew, GoesOn, HasLeft, IsAsked, IsCame, IsEnded, IsTwice}
 use Rattle.merkle_wire.proofs.NextMessages.{asked_goes_on, came_few, came_goes_on, outlines_of_some, twice_ends}
+use Rattle.merkle_wire.proofs.WithinLimits.{asked_allowed, came_within}
 use Rattle.merkle_wire.proofs.catching_up.go_on.Goals as goal
 
 pub returns-in_ok-rounds-in-Some-clause-goes_on : goal.returns-in_ok-rounds-in-Some-clause-goes_on
@@ -32,3 +34,12 @@ returns-in-None-clause-goes_on g c =
 
 pub returns-in-None-clause-few : goal.returns-in-None-clause-few
 returns-in-None-clause-few g c = IfOk-weaker c.came.result (IsCame g.K.Ord.cmp c.into_rows.result.items) AsksFew (λ next. came_few g.K.Ord.cmp c.into_rows.result.items next) c.came.ensures.came
+
+pub ask-requires-clause-limits : goal.ask-requires-clause-limits
+ask-requires-clause-limits g c = asked_allowed c.args.left.rows c.in-Some.question c.args.work c.next_question.new.self (rw c.in-Some.is at c.in_ok-next_question.ensures) c.requires.limits
+
+pub returns-in-None-clause-limits : goal.returns-in-None-clause-limits
+returns-in-None-clause-limits g c =
+    let rows = c.into_rows.ensures ∙ ap (λ f. f.rows) (rw c.in-None.is at c.in_ok-next_question.ensures).1 in
+    IfOk-weaker c.came.result (IsCame g.K.Ord.cmp c.into_rows.result.items) (HasLeft c.args.left)
+    (λ next came. came_within g.K.Ord.cmp c.args.left c.into_rows.result.items next (subst (λ rs. Allows c.args.left.rows (length rs)) (sym rows) c.requires.limits) came) c.came.ensures.came

@@ -1,4 +1,4 @@
-use Rattle.std.proofs.Common.{sym, subst, ◌∙◌}
+use Rattle.std.proofs.Common.{length, sym, subst, ◌∙◌}
 use Rattle.merkle_digest.specs.Level.{level_of}
 use Rattle.merkle_replica.specs.Contents.{IsKept, side}
 use Rattle.merkle_replica.proofs.SideLaws.{laws_of}
@@ -7,6 +7,7 @@ use Rattle.merkle_wire.proofs.Exchanges.{tells}
 use Rattle.merkle_wire.proofs.ExchangeKeys.{asks_something}
 use Rattle.merkle_wire.proofs.SettingsTold.{next_own, own_are_not_others}
 use Rattle.merkle_wire.proofs.SteadyExchanges.{Comes, comes, unanswered_for_memory}
+use Rattle.merkle_wire.proofs.WithinLimits.{stays_unlimited, unlimited_stops}
 use Rattle.merkle_wire.proofs.session.exchange.Given.{Over}
 use Rattle.merkle_wire.proofs.session.exchange.Goals as goal
 use Rattle.merkle_wire.proofs.session.exchange.Goals.{After-take}
@@ -52,7 +53,13 @@ pub returns-in-Ok-take-clause-keys : goal.returns-in-Ok-take-clause-keys
 returns-in-Ok-take-clause-keys g c = (of_reply g (goal.at.returns-in-Ok-take-clause-keys g c).After-take).keys c.in-Ok-take.next c.in-Ok-take.ensures.next c.requires.keys
 
 pub returns-clause-memory : goal.returns-clause-memory
-returns-clause-memory g c = (of_reply g (goal.at.returns-clause-memory g c).After-take).stops g.K.Decode.is_value g.V.Decode.is_value c.in-Err-take.error c.in-Err-take.ensures.ended
+returns-clause-memory g c = λ root of_peer small steady told.
+    let ended = c.in-Err-take.ensures.ended in
+    unlimited_stops g.H.RowHasher.laws g.row.N g.K.Encode.encoding g.V.Encode.encoding g.K.Decode.is_value g.V.Decode.is_value (side c.args.replica.now) c.args.session c.deref-2.result.now c.in-Err-take.error c.requires.limits ended
+    ((of_reply g (goal.at.returns-clause-memory g c).After-take).stops g.K.Decode.is_value g.V.Decode.is_value c.in-Err-take.error ended root of_peer small steady told)
+
+pub returns-in-Ok-take-clause-limits : goal.returns-in-Ok-take-clause-limits
+returns-in-Ok-take-clause-limits g c = stays_unlimited c.args.session (length c.deref-2.result.now) c.in-Ok-take.next c.requires.limits c.in-Ok-take.ensures.limits
 
 pub returns-in-Err-clause-memory : goal.returns-in-Err-clause-memory
 returns-in-Err-clause-memory g c = λ root of_peer small steady alike own theirs.

@@ -6,6 +6,7 @@ use Rattle.merkle_replica.specs.Faithful.{HasSmallMap}
 use Rattle.merkle_replica.proofs.SideLaws.{laws_of, same_side}
 use Rattle.merkle_tree_theory.specs.Canonical.{IsCanonicalRoot}
 use Rattle.merkle_wire.specs.Sessions.{CoversNext, TellsOwn, TellsOwnNext}
+use Rattle.merkle_wire.specs.Next.{IsUnlimited}
 use Rattle.merkle_wire.specs.Steady.{HasKeysNext, HasKeysOfSides, IsForMemory, LeavesLess, SteadyNext}
 use Rattle.merkle_wire.proofs.ExchangeKeys.{begun_at_keys}
 use Rattle.merkle_wire.proofs.NextCovers.{begun_covers, covers_since}
@@ -22,6 +23,7 @@ exchanges-init g c =
       steady = begun_steady laws (side c.args.peer.now) c.args.peer.now.tree.root c.in-Ok.session settings asked c.in-Ok.ensures.nothing.0 c.in-Ok.ensures.nothing.1;
       keys = begun_at_keys laws (side c.args.replica.now) (side c.args.peer.now) c.in-Ok.session c.in-Ok.ensures.keys c.in-Ok.ensures.nothing.0;
       own = subst (TellsOwn laws g.row.N (side c.args.replica.now)) (sym asked) of_tree;
+      limits = c.in-Ok.ensures.limits;
       rows = refl;
       settings = (refl, refl, refl);
       peer_rows = refl;
@@ -51,6 +53,7 @@ exchanges-preserved g c =
       keys = subst (HasKeysNext laws (side c.args.replica.now) (side c.args.peer.now)) c.in-Ask.is keys;
       own = subst (λ s. TellsOwn laws g.row.N s c.in-Ask.next.asked) (sym (same_side c.exchanges.replica c.exchange.new.replica new.rows new.settings))
           (subst (TellsOwnNext laws g.row.N (side c.exchanges.replica)) c.in-Ask.is (rw g.met.H.RowHasher.laws_are at c.in_ok-rows.ensures.own));
+      limits = subst IsUnlimited c.in-Ask.is c.in_ok-rows.ensures.limits;
       rows = new.rows ∙ inv.rows;
       settings = (new.settings.0 ∙ inv.settings.0, new.settings.1 ∙ inv.settings.1, new.settings.2 ∙ inv.settings.2);
       peer_rows = new.peer_rows ∙ inv.peer_rows;
@@ -73,7 +76,7 @@ exchange-requires g c = rw g.met.H.RowHasher.laws_are (
     let inv = c.exchanges.invariant in
     let keys = subst (λ s. HasKeysOfSides laws s (side c.exchanges.peer) c.exchanges.session) (sym (same_side c.args.replica.now c.exchanges.replica inv.rows inv.settings))
     (subst (λ s. HasKeysOfSides laws (side c.args.replica.now) s c.exchanges.session) (sym (same_side c.args.peer.now c.exchanges.peer inv.peer_rows inv.peer_settings)) inv.keys) in
-    (search rules, (inv.asks, (inv.own, keys))))
+    (search rules, (inv.asks, (inv.own, (keys, inv.limits)))))
 
 pub returns-in_err-rows-clause-memory : goal.returns-in_err-rows-clause-memory
 returns-in_err-rows-clause-memory g c = rw g.met.H.RowHasher.laws_are (
