@@ -1,6 +1,6 @@
-// The calls of mst.h in a WebAssembly module, with what they are given put into the module's memory.
+// The calls of mst.h and mst_replica.h in a WebAssembly module, with what they are given put into the module's memory.
 
-export const STATUS = { done: 0, noMemory: 1, malformed: 2, tooShort: 3, badArgument: 4, absent: 5 };
+export const STATUS = { done: 0, noMemory: 1, malformed: 2, tooShort: 3, badArgument: 4, absent: 5, otherSettings: 6, refused: 7 };
 
 // What a call is refused with: one of the statuses, but done.
 export class Refused extends Error {
@@ -77,7 +77,7 @@ export class Library {
         }
     }
 
-    // A handle without a tree.
+    // A handle without a tree or a replica.
     newHandle() {
         const at = this.take(8);
         this.write(at, new Uint8Array(8));
@@ -106,6 +106,14 @@ export class Library {
         return this.over(new Uint8Array(size), (at) => {
             this.done(name, ...words, at);
             return this.bytesAt(at, size);
+        });
+    }
+
+    // The number of eight bytes that a call writes to its last argument.
+    number(name, ...words) {
+        return this.over(new Uint8Array(8), (at) => {
+            this.done(name, ...words, at);
+            return this.numberAt(at);
         });
     }
 

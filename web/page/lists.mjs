@@ -65,7 +65,8 @@ export function rowsOf(list) {
     return reader.entries(() => ({ key: reader.text(), value: reader.text() }));
 }
 
-// The root page of a list of pages. Each page has the pages below it in their order, whose last may be its high page.
+// The root page of a list of pages. Each page has the pages below it in their order, each with its place: how many keys of the page above it
+// are in front of it.
 export function treeOf(list) {
     const reader = new Reader(list);
     reader.take(1);
@@ -73,50 +74,39 @@ export function treeOf(list) {
 }
 
 // The page that follows in the list, with all below it.
-function pageOf(reader) {
-    const page = { level: reader.byte(), digest: reader.byte() === 1 ? reader.digest() : null, keys: [], below: [] };
+function pageOf(reader, place = 0) {
+    const page = { level: reader.byte(), digest: reader.byte() === 1 ? reader.digest() : null, place, keys: [], below: [] };
     for (let left = reader.number(); left > 0; left -= 1) {
         if (reader.byte() === 1) {
-            page.below.push(pageOf(reader));
+            page.below.push(pageOf(reader, page.keys.length));
             reader.take(1);
         }
         page.keys.push(reader.text());
     }
     if (reader.next() === 2) {
         reader.take(1);
-        page.below.push(pageOf(reader));
+        page.below.push(pageOf(reader, page.keys.length));
     }
     return page;
 }
 
-// All pages of a tree, each before those below it.
-export function pagesOf(page) {
-    return [page, ...page.below.flatMap(pagesOf)];
-}
-
 // A list of rows, as bytes.
 export function listOfRows(rows) {
-    const parts = rows.flatMap(({ key, value }) => [textBytes(key), textBytes(value)]).flat();
-    return joined([encoder.encode("MSTr"), numberBytes(rows.length), ...parts]);
-}
-
-function numberBytes(number) {
-    const bytes = new Uint8Array(SIZE);
-    new DataView(bytes.buffer).setBigUint64(0, BigInt(number), true);
-    return bytes;
-}
-
-function textBytes(text) {
-    const bytes = encoder.encode(text);
-    return [numberBytes(bytes.length), bytes];
-}
-
-function joined(parts) {
-    const whole = new Uint8Array(parts.reduce((size, part) => size + part.length, 0));
-    let at = 0;
-    for (const part of parts) {
-        whole.set(part, at);
-        at += part.length;
+    const texts = rows.flatMap(({ key, value }) => [encoder.encode(key), encoder.encode(value)]);
+    const whole = new Uint8Array(texts.reduce((size, text) => size + SIZE + text.length, 4 + SIZE));
+    const view = new DataView(whole.buffer);
+    whole.set(encoder.encode("MSTr"));
+    view.setBigUint64(4, BigInt(rows.length), true);
+    let at = 4 + SIZE;
+    for (const text of texts) {
+        view.setBigUint64(at, BigInt(text.length), true);
+        whole.set(text, at + SIZE);
+        at += SIZE + text.length;
     }
     return whole;
+}
+
+// A message of docs/SYNC.md: its mark, and what hexadecimal digits say.
+export function bytesOf(mark, digits) {
+    return Uint8Array.of(...encoder.encode(mark), ...(digits.match(/../g) ?? []).map((two) => parseInt(two, 16)));
 }

@@ -1,130 +1,174 @@
-// The page's controls, and what it shows of its session.
+// The page: a state, what is shown of it, and what changes it.
 
+import { edited, editedAnyRow, undone, withOtherRows, withRows, withScene } from "./acts.mjs";
+import { Editor, Sliders } from "./controls.mjs";
 import { Library } from "./library.mjs";
-import { Session } from "./session.mjs";
-import { draw } from "./draw.mjs";
-import { randomChange } from "./rows.mjs";
-import { count } from "./sentences.mjs";
+import { showCost, showCosts, showDigest, showPacket, showPackets } from "./panels.mjs";
+import { Picture } from "./picture.mjs";
+import { Player } from "./player.mjs";
+import { addressOf, keyFault, stateOf } from "./state.mjs";
+import { verdictOf } from "./told.mjs";
+import { World } from "./world.mjs";
 
 const byId = (id) => document.getElementById(id);
-const LABELS = 90;
-// What stands behind # in the address, as #rows=40&differ=3&seed=7, is what the page begins with.
-const asked = new URLSearchParams(location.hash.slice(1));
-const numberAsked = (name, otherwise) => Number(asked.get(name) ?? otherwise);
+const stays = matchMedia("(prefers-reduced-motion: reduce)");
+// Milliseconds before the costs are worked out, which takes both syncs.
+const PATIENCE = 150;
 
-function made(name, properties, ...children) {
-    const element = Object.assign(document.createElement(name), properties);
-    element.append(...children);
-    return element;
-}
+class Page {
+    #costs = { of: null, timer: null };
+    #all = { of: null, bytes: 0 };
 
-// The form of a store: it puts and deletes rows; each row of the list below puts itself into the form.
-function storeForm(at, session, show) {
-    const change = (key, value) => {
-        session.change(at, key, value);
-        show();
-    };
-    const key = made("input", { name: "key", required: true, maxLength: 40, placeholder: "key", ariaLabel: "key", autocomplete: "off" });
-    const value = made("input", { name: "value", required: true, type: "number", min: 0, max: 9999, value: 1, ariaLabel: "value" });
-    const remove = made("button", { type: "button", textContent: "Delete" });
-    remove.onclick = () => key.reportValidity() && change(key.value, null);
-    const any = made("button", { type: "button", textContent: "Random change" });
-    any.onclick = () => {
-        const chosen = randomChange(Math.random, session.stores[at].rows());
-        change(chosen.key, chosen.value);
-    };
-    const form = made("form", {}, key, value, made("button", { textContent: "Put" }), remove, any);
-    form.onsubmit = (event) => {
-        event.preventDefault();
-        change(key.value, String(Number(value.value)));
-    };
-    const rows = made("div", { className: "rows" });
-    byId(`store${at}`).append(made("h2", {}), form, rows);
-    return (row) => {
-        [key.value, value.value] = [row.key, row.value];
-        value.focus();
-    };
-}
+    constructor(library) {
+        this.world = new World(library);
+        this.player = new Player({ back: byId("back"), next: byId("next"), play: byId("play"), scrubber: byId("scrubber"), place: byId("place") },
+            (step) => this.show({ ...this.state, step }, "replaceState", true));
+        this.picture = new Picture(byId("trees"), (at, key) => this.editor.take(at, key, this.frame.values[at].get(key)));
+        this.editor = new Editor(byId("editor"), {
+            valueAt: (at, key) => this.world.stores[at].value(key),
+            edit: (at, key, text) => this.edit(edited(this.state, this.played, at, key, text), at, key),
+        });
+        this.sliders = new Sliders(byId("rows"), {
+            change: (more) => this.show(withRows(this.state, more), "replaceState"),
+            fold: (folds) => this.show({ ...this.state, folds }, "replaceState"),
+            again: () => this.show(withOtherRows(this.state), "pushState"),
+        });
+        this.#connect();
+    }
 
-function showStore(at, session, { pages, same }, choose) {
-    const [store, peer] = [session.stores[at], session.stores[1 - at]];
-    const section = byId(`store${at}`);
-    section.querySelector("h2").textContent = `${store.name}: ${count(store.size, "row")} on ${count(pages, "page")}, ${same} of them equal`;
-    section.querySelector(".rows").replaceChildren(...store.rows().map((row) => {
-        const className = peer.value(row.key) === row.value ? "key" : "key differs";
-        const button = made("button", { type: "button", className, textContent: `${row.key} ${row.value}`, title: "put into the form" });
-        button.onclick = () => choose(row);
-        return button;
-    }));
-}
+    // The world with the frames that are shown.
+    get played() {
+        return { stores: this.world.stores, frames: this.frames };
+    }
 
-function showVerdict(session) {
-    const [first, second] = session.stores.map((store) => made("code", { textContent: store.rootHash }));
-    const sign = session.areEqual ? " = " : " ≠ ";
-    byId("verdict").className = session.areEqual ? "same" : "other";
-    byId("verdict").replaceChildren(made("strong", { textContent: session.areEqual ? "The stores are equal. " : "The stores differ. " }),
-        "Root hashes: A ", first, sign, "B ", second);
-}
+    get frame() {
+        return this.frames[this.state.step];
+    }
 
-// Scrolls the picture to the first key that is marked or asked for, where it isn't to be seen.
-function scrollToMark() {
-    const mark = document.querySelector("#trees .marked, #trees .asked")?.getBoundingClientRect();
-    const scrolled = document.querySelector(".scrolled");
-    const { left, right } = scrolled.getBoundingClientRect();
-    if (mark && (mark.left < left || mark.right > right)) scrolled.scrollLeft += mark.left - left - (right - left) / 3;
-}
+    #connect() {
+        for (const button of document.querySelectorAll("[data-scene]")) button.onclick = () => this.scene(button.dataset.scene);
+        byId("undo").onclick = () => this.show(undone(this.state), "pushState");
+        byId("way").onchange = ({ target }) => {
+            const more = target.name === "first" ? { first: Number(target.value) } : { way: target.value };
+            this.show(withScene(this.state, "sync", more), "pushState");
+        };
+        byId("typed").oninput = ({ target }) => this.type(target.value);
+        byId("typing").onsubmit = (event) => {
+            event.preventDefault();
+            const key = byId("typed").value;
+            this.edit(edited(this.state, this.played, 0, key, "typed on the page"), 0, key);
+        };
+        window.onpopstate = () => this.show(stateOf(location.hash), null);
+        window.onresize = () => this.draw();
+    }
 
-function showAll(session, choosers) {
-    const room = document.querySelector(".picture").clientWidth - LABELS;
-    const pictures = { trees: byId("trees"), labels: byId("labels"), room, fits: byId("fits").checked };
-    const counts = draw(pictures, session.stores, session);
-    scrollToMark();
-    counts.forEach((count, at) => showStore(at, session, count, choosers[at]));
-    showVerdict(session);
-    byId("step").textContent = session.said.slice(session.said.at(-2)?.startsWith("Step 4") ? -2 : -1).join(" ");
-    byId("said").replaceChildren(...session.said.map((sentence) => made("li", { textContent: sentence })).reverse());
-    byId("pull").elements.asking.value = session.asking;
-}
+    // One click: a scene, which plays where motion is welcome, and else is at its end.
+    scene(name) {
+        const { state, fault } = name === "edit" ? editedAnyRow(this.state, this.played) : { state: withScene(this.state, name), fault: null };
+        if (fault) {
+            this.editor.say(fault);
+            return;
+        }
+        this.show(state, "pushState");
+        if (name === "key") byId("typed").select();
+        else if (!stays.matches) this.player.play();
+        else if (name !== "sync") this.player.to(this.frames.length - 1);
+    }
 
-// The sliders and buttons above the picture.
-function connect(session, show) {
-    const [rows, differing] = [byId("count"), byId("differing")];
-    let seed = numberAsked("seed", 266);
-    rows.value = numberAsked("rows", 19);
-    differing.value = numberAsked("differ", 3);
-    const begin = () => {
-        byId("count_shown").textContent = rows.value;
-        byId("differing_shown").textContent = Math.min(Number(differing.value), Number(rows.value));
-        session.begin(seed, Number(rows.value), Number(differing.value));
-    };
-    const on = (run) => (event) => {
-        event.preventDefault();
-        run(event);
-        show();
-    };
-    rows.oninput = differing.oninput = on(begin);
-    byId("begin").onsubmit = on(() => {
-        seed += 1;
-        begin();
-    });
-    byId("pull").onsubmit = on(() => session.step());
-    byId("finish").onclick = on(() => session.finish());
-    byId("turns").onclick = on(() => session.turns());
-    byId("fits").onchange = show;
-    byId("pull").onchange = on((event) => session.turnTo(Number(event.target.value)));
-    on(begin)(new Event("input"));
+    // What an edit makes of the state, at its last frame, or why it isn't done.
+    edit({ state, fault }, at, key) {
+        if (fault) {
+            this.editor.say(fault);
+            return;
+        }
+        this.show({ ...state, step: Infinity }, "pushState");
+        this.picture.focus(at, key);
+    }
+
+    // A key that is typed: it is shown where it would stand, unless it is none.
+    type(key) {
+        const fault = keyFault(key);
+        if (fault) this.editor.say(fault);
+        else this.show(withScene(this.state, "key", { key }), "replaceState");
+    }
+
+    // Shows a state, and puts it into the address by this call of the history, if any. Where it isn't the next of those that are played, none
+    // is played any longer.
+    show(state, keep, isPlayed = false) {
+        if (!isPlayed) this.player.stop();
+        this.editor.say(null);
+        this.world.go(state);
+        this.frames = this.world.frames(state);
+        this.state = { ...state, step: Math.min(state.step, this.frames.length - 1) };
+        if (keep) history[keep](null, "", addressOf(this.state));
+        this.draw();
+    }
+
+    draw() {
+        const { state, frame } = this;
+        const isRest = state.scene === "sync" && state.step === 0;
+        this.player.show(state.step, this.frames.length, state.scene, frame.said);
+        this.picture.draw(isRest ? { ...frame, folds: state.folds } : frame);
+        this.#say(frame);
+        this.sliders.show(state, this.world.stores);
+        byId("lane").hidden = state.scene !== "sync";
+        showPacket(byId("lane"), frame);
+        showPackets(byId("packets"), state.scene === "sync" ? this.frames : [], state.step, (step) => this.player.to(step));
+        for (const button of document.querySelectorAll("[data-scene]")) button.ariaPressed = String(button.dataset.scene === state.scene);
+        byId("undo").disabled = state.acts.length === 0;
+        byId("way").elements.first.value = state.first;
+        byId("way").elements.way.value = state.way;
+        this.#showScene();
+        this.#later();
+    }
+
+    #say(frame) {
+        const verdict = verdictOf(frame);
+        byId("verdict").className = verdict.sign;
+        byId("verdict").textContent = verdict.text;
+        byId("said").textContent = frame.said;
+    }
+
+    // What one scene has beside the trees: the bytes, or the key that is typed and its digest.
+    #showScene() {
+        const { scene, first, key } = this.state;
+        byId("cost").hidden = scene !== "sync";
+        byId("typing").hidden = scene !== "key";
+        if (scene === "sync") showCost({ fill: byId("sent"), text: byId("bytes") }, this.frame, this.#allRows(), this.world.stores[1 - first].name);
+        if (scene !== "key") return;
+        if (byId("typed").value !== key && document.activeElement !== byId("typed")) byId("typed").value = key;
+        showDigest(byId("digest"), this.frame.digest);
+    }
+
+    // What names the stores of a state, and who asks.
+    get #of() {
+        const { rows, differ, seed, base, acts, first } = this.state;
+        return JSON.stringify([rows, differ, seed, base, acts, first]);
+    }
+
+    // How many bytes all rows are that the side which is asked first has.
+    #allRows() {
+        if (this.#all.of !== this.#of) this.#all = { of: this.#of, bytes: this.world.all(this.state.first) };
+        return this.#all.bytes;
+    }
+
+    // Works the costs out once nothing was changed for a while.
+    #later() {
+        clearTimeout(this.#costs.timer);
+        this.#costs.timer = setTimeout(() => {
+            const of = `${this.#of} ${this.state.way}`;
+            if (this.#costs.of !== of) showCosts(byId("costs"), this.world.costs(this.state), this.state);
+            this.#costs.of = of;
+        }, PATIENCE);
+    }
 }
 
 async function start(module) {
-    const library = await Library.load(module);
-    const session = new Session(library);
-    const show = () => showAll(session, choosers);
-    const choosers = session.stores.map((_, at) => storeForm(at, session, () => show()));
-    connect(session, show);
-    window.onresize = show;
-    document.documentElement.dataset.ready = library.version();
+    const page = new Page(await Library.load(module));
+    page.show(stateOf(location.hash), null);
+    document.documentElement.dataset.ready = "yes";
 }
 
 start(Uint8Array.from(atob(MODULE), (character) => character.charCodeAt(0))).catch((fault) => {
-    byId("verdict").textContent = `This page can't run here: ${fault.message}`;
+    byId("said").textContent = `This page can't run here: ${fault.message}`;
 });

@@ -1,56 +1,77 @@
-// A pull, step by step: one store comes to hold what the other has and it lacks.
+// A pull by page ranges, as docs/SYNC.md has it with the ranges of mst_diff: one store comes to hold what the other has in them.
 
-import { rangesOf, rowsOf } from "./lists.mjs";
-import { count, spelt } from "./sentences.mjs";
+import { lies } from "./keys.mjs";
+import { bytesOf, rangesOf, rowsOf } from "./lists.mjs";
+import { compared } from "./recording.mjs";
+import { count, listed, number, spelt } from "./sentences.mjs";
 
 export class Pull {
-    // What is to be seen so far: the ranges that are asked for, the keys of the rows that came, and those that were new.
-    asked = [];
-    sent = [];
-    taken = [];
-    #steps = [this.#send, this.#ask, this.#answer, this.#join];
-    // The list of bytes that was sent last.
-    #list = null;
+    #recording;
 
-    constructor(asking, answering) {
-        this.asking = asking;
-        this.answering = answering;
+    constructor(recording, asking) {
+        this.#recording = recording;
+        [this.asking, this.answering] = [asking, 1 - asking];
+        [this.own, this.peer] = [recording.stores[asking], recording.stores[1 - asking]];
+        recording.forget();
+        recording.folds = true;
     }
 
-    get left() {
-        return this.#steps.length;
+    // Makes all its steps, and says whether the root hashes were equal at its beginning.
+    run() {
+        const root = this.own.hash();
+        this.#ask("sends its root hash", bytesOf("MSTh", root), `${this.own.name} sends its root hash.`);
+        if (this.peer.hash() === root) {
+            this.#recording.states = compared(this.#recording.trees);
+            this.#answer("says that they are equal", bytesOf("MST=", ""), `${this.peer.name} has the same root hash: the stores are equal.`);
+            return true;
+        }
+        const ranges = this.#ranges();
+        const asked = this.#difference(ranges);
+        this.#join(this.#rows(asked));
+        return false;
     }
 
-    // Makes the next step, and says what was done.
-    next() {
-        return this.#steps.shift().call(this);
+    #ask(name, bytes, said) {
+        this.#recording.send(this.asking, name, bytes, said);
     }
 
-    #send() {
-        this.#list = this.answering.pageRanges();
-        return `${this.answering.name} sends its page ranges: of each page the first and the last key below it, and its digest. `
-            + `${count(rangesOf(this.#list).length, "range")} in ${count(this.#list.length, "byte")}.`;
+    #answer(name, bytes, said) {
+        this.#recording.send(this.answering, name, bytes, said);
     }
 
-    #ask() {
-        this.#list = this.asking.ask(this.#list);
-        this.asked = rangesOf(this.#list);
-        const what = this.asked.length === 0
-            ? "has nothing to ask for"
-            : `asks for ${count(this.asked.length, "range")} of keys, ${this.asked.map(spelt).join(" and ")}`;
-        return `${this.asking.name} compares them with its own by diff, and ${what}. ${count(this.#list.length, "byte")}.`;
+    #ranges() {
+        const list = this.peer.pageRanges();
+        this.#recording.states = compared(this.#recording.trees);
+        this.#answer(`sends ${count(rangesOf(list).length, "page range")}`, list,
+            `${this.peer.name} sends all its page ranges: of each page the first and the last key below it, and its digest.`);
+        return list;
     }
 
-    #answer() {
-        this.#list = this.answering.answer(this.#list);
-        this.sent = rowsOf(this.#list).map(({ key }) => key);
-        return `${this.answering.name} sends its rows in these ranges: ${this.sent.length} of ${count(this.answering.size, "row")}, `
-            + `in ${count(this.#list.length, "byte")}. Some that agree may come, too.`;
+    #difference(ranges) {
+        const asked = this.own.ask(ranges);
+        const wanted = rangesOf(asked);
+        for (const key of this.peer.values().keys()) if (wanted.some((range) => lies(key, range))) this.#mark(key, "asked");
+        const what = wanted.length === 0 ? "finds nothing to ask for" : `asks for ${listed(wanted.map(spelt))}`;
+        this.#ask(`asks for ${count(wanted.length, "range")}`, asked, `${this.own.name} compares them with its own by mst_diff, and ${what}.`);
+        return asked;
     }
 
-    #join() {
-        this.taken = this.asking.join(this.#list);
-        const which = this.taken.length === 0 ? "nothing is new" : `new are ${this.taken.join(", ")}`;
-        return `${this.asking.name} joins them with its own rows, of two values the greater: ${which}.`;
+    #rows(asked) {
+        const list = this.peer.answer(asked);
+        const rows = rowsOf(list);
+        for (const { key, value } of rows) this.#mark(key, this.own.value(key) === value ? "same" : "came");
+        this.#answer(`sends ${count(rows.length, "row")}`, list,
+            `${this.peer.name} sends its rows in these ranges: ${number(rows.length)} of ${number(this.peer.size)}, also those that agree.`);
+        return list;
+    }
+
+    #join(list) {
+        const taken = this.own.join(list);
+        this.#recording.joined(this.asking, taken, `${this.own.name} joins them with its own: ${count(taken.length, "row")} ${
+            taken.length === 1 ? "is" : "are"} new to it.`);
+    }
+
+    #mark(key, mark) {
+        for (const marks of this.#recording.marks) marks.set(key, mark);
     }
 }

@@ -1,33 +1,39 @@
 // A store of the page: rows, and the tree of their keys and values beside them.
 
 import { Place } from "./library.mjs";
-import { hexOf, listOfRows, pagesOf, rangesOf, rowsOf, treeOf } from "./lists.mjs";
+import { hexOf, listOfRows, rangesOf, rowsOf, treeOf } from "./lists.mjs";
+import { byKey, compareKeys, lies } from "./keys.mjs";
+import { PAGE_FORMAT, ZERO_KEY } from "./replica.mjs";
 
-// About one key in so many stands above level 0. The library's own is 16; a small one gives few rows several levels.
-const LEVEL_BASE = 4;
-const PAGE_FORMAT = 2;
 const encoder = new TextEncoder();
-
-// The order of keys: that of their bytes.
-export function compareKeys(one, other) {
-    const [left, right] = [encoder.encode(one), encoder.encode(other)];
-    const at = left.findIndex((byte, place) => byte !== right[place]);
-    return at < 0 ? left.length - right.length : left[at] - (right[at] ?? -1);
-}
-
-export const lies = (key, range) => compareKeys(range.first, key) <= 0 && compareKeys(key, range.last) <= 0;
 
 export class Store {
     #library;
     #handle;
     #rows = new Map();
+    // The pages, all with a digest, where they were read since the last change.
+    #hashed = null;
 
-    constructor(library, name) {
+    constructor(library, name, base) {
         this.#library = library;
         this.name = name;
+        this.base = base;
         this.#handle = library.newHandle();
-        library.done("mst_tree_new_with", this.#handle, new Place(new Uint8Array(16)), LEVEL_BASE, PAGE_FORMAT);
-        this.hash();
+        library.done("mst_tree_new_with", this.#handle, new Place(ZERO_KEY), base, PAGE_FORMAT);
+    }
+
+    // A store of the same rows and name, whose tree is a copy.
+    copy() {
+        const copy = new Store(this.#library, this.name, this.base);
+        this.#library.call("mst_tree_free", copy.#handle);
+        this.#library.done("mst_tree_clone", this.#handle, copy.#handle);
+        copy.#rows = new Map(this.#rows);
+        return copy;
+    }
+
+    free() {
+        this.#library.call("mst_tree_free", this.#handle);
+        this.#library.giveBack(this.#handle);
     }
 
     get size() {
@@ -36,7 +42,12 @@ export class Store {
 
     // The rows in the order of their keys.
     rows() {
-        return [...this.#rows].map(([key, value]) => ({ key, value })).sort((one, other) => compareKeys(one.key, other.key));
+        return [...this.#rows].map(([key, value]) => ({ key, value })).sort(byKey);
+    }
+
+    // The value at each key, as it is now.
+    values() {
+        return new Map(this.#rows);
     }
 
     value(key) {
@@ -44,31 +55,47 @@ export class Store {
     }
 
     put(key, value) {
+        this.#hashed = null;
         this.#library.done("mst_tree_upsert", this.#handle, encoder.encode(key), encoder.encode(value));
         this.#rows.set(key, value);
     }
 
     remove(key) {
+        this.#hashed = null;
         this.#library.done("mst_tree_remove", this.#handle, encoder.encode(key));
         this.#rows.delete(key);
     }
 
     // Makes these rows the store's, in place of those that it has.
     load(rows) {
-        const ascending = [...rows].sort((one, other) => compareKeys(one.key, other.key));
+        const ascending = [...rows].sort(byKey);
+        this.#hashed = null;
         this.#library.done("mst_tree_load", this.#handle, listOfRows(ascending));
         this.#rows = new Map(ascending.map(({ key, value }) => [key, value]));
     }
 
-    // The ranges of the pages that lost their digest since the last hash; it hashes them anew.
+    // The root hash, for which the pages without a digest are hashed.
     hash() {
-        const isStale = pagesOf(this.tree()).map((page) => page.digest === null);
-        this.rootHash = hexOf(this.#library.filled(16, "mst_tree_root_hash", this.#handle));
-        return pagesOf(this.tree()).filter((_, at) => isStale[at]);
+        return hexOf(this.#library.filled(ZERO_KEY.length, "mst_tree_root_hash", this.#handle));
     }
 
+    // The pages as they are: those that changed since the last hash have no digest.
     tree() {
         return treeOf(this.#library.written("mst_tree_pages", this.#handle));
+    }
+
+    // The pages, all with a digest.
+    hashedTree() {
+        if (!this.#hashed) {
+            this.hash();
+            this.#hashed = this.tree();
+        }
+        return this.#hashed;
+    }
+
+    // The digest of the value at a key, as the tree has it.
+    digestAt(key) {
+        return hexOf(this.#library.filled(ZERO_KEY.length, "mst_tree_find", this.#handle, encoder.encode(key)));
     }
 
     // The list of page ranges, as bytes for a peer.
@@ -88,10 +115,19 @@ export class Store {
     }
 
     // Takes the rows of a list: of two values of a key the greater stays. The keys whose value is new here are answered.
-    join(rows) {
-        const isNew = ({ key, value }) => !(Number(this.value(key)) >= Number(value));
-        const taken = rowsOf(rows).filter(isNew);
+    join(list) {
+        const isNew = ({ key, value }) => !this.#rows.has(key) || compareKeys(this.#rows.get(key), value) < 0;
+        const taken = rowsOf(list).filter(isNew);
         for (const { key, value } of taken) this.put(key, value);
         return taken.map(({ key }) => key);
+    }
+}
+
+// Runs a function over stores or replicas, which are given back behind it.
+export function over(held, run) {
+    try {
+        return run(held);
+    } finally {
+        held.forEach((it) => it.free());
     }
 }
