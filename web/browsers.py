@@ -1,4 +1,4 @@
-"""Headless browsers that tests drive: `open` a page, `run` a function's body in it, `press` a key, and take a `picture`.
+"""Headless browsers that tests drive: `show` a window, `open` a page, `run` a function's body in it, `press` a key, and take a `picture`.
 
 Chromium is told by its pipe for debuggers, and Firefox by Marionette over a local port; each has a profile of its own, which goes with it.
 """
@@ -12,7 +12,10 @@ import tempfile
 import time
 
 PATIENCE = 60
+# The breadth of the narrowest window of Firefox, in pixels.
+NARROWEST = 450
 CODES = {"Enter": ("\ue007", 13), "Tab": ("\ue004", 9), "End": ("\ue010", 35), "Home": ("\ue011", 36), "ArrowRight": ("\ue014", 39)}
+SHIFT = "\ue008"
 
 
 class Browser:
@@ -90,8 +93,12 @@ class Chromium(Browser):
         message, _, self.rest = self.rest.partition(b"\0")
         return json.loads(message)
 
-    def open(self, url, width, height):
-        self.tell("Emulation.setDeviceMetricsOverride", width=width, height=height, deviceScaleFactor=1, mobile=False)
+    def show(self, width, height, scale, media):
+        """A window of this size, whose user prefers what `media` says."""
+        self.tell("Emulation.setDeviceMetricsOverride", width=width, height=height, deviceScaleFactor=scale, mobile=False)
+        self.tell("Emulation.setEmulatedMedia", features=[{"name": name, "value": value} for name, value in media.items()])
+
+    def open(self, url):
         self.tell("Page.navigate", url="about:blank")
         self.tell("Page.navigate", url=url)
 
@@ -101,8 +108,14 @@ class Chromium(Browser):
             raise RuntimeError(answer["exceptionDetails"])
         return answer["result"].get("value")
 
+    def spent(self):
+        """The milliseconds of a processor that the page has taken so far."""
+        self.tell("Performance.enable", timeDomain="threadTicks")
+        return next(1000 * it["value"] for it in self.tell("Performance.getMetrics")["metrics"] if it["name"] == "TaskDuration")
+
     def press(self, key):
-        words = {"key": key, "windowsVirtualKeyCode": CODES[key][1]} if key in CODES else {"key": key}
+        shift, key = 8 if key.startswith("Shift") else 0, key.removeprefix("Shift")
+        words = {"key": key, "windowsVirtualKeyCode": CODES[key][1], "modifiers": shift} if key in CODES else {"key": key}
         text = "\r" if key == "Enter" else key if len(key) == 1 else ""
         self.tell("Input.dispatchKeyEvent", type="keyDown", **words, **({"text": text} if text else {}))
         self.tell("Input.dispatchKeyEvent", type="keyUp", **words)
@@ -120,6 +133,7 @@ class Firefox(Browser):
             port = free.getsockname()[1]
         with open(f"{self.profile}/user.js", "w", encoding="utf-8") as settings:
             settings.write(f'user_pref("marionette.port", {port});\nuser_pref("datareporting.policy.dataSubmissionEnabled", false);\n')
+            settings.write('user_pref("ui.prefersReducedMotion", 1);\n')
         self.launch("--headless", "--marionette", "--no-remote", "--profile", self.profile)
         self.asked, self.socket = 0, self.connected(port)
         self.stream = self.socket.makefile("rb")
@@ -151,8 +165,11 @@ class Firefox(Browser):
             raise RuntimeError(f"{name}: {error}")
         return answer
 
-    def open(self, url, width, height):
-        self.tell("WebDriver:SetWindowRect", width=width, height=height + 85)
+    def show(self, width, height, scale, media):
+        """A window of this size, or of the least that Firefox has; its user always prefers less motion, and the scale is left out."""
+        self.tell("WebDriver:SetWindowRect", width=max(width, NARROWEST), height=height + 85)
+
+    def open(self, url):
         self.tell("WebDriver:Navigate", url="about:blank")
         self.tell("WebDriver:Navigate", url=url)
 
@@ -160,9 +177,14 @@ class Firefox(Browser):
         return self.tell("WebDriver:ExecuteScript", script=body, args=[])["value"]
 
     def press(self, key):
-        value = CODES[key][0] if key in CODES else key
-        actions = [{"type": kind, "value": value} for kind in ("keyDown", "keyUp")]
+        shift, key = [SHIFT] if key.startswith("Shift") else [], key.removeprefix("Shift")
+        keys = [*shift, CODES[key][0] if key in CODES else key]
+        actions = [{"type": "keyDown", "value": it} for it in keys] + [{"type": "keyUp", "value": it} for it in reversed(keys)]
         self.tell("WebDriver:PerformActions", actions=[{"type": "key", "id": "keys", "actions": actions}])
+
+    def spent(self):
+        """Isn't told."""
+        return 0
 
     def picture(self):
         return base64.b64decode(self.tell("WebDriver:TakeScreenshot", full=False)["value"])

@@ -1,33 +1,65 @@
 """What a user does on the page, by keys alone, in a browser of browsers.py, and what is to be seen then."""
 
+# Each window: its breadth and height, how many pixels of the screen one of the page has, and what the user prefers.
+WINDOWS = {
+    "1280x800": (1280, 800, 1, {}),
+    "390x844": (390, 844, 1, {"prefers-reduced-motion": "reduce"}),
+    "1280x800 in the dark": (1280, 800, 1, {"prefers-color-scheme": "dark", "prefers-reduced-motion": "reduce"}),
+    "200 % of 1280x800": (640, 400, 2, {"prefers-reduced-motion": "reduce"}),
+}
+MOST_TABS = 90
+# Milliseconds of a processor that a put may take with 500 keys, and how often it is tried.
+QUICK, TRIES = 50, 10
+
 READY = "return document.documentElement?.dataset.ready"
-# The labels of the picture that lie over one another or over the edge of their box, and what a window can't show.
+# What lies over one another or beyond the window, what says nothing, and what was loaded.
 FAULTS = """
-const found = [], texts = [...document.querySelectorAll("#trees text, #labels text")].map((it) => [it, it.getBoundingClientRect()]);
-for (const [at, [one, box]] of texts.entries()) {
-    const page = one.parentNode.querySelector("rect.page")?.getBoundingClientRect();
-    const isCut = page && (box.left < page.left || box.right > page.right || box.top < page.top || box.bottom > page.bottom);
-    if (isCut) found.push("cut: " + one.textContent);
-    for (const [other, its] of texts.slice(at + 1)) {
-        if (other.closest("svg") !== one.closest("svg")) continue;
-        if (box.left < its.right - 0.5 && its.left < box.right - 0.5 && box.top + 4 < its.bottom && its.top + 4 < box.bottom) {
-            found.push(one.textContent + " over " + other.textContent);
+const found = [];
+for (const plane of document.querySelectorAll(".plane")) {
+    const keys = [...plane.querySelectorAll(".chip")].map((it) => it.dataset.key);
+    if (keys.some((key, at) => at > 0 && keys[at - 1] >= key)) found.push("chips that aren't in the order of their keys");
+}
+for (const plane of document.querySelectorAll(".plane")) {
+    const chips = [...plane.querySelectorAll(".chip")].map((it) => [it, it.getBoundingClientRect()]);
+    for (const [at, [one, box]] of chips.entries()) {
+        const hit = document.elementFromPoint((box.left + box.right) / 2, (box.top + box.bottom) / 2);
+        if (hit && hit !== one) found.push(one.textContent + " lies below " + hit.className);
+        for (const [other, its] of chips.slice(at + 1)) {
+            const isOver = box.left + 0.5 < its.right && its.left + 0.5 < box.right && box.top + 0.5 < its.bottom && its.top + 0.5 < box.bottom;
+            if (isOver) found.push(one.textContent + " over " + other.textContent);
         }
     }
 }
-if (document.documentElement.scrollWidth > innerWidth) found.push("the page is wider than the window");
+if (document.documentElement.scrollWidth > innerWidth) found.push("the page is wider than the window: " + document.documentElement.scrollWidth);
+if (/undefined|NaN|null/.test(document.body.innerText)) found.push("something is undefined");
 if (performance.getEntriesByType("resource").length) found.push("something was loaded");
+for (const it of document.querySelectorAll("input, select, button")) {
+    if (it.checkVisibility() && !it.labels?.length && !it.ariaLabel && !it.textContent.trim()) found.push("no label: " + it.outerHTML);
+}
+for (const it of document.querySelectorAll(".chip.other, .chip.only")) {
+    if (!/store/.test(it.ariaLabel) || !/[≠+?↓✓]/.test(it.textContent)) found.push("a chip that doesn't say that it differs: " + it.outerHTML);
+}
 return found.slice(0, 5);
 """
-IN_VIEW = """
-const [mark, window] = ["#trees .marked", ".scrolled"].map((it) => document.querySelector(it).getBoundingClientRect());
-return window.left <= mark.left && mark.right <= window.right;
+# The key that leads to the first that a selector names and that the tabulator stops at; none where the focus is on one.
+WAY = """
+const at = document.activeElement;
+if (at.matches("SELECTOR")) return "";
+const found = [...document.querySelectorAll("SELECTOR")].find((it) => it.tabIndex >= 0);
+const isBehind = at === document.body || at.compareDocumentPosition(found) & Node.DOCUMENT_POSITION_FOLLOWING;
+return isBehind ? "Tab" : "ShiftTab";
 """
+MOVING = "return document.getAnimations().length > 0 || document.querySelector('#play').textContent.includes('Pause')"
 
 
 def check(what, seen, wanted):
     if seen != wanted:
         raise AssertionError(f"{what}: {seen!r}, not {wanted!r}")
+
+
+def has(what, seen, part):
+    if part not in seen:
+        raise AssertionError(f"{what}: {seen!r} has no {part!r}")
 
 
 class User:
@@ -36,14 +68,29 @@ class User:
     def __init__(self, browser, pictures):
         self.browser, self.pictures = browser, pictures
 
-    def focus(self, selector):
-        self.browser.run(f"document.querySelector('{selector}').focus()")
+    def tab(self, selector):
+        """Goes by the tabulator to what a selector names, back where it is in front."""
+        for _ in range(MOST_TABS):
+            way = self.browser.run(WAY.replace("SELECTOR", selector))
+            if way == "":
+                return
+            self.browser.press(way)
+        raise AssertionError(f"the tabulator never comes to {selector}")
+
+    def choose(self, selector, *keys):
+        self.tab(selector)
+        self.press(*(keys or ("Enter",)))
 
     def press(self, *keys):
         for key in keys:
             self.browser.press(key)
 
+    def rest(self):
+        """Waits until nothing moves."""
+        self.browser.wait(f"return !(() => {{ {MOVING} }})()")
+
     def see(self, name):
+        self.rest()
         check(f"{name}: faults", self.browser.run(FAULTS), [])
         if self.pictures:
             self.pictures.mkdir(parents=True, exist_ok=True)
@@ -52,62 +99,135 @@ class User:
     def shown(self, selector):
         return self.browser.run(f"return document.querySelector('{selector}').textContent")
 
+    def address(self):
+        return self.browser.run("return location.hash")
 
-def pull(user):
-    """The steps of two pulls, after which the stores are equal."""
-    check("the stores at first", user.shown("#verdict strong"), "The stores differ. ")
-    user.focus("#pull button.main")
-    for step in range(1, 5):
-        user.press("Enter")
-        check("a step", user.shown("#step")[:12], f"Step {step} of 4:")
-        user.see(f"step{step}")
-    user.press(*["Enter"] * 4)
-    check("the stores after two pulls", user.shown("#verdict strong"), "The stores are equal. ")
-    user.see("equal")
+    def roots(self):
+        return [self.shown(f"#name{side}").split()[-1] for side in range(2)]
 
 
-def put(user):
-    """Rows that are put into one store, one with a key that is cut in the picture and one with wide letters."""
-    for key in ("zebra", "a-key-that-is-cut", "\u6728\u306e\u9375"):
-        user.focus("#store0 input")
-        user.browser.run("document.activeElement.value = ''")
-        user.press(*key, "Tab", "Tab", "Enter")
-        check("the stores after a put", user.shown("#verdict strong"), "The stores differ. ")
-        check("the rows after a put", key in user.shown("#store0 .rows"), True)
-    check("that the row is in view", user.browser.run(IN_VIEW), True)
-    user.see("put")
+def sync(user, total):
+    """A sync from step to step and to its end, with the bytes that the native library sends, and another direction."""
+    has("the stores at first", user.shown("#verdict"), "differ")
+    user.choose("#next")
+    check("a step", user.shown("#place").split("/")[0], "1")
+    has("its message", user.shown("#lane"), "asks for the root")
+    user.press(*["Enter"] * 5)
+    user.see("sync")
+    user.choose("#back")
+    check("a step back", user.shown("#place").split("/")[0], "5")
+    user.choose("#scrubber", "End")
+    has("the stores at the end", user.shown("#verdict"), "equal")
+    if total is not None:
+        has("the bytes", user.shown("#bytes"), f"{total:,} bytes sent so far. All rows")
+    check("the messages", user.browser.run("return document.querySelectorAll('#packets li').length > 10"), True)
+    user.see("synced")
+    user.choose("#scrubber", "Home", "ArrowRight", "ArrowRight")
+    user.choose("[name=first]", "ArrowRight")
+    check("the step with another direction", user.shown("#place").split("/")[0], "0")
+    has("what is said then", user.shown("#said"), "Store B asks first")
+    user.choose("[name=way]", "ArrowRight")
+    user.choose("#scrubber", "End")
+    has("the stores after pulls by ranges", user.shown("#verdict"), "equal")
+    check("that it is short", len(user.shown("#said")) < 300, True)
+    user.see("ranges")
 
 
-def fill(user):
-    """The slider at its end: the picture fits the window, or scrolls; the page never scrolls sideways."""
-    user.focus("#count")
-    user.press("End")
-    check("the rows of the slider", user.shown("#count_shown"), "200")
-    scrolled = "const it = document.querySelector('.scrolled'); return it.scrollWidth > it.clientWidth"
-    check("that the picture fits", user.browser.run(scrolled), False)
-    user.focus("#pull button.main")
-    user.press("Enter", "Enter", "Enter")
-    user.see("whole200")
-    user.focus("#fits")
-    user.press(" ")
-    check("that the picture scrolls", user.browser.run(scrolled), True)
-    user.see("rows200")
-    user.focus("#turns")
+def moments(user):
+    """The three moments, each by one choice."""
+    user.choose("[data-scene=order]")
+    user.browser.wait("return document.querySelector('#place').textContent === '12/12'")
+    has("the same rows in another order", user.shown("#verdict"), "equal")
+    user.see("order")
+    user.choose("[data-scene=key]")
+    has("the key's level", user.shown("#digest"), "level 2")
+    user.press(*"zz top")
+    has("the key's level", user.shown("#digest"), "level 0")
+    has("the tree with the key", user.shown(".tree .plane"), "✓zz top")
+    user.see("key")
     user.press("Enter")
-    check("the stores after turns", user.shown("#verdict strong"), "The stores are equal. ")
-    user.focus("#count")
+    has("what a put says", user.shown("#said"), "hashed anew after the edit of zz top")
+    user.choose("#undo")
+    user.choose("[data-scene=edit]")
+    user.rest()
+    has("what an edit says", user.shown("#said"), "those on its path. No other digest changed.")
+    user.see("edit")
+
+
+def edits(user):
+    """Rows that are edited by their chips and by the form, undone, and gone back to."""
+    before = user.roots()
+    user.choose("#trees .chip", "ArrowRight", "Enter")
+    key = user.browser.run("return document.querySelector('#editor [name=key]').value")
+    check("where the focus is", user.browser.run("return document.activeElement.name"), "text")
+    user.press(*"counted again", "Enter")
+    has("what a put says", user.shown("#said"), f"the edit of {key}")
+    check("where the focus is after it", user.browser.run("return document.activeElement.dataset.key"), key)
+    after = user.roots()
+    check("that one root hash is another", [after[0] != before[0], after[1]], [True, before[1]])
+    user.see("put")
+    user.browser.run("history.back()")
+    user.browser.wait(f"return document.querySelector('#name0').textContent.endsWith('{before[0]}')")
+    user.browser.run("history.forward()")
+    user.browser.wait(f"return document.querySelector('#name0').textContent.endsWith('{after[0]}')")
+    address = user.address()
+    user.browser.run("location.hash = ''")
+    user.browser.wait(f"return !document.querySelector('#name0').textContent.endsWith('{after[0]}')")
+    user.browser.run(f"location.hash = '{address}'")
+    user.browser.wait(f"return document.querySelector('#name0').textContent.endsWith('{after[0]}')")
+    user.choose("#undo")
+    check("the root hashes after an undo", user.roots(), before)
+
+
+def refused(user):
+    """Keys that are none: blanks, and half of a character."""
+    before = user.roots()
+    user.choose("#editor [name=key]", " ", " ", "Enter")
+    has("what is said of a blank key", user.shown("#fault"), "blank")
+    user.browser.run("document.querySelector('#editor [name=key]').value = '\\ud83d'")
+    user.press("Enter")
+    has("what is said of half of a character", user.shown("#fault"), "half of a character")
+    check("the root hashes", user.roots(), before)
+    user.see("refused")
+    user.choose("#next")
+    check("what is said after another act", user.shown("#fault"), "")
+
+
+def sizes(user):
+    """The sliders: 2,000 keys and none; the form says how many rows the stores have; a put with 500 keys is quick."""
+    user.choose("#count", "End")
+    has("the keys of the slider", user.shown("#count_shown"), "2,000 (rows in A 1,999, in B 1,999)")
+    has("the rows of a store", user.shown("#name0"), "1,999 rows")
+    user.see("keys2000")
     user.press("Home")
-    check("the rows of the slider", user.shown("#count_shown"), "0")
-    user.see("rows0")
+    has("the keys of the slider", user.shown("#count_shown"), "0 (rows in A 0, in B 0)")
+    user.see("keys0")
+    user.browser.run("location.hash = '#rows=500&seed=abc'")
+    user.browser.wait("return document.querySelector('#count_shown').textContent.startsWith('500')")
+    times = []
+    for at in range(TRIES):
+        user.browser.run(f"const {{ key }} = document.querySelector('#editor').elements; key.focus(); key.value = 'k{at}'")
+        from_here = user.browser.spent()
+        user.browser.run("document.querySelector('#editor').requestSubmit()")
+        times.append(user.browser.spent() - from_here)
+    if min(times) > QUICK:
+        raise AssertionError(f"a put with 500 keys takes {min(times):.0f} ms")
+    before = user.roots()
+    user.choose("#rows button")
+    check("that other rows came", user.roots() != before, True)
 
 
-def use(browser, page, pictures):
-    """Uses the page in a wide and in a narrow window."""
-    for width, height in ((1280, 1180), (500, 900)):
-        browser.open("about:blank", width, height)
-        browser.open(f"{page}#rows=19&differ=3&seed=266", width, height)
+def use(browser, page, pictures, total):
+    """Uses the page in each window."""
+    for name, (width, height, scale, media) in WINDOWS.items():
+        browser.show(width, height, scale, media)
+        browser.open(page)
         browser.wait(READY)
-        user = User(browser, pictures and pictures / str(width))
+        user = User(browser, pictures and pictures / name.replace(" ", "_").replace("%", "percent"))
         user.see("begin")
-        for part in (pull, put, fill):
+        if width > 1000:
+            foot = browser.run("return Math.max(...[...document.querySelectorAll('.tree')].map((it) => it.getBoundingClientRect().bottom))")
+            check("that both trees are in view", foot < height, True)
+        sync(user, total)
+        for part in (moments, edits, refused, sizes):
             part(user)
