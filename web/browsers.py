@@ -57,6 +57,7 @@ class Browser:
 
 class Chromium(Browser):
     NAMES = ("chromium", "chromium-browser", "google-chrome")
+    HAS_DARK = True
 
     def start(self):
         (self.theirs, self.out), (self.back, self.answers) = os.pipe(), os.pipe()
@@ -126,6 +127,7 @@ class Chromium(Browser):
 
 class Firefox(Browser):
     NAMES = ("firefox", "firefox-esr")
+    HAS_DARK = False
 
     def start(self):
         with socket.socket() as free:

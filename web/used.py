@@ -218,8 +218,9 @@ def sizes(user):
 
 
 def use(browser, page, pictures, total):
-    """Uses the page in each window."""
-    for name, (width, height, scale, media) in WINDOWS.items():
+    """Uses the page in each window that the browser has; answers their names."""
+    windows = {name: window for name, window in WINDOWS.items() if browser.HAS_DARK or "prefers-color-scheme" not in window[-1]}
+    for name, (width, height, scale, media) in windows.items():
         browser.show(width, height, scale, media)
         browser.open(page)
         browser.wait(READY)
@@ -231,3 +232,4 @@ def use(browser, page, pictures, total):
         sync(user, total)
         for part in (moments, edits, refused, sizes):
             part(user)
+    return list(windows)

@@ -12,6 +12,8 @@ const NARROW = 700;
 // The room along the axis that a page needs for its sign, and for its digest too.
 const SIGN = { across: 15, down: 14 };
 const DIGEST = { across: 52, down: 56 };
+// The same for the number of keys of a folded page, which is written across in both directions.
+const NUMBER = { across: 44, down: 0 };
 const NEXT = { ArrowRight: 1, ArrowDown: 1, ArrowLeft: -1, ArrowUp: -1 };
 
 // Elements of one plane by their names, which stay from frame to frame, so that they move.
@@ -121,7 +123,8 @@ export class Picture {
         set(element, { className: `page ${box.state}${box.isFresh ? " fresh" : ""}${box.isFolded ? " folded" : ""}`, title: pageTold(box) });
         const sign = length < SIGN[direction] ? "" : pageSigns(box);
         const digest = length < DIGEST[direction] ? "" : ` ${shortDigest(box.page.digest)}`;
-        set(element.firstChild, { textContent: box.isFolded && sign ? `= ${number(box.count)}` : `${sign}${digest}` });
+        const folded = length < NUMBER[direction] ? sign : `${sign} ${number(box.count)}`;
+        set(element.firstChild, { textContent: box.isFolded && sign ? folded : `${sign}${digest}` });
         element.onclick = (event) => this.#nearest(event, box, at, chips, isDown);
         place(element, isDown, box.from + inset, length - 2 * inset, row.at, depth);
     }

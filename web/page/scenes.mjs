@@ -47,8 +47,8 @@ export function digestOfKey(library, key, base) {
 
 // Why a key has its level.
 function levelSaid({ key, digest, zeros, next, base, level }) {
-    const front = zeros === 0 ? `begins with no zero byte` : `begins with ${count(zeros, "zero byte")}, two levels each`;
-    const what = next % base === 0 ? `${base} divides the byte ${next} behind, one level more` : `${base} doesn't divide the byte ${next}`;
+    const front = zeros === 0 ? "begins with no zero byte" : `begins with ${count(zeros, "zero byte")}, ${2 * zeros} levels`;
+    const what = next % base === 0 ? `${base} divides the next byte, ${next}, one level more` : `${base} doesn't divide the next byte, ${next}`;
     return `The digest of “${key}” is ${digest.slice(0, 12)}…: it ${front}, and ${what}. So the key is on level ${level}, in every tree.`;
 }
 
