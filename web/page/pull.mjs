@@ -13,7 +13,6 @@ export class Pull {
         [this.asking, this.answering] = [asking, 1 - asking];
         [this.own, this.peer] = [recording.stores[asking], recording.stores[1 - asking]];
         recording.forget();
-        recording.folds = true;
     }
 
     // Makes all its steps, and says whether the root hashes were equal at its beginning.
