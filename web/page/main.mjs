@@ -23,9 +23,9 @@ class Page {
         this.world = new World(library);
         this.player = new Player({ back: byId("back"), next: byId("next"), play: byId("play"), scrubber: byId("scrubber"), place: byId("place") },
             (step) => this.show({ ...this.state, step }, "replaceState", true));
-        this.picture = new Picture(byId("trees"), (at, key) => this.editor.take(at, key, this.frame.values[at].get(key)));
+        this.picture = new Picture(byId("trees"), (at, key) => this.take(this.state.scene === "order" ? 0 : at, key));
         this.editor = new Editor(byId("editor"), {
-            valueAt: (at, key) => this.world.stores[at].value(key),
+            valueAt: (at, key) => this.valueAt(at, key),
             edit: (at, key, text) => this.edit(edited(this.state, this.played, at, key, text), at, key),
         });
         this.sliders = new Sliders(byId("rows"), {
@@ -43,6 +43,16 @@ class Page {
 
     get frame() {
         return this.frames[this.state.step];
+    }
+
+    // The value at a key of a store, as it is shown.
+    valueAt(at, key) {
+        return this.state.scene === "order" ? this.world.stores[at].value(key) : this.frame.values[at].get(key);
+    }
+
+    // Takes a row of a store up, to be edited.
+    take(at, key) {
+        this.editor.take(at, key, this.valueAt(at, key));
     }
 
     #connect() {
