@@ -69,7 +69,7 @@ class Page {
             this.edit(edited(this.state, this.played, 0, key, "typed on the page"), 0, key);
         };
         window.onpopstate = () => this.show(stateOf(location.hash), null);
-        window.onresize = () => this.draw();
+        window.onresize = () => this.draw(false);
     }
 
     // One click: a scene, which plays where motion is welcome, and else is at its end.
@@ -111,14 +111,14 @@ class Page {
         this.frames = this.world.frames(state);
         this.state = { ...state, step: Math.min(state.step, this.frames.length - 1) };
         if (keep) history[keep](null, "", addressOf(this.state));
-        this.draw();
+        this.draw(isPlayed);
     }
 
-    draw() {
+    draw(isStep) {
         const { state, frame } = this;
         const isRest = state.scene === "sync" && state.step === 0;
         this.player.show(state.step, this.frames.length, state.scene, frame.said);
-        this.picture.draw(isRest ? { ...frame, folds: state.folds } : frame);
+        this.picture.draw(isRest ? { ...frame, folds: state.folds } : frame, isStep);
         this.#say(frame);
         this.sliders.show(state, this.world.stores);
         byId("lane").hidden = state.scene !== "sync";

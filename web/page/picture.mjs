@@ -86,15 +86,16 @@ export class Picture {
         });
     }
 
-    draw(frame) {
+    // Draws a frame. Where it is the next step of a scene, what stays moves to its place.
+    draw(frame, isStep) {
         const isDown = this.root.clientWidth < NARROW;
         if (!this.root.classList.contains(isDown ? "down" : "across")) this.root.className = isDown ? "down" : "across";
         const breadth = this.trees[0].querySelector(".plane").clientWidth;
         const room = isDown ? Math.max(400, Math.min(640, window.innerHeight - 420)) : breadth;
         const layout = layoutOf(frame, room, isDown);
         const levels = levelsOf(layout.rows.length, isDown, isDown ? breadth : window.innerHeight);
-        const size = layout.sides.reduce((sum, { boxes, chips }) => sum + boxes.length + chips.length, 0);
-        this.root.classList.toggle("moves", size < MOST_MOVING);
+        const size = layout.sides.reduce((sum, { boxes, chips }) => sum + boxes.length + chips.filter((chip) => chip.isRead).length, 0);
+        this.root.classList.toggle("moves", isStep && size < MOST_MOVING);
         layout.sides.forEach((side, at) => this.#side(frame, at, side, { levels, isDown, room }));
     }
 
@@ -182,8 +183,6 @@ export class Picture {
 
     // Puts the focus on the chip of a key, where it has one.
     focus(side, key) {
-        const chip = [...this.trees[side].querySelectorAll(".chip")].find((it) => it.dataset.key === key);
-        chip?.focus();
-        return Boolean(chip);
+        [...this.trees[side].querySelectorAll(".chip")].find((it) => it.dataset.key === key)?.focus();
     }
 }
