@@ -150,11 +150,23 @@ IsBeforeValue verb word is_before =
 abbrev pub is_help : Word → Bool
 is_help word = bytes_eq word (codes "--help") || bytes_eq word (codes "-h")
 
--- what the words behind the name of a command ask for: its help, or that it is run with what they give
+-- a word where an option may stand asks for help, or `--` ends the options, or the words behind it say
+abbrev pub AsksFrom : Verb → Word → (Bool → Type 0) → Bool → Type 0
+AsksFrom verb word Rest result =
+    MatchBool (is_help word) (result ≡ true)
+    (MatchBool (bytes_eq word (codes "--")) (result ≡ false) ((is_before : Bool) × IsBeforeValue verb word is_before × Rest is_before))
+
+-- whether one of these words, of which the first may be the value of an option, asks for help where an option may stand, before any `--`
+abbrev pub AsksHelp : Verb → Bool → List Word → Bool → Type 0
+AsksHelp verb is_value [] result = result ≡ false
+AsksHelp verb true (word ∷ words) result = AsksHelp verb false words result
+AsksHelp verb false (word ∷ words) result = AsksFrom verb word (λ is_before. AsksHelp verb is_before words result) result
+
+-- what the words behind the name of a command ask for: its help, or else that it is run with what they give
 abbrev pub AsksOf : Verb → List Word → Result Request Mistake → Type 0
-AsksOf verb words (Ok (HelpOf other)) = other ≡ verb
-AsksOf verb words (Ok (Run other file said)) = (other ≡ verb) × Gives verb None words (Ok (file, said))
-AsksOf verb words (Err why) = Gives verb None words (Err why)
+AsksOf verb words (Ok (HelpOf other)) = (other ≡ verb) × AsksHelp verb false words true
+AsksOf verb words (Ok (Run other file said)) = (other ≡ verb) × AsksHelp verb false words false × Gives verb None words (Ok (file, said))
+AsksOf verb words (Err why) = AsksHelp verb false words false × Gives verb None words (Err why)
 AsksOf verb words (Ok Help) = ⊥
 AsksOf verb words (Ok Version) = ⊥
 

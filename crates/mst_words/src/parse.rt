@@ -1,7 +1,7 @@
 //! A command line as what it asks for.
 ghost use Rattle.std.specs.Prelude.{◌≡◌, map, codes, slice_get, string_bytes, false};
 ghost use Rattle.std.specs.Option.{option_copied, option_map_or};
-ghost use Rattle.mst_words.specs.Commands.{Asks, AsksNamed, Gives, IsBeforeValue, IsNumber, Reads, Sets, Takes, TakesOption, finished, is_alone as said_alone, is_option as begins_option, placed as says_at, stands};
+ghost use Rattle.mst_words.specs.Commands.{Asks, AsksHelp, AsksNamed, Gives, IsBeforeValue, IsNumber, Reads, Sets, Takes, TakesOption, finished, is_alone as said_alone, is_help as names_help, is_option as begins_option, placed as says_at, stands};
 ghost use Rattle.mst_words.specs.Forms.{least_of, place_name, places_of};
 ghost use Rattle.mst_words.specs.Said.{NoNumber, begun, command_of, reading_of, request_of, said_by, told};
 
@@ -299,19 +299,30 @@ fn is_before_value(verb: Verb, word: &str) -> bool
     }
 }
 
+/// Whether a word asks for help.
+fn is_help(word: &str) -> bool
+    ensures { result ≡ names_help word.now }
+{
+    word == "--help" || word == "-h"
+}
+
 /// Whether the words behind a command ask for help, where an option may stand: neither as the value of one, nor behind `--`.
-fn asks_help(verb: Verb, words: &[String]) -> bool {
+fn asks_help(verb: Verb, words: &[String]) -> bool
+    ensures { AsksHelp verb false (map string_bytes words.now) result }
+{
     let mut is_value = false;
     'words: for word in words {
         if is_value {
             is_value = false;
             continue;
         }
-        match word.as_str() {
-            "--help" | "-h" => return true,
-            "--" => return false,
-            name => is_value = is_before_value(verb, name),
+        if is_help(word.as_str()) {
+            return true;
         }
+        if word.as_str() == "--" {
+            return false;
+        }
+        is_value = is_before_value(verb, word.as_str());
     }
     false
 }
