@@ -179,9 +179,15 @@ AsksBy (Some verb) name words result = AsksOf verb words result
 abbrev pub AsksNamed : Word → List Word → Result Request Mistake → Type 0
 AsksNamed name words result = (found : Option Verb) × IsVerbOf name found × AsksBy found name words result
 
--- whether the first word asks for the help of the program
-abbrev pub is_help_word : Word → Bool
-is_help_word word = is_help word || bytes_eq word (codes "help")
+-- the help of the command of a name, or no command
+abbrev pub AsksHelpBy : Option Verb → Word → Result Request Mistake → Type 0
+AsksHelpBy None name result = result ≡ Err (NoSuchCommand name)
+AsksHelpBy (Some verb) name result = result ≡ Ok (HelpOf verb)
+
+-- what the words behind `help` ask for: the help of the program, or of the command that the first of them names
+abbrev pub AsksHelpOf : List Word → Result Request Mistake → Type 0
+AsksHelpOf [] result = result ≡ Ok Help
+AsksHelpOf (name ∷ words) result = (found : Option Verb) × IsVerbOf name found × AsksHelpBy found name result
 
 -- whether it asks for the version
 abbrev pub is_version_word : Word → Bool
@@ -191,5 +197,6 @@ is_version_word word = bytes_eq word (codes "--version") || bytes_eq word (codes
 abbrev pub Asks : List Word → Result Request Mistake → Type 0
 Asks [] result = result ≡ Err NoCommand
 Asks (name ∷ words) result =
-    MatchBool (is_help_word name) (result ≡ Ok Help)
-    (MatchBool (is_version_word name) (result ≡ Ok Version) (AsksNamed name words result))
+    MatchBool (is_help name) (result ≡ Ok Help)
+    (MatchBool (bytes_eq name (codes "help")) (AsksHelpOf words result)
+    (MatchBool (is_version_word name) (result ≡ Ok Version) (AsksNamed name words result)))

@@ -1,7 +1,7 @@
 //! A command line as what it asks for.
 ghost use Rattle.std.specs.Prelude.{◌≡◌, map, codes, slice_get, string_bytes, false};
 ghost use Rattle.std.specs.Option.{option_copied, option_map_or};
-ghost use Rattle.mst_words.specs.Commands.{Asks, AsksHelp, AsksNamed, Gives, IsBeforeValue, IsNumber, Reads, Sets, Takes, TakesOption, finished, is_alone as said_alone, is_help as names_help, is_option as begins_option, placed as says_at, stands};
+ghost use Rattle.mst_words.specs.Commands.{Asks, AsksHelp, AsksHelpOf, AsksNamed, Gives, IsBeforeValue, IsNumber, Reads, Sets, Takes, TakesOption, finished, is_alone as said_alone, is_help as names_help, is_option as begins_option, placed as says_at, stands};
 ghost use Rattle.mst_words.specs.Forms.{least_of, place_name, places_of};
 ghost use Rattle.mst_words.specs.Said.{NoNumber, begun, command_of, reading_of, request_of, said_by, told};
 
@@ -341,6 +341,23 @@ fn of_command<'a>(name: &'a str, words: &'a [String]) -> Result<Asked<'a>, Wrong
     Ok(Asked::Run(verb, file, given))
 }
 
+/// What the words behind `help` ask for: the help of the program, or of the command that the first of them names.
+///
+/// # Errors
+///
+/// [`Wrong::NoSuchCommand`]
+pub fn help_of<'a>(words: &'a [String]) -> Result<Asked<'a>, Wrong<'a>>
+    ensures { AsksHelpOf (map string_bytes words.now) (told request_of result) }
+{
+    let Some((name, _)) = words.split_first() else {
+        return Ok(Asked::Help);
+    };
+    match verb_of(name.as_str()) {
+        Some(verb) => Ok(Asked::HelpOf(verb)),
+        None => Err(Wrong::NoSuchCommand(name.as_str())),
+    }
+}
+
 /// What the words of a command line ask for, without the name of the program.
 ///
 /// # Errors
@@ -353,7 +370,8 @@ pub fn read_words<'a>(words: &'a [String]) -> Result<Asked<'a>, Wrong<'a>>
         return Err(Wrong::NoCommand);
     };
     match first.as_str() {
-        "--help" | "-h" | "help" => Ok(Asked::Help),
+        "--help" | "-h" => Ok(Asked::Help),
+        "help" => help_of(rest),
         "--version" | "-V" => Ok(Asked::Version),
         name => of_command(name, rest),
     }

@@ -313,7 +313,7 @@ usage: mst COMMAND FILE [WORDS]
   pull FILE              brings what a peer on standard input and standard output has
   diff FILE              tells which keys a pull would bring
 
-mst COMMAND --help tells more of a command. Words behind -- are no options. mst --version prints the version.
+mst help COMMAND tells more of a command. Words behind -- are no options. mst --version prints the version.
 Each command but init takes --wait SECONDS: so long it waits for a file that another process has, and is then refused.
 It ends with status 0; with 1, and a line on standard error, where it failed or a key isn't there; with 2 for a wrong command line.
 ";
