@@ -138,11 +138,6 @@ impl<K: Key + Decode, V: Join + Decode> CatchingUp<K, V> {
     }
 
     /// The same catch-up, which takes no more of its peer from here on than the limits allow.
-    ///
-    /// ```rust crates/wire_tests/src/limits.rt
-    /// let (session, message) = CatchingUp::begin(alloc, &local)?;
-    /// let session = session.within(limits);
-    /// ```
     pub fn within(self, limits: Limits) -> Self
         ensures { result ≡ record self { left = limits } }
     {

@@ -4,8 +4,6 @@
 #[cfg(test)]
 mod endless_rounds;
 #[cfg(test)]
-mod exchanging;
-#[cfg(test)]
 mod faults;
 #[cfg(test)]
 mod first_calls;
@@ -14,11 +12,7 @@ mod formats;
 #[cfg(test)]
 mod hex;
 #[cfg(test)]
-mod kept_rows;
-#[cfg(test)]
 mod keys;
-#[cfg(test)]
-mod limits;
 #[cfg(test)]
 mod memory;
 #[cfg(test)]
@@ -35,8 +29,6 @@ mod refusals;
 mod refused_values;
 #[cfg(test)]
 mod sessions;
-#[cfg(test)]
-mod shelf;
 #[cfg(test)]
 mod values;
 #[cfg(test)]
