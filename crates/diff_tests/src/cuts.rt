@@ -155,7 +155,7 @@ const REFUSED: [(&[Bounds], &[Bounds], &[Bounds]); 6] = [
     (&[(0, 0), (4, 4), (1, 4)], &[(2, 42)], &[(0, 0), (1, 2)]),
 ];
 
-/// Asserts that a cut is these ranges, or want of memory.
+/// Asserts that a cut is these ranges, or out of memory.
 fn expect(rt: &impl Abort, found: Result<Vec<DiffRange<'_, u64>>, AllocError>, left: &[Bounds]) {
     if let Ok(found) = found {
         assert!(rt; found.len() == left.len());

@@ -159,7 +159,7 @@ struct Seen {
 }
 
 impl Seen {
-    /// Asserts that the ranges to ask for are these, or want of memory, and counts which of both.
+    /// Asserts that the ranges to ask for are these, or out of memory, and counts which of both.
     fn expect(
         &mut self,
         rt: &impl Abort,

@@ -10,7 +10,7 @@ fn digest(number: u8) -> PageDigest {
     PageDigest::new([number; 16])
 }
 
-// The page ranges of the keys 1, 2, 3, 4 and of 1, 2, 3, 5, as the README of the repository draws them.
+// The page ranges of the keys 1, 2, 3, 4 and of 1, 2, 3, 5, as docs/TREE.md draws them.
 #[test]
 fn two_lists_of_page_ranges(rt: HostRuntime) -> Result<(), Fail> {
     let alloc = rt.alloc();

@@ -41,7 +41,7 @@ fn levels_of_one_byte_in_base_16(rt: HostRuntime) {
     }
 }
 
-/// The level in base 16 of the digest of 200 bytes that are so many zeros, then this byte, then bytes `22`.
+/// The level in base 16 of the digest of 200 bytes that are this many zeros, then this byte, then bytes `22`.
 fn level_of_200_bytes(zeros: usize, byte: u8) -> u8 {
     let mut bytes = [0x22; 200];
     for (place, to) in bytes.iter_mut().enumerate() {

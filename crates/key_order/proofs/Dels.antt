@@ -60,7 +60,7 @@ module _ {K X : Type 0} (cmp : K → K → Ordering) (k : K) where
       by true f g = (f, g)
       by false f g = g
 
-  -- the entry of an equal key, and of one behind another
+  -- the entry of an equal key, and of one after another
   pub entry-here : (p : K × X) (ps : List (K × X)) → cmp k p.0 ≡ Equal → entry cmp (p ∷ ps) k ≡ Some p
   entry-here p ps e = ap (λ q. cond (is_eq q) (Some p) (entry cmp ps k)) e
 

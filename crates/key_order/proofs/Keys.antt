@@ -45,6 +45,3 @@ module _ {K X : Type 0} (cmp : K → K → Ordering) (o : IsTotalOrder cmp) wher
   -- a key with a value is there
   pub has_value : (m : List (K × X)) (k : K) (v : X) → get cmp m k ≡ Some v → has_key cmp m k ≡ true
   has_value m k v e = has_get m k ∙ ap is_some e
-
-  pub has_present : (m : List (K × X)) (k : K) → IsPresent (get cmp m k) → has_key cmp m k ≡ true
-  has_present m k p = has_get m k ∙ present_there (get cmp m k) p

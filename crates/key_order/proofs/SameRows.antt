@@ -3,12 +3,10 @@ use Rattle.std.proofs.Common.{◌≡◌, suc, Bool, true, false, cond, List, [],
 use Rattle.std.specs.Cmp.{IsTotalOrder, IsEquivalence, tied_itself, tied_back}
 use Rattle.std.specs.declared.cmp.Ordering.{Ordering}
 use Rattle.key_order.specs.Order.{Same}
-use Rattle.key_order.specs.Interval.{Span, is_covered}
-use Rattle.key_order.specs.Map.{SameMap, rows_at, rows_in, get}
+use Rattle.key_order.specs.Map.{SameMap, rows_at, get}
 use Rattle.key_order.specs.Join.{IsJoining, IsJoin, joined}
 use Rattle.key_order.proofs.Maps.{get_by_same}
 use Rattle.key_order.proofs.SameMaps.{same_is_map}
-use Rattle.key_order.proofs.Spans.{is_covered-same}
 use Rattle.key_order.proofs.Values.{back, on, cong}
 
 module _ {K X : Type 0} (cmp : K → K → Ordering) (o : IsTotalOrder cmp) (R : X → X → Type 0) where
@@ -48,10 +46,6 @@ module _ {K X : Type 0} (cmp : K → K → Ordering) (o : IsTotalOrder cmp) (R :
       by true false e rest = absurd (cc)
       by false true e rest = absurd (cc)
 
-  -- the rows within spans
-  pub same_rows-in : (spans : List (Span K)) (a b : List (K × X)) → SameMap cmp R a b → SameMap cmp R (rows_in cmp spans a) (rows_in cmp spans b)
-  same_rows-in spans = same_rows-at (λ k. is_covered cmp k spans) (is_covered-same cmp o spans)
-
 module _ {K V : Type 0} (cmp : K → K → Ordering) (o : IsTotalOrder cmp) (eq : V → V → Bool) (e : IsEquivalence eq) where
   -- rows with the same keys and equal values
   abbrev pub SameRows : List (K × V) → List (K × V) → Type 0
@@ -62,9 +56,6 @@ module _ {K V : Type 0} (cmp : K → K → Ordering) (o : IsTotalOrder cmp) (eq 
 
   pub equal_rows-back : (a b : List (K × V)) → SameRows a b → SameRows b a
   equal_rows-back = same_rows-back cmp o (λ x y. eq x y ≡ true) (λ x y h. e.symm y x ∙ h)
-
-  pub equal_rows-trans : (a b c : List (K × V)) → SameRows a b → SameRows b c → SameRows a c
-  equal_rows-trans = same_rows-trans cmp o (λ x y. eq x y ≡ true) (λ x y z h k. e.congr x y z h ∙ k)
 
   -- a join of rows is one of the same rows
   pub joins-same : (join : V → V → V) → IsJoining eq join → (a b c a' b' c' : List (K × V)) → SameRows a a' → SameRows b b' → SameRows c c' → IsJoin cmp eq join a b c → IsJoin cmp eq join a' b' c'

@@ -1,8 +1,8 @@
 -- A map with one key set.
-use Rattle.std.proofs.Common.{◌≡◌, ◌≢◌, Bool, true, false, cond, List, [], ◌∷◌, Option, Some, refl, ◌∙◌, ap}
+use Rattle.std.proofs.Common.{◌≡◌, Bool, true, false, cond, List, [], ◌∷◌, Option, Some, refl, ◌∙◌, ap}
 use Rattle.std.specs.List.{AllByRecursion}
-use Rattle.std.specs.Cmp.{IsTotalOrder, alike_right}
-use Rattle.std.specs.Ordering.{is_eq, is_gt, is_lt, match_ordering, ordering_reverse}
+use Rattle.std.specs.Cmp.{IsTotalOrder}
+use Rattle.std.specs.Ordering.{is_eq, is_gt, is_lt}
 use Rattle.std.specs.declared.cmp.Ordering.{Ordering}
 use Rattle.std.specs.declared.cmp.Ordering.TheVariants.{Less, Equal, Greater}
 use Rattle.key_order.specs.Order.{Below}
@@ -59,32 +59,3 @@ module _ {K X : Type 0} (cmp : K → K → Ordering) (o : IsTotalOrder cmp) wher
           rw w (ap (λ z. cond (is_eq (cmp r.0 i)) (Some r.1) z) f
           ∙ swap (is_eq (cmp r.0 i)) (is_eq (cmp k i)) (Some r.1) n (get cmp rs i)
           (λ p q. not_both cmp o i r.0 (same_down cmp o r.0 i (is_equal (cmp r.0 i) p)) (low_up cmp o r.0 k i (above cmp o k r.0 w) (same_up cmp o k i (is_equal (cmp k i) q)))))
-
-  -- keys that aren't equal can be set in either order
-  pub set_either_way : (m : List (K × X)) (j k : K) (x y : X) → cmp j k ≢ Equal → set cmp (set cmp m j x) k y ≡ set cmp (set cmp m k y) j x
-  set_either_way m j k x y ne = by m
-    where
-      -- both before the rest
-      front : (rest : List (K × X)) (w : Ordering) → cmp j k ≡ w
-          → match_ordering (cmp k j) ((k, y) ∷ (j, x) ∷ rest) ((j, y) ∷ rest) ((j, x) ∷ (k, y) ∷ rest) ≡ match_ordering (cmp j k) ((j, x) ∷ (k, y) ∷ rest) ((k, x) ∷ rest) ((k, y) ∷ (j, x) ∷ rest)
-      front rest Less e = rw (o.antisymm k j, e) refl
-      front rest Equal e = absurd (ne e)
-      front rest Greater e = rw (o.antisymm k j, e) refl
-
-      one : (r : K × X) (rs : List (K × X)) → set cmp (set cmp rs j x) k y ≡ set cmp (set cmp rs k y) j x → (v w : Ordering) → cmp j r.0 ≡ v → cmp k r.0 ≡ w
-          → set cmp (set cmp (r ∷ rs) j x) k y ≡ set cmp (set cmp (r ∷ rs) k y) j x
-      one r rs h Less Less e f = simp (e, f) (front (r ∷ rs) (cmp j k) refl)
-      one r rs h Less Equal e f = let g : cmp k j ≡ Greater = o.antisymm k j ∙ ap ordering_reverse (alike_right o k r.0 j f ∙ e) in simp (e, f, g) refl
-      one r rs h Less Greater e f =
-          let g : cmp k j ≡ Greater = o.antisymm k j ∙ ap ordering_reverse (o.trans j r.0 k e (o.antisymm r.0 k ∙ ap ordering_reverse f)) in simp (e, f, g) refl
-      one r rs h Equal Less e f = let g : cmp j k ≡ Greater = o.antisymm j k ∙ ap ordering_reverse (alike_right o j r.0 k e ∙ f) in simp (e, f, g) refl
-      one r rs h Equal Equal e f = absurd (ne (alike_right o k r.0 j f ∙ e))
-      one r rs h Equal Greater e f = simp (e, f) refl
-      one r rs h Greater Less e f =
-          let g : cmp j k ≡ Greater = o.antisymm j k ∙ ap ordering_reverse (o.trans k r.0 j f (o.antisymm r.0 j ∙ ap ordering_reverse e)) in simp (e, f, g) refl
-      one r rs h Greater Equal e f = simp (e, f) refl
-      one r rs h Greater Greater e f = simp (e, f) (ap (λ m. r ∷ m) h)
-
-      by : (m : List (K × X)) → set cmp (set cmp m j x) k y ≡ set cmp (set cmp m k y) j x
-      by [] = front [] (cmp j k) refl
-      by (r ∷ rs) = one r rs (by rs) (cmp j r.0) (cmp k r.0) refl refl

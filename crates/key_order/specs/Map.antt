@@ -18,7 +18,7 @@ abbrev pub IsPresent : {X : Type 0} → Option X → Type 0
 IsPresent None = ⊥
 IsPresent (Some a) = ⊤
 
--- the last key of the pairs behind a pair with the key k
+-- the last key of the pairs after a pair with the key k
 abbrev pub last_key : {K X : Type 0} → K → List (K × X) → K
 last_key k [] = k
 last_key k (p ∷ ps) = last_key p.0 ps

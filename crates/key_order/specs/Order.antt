@@ -23,7 +23,7 @@ module _ {K : Type 0} (cmp : K → K → Ordering) where
   abbrev pub Same : K → K → Type 0
   Same a b = cmp a b ≡ Equal
 
-  -- each key is below those behind it
+  -- each key is below those after it
   abbrev pub IsAscending : List K → Type 0
   IsAscending [] = ⊤
   IsAscending (k ∷ ks) = AllByRecursion (λ j. Below k j) ks × IsAscending ks

@@ -15,7 +15,7 @@ use merkle_search_tree::laws::{
 use merkle_search_tree::updates::Update;
 use std::alloc::{AllocError, Global};
 
-/// Carries out an update, and answers whether it was accepted.
+/// Carries out an update, and returns whether it was accepted.
 fn carry_out<K, V, H, const N: usize>(
     replica: &mut Replica<K, V, H, N>,
     update: Update<K, V>,

@@ -19,7 +19,7 @@ use std::fmt;
 pub enum Exchange {
     /// Not at all.
     Apart,
-    /// By so many pulls by turns.
+    /// By this many pulls by turns.
     ByTurns(usize),
     /// By one catch-up each way.
     ByCatchUps,
@@ -36,7 +36,7 @@ pub enum Exchanged<K> {
     CaughtUp(CaughtUp, CaughtUp),
 }
 
-/// Why there is no run to the end: memory was refused. Both replicas are given up.
+/// Why there is no run to the end: out of memory. Both replicas are given up.
 #[derive(Debug, Drop)]
 pub enum RunRefused<K> {
     /// Before the exchange: for the clone of the hasher, for the answers, or for the copy of a tree.
@@ -47,7 +47,7 @@ pub enum RunRefused<K> {
     InCatchUps(CatchUpsError),
 }
 
-/// Says where memory was refused.
+/// Says where memory ran out.
 impl<K> fmt::Display for RunRefused<K> {
     ghost output = { λ refused. Some (run_text refused) };
 

@@ -46,9 +46,9 @@ pub struct Run<K: Key, V: Join, H: Hasher<N, K> + ValueHasher<N, V>, const N: us
 /// and the root hash of that tree. While digests don't collide in what the two meet, four pulls by turns or more, or a catch-up
 /// each way, leave both with the join of their two maps, and one root hash.
 ///
-/// An update is refused for want of memory, or by the join of a value with the one that is there, and changes nothing then. Hashing takes no
+/// An update is refused when out of memory, or by the join of a value with the one that is there, and changes nothing then. Hashing takes no
 /// memory and is always accepted, and so is a removal of a key that isn't there, or beside which a gap is empty in the tree that the map
-/// defines. Of each other update nothing says that it is accepted, since nothing says when memory is refused.
+/// defines. Of each other update nothing says that it is accepted, since nothing says when memory runs out.
 ///
 /// ```rust crates/theorem_tests/src/random_runs.rt
 /// fn run_both(
@@ -64,7 +64,7 @@ pub struct Run<K: Key, V: Join, H: Hasher<N, K> + ValueHasher<N, V>, const N: us
 ///
 /// # Errors
 ///
-/// [`RunRefused`] where memory is refused for anything else: both replicas are then given up.
+/// [`RunRefused`] if memory runs out for anything else: both replicas are then given up.
 pub fn converge<K, V, H, const N: usize>(
     alloc: Global,
     builder: Builder<H>,

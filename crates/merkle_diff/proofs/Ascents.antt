@@ -1,4 +1,4 @@
--- Sorted by start: place by place, as std's sort says it, and each range against all behind it.
+-- Sorted by start: place by place, as std's sort says it, and each range against all after it.
 use Rattle.std.proofs.Common.{◌≡◌, ℕ, zero, suc, ◌+◌, get_or, false, List, [], ◌∷◌, map, arith, sym, ◌∙◌, subst, IsSortedByKey}
 use Rattle.std.specs.Cmp.{IsTotalOrder}
 use Rattle.std.specs.List.{AllByRecursion}

@@ -20,12 +20,12 @@ bound Start s = s.first
 bound End s = s.last
 
 module _ {K : Type 0} (cmp : K → K → Ordering) where
-  -- a border at k parts the keys, where a start stands just before k, and an end just behind it: x lies before the border
+  -- a border at k parts the keys, where a start stands just before k, and an end just after it: x lies before the border
   abbrev pub Before : Border → K → K → Type 0
   Before Start k x = Below cmp x k
   Before End k x = Upto cmp x k
 
-  -- x lies behind the border
+  -- x lies after the border
   abbrev pub Behind : Border → K → K → Type 0
   Behind Start k x = Upto cmp k x
   Behind End k x = Below cmp k x

@@ -30,7 +30,7 @@ module _ {K : Type 0} (cmp : K → K → Ordering) (o : IsTotalOrder cmp) where
         let x = any-member (Across cmp e k) (IsWithin cmp) ss (λ s. (up_self cmp o s.first, up_self cmp o s.last)) h in
         none-of (Across cmp e k) ms f (any-map (IsWithin cmp x.0) (Across cmp e k) ms (λ t w. across-within cmp o e k x.0 t w x.1) (merge-holds cmp o x.0 ss ms d m x.2)))
 
-    -- ranges of which each ends before those behind it begin run across no edge of one another
+    -- ranges of which each ends before those after it begin run across no edge of one another
     apart-free : (ms : List (Span K)) → AllByRecursion (IsOrdered cmp) ms → IsApart cmp ms → AllByRecursion (λ m. Free cmp e ms (bound e m)) ms
     apart-free [] d a = tt
     apart-free (m ∷ ms) d a = (
@@ -111,7 +111,7 @@ module _ {K : Type 0} (cmp : K → K → Ordering) (o : IsTotalOrder cmp) where
         across : (e : Border) → Across cmp e k m.0 → IsCovered cmp k (pieces_left cmp bad ys)
         across e = again (Across cmp e k) (λ g. ¬ (Across cmp e k g)) (across-left e k) (across-in cmp o e k) (f e)
 
-        -- the key is behind the start, or before the end, or the whole range
+        -- the key is after the start, or before the end, or the whole range
         go : Below cmp m.0.first k ⊎ Upto cmp k m.0.first → Upto cmp m.0.last k ⊎ Below cmp k m.0.last → IsCovered cmp k (pieces_left cmp bad ys)
         go (inl b) t = across Start (b, m.1.1)
         go (inr u) (inr b) = across End (m.1.0, b)

@@ -30,7 +30,7 @@ module _ {K : Type 0} (cmp : K → K → Ordering) (o : IsTotalOrder cmp) where
 
   -- ---- one good range
 
-  -- what is left of s where g is cut out is s itself, a piece before g or one behind it
+  -- what is left of s where g is cut out is s itself, a piece before g or one after it
   pub any-cut : (Q : Span K → Type 0) (R : Type 0) (g s : Span K) → (¬ (Meets cmp g s) → Q s → R) → (Meets cmp g s → Below cmp s.first g.first → Q (record { first = s.first; last = g.first }) → R)
       → (Meets cmp g s → Below cmp g.last s.last → Q (record { first = g.last; last = s.last }) → R) → AnyByRecursion Q (cut_one cmp g s) → R
   any-cut Q R g s whole before behind h = go (meets cmp g s) refl h

@@ -39,7 +39,7 @@ module _ {K : Type 0} (cmp : K → K → Ordering) (o : IsTotalOrder cmp) where
   each-whole g [] n = refl
   each-whole g (s ∷ ss) n = ap (λ xs. xs ++ flat_map (cut_one cmp g) ss) (whole g s n.0) ∙ ap (λ xs. s ∷ xs) (each-whole g ss n.1)
 
-  -- what lies behind a good range is not cut by it
+  -- what lies after a good range is not cut by it
   pub cut-behind : (g : Span K) (ss good : List (Span K)) → AllByRecursion (λ s. Below cmp g.last s.first) ss → pieces_left cmp ss (g ∷ good) ≡ pieces_left cmp ss good
   cut-behind g ss good b = ap (λ xs. pieces_left cmp xs good) (each-whole g ss (each-with (λ s. Below cmp g.last s.first) (λ s. ¬ (Meets cmp g s)) ss (λ s c m. not_both cmp o s.first g.last m.1 c) b))
 
@@ -51,7 +51,7 @@ module _ {K : Type 0} (cmp : K → K → Ordering) (o : IsTotalOrder cmp) where
       ∙ cut-before e ss good u b.1
 
   module _ (g s : Span K) (good : List (Span K)) (ordered : IsOrdered cmp g) (after : AllByRecursion (λ t. Below cmp g.last t.first) good) where
-    -- a good range that ends within a range leaves a piece before it, and the range goes on behind it
+    -- a good range that ends within a range leaves a piece before it, and the range goes on after it
     pub cut-within : Upto cmp s.first g.last → Below cmp g.last s.last → pieces_left cmp (s ∷ []) (g ∷ good) ≡ piece cmp s.first g.first ++ pieces_left cmp (record { first = g.last; last = s.last } ∷ []) good
     cut-within u b =
         ap (λ xs. pieces_left cmp (xs ++ []) good) cut
@@ -68,7 +68,7 @@ module _ {K : Type 0} (cmp : K → K → Ordering) (o : IsTotalOrder cmp) where
         before : pieces_left cmp (piece cmp s.first g.first) good ≡ piece cmp s.first g.first
         before = cut-before g.last (piece cmp s.first g.first) good (each-piece cmp o (λ t. Upto cmp t.last g.last) s.first g.first (λ c. ordered)) after
 
-    -- a good range that ends at or behind the end of a range is the last that can meet it
+    -- a good range that ends at or after the end of a range is the last that can meet it
     pub cut-over : Upto cmp s.last g.last → pieces_left cmp (s ∷ []) (g ∷ good) ≡ cut_one cmp g s
     cut-over u =
         ap (λ xs. pieces_left cmp xs good) (append-nil (cut_one cmp g s))
@@ -81,14 +81,14 @@ module _ {K : Type 0} (cmp : K → K → Ordering) (o : IsTotalOrder cmp) where
   apart-drop v (suc n) [] a = tt
   apart-drop v (suc n) (x ∷ xs) a = apart-drop v n xs a.1
 
-  -- ---- a step of the pass, from the good ranges gs to those behind g
+  -- ---- a step of the pass, from the good ranges gs to those after g
 
   module _ (s g : Span K) (gs rest : List (Span K)) (begins : gs ≡ g ∷ rest) where
     -- g ends before the range: the range goes on whole
     pub step-behind : (pieces all : List (Span K)) → Below cmp g.last s.first → pieces ++ pieces_left cmp (s ∷ []) gs ≡ all → pieces ++ pieces_left cmp (s ∷ []) rest ≡ all
     step-behind pieces all b h = ap (λ xs. pieces ++ xs) (sym (ap (pieces_left cmp (s ∷ [])) begins ∙ cut-behind g (s ∷ []) rest (b, tt))) ∙ h
 
-    -- g ends within the range: a piece comes before it, and the range goes on behind it
+    -- g ends within the range: a piece comes before it, and the range goes on after it
     pub step-within : (pieces more all : List (Span K)) (left : Span K) → IsOrdered cmp g → IsApart cmp gs → Upto cmp s.first g.last → Below cmp g.last s.last
         → more ≡ pieces ++ piece cmp s.first g.first → left ≡ record { first = g.last; last = s.last }
         → pieces ++ pieces_left cmp (s ∷ []) gs ≡ all → more ++ pieces_left cmp (left ∷ []) rest ≡ all
@@ -99,14 +99,14 @@ module _ {K : Type 0} (cmp : K → K → Ordering) (o : IsTotalOrder cmp) where
         ∙ (append_assoc pieces (piece cmp s.first g.first) (pieces_left cmp (record { first = g.last; last = s.last } ∷ []) rest)
         ∙ (ap (λ xs. pieces ++ xs) (sym (ap (pieces_left cmp (s ∷ [])) begins ∙ cut-within g s rest d after u b)) ∙ h)))
 
-    -- g ends at the end of the range or behind it: nothing of the range goes on
+    -- g ends at the end of the range or after it: nothing of the range goes on
     pub step-over : (pieces more all : List (Span K)) → IsOrdered cmp g → IsApart cmp gs → Upto cmp s.last g.last → more ≡ pieces ++ cut_one cmp g s
         → pieces ++ pieces_left cmp (s ∷ []) gs ≡ all → more ≡ all
     step-over pieces more all d a u e h =
         let after : AllByRecursion (λ t. Below cmp g.last t.first) rest = (subst (IsApart cmp) begins a).0 in
         e ∙ (ap (λ xs. pieces ++ xs) (sym (ap (pieces_left cmp (s ∷ [])) begins ∙ cut-over g s rest d after u)) ∙ h)
 
-    -- where g ends before the end of the range, it cuts nothing behind the range
+    -- where g ends before the end of the range, it cuts nothing after the range
     pub step-later : (good : List (Span K)) → Below cmp g.last s.last → LeavesAlike cmp s.last good gs → LeavesAlike cmp s.last good rest
     step-later good b f later n =
         sym (ap (pieces_left cmp later) begins ∙ cut-behind g later rest (each-with (λ t. Below cmp s.last t.first) (λ t. Below cmp g.last t.first) later (λ t l. low_up cmp o g.last s.last t.first b (low_is_up cmp o s.last t.first l)) n))

@@ -35,7 +35,7 @@ module _ {K : Type 0} (cmp : K → K → Ordering) (o : IsTotalOrder cmp) where
     abbrev top : K
     top = greater cmp cur.last s.last
 
-    -- the top is one of the two ends: where it lies behind an edge, one of them does
+    -- the top is one of the two ends: where it lies after an edge, one of them does
     behind-top : (e : Border) (k : K) → Behind cmp e k top → Behind cmp e k cur.last ⊎ (Before cmp e k cur.last × Behind cmp e k s.last)
     behind-top e k h = go (upto cmp s.last cur.last) (part cmp o e k cur.last) h
       where

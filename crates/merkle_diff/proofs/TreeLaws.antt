@@ -56,7 +56,7 @@ module _ {K D : Type 0} (cmp : K → K → Ordering) (o : IsTotalOrder cmp) wher
   abbrev AllOrdered : List (Entry K D) → Type 0
   AllOrdered = AllByRecursion (λ e. IsOrdered cmp (span_of e))
 
-  -- behind a pair of the run, the walk goes on with the next
+  -- after a pair of the run, the walk goes on with the next
   tail : (seen : List (Span K)) (R : Span K) (a b : Entry K D) (L P P' L' : List (Entry K D)) (agree : Bool) (inner after : List (Mark K)) (P1 L1 : List (Entry K D))
       → SameSpan cmp (span_of a) (span_of b) → AllOrdered P
       → Walk cmp (span_of b) None (if agree then after_within cmp (span_of b) P else P) L inner P1 L1
@@ -176,7 +176,7 @@ module _ {K D : Type 0} (cmp : K → K → Ordering) (o : IsTotalOrder cmp) wher
     table : IsByTable cmp (a ∷ ls) (b ∷ ps) found
     table = by-table cmp o (a ∷ ls) b ps found d (ms, P', L', bad, good, w, mb, mg, c)
 
-    -- local's first entry begins and ends behind the peer's
+    -- local's first entry begins and ends after the peer's
     front-spared : Below cmp b.first a.first → Below cmp b.last a.last → AllByRecursion (SparedKeys found) (leading_from cmp [] ls ps)
     front-spared x y =
         each-with (λ pr. EntryWithin cmp pr.0 a × SameSpan cmp (span_of pr.0) (span_of pr.1)) (SparedKeys found) (leading_from cmp [] ls ps)

@@ -35,11 +35,11 @@ module _ {K : Type 0} (cmp : K → K → Ordering) (o : IsTotalOrder cmp) where
   wider : (R p : Span K) (ms : List (Mark K)) → IsWithin cmp p R → MarksWithin p ms → MarksWithin R ms
   wider R p ms h k = each-with (λ m. IsWithin cmp (span_marked m) p) (λ m. IsWithin cmp (span_marked m) R) ms (λ m w. within_trans cmp o (span_marked m) p R w h) k
 
-  -- the gaps of R go on behind p
+  -- the gaps of R go on after p
   begins : (R p : Span K) → IsWithin cmp p R → IsOrdered cmp p → BeginsIn R (Some p)
   begins R p h k = up_up cmp o R.first p.first p.last h.0 k
 
--- what holds of each entry holds of those behind the front
+-- what holds of each entry holds of those after the front
 pub each-after : {K D : Type 0} (cmp : K → K → Ordering) (P : Entry K D → Type 0) (s : Span K) (es : List (Entry K D)) → AllByRecursion P es → AllByRecursion P (after_within cmp s es)
 each-after cmp P s [] h = tt
 each-after cmp P s (x ∷ es) h = go (is_within cmp (span_of x) s) (each-after cmp P s es h.1)

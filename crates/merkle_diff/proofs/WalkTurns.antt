@@ -58,7 +58,7 @@ module _ {I J K : Type 0} {o e p : _} (cmp : K → K → Ordering) (steps : I �
       )
 
   module _ (l l1 l2 : Lookahead I (PageRange K o e p)) (p0 p1 p2 : Lookahead J (PageRange K o e p)) (R : Span K) (from : K) (Did : List (Mark K) → Type 0) (x f : PageRange K o e p) (d : PageDigest) (agree : Bool) where
-    -- where local's next range is within s and the queues have come behind the fronts of s, the walk goes into s
+    -- where local's next range is within s and the queues have come after the fronts of s, the walk goes into s
     abbrev GoesInto : Span K → Type 0
     GoesInto s = is_within cmp (span_of (entry f)) s ≡ true
         → Agree agree d x.hash

@@ -12,6 +12,6 @@ span r = record { first = r.start.now; last = r.end.now }
 abbrev pub spans : {K o e p : _} → List (DiffRange K o e p) → List (Span K)
 spans = map span
 
--- these spans were added behind those of the vector
+-- these spans were added after those of the vector
 abbrev pub AddsSpans : {K o e p : _} → Vec (DiffRange K o e p) → List (Span K) → Vec (DiffRange K o e p) → Type 0
 AddsSpans old ss new = spans new.items ≡ spans old.items ++ ss

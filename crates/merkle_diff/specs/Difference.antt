@@ -38,7 +38,7 @@ module _ {K D : Type 0} (cmp : K → K → Ordering) where
   pub record IsByFirsts (a b : Entry K D) (ls ps : List (Entry K D)) (found : List (Span K)) : Type 0 where
     -- the peer's begins and ends before local's: the one range from its start to its end or to local's start
     pub before : Below cmp b.first a.first → Below cmp b.last a.last → SameSpans cmp found (record { first = b.first; last = lesser cmp a.first b.last } ∷ [])
-    -- the peer's begins and ends behind local's: nothing
+    -- the peer's begins and ends after local's: nothing
     pub behind : Below cmp a.first b.first → Below cmp a.last b.last → found ≡ []
     -- the peer's is within local's, and they are not equal: nothing
     pub within : EntryWithin cmp b a → ¬ (SameSpan cmp (span_of a) (span_of b)) → found ≡ []

@@ -9,7 +9,7 @@ use Rattle.merkle_diff.specs.Cut.{pieces_left}
 use Rattle.merkle_diff.specs.DiffRange.{span, spans, AddsSpans}
 use Rattle.merkle_diff.specs.declared.diff_range.DiffRange.{DiffRange}
 
--- of ranges behind the key, both lists of good ones leave the same pieces
+-- of ranges after the key, both lists of good ones leave the same pieces
 abbrev pub LeavesAlike : {K : Type 0} → (K → K → Ordering) → K → List (Span K) → List (Span K) → Type 0
 LeavesAlike {K} cmp last good rest = (later : List (Span K)) → AllByRecursion (λ s. Below cmp last s.first) later → pieces_left cmp later rest ≡ pieces_left cmp later good
 

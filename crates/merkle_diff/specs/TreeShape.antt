@@ -23,7 +23,7 @@ module _ {K D : Type 0} (cmp : K → K → Ordering) where
   leading_from seen (a ∷ rest) (b ∷ bs) =
       if same_span cmp (span_of a) (span_of b) && not (list_any (meets cmp (span_of a)) seen) then ((a, b) ∷ leading_from (span_of a ∷ seen) rest bs) else []
 
-  -- the leading run: the pairs behind the first entries, as far as their spans are the same and no two of these meet
+  -- the leading run: the pairs after the first entries, as far as their spans are the same and no two of these meet
   abbrev pub leading_run : List (Entry K D) → List (Entry K D) → List (Entry K D × Entry K D)
   leading_run [] bs = []
   leading_run (a ∷ rest) [] = []

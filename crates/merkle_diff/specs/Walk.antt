@@ -47,7 +47,7 @@ module _ {K D : Type 0} (cmp : K → K → Ordering) where
   front_within s [] = []
   front_within s (x ∷ P) = if is_within cmp (span_of x) s then (x ∷ front_within s P) else []
 
-  -- the entries behind them
+  -- the entries after them
   abbrev pub after_within : Span K → List (Entry K D) → List (Entry K D)
   after_within s [] = []
   after_within s (x ∷ P) = if is_within cmp (span_of x) s then after_within s P else (x ∷ P)
@@ -57,7 +57,7 @@ module _ {K D : Type 0} (cmp : K → K → Ordering) where
   last_holder s l [] = l
   last_holder s l (x ∷ L) = if is_within cmp s (span_of x) then last_holder s x L else l
 
-  -- the entries behind them
+  -- the entries after them
   abbrev pub after_holders : Span K → List (Entry K D) → List (Entry K D)
   after_holders s [] = []
   after_holders s (x ∷ L) = if is_within cmp s (span_of x) then after_holders s L else (x ∷ L)

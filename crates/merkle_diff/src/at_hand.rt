@@ -11,7 +11,7 @@ use crate::page_range_snapshot::PageRangeSnapshot;
 use crate::slice_iter::SliceIter;
 use std::alloc::{AllocError, Global};
 
-/// The ranges of keys that `local` may ask of `peer`, two vectors, as [`diff`](crate::diff) answers them, and at its cost.
+/// The ranges of keys that `local` may ask of `peer`, two vectors, as [`diff`](crate::diff) returns them, and at its cost.
 ///
 /// ```rust crates/diff_tests/src/shown.rt
 /// let mut theirs = Vec::new(alloc);
@@ -23,7 +23,7 @@ use std::alloc::{AllocError, Global};
 ///
 /// # Errors
 ///
-/// Want of memory, and only where a range may be answered; else the answer is the empty list.
+/// Out of memory, and only where a range may be answered; else the answer is the empty list.
 pub fn diff_lists<'p, K: Ord>(
     alloc: Global,
     local: Vec<PageRange<'p, K>>,
@@ -36,7 +36,7 @@ pub fn diff_lists<'p, K: Ord>(
     diff(alloc, local, peer)
 }
 
-/// The ranges of keys that `local` may ask of `peer`, two slices, as [`diff`](crate::diff) answers them, and at its cost. It copies one
+/// The ranges of keys that `local` may ask of `peer`, two slices, as [`diff`](crate::diff) returns them, and at its cost. It copies one
 /// page range after the other, and takes no memory for that.
 ///
 /// ```rust crates/diff_tests/src/shown.rt
@@ -49,7 +49,7 @@ pub fn diff_lists<'p, K: Ord>(
 ///
 /// # Errors
 ///
-/// Want of memory, and only where a range may be answered; else the answer is the empty list.
+/// Out of memory, and only where a range may be answered; else the answer is the empty list.
 pub fn diff_slices<'p, K: Ord>(
     alloc: Global,
     local: &[PageRange<'p, K>],
@@ -62,12 +62,12 @@ pub fn diff_slices<'p, K: Ord>(
     diff(alloc, SliceIter::new(local), SliceIter::new(peer))
 }
 
-/// The ranges of keys that the side of the snapshot `local` may ask of that of `peer`, as [`diff`](crate::diff) answers them, and at its
+/// The ranges of keys that the side of the snapshot `local` may ask of that of `peer`, as [`diff`](crate::diff) returns them, and at its
 /// cost. It copies no key.
 ///
 /// # Errors
 ///
-/// Want of memory, and only where a range may be answered; else the answer is the empty list.
+/// Out of memory, and only where a range may be answered; else the answer is the empty list.
 pub fn diff_snapshots<'p, K: Ord>(
     alloc: Global,
     local: &'p PageRangeSnapshot<K>,

@@ -46,7 +46,7 @@ impl<'a, K: Ord> DiffListBuilder<'a, K> {
     ///
     /// # Errors
     ///
-    /// Want of memory, which leaves the builder as it was.
+    /// Out of memory: the builder is as it was.
     pub fn inconsistent(&mut self, start: &'a K, end: &'a K) -> Result<(), AllocError>
         requires { Upto K.cmp start.now end.now }
         ensures ok { OnOk result (Inserts (inconsistent_spans self.old) start.now end.now (inconsistent_spans self.new)) }
@@ -60,7 +60,7 @@ impl<'a, K: Ord> DiffListBuilder<'a, K> {
     ///
     /// # Errors
     ///
-    /// Want of memory, which leaves the builder as it was.
+    /// Out of memory: the builder is as it was.
     pub fn consistent(&mut self, start: &'a K, end: &'a K) -> Result<(), AllocError>
         requires { Upto K.cmp start.now end.now }
         ensures ok { OnOk result (Inserts (consistent_spans self.old) start.now end.now (consistent_spans self.new)) }
@@ -75,7 +75,7 @@ impl<'a, K: Ord> DiffListBuilder<'a, K> {
     ///
     /// # Errors
     ///
-    /// Want of memory, with which the builder is given up. It is taken only where ranges of both kinds were marked.
+    /// Out of memory: the builder is dropped. Memory is taken only where ranges of both kinds were marked.
     pub fn into_diff_vec(self) -> Result<Vec<DiffRange<'a, K>>, AllocError>
         ensures cut { IfFound result (IsDiffList K.cmp (inconsistent_spans self.entry) (consistent_spans self.entry)) }
         ensures memory { OnErr result ((inconsistent_spans self.entry ≢ []) × (consistent_spans self.entry ≢ [])) }

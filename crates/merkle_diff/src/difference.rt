@@ -34,7 +34,7 @@ use std::alloc::{AllocError, Global};
 /// assert_eq!(rt; (*found[0].start(), *found[0].end()), (2, 5));
 /// ```
 ///
-/// Both are taken to their end, unless memory is refused. It takes one walk over both, and a sort of the ranges that the walk marks,
+/// Both are taken to their end, unless memory runs out. It takes one walk over both, and a sort of the ranges that the walk marks,
 /// at most one for each page range of the peer. Memory is taken for these and for the page ranges of the peer that are open, at most as
 /// many as are nested. [`diff_lists`](crate::diff_lists), [`diff_slices`](crate::diff_slices) and
 /// [`diff_snapshots`](crate::diff_snapshots) say what is promised of lists that the caller has at hand. Who hands in an iterator whose
@@ -43,7 +43,7 @@ use std::alloc::{AllocError, Global};
 ///
 /// # Errors
 ///
-/// Want of memory. None is taken where the peer has no page range, or where its first begins and ends behind local's first, or is
+/// Out of memory. No memory is taken where the peer has no page range, or where its first begins and ends after local's first, or is
 /// within it and not equal to it: then there is nothing to ask for.
 pub fn diff<'p, T, U, K>(
     alloc: Global,

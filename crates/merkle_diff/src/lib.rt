@@ -2,7 +2,7 @@
 //!
 //! A tree's list of page ranges is a summary that a replica sends to a peer: the span and the digest of each page, a page before
 //! those below it (Auvolat and Taïani, "Merkle Search Trees: Efficient State-Based CRDTs in Open Networks"). [`diff`] compares a
-//! local list with a peer's, and answers the ranges of keys that the local side can ask for. Both lists may be any lists: nothing
+//! local list with a peer's, and returns the ranges of keys that the local side can ask for. Both lists may be any lists: nothing
 //! that a peer sends makes it fail, and all that it promises of any list is in its contract.
 //!
 //! [`diff`] compares keys by their order alone. Keys are borrowed, and cloned only where owned ranges or snapshots are made of borrowed

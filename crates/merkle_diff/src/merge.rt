@@ -17,7 +17,7 @@ fn greater_of<'a, K: Ord>(a: &'a K, b: &'a K) -> &'a K
     if b <= a { a } else { b }
 }
 
-/// Merges the ranges to the front, and answers how many there are then.
+/// Merges the ranges to the front, and returns how many there are then.
 fn merge_to_front<'a, K: Ord>(ranges: &mut [DiffRange<'a, K>]) -> usize
     ensures in_range { result ≤ length ranges.old }
     ensures merged { spans (take result ranges.new) ≡ sweep_of K.cmp (spans ranges.old) }

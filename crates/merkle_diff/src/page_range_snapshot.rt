@@ -76,11 +76,11 @@ impl<K: Ord> PageRangeSnapshot<K> {
 
 impl<K: Ord + Drop> PageRangeSnapshot<K> {
     /// The snapshot of the ranges that `iter` gives, in their order. The keys are moved. The iterator has to end, and is taken to its
-    /// end unless memory is refused.
+    /// end unless memory runs out.
     ///
     /// # Errors
     ///
-    /// Want of memory, with which the ranges are given up.
+    /// Out of memory: the ranges are dropped.
     pub fn collect_owned<T>(alloc: Global, iter: T) -> Result<PageRangeSnapshot<K>, AllocError>
     where
         T: IntoIterator<Item = OwnedPageRange<K>>,
@@ -99,7 +99,7 @@ impl<K: SameClone> PageRangeSnapshot<K> {
     ///
     /// # Errors
     ///
-    /// Want of memory, for the snapshot or for the clone of a key.
+    /// Out of memory, for the snapshot or for the clone of a key.
     pub fn from_ranges(
         alloc: Global,
         ranges: Vec<PageRange<'_, K>>,
@@ -110,11 +110,11 @@ impl<K: SameClone> PageRangeSnapshot<K> {
     }
 
     /// The snapshot of the ranges that `iter` gives, in their order, with clones of the keys, two a range. The iterator has to end, and
-    /// is taken to its end unless memory is refused.
+    /// is taken to its end unless memory runs out.
     ///
     /// # Errors
     ///
-    /// Want of memory, for the snapshot or for the clone of a key.
+    /// Out of memory, for the snapshot or for the clone of a key.
     pub fn collect_ranges<'a, T>(alloc: Global, iter: T) -> Result<PageRangeSnapshot<K>, AllocError>
     where
         K: 'a,
@@ -134,7 +134,7 @@ impl<K: SameClone> PageRangeSnapshot<K> {
     ///
     /// # Errors
     ///
-    /// Want of memory, for the snapshot or for the clone of a key. This snapshot stays.
+    /// Out of memory, for the snapshot or for the clone of a key. This snapshot stays.
     pub fn try_clone(&self) -> Result<PageRangeSnapshot<K>, AllocError>
         ensures same { IfOk result (SameEntries K.cmp self.now) }
         ensures equal { IfOk result (EqualBothWays ⟦<PageRangeSnapshot<K> as PartialEq>⟧.eq self.now) }

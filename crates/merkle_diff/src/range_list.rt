@@ -54,12 +54,12 @@ impl<'a, K: Ord> RangeList<'a, K> {
         }
     }
 
-    /// Inserts the range from `start` to `end`, both in it, behind those that are there, whatever their order. `start` has to be at most `end`. No
+    /// Inserts the range from `start` to `end`, both in it, after those that are there, whatever their order. `start` has to be at most `end`. No
     /// keys are compared, and it costs what a vector's `push` does.
     ///
     /// # Errors
     ///
-    /// Want of memory, which leaves the list as it was.
+    /// Out of memory: the list is as it was.
     pub fn insert(&mut self, start: &'a K, end: &'a K) -> Result<(), AllocError>
         requires { Upto K.cmp start.now end.now }
         ensures ok { OnOk result (Inserts self.old start.now end.now self.new) }

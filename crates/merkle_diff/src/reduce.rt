@@ -49,7 +49,7 @@ fn push_pieces<'a, K: Ord>(
     Ok(())
 }
 
-/// Adds what is left of `range` where the good ranges from the index `first` on are cut out of it, and answers the index of the
+/// Adds what is left of `range` where the good ranges from the index `first` on are cut out of it, and returns the index of the
 /// first of them that a later range may meet.
 fn push_left<'a, K: Ord>(
     range: DiffRange<'a, K>,
@@ -119,12 +119,12 @@ pub fn cut_apart<'a, K: Ord>(
 
 /// Cuts the good ranges, which may be in any order and meet, out of the bad ones, which ascend and no two of which meet.
 ///
-/// Of a bad range that a good one meets, what lies before and what lies behind the good one stay, with its bounds; in the answer,
+/// Of a bad range that a good one meets, what lies before and what lies after the good one stay, with its bounds; in the answer,
 /// ranges that meet are one. The good ranges are sorted and merged, and then one pass over both lists is made.
 ///
 /// # Errors
 ///
-/// Want of memory, with which both lists are given up. It is taken only where both lists have a range.
+/// Out of memory: both lists are dropped. Memory is taken only where both lists have a range.
 pub fn reduce_sync_range<'a, K: Ord>(
     alloc: Global,
     bad: Vec<DiffRange<'a, K>>,

@@ -99,7 +99,7 @@ where
     Ok(())
 }
 
-/// Takes the entries at the front that hold `range`, and answers the digest of the last, or `first` where there is none.
+/// Takes the entries at the front that hold `range`, and returns the digest of the last, or `first` where there is none.
 fn take_holders<'p, I, K>(
     queue: &mut Lookahead<I, PageRange<'p, K>>,
     range: DiffRange<'p, K>,

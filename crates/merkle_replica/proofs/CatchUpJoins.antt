@@ -27,7 +27,7 @@ use Rattle.merkle_replica.proofs.Descents.{some_is}
 use Rattle.merkle_replica.proofs.RowCopies.{copies_are, copies_length, copies_map, take_same, join_same}
 use Rattle.merkle_replica.proofs.OnceEach.{any_with, alike}
 
--- what is lacked
+-- what is missing
 module _ {K V H : Type 0} (laws : Laws K V H) (o : IsTotalOrder laws.cmp) (local peer : Side K V H) where
   lacked_alike : (k j : K) → Same laws.cmp k j → IsLacked laws local peer j → IsLacked laws local peer k
   lacked_alike k j s (d, there, lacks) =
@@ -54,7 +54,7 @@ module _ {K V H : Type 0} (laws : Laws K V H) (o : IsTotalOrder laws.cmp) (local
       go k (inl a) = inl (any_of keys k a r.all)
       go k (inr h) = inr h
 
-  -- what is lacked is there
+  -- what is missing is there
   pub lacked_there : (ks : List K) → AllByRecursion (IsLacked laws local peer) ks → AllByRecursion (λ k. IsPresent (get laws.cmp peer.rows k)) ks
   lacked_there [] a = tt
   lacked_there (k ∷ ks) a = (present_from laws.cmp o (laws.value_digest peer.hasher) peer.rows k (subst IsPresent (sym a.0.1) tt), lacked_there ks a.1)

@@ -3,16 +3,15 @@ use Rattle.std.proofs.Common.{◌≡◌, ℕ, zero, suc, ◌+◌, ◌<◌, List,
 use Rattle.std.proofs.Math.Seq.{set-append_seam}
 use Rattle.std.proofs.Math.Numerals.{add-one}
 use Rattle.std.proofs.lemmas.Bool.{cases_eq}
-use Rattle.std.proofs.lemmas.List.{map-append, take_more, take_all, drop_more, drop_all}
+use Rattle.std.proofs.lemmas.List.{map-append, take_more, take_all, drop_more}
 use Rattle.std.specs.Cmp.{IsTotalOrder, IsEquivalence}
-use Rattle.std.specs.List.{AllByRecursion}
 use Rattle.key_order.specs.Order.{AnyByRecursion}
 use Rattle.key_order.specs.Map.{IsMap}
 use Rattle.key_order.specs.Join.{IsJoining, IsJoin}
 use Rattle.key_order.proofs.ListParts.{each-append, each-before, each-at}
 use Rattle.merkle_replica.specs.CatchUp.{IsCatchUpOf, IsCatchUpRefused}
 use Rattle.merkle_replica.specs.Contents.{Side, with_rows}
-use Rattle.merkle_replica.specs.Faithful.{IsFaithful, AllFaithful}
+use Rattle.merkle_replica.specs.Faithful.{IsFaithful}
 use Rattle.merkle_replica.specs.Gossip.{numbered, changed, gathering, spreading, through_hub, IsJoinOf, IsGossip, StopsGossip, rows_of}
 use Rattle.merkle_replica.proofs.HubStates.{HasJoined, IsGathered, IsSpread}
 use Rattle.merkle_replica.specs.Laws.{Laws}
@@ -191,13 +190,3 @@ module _ {K V H : Type 0} (laws : Laws K V H) (o : IsTotalOrder laws.cmp) (e : I
 
     pub spreads_on : h' ≡ h → x' ≡ with_rows x x'.rows → T' ≡ set T i x' → SpreadsOn laws hub others i h h' x x' T'
     spreads_on s y t = record { goes_on = λ joined c j'. spreads joined s y t c j'; stops = λ fault c. spreading_stops fault s y t c }
-
-  -- all catch-ups are made
-  pub all_spread : (i : ℕ) (h : Side K V H) (T : List (Side K V H)) → i ≡ length others → IsSpread laws hub others i h T
-      → (met : Met) × IsGossip laws (through_hub (length others)) (numbered hub (hub ∷ others)) (numbered hub (h ∷ T)) met × (AllFaithful laws met → AllByRecursion (HasJoined laws hub others (hub ∷ others)) (h ∷ T))
-  all_spread i h T q g =
-      let done : T ≡ g.done = g.stay ∙ ap (λ l. g.done ++ l) (drop_all i others (omega arith)) ∙ append-nil g.done in (
-        g.met,
-        subst (λ n. IsGossip laws (gathering (length others) ++ spreading n) (numbered hub (hub ∷ others)) (numbered hub (h ∷ T)) g.met) q g.gossip,
-        λ faith. (g.hub_joins faith, subst (AllByRecursion (HasJoined laws hub others (hub ∷ others))) (sym done) (g.others_join faith)),
-      )

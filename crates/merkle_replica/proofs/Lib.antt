@@ -22,6 +22,8 @@ pub mod RangesOfKeys
 pub mod Sorting
 pub mod Descents
 pub mod RoundStates
+mod PagesOver
+pub mod Missing
 pub mod Rounds
 pub mod RowCopies
 pub mod OnceEach

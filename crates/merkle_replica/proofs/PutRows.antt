@@ -114,7 +114,7 @@ module _ {K V : Type 0} (cmp : K → K → Ordering) (o : IsTotalOrder cmp) wher
   map_taken [] (suc n) m = tt
   map_taken (r ∷ rows) (suc n) m = (low_taken r.0 rows n m.0, map_taken rows n m.1)
 
-  -- the row behind those join_of_values is refused
+  -- the row after those join_of_values is refused
   pub gathered_to : (eq : V → V → Bool) (join : V → V → V) (old seen rest all now : List (K × V)) (r : K × V) (done : ℕ) → seen ++ r ∷ rest ≡ all → length seen ≡ done → HasGathered cmp eq join old seen now → (done ≡ 0 → now ≡ old) → IsGatheredTo cmp eq join old all now done
   gathered_to eq join old seen rest all now r done e n h u =
       let l : length all ≡ length seen + suc (length rest) = ap length (sym e) ∙ length-append seen (r ∷ rest) in

@@ -17,17 +17,6 @@ spans_drop rs zero = refl
 spans_drop [] (suc i) = refl
 spans_drop (r ∷ rs) (suc i) = spans_drop rs i
 
--- what holds below a place and at it holds below the next
-pub one_further : (P : ℕ → Type 0) (i : ℕ) → ((j : ℕ) → j < i → P j) → P i → (j : ℕ) → j < i + 1 → P j
-one_further P i f p j h = go (eq-or-lt_of_le le)
-  where
-    le : j ≤ i
-    le = omega arith
-
-    go : (j ≡ i) ⊎ (j < i) → P j
-    go (inl e) = subst P (sym e) p
-    go (inr l) = f j l
-
 -- the same of what holds of each place and the next
 pub next_further : (P : ℕ → Type 0) (i : ℕ) → ((j : ℕ) → suc j < i → P j) → ((j : ℕ) → suc j ≡ i → P j) → (j : ℕ) → suc j < i + 1 → P j
 next_further P i f p j h = go (eq-or-lt_of_le le)
@@ -70,7 +59,7 @@ module _ {K : Type 0} (cmp : K → K → Ordering) (o : IsTotalOrder cmp) where
   are_next (r ∷ q ∷ rs) zero d a h = a.0.0.0
   are_next (r ∷ q ∷ rs) (suc j) d a h = are_next (q ∷ rs) j d (a.0.1, a.1.1) (omega arith)
 
-  -- a test of whether a range begins behind the one before it passes on ranges
+  -- a test of whether a range begins after the one before it passes on ranges
   pub begins_behind_passes : (rs : List (K × K)) (i : ℕ) (r : Bool) (d : K × K) → ((j : ℕ) (e : K × K) → suc j ≡ i → below cmp (get_or rs j e).1 (get_or rs i e).0 ≡ r) → (i ≡ 0 → r ≡ true) → i < length rs → AreRanges cmp (spans_of rs) → r ≡ true
   begins_behind_passes rs i r d f z h a = go (eq-zero-or-pos i)
     where

@@ -1,7 +1,8 @@
 -- One round of a catch-up: outlines of pages of the peer, and what they leave to ask for.
-use Rattle.std.proofs.Common.{◌≡◌, ℕ, ◌+◌, ◌-◌, ◌<◌, ◌≤◌, List, [], ◌∷◌, ◌++◌, append_assoc, length, Some, None, refl, sym, ◌∙◌, ap, subst, arith, ◌⊎◌, inl, inr}
+use Rattle.std.proofs.Common.{◌≡◌, ℕ, ◌+◌, ◌<◌, ◌≤◌, true, List, [], ◌∷◌, ◌++◌, length, Option, Some, None, refl, sym, ◌∙◌, ap, subst, arith, ◌⊎◌, inl, inr}
 use Rattle.std.specs.List.{AllByRecursion, flat_map}
 use Rattle.std.specs.Cmp.{IsTotalOrder}
+use Rattle.std.specs.Cmp.Lexicographic.{bytes_decides}
 use Rattle.key_order.specs.Order.{AnyByRecursion, Same}
 use Rattle.key_order.specs.Map.{IsMap, SameMap, get}
 use Rattle.key_order.proofs.ListParts.{each-append}
@@ -18,11 +19,14 @@ use Rattle.merkle_tree_theory.specs.Outline.{Item, of_node, of_page, IsItemOf, H
 use Rattle.merkle_tree_theory.specs.Ranges.{IsPageIn}
 use Rattle.merkle_tree_theory.specs.State.{map_of}
 use Rattle.merkle_tree_theory.specs.Stream.{page_digest}
+use Rattle.merkle_tree_theory.proofs.PageOverGap.{over_inside}
+use Rattle.merkle_search_tree.specs.WhereHashed.{is_page_with}
 use Rattle.merkle_replica.specs.Laws.{Laws}
-use Rattle.merkle_replica.specs.Contents.{Contents, Side, side, tree_map}
+use Rattle.merkle_replica.specs.Contents.{Contents, IsTreeOfSide, Side, side, tree_map}
 use Rattle.merkle_replica.specs.Faithful.{HaveFaithfulPages}
 use Rattle.merkle_replica.specs.CatchUp.{IsLacked, IsHidden, HasFound}
 use Rattle.merkle_replica.specs.Descent.{HasPage, IsSortedOut, AreSortedOut, gaps_of}
+use Rattle.merkle_replica.specs.Missing.{has_page_over, own_tree}
 use Rattle.merkle_search_tree.specs.declared.gap.Gap.{Gap as BorrowedGap}
 use Rattle.merkle_replica.proofs.RoundStates.{IsPageGap, IsUnderway}
 use Rattle.merkle_replica.proofs.Bounds.{ascending_digests}
@@ -75,7 +79,7 @@ module _ {K V H : Type 0} (laws : Laws K V H) (o : IsTotalOrder laws.cmp) (local
       subst (AllByRecursion (IsPageGap laws local peer n)) (sym (p ∙ ap (λ z. z ++ gr) empty)) (sorted_pages n es gr kr v.1 r)
   sorted_pages n (of_page g digest ∷ es) gs ks ((t, fills, low, w), v) (gf, gr, ko, kr, (empty, inl (has, none)), r, p, q) =
       subst (AllByRecursion (IsPageGap laws local peer n)) (sym (p ∙ ap (λ z. z ++ gr) none)) (sorted_pages n es gr kr v r)
-  sorted_pages n (of_page g digest ∷ es) gs ks ((t, fills, low, w), v) (gf, gr, ko, kr, (empty, inr one), r, p, q) =
+  sorted_pages n (of_page g digest ∷ es) gs ks ((t, fills, low, w), v) (gf, gr, ko, kr, (empty, inr (lacks, one)), r, p, q) =
       subst (AllByRecursion (IsPageGap laws local peer n)) (sym (p ∙ ap (λ z. z ++ gr) one)) ((t, fills, low), sorted_pages n es gr kr v r)
 
   module _ (kept : SameMap laws.cmp (λ d e. d ≡ e) (map_of peer.tree) (tree_map laws (side peer))) where
@@ -92,12 +96,21 @@ module _ {K V H : Type 0} (laws : Laws K V H) (o : IsTotalOrder laws.cmp) (local
         subst (AllByRecursion Lacked) (sym (q ∙ ap (λ z. z ++ kr) empty)) (sorted_lacked n es gr kr v.1 r)
 
     module _ (in_gap : (t : Tree K (List ℕ)) (g : Gap K) (k : K) (d : List ℕ) → Fills laws.cmp g t root → IsInGap laws.cmp k g → get laws.cmp (pairs root) k ≡ Some d → get laws.cmp (pairs t) k ≡ Some d)
-        (canonical : IsCanonicalRoot (λ k. level_of (laws.key_digest peer.tree.hasher k) peer.tree.base) root) where
+        (canonical : IsCanonicalRoot (λ k. level_of (laws.key_digest peer.tree.hasher k) peer.tree.base) root) (own_is : IsTreeOfSide laws (side local) (own_tree laws (side local))) where
+      -- local has the page over a gap where it has its digest
+      own_page : (g : Gap K) (c : List ℕ) → has_page_over laws (side local) g c ≡ true → HasPage laws (side local) c
+      own_page g c has = by (page_over laws.cmp g (own_tree laws (side local))) refl has
+        where
+          by : (found : Option (Tree K (List ℕ))) → page_over laws.cmp g (own_tree laws (side local)) ≡ found → is_page_with local.tree.format laws.bytes_of c found ≡ true → HasPage laws (side local) c
+          by None e same = absurd (cc)
+          by (Some s) e same =
+              (s, (own_tree laws (side local), own_is, (over_inside laws.cmp g (own_tree laws (side local)) s e).0), (bytes_decides (page_digest local.tree.format laws.bytes_of s) c).0 same)
+
       -- a key in a page of the peer whose digest is that of a page of local is hidden
       hides : (t : Tree K (List ℕ)) (g : Gap K) (k : K) (c d : List ℕ) → Fills laws.cmp g t root → page_digest peer.tree.format laws.bytes_of t ≡ c → HasPage laws (side local) c → IsInGap laws.cmp k g → get laws.cmp (pairs root) k ≡ Some d → Hidden k
       hides t g k c d fills own (s, of_local, digest) inside f = (s, t, d, of_local, (root, (canonical, kept), fills.inside), digest ∙ sym own, in_gap t g k d fills inside f)
 
-      -- so a key that is lacked is in a gap or among the keys that are asked for, unless it is hidden
+      -- so a key that is missing is in a gap or among the keys that are asked for, unless it is hidden
       abbrev Covers : K → List (Gap K) → List K → Type 0
       Covers k gs ks = (AnyByRecursion (IsInGap laws.cmp k) gs ⊎ AnyByRecursion (Same laws.cmp k) ks) ⊎ Hidden k
 
@@ -107,8 +120,8 @@ module _ {K V H : Type 0} (laws : Laws K V H) (o : IsTotalOrder laws.cmp) (local
           let in_local : get laws.cmp (tree_map laws (side local)) k ≡ Some d = get_same laws.cmp o (tree_map laws (side local)) k j same ∙ has ∙ sym in_peer ∙ there in
           absurd (lacks in_local)
       item_covers n (of_node j c) gs ks k v (empty, inr (lacks, one)) l same = inl (inr (subst (AnyByRecursion (Same laws.cmp k)) (sym one) (inl same)))
-      item_covers n (of_page g digest) gs ks k v (empty, inl (has, none)) l inside = inr (hides v.0 g k digest l.0 v.1 v.3 has inside (at_peer k ∙ l.1))
-      item_covers n (of_page g digest) gs ks k v (empty, inr one) l inside = inl (inl (subst (AnyByRecursion (IsInGap laws.cmp k)) (sym one) (inl inside)))
+      item_covers n (of_page g digest) gs ks k v (empty, inl (has, none)) l inside = inr (hides v.0 g k digest l.0 v.1 v.3 (own_page g digest has) inside (at_peer k ∙ l.1))
+      item_covers n (of_page g digest) gs ks k v (empty, inr (lacks, one)) l inside = inl (inl (subst (AnyByRecursion (IsInGap laws.cmp k)) (sym one) (inl inside)))
 
       sorted_covers : (n : ℕ) (es : List (Item K (List ℕ))) (gs : List (Gap K)) (ks : List K) (k : K) → Valid n es → AreSortedOut laws (side local) es gs ks → Lacked k → AnyByRecursion (HasItemAt laws.cmp k) es → Covers k gs ks
       sorted_covers n [] gs ks k v r l a = absurd a
@@ -138,6 +151,8 @@ pub record Premises {K V H : Type 0} (laws : Laws K V H) (local peer : Contents 
   pub up : IsMap laws.cmp (tree_map laws (side local))
   pub up_peer : IsMap laws.cmp (tree_map laws (side peer))
   pub canonical : IsCanonicalRoot (λ k. level_of (laws.key_digest peer.tree.hasher k) peer.tree.base) peer.tree.root
+  pub ascending : IsMap laws.cmp (pairs peer.tree.root)
+  pub own_is : IsTreeOfSide laws (side local) (own_tree laws (side local))
 
 module _ {K V H : Type 0} (laws : Laws K V H) (o : IsTotalOrder laws.cmp) (local peer : Contents K V H) (p : Premises laws local peer) where
   -- the first items are the whole tree of the peer
@@ -151,7 +166,7 @@ module _ {K V H : Type 0} (laws : Laws K V H) (o : IsTotalOrder laws.cmp) (local
         pages = sorted_pages laws o local peer n first gaps keys p.first.0 r;
         lacked = sorted_lacked laws o local peer p.kept n first gaps keys p.first.0 r;
         covered = λ k l.
-            sorted_covers laws o local peer p.kept p.in_gap p.canonical n first gaps keys k p.first.0 r l
+            sorted_covers laws o local peer p.kept p.in_gap p.canonical p.own_is n first gaps keys k p.first.0 r l
             (p.first.1 k l.0 (same_get laws.cmp o (map_of peer.tree) (tree_map laws (side peer)) p.kept k ∙ l.1));
       }
 
@@ -165,7 +180,7 @@ module _ {K V H : Type 0} (laws : Laws K V H) (o : IsTotalOrder laws.cmp) (local
         pages = sorted_pages laws o local peer m es gaps' more v r;
         lacked = each-append (IsLacked laws (side local) (side peer)) keys more u.lacked (sorted_lacked laws o local peer p.kept m es gaps' more v r);
         covered = λ k l. go k (u.covered k l) (λ i.
-            sorted_covers laws o local peer p.kept p.in_gap p.canonical m es gaps' more k v r l
+            sorted_covers laws o local peer p.kept p.in_gap p.canonical p.own_is m es gaps' more k v r l
             (outlines_cover laws o local peer p.down n gaps k l.0 u.pages (same_get laws.cmp o (map_of peer.tree) (tree_map laws (side peer)) p.kept k ∙ l.1) i));
       }
     where
@@ -181,7 +196,7 @@ module _ {K V H : Type 0} (laws : Laws K V H) (o : IsTotalOrder laws.cmp) (local
           then_found (inl (inr a)) = inl (inr (any-append (Same laws.cmp k) keys more (inr a)))
           then_found (inr h) = inr h
 
-  -- while pages are faithful, nothing that is lacked is hidden
+  -- while pages are faithful, nothing that is missing is hidden
   none_hidden : HaveFaithfulPages laws (side local) (side peer) → (k : K) → IsLacked laws (side local) (side peer) k → IsHidden laws (side local) (side peer) k → ⊥
   none_hidden faithful k (d, there, lacks) (s, t, c, (u, (form, same), j), (v, (form', same'), i), digests, f) =
       let maps = faithful s t (u, (form, same), j) (v, (form', same'), i) digests in
@@ -213,7 +228,7 @@ module _ {K V H : Type 0} (laws : Laws K V H) (o : IsTotalOrder laws.cmp) (local
   some_left n (g ∷ gs) keys u ne = let low = u.pages.0.2 in omega arith
 
 -- the premises, from the laws of trees
-pub premises_from : {K V H : Type 0} (laws : Laws K V H) (o : IsTotalOrder laws.cmp) (local peer : Contents K V H) → IsMap laws.cmp (map_of peer.tree) → IsCanonicalRoot (λ k. level_of (laws.key_digest peer.tree.hasher k) peer.tree.base) peer.tree.root → SameMap laws.cmp (λ d e. d ≡ e) (map_of peer.tree) (tree_map laws (side peer)) → IsMap laws.cmp local.rows
+pub premises_from : {K V H : Type 0} (laws : Laws K V H) (o : IsTotalOrder laws.cmp) (local peer : Contents K V H) → IsTreeOfSide laws (side local) (own_tree laws (side local)) → IsMap laws.cmp (map_of peer.tree) → IsCanonicalRoot (λ k. level_of (laws.key_digest peer.tree.hasher k) peer.tree.base) peer.tree.root → SameMap laws.cmp (λ d e. d ≡ e) (map_of peer.tree) (tree_map laws (side peer)) → IsMap laws.cmp local.rows
     → ((t page : Tree K (List ℕ)) (g : Gap K) → IsMap laws.cmp (pairs t) → Fills laws.cmp g page t → page_over laws.cmp g t ≡ Some page)
     → ((hasher : H) (base : ℕ) (format : PageFormat) (t page : Tree K (List ℕ)) (g : Gap K) → IsMap laws.cmp (pairs t) → IsCanonicalRoot (λ k. level_of (laws.key_digest hasher k) base) t → Fills laws.cmp g page t
     → AllByRecursion (IsItemOf format laws.bytes_of laws.cmp t (level page)) (outline_of format laws.bytes_of g page) × ((k : K) (d : List ℕ) → get laws.cmp (pairs t) k ≡ Some d → IsInGap laws.cmp k g → AnyByRecursion (HasItemAt laws.cmp k) (outline_of format laws.bytes_of g page)))
@@ -222,7 +237,7 @@ pub premises_from : {K V H : Type 0} (laws : Laws K V H) (o : IsTotalOrder laws.
     → ((t page : Tree K (List ℕ)) (g : Gap K) (k : K) (d : List ℕ) → IsMap laws.cmp (pairs t) → Fills laws.cmp g page t → IsInGap laws.cmp k g → get laws.cmp (pairs t) k ≡ Some d → get laws.cmp (pairs page) k ≡ Some d)
     → ((t page : Tree K (List ℕ)) (k : K) (d : List ℕ) → IsMap laws.cmp (pairs t) → IsPageIn page t → get laws.cmp (pairs page) k ≡ Some d → get laws.cmp (pairs t) k ≡ Some d)
     → Premises laws local peer
-premises_from {K} laws o local peer ascending form kept up opens over whole in_gap within = record {
+premises_from {K} laws o local peer own_is ascending form kept up opens over whole in_gap within = record {
   down = λ t g fills.
       subst (λ found. AllByRecursion (IsItemOf peer.tree.format laws.bytes_of laws.cmp peer.tree.root (level t)) (outline_where peer.tree.format laws.bytes_of g found)
       × ((k : K) (d : List ℕ) → get laws.cmp (pairs peer.tree.root) k ≡ Some d → IsInGap laws.cmp k g → AnyByRecursion (HasItemAt laws.cmp k) (outline_where peer.tree.format laws.bytes_of g found)))
@@ -234,6 +249,8 @@ premises_from {K} laws o local peer ascending form kept up opens over whole in_g
   up = ascending_digests laws.cmp o (laws.value_digest local.tree.hasher) local.rows up;
   up_peer = same_is_map laws.cmp o (λ d e. d ≡ e) (map_of peer.tree) (tree_map laws (side peer)) kept ascending;
   canonical = form;
+  ascending = ascending;
+  own_is = own_is;
 }
 
 -- the level of a root page is that of a key, or 0

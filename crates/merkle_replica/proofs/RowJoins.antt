@@ -69,10 +69,6 @@ module _ {K V : Type 0} (cmp : K → K → Ordering) (o : IsTotalOrder cmp) wher
       let p = last-parts back n r r e in
       ap (λ t. first_is cmp key (reverse t)) p.1 ∙ ap (first_is cmp key) (reverse-append p.0 (get_or back n r ∷ [])) ∙ ap (λ (q : K × V). is_eq (cmp q.0 key)) (sym read)
 
-  pub next-none : (key : K) (back : List (K × V)) → length back ≡ 0 → first_is cmp key (reverse back) ≡ false
-  next-none key [] e = refl
-  next-none key (r ∷ rs) e = absurd (omega (arith, e))
-
   -- the row at the place has the key: another value there
   pub at-next : (front back : List (K × V)) (n : ℕ) (key : K) (r d : K × V) (v : V) → suc n ≡ length back → r ≡ get_or back n r → first_is cmp key (reverse back) ≡ true
       → IsPlaceOf cmp key (whole front back) (length front) × (r ≡ get_or (whole front back) (length front) r) × (whole front (list_set back n (r.0, v)) ≡ list_set (whole front back) (length front) (r.0, v))
@@ -115,7 +111,7 @@ module _ {K V : Type 0} (cmp : K → K → Ordering) (o : IsTotalOrder cmp) wher
   pub low-same : (k l : K) (rows : List (K × V)) → Same cmp k l → AllByRecursion (λ s. Below cmp s.0 k) rows → AllByRecursion (λ s. Below cmp s.0 l) rows
   low-same k l rows e = low-further k l rows (same_up cmp o k l e)
 
-  -- rows below a key are below all that don't fall behind it
+  -- rows below a key are below all that don't fall after it
   pub low-all : (k : K) (front rows : List (K × V)) → AllByRecursion (λ s. Below cmp s.0 k) front → AllByRecursion (λ r. Upto cmp k r.0) rows → AllByRecursion (λ r. AllByRecursion (λ s. Below cmp s.0 r.0) front) rows
   low-all k front rows low = each-with (λ r. Upto cmp k r.0) (λ r. AllByRecursion (λ s. Below cmp s.0 r.0) front) rows (λ r u. low-further k r.0 front u low)
 

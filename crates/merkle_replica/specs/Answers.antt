@@ -22,7 +22,7 @@ abbrev pub answer_of : {K : Type 0} → Pulled K → Answer K
 answer_of p = record { ranges = spans_of p.ranges.items; joined = p.joined }
 
 module _ {K V H : Type 0} (laws : Laws K V H) where
-  -- a pull for which memory was refused: no row was joined, or the first ones were
+  -- a pull that ran out of memory: no row was joined, or the first ones were
   abbrev pub IsRefused : Side K V H → Side K V H → PullError K → List (K × V) → Type 0
   IsRefused local peer Memory after = after ≡ local.rows
   IsRefused local peer (Partly pulled done) after = IsPartOfPull laws local peer (answer_of pulled) done after
@@ -47,7 +47,7 @@ module _ {K V H : Type 0} (laws : Laws K V H) (local peer : Contents K V H) wher
   abbrev pub HasPulled : Contents K V H → Pulled K → Type 0
   HasPulled local' pulled = IsPull laws (side local) (side peer) (answer_of pulled) local'.rows
 
-  -- memory was refused in such a pull
+  -- memory ran out in such a pull
   abbrev pub StopsPulling : Contents K V H → PullError K → Type 0
   StopsPulling local' fault = IsRefused laws (side local) (side peer) fault local'.rows
 
@@ -66,7 +66,7 @@ module _ {K V : Type 0} (cmp : K → K → Ordering) (eq : V → V → Bool) (jo
 
 module _ {K V : Type 0} (cmp : K → K → Ordering) (eq : V → V → Bool) (join : V → V → V) (ranges : List (K × K)) (theirs local after : List (K × V))
   where
-    -- all of their rows in the ranges are joined, so many
+    -- all of their rows in the ranges are joined, this many
     abbrev pub JoinsWithin : ℕ → Type 0
     JoinsWithin joined = IsDone cmp eq join (rows_in cmp (spans_of ranges) theirs) local joined after
 

@@ -49,7 +49,7 @@ module _ {K V H : Type 0} (laws : Laws K V H) (local peer : Side K V H) where
     pub found : HasFound keys
     pub joins : IsJoin laws.cmp laws.eq laws.join local.rows (rows_in laws.cmp (points keys) peer.rows) after
 
-  -- memory was refused: no row was joined, or the first `done` of those at these keys were, and not all
+  -- memory ran out: no row was joined, or the first `done` of those at these keys were, and not all
   pub record IsPartOfCatchUp (keys : List K) (done : ℕ) (after : List (K × V)) : Type 0 where
     pub ascending : IsAscending laws.cmp keys
     pub found : HasFound keys
@@ -61,7 +61,7 @@ module _ {K V H : Type 0} (laws : Laws K V H) (local peer : Side K V H) where
   IsCatchUpRefused Memory after = after ≡ local.rows
   IsCatchUpRefused (Partly done lacked) after = (keys : List K) × (lacked ≡ length keys) × IsPartOfCatchUp keys done after
 
-  -- a catch-up that joined so many rows
+  -- a catch-up that joined this many rows
   abbrev pub IsCatchUpOf : ℕ → List (K × V) → Type 0
   IsCatchUpOf joined after = (keys : List K) × (joined ≡ length keys) × IsCatchUp keys after
 
@@ -70,7 +70,7 @@ module _ {K V H : Type 0} (laws : Laws K V H) where
   abbrev pub AreCatchUps : Side K V H → Side K V H → ℕ → ℕ → List (K × V) → List (K × V) → Type 0
   AreCatchUps a b first second a' b' = IsCatchUpOf laws a b first a' × IsCatchUpOf laws b (with_rows a a') second b'
 
-  -- memory was refused in the first of them, or in the second
+  -- memory ran out in the first of them, or in the second
   abbrev pub AreCatchUpsRefused : Side K V H → Side K V H → CatchUpsError → List (K × V) → List (K × V) → Type 0
   AreCatchUpsRefused a b (First fault) a' b' = IsCatchUpRefused laws a b fault a' × (b' ≡ b.rows)
   AreCatchUpsRefused a b (Second first fault) a' b' = IsCatchUpOf laws a b first.joined a' × IsCatchUpRefused laws b (with_rows a a') fault b'
@@ -118,7 +118,7 @@ module _ {K V H : Type 0} (laws : Laws K V H) (local peer : Contents K V H) wher
   abbrev pub HasCaughtUp : Contents K V H → CaughtUp → Type 0
   HasCaughtUp local' caught = IsCatchUpOf laws (side local) (side peer) caught.joined local'.rows
 
-  -- memory was refused in such a catch-up
+  -- memory ran out in such a catch-up
   abbrev pub StopsCatchingUp : Contents K V H → CatchUpError → Type 0
   StopsCatchingUp local' fault = IsCatchUpRefused laws (side local) (side peer) fault local'.rows
 
@@ -126,6 +126,6 @@ module _ {K V H : Type 0} (laws : Laws K V H) (local peer : Contents K V H) wher
   abbrev pub HaveCaughtUp : Contents K V H → Contents K V H → CaughtUp × CaughtUp → Type 0
   HaveCaughtUp local' peer' caught = AreCatchUps laws (side local) (side peer) caught.0.joined caught.1.joined local'.rows peer'.rows
 
-  -- memory was refused in one of these two catch-ups
+  -- memory ran out in one of these two catch-ups
   abbrev pub StopCatchingUp : Contents K V H → Contents K V H → CatchUpsError → Type 0
   StopCatchingUp local' peer' error = AreCatchUpsRefused laws (side local) (side peer) error local'.rows peer'.rows

@@ -41,7 +41,7 @@ module _ {K V H : Type 0} (laws : Laws K V H) where
   abbrev pub CoversWhileFaithful : Side K V H → Side K V H → Pulled K → Type 0
   CoversWhileFaithful local peer pulled = CoverWhileFaithful local peer (spans_of pulled.ranges.items)
 
-  -- the same of a pull that stopped behind the first rows
+  -- the same of a pull that stopped after the first rows
   abbrev pub CoverInPartWhileFaithful : Side K V H → Side K V H → PullError K → Type 0
   CoverInPartWhileFaithful local peer fault = HaveFaithfulPages laws local peer → SpanHolds laws.cmp peer.rows local.rows → PartMissesNone laws local peer fault
 

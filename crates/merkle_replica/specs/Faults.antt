@@ -13,7 +13,7 @@ use Rattle.merkle_replica.specs.declared.both_ways.CatchUpsError.TheVariants.{Fi
 use Rattle.merkle_replica.specs.declared.gossip.CatchUpAllError.{CatchUpAllError}
 use Rattle.merkle_replica.specs.declared.gossip.CatchUpAllError.TheVariants.{Gathering, Spreading}
 
--- memory was refused after this many rows
+-- memory ran out after this many rows
 abbrev pub cut_text : ℕ → List ℕ
 cut_text done = codes "memory was refused after " ++ decimal done ++ codes " rows"
 

@@ -31,7 +31,7 @@ come_to who (s ∷ steps) = come_to (changed who s.0 (who s.0 ++ who s.1)) steps
 abbrev pub heard : List (ℕ × ℕ) → ℕ → List ℕ
 heard = come_to (λ n. n ∷ [])
 
--- the number 0 catches up with each of the n behind it
+-- the number 0 catches up with each of the n after it
 abbrev pub gathering : ℕ → List (ℕ × ℕ)
 gathering zero = []
 gathering (suc n) = gathering n ++ (0, suc n) ∷ []
@@ -73,7 +73,7 @@ module _ {K V H : Type 0} (laws : Laws K V H) where
       (joined : ℕ) × (after : List (K × V)) × (rest : List (Side K V H × Side K V H)) × (met ≡ (sides s.0, sides s.1) ∷ rest)
       × IsCatchUpOf laws (sides s.0) (sides s.1) joined after × IsGossip steps (changed sides s.0 (with_rows (sides s.0) after)) sides' rest
 
-  -- the first `done` of the steps were made, and then memory was refused
+  -- the first `done` of the steps were made, and then memory ran out
   abbrev pub StopsGossip : ℕ → CatchUpError → List (ℕ × ℕ) → (ℕ → Side K V H) → (ℕ → Side K V H) → Type 0
   StopsGossip done fault [] sides sides' = ⊥
   StopsGossip zero fault (s ∷ steps) sides sides' =
@@ -111,6 +111,6 @@ module _ {K V H : Type 0} (laws : Laws K V H) (hub : Contents K V H) (others : L
       × (AllFaithful laws met → AllByRecursion (λ s. IsJoinOf laws.cmp laws.eq laws.join (rows_of (map side (hub ∷ others))) s.rows)
       (map side (hub' ∷ others')))
 
-  -- memory was refused in one of these catch-ups
+  -- memory ran out in one of these catch-ups
   abbrev pub StopsCatchUps : Contents K V H → List (Contents K V H) → CatchUpAllError → Type 0
   StopsCatchUps hub' others' error = StopsAtHub laws error (length others) (numbered_sides hub others) (numbered_sides hub' others')

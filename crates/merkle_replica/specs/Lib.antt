@@ -12,6 +12,7 @@ pub mod Puts
 pub mod Parted
 pub mod Steps
 pub mod PullSteps
+pub mod Missing
 pub mod Descent
 pub mod CatchUp
 pub mod Gossip

@@ -22,7 +22,7 @@ module _ {K : Type 0} (cmp : K → K → Ordering) where
   abbrev pub AreRanges : List (Span K) → Type 0
   AreRanges ss = IsApart cmp ss × AllByRecursion (IsOrdered cmp) ss
 
-  -- whether the range at this place begins behind the end of the one before it, where there is one
+  -- whether the range at this place begins after the end of the one before it, where there is one
   abbrev pub BeginsBehind : List (K × K) → ℕ → Bool → Type 0
   BeginsBehind ranges i behind = (j : ℕ) (d : K × K) → suc j ≡ i → below cmp (slice_index_or ranges j d).1 (slice_index_or ranges i d).0 ≡ behind
 
@@ -46,7 +46,7 @@ module _ {K V H : Type 0} (laws : Laws K V H) where
   MayAskOf local theirs ranges = IsAnswerTo (side local) theirs (spans_of ranges)
 
 module _ {K V : Type 0} (cmp : K → K → Ordering) (eq : V → V → Bool) (join : V → V → V) where
-  -- rows that don't ascend are handed back, or memory was refused and the first ones are joined
+  -- rows that don't ascend are handed back, or memory ran out and the first ones are joined
   abbrev pub IsJoinRefused : List (K × V) → List (K × V) → JoinRefused K V → List (K × V) → Type 0
   IsJoinRefused before rows (NotAscending handed) after = (handed.items ≡ rows) × ¬ (IsMap cmp rows) × (after ≡ before)
   IsJoinRefused before rows (Memory done) after = IsMap cmp rows × (done < length rows) × IsJoin cmp eq join before (take done rows) after × (done ≡ 0 → after ≡ before)

@@ -10,7 +10,7 @@ use crate::replica::Replica;
 use crate::row_hasher::RowHasher;
 use merkle_digest::Key;
 
-/// Why catch-ups in both directions stopped: memory was refused.
+/// Why catch-ups in both directions stopped: out of memory.
 #[derive(Clone, Copy, Debug, PartialEq, Eq)]
 pub enum CatchUpsError {
     /// In the first one.
@@ -30,7 +30,7 @@ pub enum CatchUpsError {
 ///
 /// # Errors
 ///
-/// [`CatchUpsError`] where memory is refused: then stands what the fault says.
+/// [`CatchUpsError`] if memory runs out: then stands what the fault says.
 pub fn catch_up_both<K: Key + Drop, V: Join + Drop, H: RowHasher<N, K, V>, const N: usize>(
     a: &mut Replica<K, V, H, N>,
     b: &mut Replica<K, V, H, N>,

@@ -1,17 +1,20 @@
 //! The rounds of a catch-up: outlines of pages of the peer, and what they leave to look for.
 
-ghost use Rattle.std.specs.Prelude.{◌≡◌, ◌↔◌, IfOk, OnOk, IsTrue};
+ghost use Rattle.std.specs.Prelude.{◌≡◌, ◌↔◌, IfOk, IsSome, OnOk, IsTrue};
 ghost use Rattle.std.specs.Option.{option_map};
 ghost use Rattle.key_order.specs.Map.{get};
+ghost use Rattle.merkle_search_tree.specs.Items.{gap_of, items as items_of};
 ghost use Rattle.merkle_replica.specs.Contents.{side, tree_map};
-ghost use Rattle.merkle_replica.specs.Descent.{LeaveToAsk, AddsToAsk, GivesOutlines, HasDigestAt, HasPage};
+ghost use Rattle.merkle_replica.specs.Descent.{LeaveToAsk, AddsToAsk, HasDigestAt, node_count as count_of, outlines_over};
+ghost use Rattle.merkle_replica.specs.Missing.{has_page_over};
 
 use crate::join::Join;
+use crate::laws::a_replica_has_the_tree_of_its_rows;
 use crate::replica::Replica;
 use crate::row_hasher::RowHasher;
 use merkle_digest::{Key, PageDigest, ValueDigest};
-use merkle_search_tree::laws::every_tree_is_sound;
-use merkle_search_tree::{Gap, OutlineItem};
+use merkle_search_tree::laws::{a_map_has_one_tree, equal_pages_have_equal_maps};
+use merkle_search_tree::{Gap, OutlineItem, OutlineItemOf};
 use std::alloc::AllocError;
 
 /// What is still to be looked for in a peer.
@@ -24,17 +27,15 @@ pub(crate) struct ToAsk<'a, K> {
 }
 
 impl<K: Key + Drop, V: Join + Drop, H: RowHasher<N, K, V>, const N: usize> Replica<K, V, H, N> {
-    /// The outlines over these gaps, one behind the other; `None` where the tree isn't hashed. It goes down one path of the tree for each
-    /// gap, and takes memory for the items alone.
+    /// The outlines over these gaps, one after the other, where the tree is hashed. It goes down one path of the tree for each gap, and takes
+    /// memory for the items alone.
     pub(crate) fn outlines<'a>(
         &'a self,
         gaps: &[Gap<'a, K>],
-    ) -> Result<Option<Vec<OutlineItem<'a, N, K>>>, AllocError>
-        ensures { IfOk result (GivesOutlines K.bytes_of K.cmp self.now.tree gaps.now) }
+    ) -> Result<Vec<OutlineItem<'a, N, K>>, AllocError>
+        requires hashed { IsSome self.now.tree.root_hash }
+        ensures { IfOk result (λ list. items_of list.items ≡ outlines_over K.bytes_of K.cmp self.now.tree gaps.now) }
     {
-        if self.tree().root_hash_cached().is_none() {
-            return Ok(None);
-        }
         let mut all = Vec::new(self.alloc);
         'gaps: for gap in gaps {
             match self.tree().outline(gap.copied())? {
@@ -42,7 +43,7 @@ impl<K: Key + Drop, V: Join + Drop, H: RowHasher<N, K, V>, const N: usize> Repli
                 None => unreachable!(),
             }
         }
-        Ok(Some(all))
+        Ok(all)
     }
 
     /// What the items of a peer leave to look for: the pages that this side doesn't have, and the keys of the nodes that it lacks or has with
@@ -51,6 +52,7 @@ impl<K: Key + Drop, V: Join + Drop, H: RowHasher<N, K, V>, const N: usize> Repli
         &self,
         came: &[OutlineItem<'a, N, K>],
     ) -> Result<ToAsk<'a, K>, AllocError>
+        requires hashed { IsSome self.now.tree.root_hash }
         ensures { IfOk result (LeaveToAsk H.laws (side self.now) came.now) }
     {
         let mut asked = ToAsk {
@@ -69,6 +71,7 @@ impl<K: Key + Drop, V: Join + Drop, H: RowHasher<N, K, V>, const N: usize> Repli
         item: &OutlineItem<'a, N, K>,
         asked: &mut ToAsk<'a, K>,
     ) -> Result<(), AllocError>
+        requires hashed { IsSome self.now.tree.root_hash }
         ensures { OnOk result (AddsToAsk H.laws (side self.now) item.now asked.old asked.new) }
     {
         match item {
@@ -113,11 +116,27 @@ impl<K: Key + Drop, V: Join + Drop, H: RowHasher<N, K, V>, const N: usize> Repli
         }
     }
 
-    /// Whether the page over the gap has this digest, so that the tree has a page with it. It goes down one path of the tree.
+    /// Whether the page over the gap has this digest, where the tree is hashed. It goes down one path of the tree.
     fn has_page(&self, gap: &Gap<'_, K>, digest: &PageDigest) -> bool
-        ensures { IsTrue result → HasPage H.laws (side self.now) digest.now }
+        requires hashed { IsSome self.now.tree.root_hash }
+        ensures { result ≡ has_page_over H.laws (side self.now) (gap_of gap.now) digest.now }
     {
-        every_tree_is_sound(self.tree());
+        a_replica_has_the_tree_of_its_rows(self);
+        a_map_has_one_tree::<K, H, N>();
+        equal_pages_have_equal_maps::<K>();
         self.tree().has_page(gap, digest)
     }
+}
+
+/// How many of the items are nodes.
+pub(crate) fn node_count<K, D>(items: &[OutlineItemOf<'_, K, D>]) -> usize
+    ensures { result ≡ count_of (items_of items.now) }
+{
+    let mut count = 0;
+    'items: for item in items {
+        if let OutlineItemOf::Node(_, _) = item {
+            count += 1;
+        }
+    }
+    count
 }

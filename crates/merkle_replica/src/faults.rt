@@ -16,7 +16,7 @@ use crate::turns::TurnsError;
 use std::error::Error;
 use std::fmt;
 
-/// Says that memory was refused, and how many rows were joined before.
+/// Says that memory ran out, and how many rows were joined before.
 impl<K> fmt::Display for PullError<K> {
     ghost output = { λ error. Some (pull_text error) };
 
@@ -47,7 +47,7 @@ impl<K> fmt::Display for TurnsError<K> {
 
 impl<K: fmt::Debug + Drop> Error for TurnsError<K> {}
 
-/// Says that memory was refused, or which row doesn't ascend.
+/// Says that memory ran out, or which row doesn't ascend.
 impl<K, V> fmt::Display for RowsRefused<K, V> {
     ghost output = { λ refused. Some (refusal_text refused.why) };
 
@@ -58,7 +58,7 @@ impl<K, V> fmt::Display for RowsRefused<K, V> {
 
 impl<K: fmt::Debug + Drop, V: fmt::Debug + Drop> Error for RowsRefused<K, V> {}
 
-/// Says that memory was refused, and how many rows were put before.
+/// Says that memory ran out, and how many rows were put before.
 impl fmt::Display for PutsCut {
     ghost output = { λ cut. Some (cut_text cut.done) };
 
@@ -69,7 +69,7 @@ impl fmt::Display for PutsCut {
 
 impl Error for PutsCut {}
 
-/// Says that the rows don't ascend, or how many were joined before memory was refused.
+/// Says that the rows don't ascend, or how many were joined before memory ran out.
 impl<K, V> fmt::Display for JoinRefused<K, V> {
     ghost output = { λ refused. Some (join_text refused) };
 
@@ -86,7 +86,7 @@ impl<K, V> fmt::Display for JoinRefused<K, V> {
 
 impl<K: fmt::Debug + Drop, V: fmt::Debug + Drop> Error for JoinRefused<K, V> {}
 
-/// Says that memory was refused, and how many rows were joined before.
+/// Says that memory ran out, and how many rows were joined before.
 impl fmt::Display for CatchUpError {
     ghost output = { λ error. Some (catch_up_text error) };
 

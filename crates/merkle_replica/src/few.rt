@@ -7,7 +7,7 @@ use crate::join::Join;
 use crate::replica::Replica;
 use merkle_digest::{Hasher, Key};
 
-/// How many new rows are put by themselves at most, each of which moves the own rows behind it.
+/// How many new rows are put by themselves at most, each of which moves the own rows after it.
 const FEW: usize = 4;
 
 impl<K: Key + Drop, V: Join + Drop, H: Hasher<N, K> + Hasher<N, V>, const N: usize> Replica<
@@ -17,7 +17,7 @@ impl<K: Key + Drop, V: Join + Drop, H: Hasher<N, K> + Hasher<N, V>, const N: usi
     N,
 > {
     /// Joins rows whose keys don't fall: where few of them are new, each by a put, which moves no row where the key is there, else in one
-    /// pass over both. Refused, it answers how many of them are joined.
+    /// pass over both. Refused, it returns how many of them are joined.
     pub(crate) fn join_sparse(&mut self, theirs: Vec<(K, V)>) -> Result<(), usize>
         requires rising { IsRising K.cmp theirs.items }
         ensures all { OnOk result (HasGathered K.cmp V.eq V.join_of self.old.rows theirs.items self.new.rows) }
@@ -45,7 +45,7 @@ impl<K: Key + Drop, V: Join + Drop, H: Hasher<N, K> + Hasher<N, V>, const N: usi
         true
     }
 
-    /// Puts rows one after the other. Refused, it answers how many of them are joined.
+    /// Puts rows one after the other. Refused, it returns how many of them are joined.
     fn join_each(&mut self, theirs: Vec<(K, V)>) -> Result<(), usize>
         ensures all { OnOk result (HasGathered K.cmp V.eq V.join_of self.old.rows theirs.items self.new.rows) }
         ensures cut { IfErr result (IsGatheredTo K.cmp V.eq V.join_of self.old.rows theirs.items self.new.rows) }

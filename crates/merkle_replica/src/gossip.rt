@@ -9,7 +9,7 @@ use crate::replica::Replica;
 use crate::row_hasher::RowHasher;
 use merkle_digest::Key;
 
-/// Why catch-ups of all stopped: memory was refused.
+/// Why catch-ups of all stopped: out of memory.
 #[derive(Clone, Copy, Debug, PartialEq, Eq)]
 pub enum CatchUpAllError {
     /// In a catch-up by the hub.
@@ -21,7 +21,7 @@ pub enum CatchUpAllError {
     },
     /// In a catch-up with the hub.
     Spreading {
-        /// How many catch-ups with the hub were made before, behind all by the hub.
+        /// How many catch-ups with the hub were made before, after all by the hub.
         done: usize,
         /// What came in place of the next one.
         fault: CatchUpError,
@@ -42,7 +42,7 @@ pub enum CatchUpAllError {
 ///
 /// # Errors
 ///
-/// [`CatchUpAllError`] where memory is refused: the catch-ups that were made until then stay.
+/// [`CatchUpAllError`] if memory runs out: the catch-ups that were made until then stay.
 pub fn catch_up_all<K: Key + Drop, V: Join + Drop, H: RowHasher<N, K, V>, const N: usize>(
     hub: &mut Replica<K, V, H, N>,
     others: &mut [Replica<K, V, H, N>],

@@ -25,7 +25,7 @@ pub trait Join: Eq {
     ///
     /// # Errors
     ///
-    /// `AllocError` where an implementation can't make the join, as for want of memory. The joins of numbers, of
+    /// `AllocError` where an implementation can't make the join, such as for lack of memory. The joins of numbers, of
     /// [`Greatest`](crate::Greatest) and of `()` take no memory and are never refused.
     fn join(&self, alloc: Global, other: &Self) -> Result<Self, AllocError>
         ensures { IfOk result (λ both. Self.eq both (join_of self.now other.now) ≡ true) };

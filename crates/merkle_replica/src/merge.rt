@@ -120,7 +120,7 @@ where
         back[at].1 = stored;
         return Ok(());
     }
-    // A new row waits behind the place, so that the next one may have its key.
+    // A new row waits after the place, so that the next one may have its key.
     back.reserve_exact(1)?;
     let own = key.clone()?;
     if tree.upsert(own, &value).is_err() {
@@ -203,7 +203,7 @@ where
     Ok(done)
 }
 
-/// Joins rows that don't fall with `rows`, of which those below the first stay where they are. Refused, it answers how many of them
+/// Joins rows that don't fall with `rows`, of which those below the first stay where they are. Refused, it returns how many of them
 /// are joined.
 pub(crate) fn join_owned<K, V, H, const N: usize>(
     alloc: Global,

@@ -26,7 +26,7 @@ pub struct Pulled<K> {
     pub joined: usize,
 }
 
-/// Why a pull stopped: memory was refused.
+/// Why a pull stopped: out of memory.
 #[derive(Debug, Drop)]
 pub enum PullError<K> {
     /// No row was joined, and the rows are unchanged. Pages may have got their digests.
@@ -51,7 +51,7 @@ impl<K: Key + Drop, V: Join + Drop, H: RowHasher<N, K, V>, const N: usize> Repli
     ///
     /// # Errors
     ///
-    /// `AllocError` where memory is refused; the rows are then as they were, and both trees hashed.
+    /// `AllocError` if memory runs out; the rows are then as they were, and both trees hashed.
     pub fn ranges_to_ask(
         &mut self,
         peer: &mut Replica<K, V, H, N>,
@@ -91,7 +91,7 @@ impl<K: Key + Drop, V: Join + Drop, H: RowHasher<N, K, V>, const N: usize> Repli
     ///
     /// # Errors
     ///
-    /// [`PullError`] where memory is refused, by which no row is joined, or the first ones in key order and not all.
+    /// [`PullError`] if memory runs out: no row is joined, or the first ones in key order and not all.
     pub fn pull(&mut self, peer: &mut Replica<K, V, H, N>) -> Result<Pulled<K>, PullError<K>>
         // The rows are the join with the peer's rows in the ranges.
         ensures done { IfOk result (HasPulled H.laws self.old peer.old self.new) }
@@ -100,7 +100,7 @@ impl<K: Key + Drop, V: Join + Drop, H: RowHasher<N, K, V>, const N: usize> Repli
         ensures refused { IfErr result (StopsPulling H.laws self.old peer.old self.new) }
 
         // Coverage: where pages with equal digests have equal maps, and the peer's keys span the replica's, the ranges miss no key, also
-        // where the pull stopped behind the first rows.
+        // where the pull stopped after the first rows.
         ensures covers { IfOk result (CoversWhileFaithful H.laws (side self.old) (side peer.old)) }
         ensures part_covers { IfErr result (CoverInPartWhileFaithful H.laws (side self.old) (side peer.old)) }
 

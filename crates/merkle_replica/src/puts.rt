@@ -8,7 +8,7 @@ use crate::replica::Replica;
 use merkle_digest::{Hasher, Key};
 use std::cmp::Ordering;
 
-/// Memory was refused before all rows were put.
+/// Out of memory before all rows were put.
 #[derive(Clone, Copy, Debug, PartialEq, Eq)]
 pub struct PutsCut {
     /// How many of the rows are joined, the first in key order. At 0 the rows are unchanged.
@@ -23,7 +23,7 @@ impl<K: Key + Drop, V: Join + Drop, H: Hasher<N, K> + Hasher<N, V>, const N: usi
 > {
     /// Joins rows in any order, as if each were put, one after the other. It sorts them by key, and joins them in one pass: room for all
     /// of them is made first, and own rows from the first of them on are moved out of the way and back. A put of each moves the rows
-    /// behind it instead, so this is for many rows.
+    /// after it instead, so this is for many rows.
     ///
     /// ```rust crates/merkle_store/src/upkeep.rt
     /// match replica.put_all(entries) {
@@ -34,7 +34,7 @@ impl<K: Key + Drop, V: Join + Drop, H: Hasher<N, K> + Hasher<N, V>, const N: usi
     ///
     /// # Errors
     ///
-    /// [`PutsCut`] where memory is refused: the first rows in key order are joined, those of equal keys in the order in which they came,
+    /// [`PutsCut`] if memory runs out: the first rows in key order are joined, those of equal keys in the order in which they came,
     /// and the others are given up. An empty list is never refused.
     pub fn put_all(&mut self, rows: Vec<(K, V)>) -> Result<(), PutsCut>
         ensures joined { OnOk result (IsPuts K.cmp V.eq V.join_of self.old.rows rows.items self.new.rows) }

@@ -19,7 +19,7 @@ use std::cmp::Ordering;
 use std::marker::Model;
 
 /// A map from keys to values that can be joined, kept as rows in ascending key order, and the Merkle search tree of the digests of
-/// the values. Rows and tree never part, also where memory is refused.
+/// the values. Rows and tree never part, also if memory runs out.
 ///
 /// ```rust crates/examples/src/readme.rt
 /// let mut a: Replica<String, u64, SipHasher, 16> = Replica::new(alloc, Builder::default());
@@ -148,7 +148,7 @@ impl<K: Key + Drop, V: Join + Drop, H: Hasher<N, K> + Hasher<N, V>, const N: usi
     N,
 > {
     /// Joins a row: a new key is added, and a key that is there holds the join of both values. It finds the key's place by
-    /// halving, and moves the rows behind a new one up by one: at a random place half of them. [`put_all`](Self::put_all) is for many
+    /// halving, and moves the rows after a new one up by one: at a random place half of them. [`put_all`](Self::put_all) is for many
     /// rows. The tree then takes the value's digest, as [`MerkleSearchTree::upsert`] says.
     ///
     /// ```rust crates/examples/src/store.rt
@@ -159,7 +159,7 @@ impl<K: Key + Drop, V: Join + Drop, H: Hasher<N, K> + Hasher<N, V>, const N: usi
     ///
     /// # Errors
     ///
-    /// `AllocError` where memory is refused; the replica is then unchanged, and key and value are given up.
+    /// `AllocError` if memory runs out; the replica is then unchanged, and key and value are given up.
     pub fn put(&mut self, key: K, value: V) -> Result<(), AllocError>
         ensures joined { OnOk result (IsJoin K.cmp V.eq V.join_of self.old.rows ((key, value) ∷ []) self.new.rows) }
         ensures unchanged { OnErr result (self.new ≡ self.old) }
@@ -203,9 +203,9 @@ impl<K: Key + Drop, V: Join + Drop, H: Hasher<N, K> + Hasher<N, V>, const N: usi
     ghost use Rattle.merkle_tree_theory.specs.Remove.{HasFreeGap};
 
     /// Takes the row of a key out of this replica alone, so a pull from a peer that still has the key brings the row back: removals
-    /// are not merged. Answers true where a row was taken out, and false where there was none.
+    /// are not merged. Returns true if a row was taken out, and false where there was none.
     ///
-    /// It finds the row by halving, and moves the rows behind it down by one; the tree then compares `key` and joins pages as
+    /// It finds the row by halving, and moves the rows after it down by one; the tree then compares `key` and joins pages as
     /// [`MerkleSearchTree::remove`] says. No memory is taken where there is no such row, or where in the tree the gap before its key or
     /// the gap after it is empty.
     ///
@@ -215,7 +215,7 @@ impl<K: Key + Drop, V: Join + Drop, H: Hasher<N, K> + Hasher<N, V>, const N: usi
     ///
     /// # Errors
     ///
-    /// `AllocError` where memory is refused; rows and tree are then as they were.
+    /// `AllocError` if memory runs out; rows and tree are then as they were.
     pub fn del(&mut self, key: &K) -> Result<bool, AllocError>
         // The rows no longer have the key, and the answer says whether they had it.
         ensures rows { OnOk result (self.new.rows ≡ del K.cmp self.old.rows key.now) }
@@ -245,7 +245,7 @@ impl<K: Key + Drop, V: Join + Drop, H: Hasher<N, K> + Hasher<N, V>, const N: usi
 pub struct RowsRefused<K, V> {
     /// The rows, as they were handed in.
     pub rows: Vec<(K, V)>,
-    /// Why: the place of the first row that doesn't ascend, or want of memory.
+    /// Why: the place of the first row that doesn't ascend, or out of memory.
     pub why: LoadRefused,
 }
 
@@ -271,7 +271,7 @@ impl<K: Key + Drop, V: Join, H: Hasher<N, K> + Hasher<N, V> + Drop, const N: usi
     ///
     /// # Errors
     ///
-    /// [`RowsRefused`], at the first row that doesn't ascend or where memory is refused: it hands the rows back, and the builder is given
+    /// [`RowsRefused`], at the first row that doesn't ascend or if memory runs out: it hands the rows back, and the builder is given
     /// up.
     pub fn from_rows(
         alloc: Global,
@@ -304,7 +304,7 @@ impl<K: Key + Drop, V: Join + Drop, H: Hasher<N, K> + Hasher<N, V>, const N: usi
     ghost use Rattle.merkle_replica.specs.Answers.{spans_of, JoinsWithin, JoinsPartly};
     ghost use Rattle.merkle_replica.specs.Puts.{IsRising, HasGathered, IsGatheredTo};
 
-    /// Joins the rows of `theirs` in the ranges, in one pass over both, and answers how many they are.
+    /// Joins the rows of `theirs` in the ranges, in one pass over both, and returns how many they are.
     pub(crate) fn join_within(
         &mut self,
         theirs: &[(K, V)],
@@ -340,7 +340,7 @@ impl<K: Key + Drop, V: Join + Drop, H: Hasher<N, K> + Hasher<N, V>, const N: usi
         }
     }
 
-    /// Joins rows whose keys don't fall, in one pass over both. Refused, it answers how many of them are joined.
+    /// Joins rows whose keys don't fall, in one pass over both. Refused, it returns how many of them are joined.
     pub(crate) fn join_rising(&mut self, theirs: Vec<(K, V)>) -> Result<(), usize>
         requires rising { IsRising K.cmp theirs.items }
         ensures all { OnOk result (HasGathered K.cmp V.eq V.join_of self.old.rows theirs.items self.new.rows) }

@@ -61,7 +61,7 @@ impl<'a, K: Ord, V> Iterator for RowsWithin<'a, K, V> {
     }
 }
 
-/// The first of the rows that is in a range, the rows behind it, and the ranges that don't end below it.
+/// The first of the rows that is in a range, the rows after it, and the ranges that don't end below it.
 fn first_within<'a, K: Ord, V>(
     rows: &'a [(K, V)],
     ranges: &'a [(K, K)],
@@ -101,7 +101,7 @@ pub(crate) fn are_ranges<K: Ord>(ranges: &[(K, K)]) -> bool
     true
 }
 
-/// Whether a range starts behind the end of the one before it, where there is one.
+/// Whether a range starts after the end of the one before it, where there is one.
 fn begins_behind<K: Ord>(ranges: &[(K, K)], i: usize) -> bool
     requires { i < length ranges.now }
     ensures behind { BeginsBehind K.cmp ranges.now i result }

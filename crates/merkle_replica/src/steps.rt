@@ -22,7 +22,7 @@ use std::alloc::AllocError;
 pub enum JoinRefused<K, V> {
     /// A key is not above the one before it. The rows are handed back, and none of them is joined.
     NotAscending(Vec<(K, V)>),
-    /// Memory was refused: the first rows are joined, this many and not all, and the others are given up.
+    /// Out of memory: the first rows are joined, this many and not all, and the others are given up.
     Memory(usize),
 }
 
@@ -40,7 +40,7 @@ impl<K: Key + Drop, V: Join + Drop, H: RowHasher<N, K, V>, const N: usize> Repli
     ///
     /// # Errors
     ///
-    /// `AllocError` where memory is refused; the rows are then as they were, and the tree hashed.
+    /// `AllocError` if memory runs out; the rows are then as they were, and the tree hashed.
     pub fn ranges_to_ask_of(
         &mut self,
         theirs: &PageRangeSnapshot<K>,
@@ -57,7 +57,7 @@ impl<K: Key + Drop, V: Join + Drop, H: RowHasher<N, K, V>, const N: usize> Repli
     }
 
     /// The second step of a pull, on the peer's side: its rows in these ranges, in ascending key order, without memory. `None` where a
-    /// range ends before it starts, or doesn't start behind the end of the one before it. It looks at the bounds of each range once, and the
+    /// range ends before it starts, or doesn't start after the end of the one before it. It looks at the bounds of each range once, and the
     /// iterator then walks over rows and ranges once.
     ///
     /// ```rust crates/examples/src/wire.rt

@@ -11,7 +11,7 @@ use merkle_digest::Key;
 use merkle_search_tree::laws::page_ranges_of_a_map;
 use std::alloc::Global;
 
-/// Why pulls by turns stopped: memory was refused.
+/// Why pulls by turns stopped: out of memory.
 #[derive(Debug, Drop)]
 pub struct TurnsError<K> {
     /// The pulls that were made, in order.
@@ -37,7 +37,7 @@ fn turn<K: Key + Drop, V: Join + Drop, H: RowHasher<N, K, V>, const N: usize>(
     b.pull(a)
 }
 
-/// Makes `n` pulls by turns, the first of them by `a`, and answers what they did. It costs what `n` pulls do
+/// Makes `n` pulls by turns, the first of them by `a`, and returns what they did. It costs what `n` pulls do
 /// ([`Replica::pull`](crate::Replica::pull)), of which those after the fourth bring nothing new while digests don't collide. The memory
 /// for the list of answers is taken first.
 ///
@@ -52,7 +52,7 @@ fn turn<K: Key + Drop, V: Join + Drop, H: RowHasher<N, K, V>, const N: usize>(
 ///
 /// # Errors
 ///
-/// [`TurnsError`] where memory is refused: the pulls that were made, and what came in place of the next one. Where the list of answers
+/// [`TurnsError`] if memory runs out: the pulls that were made, and what came in place of the next one. Where the list of answers
 /// is refused, no pull is made, and the fault is [`PullError::Memory`].
 pub fn pull_by_turns<K: Key + Drop, V: Join + Drop, H: RowHasher<N, K, V>, const N: usize>(
     alloc: Global,

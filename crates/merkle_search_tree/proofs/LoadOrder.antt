@@ -97,7 +97,7 @@ module _ {K V D : Type 0} (f : V → D) (cmp : K → K → Ordering) (o : IsTota
   pub holds-map : (ps : List (K × D)) (rows : List (K × V)) → Holds ps rows → IsMap cmp ps → IsMap cmp rows
   holds-map ps rows a m = rows-map f cmp rows (same_is_map cmp o (λ d e. d ≡ e) ps (digests f rows) a m)
 
-  -- a row that is refused behind the pairs is refused behind the rows
+  -- a row that is refused after the pairs is refused after the rows
   pub holds-fails : (Came : List (K × V) → Type 0) (ps : List (K × D)) (rows : List (K × V)) (j k : K) (v : V) (fault : LoadRefused) → Holds ps rows → Same cmp j k → Came (rows ++ (k, v) ∷ [])
       → RowFails cmp ps j fault → LoadFails cmp Came fault
   holds-fails Came ps rows j k v Memory a e w r = tt

@@ -8,6 +8,6 @@ module _ {K D : Type 0} where
   abbrev pub ClosesBelow : ℕ → List (Tree K D) → List (Tree K D) → Held K D → Type 0
   ClosesBelow n old new h = (lev : K → ℕ) → IsEdge lev 256 old → ClosesPages lev n old new h
 
-  -- to a right edge the pair of a key on level n was added, behind all others
+  -- to a right edge the pair of a key on level n was added, after all others
   abbrev pub AppendsPair : K → ℕ → D → List (Tree K D) → List (Tree K D) → Type 0
   AppendsPair key n digest old new = (lev : K → ℕ) → lev key ≡ n → IsEdge lev 256 old → Appends lev key digest old new

@@ -10,10 +10,10 @@ use Rattle.merkle_tree_theory.specs.Outline.{Item}
 use Rattle.merkle_search_tree.specs.Items.{items}
 use Rattle.merkle_search_tree.specs.declared.outline.OutlineItemOf.{OutlineItemOf}
 
--- items are added behind those of the list
+-- items are added after those of the list
 abbrev pub AddsItems : {K D : Type 0} → List (Item K D) → Vec (OutlineItemOf K D) Global → Vec (OutlineItemOf K D) Global → Type 0
 AddsItems more old new = items new.items ≡ items old.items ++ more
 
--- page ranges are added behind those of the list
+-- page ranges are added after those of the list
 abbrev pub AddsRanges : {K o e p : _} → List (Entry K PageDigest) → Vec (PageRange K o e p) Global → Vec (PageRange K o e p) Global → Type 0
 AddsRanges more old new = entries new.items ≡ entries old.items ++ more

@@ -21,7 +21,7 @@ pub record IsLoading {K H : Type 0} (cmp : K → K → Ordering) (digest_of : H 
   pub fits : IsEdge (λ k. level_of (digest_of settings.hasher k) settings.base) 256 loading.edge.items
   pub counted : loading.count ≡ row_count (edge_pairs loading.edge.items)
 
--- a row is put behind those that are loaded
+-- a row is put after those that are loaded
 abbrev pub Adds : {K V H : Type 0} → (H → V → List ℕ) → Settings H → Loading K (List ℕ) → K → V → Loading K (List ℕ) → Type 0
 Adds value_digest settings old key value new = edge_pairs new.edge.items ≡ edge_pairs old.edge.items ++ (key, value_digest settings.hasher value) ∷ []
 
@@ -43,16 +43,16 @@ abbrev pub BeginsWith : {X : Type 0} → List X → List X → Type 0
 BeginsWith {X} rows front = (rest : List X) × (front ++ rest ≡ rows)
 
 module _ {K X : Type 0} (cmp : K → K → Ordering) where
-  -- behind these rows, which ascend, a row with the key k doesn't
+  -- after these rows, which ascend, a row with the key k doesn't
   abbrev pub EndsAscent : List (K × X) → K → Type 0
   EndsAscent rows k = IsMap cmp rows × ((x : X) → ¬ (IsMap cmp (rows ++ (k, x) ∷ [])))
 
-  -- a row with the key k was refused behind these rows: memory was refused, or it doesn't ascend
+  -- a row with the key k was refused after these rows: memory ran out, or it doesn't ascend
   abbrev pub RowFails : List (K × X) → K → LoadRefused → Type 0
   RowFails rows k Memory = ⊤
   RowFails rows k (NotAscending at) = EndsAscent rows k × (at ≡ row_count rows)
 
-  -- loading was refused: memory was refused, or the last of the rows that came is the first that doesn't ascend
+  -- loading was refused: memory ran out, or the last of the rows that came is the first that doesn't ascend
   abbrev pub LoadFails : (List (K × X) → Type 0) → LoadRefused → Type 0
   LoadFails Came Memory = ⊤
   LoadFails Came (NotAscending at) = (rows : List (K × X)) × (row : K × X) × Came (rows ++ row ∷ []) × EndsAscent rows row.0 × (at ≡ row_count rows)

@@ -15,7 +15,7 @@ module _ {K D : Type 0} where
   parting_place n (Inside i s) = i
   parting_place n End = n
 
-  -- a parting of n nodes: behind the start there is a node, and a parting inside has nodes on both sides, and room for those behind it
+  -- a parting of n nodes: after the start there is a node, and a parting inside has nodes on both sides, and room for those after it
   abbrev pub PartsNodes : ℕ → Parting K D → Type 0
   PartsNodes n Start = 0 < n
   PartsNodes n (Inside i s) = (0 < i) × (i < n) × (s.nodes.items ≡ []) × (n - i ≤ vec_capacity s.nodes)

@@ -57,12 +57,12 @@ module _ {K D : Type 0} where
   abbrev pub TakesNode : List (Visit K D) → List (Visit K D) → Option (Bor (Node K D)) → Type 0
   TakesNode old new taken = MatchOption taken ((rest_of old ≡ []) × (rest_of new ≡ [])) (λ node. rest_of old ≡ node.now ∷ rest_of new)
 
-  -- so it is with the node that is passed, where what stands behind it comes next
+  -- so it is with the node that is passed, where what stands after it comes next
   abbrev pub PassesNode : List (Visit K D) → List (Visit K D) → Option (Bor (Node K D) × Bor (Option (Box (Tree K D) Global))) → Type 0
   PassesNode old new passed =
       MatchOption passed ((rest_of old ≡ []) × (rest_of new ≡ [])) (λ step. rest_of old ≡ step.0.now ∷ rest_with (held_of step.1.now) new)
 
-  -- the pages behind the node that is passed were the first of those that were left; without a node none was left, and none is
+  -- the pages after the node that is passed were the first of those that were left; without a node none was left, and none is
   abbrev pub PassesPages : List (Visit K D) → List (Visit K D) → Option (Bor (Node K D) × Bor (Option (Box (Tree K D) Global))) → Type 0
   PassesPages old new passed =
       MatchOption passed ((pages_left old ≡ []) × (pages_left new ≡ [])) (λ step. pages_left old ≡ pages_with (held_of step.1.now) new)

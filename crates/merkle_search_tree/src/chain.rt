@@ -42,7 +42,7 @@ pub(crate) struct Chain<K, D> {
 }
 
 impl<K: Drop, D: Drop> Chain<K, D> {
-    /// No pages, with room for so many.
+    /// No pages, with room for this many.
     pub(crate) fn with_room(alloc: Global, room: usize) -> Result<Self, AllocError>
         ensures { IfOk result (IsEmptyChain room) }
     {

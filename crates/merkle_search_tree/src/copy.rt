@@ -16,7 +16,7 @@ impl<const N: usize, K: Clone + PartialEq> Node<N, K> {
     ///
     /// # Errors
     ///
-    /// `AllocError` where memory is refused: for a page or its nodes, or for the clone of a key.
+    /// `AllocError` if memory runs out: for a page or its nodes, or for the clone of a key.
     pub fn try_clone(&self, alloc: Global) -> Result<Self, AllocError>
         ensures copy { IfOk result (λ copy. NodeIsCopy K.is_clone (λ digest copied. copied ≡ digest) self.now copy) }
         ensures equal { ClonesAreEqual K.is_clone K.eq → IfOk result (EqualBothWays ⟦<Node<N, K> as PartialEq>⟧.eq self.now) }
@@ -31,7 +31,7 @@ impl<const N: usize, K: Clone + PartialEq> Page<N, K> {
     ///
     /// # Errors
     ///
-    /// `AllocError` where memory is refused: for a page or its nodes, or for the clone of a key.
+    /// `AllocError` if memory runs out: for a page or its nodes, or for the clone of a key.
     pub fn try_clone(&self, alloc: Global) -> Result<Self, AllocError>
         ensures copy { IfOk result (λ copy. IsCopy K.is_clone (λ digest copied. copied ≡ digest) self.now copy) }
         ensures equal { ClonesAreEqual K.is_clone K.eq → IfOk result (EqualBothWays ⟦<Page<N, K> as PartialEq>⟧.eq self.now) }

@@ -11,7 +11,7 @@ use crate::page_ranges::last_key;
 use std::alloc::{AllocError, Global};
 
 impl<K: Drop, D: Drop> PageOf<K, D> {
-    /// Puts a node behind the last one.
+    /// Puts a node after the last one.
     fn push_node(&mut self, node: NodeOf<K, D>) -> Result<(), AllocError>
         ensures { IfOk result (λ _. self.new ≡ page_with_row 0 self.old (row_more node (row_of_page self.old))) }
     {
@@ -75,7 +75,7 @@ fn close<K: Drop, D: Drop>(
     Ok(held)
 }
 
-/// Puts a key behind all keys of the open pages.
+/// Puts a key after all keys of the open pages.
 pub(crate) fn append<K: Drop, D: Drop>(
     alloc: Global,
     edge: &mut Vec<PageOf<K, D>>,
@@ -113,7 +113,7 @@ pub(crate) fn append<K: Drop, D: Drop>(
     }
 }
 
-/// Closes all open pages, and answers the root page.
+/// Closes all open pages, and returns the root page.
 pub(crate) fn root_of<K: Drop, D: Drop>(
     alloc: Global,
     edge: Vec<PageOf<K, D>>,

@@ -65,7 +65,7 @@ impl<const N: usize, K: KeyBytes> Page<N, K> {
     }
 }
 
-/// Fills in the digests of what a pointer holds, writes what stands for the page there to `sip`, and answers how many pages got one.
+/// Fills in the digests of what a pointer holds, writes what stands for the page there to `sip`, and returns how many pages got one.
 #[cycle(fill)]
 fn fill_below<const N: usize, K: KeyBytes>(
     held: &mut Option<Box<Page<N, K>>>,
@@ -192,7 +192,7 @@ impl<K: Ord + KeyBytes, V, H: Hasher<N, K>, const N: usize> MerkleSearchTree<K, 
         }
     }
 
-    /// Fills in the digests that pages lack, keeps the root hash, and answers how many pages were hashed.
+    /// Fills in the digests that pages lack, keeps the root hash, and returns how many pages were hashed.
     fn hash_pages(&mut self) -> usize
         ensures tree { self.new ≡ hashed_tree K.bytes_of self.old }
         ensures map { map_of self.new ≡ map_of self.old }

@@ -21,7 +21,7 @@ use std::fmt;
 /// Why rows were not loaded.
 #[derive(Clone, Copy, Debug, PartialEq, Eq)]
 pub enum LoadRefused {
-    /// Memory was refused.
+    /// Out of memory.
     Memory,
     /// The row at this place, counted from 0 and at most `usize::MAX`, is the first whose key isn't above that of the row before it.
     NotAscending(usize),
@@ -35,7 +35,7 @@ impl From<AllocError> for LoadRefused {
     }
 }
 
-/// Says that memory was refused, or which row doesn't ascend.
+/// Says that memory ran out, or which row doesn't ascend.
 impl fmt::Display for LoadRefused {
     ghost use Rattle.std.specs.Prelude.{Some};
     ghost use Rattle.merkle_search_tree.specs.Loading.{refusal_text};
@@ -64,7 +64,7 @@ struct Loading<K, D> {
     count: usize,
 }
 
-/// Puts a row behind those that are loaded.
+/// Puts a row after those that are loaded.
 fn push_row<K: Ord + KeyBytes + Drop, V: Eq, H: Hasher<N, K> + Hasher<N, V>, const N: usize>(
     alloc: Global,
     builder: &Builder<H>,
@@ -135,7 +135,7 @@ impl<
     /// # Errors
     ///
     /// [`LoadRefused::NotAscending`] at the first row whose key isn't above that of the row before it, with its place, and
-    /// [`LoadRefused::Memory`] where memory is refused. The rows and the builder are then given up.
+    /// [`LoadRefused::Memory`] if memory runs out. The rows and the builder are then given up.
     pub fn from_ascending<T>(
         alloc: Global,
         builder: Builder<H>,
@@ -152,7 +152,7 @@ impl<
         ensures settings { IfOk result (HasSettings builder) }
         ensures not_hashed { IfOk result (λ tree. tree.root_hash ≡ None) }
 
-        // Refused, it is at the first row that doesn't ascend, or for want of memory.
+        // Refused, it is at the first row that doesn't ascend, or when out of memory.
         ensures refused { IfErr result (λ fault. LoadFails K.cmp (Begins T.into_iter_gives T.IntoIter.next_gives rows) fault) }
     {
         let mut loading = Loading {
@@ -178,7 +178,7 @@ impl<K: Key + Drop, V: Eq, H: Hasher<N, K> + Hasher<N, V> + Drop, const N: usize
     /// # Errors
     ///
     /// [`LoadRefused::NotAscending`] at the first row whose key isn't above that of the row before it, with its place, and
-    /// [`LoadRefused::Memory`] where memory is refused, for a clone of a key too. The builder is then given up.
+    /// [`LoadRefused::Memory`] if memory runs out, for a clone of a key too. The builder is then given up.
     pub fn from_ascending_slice(
         alloc: Global,
         builder: Builder<H>,
@@ -191,7 +191,7 @@ impl<K: Key + Drop, V: Eq, H: Hasher<N, K> + Hasher<N, V> + Drop, const N: usize
         ensures settings { IfOk result (HasSettings builder) }
         ensures not_hashed { IfOk result (λ tree. tree.root_hash ≡ None) }
 
-        // Refused, it is at the first row that doesn't ascend, or for want of memory.
+        // Refused, it is at the first row that doesn't ascend, or when out of memory.
         ensures refused { IfErr result (λ fault. LoadFails K.cmp (BeginsWith rows.now) fault) }
     {
         let mut loading = Loading {

@@ -98,7 +98,7 @@ impl<'a, K: Ord, D> Iterator for PageRangeIterOf<'a, K, D> {
     }
 }
 
-/// Takes the page behind this one off the path, that is the first page below it or, where there is none, that which comes next. Below
+/// Takes the page after this one off the path, that is the first page below it or, where there is none, that which comes next. Below
 /// a page of level 0 there is none to look for.
 fn behind<'a, K, D>(
     path: &mut Vec<Visit<'a, K, D>>,

@@ -17,9 +17,9 @@ use std::alloc::{AllocError, Global};
 pub(crate) enum Parting<K, D> {
     /// Before its first node.
     Start,
-    /// Between two nodes: before the one at `at`, with a page for it and those behind it.
+    /// Between two nodes: before the one at `at`, with a page for it and those after it.
     Inside { at: usize, spare: Spare<K, D> },
-    /// Behind its last node.
+    /// After its last node.
     End,
 }
 

@@ -18,7 +18,7 @@ pub(crate) struct Visit<'a, K, D> {
     high_page: &'a Option<Box<PageOf<K, D>>>,
 }
 
-/// Takes the next node off the path, and answers it with the pointer to what stands behind it.
+/// Takes the next node off the path, and returns it with the pointer to what stands after it.
 pub(crate) fn pass<'a, K, D>(
     path: &mut Vec<Visit<'a, K, D>>,
 ) -> Option<(&'a NodeOf<K, D>, &'a Option<Box<PageOf<K, D>>>)>
@@ -41,7 +41,7 @@ pub(crate) fn pass<'a, K, D>(
     Some((first, &next.lt_pointer))
 }
 
-/// Puts a page on the path, where it has a node, and answers the pointer to what stands before its first node.
+/// Puts a page on the path, where it has a node, and returns the pointer to what stands before its first node.
 pub(crate) fn enter<'a, K, D>(
     path: &mut Vec<Visit<'a, K, D>>,
     page: &'a PageOf<K, D>,

@@ -61,7 +61,7 @@ pub(crate) struct Sides<K, D> {
 }
 
 impl<K: Drop, D: Drop> Sides<K, D> {
-    /// No pages, with room for so many on each side.
+    /// No pages, with room for this many on each side.
     fn with_room(alloc: Global, room: usize) -> Result<Self, AllocError>
         ensures room { IfOk result (HaveRoom room) }
         ensures parts { (cmp : K → K → Ordering) (key : K) (whole : Held K D) → IfOk result (InParts cmp key whole whole) }

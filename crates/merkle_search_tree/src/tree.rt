@@ -220,7 +220,7 @@ impl<K: Ord + KeyBytes, V, H: Hasher<N, K>, const N: usize> MerkleSearchTree<K, 
     ///
     /// # Errors
     ///
-    /// `AllocError` where memory is refused for room for the pages on the way down, one more than the level of the root. The iteration
+    /// `AllocError` if memory runs out for the pages on the way down, one more than the level of the root. The iteration
     /// itself takes none.
     pub fn node_iter(&self) -> Result<NodeIter<'_, N, K>, AllocError>
         ensures nodes { IfOk result (λ rest. rest ≡ nodes_in_order self.now.root) }
@@ -237,7 +237,7 @@ impl<K: Ord + KeyBytes, V, H: Hasher<N, K>, const N: usize> MerkleSearchTree<K, 
 
     /// Calls a visitor at each page and node, the root page first. At a page it calls `visit_page`; for each node in order
     /// `pre_visit_node`, then all calls at the page below the node, then `visit_node` and `post_visit_node`; then
-    /// `post_visit_page`, and then all calls at the high page. The first call that answers false is the last one.
+    /// `post_visit_page`, and then all calls at the high page. The first call that returns false is the last one.
     /// That the nodes of the `visit_node` calls are the nodes of the tree in order is the law
     /// [`a_traversal_visits_nodes_in_order`](crate::laws::a_traversal_visits_nodes_in_order).
     ///
@@ -271,7 +271,7 @@ impl<K: Key, V, H: Hasher<N, K> + Clone, const N: usize> MerkleSearchTree<K, V, 
     ///
     /// # Errors
     ///
-    /// `AllocError` where memory is refused: for a page or its nodes, or for the clone of a key or of the hasher.
+    /// `AllocError` if memory runs out: for a page or its nodes, or for the clone of a key or of the hasher.
     pub fn try_clone(&self) -> Result<Self, AllocError>
         // A clone of a hasher gives the digests that the hasher gives.
         requires hashers { (a b : H) → H.is_clone a b → (k : K) → H.digest_of b k ≡ H.digest_of a k }
@@ -326,7 +326,7 @@ impl<
     /// the digest stays the same.
     ///
     /// It hashes the key and the value once. On each page of the key's path it compares the key with at most as many keys as the number
-    /// of the page's nodes has binary digits. Where the key is new, it moves the nodes behind it in the page of its level, and parts at
+    /// of the page's nodes has binary digits. Where the key is new, it moves the nodes after it in the page of its level, and parts at
     /// most one page of each lower level.
     ///
     /// ```rust crates/examples/src/hashing.rt
@@ -337,7 +337,7 @@ impl<
     ///
     /// # Errors
     ///
-    /// [`UpsertRefused`] where memory is refused, and nowhere else: it holds the key, and the pages, all cached digests and the cached root
+    /// [`UpsertRefused`] if memory runs out, and nowhere else: it holds the key, and the pages, all cached digests and the cached root
     /// hash are as before.
     pub fn upsert(&mut self, key: K, value: &V) -> Result<(), UpsertRefused<K>>
         // The map has the key with the digest of the value.
@@ -372,7 +372,7 @@ impl<K: Ord + KeyBytes + Drop, V, H: Hasher<N, K>, const N: usize> MerkleSearchT
     ghost use Rattle.key_order.specs.Map.{del, entry};
     ghost use Rattle.merkle_tree_theory.specs.Remove.{HasFreeGap};
 
-    /// Takes `key` out, and hands out the stored key and its value digest. Where no equal key is there, it answers `Ok(None)` and
+    /// Takes `key` out, and hands out the stored key and its value digest. Where no equal key is there, it returns `Ok(None)` and
     /// changes nothing.
     ///
     /// The two gaps beside the key become one, whose pages are joined, and a page left without nodes gives way to that joined page; so
@@ -380,7 +380,7 @@ impl<K: Ord + KeyBytes + Drop, V, H: Hasher<N, K>, const N: usize> MerkleSearchT
     /// digests of the pages above the key and of those that are joined, at most one for each level up to the root's, but no others.
     ///
     /// It never asks for a key's level. On each page of the key's path it compares `key` with at most as many keys as the number of
-    /// the page's nodes has binary digits, and it compares no other keys. It moves the nodes behind the key's, and of each two pages
+    /// the page's nodes has binary digits, and it compares no other keys. It moves the nodes after the key's, and of each two pages
     /// of one level that are joined the nodes of the upper one; no page is copied. The depth of its recursion is the number of pages
     /// above the key and along the joint.
     ///
@@ -393,7 +393,7 @@ impl<K: Ord + KeyBytes + Drop, V, H: Hasher<N, K>, const N: usize> MerkleSearchT
     ///
     /// # Errors
     ///
-    /// `AllocError` where memory is refused, and nowhere else; the pages, all cached digests and the cached root hash are then as
+    /// `AllocError` if memory runs out, and nowhere else; the pages, all cached digests and the cached root hash are then as
     /// before. Memory is taken for no more than the nodes that come to a page of their own level, and none where no equal key is
     /// there, or where the gap before the key or the gap after it is empty.
     pub fn remove(&mut self, key: &K) -> Result<Option<(K, ValueDigest<N>)>, AllocError>

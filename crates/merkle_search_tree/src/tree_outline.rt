@@ -7,7 +7,7 @@ ghost use Rattle.merkle_tree_theory.specs.CachedRanges.{as_list};
 ghost use Rattle.merkle_tree_theory.specs.State.{map_of};
 ghost use Rattle.merkle_search_tree.specs.Items.{gap_of, item as item_of};
 ghost use Rattle.merkle_search_tree.specs.Pages.{whole_tree};
-ghost use Rattle.merkle_search_tree.specs.WhereHashed.{WhereHashed, HasPageWith, FindsFillingPage, IsOutlineOver};
+ghost use Rattle.merkle_search_tree.specs.WhereHashed.{WhereHashed, HasPageWith, FindsFillingPage, IsOutlineOver, TellsPageOver};
 
 use crate::gap::Gap;
 use crate::outline::{OutlineItem, OutlineItemOf};
@@ -41,17 +41,17 @@ impl<K: Ord + KeyBytes, V, H: Hasher<N, K>, const N: usize> MerkleSearchTree<K, 
         Some(OutlineItemOf::Page(Gap::everywhere(), digest))
     }
 
-    /// Whether the page over the gap, as [`outline`](Self::outline) opens it, has the digest. Where a page of the hashed tree fills the gap,
-    /// that is the page that is looked at. It compares keys as [`value_hash`](Self::value_hash) does, and one digest. It takes no
+    /// Whether the page over the gap, as [`outline`](Self::outline) opens it, has the digest, where the tree is hashed. Where a page of it fills
+    /// the gap, that is the page that is looked at. It compares keys as [`value_hash`](Self::value_hash) does, and one digest. It takes no
     /// memory.
     ///
     /// ```rust crates/merkle_replica/src/descent.rt
-    /// every_tree_is_sound(self.tree());
     /// self.tree().has_page(gap, digest)
     /// ```
     pub fn has_page(&self, gap: &Gap<'_, K>, digest: &PageDigest) -> bool
         ensures only { IsTrue result → HasPageWith K.bytes_of self.now digest.now }
         ensures all { FindsFillingPage K.cmp K.bytes_of self.now (gap_of gap.now) digest.now result }
+        ensures over { TellsPageOver K.cmp K.bytes_of self.now (gap_of gap.now) digest.now result }
     {
         match self.root.page_over(gap) {
             None => false,
@@ -76,7 +76,7 @@ impl<K: Ord + KeyBytes, V, H: Hasher<N, K>, const N: usize> MerkleSearchTree<K, 
     ///
     /// # Errors
     ///
-    /// `AllocError` where memory is refused for the items.
+    /// `AllocError` if memory runs out for the items.
     pub fn outline<'a>(
         &'a self,
         gap: Gap<'a, K>,

@@ -32,7 +32,7 @@ impl<K: Ord + KeyBytes, V, H: Hasher<N, K>, const N: usize> MerkleSearchTree<K, 
     ///
     /// # Errors
     ///
-    /// `AllocError` where memory is refused for the list, of one range a page. Neither `None` nor the empty list of a tree without keys
+    /// `AllocError` if memory runs out for the list, of one range a page. Neither `None` nor the empty list of a tree without keys
     /// takes memory.
     pub fn serialise_page_ranges(&self) -> Result<Option<Vec<PageRange<'_, K>>>, AllocError>
         ensures hashed { IfOk result (λ found. IfSome found (λ list. self.now.root_hash ≢ None)) }
@@ -64,7 +64,7 @@ impl<K: Ord + KeyBytes, V, H: Hasher<N, K>, const N: usize> MerkleSearchTree<K, 
     ///
     /// # Errors
     ///
-    /// `AllocError` where memory is refused for room for the pages on the way down, one more than the level of the root. Neither `None`
+    /// `AllocError` if memory runs out for the pages on the way down, one more than the level of the root. Neither `None`
     /// nor the iterator of a tree without keys takes memory, and the iteration itself takes none.
     pub fn page_range_iter(&self) -> Result<Option<PageRangeIter<'_, N, K>>, AllocError>
         ensures hashed { IfOk result (λ found. IfSome found (λ rest. self.now.root_hash ≢ None)) }

@@ -22,7 +22,7 @@ pub enum Update<K, V> {
     RootHash,
 }
 
-/// Carries out an update, and answers whether it was accepted.
+/// Carries out an update, and returns whether it was accepted.
 fn carry_out<K, V, H, const N: usize>(
     tree: &mut MerkleSearchTree<K, V, H, N>,
     update: Update<K, V>,
@@ -47,7 +47,7 @@ where
 }
 
 /// The tree that the updates lead to, in order, from the empty tree of the builder on, and for each update whether it was accepted.
-/// An upsert or a removal is refused only for want of memory; its key and value are given up then, and it changes nothing. An upsert of
+/// An upsert or a removal is refused only when out of memory; its key and value are given up then, and it changes nothing. An upsert of
 /// a key that is there, a removal of one that isn't, and each `RootHash` is accepted. It costs what the updates cost.
 ///
 /// Whatever the updates, the pages of the tree are the one tree of the map of the accepted updates, apart from cached digests. So are
@@ -62,7 +62,7 @@ where
 ///
 /// # Errors
 ///
-/// `AllocError` where memory is refused for the answers, one `bool` an update; no update is carried out then.
+/// `AllocError` if memory runs out for the answers, one `bool` an update; no update is carried out then.
 pub fn replay<K, V, H, const N: usize>(
     alloc: Global,
     builder: Builder<H>,

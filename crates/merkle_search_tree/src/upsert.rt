@@ -17,7 +17,7 @@ use std::error::Error;
 use std::marker::Model;
 use std::{fmt, mem};
 
-/// An upsert that was refused for want of memory. It holds the key, and nothing in the tree has changed.
+/// An upsert that failed for lack of memory. It holds the key, and nothing in the tree has changed.
 #[derive(Debug, Drop)]
 pub struct UpsertRefused<K> {
     pub(crate) key: K,
@@ -38,7 +38,7 @@ impl<K> UpsertRefused<K> {
     }
 }
 
-/// Says that memory was refused, and that the key was not set.
+/// Says that memory ran out, and that the key was not set.
 impl<K> fmt::Display for UpsertRefused<K> {
     ghost use Rattle.std.specs.Prelude.{Some, codes};
 

@@ -8,7 +8,7 @@ ghost use Rattle.merkle_tree_theory.specs.Traversal.{Visits, node_events};
 use crate::page::{Node, Page};
 
 /// What [`in_order_traversal`](crate::MerkleSearchTree::in_order_traversal) calls at the pages and nodes of a tree, one after the
-/// other. Each call answers whether the traversal goes on.
+/// other. Each call returns whether the traversal goes on.
 ///
 /// `N` is how many bytes the tree's value digests have, and `K` the type of its keys. A visitor keeps no references to nodes or pages
 /// of the tree, only what it copies or clones of them.
@@ -38,7 +38,7 @@ pub trait Visitor<const N: usize, K> {
         ensures { step self.old (post_visit_page page.now) result self.new };
 }
 
-/// Calls a visitor at a page and all below it, and answers whether each call answered true.
+/// Calls a visitor at a page and all below it, and returns whether each call returned true.
 #[cycle(traverse)]
 pub(crate) fn traverse_page<const N: usize, K, T: Visitor<N, K>>(
     page: &Page<N, K>,
@@ -61,7 +61,7 @@ pub(crate) fn traverse_page<const N: usize, K, T: Visitor<N, K>>(
     traverse_below(&page.high_page, true, visitor)
 }
 
-/// Calls a visitor at a node and the page below it, and answers whether each call answered true.
+/// Calls a visitor at a node and the page below it, and returns whether each call returned true.
 #[cycle(traverse)]
 fn traverse_node<const N: usize, K, T: Visitor<N, K>>(node: &Node<N, K>, visitor: &mut T) -> bool
     ensures { Visits T.step visitor.old (node_events node.now) result visitor.new }
@@ -78,7 +78,7 @@ fn traverse_node<const N: usize, K, T: Visitor<N, K>>(node: &Node<N, K>, visitor
     visitor.post_visit_node(node)
 }
 
-/// Calls a visitor at what a pointer holds, and answers whether each call answered true.
+/// Calls a visitor at what a pointer holds, and returns whether each call returned true.
 #[cycle(traverse)]
 fn traverse_below<const N: usize, K, T: Visitor<N, K>>(
     held: &Option<Box<Page<N, K>>>,

@@ -33,7 +33,7 @@ module _ {K D : Type 0} (C : Option (List ℕ) → Option (List ℕ) → Bool) (
       second true p = p
       second false p = absurd (cc)
 
-  -- the nodes at one place, and those behind
+  -- the nodes at one place, and those after
   pub nodes_eq-at : (xs ys : List (Node K D)) (i : ℕ) (x y : Node K D) → i < length xs → i < length ys
       → nodes_eq (drop i xs) (drop i ys) ≡ node_eq C E F (get_or xs i x) (get_or ys i y) && nodes_eq (drop (suc i) xs) (drop (suc i) ys)
   nodes_eq-at [] ys i x y p q = absurd (omega arith)

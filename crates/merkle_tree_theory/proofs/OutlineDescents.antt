@@ -49,7 +49,7 @@ module _ {K D : Type 0} where
     context_held s (below t) i = context s t i
 
 module _ {K D : Type 0} (cmp : K → K → Ordering) (o : IsTotalOrder cmp) where
-  -- what is found behind other pairs of a map is found in it
+  -- what is found after other pairs of a map is found in it
   get_behind : (pre ps : List (K × D)) (k : K) (d : D) → IsMap cmp (pre ++ ps) → get cmp ps k ≡ Some d → get cmp (pre ++ ps) k ≡ Some d
   get_behind [] ps k d m e = e
   get_behind (p ∷ pre) ps k d m e = go (which (is_eq (cmp p.0 k))) (get_behind pre ps k d m.1 e)
@@ -97,7 +97,7 @@ module _ {K D : Type 0} (cmp : K → K → Ordering) (o : IsTotalOrder cmp) wher
       go (inr n) f = resp p.0 k (is_equal (cmp p.0 k) n) a.0
 
   -- a page of a map is one, and what is found in it is found in the map
-  inside_map : (s t : Tree K D) → IsPageIn s t → IsMap cmp (pairs t) → IsMap cmp (pairs s)
+  pub inside_map : (s t : Tree K D) → IsPageIn s t → IsMap cmp (pairs t) → IsMap cmp (pairs s)
   inside_map s t i m = let (pre, post, e) = context s t i in map-first cmp (pairs s) post (map-rest cmp pre (pairs s ++ post) (subst (IsMap cmp) e m))
 
   pub get_inside : (s t : Tree K D) (k : K) (d : D) → IsPageIn s t → IsMap cmp (pairs t) → get cmp (pairs s) k ≡ Some d → get cmp (pairs t) k ≡ Some d

@@ -6,7 +6,7 @@ use Rattle.merkle_tree_theory.specs.Outline.{Item, of_node, row_items, held_item
 use Rattle.merkle_tree_theory.specs.Tree.{Tree, Held, Node, row}
 
 module _ {K D : Type 0} where
-  -- the bound behind nodes: the key of the last one, or where there is none the one before them
+  -- the bound after nodes: the key of the last one, or where there is none the one before them
   abbrev pub bound_behind : Option K → List (Node K D) → Option K
   bound_behind a [] = a
   bound_behind a (e ∷ es) = bound_behind (Some e.key) es
@@ -57,7 +57,7 @@ module _ {K D : Type 0} (digest_of : Tree K D → Option (List ℕ)) where
       ∙ append_assoc (old ++ front_items g (take i xs)) held (of_node e.key e.digest ∷ []) ∙ append_assoc old (front_items g (take i xs)) (held ++ of_node e.key e.digest ∷ [])
       ∙ ap (λ w. old ++ w) (sym (front_items-more g (take i xs) e)) ∙ ap (λ ys. old ++ front_items g ys) (sym more)
 
--- and what comes is behind that node
+-- and what comes is after that node
 pub behind-more : {K D : Type 0} (a : Option K) (xs : List (Node K D)) (i : ℕ) (x : Node K D) {e : Node K D} → i < length xs → e ≡ get_or xs i x → Some e.key ≡ bound_behind a (take (i + 1) xs)
 behind-more a xs i x {e = e} within at =
     let more : take (i + 1) xs ≡ take i xs ++ e ∷ [] = take_more xs i x within ∙ ap (λ y. take i xs ++ y ∷ []) (sym at) in

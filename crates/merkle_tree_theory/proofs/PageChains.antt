@@ -44,7 +44,7 @@ module _ {K D : Type 0} where
     one : (m n : ℕ) (b : Box (Tree K D) Global) (h : Held K D) → m ≡ n → below (page_with_row m b.value (hang h (row_of_page b.value))) ≡ below (page_with_row n b.value (hang h (row_of_page b.value)))
     one m n b h e = ap (λ k. below (page_with_row k b.value (hang h (row_of_page b.value)))) e
 
-    -- the last page is page_chain where its digest stays only if no page behind it is stale
+    -- the last page is page_chain where its digest stays only if no page after it is stale
     pub hung-last : (n : ℕ) (bs : List (Box (Tree K D) Global)) (b : Box (Tree K D) Global) (h : Held K D)
         → page_chain hang n (bs ++ b ∷ []) h ≡ page_chain hang n bs (below (page_with_row (n - length bs) b.value (hang h (row_of_page b.value))))
     hung-last zero [] b h = one 0 (0 - 0) b h (omega arith)

@@ -94,7 +94,7 @@ module _ {K D : Type 0} (cmp : K → K → Ordering) where
       pub behind_there : IsTotalOrder cmp → NodesAscend cmp es → i < length es → b ≡ true → place_after cmp (Some k) es ≡ i + 1
       behind_there o m r n = place_after-there o es m (omega (arith, r, found)) (subst (λ c. IsThere c es) n at_place) ∙ (omega (arith, found))
 
-  -- what a row gives over a gap, by the place of its first node behind the gap's first bound: what the high page gives, or the page itself,
+  -- what a row gives over a gap, by the place of its first node after the gap's first bound: what the high page gives, or the page itself,
   -- or what the page before that node gives
   module _ (g : Gap K) (t : Tree K D) where
     pub over_high : (es : List (Node K D)) (h : Held K D) → place_after cmp g.after es ≡ length es → row_over cmp g t (row es h) ≡ held_over cmp g h

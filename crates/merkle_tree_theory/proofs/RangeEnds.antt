@@ -37,7 +37,7 @@ module _ {K D : Type 0} where
   last-none c [] e = refl
   last-none c (p ∷ ps) e = absurd (cc)
 
-  -- the last node of a list is that of the list behind its first node
+  -- the last node of a list is that of the list after its first node
   behind : (y z : Node K D) (es : List (Node K D)) (o : Option (Node K D)) → slice_get (y ∷ z ∷ es) (length (y ∷ z ∷ es) - 1) ≡ o → slice_get (z ∷ es) (length (z ∷ es) - 1) ≡ o
   behind y z es o e =
       let one : suc (length (z ∷ es) - 1) ≡ length (y ∷ z ∷ es) - 1 = omega arith in

@@ -40,7 +40,7 @@ module _ {K D : Type 0} where
   append_high [] g h = refl
   append_high (x ∷ es) g h = ap (node x.lt x.key x.digest) (append_high es g h)
 
-  -- a node taken out at a place, where what is behind it became fs and h
+  -- a node taken out at a place, where what is after it became fs and h
   pub without_at : (es : List (Node K D)) (h : Held K D) (i : ℕ) (x : Node K D) (fs : List (Node K D)) (g : Held K D) → i < length es
       → row fs g ≡ row_append (high (get_or es i x).lt) (row (drop (suc i) es) h) → row (take i es ++ fs) g ≡ row_without i (row es h)
   without_at [] h i x fs g r e = absurd (omega arith)
@@ -136,7 +136,7 @@ written_back (x ∷ xs) [] n e f = absurd (omega (arith, f))
 written_back (x ∷ xs) (y ∷ ys) zero e f = absurd (omega (arith, e))
 written_back (x ∷ xs) (y ∷ ys) (suc n) e f = ap (λ zs. x ∷ zs) (written_back xs ys n (omega (arith, e)) (omega (arith, f)))
 
--- a vector whose element i was set, and whose elements behind it are lent and came back as t
+-- a vector whose element i was set, and whose elements after it are lent and came back as t
 module _ {X : Type 0} where
   length_set : (es : List X) (i : ℕ) (e : X) → length (slice_set es i e) ≡ length es
   length_set [] i e = refl

@@ -68,7 +68,7 @@ module _ {K D : Type 0} (cmp : K → K → Ordering) (k : K) where
       by true p = omega (arith, p)
       by false p = omega arith
 
-  -- a node that is not below the key is at its place or behind it
+  -- a node that is not below the key is at its place or after it
   pub place-upto : (es : List (Node K D)) (i : ℕ) (x : Node K D) → i < length es → is_gt (cmp k (get_or es i x).key) ≡ false → place cmp k es ≤ i
   place-upto [] i x r q = absurd (omega arith)
   place-upto (e ∷ es) zero x r q = let p = ap (λ b. if b then (suc (place cmp k es)) else 0) q in omega (arith, p)
@@ -91,7 +91,7 @@ module _ {K D : Type 0} (cmp : K → K → Ordering) (k : K) where
 pub not_there : (r : Ordering) → is_eq r ≡ false → r ≢ Equal
 not_there r e f = let g = sym e ∙ ap is_eq f in cc
 
--- what a search tells of a page's nodes, which it was lent as a slice: it ended behind them all, or at a node, whose key it is or not
+-- what a search tells of a page's nodes, which it was lent as a slice: it ended after them all, or at a node, whose key it is or not
 module _ {K D : Type 0} {ys es : List (Node K D)} where
   pub all_below : (cmp : K → K → Ordering) (k : K) {i n m : ℕ} → i ≡ place cmp k ys → ys ≡ es → i ≡ n → n ≡ m → m ≡ length es → place cmp k es ≡ length es
   all_below cmp k found lent end len ok = omega (arith, found ∙ ap (place cmp k) lent)

@@ -39,7 +39,7 @@ module _ {K : Type 0} (bytes_of : K → List ℕ) (n : ℕ) where
       let w = join_tells (to_le_bytes w64 (length xs)) (to_le_bytes w64 (length ys)) (xs ++ us) (ys ++ vs) refl (sym (append_assoc (to_le_bytes w64 (length xs)) xs us) ∙ e ∙ append_assoc (to_le_bytes w64 (length ys)) ys vs) in
       join_tells xs ys us vs (number_tells (length xs) (length ys) a b w.0) w.1
 
-  -- the parts of a row with so many nodes
+  -- the parts of a row with this many nodes
   pub row_tells : (r r' : Row K (List ℕ)) → length (row_nodes r) ≡ length (row_nodes r') → RowMeasured r → RowMeasured r' → row_stream V2 bytes_of r ≡ row_stream V2 bytes_of r' → SameParts V2 bytes_of r r'
   row_tells (high h) (high h') c m m' e = (held_tells h h' [] [] (append-nil (held_stream V2 bytes_of h) ∙ e ∙ sym (append-nil (held_stream V2 bytes_of h')))).0
   row_tells (high h) (node h' k' d' r') c m m' e = absurd (omega (arith, c))

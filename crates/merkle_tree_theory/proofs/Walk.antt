@@ -6,7 +6,7 @@ use Rattle.std.specs.Ordering.{is_gt, match_ordering}
 use Rattle.merkle_tree_theory.specs.Tree.{Row, high, node, Held, Node, row}
 use Rattle.merkle_tree_theory.specs.Upsert.{place}
 
--- f goes along the nodes: it is `less` at a node whose key is above the key, `equal` at one with the key, and behind any other it goes on
+-- f goes along the nodes: it is `less` at a node whose key is above the key, `equal` at one with the key, and after any other it goes on
 pub record IsWalk {K D R : Type 0} (cmp : K → K → Ordering) (k : K) (f : Row K D → R) : Type 0 where
   pub less : Node K D → Row K D → R
   pub equal : Node K D → Row K D → R

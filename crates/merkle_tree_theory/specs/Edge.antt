@@ -9,7 +9,7 @@ use Rattle.merkle_tree_theory.specs.Canonical.{HasNode, IsCanonical, IsGap, IsCa
 use Rattle.merkle_tree_theory.specs.Chain.{high_of, row_of_page}
 
 module _ {K D : Type 0} where
-  -- the row with one node more, behind the others
+  -- the row with one node more, after the others
   abbrev pub row_more : Node K D → Row K D → Row K D
   row_more e (high h) = node e.lt e.key e.digest (high h)
   row_more e (node h k d r) = node h k d (row_more e r)
@@ -62,7 +62,7 @@ module _ {K D : Type 0} (lev : K → ℕ) where
   abbrev pub ClosesPages : ℕ → List (Tree K D) → List (Tree K D) → Held K D → Type 0
   ClosesPages n ts us h = IsEdge 256 us × IsClosed (last_level 256 us) h × IsClosed n h × (edge_pairs us ++ held_pairs h ≡ edge_pairs ts)
 
-  -- the open pages us are those of ts with the pair behind all others
+  -- the open pages us are those of ts with the pair after all others
   abbrev pub Appends : K → D → List (Tree K D) → List (Tree K D) → Type 0
   Appends k d ts us = IsEdge 256 us × (edge_pairs us ≡ edge_pairs ts ++ (k, d) ∷ [])
 

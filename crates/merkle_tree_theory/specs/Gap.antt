@@ -13,7 +13,7 @@ pub record Gap (K : Type 0) : Type 0 where
 abbrev pub everywhere : {K : Type 0} → Gap K
 everywhere = record { after = None; before = None }
 
--- the parts of a gap before a key and behind it
+-- the parts of a gap before a key and after it
 abbrev pub part_before : {K : Type 0} → Gap K → K → Gap K
 part_before g k = record { after = g.after; before = Some k }
 

@@ -7,7 +7,7 @@ use Rattle.merkle_tree_theory.specs.Tree.{Tree, page, Row, high, node, Held, not
 use Rattle.merkle_tree_theory.specs.TreeOf.{root_of}
 use Rattle.merkle_tree_theory.specs.Upsert.{as_held}
 
--- a page t of level l under what is above it: `on` puts a row behind the row of t, with the two gaps in the middle joined
+-- a page t of level l under what is above it: `on` puts a row after the row of t, with the two gaps in the middle joined
 module _ {K D : Type 0} (t : Tree K D) (l : ℕ) (on : Row K D → Row K D) where
   abbrev mutual
     -- t joined with what stands above it: the higher page takes the lower one into its first or last gap, and two of one level are one
@@ -33,7 +33,7 @@ module _ {K D : Type 0} where
     pub tree_join : Tree K D → Held K D → Held K D
     tree_join (page l c r) h = under (page l c r) l (row_append r) h
 
-    -- a row behind another: its nodes come behind the other's, and the two gaps in the middle are joined
+    -- a row after another: its nodes come after the other's, and the two gaps in the middle are joined
     pub row_append : Row K D → Row K D → Row K D
     row_append (high g) (high h) = high (held_join g h)
     row_append (high g) (node h k d s) = node (held_join g h) k d s

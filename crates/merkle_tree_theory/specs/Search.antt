@@ -12,8 +12,8 @@ module _ {K D : Type 0} (cmp : K → K → Ordering) where
   NodesAscend [] = ⊤
   NodesAscend (e ∷ es) = AllByRecursion (λ f. Below cmp e.key f.key) es × NodesAscend es
 
-  -- so many comparisons a search by halving makes among nodes: none where there is no node, else one with the node in the middle, and then
-  -- those among the nodes before it, or behind it, or none where it has the key
+  -- this many comparisons a search by halving makes among nodes: none where there is no node, else one with the node in the middle, and then
+  -- those among the nodes before it, or after it, or none where it has the key
   abbrev pub ComparesByHalves : K → ℕ → List (Node K D) → Type 0
   ComparesByHalves k zero es = es ≡ []
   ComparesByHalves k (suc n) es =

@@ -7,7 +7,7 @@ use Rattle.merkle_tree_theory.specs.Page.{row_nodes}
 use Rattle.merkle_tree_theory.specs.declared.page_format.PageFormat.{PageFormat}
 use Rattle.merkle_tree_theory.specs.declared.page_format.PageFormat.TheVariants.{V1, V2}
 
--- what stands before the first node of a page of this level and with so many nodes: in format 2 a mark, the level and the number of nodes
+-- what stands before the first node of a page of this level and with this many nodes: in format 2 a mark, the level and the number of nodes
 abbrev pub head_bytes : PageFormat → ℕ → ℕ → List ℕ
 head_bytes V1 l n = []
 head_bytes V2 l n = 2 ∷ l ∷ to_le_bytes w64 n
@@ -17,12 +17,12 @@ abbrev pub none_bytes : PageFormat → List ℕ
 none_bytes V1 = []
 none_bytes V2 = 0 ∷ []
 
--- what stands for a page with this digest: its digest, in format 2 behind the mark of one
+-- what stands for a page with this digest: its digest, in format 2 after the mark of one
 abbrev pub below_bytes : PageFormat → List ℕ → List ℕ
 below_bytes V1 digest = digest
 below_bytes V2 digest = 1 ∷ digest
 
--- what stands for a key with these bytes: the bytes, in format 2 behind their number
+-- what stands for a key with these bytes: the bytes, in format 2 after their number
 abbrev pub key_bytes : PageFormat → List ℕ → List ℕ
 key_bytes V1 bytes = bytes
 key_bytes V2 bytes = to_le_bytes w64 (length bytes) ++ bytes

@@ -63,7 +63,7 @@ pub fn equal_pages_have_equal_maps<K: Ord + KeyBytes>()
 {}
 
 /// The page ranges of the tree of any map are tree-shaped, and say where the pages of the map are, in any page format. On those of
-/// equal maps what [`diff`](merkle_diff::diff) answers is empty in both directions.
+/// equal maps what [`diff`](merkle_diff::diff) returns is empty in both directions.
 pub fn page_ranges_of_a_map<K: Ord + KeyBytes, H: Hasher<N, K>, const N: usize>()
     ensures shaped { RangesOfMaps K.cmp H.digest_of K.bytes_of (IsTreeShaped K.cmp) }
     ensures listing { RangesListPages K.cmp H.digest_of K.bytes_of }
@@ -71,7 +71,7 @@ pub fn page_ranges_of_a_map<K: Ord + KeyBytes, H: Hasher<N, K>, const N: usize>(
     ensures nothing_to_ask_a_for { RangesOfEqualMaps K.cmp H.digest_of K.bytes_of (λ es fs. NothingToAsk K.cmp fs es) }
 {}
 
-/// The nodes that a traversal visits, where each call answers true, are those of the tree in order, as an iteration over nodes gives them.
+/// The nodes that a traversal visits, where each call returns true, are those of the tree in order, as an iteration over nodes gives them.
 pub fn a_traversal_visits_nodes_in_order<K>()
     ensures { (is_high : Bool) (t : Tree K (List ℕ)) → visited_nodes (events_of is_high t) ≡ nodes_in_order t }
 {}

@@ -41,7 +41,7 @@ fn numbers(alloc: Global, values: &[u64; COUNT]) -> Result<Numbers, AllocError> 
     Ok(replica)
 }
 
-/// Whether a hub and so many others come to hold the join of their random maps.
+/// Whether a hub and this many others come to hold the join of their random maps.
 fn join_through_hub(alloc: Global, others: u64, random: &mut Random) -> Result<bool, AllocError> {
     let mut joined = values_of(random);
     let mut hub = numbers(alloc, &joined)?;

@@ -90,7 +90,7 @@ fn rows_that_do_not_ascend_are_handed_back(rt: HostRuntime) -> Result<(), Fail> 
     Ok(())
 }
 
-/// Whether a load of three rows gives them, or hands them back for want of memory.
+/// Whether a load of three rows gives them, or hands them back when out of memory.
 fn loads_three(alloc: Global) -> Result<bool, AllocError> {
     match loaded(alloc, rows(alloc, ASCENDING[2])?) {
         Ok(replica) => Ok(replica.rows().len() == 3),

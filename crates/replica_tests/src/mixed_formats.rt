@@ -32,7 +32,7 @@ pub fn is_set_of(alloc: Global, replica: &Numbers, keys: &str) -> Result<bool, F
     Ok(shown(alloc, replica)?.as_str().trim_start() == keys)
 }
 
-/// Whether a pull asks for the ranges of a text, and joins so many rows.
+/// Whether a pull asks for the ranges of a text, and joins this many rows.
 fn pulls(
     alloc: Global,
     local: &mut Numbers,

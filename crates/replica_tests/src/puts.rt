@@ -80,7 +80,7 @@ fn rows_are_put_in_any_order(rt: HostRuntime) -> Result<(), Fail> {
     Ok(())
 }
 
-/// Whether puts of three rows into a map of two leave the first ones in key order where memory is refused.
+/// Whether puts of three rows into a map of two leave the first ones in key order if memory runs out.
 fn puts_three(alloc: Global) -> Result<bool, AllocError> {
     let mut replica = Texts::new(alloc, Builder::default());
     if put_all(&mut replica, rows(alloc, &[("b", 1), ("d", 1)])?).is_err() {

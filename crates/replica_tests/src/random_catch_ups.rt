@@ -54,7 +54,7 @@ fn holds<K: Kind + Drop>(alloc: Global, map: &Map<K>, values: &[u64]) -> Result<
     Ok(rows.next().is_none())
 }
 
-/// A map without rows, with a tree in a page format, for so many keys.
+/// A map without rows, with a tree in a page format, for this many keys.
 fn empty<K: Kind + Drop>(
     alloc: Global,
     format: PageFormat,
@@ -86,7 +86,7 @@ fn update<K: Kind + Drop>(
     Ok(true)
 }
 
-/// Makes so many random updates, and tells whether each removal told if the key was there.
+/// Makes this many random updates, and tells whether each removal told if the key was there.
 fn updates<K: Kind + Drop>(
     alloc: Global,
     side: &mut Side<K>,
@@ -257,7 +257,7 @@ fn meet_through_a_hub<K: Kind + Drop>(
     }
 }
 
-/// Whether the first of these maps catches up with the last; it then stands behind that.
+/// Whether the first of these maps catches up with the last; it then stands after that.
 fn catch_up_with_the_last<K: Kind + Drop>(ring: &mut Vec<Map<K>>) -> Result<bool, AllocError> {
     if ring.len() < 2 {
         return Ok(false);

@@ -54,7 +54,7 @@ fn peer_of<'a>(
     }
 }
 
-/// How many rows a pull from a peer of so many rows says that it joined; none where it says it wrongly.
+/// How many rows a pull from a peer of this many rows says that it joined; none where it says it wrongly.
 fn count_of(
     answer: Result<Pulled<CountedText<'_>>, PullError<CountedText<'_>>>,
     all: usize,

@@ -1,4 +1,4 @@
-//! Catch-ups between maps of about 300 rows for which memory is refused: the rows are as before, or the first of the rows that were
+//! Catch-ups between maps of about 300 rows that run out of memory: the rows are as before, or the first of the rows that were
 //! lacked are joined. Under `tests/refusals` each request for memory of the last test is refused.
 
 use crate::text::CountedText;
@@ -49,7 +49,7 @@ fn theirs() -> Values {
     values
 }
 
-/// Our values joined with the first so many of theirs that we lack.
+/// Our values joined with the first of theirs that we lack, this many of them.
 fn joined_first(count: usize) -> Values {
     let mut values = ours();
     let mut left = count;
@@ -94,7 +94,7 @@ fn are<K: Text>(rows: &[(K, u64)], values: &Values) -> bool {
     rows.next().is_none()
 }
 
-/// How many of the rows that were lacked a catch-up says that it joined; none where it says it wrongly.
+/// How many of the rows that were missing a catch-up says that it joined; none where it says it wrongly.
 fn count_of(answer: Result<CaughtUp, CatchUpError>) -> Option<usize> {
     match answer {
         Ok(caught) => if caught.joined == LACKED {
@@ -160,8 +160,8 @@ fn counted<'a>(
     Ok(map)
 }
 
-/// How many of the rows that are lacked a catch-up joins where this many clones of keys are at hand; none where the rows aren't then
-/// ours joined with the first so many, or the peer's rows don't stay.
+/// How many of the rows that are missing a catch-up joins where this many clones of keys are at hand; none where the rows aren't then
+/// ours joined with the first ones, this many, or the peer's rows don't stay.
 fn joined_with(alloc: Global, texts: &[String], clones: u8) -> Result<Option<usize>, AllocError> {
     let clones_left = Cell::new(0);
     let mut local = counted(alloc, texts, &ours(), &clones_left)?;
@@ -175,7 +175,7 @@ fn joined_with(alloc: Global, texts: &[String], clones: u8) -> Result<Option<usi
     }
 }
 
-// Each row that is lacked is cloned once, and where its key is new a second time, for the tree: 124 and 62 clones.
+// Each row that is missing is cloned once, and where its key is new a second time, for the tree: 124 and 62 clones.
 #[test]
 fn refused_clones_leave_the_first_rows(rt: HostRuntime) -> Result<(), Fail> {
     let texts = texts(rt.alloc())?;
@@ -211,7 +211,7 @@ fn map_of(alloc: Global, values: &Values) -> Result<Texts, AllocError> {
     Ok(map)
 }
 
-/// Whether a catch-up leaves our rows joined with as many of the rows that are lacked as it says, the first ones.
+/// Whether a catch-up leaves our rows joined with as many of the rows that are missing as it says, the first ones.
 fn joins_the_first(alloc: Global) -> Result<bool, AllocError> {
     let mut local = map_of(alloc, &ours())?;
     let mut peer = map_of(alloc, &theirs())?;

@@ -178,7 +178,7 @@ const PULLS: [Case; 12] = [
     ),
 ];
 
-/// Whether a pull joins so many rows of a case, and leaves the peer's.
+/// Whether a pull joins this many rows of a case, and leaves the peer's.
 fn is_pulled(alloc: Global, case: Case) -> Result<bool, AllocError> {
     let (before, theirs, done, after) = case;
     let mut local = map_of(alloc, before)?;

@@ -48,7 +48,7 @@ fn join(local: &mut Numbers, rows: Vec<([u8; 2], ())>) -> Result<(), JoinRefused
     local.join_rows(rows)
 }
 
-/// Whether the steps ask for these ranges, join so many rows and leave these keys.
+/// Whether the steps ask for these ranges, join this many rows and leave these keys.
 fn go_as_said(
     alloc: Global,
     local: &mut Numbers,

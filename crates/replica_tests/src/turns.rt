@@ -123,7 +123,7 @@ fn four_turns_join_both(rt: HostRuntime) -> Result<(), Fail> {
     Ok(())
 }
 
-/// The ranges of keys that four pulls ask for, where a holds 1, 4, 5 and b holds 3, 7: a comma behind those of each.
+/// The ranges of keys that four pulls ask for, where a holds 1, 4, 5 and b holds 3, 7: a comma after those of each.
 const RANGES: &str = ", 1-3, 1-7, 1-7,";
 
 /// The ranges that these pulls asked for.

@@ -21,6 +21,6 @@ written format (Some digest) = below_bytes format digest
 abbrev pub level_by : {K : Type 0} → (K → List ℕ) → K → ℕ
 level_by digest_of = λ key. level_of (digest_of key) 16
 
--- these bytes are written to a hasher, behind those that it holds
+-- these bytes are written to a hasher, after those that it holds
 abbrev pub Writes : Sip24 → List ℕ → Sip24 → Type 0
 Writes old bytes new = (key before : List ℕ) → Holds old key before → Holds new key (before ++ bytes)

@@ -66,7 +66,7 @@ fn defined_digest<K: Eq + KeyBytes, H: Hasher<N, K>, const N: usize>(
     Some(PageDigest::new(sip.finish128()))
 }
 
-/// Writes what stands before the first node of a page of a level, which has so many nodes: in format 2 a mark, the level and the number.
+/// Writes what stands before the first node of a page of a level, which has this many nodes: in format 2 a mark, the level and the number.
 fn write_head(sip: &mut Sip24, format: PageFormat, level: u8, count: usize)
     ensures { Writes sip.old (head_bytes format level count) sip.new }
 {
@@ -95,7 +95,7 @@ fn write_gap(sip: &mut Sip24, format: PageFormat, digest: Option<PageDigest>)
     }
 }
 
-/// Writes the bytes of a key, in format 2 behind their number.
+/// Writes the bytes of a key, in format 2 after their number.
 fn write_key(sip: &mut Sip24, format: PageFormat, bytes: &[u8])
     ensures { Writes sip.old (key_bytes format bytes.now) sip.new }
 {

@@ -6,7 +6,7 @@ use Rattle.merkle_tree_theory.specs.Events.{Event, events_of, row_events, held_e
 use Rattle.merkle_tree_theory.specs.Traversal.{Visits, over, ends, goes_on}
 use Rattle.tree_tests.specs.Count.{counted}
 
--- the count after so many more nodes
+-- the count after this many more nodes
 abbrev pub plus : ℕ → ℕ → ℕ
 plus c n = min (c + n) (2 ^ 64 - 1)
 

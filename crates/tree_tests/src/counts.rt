@@ -56,7 +56,7 @@ pub fn count_nodes<K: Ord + KeyBytes, V, H: Hasher<N, K>, const N: usize>(
     counter.count
 }
 
-/// Hashes a tree, and answers how many of its pages lack a digest then.
+/// Hashes a tree, and returns how many of its pages lack a digest then.
 fn lacking_once_hashed<K: Ord + KeyBytes, V, H: Hasher<N, K>, const N: usize>(
     tree: &mut MerkleSearchTree<K, V, H, N>,
 ) -> usize

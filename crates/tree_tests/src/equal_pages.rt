@@ -50,7 +50,7 @@ fn hashed_root(
     common_root(alloc, left, right)
 }
 
-/// The level of the root page of both trees of so many keys, and how many nodes it has.
+/// The level of the root page of both trees of this many keys, and how many nodes it has.
 fn common_shape(alloc: Global, count: u16) -> Result<(u8, usize), Fail> {
     let mixed = built(alloc, 37, count)?;
     let ascending = built(alloc, 1, count)?;

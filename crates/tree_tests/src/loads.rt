@@ -181,7 +181,7 @@ const NINE: [(u16, u8); 9] = [
     (42, 0),
 ];
 
-/// Whether a load of the nine keys gives their tree, or is want of memory.
+/// Whether a load of the nine keys gives their tree, or is out of memory.
 fn is_loaded_or_refused(
     alloc: Global,
     loaded: Result<Tree, LoadRefused>,

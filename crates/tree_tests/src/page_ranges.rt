@@ -74,7 +74,7 @@ fn parts(line: &str) -> Option<(&str, &str, &str)> {
     Some((first, second, third))
 }
 
-/// Whether a tree has so many pages, and makes each digest once.
+/// Whether a tree has this many pages, and makes each digest once.
 fn has_pages(tree: &mut Tree, pages: usize) -> bool {
     tree.pages_to_hash() == pages
         && tree.root_hash_counted().1 == pages

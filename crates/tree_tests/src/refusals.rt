@@ -1,5 +1,5 @@
 //! Refused memory. Under `rt try --test --fail-alloc N -- a_refused` the Nth request for memory of each of these tests is refused:
-//! then the answer is right, or it is want of memory with everything as before.
+//! then the answer is right, or it is out of memory with everything as before.
 
 use merkle_diff::{PageRange, PageRangeSnapshot};
 use merkle_digest::RootHash;

@@ -30,7 +30,7 @@ fn without(alloc: Global, keys: &[(u16, u8)], key: u16) -> Result<Vec<(u16, u8)>
     Ok(left)
 }
 
-/// Takes a key out of the hashed tree of a text in a page format, and answers how many pages then lack a digest; `None` where the root hash isn't
+/// Takes a key out of the hashed tree of a text in a page format, and returns how many pages then lack a digest; `None` where the root hash isn't
 /// forgotten, another key is handed out, as many digests aren't made, or the tree isn't the defined one.
 fn lacks_without(
     alloc: Global,

@@ -47,7 +47,7 @@ struct Shape {
 }
 
 impl Shape {
-    /// Writes a text, and answers whether there was memory for it.
+    /// Writes a text, and returns whether there was memory for it.
     fn write(&mut self, text: Result<String, AllocError>) -> bool
         ensures { self.new.alloc ≡ self.old.alloc }
     {

@@ -25,7 +25,7 @@ enum Call {
     PostVisitPage(Option<u16>),
 }
 
-/// Keeps the calls, and answers false to the one that is to be the last.
+/// Keeps the calls, and returns false to the one that is to be the last.
 #[derive(Drop)]
 struct Recorder {
     calls: Vec<Call>,

@@ -10,7 +10,7 @@ use Rattle.merkle_replica.proofs.RowsInRanges.{Joins}
 use Rattle.merkle_replica.proofs.merge.join_all.Given as goal
 
 -- the rows found so far are joined, what is left of the ranges holds those that are still to be found, and the rows before the place
--- are below each that is to come in the first range or behind it
+-- are below each that is to come in the first range or after it
 abbrev pub invariant-joining : goal.invariant-joining
 invariant-joining g l = record {
   inside : l.at ≤ length l.ranges;

@@ -14,7 +14,7 @@ pub gaps-preserved : goal.gaps-preserved
 gaps-preserved g c =
     let tree = c.args.self.now.tree in
     let outline = outline_over tree.format g.K.KeyBytes.bytes_of g.K.Ord.cmp tree.root in
-    let one = (rw c.tree-in-gaps.ensures.tree at (rw c.in-Some.is at c.in_ok-outline.ensures.items)).1 ∙ ap outline c.copied.ensures in
+    let one = (rw c.tree.ensures.tree at (rw c.in-Some.is at c.in_ok-outline.ensures.items)).1 ∙ ap outline c.copied.ensures in
     ap items c.in_ok-append-in-Some.ensures.items ∙ map-append item c.gaps.all.items c.in-Some.outline.items
     ∙ ap (λ es. es ++ items c.in-Some.outline.items) c.gaps.invariant ∙ ap (λ es. flat_map outline (gaps_of (take c.gaps.gap-index c.args.gaps.now)) ++ es) one
     ∙ sym (flat_step gap_of outline c.args.gaps.now c.gaps.gap-index c.gap-item.result c.gaps-test.true c.gap-item.is)

@@ -20,7 +20,7 @@ returns-then-has_page g c = rw g.met.H.RowHasher.laws_are (
     let gaps = gaps_of c.args.asked.now.gaps.items in
     let keys = keys_of c.args.asked.now.keys.items in
     subst (λ e. HasSortedOut laws (side c.args.self.now) e gaps keys gaps keys) (sym (ap item_of c.in-Page.is))
-    ([], [], (refl, inl ((rw g.met.H.RowHasher.laws_are at c.has_page.ensures) c.if-has_page.true, refl)), sym (append-nil gaps), sym (append-nil keys)))
+    ([], [], (refl, inl (sym (rw g.met.H.RowHasher.laws_are at c.has_page.ensures) ∙ c.if-has_page.true, refl)), sym (append-nil gaps), sym (append-nil keys)))
 
 pub returns-in_ok-push-in-Node : goal.returns-in_ok-push-in-Node
 returns-in_ok-push-in-Node g c = rw g.met.H.RowHasher.laws_are (
@@ -43,7 +43,7 @@ returns-in_ok-push-in-Page g c = rw g.met.H.RowHasher.laws_are (
     subst (λ e. HasSortedOut laws (side c.args.self.now) e gaps keys (gaps_of c.push-in-Page.new.self.items) keys) (sym (ap item_of c.in-Page.is)) (
       gap_of c.in-Page.gap ∷ [],
       [],
-      (refl, inr refl),
+      (refl, inr (sym (rw g.met.H.RowHasher.laws_are at c.has_page.ensures) ∙ c.if-has_page.false, refl)),
       ap gaps_of c.in_ok-push-in-Page.ensures.items ∙ map-append gap_of c.args.asked.now.gaps.items (c.copied.result ∷ []) ∙ ap (λ g. gaps ++ g ∷ []) c.copied.ensures,
       sym (append-nil keys),
     ))

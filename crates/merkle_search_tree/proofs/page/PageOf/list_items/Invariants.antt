@@ -4,7 +4,7 @@ use Rattle.merkle_tree_theory.proofs.Outlines.{front_items, bound_behind}
 use Rattle.merkle_search_tree.specs.Items.{bound_of, gap_of, items}
 use Rattle.merkle_search_tree.proofs.page.PageOf.list_items.Given as goal
 
--- the nodes so far are listed, and what comes is behind the last of them
+-- the nodes so far are listed, and what comes is after the last of them
 abbrev pub invariant-nodes : goal.invariant-nodes
 invariant-nodes g l = record {
   listed : items l.list.items ≡ items l.initial.list.items ++ front_items cache (gap_of l.gap) (take l.node-index l.node-items);
