@@ -43,7 +43,7 @@ fn empty(alloc: Global, base: u8, format: PageFormat) -> Result<Rows, AllocError
     Ok(Rows::new(alloc, builder.with_page_format(format)))
 }
 
-/// Puts random values at so many random keys, or takes the key out.
+/// Puts random values at this many random keys, or takes the key out.
 fn updates(
     alloc: Global,
     rows: &mut Rows,

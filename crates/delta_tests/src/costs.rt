@@ -21,7 +21,7 @@ const CASES: [Case; 9] = [
     (20_000, 200, Way::Missing, 100, 37_922, 92_910),
 ];
 
-/// How many bytes a row has by itself: a text of 17 letters behind its length, and a number below 128.
+/// How many bytes a row has by itself: a text of 17 letters after its length, and a number below 128.
 const ROW: usize = 19;
 
 /// What a session of a case costs by deltas and plainly, where it brings other rows or costs more.
@@ -46,8 +46,8 @@ fn sessions_by_deltas_cost_less(rt: HostRuntime) -> Result<(), Fail> {
     Ok(())
 }
 
-/// The first session that costs more than all rows by themselves and a tenth, by deltas or plainly, of those with so many rows in which the asking
-/// side differs at every so many of them.
+/// The first session that costs more than all rows by themselves and a tenth, by deltas or plainly, of those with this many rows in which the asking
+/// side differs at one row in `step`, for each of the steps.
 fn dearer_than_all(
     alloc: Global,
     count: usize,

@@ -1,4 +1,4 @@
-//! A session by deltas for which memory is refused ends for that, or brings the rows that are lacked. Under `tests/refusals` each request for memory of
+//! A session by deltas for which memory is refused ends for that, or brings the rows that are missing. Under `tests/refusals` each request for memory of
 //! the test is refused.
 use crate::rows::{Random, Rows};
 use merkle_delta::{CatchingUp, Next, answer};
@@ -24,7 +24,7 @@ fn replica(alloc: Global, value: u64) -> Result<Rows, AllocError> {
     Ok(rows)
 }
 
-/// Whether a session ends for want of memory, or brings as many rows as differ.
+/// Whether a session ends when out of memory, or brings as many rows as differ.
 fn brings_or_wants_memory(alloc: Global) -> Result<bool, AllocError> {
     let mut local = replica(alloc, 1)?;
     let mut peer = replica(alloc, 2)?;

@@ -68,7 +68,7 @@ fn delta(alloc: Global, sides: &mut Sides) -> Result<Vec<u8>, Fail> {
     Ok(answer(alloc, &mut sides.peer, &message)?)
 }
 
-/// Whether the second question is asked again, plainly, behind a reply.
+/// Whether the second question is asked again, plainly, after a reply.
 fn is_asked_again(alloc: Global, sides: &mut Sides, reply: &[u8]) -> Result<bool, Fail> {
     let (session, _) = second(alloc, sides)?;
     match session.take(&mut sides.local, reply)? {

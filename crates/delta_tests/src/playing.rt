@@ -29,7 +29,7 @@ impl Cost {
     }
 }
 
-/// The rows that a session by deltas brings from a peer whose plain replies end at so many bytes, and what it took.
+/// The rows that a session by deltas brings from a peer whose plain replies end at this many bytes, and what it took.
 pub(crate) fn by_deltas(
     alloc: Global,
     local: &mut Rows,

@@ -9,7 +9,7 @@ use std::test::Fail;
 /// At how many bytes plain replies end.
 const MOST: [usize; 4] = [64, 1000, 5000, MOST_BYTES];
 
-/// Puts a random value at a random one of so many keys, or takes the key out.
+/// Puts a random value at a random one of this many keys, or takes the key out.
 fn update(
     alloc: Global,
     rows: &mut Rows,
@@ -27,7 +27,7 @@ fn update(
     Ok(())
 }
 
-/// Makes so many random updates of so many keys.
+/// Makes this many random updates of this many keys.
 fn updates(
     alloc: Global,
     rows: &mut Rows,

@@ -43,7 +43,7 @@ pub(crate) enum Way {
     Missing,
 }
 
-/// So many keys in ascending order.
+/// This many keys in ascending order.
 pub(crate) fn keys(alloc: Global, count: u64) -> Result<Vec<String>, AllocError> {
     let mut random = Random::new(88_172_645_463_325_252);
     let mut keys = Vec::new(alloc);

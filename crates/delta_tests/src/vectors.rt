@@ -48,7 +48,7 @@ fn animals(alloc: Global, value: u64) -> Result<Rows, AllocError> {
 /// The session with its message and the peer's reply to that.
 type Exchange = (CatchingUp<String, u64>, Vec<u8>, Vec<u8>);
 
-/// The exchange behind a message and its reply.
+/// The exchange after a message and its reply.
 fn next_exchange(
     alloc: Global,
     exchange: Exchange,

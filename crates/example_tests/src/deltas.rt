@@ -8,7 +8,7 @@ use std::test::Fail;
 /// How many bytes are in chunks, how many a reply has, and how many what it tells can have at most.
 const LENGTHS: [(usize, usize, u128); 4] = [(0, 0, 0), (0, 18, 18), (15, 2, 17), (700, 30, 730)];
 
-/// How many bytes a reply of so many can tell over the chunks of so many others.
+/// How many bytes a reply of this many can tell over the chunks of this many others.
 fn most_over(alloc: Global, own: usize, reply: usize) -> Result<u128, Fail> {
     let bytes = [7; 700];
     let chunks = Chunks::cut(alloc, Vec::from_slice(alloc, &bytes[..own.min(700)])?)?;

@@ -10,6 +10,8 @@ mod gossip;
 #[cfg(test)]
 mod hashing;
 #[cfg(test)]
+mod kept_rows;
+#[cfg(test)]
 mod meeting;
 #[cfg(test)]
 mod messages;

@@ -23,7 +23,7 @@ module _ {K V H : Type 0} (laws : Laws K V H) where
   abbrev Met : Type 0
   Met = List (Side K V H × Side K V H)
 
-  -- sessions behind others
+  -- sessions after others
   pub sessions-append : (steps more : List (ℕ × ℕ)) (first mid last : ℕ → Side K V H) (met later : Met)
       → AreSessions laws steps first mid met → AreSessions laws more mid last later → AreSessions laws (steps ++ more) first last (met ++ later)
   sessions-append [] more first mid last met later a b =
@@ -52,7 +52,7 @@ module _ {K V H : Type 0} (laws : Laws K V H) where
     last = subst (λ x. (n : ℕ) → last n ≡ changed mid s.0 (with_rows x after) n) (sym own) ends;
   }
 
-  -- so it ended behind what was made before
+  -- so it ended after what was made before
   pub stops-behind : (steps more : List (ℕ × ℕ)) (s : ℕ × ℕ) (fault : MessagesError) (first mid last : ℕ → Side K V H) (met : Met)
       → AreSessions laws steps first mid met → StopsBehind laws more s fault mid last → StopsBehind laws (steps ++ more) s fault first last
   stops-behind steps more s fault first mid last met made stops = record {

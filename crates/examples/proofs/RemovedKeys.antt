@@ -6,5 +6,5 @@ use Rattle.merkle_search_tree.proofs.Replays.{map_after-more, hashed_after-more}
 -- a new key was set before
 pub ruleset undo_rules = (del-set, same_map-own)
 
--- it is the last but one of the updates, behind which the tree is hashed
+-- it is the last but one of the updates, after which the tree is hashed
 pub ruleset history_rules = (map_after-more, hashed_after-more, has_key-del)

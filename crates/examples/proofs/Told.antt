@@ -59,7 +59,7 @@ lists_tell bytes R tells xs ys all e f =
     let same = as_list bytes xs ∙ sym e ∙ f ∙ sym (as_list bytes ys) in
     (run_told (alone bytes) stays R (λ u x y r s e. let both = tells x y r s e in (both.0, refl, both.1)) tt xs ys [] [] (ap (λ t. t ++ []) same)).0
 
--- a text at the front tells an equal one, and what is behind it
+-- a text at the front tells an equal one, and what is after it
 text_tells : (t u : Text) (r s : List ℕ) → text_bytes t ++ r ≡ text_bytes u ++ s → Same text_order t u × (r ≡ s)
 text_tells t u r s e = let both = string_told (string_bytes t) (string_bytes u) r s e in (string_clone t u (sym both.0), both.1)
 

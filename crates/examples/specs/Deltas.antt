@@ -17,7 +17,7 @@ use Rattle.merkle_delta.specs.declared.catching_up.Next.{Next}
 abbrev pub AreMostTold : List (List ℕ) → List ℕ → ℕ → Type 0
 AreMostTold own reply most = (plain : List ℕ) → IsReplyOver own reply plain → length plain ≤ most
 
--- the message was sent for what the catch-up asks: that alone, or that behind the checksums of the chunks that it told
+-- the message was sent for what the catch-up asks: that alone, or that after the checksums of the chunks that it told
 abbrev pub IsSent : {K V : Type 0} → (K → List ℕ) → Underway K V → Vec ℕ → Type 0
 IsSent encoding before message = (question : Vec ℕ) × (question.items ≡ question_bytes encoding before.session.asked) × IsSentFor question before.told message
 

@@ -37,7 +37,7 @@ module _ {K V H : Type 0} (laws : Laws K V H) where
     pub last : (n : ℕ) → sides' n ≡ changed mid next.0 (with_rows (mid next.0) after) n
 
   module _ (hub : Contents K V H) (others : List (Contents K V H)) (hub' : Contents K V H) (others' : List (Contents K V H)) where
-    -- the sessions of these steps were made, the hub under the number 0 and the others behind it, whatever is beyond them
+    -- the sessions of these steps were made, the hub under the number 0 and the others after it, whatever is beyond them
     abbrev pub AreMade : List (ℕ × ℕ) → Type 0
     AreMade steps = (beyond : Side K V H) → (met : List (Side K V H × Side K V H))
         × AreSessions steps (numbered beyond (sides_of hub others)) (numbered beyond (sides_of hub' others')) met
@@ -60,12 +60,12 @@ module _ {K V H : Type 0} (laws : Laws K V H) where
     StopsGathering stopped = (stopped.done < length others) × ((beyond : Side K V H)
         → StopsBehind (gathering stopped.done) (0, suc stopped.done) stopped.fault (numbered beyond (sides_of hub others)) (numbered beyond (sides_of hub' others')))
 
-    -- a session with the hub ended early, behind those of these steps
+    -- a session with the hub ended early, after those of these steps
     abbrev pub StopsSpreadingBehind : List (ℕ × ℕ) → Stopped → Type 0
     StopsSpreadingBehind steps stopped = (stopped.done < length others) × ((beyond : Side K V H)
         → StopsBehind (steps ++ spreading stopped.done) (suc stopped.done, 0) stopped.fault (numbered beyond (sides_of hub others)) (numbered beyond (sides_of hub' others')))
 
-    -- a session with the hub ended early, behind none by it
+    -- a session with the hub ended early, after none by it
     abbrev pub StopsSpreading : Stopped → Type 0
     StopsSpreading = StopsSpreadingBehind []
 

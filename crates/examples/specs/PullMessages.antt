@@ -47,7 +47,7 @@ JoinsFirstRows local came after =
     (rows : List (Text × ℕ)) × (done : ℕ) × AllByRecursion IsRow rows × (came ≡ list_bytes row_bytes rows)
     × (1 ≤ done) × (done < length rows) × IsJoin text_order nat_eq max local.rows (take done rows) after
 
--- memory was refused to such a join: local has its rows, or the join with the first of these
+-- such a join ran out of memory: local has its rows, or the join with the first of these
 abbrev pub StopsJoining : Side Text ℕ (List ℕ) → List ℕ → List (Text × ℕ) → Type 0
 StopsJoining local came after = (after ≡ local.rows) ⊎ JoinsFirstRows local came after
 
@@ -59,7 +59,7 @@ HasPulled local peer after = (answer : Answer Text) × IsPull store_laws local p
 abbrev pub HasPulledInPart : Side Text ℕ (List ℕ) → Side Text ℕ (List ℕ) → List (Text × ℕ) → Type 0
 HasPulledInPart local peer after = (answer : Answer Text) × (done : ℕ) × IsPartOfPull store_laws local peer answer done after
 
--- memory was refused to a pull: local has its rows, or has made a part of the pull
+-- a pull ran out of memory: local has its rows, or has made a part of the pull
 abbrev pub StopsPulling : Side Text ℕ (List ℕ) → Side Text ℕ (List ℕ) → List (Text × ℕ) → Type 0
 StopsPulling local peer after = (after ≡ local.rows) ⊎ HasPulledInPart local peer after
 

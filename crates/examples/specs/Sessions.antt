@@ -25,7 +25,7 @@ module _ {K V H : Type 0} (laws : Laws K V H) where
   abbrev pub HaveOneMap : Contents K V H → Contents K V H → Type 0
   HaveOneMap a b = SameMap laws.cmp (λ v w. laws.eq v w ≡ true) a.rows b.rows
 
--- the keys of rows that stand in so many bytes behind a key have at most this many bytes
+-- the keys of rows that stand in this many bytes after a key have at most this many bytes
 abbrev pub AreMostKeyBytes : {K V : Type 0} → (K → List ℕ) → (V → List ℕ) → ℕ → ℕ → Type 0
 AreMostKeyBytes {K} {V} encoding values bytes most = (last : List ℕ) (rows : List (K × V))
     → length (entries_bytes (row_behind encoding values) (row_key encoding) last rows) ≤ bytes → sum_by (λ row. length (encoding row.0)) rows ≤ most

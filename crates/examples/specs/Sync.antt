@@ -29,7 +29,7 @@ module _ {K V H : Type 0} (laws : Laws K V H) where
     pub pulls : IsByTurns laws answers (side a) (side b) a'.rows b'.rows met
     pub outcome : AllByRecursion (λ sides. Premise sides.0 sides.1) met → Outcome
 
-  -- memory was refused in one of the four pulls by turns of a and b: those before it were made, which left b with these rows
+  -- memory ran out in one of the four pulls by turns of a and b: those before it were made, which left b with these rows
   abbrev pub StopsSync : Contents K V H → Contents K V H → List (K × V) → Type 0
   StopsSync a b b' =
       (finished : List (Pulled K)) × (fault : PullError K) × (a' : List (K × V)) × (length finished < 4) × StopsByTurns laws finished fault (side a) (side b) a' b'

@@ -54,7 +54,7 @@ AreNoRanges bytes = (ranges : List (Span Text)) → bytes ≢ list_bytes range_b
 abbrev pub AreNoRows : List ℕ → Type 0
 AreNoRows bytes = (rows : List (Text × ℕ)) → AllByRecursion IsRow rows → bytes ≢ list_bytes row_bytes rows
 
--- bytes that go on with those of a list of rows, whatever comes behind them, begin with how many these are
+-- bytes that go on with those of a list of rows, whatever comes after them, begin with how many these are
 abbrev pub TellsHowMany : List ℕ → ℕ → Type 0
 TellsHowMany bytes count = (rows : List (Text × ℕ)) (more rest : List ℕ) → bytes ++ more ≡ list_bytes row_bytes rows ++ rest → count ≡ length rows
 

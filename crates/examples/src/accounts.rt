@@ -62,7 +62,7 @@ pub type Balances = Replica<Account, Greatest<(u64, u64)>, SipHasher, 16>;
 ///
 /// # Errors
 ///
-/// Want of memory: the balances are as they were.
+/// Out of memory: the balances are as they were.
 pub fn book(
     balances: &mut Balances,
     account: Account,

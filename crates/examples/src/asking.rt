@@ -12,7 +12,7 @@ use std::alloc::{AllocError, Global};
 ///
 /// # Errors
 ///
-/// Want of memory.
+/// Out of memory.
 pub fn ranges_to_fetch<'p>(
     alloc: Global,
     own: &'p PageRangeSnapshot<String>,

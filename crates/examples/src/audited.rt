@@ -13,13 +13,13 @@ use std::alloc::Global;
 /// Why an audited catch-up ended early.
 #[derive(Clone, Copy, Debug, PartialEq, Eq, Drop)]
 pub enum AuditedError {
-    /// Memory was refused in the audit. Nothing is joined.
+    /// Out of memory in the audit. Nothing is joined.
     Audit,
     /// The catch-up ended early.
     CatchUp(MessagesError),
 }
 
-/// Catches up with a peer by messages, and answers whether the rows are known to be the join of both sides' rows then: where digests are
+/// Catches up with a peer by messages, and returns whether the rows are known to be the join of both sides' rows then: where digests are
 /// faithful before. It looks at all rows and pages of both for that.
 ///
 /// # Errors
@@ -48,7 +48,7 @@ pub fn catch_up_audited<K: Key + Decode, V: Join + Decode, H: RowHasher<N, K, V>
 ///
 /// # Errors
 ///
-/// [`CatchUpError`]: its `Memory` also where memory is refused in the audit.
+/// [`CatchUpError`]: its `Memory` also if memory runs out in the audit.
 pub fn catch_up_at_hand_audited<
     K: Key + Drop,
     V: Join + Drop,

@@ -16,7 +16,7 @@ use std::alloc::{AllocError, Global};
 ///
 /// # Errors
 ///
-/// Want of memory, for page ranges alone: the rows stay.
+/// Out of memory, for page ranges alone: the rows stay.
 pub fn ranges_to_ask<K: Key + Drop, V: Join + Drop, H: RowHasher<N, K, V>, const N: usize>(
     alloc: Global,
     local: &mut Replica<K, V, H, N>,
@@ -40,7 +40,7 @@ pub fn ranges_to_ask<K: Key + Drop, V: Join + Drop, H: RowHasher<N, K, V>, const
 ///
 /// # Errors
 ///
-/// None: it answers the empty list.
+/// None: it returns the empty list.
 pub fn equal_maps_ask_for_nothing<
     K: Key + Drop,
     V: Join + Drop,

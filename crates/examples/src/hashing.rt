@@ -21,11 +21,11 @@ pub fn stamp_digest(hasher: &SipHasher, time: u64, number: u64) -> Digest<16>
 /// The digests of numbers by name.
 pub type NumberTree = MerkleSearchTree<String, u64, SipHasher, 16>;
 
-/// Sets a number under a name, and answers the root hash that the tree then has.
+/// Sets a number under a name, and returns the root hash that the tree then has.
 ///
 /// # Errors
 ///
-/// Want of memory: the tree is as it was, and the name is handed back.
+/// Out of memory: the tree is as it was, and the name is handed back.
 pub fn set_and_hash(
     tree: &mut NumberTree,
     name: String,
@@ -41,7 +41,7 @@ pub fn set_and_hash(
     Ok(digest)
 }
 
-/// Hashes a tree that is hashed once more, and answers how many pages that took: none.
+/// Hashes a tree that is hashed once more, and returns how many pages that took: none.
 pub fn hash_again(tree: &mut NumberTree) -> usize
     requires hashed { IsSome tree.old.root_hash }
     ensures { result ≡ 0 }

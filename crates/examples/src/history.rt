@@ -15,12 +15,12 @@ use std::alloc::{AllocError, Global};
 /// A tree of texts and numbers.
 pub type Tree = MerkleSearchTree<String, u64, SipHasher, 16>;
 
-/// The tree that updates lead to with a removal of a key and a root hash behind them, and whether the removal was accepted: the key is gone then.
+/// The tree that updates lead to with a removal of a key and a root hash after them, and whether the removal was accepted: the key is gone then.
 /// Whether it was or not, the tree is hashed.
 ///
 /// # Errors
 ///
-/// Want of memory for the lists.
+/// Out of memory for the lists.
 #[tactic(auto, using(crate::proofs::RemovedKeys::history_rules))]
 pub fn replay_and_remove(
     alloc: Global,

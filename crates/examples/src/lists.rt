@@ -22,7 +22,7 @@ fn write_list<T: Encode>(alloc: Global, list: &[T]) -> Result<Vec<u8>, AllocErro
     Ok(bytes)
 }
 
-/// The list whose bytes came, and nothing behind it.
+/// The list whose bytes came, and nothing after it.
 fn read_list<T: Decode>(alloc: Global, bytes: &[u8]) -> Result<Vec<T>, WireFault>
     ensures read { IfOk result (λ list. bytes.now ≡ list_bytes T.encoding list.items) }
     ensures values { IfOk result (λ list. AllByRecursion T.is_value list.items) }

@@ -29,7 +29,7 @@ pub fn no_numbers(alloc: Global) -> Numbers
 ///
 /// # Errors
 ///
-/// Want of memory: the numbers are as they were.
+/// Out of memory: the numbers are as they were.
 pub fn raise(numbers: &mut Numbers, name: String, number: u64) -> Result<(), AllocError>
     ensures joined { OnOk result (IsJoin text_order nat_eq max numbers.old.rows ((name, number) ∷ []) numbers.new.rows) }
     ensures side { OnOk result (side numbers.new ≡ with_rows (side numbers.old) numbers.new.rows) }
@@ -42,7 +42,7 @@ pub fn raise(numbers: &mut Numbers, name: String, number: u64) -> Result<(), All
 ///
 /// # Errors
 ///
-/// Want of memory: what was joined until then stays.
+/// Out of memory: what was joined until then stays.
 pub fn meet(a: &mut Numbers, b: &mut Numbers) -> Result<(), CatchUpsError>
     ensures join { OnOk result (ConvergeWhileFaithful ⟦<SipHasher as RowHasher<16, String, u64>>⟧.laws a.old b.old a.new b.new) }
     ensures refused { IfErr result (StopCatchingUp ⟦<SipHasher as RowHasher<16, String, u64>>⟧.laws a.old b.old a.new b.new) }
@@ -55,7 +55,7 @@ pub fn meet(a: &mut Numbers, b: &mut Numbers) -> Result<(), CatchUpsError>
 ///
 /// # Errors
 ///
-/// Want of memory: what was put and joined until then stays.
+/// Out of memory: what was put and joined until then stays.
 pub fn raise_both(
     a: &mut Numbers,
     a_name: String,

@@ -26,7 +26,7 @@ pub struct Stopped {
 pub enum GossipError {
     /// In a session by the hub.
     Gathering(Stopped),
-    /// In a session with the hub, behind all by the hub.
+    /// In a session with the hub, after all by the hub.
     Spreading(Stopped),
 }
 

@@ -47,7 +47,7 @@ fn are_one_tree(a: &Tree, b: &Tree)
 ///
 /// # Errors
 ///
-/// [`LoadRefused::NotAscending`] where two rows have one key, and want of memory.
+/// [`LoadRefused::NotAscending`] where two rows have one key, or out of memory.
 pub fn built_both_ways(alloc: Global, rows: Vec<(String, u64)>) -> Result<(Tree, Tree), LoadRefused>
     ensures pages { IfOk result (λ trees. SamePages text_order trees.0.root trees.1.root) }
     ensures digest { IfOk result (λ trees. page_digest V1 string_bytes trees.0.root ≡ page_digest V1 string_bytes trees.1.root) }

@@ -1,4 +1,4 @@
-//! What the README of the repository shows.
+//! What docs/TREE.md shows.
 
 ghost use Rattle.std.specs.Prelude.{IfOk, OnErr};
 ghost use Rattle.merkle_tree_theory.specs.Settings.{default_settings};
@@ -17,7 +17,7 @@ use std::alloc::Global;
 ///
 /// # Errors
 ///
-/// Want of memory: the other replica keeps what the pulls until then brought it, and the new one is given up.
+/// Out of memory: the other replica keeps what the pulls until then brought it, and the new one is given up.
 pub fn two_replicas(
     alloc: Global,
     key: String,

@@ -59,7 +59,7 @@ pub type Registers = Store<Register>;
 ///
 /// # Errors
 ///
-/// Want of memory, which leaves all registers as they were.
+/// Out of memory: all registers are as they were.
 pub fn write(registers: &mut Registers, name: String, register: Register) -> Result<(), AllocError>
     ensures latest { OnOk result (IsWritten ⟦<Register as Ord>⟧.cmp registers.old.rows name register registers.new.rows) }
     ensures unchanged { OnErr result (registers.new ≡ registers.old) }
@@ -75,7 +75,7 @@ pub type Stamped = Store<Greatest<(u64, u64)>>;
 ///
 /// # Errors
 ///
-/// Want of memory, which leaves all registers as they were.
+/// Out of memory: all registers are as they were.
 pub fn stamp(registers: &mut Stamped, name: String, time: u64, value: u64) -> Result<(), AllocError>
     ensures joined { OnOk result (HasPut ⟦<SipHasher as RowHasher<16, String, Greatest<(u64, u64)>>>⟧.laws registers.old
         (name, record { 0 = (time, value) }) registers.new) }
@@ -92,7 +92,7 @@ pub type Signed = Greatest<(u64, (u64, u64))>;
 ///
 /// # Errors
 ///
-/// Want of memory, which leaves all registers as they were.
+/// Out of memory: all registers are as they were.
 pub fn sign(
     registers: &mut Store<Signed>,
     name: String,
@@ -111,7 +111,7 @@ pub fn sign(
 ///
 /// # Errors
 ///
-/// Want of memory: what was joined until then stays.
+/// Out of memory: what was joined until then stays.
 pub fn settle(a: &mut Store<Signed>, b: &mut Store<Signed>) -> Result<(), CatchUpsError>
     ensures join { OnOk result (ConvergeWhileFaithful ⟦<SipHasher as RowHasher<16, String, Signed>>⟧.laws
         a.old b.old a.new b.new) }

@@ -54,7 +54,7 @@ impl Join for Removable {
 ///
 /// # Errors
 ///
-/// Want of memory, which leaves the store as it was.
+/// Out of memory: the store is as it was.
 pub fn remove(store: &mut Store<Removable>, name: String, time: u64) -> Result<(), AllocError>
     ensures joined { OnOk result (HasPut ⟦<SipHasher as RowHasher<16, String, Removable>>⟧.laws store.old
         (name, record { time = time; removed = true; value = 0 }) store.new) }

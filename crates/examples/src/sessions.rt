@@ -59,7 +59,7 @@ pub fn most_replies<K: Key + Decode, V: Join + Decode, H: RowHasher<N, K, V>, co
     peer.rows().len() as u128 * 3 + 2
 }
 
-/// How many bytes the keys of rows have at most that stand in so many bytes of a reply: so who takes replies of a bounded length knows what
+/// How many bytes the keys of rows have at most that stand in this many bytes of a reply: so who takes replies of a bounded length knows what
 /// their keys come to.
 pub fn most_key_bytes<K: Encode, V: Encode>(bytes: usize) -> u128
     ensures { AreMostKeyBytes K.encoding V.encoding bytes result }
@@ -73,7 +73,7 @@ pub fn most_key_bytes<K: Encode, V: Encode>(bytes: usize) -> u128
 ///
 /// # Errors
 ///
-/// Want of memory.
+/// Out of memory.
 pub fn found_again<'p, K: Ord>(
     alloc: Global,
     local: &'p PageRangeSnapshot<K>,
@@ -91,7 +91,7 @@ pub fn found_again<'p, K: Ord>(
 ///
 /// # Errors
 ///
-/// Want of memory: the first may have pulled then, and the copy not.
+/// Out of memory: the first may have pulled then, and the copy not.
 pub fn pull_with_copy<K: Key + Drop, V: Join + Drop, H: RowHasher<N, K, V>, const N: usize>(
     replica: &mut Replica<K, V, H, N>,
     copy: &mut Replica<K, V, H, N>,

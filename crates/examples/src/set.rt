@@ -17,7 +17,7 @@ pub type Names = Store<()>;
 ///
 /// # Errors
 ///
-/// Want of memory, which leaves the set as it was.
+/// Out of memory: the set is as it was.
 pub fn add(names: &mut Names, name: String) -> Result<(), AllocError>
     ensures added { OnOk result (IsUnion names.old.rows ((name, tt) ∷ []) names.new.rows) }
     ensures unchanged { OnErr result (names.new ≡ names.old) }
@@ -30,7 +30,7 @@ pub fn add(names: &mut Names, name: String) -> Result<(), AllocError>
 ///
 /// # Errors
 ///
-/// Want of memory: no name is lost.
+/// Out of memory: no name is lost.
 pub fn unite(alloc: Global, a: &mut Names, b: &mut Names) -> Result<(), TurnsError<String>>
     ensures union { OnOk result (SyncsToTheUnion ⟦<SipHasher as RowHasher<16, String, ()>>⟧.laws a.old b.old a.new b.new) }
     ensures stopped { IfErr result (StopInTurns ⟦<SipHasher as RowHasher<16, String, ()>>⟧.laws a.old b.old a.new b.new) }

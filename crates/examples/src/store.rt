@@ -24,7 +24,7 @@ pub type Store<V> = Replica<String, V, SipHasher, 16>;
 ///
 /// # Errors
 ///
-/// Rows that don't ascend, by the place of the first that doesn't, and want of memory.
+/// Rows that don't ascend, by the place of the first that doesn't, or out of memory.
 pub fn open_rows<V: Join + HashBytes + Drop>(
     alloc: Global,
     rows: Vec<(String, V)>,
@@ -54,7 +54,7 @@ pub fn root_hash(store: &mut Store<u64>) -> Result<RootHash, AllocError>
     Ok(digest)
 }
 
-/// Opens a store of numbers with its rows, puts one more, of which the greater number stays, and answers its root hash too.
+/// Opens a store of numbers with its rows, puts one more, of which the greater number stays, and returns its root hash too.
 ///
 /// # Errors
 ///

@@ -16,7 +16,7 @@ use std::alloc::Global;
 ///
 /// # Errors
 ///
-/// Want of memory: each pull that was made until then stays.
+/// Out of memory: each pull that was made until then stays.
 pub fn sync<K: Key + Drop, V: Join + Drop, H: RowHasher<N, K, V>, const N: usize>(
     alloc: Global,
     a: &mut Replica<K, V, H, N>,
@@ -37,7 +37,7 @@ pub fn sync<K: Key + Drop, V: Join + Drop, H: RowHasher<N, K, V>, const N: usize
 ///
 /// # Errors
 ///
-/// Want of memory: each pull that was made until then stays.
+/// Out of memory: each pull that was made until then stays.
 pub fn sync_exact<
     K: Key + KeyBytesExact + Drop,
     V: Join + Drop,

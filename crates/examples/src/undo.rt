@@ -39,7 +39,7 @@ fn undo<K: Key + Drop, V: Eq + Drop, H: Hasher<N, K> + Hasher<N, V>, const N: us
 ///
 /// # Errors
 ///
-/// Want of memory.
+/// Out of memory.
 pub fn set_and_remove<K: Key + Drop, V: Eq + Drop, H: Hasher<N, K> + Hasher<N, V>, const N: usize>(
     tree: &mut MerkleSearchTree<K, V, H, N>,
     key: K,

@@ -24,7 +24,7 @@ use std::alloc::{AllocError, Global};
 /// Why what came was not taken.
 #[derive(Clone, Copy, Debug, PartialEq, Eq)]
 pub enum WireFault {
-    /// Memory was refused.
+    /// Out of memory.
     Memory,
     /// The bytes are no such list, or one of ranges or rows that don't ascend.
     Malformed,
@@ -57,7 +57,7 @@ impl From<ReadError> for WireFault {
 ///
 /// # Errors
 ///
-/// Want of memory.
+/// Out of memory.
 pub fn send_page_ranges(alloc: Global, store: &mut Store<u64>) -> Result<Vec<u8>, AllocError>
     ensures sent { IfOk result (λ bytes. SpellsPages store.new.tree bytes.items) }
     ensures message { IfOk result (λ bytes. SendsPageRanges (side store.old) bytes.items) }
@@ -76,7 +76,7 @@ pub fn send_page_ranges(alloc: Global, store: &mut Store<u64>) -> Result<Vec<u8>
 ///
 /// # Errors
 ///
-/// Bytes that are no page ranges, and want of memory. The rows stay.
+/// Bytes that are no page ranges, or out of memory. The rows stay.
 pub fn ask(alloc: Global, store: &mut Store<u64>, page_ranges: &[u8]) -> Result<Vec<u8>, WireFault>
     ensures asked { IfOk result (λ bytes. Asks (side store.old) page_ranges.now bytes.items) }
     ensures malformed { result ≡ Err Malformed → AreNoPageRanges page_ranges.now }
@@ -93,7 +93,7 @@ pub fn ask(alloc: Global, store: &mut Store<u64>, page_ranges: &[u8]) -> Result<
 ///
 /// # Errors
 ///
-/// Bytes that are no ranges which ascend, and want of memory.
+/// Bytes that are no ranges which ascend, or out of memory.
 pub fn send_rows(alloc: Global, store: &Store<u64>, asked: &[u8]) -> Result<Vec<u8>, WireFault>
     ensures sent { IfOk result (λ bytes. SendsRows (side store.now) asked.now bytes.items) }
 
@@ -114,7 +114,7 @@ pub fn send_rows(alloc: Global, store: &Store<u64>, asked: &[u8]) -> Result<Vec<
 ///
 /// # Errors
 ///
-/// Bytes that are no rows which ascend, which leave the store as it was, and want of memory, by which no row was joined or the first of
+/// Bytes that are no rows which ascend, which leave the store as it was, or out of memory: no row was joined then or the first of
 /// those that came.
 pub fn join(alloc: Global, store: &mut Store<u64>, rows: &[u8]) -> Result<(), WireFault>
     ensures joined { OnOk result (JoinsRows (side store.old) rows.now store.new.rows) }

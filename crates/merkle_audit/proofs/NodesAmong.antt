@@ -27,7 +27,7 @@ gaps_more f xs i x low is = ap gaps_among (map_more f xs i x low is) ∙ gaps_am
 pub nodes_more : {K X : Type 0} (f : X → Item K (List ℕ)) (xs : List X) (i : ℕ) (x : X) → i < length xs → x ≡ get_or xs i x → nodes_among (map f (take (i + 1) xs)) ≡ nodes_among (map f (take i xs)) ++ nodes_among (f x ∷ [])
 nodes_more f xs i x low is = ap nodes_among (map_more f xs i x low is) ∙ nodes_among-append (map f (take i xs)) (f x ∷ [])
 
--- the nodes before one, itself and those behind it
+-- the nodes before one, itself and those after it
 pub node_at : {K X : Type 0} (f : X → Item K (List ℕ)) (xs : List X) (i : ℕ) (x : X) (k : K) (d : List ℕ) → i < length xs → x ≡ get_or xs i x → f x ≡ of_node k d
     → nodes_among (map f xs) ≡ nodes_among (map f (take i xs)) ++ (k, d) ∷ nodes_among (map f (drop (i + 1) xs))
 node_at f xs i x k d low is node =

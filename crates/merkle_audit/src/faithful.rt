@@ -18,7 +18,7 @@ use std::alloc::{AllocError, Global};
 ///
 /// # Errors
 ///
-/// `AllocError` where memory is refused.
+/// `AllocError` if memory runs out.
 pub fn are_faithful<K: Key + Drop, V: Join + Drop, H: RowHasher<N, K, V>, const N: usize>(
     a: &mut Replica<K, V, H, N>,
     b: &mut Replica<K, V, H, N>,
@@ -40,12 +40,12 @@ pub fn are_faithful<K: Key + Drop, V: Join + Drop, H: RowHasher<N, K, V>, const 
 }
 
 /// Whether digests are faithful in a session in which the one catches up with the other by messages: where `true`, it brings all rows
-/// that are lacked. A session the other way is asked for by itself. Both are hashed for it, and their rows stay. It costs what
+/// that are missing. A session the other way is asked for by itself. Both are hashed for it, and their rows stay. It costs what
 /// [`are_faithful`], [`digest_their_values_alike`] and [`have_faithful_nodes`] cost.
 ///
 /// # Errors
 ///
-/// `AllocError` where memory is refused.
+/// `AllocError` if memory runs out.
 pub fn is_faithful_session<K: Key + Drop, V: Join + Drop, H: RowHasher<N, K, V>, const N: usize>(
     alloc: Global,
     local: &mut Replica<K, V, H, N>,

@@ -26,7 +26,7 @@ const LEVELS: u16 = 256;
 ///
 /// # Errors
 ///
-/// `AllocError` where memory is refused.
+/// `AllocError` if memory runs out.
 pub fn have_faithful_nodes<K: Key + Drop, V: Join + Drop, H: RowHasher<N, K, V>, const N: usize>(
     alloc: Global,
     local: &Replica<K, V, H, N>,

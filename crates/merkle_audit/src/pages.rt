@@ -33,7 +33,7 @@ use std::alloc::AllocError;
 ///
 /// # Errors
 ///
-/// `AllocError` where memory is refused for the lists of the page ranges.
+/// `AllocError` if memory runs out for the lists of the page ranges.
 pub fn have_faithful_pages<K: Key + Drop, V: Join + Drop, H: RowHasher<N, K, V>, const N: usize>(
     a: &mut Replica<K, V, H, N>,
     b: &mut Replica<K, V, H, N>,

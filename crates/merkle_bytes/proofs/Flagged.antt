@@ -1,4 +1,4 @@
--- Values behind a byte 0 or 1.
+-- Values after a byte 0 or 1.
 use Rattle.std.proofs.Common.{◌≢◌, ℕ, Bool, true, false, cond, List, ◌∷◌, ◌++◌, Option, Some, None}
 use Rattle.merkle_bytes.specs.Options.{option_bytes, IsOption}
 

@@ -27,7 +27,7 @@ pub shared_end : (xs ys : List ℕ) (n : ℕ) → (length xs ≤ n) ⊎ (length 
 shared_end xs ys n (inl short) e = let ended : shared (drop n xs) (drop n ys) ≡ 0 = ap (λ t. shared t (drop n ys)) (drop_all xs n short) in omega (arith, e, ended)
 shared_end xs ys n (inr short) e = let ended : shared (drop n xs) (drop n ys) ≡ 0 = ap (shared (drop n xs)) (drop_all ys n short) ∙ none_shared (drop n xs) in omega (arith, e, ended)
 
--- so many bytes are kept of a part, and no more could be: it ends there, or goes on otherwise than the rest
+-- this many bytes are kept of a part, and no more could be: it ends there, or goes on otherwise than the rest
 pub record SharesNoMore (part : List ℕ) (kept : ℕ) (rest : List ℕ) : Type 0 where
   pub within : kept ≤ length part
   pub ends : GoOnApart (drop kept part) rest
@@ -44,7 +44,7 @@ shares_no_more part key = record { within = (shared_within part key).0; ends = a
       | inr other ↦ (let test = ne_eqb x y other in rw test other)
     ]
 
--- a key that keeps so many bytes of a part and goes on otherwise shares these
+-- a key that keeps this many bytes of a part and goes on otherwise shares these
 pub shared_kept : (part rest : List ℕ) (kept : ℕ) → SharesNoMore part kept rest → shared part (take kept part ++ rest) ≡ kept
 shared_kept [] rest zero no_more = refl
 shared_kept [] rest (suc kept) no_more = absurd (omega (arith, no_more.within))
@@ -64,7 +64,7 @@ pub take_shareable : (key : List ℕ) (kept : ℕ) → kept ≤ length (shareabl
 unfolding shareable
 take_shareable key kept within = take-take kept 255 key (omega (arith, within, length-take 255 key))
 
--- what stands for a key that keeps so many bytes of the last one, and has this rest
+-- what stands for a key that keeps this many bytes of the last one, and has this rest
 pub kept_behind : (last rest : List ℕ) (kept : ℕ) → SharesNoMore (shareable last) kept rest → key_behind last (take kept last ++ rest) ≡ front_bytes kept (length rest) ++ rest
 unfolding key_behind
 kept_behind last rest kept no_more =
@@ -106,7 +106,7 @@ fits_by_test kept more e = elim (fit_or_not kept more) [ inl few ↦ few | inr l
 pub long_by_test : (kept more : ℕ) → fit_a_byte kept more ≡ false → (15 ≤ kept) ⊎ (16 ≤ more)
 long_by_test kept more e = elim (fit_or_not kept more) [ inl few ↦ absurd (grind (arith, nat_tests, e, few.0, few.1)) | inr long ↦ long ]
 
--- a key behind another stands there as its counts and its rest
+-- a key after another stands there as its counts and its rest
 pub behind_parts : (last key left rest : List ℕ) → left ≡ key_behind last key ++ rest → left ≡ front_bytes (kept_of last key) (length key - kept_of last key) ++ (drop (kept_of last key) key ++ rest)
 unfolding key_behind
 behind_parts last key left rest e = e ∙ append_assoc (front_bytes (kept_of last key) (length key - kept_of last key)) (drop (kept_of last key) key) rest

@@ -1,4 +1,4 @@
--- A refusal at the front of bytes, and behind what was read.
+-- A refusal at the front of bytes, and after what was read.
 use Rattle.std.proofs.Common.{◌≡◌, ℕ, ◌-◌, List, [], ◌++◌, length, ap, sym, subst, refl, ◌∙◌}
 use Rattle.std.proofs.lemmas.List.{append_assoc}
 use Rattle.merkle_bytes.specs.Refusals.{Lacks, IsRefusal}
@@ -12,7 +12,7 @@ pub refused_here : (new total : ℕ) (left : List ℕ) (expected : Expected) (er
 refused_here new total left expected error same is lacks =
     subst (IsRefusal total left) (sym is) ([], left, refl, ap (λ t. t - length left) same, lacks)
 
--- what was refused behind the front was refused
+-- what was refused after the front was refused
 pub refused_later : (total : ℕ) (all front left : List ℕ) (error : ReadError) → all ≡ front ++ left → IsRefusal total left error → IsRefusal total all error
 refused_later total all front left Memory e refused = tt
 refused_later total all front left (Unexpected offset expected) e (a, rest, is, place, lacks) =

@@ -1,7 +1,7 @@
--- Entries one behind the other: one more is written or read, and they are read in one way.
+-- Entries one after the other: one more is written or read, and they are read in one way.
 use Rattle.std.proofs.Common.{◌≡◌, ◌≢◌, ℕ, ◌+◌, ◌<◌, ◌≤◌, ◌^◌, List, [], ◌∷◌, ◌++◌, length, take, get_or, map, sym, ap, ap₂, subst, ◌∙◌, refl, arith}
 use Rattle.std.specs.List.{AllByRecursion, flat_map, AllZip}
-use Rattle.std.proofs.lemmas.List.{append_assoc, append-nil, length-append, length-map, take_more}
+use Rattle.std.proofs.lemmas.List.{append_assoc, append-nil, length-append, take_more}
 use Rattle.key_order.proofs.ListParts.{each-append}
 use Rattle.merkle_bytes.specs.Counts.{count_bytes, count_told}
 use Rattle.merkle_bytes.specs.Encodings.{list_bytes}
@@ -41,10 +41,6 @@ pub entries-map : {X Y S : Type 0} (bytes : S → X → List ℕ) (next : S → 
 entries-map bytes next f s [] = refl
 entries-map bytes next f s (y ∷ ys) = ap (λ t. bytes s (f y) ++ t) (entries-map bytes next f (next s (f y)) ys)
 
-pub run-map : {X Y S : Type 0} (bytes : S → X → List ℕ) (next : S → X → S) (f : Y → X) (s : S) (ys : List Y)
-    → run_bytes (λ s y. bytes s (f y)) (λ s y. next s (f y)) s ys ≡ run_bytes bytes next s (map f ys)
-run-map bytes next f s ys = ap₂ (λ n t. count_bytes n ++ t) (sym (length-map ys f)) (entries-map bytes next f s ys)
-
 -- where the state doesn't matter, entries are those of a list
 pub plain : {X S : Type 0} (encoding : X → List ℕ) (next : S → X → S) (s : S) (xs : List X) → entries_bytes (λ _ x. encoding x) next s xs ≡ flat_map encoding xs
 plain encoding next s [] = refl
@@ -56,7 +52,7 @@ module _ {X S : Type 0} (P : X → Type 0) (bytes : S → X → List ℕ) (next 
   BeginsWithRest start whole count done state left = (all : List X) (more : List ℕ) → AllByRecursion P all → whole ≡ run_bytes bytes next start all ++ more
       → (others : List X) × AllByRecursion P others × (length others + done ≡ count) × (left ≡ entries_bytes bytes next state others ++ more)
 
-  -- of a list of so many entries these were read, and the rest is still to be
+  -- of a list of this many entries these were read, and the rest is still to be
   pub record IsReading (start : S) (whole : List ℕ) (count done : ℕ) (entries : List X) (state : S) (left : List ℕ) : Type 0 where
     pub read : whole ≡ (count_bytes count ++ entries_bytes bytes next start entries) ++ left
     pub behind : state ≡ state_behind bytes next start entries
@@ -130,7 +126,7 @@ module _ {X S : Type 0} (P : X → Type 0) (bytes : S → X → List ℕ) (next 
 
 module _ {X S : Type 0} (bytes : S → X → List ℕ) (next : S → X → S)
     (E : X → X → Type 0) (told : (s : S) (x y : X) (r t : List ℕ) → bytes s x ++ r ≡ bytes s y ++ t → E x y × (next s x ≡ next s y) × (r ≡ t)) where
-  -- as many entries at the front tell each other, and what is behind them
+  -- as many entries at the front tell each other, and what is after them
   pub entries_told : (s : S) (xs ys : List X) (r t : List ℕ) → length xs ≡ length ys
       → entries_bytes bytes next s xs ++ r ≡ entries_bytes bytes next s ys ++ t → AllZip E xs ys × (state_behind bytes next s xs ≡ state_behind bytes next s ys) × (r ≡ t)
   entries_told s [] [] r t n e = (tt, refl, e)
@@ -143,7 +139,7 @@ module _ {X S : Type 0} (bytes : S → X → List ℕ) (next : S → X → S)
       let rest = entries_told (next s x) xs ys r t (omega (arith, n)) (first.2 ∙ ap (λ u. entries_bytes bytes next u ys ++ t) (sym first.1)) in
       ((first.0, rest.0), rest.1 ∙ ap (λ u. state_behind bytes next u ys) first.1, rest.2)
 
-  -- a list at the front tells its entries, and what is behind it
+  -- a list at the front tells its entries, and what is after it
   pub run_told : (s : S) (xs ys : List X) (r t : List ℕ) → run_bytes bytes next s xs ++ r ≡ run_bytes bytes next s ys ++ t
       → AllZip E xs ys × (state_behind bytes next s xs ≡ state_behind bytes next s ys) × (r ≡ t)
   run_told s xs ys r t e =

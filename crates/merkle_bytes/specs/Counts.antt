@@ -48,7 +48,7 @@ bits_parts more n byte behind rest some big e = elim (cases_lt n 128) [
   | inr high ↦ (let flat : byte ∷ behind ≡ (128 + n % 128) ∷ (bits_bytes (more - 1) (n / 128) ++ rest) = e ∙ ap (λ x. x ++ rest) (bits_more more n some high) in (high, cc, cc))
 ]
 
--- bytes that begin with those of a number tell it, and what is behind it
+-- bytes that begin with those of a number tell it, and what is after it
 pub bits_told : (more m n : ℕ) (r s : List ℕ) → bits_bytes more m ++ r ≡ bits_bytes more n ++ s → (m ≡ n) × (r ≡ s)
 bits_told zero m n r s e = let flat : m ∷ r ≡ n ∷ s = ap (λ x. x ++ r) (sym (bits_last m)) ∙ e ∙ ap (λ x. x ++ s) (bits_last n) in (cc, cc)
 bits_told (suc more) m n r s e = elim (cases_lt m 128) [
@@ -84,7 +84,7 @@ pub count_some : (n : ℕ) → 1 ≤ length (count_bytes n)
 unfolding count_bytes
 count_some n = bits_some 9 n
 
--- bytes that begin with those of a count tell it, and what is behind it
+-- bytes that begin with those of a count tell it, and what is after it
 pub count_told : (m n : ℕ) (r s : List ℕ) → count_bytes m ++ r ≡ count_bytes n ++ s → (m ≡ n) × (r ≡ s)
 unfolding count_bytes
 count_told m n r s e = bits_told 9 m n r s e

@@ -4,7 +4,7 @@ use Rattle.std.specs.Global.{Vec}
 use Rattle.std.specs.List.{flat_map}
 use Rattle.merkle_bytes.specs.Counts.{count_bytes}
 
--- these bytes were added behind those that were there
+-- these bytes were added after those that were there
 abbrev pub AddsBytes : Vec ℕ → List ℕ → Vec ℕ → Type 0
 AddsBytes old bytes new = new.items ≡ old.items ++ bytes
 

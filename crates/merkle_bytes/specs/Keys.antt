@@ -1,4 +1,4 @@
--- A key behind another: how many bytes it begins with as that does, how many more it has, and these.
+-- A key after another: how many bytes it begins with as that does, how many more it has, and these.
 use Rattle.std.specs.Prelude.{◌≢◌, ℕ, suc, ◌+◌, ◌-◌, ◌*◌, ◌≤◌, ⊤, Bool, ◌&&◌, ◌==◌, nat_lt, List, [], ◌∷◌, ◌++◌, length, take, drop, if◌then◌else◌}
 use Rattle.merkle_bytes.specs.Counts.{count_bytes}
 
@@ -30,6 +30,6 @@ shareable key = take 255 key
 abbrev pub kept_of : List ℕ → List ℕ → ℕ
 kept_of last key = shared (shareable last) key
 
--- what stands for a key with these bytes, behind a key with the bytes `last`
+-- what stands for a key with these bytes, after a key with the bytes `last`
 unfoldable pub key_behind : List ℕ → List ℕ → List ℕ
 key_behind last key = front_bytes (kept_of last key) (length key - kept_of last key) ++ drop (kept_of last key) key

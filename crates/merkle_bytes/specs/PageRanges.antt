@@ -25,7 +25,7 @@ module _ {K : Type 0} (encoding : K → List ℕ) where
   entry_some e = omega (arith, some_string e.digest, length-append (encoding e.first ++ encoding e.last) (string_encoding e.digest))
 
   module _ (eq : K → K → Bool) (told : (x y : K) (r s : List ℕ) → encoding x ++ r ≡ encoding y ++ s → (eq x y ≡ true) × (r ≡ s)) where
-    -- a page range at the front tells its keys and its digest, and what is behind it
+    -- a page range at the front tells its keys and its digest, and what is after it
     pub bounds_told : (x y : Entry K (List ℕ)) (r s : List ℕ) → entry_bytes encoding x ++ r ≡ entry_bytes encoding y ++ s
         → (eq x.first y.first ≡ true) × (eq x.last y.last ≡ true) × (x.digest ≡ y.digest) × (r ≡ s)
     bounds_told x y r s e =

@@ -7,7 +7,7 @@ use Rattle.merkle_bytes.specs.Refusals.{IsMalformed}
 use Rattle.merkle_bytes.specs.declared.error.ReadError.{ReadError}
 use Rattle.merkle_bytes.specs.declared.reader.Reader.{Reader}
 
--- these bytes stood at the front, and those behind them are left
+-- these bytes stood at the front, and those after them are left
 abbrev pub Reads : Reader → List ℕ → Reader → Type 0
 Reads old bytes new = old.left.now ≡ bytes ++ new.left.now
 
@@ -25,7 +25,7 @@ module _ {X : Type 0} (encoding : X → List ℕ) where
     abbrev pub BeginsWithNo : List ℕ → Type 0
     BeginsWithNo bytes = (x : X) (rest : List ℕ) → IsSuch x → bytes ≢ encoding x ++ rest
 
-    -- a value and the bytes behind it, or none where the bytes begin with those of no value that is such
+    -- a value and the bytes after it, or none where the bytes begin with those of no value that is such
     abbrev pub SplitsOff : List ℕ → Option (X × Bor (List ℕ)) → Type 0
     SplitsOff bytes result = MatchOption result (BeginsWithNo bytes) (λ found. bytes ≡ encoding found.0 ++ found.1.now)
 

@@ -16,7 +16,7 @@ Lacks (Bytes count) rest = length rest < count
 Lacks End rest = rest ≢ []
 Lacks _ rest = ⊤
 
--- of so many bytes in all these were left, and they were read on up to the offset, where what was expected doesn't stand
+-- of this many bytes in all these were left, and they were read on up to the offset, where what was expected doesn't stand
 abbrev pub IsRefusal : ℕ → List ℕ → ReadError → Type 0
 IsRefusal total left Memory = ⊤
 IsRefusal total left (Unexpected offset expected) =

@@ -1,4 +1,4 @@
--- Bytes behind a key tell the key or the entry that they begin with, and where it ends.
+-- Bytes after a key tell the key or the entry that they begin with, and where it ends.
 use Rattle.std.proofs.Common.{◌≡◌, ℕ, ◌+◌, ◌-◌, ◌*◌, ◌<◌, ◌≤◌, Bool, true, ◌&&◌, ◌⊎◌, List, [], ◌∷◌, ◌++◌, length, take, drop, Option, Some, None, refl, ap, ap₂, sym, ◌∙◌, inl, inr, arith}
 use Rattle.std.proofs.lemmas.Bool.{cases_lt}
 use Rattle.std.proofs.lemmas.Bool.Decides.{nat_tests}
@@ -36,7 +36,7 @@ unfolding front_bytes
 front_long kept more (inl many) = grind (arith, nat_tests)
 front_long kept more (inr high) = grind (arith, nat_tests)
 
--- bytes that begin with two counts tell both, and what is behind them
+-- bytes that begin with two counts tell both, and what is after them
 pub front_told : (kept more kept' more' : ℕ) (r s : List ℕ) → front_bytes kept more ++ r ≡ front_bytes kept' more' ++ s → (kept ≡ kept') × (more ≡ more') × (r ≡ s)
 front_told kept more kept' more' r s e = elim (fit_or_not kept more) [
   | inl few ↦ elim (fit_or_not kept' more') [
@@ -62,7 +62,7 @@ front_told kept more kept' more' r s e = elim (fit_or_not kept more) [
 pub key_parts : (last key : List ℕ) → key ≡ take (shared last key) last ++ drop (shared last key) key
 key_parts last key = sym (take-append-drop (shared last key) key) ∙ ap (λ t. t ++ drop (shared last key) key) (sym (shared_same last key))
 
--- bytes that begin with those of a key behind another tell its bytes, and what is behind it
+-- bytes that begin with those of a key after another tell its bytes, and what is after it
 pub behind_told : (last a b r s : List ℕ) → key_behind last a ++ r ≡ key_behind last b ++ s → (a ≡ b) × (r ≡ s)
 unfolding key_behind
 behind_told last a b r s e =
@@ -88,7 +88,7 @@ module _ {K : Type 0} (encoding : K → List ℕ) (eq : K → K → Bool)
   pub same_key : (x y : K) → encoding x ≡ encoding y → eq x y ≡ true
   same_key x y e = (told x y [] [] (ap (λ t. t ++ []) e)).0
 
-  -- bytes behind a key tell the key that they begin with, its bytes, and what is behind it
+  -- bytes after a key tell the key that they begin with, its bytes, and what is after it
   pub key_told : (last : List ℕ) (x y : K) (r s : List ℕ) → key_behind last (encoding x) ++ r ≡ key_behind last (encoding y) ++ s
       → (eq x y ≡ true) × (encoding x ≡ encoding y) × (r ≡ s)
   key_told last x y r s e =

@@ -7,7 +7,7 @@ use Rattle.key_order.proofs.ListParts.{join_tells}
 use Rattle.merkle_bytes.specs.Counts.{count_bytes, count_some, count_told}
 use Rattle.merkle_bytes.specs.Encodings.{string_encoding}
 
--- a byte string at the front tells its bytes, and what is behind it
+-- a byte string at the front tells its bytes, and what is after it
 pub string_told : (a b r s : List ℕ) → string_encoding a ++ r ≡ string_encoding b ++ s → (a ≡ b) × (r ≡ s)
 string_told a b r s e =
     let flat = sym (append_assoc (count_bytes (length a)) a r) ∙ e ∙ append_assoc (count_bytes (length b)) b s in
@@ -35,7 +35,7 @@ unit_told r s e =
     let flat : 0 ∷ r ≡ 0 ∷ s = e in
     (refl, cc)
 
--- a count at the front tells its number, and what is behind it
+-- a count at the front tells its number, and what is after it
 pub number_told : (a b : ℕ) (r s : List ℕ) → count_bytes a ++ r ≡ count_bytes b ++ s → (nat_eq a b ≡ true) × (r ≡ s)
 number_told a b r s e = let both = count_told a b r s e in (eq-eqb a b both.0, both.1)
 

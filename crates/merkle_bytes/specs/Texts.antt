@@ -27,4 +27,4 @@ expected_text End = codes "the end"
 abbrev pub read_error_text : ReadError → List ℕ
 read_error_text Memory = codes "out of memory"
 read_error_text (Unexpected offset expected) =
-    codes "behind " ++ (decimal offset ++ (codes " bytes " ++ (expected_text expected ++ codes " was expected")))
+    codes "after " ++ (decimal offset ++ (codes " bytes " ++ (expected_text expected ++ codes " was expected")))

@@ -1,4 +1,4 @@
-//! Keys of a run that may be absent, as a byte 0, or a byte 1 and the key behind the last one.
+//! Keys of a run that may be absent, as a byte 0, or a byte 1 and the key after the last one.
 ghost use Rattle.merkle_bytes.specs.RunTelling.{bound_some, bound_told};
 ghost use Rattle.merkle_bytes.specs.Runs.{bound_behind, bound_key};
 ghost use Rattle.merkle_bytes.specs.Options.{IsOption};
@@ -11,7 +11,7 @@ use crate::reader::Reader;
 use crate::run_entry::{DecodeInRun, EncodeInRun};
 use std::alloc::AllocError;
 
-/// A byte 0, or a byte 1 and the key behind the last one.
+/// A byte 0, or a byte 1 and the key after the last one.
 impl<K: Encode> EncodeInRun for Option<K> {
     ghost bytes_behind = { bound_behind K.encoding };
 

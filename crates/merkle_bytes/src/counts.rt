@@ -8,18 +8,18 @@ use std::alloc::AllocError;
 /// How many bytes of a count come before its last at most.
 const MORE: u8 = 9;
 
-/// Writes a count behind the bytes that are there: its lowest seven bits first, with 128 more in each byte but the last.
+/// Writes a count after the bytes that are there: its lowest seven bits first, with 128 more in each byte but the last.
 ///
 /// # Errors
 ///
-/// Want of memory.
+/// Out of memory.
 pub fn encode_count(count: u64, bytes: &mut Vec<u8>) -> Result<(), AllocError>
     ensures { OnOk result (bytes.new.items ≡ bytes.old.items ++ count_bytes count) }
 {
     encode_bits(count, MORE, bytes)
 }
 
-/// The count that the bytes begin with, and the bytes behind it.
+/// The count that the bytes begin with, and the bytes after it.
 pub(crate) fn decode_count(bytes: &[u8]) -> Option<(u64, &[u8])>
     ensures { SplitsOff count_bytes (λ count. count < 2 ^ 64) bytes.now result }
 {
@@ -44,7 +44,7 @@ fn encode_bits(number: u64, more: u8, bytes: &mut Vec<u8>) -> Result<(), AllocEr
     Ok(())
 }
 
-/// The number that the bytes begin with, of at most `more` bytes and then the last, and the bytes behind it.
+/// The number that the bytes begin with, of at most `more` bytes and then the last, and the bytes after it.
 fn decode_bits(bytes: &[u8], more: u8) -> Option<(u64, &[u8])>
     ensures { SplitsOff (bits_bytes more) (λ number. number < 2 ^ 64) bytes.now result }
 {

@@ -16,7 +16,7 @@ pub trait Decode: Encode + Eq + Drop {
     ///
     /// # Errors
     ///
-    /// [`ReadError`], where no value's bytes stand at the front, with the place and what was expected there, or want of memory.
+    /// [`ReadError`], where no value's bytes stand at the front, with the place and what was expected there, or out of memory.
     fn decode(reader: &mut Reader<'_>) -> Result<Self, ReadError>
         ensures read { IfOk result (λ value. reader.old.left.now ≡ Self.encoding value ++ reader.new.left.now) }
         ensures value { IfOk result (λ value. is_value value) }

@@ -8,7 +8,7 @@ pub trait Encode {
     /// The bytes.
     ghost encoding: { Self → List ℕ };
 
-    /// Writes the bytes behind those that are there.
+    /// Writes the bytes after those that are there.
     fn encode(&self, bytes: &mut Vec<u8>) -> Result<(), AllocError>
         ensures { OnOk result (bytes.new.items ≡ bytes.old.items ++ encoding self.now) };
 }

@@ -41,7 +41,7 @@ pub enum Expected {
 /// Why bytes were not read.
 #[derive(Clone, Copy, Debug, PartialEq, Eq, Drop)]
 pub enum ReadError {
-    /// Memory was refused.
+    /// Out of memory.
     Memory,
     /// What was expected does not stand there.
     Unexpected {
@@ -94,7 +94,7 @@ impl fmt::Display for ReadError {
         match self {
             ReadError::Memory => f.write_str("out of memory"),
             ReadError::Unexpected { offset, expected } => {
-                write!(f, "behind {offset} bytes {expected} was expected")
+                write!(f, "after {offset} bytes {expected} was expected")
             }
         }
     }

@@ -60,7 +60,7 @@ pub(crate) fn encode_front(kept: u64, more: u64, bytes: &mut Vec<u8>) -> Result<
     Ok(())
 }
 
-/// The two counts that the bytes begin with, and the bytes behind them.
+/// The two counts that the bytes begin with, and the bytes after them.
 pub(crate) fn decode_front(bytes: &[u8]) -> Option<(u64, u64, &[u8])>
     ensures { MatchOption result (BeginsWithNoFront bytes.now)
         (λ found. bytes.now ≡ front_bytes found.0 found.1 ++ found.2.now) }

@@ -1,4 +1,4 @@
-//! Keys one behind the other: each is written as what it shares with the first 255 bytes of the one before, and the bytes that it has behind
+//! Keys one after the other: each is written as what it shares with the first 255 bytes of the one before, and the bytes that it has after
 //! that.
 ghost use Rattle.std.specs.Prelude.{◌≡◌, ◌≢◌, ◌++◌, ◌↔◌, ℕ, List, [], OnOk, IfOk, IfErr, IsTrue};
 ghost use Rattle.std.specs.Option.{option_map};
@@ -41,11 +41,11 @@ impl KeyRun {
         }
     }
 
-    /// A run behind a bound: its first key is written by what it shares with that, where it is there.
+    /// A run after a bound: its first key is written by what it shares with that, where it is there.
     ///
     /// # Errors
     ///
-    /// Want of memory.
+    /// Out of memory.
     pub fn behind<K: Encode>(alloc: Global, bound: Option<&K>) -> Result<Self, AllocError>
         ensures { IfOk result (λ run. run ≡ bound_key K.encoding [] (option_map (λ key. key.now) bound.entry)) }
     {
@@ -56,11 +56,11 @@ impl KeyRun {
         Ok(run)
     }
 
-    /// Writes a key behind the bytes that are there.
+    /// Writes a key after the bytes that are there.
     ///
     /// # Errors
     ///
-    /// Want of memory.
+    /// Out of memory.
     pub fn encode<K: Encode>(&mut self, key: &K, bytes: &mut Vec<u8>) -> Result<(), AllocError>
         ensures written { OnOk result (bytes.new.items ≡ bytes.old.items ++ key_behind self.old (K.encoding key.now)) }
         ensures last { OnOk result (self.new ≡ K.encoding key.now) }
@@ -80,7 +80,7 @@ impl KeyRun {
     ///
     /// # Errors
     ///
-    /// [`ReadError`], where no key stands at the front that is written by what it shares with the last one, or for want of memory.
+    /// [`ReadError`], where no key stands at the front that is written by what it shares with the last one, or when out of memory.
     pub fn decode<K: Decode>(&mut self, reader: &mut Reader<'_>) -> Result<K, ReadError>
         ensures read { IfOk result (λ key. Reads reader.old (key_behind self.old (K.encoding key)) reader.new) }
         ensures value { IfOk result K.is_value }

@@ -21,7 +21,7 @@ pub fn bytes_tell_counts()
     ensures { BytesTell count_bytes (λ m n. m ≡ n) }
 {}
 
-/// A key has at most 251 bytes more than stand for it behind another, and at most 64 times as many. So the keys of rows have at most 64 times the
+/// A key has at most 251 bytes more than stand for it after another, and at most 64 times as many. So the keys of rows have at most 64 times the
 /// bytes of the rows: a key keeps at most 255 bytes of the one before, and where it keeps 128 or more the counts before its rest have four bytes.
 pub fn keys_of_a_run_are_bounded<K: Encode, V: Encode>()
     ensures more { (last key : List ℕ) → length key ≤ 251 + length (key_behind last key) }

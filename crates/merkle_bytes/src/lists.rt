@@ -12,7 +12,7 @@ use crate::error::ReadError;
 use crate::reader::Reader;
 use std::alloc::AllocError;
 
-/// Writes a list behind the bytes that are there.
+/// Writes a list after the bytes that are there.
 ///
 /// ```rust crates/examples/src/lists.rt
 /// let mut bytes = Vec::new(alloc);
@@ -40,7 +40,7 @@ pub fn encode_list<T: Encode>(list: &[T], bytes: &mut Vec<u8>) -> Result<(), All
 ///
 /// # Errors
 ///
-/// [`ReadError`], where no list's bytes stand at the front, with the place and what was expected there, or want of memory.
+/// [`ReadError`], where no list's bytes stand at the front, with the place and what was expected there, or out of memory.
 pub fn decode_list<T: Decode>(reader: &mut Reader<'_>) -> Result<Vec<T>, ReadError>
     ensures read { IfOk result (λ list. reader.old.left.now ≡ list_bytes T.encoding list.items ++ reader.new.left.now) }
     ensures values { IfOk result (λ list. AllByRecursion T.is_value list.items) }

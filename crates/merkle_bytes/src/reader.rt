@@ -70,7 +70,7 @@ impl<'a> Reader<'a> {
         Ok(*bytes)
     }
 
-    /// The next bytes, so many of them.
+    /// The next bytes, this many of them.
     pub fn slice(&mut self, count: usize) -> Result<&'a [u8], ReadError>
         ensures read { IfOk result (λ bytes. self.old.left.now ≡ bytes.now ++ self.new.left.now) }
         ensures len { IfOk result (λ bytes. length bytes.now ≡ count) }
@@ -132,7 +132,7 @@ impl<'a> Reader<'a> {
         Ok((kept, more))
     }
 
-    /// The bytes of the next byte string, behind their number.
+    /// The bytes of the next byte string, after their number.
     pub fn byte_string(&mut self) -> Result<&'a [u8], ReadError>
         ensures read { IfOk result (λ bytes. self.old.left.now ≡ string_encoding bytes.now ++ self.new.left.now) }
         ensures total { self.new.total ≡ self.old.total }

@@ -1,4 +1,4 @@
-//! Rows of a run, as the key behind the last one, and the value.
+//! Rows of a run, as the key after the last one, and the value.
 ghost use Rattle.std.specs.Prelude.{◌++◌};
 ghost use Rattle.merkle_bytes.specs.RunTelling.{row_some, row_told};
 ghost use Rattle.merkle_bytes.specs.Runs.{row_behind, row_key};
@@ -11,7 +11,7 @@ use crate::reader::Reader;
 use crate::run_entry::{DecodeInRun, EncodeInRun};
 use std::alloc::AllocError;
 
-/// The key behind the last one, and the bytes of the value.
+/// The key after the last one, and the bytes of the value.
 impl<K: Encode, V: Encode> EncodeInRun for (K, V) {
     ghost bytes_behind = { row_behind K.encoding V.encoding };
 

@@ -1,4 +1,4 @@
-//! Entries of a run: what is written behind a key, and read back by what it shares with it.
+//! Entries of a run: what is written after a key, and read back by what it shares with it.
 ghost use Rattle.std.specs.Prelude.{◌≡◌, ◌++◌, ◌≤◌, ℕ, List, length, true, OnOk, IfOk, IfErr};
 ghost use Rattle.merkle_bytes.specs.Reading.{FindsNo};
 ghost use Rattle.merkle_bytes.specs.Refusals.{IsRefusal};
@@ -8,15 +8,15 @@ use crate::key_run::KeyRun;
 use crate::reader::Reader;
 use std::alloc::AllocError;
 
-/// An entry that is written behind a key.
+/// An entry that is written after a key.
 pub trait EncodeInRun {
-    /// The bytes of the entry behind a key with these bytes.
+    /// The bytes of the entry after a key with these bytes.
     ghost bytes_behind: { List ℕ → Self → List ℕ };
 
-    /// The bytes of the last key behind the entry.
+    /// The bytes of the last key after the entry.
     ghost last_key: { List ℕ → Self → List ℕ };
 
-    /// Writes the entry behind the bytes that are there.
+    /// Writes the entry after the bytes that are there.
     fn encode_behind(&self, run: &mut KeyRun, bytes: &mut Vec<u8>) -> Result<(), AllocError>
         ensures written { OnOk result (bytes.new.items ≡ bytes.old.items ++ bytes_behind run.old self.now) }
         ensures last { OnOk result (run.new ≡ last_key run.old self.now) };
@@ -33,7 +33,7 @@ impl<T: EncodeInRun> EncodeInRun for &T {
     }
 }
 
-/// An entry that can be read back behind the same key, and from no other bytes.
+/// An entry that can be read back after the same key, and from no other bytes.
 pub trait DecodeInRun: EncodeInRun + Eq + Drop {
     /// What an entry that is read keeps to.
     ghost is_entry: { Self → Type 0 };
@@ -42,7 +42,7 @@ pub trait DecodeInRun: EncodeInRun + Eq + Drop {
     ///
     /// # Errors
     ///
-    /// [`ReadError`], where no entry's bytes stand at the front, or want of memory.
+    /// [`ReadError`], where no entry's bytes stand at the front, or out of memory.
     fn decode_behind(run: &mut KeyRun, reader: &mut Reader<'_>) -> Result<Self, ReadError>
         ensures read { IfOk result (λ entry. reader.old.left.now ≡ Self.bytes_behind run.old entry ++ reader.new.left.now) }
         ensures entry { IfOk result is_entry }
@@ -54,7 +54,7 @@ pub trait DecodeInRun: EncodeInRun + Eq + Drop {
     /// An entry has at least one byte.
     ghost some: { (last : List ℕ) (x : Self) → 1 ≤ length (Self.bytes_behind last x) };
 
-    /// Bytes that begin with those of an entry tell it, the last key behind it, and where they end.
+    /// Bytes that begin with those of an entry tell it, the last key after it, and where they end.
     ghost told: { (last : List ℕ) (x y : Self) (r s : List ℕ)
         → Self.bytes_behind last x ++ r ≡ Self.bytes_behind last y ++ s → (Self.eq x y ≡ true) × (Self.last_key last x ≡ Self.last_key last y) × (r ≡ s) };
 }

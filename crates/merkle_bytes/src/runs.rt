@@ -13,11 +13,11 @@ use crate::reader::Reader;
 use crate::run_entry::{DecodeInRun, EncodeInRun};
 use std::alloc::AllocError;
 
-/// Writes a list behind the bytes that are there: how many entries it has, and the entries, each behind the last key before it.
+/// Writes a list after the bytes that are there: how many entries it has, and the entries, each after the last key before it.
 ///
 /// # Errors
 ///
-/// Want of memory.
+/// Out of memory.
 pub fn encode_run<T: EncodeInRun>(
     list: &[T],
     run: &mut KeyRun,
@@ -37,7 +37,7 @@ pub fn encode_run<T: EncodeInRun>(
 ///
 /// # Errors
 ///
-/// [`ReadError`], where no list's bytes stand at the front, with the place and what was expected there, or want of memory.
+/// [`ReadError`], where no list's bytes stand at the front, with the place and what was expected there, or out of memory.
 pub fn decode_run<T: DecodeInRun>(
     run: &mut KeyRun,
     reader: &mut Reader<'_>,

@@ -1,4 +1,4 @@
--- Messages that ask nothing, neither plainly nor behind checksums.
+-- Messages that ask nothing, neither plainly nor after checksums.
 use Rattle.std.proofs.Common.{◌≡◌, ℕ, List, [], ◌∷◌, ◌++◌, ◌≢◌, Some, refl, sym, ap, ap₂, ◌∙◌, arith}
 use Rattle.std.specs.List.{AllZip}
 use Rattle.std.specs.Global.{Vec}
@@ -31,7 +31,7 @@ same_counts [] (y ∷ ys) same = absurd same
 same_counts (x ∷ xs) [] same = absurd same
 same_counts (x ∷ xs) (y ∷ ys) same = ap₂ (λ n ns. n ∷ ns) same.0 (same_counts xs ys same.1)
 
--- the bytes of counts in a list tell them, and what is behind them
+-- the bytes of counts in a list tell them, and what is after them
 pub counts_told : (xs ys r t : List ℕ) → list_bytes count_bytes xs ++ r ≡ list_bytes count_bytes ys ++ t → (xs ≡ ys) × (r ≡ t)
 counts_told xs ys r t e =
     let told = run_told (alone count_bytes) stays (λ x y. x ≡ y) (λ u x y r t e. let both = count_told x y r t e in (both.0, refl, both.1)) tt xs ys r t
@@ -54,7 +54,7 @@ module _ {K : Type 0} (encoding : K → List ℕ) where
   pub asks_plainly_nothing : (is_value : K → Type 0) (message asked : List ℕ) → message ≡ 1 ∷ 6 ∷ asked → AsksNothing encoding is_value message
   asks_plainly_nothing is_value message asked is question of = no_question message asked is question
 
--- a question was read behind checksums, and of it and its plain reply P holds: so it does by the delta of that
+-- a question was read after checksums, and of it and its plain reply P holds: so it does by the delta of that
 pub answered_by_delta : (P : List ℕ → Vec ℕ → Type 0) (message asked left checksums delta : List ℕ) (plain reply : Vec ℕ) {old : List ℕ}
     → message ≡ 1 ∷ 6 ∷ asked → asked ≡ list_bytes count_bytes checksums ++ old → left ≡ old → P left plain → reply.items ≡ telling_bytes delta
     → IsDelta checksums plain.items delta → AnswersAs P message reply (Some plain)

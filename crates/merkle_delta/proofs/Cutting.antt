@@ -6,7 +6,7 @@ use Rattle.std.proofs.lemmas.Bool.{cases_Bool, cases_eq, eq-eqb, ne_eqb}
 use Rattle.key_order.proofs.ListParts.{each-append}
 use Rattle.merkle_delta.specs.Chunks.{chunks_at, chunks_of, ends_chunk, ranges_from, window_with}
 
--- a chunk ends behind the next byte
+-- a chunk ends after the next byte
 pub ranges_ends : (window start at byte : ℕ) (more : List ℕ) → ends_chunk (window_with window byte) (at + 1 - start) ≡ true
     → ranges_from window start at (byte ∷ more) ≡ (start, at + 1) ∷ ranges_from (window_with window byte) (at + 1) (at + 1) more
 unfolding ranges_from
@@ -90,7 +90,7 @@ module _ (bytes : List ℕ) where
         subst (AllByRecursion (λ range. (range.0 ≤ range.1) × (range.1 ≤ length bytes))) (sym same) cut.inside,
       )
 
-  -- behind a stretch are the others
+  -- after a stretch are the others
   stretch : (start end : ℕ) → start ≤ end → slice_range bytes start end ++ drop end bytes ≡ drop start bytes
   stretch start end low =
       ap (λ t. slice_range bytes start end ++ t) (ap (λ n. drop n bytes) (omega (arith, low)) ∙ sym (drop-drop (end - start) start bytes))

@@ -89,7 +89,7 @@ module _ (own : List (List ℕ)) (whole bytes : List ℕ) where
   pub delta_long : IsDeltaOver own whole bytes → 16 ≤ length whole
   delta_long (steps, over, gives, is) = omega (arith, ap length is, length-append (digest_of bytes) (flat_map step_bytes steps), hash_length zero_key bytes)
 
-  -- behind the digest stand its steps
+  -- after the digest stand its steps
   pub delta_parts : (digest left : List ℕ) → whole ≡ digest ++ left → length digest ≡ 16 → IsDeltaOver own whole bytes
       → (digest ≡ digest_of bytes) × ((steps : List Step) × AreStepsOver own steps × (bytes ≡ bytes_from_steps own steps) × (left ≡ flat_map step_bytes steps))
   delta_parts digest left read long (steps, over, gives, is) =

@@ -40,7 +40,7 @@ module _ {K V H : Type 0} (laws : Laws K V H) (n : ℕ) (encoding : K → List �
     taken_plainly session (Some told) reply whole (Ask underway message) answer made (inr (none, again)) = inr (again.0, again.1)
     taken_plainly session (Some told) reply whole (Came rows) answer made (inr (none, again)) = absurd again
 
-    -- so exchanges are plain ones, but for those behind which the same is asked again
+    -- so exchanges are plain ones, but for those after which the same is asked again
     exchanges_as : (before : Underway K V) (more : List (Underway K V)) (rows : List (K × V)) → AreExchanges laws n encoding values local peer before more rows
         → (plains : List (PlainUnderway K V)) × ArePlainExchanges laws n encoding values local peer before.session plains rows
     exchanges_as before [] rows (came, exchange, is) =

@@ -1,4 +1,4 @@
--- Steps one behind the other, and that their bytes tell them.
+-- Steps one after the other, and that their bytes tell them.
 use Rattle.std.proofs.Common.{◌≡◌, ◌≢◌, ℕ, ◌+◌, ◌<◌, ◌≤◌, ◌^◌, List, [], ◌∷◌, ◌++◌, length, take, drop, inl, inr, refl, sym, ap, ap₂, subst, ◌∙◌, arith}
 use Rattle.std.specs.List.{concat, flat_map}
 use Rattle.std.proofs.lemmas.List.{append_assoc, append-nil, drop-drop, length-append, take-append-drop}
@@ -18,7 +18,7 @@ pub malformed_of : (error : ReadError) → unread_delta error ≡ Unlike → IsM
 malformed_of read.Memory e = absurd cc
 malformed_of (read.Unexpected offset expected) e = tt
 
--- one chunk more behind others
+-- one chunk more after others
 pub concat-more : (xs : List (List ℕ)) (x : List ℕ) → concat (xs ++ x ∷ []) ≡ concat xs ++ x
 concat-more [] x = append-nil x
 concat-more (y ∷ ys) x = ap (λ t. y ++ t) (concat-more ys x) ∙ sym (append_assoc y (concat ys) x)
@@ -27,7 +27,7 @@ pub concat-append : (xs ys : List (List ℕ)) → concat (xs ++ ys) ≡ concat x
 concat-append [] ys = refl
 concat-append (x ∷ xs) ys = ap (λ t. x ++ t) (concat-append xs ys) ∙ sym (append_assoc x (concat xs) (concat ys))
 
--- one step more behind others
+-- one step more after others
 pub over-more : (chunks : List (List ℕ)) (steps : List Step) (step : Step) → AreStepsOver chunks steps → IsStepOver (left_behind chunks steps) step → AreStepsOver chunks (steps ++ step ∷ [])
 over-more chunks [] step over is = (is, tt)
 over-more chunks (s ∷ ss) step over is = (over.0, over-more (left_by chunks s) ss step over.1 is)
@@ -47,7 +47,7 @@ pub step-some : (step : Step) → 1 ≤ length (step_bytes step)
 step-some (inl run) = omega (arith, count_some run.1, length-append (count_bytes run.1) (count_bytes run.0))
 step-some (inr bytes) = omega (arith, count_some 0, length-append (count_bytes 0) (string_encoding bytes))
 
--- bytes that begin with those of a step over chunks tell it, and what is behind it
+-- bytes that begin with those of a step over chunks tell it, and what is after it
 pub step_told : (chunks : List (List ℕ)) (s t : Step) (r u : List ℕ) → IsStepOver chunks s → IsStepOver chunks t → step_bytes s ++ r ≡ step_bytes t ++ u → (s ≡ t) × (r ≡ u)
 step_told chunks (inl a) (inl b) r u is was e =
     let first = count_told a.1 b.1 (count_bytes a.0 ++ r) (count_bytes b.0 ++ u)
@@ -113,14 +113,14 @@ module _ (chunks : List (List ℕ)) where
       none run.1 (count_bytes run.0 ++ rest) (omega (arith, fits, is.1)) (e ∙ append_assoc (count_bytes run.1) (count_bytes run.0) rest)
   no_count left fits none (inr bytes) rest is e = none 0 (string_encoding bytes ++ rest) (omega arith) (e ∙ append_assoc (count_bytes 0) (string_encoding bytes) rest)
 
-  -- nor where no byte string stands behind a count 0
+  -- nor where no byte string stands after a count 0
   pub no_bytes : (left behind : List ℕ) → left ≡ count_bytes 0 ++ behind → ((bytes rest : List ℕ) → behind ≢ string_encoding bytes ++ rest) → BeginNoStep chunks left
   no_bytes left behind was none (inl run) rest is e =
       let told = count_told 0 run.1 behind (count_bytes run.0 ++ rest) (sym was ∙ e ∙ append_assoc (count_bytes run.1) (count_bytes run.0) rest) in absurd (omega (arith, told.0, is.0))
   no_bytes left behind was none (inr bytes) rest is e =
       none bytes rest (count_told 0 0 behind (string_encoding bytes ++ rest) (sym was ∙ e ∙ append_assoc (count_bytes 0) (string_encoding bytes) rest)).1
 
-  -- nor where none stands behind another count
+  -- nor where none stands after another count
   pub no_passed : (left behind : List ℕ) (taken : ℕ) → left ≡ count_bytes taken ++ behind → 1 ≤ taken → length chunks < 2 ^ 64
       → ((count : ℕ) (rest : List ℕ) → count < 2 ^ 64 → behind ≢ count_bytes count ++ rest) → BeginNoStep chunks left
   no_passed left behind taken was some fits none (inl run) rest is e =

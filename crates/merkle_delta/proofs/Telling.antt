@@ -1,7 +1,7 @@
 -- Chunks are told: those whose checksums another side has as runs of its chunks, the others by their bytes.
 use Rattle.std.proofs.Common.{◌≡◌, ℕ, zero, suc, ◌+◌, ◌-◌, ◌<◌, ◌≤◌, List, [], ◌∷◌, ◌++◌, length, get_or, map, take, drop, inl, inr, refl, sym, ap, ap₂, subst, ◌∙◌, arith}
 use Rattle.std.specs.List.{AllByRecursion, concat, flat_map}
-use Rattle.std.proofs.lemmas.List.{append-nil, drop-drop, drop-map, get_or-drop, length-drop, length-map, map-append, take_more, take_all, take-map, take-take, drop-take, take-append-drop, flat_map_more}
+use Rattle.std.proofs.lemmas.List.{drop-drop, drop-map, get_or-drop, length-drop, length-map, map-append, take_more, take_all, take-map, take-take, drop-take, take-append-drop, flat_map_more}
 use Rattle.merkle_delta.specs.Chunks.{checksum}
 use Rattle.merkle_delta.specs.Deltas.{Step, step_bytes, left_behind, bytes_from_steps, AreStepsOver, AreToldApart}
 use Rattle.merkle_delta.specs.Steps.{HasChecksum, HaveChecksums, AddsSteps}
@@ -26,7 +26,7 @@ each-map : {X : Type 0} (P Q : X → Type 0) → ((x : X) → P x → Q x) → (
 each-map P Q more [] each = tt
 each-map P Q more (x ∷ xs) each = (more x each.0, each-map P Q more xs each.1)
 
--- the first entries are some, and those behind them
+-- the first entries are some, and those after them
 take_add : {X : Type 0} (n m : ℕ) (xs : List X) → take (n + m) xs ≡ take n xs ++ take m (drop n xs)
 take_add n m xs = sym (take-append-drop n (take (n + m) xs)) ∙ ap₂ (λ a b. a ++ b) (take-take n (n + m) xs (omega arith)) (drop-take n m xs)
 
@@ -62,14 +62,6 @@ module _ (checksums : List ℕ) (chunks : List (List ℕ)) where
     pub is : now ≡ begun ++ flat_map step_bytes steps
     pub gives : (own : List (List ℕ)) → map checksum own ≡ checksums → AreToldApart own chunks
         → AreStepsOver own steps × (concat (take done chunks) ≡ bytes_from_steps own steps) × (left_behind own steps ≡ drop at own)
-
-  pub none_told : (begun : List ℕ) → AreTold begun 0 0 begun
-  none_told begun = record {
-    inside = (omega arith, omega arith);
-    steps = [];
-    is = sym (append-nil begun);
-    gives = λ own same apart. (tt, refl, refl);
-  }
 
   -- one chunk more by its bytes
   pub bytes_told : (begun now new : List ℕ) (at done : ℕ) → AreTold begun at done now → done < length chunks → new ≡ now ++ step_bytes (inr (get_or chunks done []))

@@ -16,7 +16,7 @@ use Rattle.merkle_delta.specs.Underway.{Told, Underway}
 use Rattle.merkle_delta.specs.declared.catching_up.Next.{Next}
 use Rattle.merkle_delta.specs.declared.catching_up.Next.TheVariants.{Ask, Came}
 
--- what is sent for a plain question: that, or that behind the checksums of some chunks
+-- what is sent for a plain question: that, or that after the checksums of some chunks
 abbrev pub IsSentFor : Vec ℕ → Option Told → Vec ℕ → Type 0
 IsSentFor question None message = message.items ≡ question.items
 IsSentFor question (Some told) message = (told.question ≡ question.items) × (message.items ≡ asking_bytes (map checksum told.own) question.items)
@@ -60,7 +60,7 @@ module _ {K V H : Type 0} (laws : Laws K V H) (n : ℕ) (encoding : K → List �
   Takes replica before reply next = IsNext laws n encoding values (side replica) before reply next
 
 module _ {K V H : Type 0} (laws : Laws K V H) (n : ℕ) (encoding : K → List ℕ) (values : V → List ℕ) (is_key : K → Type 0) (is_value : V → Type 0) (local : Side K V H) where
-  -- memory was refused, or the catch-up does not go on with the plain reply
+  -- memory ran out, or the catch-up does not go on with the plain reply
   abbrev pub StopsFrom : PlainUnderway K V → Option Told → List ℕ → SessionError → Type 0
   StopsFrom session None reply error = IsPlainStopped laws n encoding values is_key is_value local session reply error
   StopsFrom session (Some told) reply error =

@@ -7,11 +7,11 @@ use Rattle.merkle_digest.specs.SipHash.{siphash128, zero_key}
 abbrev pub window_with : ℕ → ℕ → ℕ
 window_with window byte = ((window * 256) % 2 ^ 32 + byte) % 2 ^ 32
 
--- a chunk of so many bytes ends behind these last four: where it has 96; or where it has 16, and four times out of 64
+-- a chunk of this many bytes ends after these last four: where it has 96; or where it has 16, and four times out of 64
 abbrev pub ends_chunk : ℕ → ℕ → Bool
 ends_chunk window len = nat_le 96 len || (nat_le 16 len && nat_lt ((window * 2654435761) % 2 ^ 32) (2 ^ 28))
 
--- where the chunks of the bytes behind a place begin and end, where one has begun at `start`
+-- where the chunks of the bytes after a place begin and end, where one has begun at `start`
 unfoldable pub ranges_from : ℕ → ℕ → ℕ → List ℕ → List (ℕ × ℕ)
 ranges_from window start at [] = if (nat_eq start at) then [] else ((start, at) ∷ [])
 ranges_from window start at (byte ∷ more) =

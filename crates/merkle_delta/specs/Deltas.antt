@@ -7,7 +7,7 @@ use Rattle.merkle_bytes.specs.Counts.{count_bytes}
 use Rattle.merkle_bytes.specs.Encodings.{AddsBytes, string_encoding}
 use Rattle.merkle_delta.specs.Chunks.{checksum, chunks_of, digest_of}
 
--- a step: so many chunks are passed by, and so many taken behind them; or other bytes come
+-- a step: this many chunks are passed by, and this many taken after them; or other bytes come
 abbrev pub Step : Type 0
 Step = (ℕ × ℕ) ⊎ List ℕ
 
@@ -15,7 +15,7 @@ Step = (ℕ × ℕ) ⊎ List ℕ
 abbrev pub run_step : ℕ → ℕ → List ℕ
 run_step passed taken = count_bytes taken ++ count_bytes passed
 
--- those of other bytes: a count 0, and they behind their number
+-- those of other bytes: a count 0, and they after their number
 abbrev pub bytes_step : List ℕ → List ℕ
 bytes_step bytes = count_bytes 0 ++ string_encoding bytes
 
@@ -24,7 +24,7 @@ abbrev pub step_bytes : Step → List ℕ
 step_bytes (inl run) = run_step run.0 run.1
 step_bytes (inr bytes) = bytes_step bytes
 
--- the chunks that are left behind a step
+-- the chunks that are left after a step
 abbrev pub left_by : List (List ℕ) → Step → List (List ℕ)
 left_by chunks (inl run) = drop (run.0 + run.1) chunks
 left_by chunks (inr bytes) = chunks
@@ -39,7 +39,7 @@ abbrev pub IsStepOver : List (List ℕ) → Step → Type 0
 IsStepOver chunks (inl run) = (1 ≤ run.1) × (run.0 + run.1 ≤ length chunks)
 IsStepOver chunks (inr bytes) = ⊤
 
--- the same of steps one behind the other
+-- the same of steps one after the other
 abbrev pub left_behind : List (List ℕ) → List Step → List (List ℕ)
 left_behind chunks [] = chunks
 left_behind chunks (step ∷ steps) = left_behind (left_by chunks step) steps

@@ -16,7 +16,7 @@ use Rattle.merkle_delta.specs.Deltas.{IsDelta, IsDeltaOver}
 abbrev pub LacksFront : List ℕ → List ℕ → Type 0
 LacksFront front message = (rest : List ℕ) → message ≢ front ++ rest
 
--- a question behind checksums: version 1, kind 6
+-- a question after checksums: version 1, kind 6
 abbrev pub asking_bytes : List ℕ → List ℕ → List ℕ
 asking_bytes checksums question = 1 ∷ 6 ∷ (list_bytes count_bytes checksums ++ question)
 
@@ -56,18 +56,18 @@ IsAnsweredAs laws n encoding values old new = AnswersAs (IsAnsweredBy laws n enc
 abbrev pub IsAnswered : {K V H : Type 0} → Laws K V H → ℕ → (K → List ℕ) → (V → List ℕ) → Contents K V H → Contents K V H → List ℕ → Vec ℕ → Type 0
 IsAnswered laws n encoding values old new = AnswersBy (IsAnsweredBy laws n encoding values old new)
 
--- the plain reply tells all that is asked for, or the first of it up to the entry by which it has so many bytes
+-- the plain reply tells all that is asked for, or the first of it up to the entry by which it has this many bytes
 abbrev pub AnswersWithin : {K V : Type 0} → (K → List ℕ) → (V → List ℕ) → ℕ → List ℕ → Vec ℕ → Type 0
 AnswersWithin encoding values most = AnswersBy (IsAnsweredWithin encoding values most)
 
--- neither the message nor a question behind checksums in it is one of which P doesn't hold
+-- neither the message nor a question after checksums in it is one of which P doesn't hold
 abbrev pub AsksNoneOf : (List ℕ → Type 0) → List ℕ → Type 0
 AsksNoneOf P message = P message × ((checksums question : List ℕ) → AllByRecursion (λ c. c < 2 ^ 32) checksums → message ≡ asking_bytes checksums question → P question)
 
--- P holds of the message, or of a question behind checksums in it
+-- P holds of the message, or of a question after checksums in it
 abbrev pub AsksOneOf : (List ℕ → Type 0) → List ℕ → Type 0
 AsksOneOf P message = P message ⊎ ((checksums : List ℕ) × (question : List ℕ) × (message ≡ asking_bytes checksums question) × P question)
 
--- a message has no reply for its settings only where it, or the question behind checksums in it, tells others than those of the tree
+-- a message has no reply for its settings only where it, or the question after checksums in it, tells others than those of the tree
 abbrev pub RefusesOthers : {K V H : Type 0} → Laws K V H → ℕ → (K → List ℕ) → State K H → List ℕ → AnswerError → Type 0
 RefusesOthers laws n encoding tree message error = IsOfOthers error → AsksOneOf (AsksWithOthers laws n encoding tree) message

@@ -11,7 +11,7 @@ module _ (checksums : List ℕ) (chunks : List (List ℕ)) where
   abbrev pub HasChecksum : ℕ → ℕ → Type 0
   HasChecksum from done = (from < length checksums) × (done < length chunks) × (get_or checksums from 0 ≡ checksum (get_or chunks done []))
 
-  -- so many checksums from a place on are those of the chunks from another on
+  -- this many checksums from a place on are those of the chunks from another on
   abbrev pub HaveChecksums : ℕ → ℕ → ℕ → Type 0
   HaveChecksums from done len = (from + len ≤ length checksums) × (done + len ≤ length chunks)
       × (take len (drop from checksums) ≡ map checksum (take len (drop done chunks)))
@@ -22,7 +22,7 @@ module _ (checksums : List ℕ) (chunks : List (List ℕ)) where
       × ((own : List (List ℕ)) → map checksum own ≡ checksums → AreToldApart own chunks → AreStepsOver own steps × (concat chunks ≡ bytes_from_steps own steps))
 
 module _ (chunks : List (List ℕ)) where
-  -- a step was read, and what it gives was added: these chunks are behind it, and these bytes are left
+  -- a step was read, and what it gives was added: these chunks are after it, and these bytes are left
   abbrev pub IsStepTaken : List ℕ → List ℕ → List (List ℕ) → List ℕ → List ℕ → Type 0
   IsStepTaken left given behind left' given' = (step : Step) × IsStepOver chunks step × (left ≡ step_bytes step ++ left')
       × (given' ≡ given ++ given_by chunks step) × (behind ≡ left_by chunks step)
@@ -40,6 +40,6 @@ module _ (chunks : List (List ℕ)) where
   abbrev pub AreNoSteps : List ℕ → Type 0
   AreNoSteps left = (steps : List Step) → AreStepsOver chunks steps → left ≢ flat_map step_bytes steps
 
--- a step over the chunks from a place on was read, and what it gives was added; those from the end on are behind it
+-- a step over the chunks from a place on was read, and what it gives was added; those from the end on are after it
 abbrev pub TakesStep : List (List ℕ) → ℕ → Reader → Vec ℕ → Reader → Vec ℕ → ℕ → Type 0
 TakesStep chunks at old given new given' end = IsStepTaken (drop at chunks) old.left.now given.items (drop end chunks) new.left.now given'.items

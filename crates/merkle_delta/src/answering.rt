@@ -41,7 +41,7 @@ pub fn answer<K: Key + Decode, V: Join + Encode + Drop, H: RowHasher<N, K, V>, c
     answer_within(alloc, replica, message, MOST_BYTES)
 }
 
-/// The reply to a message: the one of [`merkle_wire::answer_within`] to a plain question, and to one behind checksums what that differs by from
+/// The reply to a message: the one of [`merkle_wire::answer_within`] to a plain question, and to one after checksums what that differs by from
 /// bytes whose chunks have them. The plain reply ends as it does there. The replica keeps its rows; pages that lack a digest get it.
 ///
 /// Besides the plain reply it takes time linear in its bytes and in the checksums, and some 100 bytes of memory a chunk and a checksum.

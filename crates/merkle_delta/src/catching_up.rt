@@ -115,7 +115,7 @@ impl<K: Key + Decode, V: Join + Decode> CatchingUp<K, V> {
     ///
     /// # Errors
     ///
-    /// Want of memory.
+    /// Out of memory.
     pub fn begin<H: RowHasher<N, K, V>, const N: usize>(
         alloc: Global,
         replica: &Replica<K, V, H, N>,

@@ -37,14 +37,14 @@ impl Model for Chunks {
 }
 
 impl Chunks {
-    /// The chunks of bytes. A chunk ends behind its 96th byte; behind the 16th or a later one where the four bytes up to there say so, which is
-    /// once in sixteen times; or with the bytes. So where bytes are changed, the chunks that begin a few chunks behind are as before.
+    /// The chunks of bytes. A chunk ends after its 96th byte; after the 16th or a later one where the four bytes up to there say so, which is
+    /// once in sixteen times; or with the bytes. So where bytes are changed, the chunks that begin a few chunks later are as before.
     ///
     /// It takes time linear in the number of bytes, and 16 bytes of memory a chunk.
     ///
     /// # Errors
     ///
-    /// Want of memory.
+    /// Out of memory.
     pub fn cut(alloc: Global, bytes: Vec<u8>) -> Result<Self, AllocError>
         ensures { IfOk result (λ chunks. chunks ≡ chunks_of bytes.items) }
     {
@@ -88,7 +88,7 @@ fn window_with(window: u32, byte: u8) -> u32
     window.wrapping_mul(256).wrapping_add(byte as u32)
 }
 
-/// Whether a chunk of so many bytes ends behind these last four.
+/// Whether a chunk of this many bytes ends after these last four.
 fn ends_chunk(window: u32, len: usize) -> bool
     ensures { result ≡ ends_chunk window len }
 {

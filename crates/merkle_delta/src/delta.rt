@@ -20,7 +20,7 @@ const NEAR: usize = 16;
 ///
 /// # Errors
 ///
-/// Want of memory.
+/// Out of memory.
 pub(crate) fn add_delta(
     alloc: Global,
     checksums: &[u32],
@@ -70,7 +70,7 @@ fn add_bytes(bytes: &[u8], delta: &mut Vec<u8>) -> Result<(), AllocError>
     delta.extend_from_slice(bytes)
 }
 
-/// Adds chunks that are taken behind those that are passed by.
+/// Adds chunks that are taken after those that are passed by.
 fn add_run(passed: usize, taken: usize, delta: &mut Vec<u8>) -> Result<(), AllocError>
     ensures { OnOk result (delta.new.items ≡ delta.old.items ++ run_step passed taken) }
 {
@@ -78,7 +78,7 @@ fn add_run(passed: usize, taken: usize, delta: &mut Vec<u8>) -> Result<(), Alloc
     encode_count(passed as u64, delta)
 }
 
-/// So many checksums from a place on.
+/// This many checksums from a place on.
 #[derive(Clone, Copy)]
 struct Run {
     from: usize,

@@ -26,7 +26,7 @@ pub fn a_session_by_deltas_is_a_session<
     ensures sessions { SessionsArePlain H.laws N K.encoding V.encoding }
 {}
 
-/// A catch-up brings what is lacked, whatever carries its messages: where the first is that of [`begin`](crate::CatchingUp::begin), each is replied to as
+/// A catch-up brings what is missing, whatever carries its messages: where the first is that of [`begin`](crate::CatchingUp::begin), each is replied to as
 /// [`answer`](crate::answer) does by a tree of the peer's map, each reply taken as [`take`](crate::CatchingUp::take) does, until rows come, and no delta
 /// among them tells other bytes with the digest of the plain reply that it was made of, which [`tells_only`](crate::CatchingUp::tells_only) decides. The
 /// rows are the peer's, new to the side, and while digests are faithful all that are missing there.

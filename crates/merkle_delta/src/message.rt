@@ -1,4 +1,4 @@
-//! The fronts of messages with checksums and of replies that are deltas, and what stands behind them.
+//! The fronts of messages with checksums and of replies that are deltas, and what stands after them.
 ghost use Rattle.std.specs.Prelude.{◌≡◌, ◌++◌, map, IfOk, MatchOption};
 ghost use Rattle.merkle_delta.specs.Chunks.{checksum};
 ghost use Rattle.merkle_delta.specs.Messages.{LacksFront, asking_bytes};
@@ -14,7 +14,7 @@ pub(crate) const ASKS: [u8; 2] = [1, 6];
 /// The front of a reply that is a delta.
 pub(crate) const TELLS: [u8; 2] = [1, 134];
 
-/// What stands behind the front of a message, where it has this one.
+/// What stands after the front of a message, where it has this one.
 pub(crate) fn behind<'a>(front: [u8; 2], message: &'a [u8]) -> Option<&'a [u8]>
     ensures { MatchOption result (LacksFront front message.now) (λ rest. message.now ≡ front ++ rest.now) }
 {
@@ -27,7 +27,7 @@ pub(crate) fn behind<'a>(front: [u8; 2], message: &'a [u8]) -> Option<&'a [u8]>
     Some(rest)
 }
 
-/// A question behind the checksums of chunks.
+/// A question after the checksums of chunks.
 pub(crate) fn encode_asking(
     alloc: Global,
     own: &Chunks,

@@ -14,7 +14,7 @@ use std::alloc::{AllocError, Global};
 /// Why a delta was not applied.
 #[derive(Clone, Copy, Debug, PartialEq, Eq, Drop)]
 pub enum PatchError {
-    /// Memory was refused.
+    /// Out of memory.
     Memory,
     /// Over these chunks it is the delta of no bytes: it was made by others that have equal checksums, or it is none.
     Unlike,
@@ -80,7 +80,7 @@ fn follow(own: &Chunks, reader: &mut Reader<'_>) -> Result<Vec<u8>, PatchError>
     Ok(bytes)
 }
 
-/// Adds what the next step gives, and answers how many chunks are behind then.
+/// Adds what the next step gives, and returns how many chunks are passed by then.
 fn take_step(
     own: &Chunks,
     at: usize,

@@ -33,7 +33,7 @@ impl Table {
     }
 }
 
-/// The slot of a checksum, of so many.
+/// The slot of a checksum, of this many.
 fn slot_of(checksum: u32, slots: usize) -> usize {
     match (checksum as usize).checked_rem(slots) {
         Some(slot) => slot,

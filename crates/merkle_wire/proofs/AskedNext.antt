@@ -22,7 +22,7 @@ use Rattle.merkle_wire.specs.declared.question.Question.TheVariants.{Root, Outli
 use Rattle.merkle_wire.proofs.Times.{total-append, total-mapped}
 
 module _ {K V H : Type 0} (laws : Laws K V H) (peer : Side K V H) (root : Tree K (List ℕ)) (encoding : K → List ℕ) where
-  -- what was found is steady after so many rounds, with a key that is asked about so often besides
+  -- what was found is steady after this many rounds, with a key that is asked about so often besides
   pub record AreSteady (rounds : ℕ) (besides : K → ℕ) (f : Found K V) : Type 0 where
     pub below : AllByRecursion (IsFilled laws peer root 256 rounds) f.below
     pub nodes : AllByRecursion (IsFilled laws peer root 257 0) f.nodes

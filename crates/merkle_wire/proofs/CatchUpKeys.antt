@@ -121,7 +121,7 @@ module _ {K V H : Type 0} (laws : Laws K V H) (o : IsTotalOrder laws.cmp) (is_ke
       let last = last_is_key row rows (subst (AllByRecursion (λ r. is_key r.0)) are a) in
       subst (AllByRecursion (λ g. HasKeyBounds is_key (owned_gap g))) (sym is) (gap_alike (part_behind (owned_gap t.0) (last_key row.0 rows)) (owned_gap own) same (last, p.1), tt)
 
-  -- the gaps behind parts of the rows in gaps
+  -- the gaps after parts of the rows in gaps
   pub parts_keys : (ts : List (OwnedGap K × Part K V)) (left : List (OwnedGap K)) → AllByRecursion (λ g. HasKeyBounds is_key (owned_gap g)) (map (λ t. t.0) ts) → AllByRecursion (λ r. is_key r.0) (flat_map (λ t. t.1.rows) ts) → AreBehind laws local ts left
       → AllByRecursion (λ g. HasKeyBounds is_key (owned_gap g)) left
   parts_keys [] left p a none = subst (AllByRecursion (λ g. HasKeyBounds is_key (owned_gap g))) (sym none) tt

@@ -17,10 +17,8 @@ use Rattle.merkle_replica.proofs.CatchUpJoins.{all_joined}
 use Rattle.merkle_replica.proofs.RowCopies.{copies_are, join_same}
 use Rattle.merkle_replica.proofs.SideLaws.{same_side, rows_alone}
 use Rattle.merkle_tree_theory.specs.State.{SameSettings}
-use Rattle.merkle_wire.specs.Sessions.{IsFaithfulSession, IsNewRow, AreBrought, HasJoined, IsEarly, IsMessagesRefused}
+use Rattle.merkle_wire.specs.Sessions.{IsFaithfulSession, IsNewRow, AreBrought, HasJoined}
 use Rattle.merkle_wire.specs.Taking.{is_digest, has_row}
-use Rattle.merkle_wire.specs.declared.session.MessagesError.{MessagesError}
-use Rattle.merkle_wire.specs.declared.session.MessagesError.TheVariants.{Answer, Session, Join}
 use Rattle.merkle_wire.proofs.RoundCovers.{any-map}
 
 module _ {K V H : Type 0} (laws : Laws K V H) (o : IsTotalOrder laws.cmp) (eqv : IsEquivalence laws.eq) (joining : IsJoining laws.eq laws.join) (respects : (h : H) (a b : V) → laws.eq a b ≡ true → laws.value_digest h a ≡ laws.value_digest h b)
@@ -40,7 +38,7 @@ module _ {K V H : Type 0} (laws : Laws K V H) (o : IsTotalOrder laws.cmp) (eqv :
   is_digest-own : (d : List ℕ) → is_digest (Some d) d ≡ true
   is_digest-own d = (bytes_decides d d).1 refl
 
-  -- each of them is lacked
+  -- each of them is missing
   lacked : IsFaithfulSession laws local peer → (row : K × V) → IsNewRow laws local peer row → IsLacked laws local peer row.0
   lacked faith row ((v, there, e), new) =
       let d = laws.value_digest peer.hasher v in
@@ -72,18 +70,12 @@ module _ {K V H : Type 0} (laws : Laws K V H) (o : IsTotalOrder laws.cmp) (eqv :
   pub brought_joins : (rows after : List (K × V)) → AreBrought laws local peer rows → IsJoin laws.cmp laws.eq laws.join local.rows rows after → IsFaithfulSession laws local peer → IsJoin laws.cmp laws.eq laws.join local.rows peer.rows after
   brought_joins rows after b joins faith = all_joined laws o local peer eqv joining (keys_in rows) after faith.faithful (brought_is_catch_up rows after b joins faith)
 
-  -- so it is where so many rows are joined
+  -- so it is where this many rows are joined
   pub joined_is_catch_up : (joined : ℕ) (after : List (K × V)) → HasJoined laws local peer joined after → IsFaithfulSession laws local peer → IsCatchUpOf laws local peer joined after
   joined_is_catch_up joined after (rows, count, b, joins) faith = (keys_in rows, count ∙ sym (length-map rows (λ r. r.0)), brought_is_catch_up rows after b joins faith)
 
   pub joined_joins : (joined : ℕ) (after : List (K × V)) → HasJoined laws local peer joined after → IsFaithfulSession laws local peer → IsJoin laws.cmp laws.eq laws.join local.rows peer.rows after
   joined_joins joined after (rows, count, b, joins) faith = brought_joins rows after b joins faith
-
--- where the catch-up ended before it joined, the rows are as before
-pub early_refused : {K V H : Type 0} (laws : Laws K V H) (local peer : Side K V H) (fault : MessagesError) (after : List (K × V)) → IsEarly laws local peer fault → after ≡ local.rows → IsMessagesRefused laws local peer fault after
-early_refused laws local peer (Answer error) after early same = (same, early)
-early_refused laws local peer (Session error) after early same = same
-early_refused laws local peer (Join done) after early same = absurd early
 
 -- what holds of the sides met before the second of two catch-ups, by those before the first
 pub second_sides : {K V H : Type 0} (a mid after b met : Contents K V H) → met.rows ≡ b.rows → SameSettings b.tree met.tree → SameSettings a.tree mid.tree → after.rows ≡ mid.rows

@@ -101,7 +101,7 @@ module _ {K V H : Type 0} (laws : Laws K V H) (local peer : Side K V H) where
   abbrev pub keys_left : Tree K (List ℕ) → Underway K V → ℕ
   keys_left root u = total (λ p. asked_at laws peer root p.0 u.asked + left_at laws peer root p.0 u.found) lacked
 
-  -- where values at so many keys were told in a reply, what comes next leaves so many less
+  -- where values at this many keys were told in a reply, what comes next leaves that many fewer
   abbrev pub PayForKeys : Tree K (List ℕ) → ℕ → Underway K V → Next K V → Type 0
   PayForKeys root keys before (Ask session message) = (keys + keys_left root session ≤ keys_left root before) × Wants session.found × AsksLacked session.asked
   PayForKeys root keys before (Came rows) = keys ≤ keys_left root before
@@ -122,7 +122,7 @@ module _ {K V H : Type 0} (laws : Laws K V H) (local peer : Side K V H) where
       by (inr t) = taken_lacked session.asked (all_whole f) session.found a t
   next_lacked encoding (Some question) rounds f session message a b (is, e) = subst (λ u. Wants u.found × AsksLacked u.asked) (sym e) (a, b)
 
-  -- each key that is lacked is one of them
+  -- each key that is missing is one of them
   one_at : (k : K) (o : IsTotalOrder laws.cmp) (ps : List (K × List ℕ)) → AnyByRecursion (λ p. Same laws.cmp k p.0) ps → 1 ≤ total (λ p. times_at laws.cmp p.0 k) ps
   one_at k o [] a = absurd a
   one_at k o (p ∷ ps) (inl s) = let e : times_at laws.cmp p.0 k ≡ 1 = rw (tied_back o k p.0 s) refl in omega (arith, e)

@@ -56,7 +56,7 @@ module _ {K V H : Type 0} (laws : Laws K V H) (peer : Side K V H) (root : Tree K
   abbrev pub nodes_of : Found K V → ℕ
   nodes_of f = length f.nodes
 
-  -- where so many pages, and so many nodes, were told in a reply, what comes next leaves so many less, but for the nodes of the pages
+  -- where this many pages, and this many nodes, were told in a reply, what comes next leaves that many fewer, but for the nodes of the pages
   abbrev pub PayFor : ℕ → ℕ → Underway K V → Next K V → Type 0
   PayFor pages nodes before (Ask session message) =
       (pages + (pages_by session.asked + pages_of session.found) ≤ pages_by before.asked + pages_of before.found)

@@ -12,7 +12,7 @@ use Rattle.merkle_wire.specs.declared.nodes.ToldRows.{ToldRows}
 use Rattle.merkle_wire.proofs.RowsMore.{rows_more}
 
 module _ {K V : Type 0} (cmp : K → K → Ordering) (encoding : K → List ℕ) (values : V → List ℕ) (rows : List (K × V)) (start : List ℕ) where
-  -- the rows at some keys are found, and written behind a key
+  -- the rows at some keys are found, and written after a key
   abbrev pub AreFound : List K → ℕ → ToldRows → List ℕ → Type 0
   AreFound keys most told last = (found : List (K × V)) × AreRowsAt cmp rows keys found × (told.count ≡ length found) × (told.count ≤ most)
       × (told.bytes.items ≡ entries_bytes (row_behind encoding values) (row_key encoding) start found)

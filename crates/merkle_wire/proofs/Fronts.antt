@@ -49,12 +49,12 @@ kind_back RowsAt = refl
 kind_back RowsIn = refl
 kind_back Refusal = refl
 
--- a front tells the kind, and what is behind it
+-- a front tells the kind, and what is after it
 pub front_told : (a b : Kind) (r s : List ℕ) → front a ++ r ≡ front b ++ s → (a ≡ b) × (r ≡ s)
 front_told a b r s e =
     let both = same_behind 1 (kind_byte a) 1 (kind_byte b) r s e in
     (sym (kind_back a) ∙ ap kind_of both.0 ∙ kind_back b, both.1)
 
--- a reply that says nothing behind its front says nothing
+-- a reply that says nothing after its front says nothing
 pub says_not : (kind : Kind) (S : List ℕ → Type 0) (reply left : List ℕ) → reply ≡ front kind ++ left → ((all : List ℕ) → S all → left ≢ all) → SaysNot kind S reply
 says_not kind S reply left read none all says e = none all says (front_told kind kind left all (sym read ∙ e)).1

@@ -20,7 +20,7 @@ module _ {K : Type 0} where
   no_page-append (of_node k d ∷ xs) ys p q = no_page-append xs ys p q
   no_page-append (of_page g d ∷ xs) ys p q = absurd p
 
-  -- the digests of the pages before the nodes, and what stands behind the last item
+  -- the digests of the pages before the nodes, and what stands after the last item
   abbrev pub pages_before : Option (List ℕ) → List (Item K (List ℕ)) → List (Option (List ℕ))
   pages_before before [] = []
   pages_before before (of_node k d ∷ xs) = before ∷ pages_before None xs

@@ -7,7 +7,7 @@ module _ {K V : Type 0} where
   last_is r [] x e = ap (λ p. p.0) (sym e)
   last_is r (s ∷ ss) x e = last_is s ss x e
 
-  -- rows that have a last one are one with others behind it, the last of which it is
+  -- rows that have a last one are one with others after it, the last of which it is
   pub ends_in : (rows : List (K × V)) (x : K × V) → length rows - 1 < length rows → x ≡ get_or rows (length rows - 1) x
       → (r : K × V) × (rs : List (K × V)) × (rows ≡ r ∷ rs) × (last_key r.0 rs ≡ x.0)
   ends_in [] x low e = absurd (omega (arith, low))

@@ -21,7 +21,7 @@ pages_more pages page begun old new so e =
     ∙ ap (λ t. t ++ new) (sym (flat_map-append (option_bytes (λ d. d)) pages (page ∷ [])))
 
 module _ {K V H : Type 0} (laws : Laws K V H) (tree : State K H) (gap : Gap K) where
-  -- the pages before the first keys are read, up to the bound behind which the next stands, and taken
+  -- the pages before the first keys are read, up to the bound after which the next stands, and taken
   pub record ArePagesSoFar (after : Option K) (first : List K) (begun left : List ℕ) (before now : Found K V) : Type 0 where
     pub pages : List (Option (List ℕ))
     pub gaps : List (Gap K)
@@ -59,7 +59,7 @@ module _ {K V H : Type 0} (laws : Laws K V H) (tree : State K H) (gap : Gap K) w
     taken = below_more before mid now so.gaps found so.taken n;
   }
 
-  -- the page behind the last key is the last
+  -- the page after the last key is the last
   pub pages_end : (after : Option K) (keys : List K) (begun old new : List ℕ) (before mid now : Found K V) (page : Option (List ℕ)) (found : List (Gap K))
       → ArePagesSoFar after keys begun old before mid → old ≡ option_bytes (λ d. d) page ++ new → IsPageDigest page → ForItsRows laws tree (λ local. IsNewGap laws local (record { after = after; before = gap.before }) page found)
       → now ≡ record mid { below = mid.below ++ found }

@@ -1,4 +1,4 @@
--- What comes after a reply covers what is lacked, while digests are faithful: a question with what was found, or the rows in the end.
+-- What comes after a reply covers what is missing, while digests are faithful: a question with what was found, or the rows in the end.
 use Rattle.std.proofs.Common.{◌≡◌, ℕ, true, List, [], ◌∷◌, length, Option, Some, None, sym, ap, subst, ◌∙◌, ◌⊎◌, inl, inr}
 use Rattle.std.specs.List.{AllByRecursion}
 use Rattle.std.specs.List.Sorted.{IsPermutation}
@@ -187,7 +187,7 @@ module _ {K V H : Type 0} (laws : Laws K V H) (encoding : K → List ℕ) where
     all = λ faith k l. inl (subst (AsksAbout laws peer root k) (sym asked) tt);
   }
 
-  -- what comes next covers what is lacked, by the tree that the peer had at first, where the rows and the settings of both sides stayed since then
+  -- what comes next covers what is missing, by the tree that the peer had at first, where the rows and the settings of both sides stayed since then
   pub covers_since : (local a peer b : Contents K V H) → a.rows ≡ local.rows → SameSettings local.tree a.tree → b.rows ≡ peer.rows → SameSettings peer.tree b.tree
       → IsCanonicalRoot (λ k. level_of (laws.key_digest peer.tree.hasher k) peer.tree.base) peer.tree.root → SameMap laws.cmp (λ d e. d ≡ e) (map_of peer.tree) (tree_map laws (side peer)) → (before : Underway K V) (next : Next K V)
       → ((root : Tree K (List ℕ)) → IsTreeOf laws.cmp (laws.key_digest b.tree.hasher) b.tree.base root (tree_map laws (side b)) → Covers laws (side a) (side b) root before → CoversNext laws (side a) (side b) root encoding next)

@@ -36,14 +36,14 @@ module _ {K : Type 0} (encoding : K → List ℕ) (is_value : K → Type 0) wher
   asks_by_kind message (RowsIn gaps) e = (omega (arith, ap second e), omega (arith, ap second e))
 
   module _ (message left : List ℕ) where
-    -- no settings stand behind the front of a question for the root
+    -- no settings stand after the front of a question for the root
     pub no_settings : message ≡ front message_kind.AskRoot ++ left → NoSettings encoding is_value left → AsksNothing encoding is_value message
     no_settings is none (Root s) of e =
         let bytes = settings_bytes encoding s in
         none s [] of ((same_behind 1 1 1 1 left bytes (sym is ∙ e)).1 ∙ sym (append-nil bytes))
     no_settings is none question of e = absurd (omega (arith, ap second (sym is ∙ e)))
 
-    -- no list of gaps stands behind the number
+    -- no list of gaps stands after the number
     pub no_gaps : (n : ℕ) (behind : List ℕ) → message ≡ front message_kind.AskOutlines ++ left → left ≡ count_bytes n ++ behind
         → ((gaps : List (OwnedGap K)) → AreGaps is_value gaps → behind ≢ gaps_bytes encoding gaps) → AsksNothing encoding is_value message
     no_gaps n behind is counted none (Outlines most gaps) of e =
@@ -69,7 +69,7 @@ module _ {K : Type 0} (encoding : K → List ℕ) (is_value : K → Type 0) wher
     no_asking _ is a b c d f question of e = omega (arith, ap second is, (asks_by_kind message question e).0, (asks_by_kind message question e).1)
 
   module _ (eq : K → K → Bool) (told : (x y : K) (r s : List ℕ) → encoding x ++ r ≡ encoding y ++ s → (eq x y ≡ true) × (r ≡ s)) where
-    -- more stands behind the settings
+    -- more stands after the settings
     pub more_behind : (message left rest : List ℕ) (settings : Settings K) → message ≡ front message_kind.AskRoot ++ left → left ≡ settings_bytes encoding settings ++ rest → rest ≢ [] → AsksNothing encoding is_value message
     more_behind message left rest settings is told_by some (Root s) of e =
         let bytes = settings_bytes encoding s in

@@ -13,7 +13,7 @@ use Rattle.merkle_tree_theory.specs.declared.page_format.PageFormat.{PageFormat}
 use Rattle.merkle_wire.specs.Settings.{NoSettings, format_byte, settings_bytes}
 use Rattle.merkle_wire.specs.declared.settings.Settings.{Settings}
 
--- what was refused behind what was read was refused
+-- what was refused after what was read was refused
 pub refused_behind : (total now : ℕ) (all front left : List ℕ) (error : ReadError) → all ≡ front ++ left → now ≡ total → IsRefusal now left error → IsRefusal total all error
 refused_behind total now all front left error e same refused = refused_later total all front left error e (total_was now total left error same refused)
 
@@ -25,7 +25,7 @@ two_read (a ∷ []) [] left middle rest one other e f = absurd (omega (arith, ot
 two_read (a ∷ []) (b ∷ x ∷ ys) left middle rest one other e f = absurd (omega (arith, other))
 two_read (a ∷ []) (b ∷ []) left middle rest one other e f = e ∙ ap (λ t. a ∷ t) f
 
--- the second byte and what is behind it
+-- the second byte and what is after it
 pub same_behind : (a b c d : ℕ) (r s : List ℕ) → a ∷ b ∷ r ≡ c ∷ d ∷ s → (b ≡ d) × (r ≡ s)
 same_behind a b c d r s e = let f : b ∷ r ≡ d ∷ s = cc in (cc, cc)
 
@@ -38,7 +38,7 @@ module _ {K : Type 0} (encoding : K → List ℕ) where
   abbrev pub sample_bytes : Option (K × Vec ℕ) → List ℕ
   sample_bytes = option_bytes pair_bytes
 
-  -- the bytes of settings behind their first two
+  -- the bytes of settings after their first two
   pub settings_behind : (s t : Settings K) (a b : ℕ) (l r : List ℕ) → a ∷ b ∷ l ≡ settings_bytes encoding t ++ r
       → (b ≡ format_byte t.page_format) × (l ≡ count_bytes t.digest_bytes ++ (sample_bytes t.sample ++ r))
   settings_behind s t a b l r e =

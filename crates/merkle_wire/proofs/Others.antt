@@ -1,4 +1,4 @@
--- What else bytes could say of which the first entries were read: nothing, where the next entry isn't there, or where more is behind the last.
+-- What else bytes could say of which the first entries were read: nothing, where the next entry isn't there, or where more is after the last.
 use Rattle.std.specs.Prelude.{⊤}
 use Rattle.std.proofs.Common.{◌≡◌, ◌≢◌, ℕ, ◌+◌, ◌<◌, ◌≤◌, List, [], ◌∷◌, ◌++◌, append_assoc, append-nil, length, take, drop, get_or, map, refl, sym, ap, subst, ◌∙◌, arith}
 use Rattle.std.proofs.lemmas.List.{drop_more, length-append, take-append-drop}
@@ -12,7 +12,7 @@ use Rattle.merkle_wire.proofs.Reading.{AreRead}
 
 module _ {X Y : Type 0} (bytes : X × Y → List ℕ) (P Q : X × Y → Type 0) (some : (t : X × Y) → 1 ≤ length (bytes t))
     (ends : (x : X) (y z : Y) (r s : List ℕ) → P (x, y) → Q (x, z) → bytes (x, y) ++ r ≡ bytes (x, z) ++ s → r ≡ s) where
-  -- entries behind those that were read, to the end of the bytes
+  -- entries after those that were read, to the end of the bytes
   record Others (left others : List X) (rest : List ℕ) : Type 0 where
     pub told : List (X × Y)
     pub begins : left ≡ map (λ t. t.0) told ++ others
@@ -50,7 +50,7 @@ module _ {X Y : Type 0} (bytes : X × Y → List ℕ) (P Q : X × Y → Type 0) 
         go [] b f = more f
         go (v ∷ vs) b f = absurd (cc)
 
-  -- the next of what was asked for is behind what was read
+  -- the next of what was asked for is after what was read
   pub next_of : (R : X × Y → Type 0) (asked : List X) (begun left : List ℕ) (i : ℕ) (ts : List (X × Y)) (x : X) → AreRead R bytes asked begun i left ts → i < length asked → x ≡ get_or asked i x
       → map (λ t. t.0) ts ++ x ∷ drop (i + 1) asked ≡ asked
   next_of R asked begun left i ts x r low is =
@@ -62,7 +62,7 @@ all_told [] = tt
 all_told (x ∷ xs) = (tt, all_told xs)
 
 module _ {X Y : Type 0} (P : X → Y → Type 0) (kind : Kind) (asked : List X) (reply : List ℕ) where
-  -- what stands behind the front of a reply is what it says
+  -- what stands after the front of a reply is what it says
   pub says_nothing : (bytes : List (X × Y) → List ℕ) (left : List ℕ) → reply ≡ front kind ++ left
       → ((us : List (X × Y)) (others : List X) → asked ≡ map (λ t. t.0) us ++ others → AllByRecursion (λ t. P t.0 t.1) us → left ≢ bytes us) → SaysNot kind (Says P bytes asked) reply
   says_nothing bytes left read none all says e = none says.told says.left says.begins says.each ((front_told kind kind left all (sym read ∙ e)).1 ∙ says.is)

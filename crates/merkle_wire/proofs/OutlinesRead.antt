@@ -10,13 +10,13 @@ one_byte (x ∷ y ∷ ys) b n e = absurd (omega (arith, n))
 pub kind_read : (kind begun mid : List ℕ) → begun ≡ kind ++ mid → length kind ≡ 1 → begun ≡ get_or kind 0 0 ∷ mid
 kind_read kind begun mid b n = b ∙ ap (λ front. front ++ mid) (one_byte kind (get_or kind 0 0) n refl)
 
--- a byte, and what is written behind a key
+-- a byte, and what is written after a key
 pub outline_read : (kind : List ℕ) (byte : ℕ) (bytes : List ℕ → List ℕ) (last run begun mid left : List ℕ) → begun ≡ kind ++ mid → length kind ≡ 1 → get_or kind 0 0 ≡ byte → mid ≡ bytes run ++ left
     → run ≡ last → begun ≡ (byte ∷ bytes last) ++ left
 outline_read kind byte bytes last run begun mid left b n k m r =
     b ∙ ap₂ (λ front rest. front ++ rest) (one_byte kind byte n k) m ∙ ap (λ t. byte ∷ (bytes t ++ left)) r
 
--- three parts, one behind the other
+-- three parts, one after the other
 pub three_read : (first second third begun one two left : List ℕ) → begun ≡ first ++ one → one ≡ second ++ two → two ≡ third ++ left → begun ≡ (first ++ (second ++ third)) ++ left
 three_read first second third begun one two left a b c =
     a ∙ ap (λ t. first ++ t) (b ∙ ap (λ t. second ++ t) c ∙ sym (append_assoc second third left)) ∙ sym (append_assoc first (second ++ third) left)

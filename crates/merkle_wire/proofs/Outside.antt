@@ -11,7 +11,7 @@ use Rattle.merkle_tree_theory.specs.Gap.{Gap, IsAfter, IsBefore, SameBound, Same
 use Rattle.merkle_wire.specs.Coming.{AscendBetween, AscendIn}
 
 module _ {X K : Type 0} (cmp : K → K → Ordering) (key : X → K) (g : Gap K) where
-  -- where all keys ascend within the gap, those behind the first ones ascend behind a bound
+  -- where all keys ascend within the gap, those after the first ones ascend after a bound
   abbrev pub GoOnBehind : Option K → List X → List X → Type 0
   GoOnBehind after all behind = AscendIn cmp g (map key all) → AscendBetween cmp after g.before (map key behind)
 

@@ -18,7 +18,7 @@ use Rattle.merkle_tree_theory.specs.Tree.{Tree, page, Row, high, node, Held, not
 use Rattle.merkle_tree_theory.proofs.InGaps.{after_low, before_low, test_from_after, test_from_before}
 
 module _ {K D : Type 0} (cmp : K → K → Ordering) (o : IsTotalOrder cmp) where
-  -- where a key is found behind a pair of a map, it is above the pair's key
+  -- where a key is found after a pair of a map, it is above the pair's key
   pub above : (j : K) (qs : List (K × D)) (k : K) (d : D) → AllByRecursion (λ q. Below cmp j q.0) qs → get cmp qs k ≡ Some d → Below cmp j k
   above j [] k d a e = absurd (cc)
   above j (q ∷ qs) k d a e = go (which (is_eq (cmp q.0 k))) (above j qs k d a.1)
@@ -27,7 +27,7 @@ module _ {K D : Type 0} (cmp : K → K → Ordering) (o : IsTotalOrder cmp) wher
       go (inl n) more = more (sym (past_head cmp o q qs k n) ∙ e)
       go (inr n) more = low_up cmp o j q.0 k a.0 (same_up cmp o q.0 k (is_equal (cmp q.0 k) n))
 
-  -- a key that a map has is before a pair of it, at it, or behind it
+  -- a key that a map has is before a pair of it, at it, or after it
   abbrev pub IsParted : List (K × D) → K → D → List (K × D) → K → D → Type 0
   IsParted ps j e qs k d = (Below cmp k j × (get cmp ps k ≡ Some d)) ⊎ ((Same cmp k j × (e ≡ d)) ⊎ (Below cmp j k × (get cmp qs k ≡ Some d)))
 

@@ -41,7 +41,7 @@ both_true true b e = (refl, e)
 both_true false b e = absurd (cc)
 
 module _ {K : Type 0} (cmp : K → K → Ordering) (o : IsTotalOrder cmp) where
-  -- in a map each key is below those behind it
+  -- in a map each key is below those after it
   below_rest : {X : Type 0} (xs ys : List (K × X)) → IsMap cmp (xs ++ ys) → AllByRecursion (λ q. AllByRecursion (λ r. Below cmp q.0 r.0) ys) xs
   below_rest [] ys m = tt
   below_rest (x ∷ xs) ys m = (each-behind (λ r. Below cmp x.0 r.0) xs ys m.0, below_rest xs ys m.1)

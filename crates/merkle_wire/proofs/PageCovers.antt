@@ -86,7 +86,7 @@ module _ {K V H : Type 0} (laws : Laws K V H) (o : IsTotalOrder laws.cmp) (eqv :
   nodes_peers g =
       each-with (λ n. get laws.cmp (pairs tree) n.0 ≡ Some n.1) IsPeers (nodes_among (items g)) (λ n e. sym (at_tree n.0) ∙ e) (nodes_over_in laws.cmp o peer.format laws.bytes_of tree g up_tree)
 
-  -- no key that is lacked is hidden
+  -- no key that is missing is hidden
   pub none_hidden : HaveFaithfulPages laws local peer → (k : K) → Lacked k → (t : Tree K (List ℕ)) → IsPageIn t tree → HasPage laws local (page_digest peer.format laws.bytes_of t) → (d : List ℕ) → get laws.cmp (pairs t) k ≡ Some d → ⊥
   none_hidden faithful k (e, there, lacks) t i (s, (u, (form, own), j), digests) d f =
       let maps = faithful s t (u, (form, own), j) (tree, sides.is_tree, i) digests in

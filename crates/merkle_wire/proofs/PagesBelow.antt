@@ -40,7 +40,7 @@ module _ {K : Type 0} (cmp : K → K → Ordering) (o : IsTotalOrder cmp) where
     before_from_test cmp h.before k (sym (is_before-alike cmp o g.before h.before s.1 k) ∙ test_from_before cmp g.before k i.1),
   )
 
-  -- what is found behind other pairs of a map is found in it
+  -- what is found after other pairs of a map is found in it
   pub get_behind : {X : Type 0} (pre ps : List (K × X)) (k : K) (d : X) → IsMap cmp (pre ++ ps) → get cmp ps k ≡ Some d → get cmp (pre ++ ps) k ≡ Some d
   get_behind [] ps k d m e = e
   get_behind (p ∷ pre) ps k d m e = go (which (is_eq (cmp p.0 k))) (get_behind pre ps k d m.1 e)

@@ -38,7 +38,7 @@ module _ {K D : Type 0} (cmp : K → K → Ordering) (o : IsTotalOrder cmp) wher
   none_before k [] a = refl
   none_before k (p ∷ ps) a = rw (not_low cmp o p.0 k (λ low. not_both cmp o k p.0 (low_is_up cmp o k p.0 a.0) low)) (none_before k ps a.1)
 
-  -- what a map has before one of its keys, and what it has behind it
+  -- what a map has before one of its keys, and what it has after it
   before_key : (ps : List (K × D)) (k : K) (d : D) (qs : List (K × D)) → IsMap cmp (ps ++ (k, d) ∷ qs) → rows_at (is_before cmp (Some k)) (ps ++ (k, d) ∷ qs) ≡ ps
   before_key [] k d qs m = rw (not_low cmp o k k (not_low_self cmp o k)) (none_before k qs m.0)
   before_key (p ∷ ps) k d qs m = rw (map-before cmp (p ∷ ps) (k, d) qs m).0 (ap (λ w. p ∷ w) (before_key ps k d qs m.1))

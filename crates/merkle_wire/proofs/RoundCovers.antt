@@ -71,7 +71,7 @@ module _ {K V H : Type 0} (laws : Laws K V H) (o : IsTotalOrder laws.cmp) (eqv :
   abbrev Theirs : K × V → Type 0
   Theirs = IsRowOfPeer laws local peer
 
-  -- a key that is lacked isn't there with the peer's digest
+  -- a key that is missing isn't there with the peer's digest
   not_there : (k j : K) (d : List ℕ) → Lacked k → Same laws.cmp k j → get laws.cmp (tree_map laws peer) j ≡ Some d → get laws.cmp (tree_map laws local) j ≡ Some d → ⊥
   not_there k j d (e, there, lacks) s of_peer own =
       let is_d : Some e ≡ Some d = sym there ∙ get_same laws.cmp o (tree_map laws peer) k j s ∙ of_peer in
@@ -85,13 +85,13 @@ module _ {K V H : Type 0} (laws : Laws K V H) (o : IsTotalOrder laws.cmp) (eqv :
       go (inl n) = ap not n
       go (inr n) = absurd (not_there k j d l s of_peer (is_that (get laws.cmp (tree_map laws local) j) d n))
 
-  -- nodes of the peer of which one is lacked
+  -- nodes of the peer of which one is missing
   pub new_keys_cover : (nodes : List (K × List ℕ)) (k : K) → Lacked k → AllByRecursion (λ n. get laws.cmp (tree_map laws peer) n.0 ≡ Some n.1) nodes → AnyByRecursion (Same laws.cmp k) (keys_among nodes) → AnyByRecursion (Same laws.cmp k) (new_keys laws local nodes)
   new_keys_cover nodes k l a s =
       any-map (Same laws.cmp k) (λ n. n.0) (filter (λ n. not (has_digest laws local n.0 n.1)) nodes)
       (any-filter (λ n. Same laws.cmp k n.0) (λ n. get laws.cmp (tree_map laws peer) n.0 ≡ Some n.1) (λ n. not (has_digest laws local n.0 n.1)) (λ n t of_peer. no_digest k n.0 n.1 l t of_peer) nodes a (any-unmap (Same laws.cmp k) (λ n. n.0) nodes s))
 
-  -- of nodes of which one is lacked the side doesn't have all, up to equal keys
+  -- of nodes of which one is missing the side doesn't have all, up to equal keys
   none_lacked : (nodes : List (K × List ℕ)) (keys : List K) (k : K) → Lacked k → AllByRecursion (λ n. get laws.cmp (tree_map laws peer) n.0 ≡ Some n.1) nodes → SameKeys laws.cmp (keys_among nodes) keys
       → map (get laws.cmp (tree_map laws local)) keys ≡ map Some (map (λ n. n.1) nodes) → AnyByRecursion (Same laws.cmp k) (keys_among nodes) → ⊥
   none_lacked [] keys k l a s e i = i
@@ -118,7 +118,7 @@ module _ {K V H : Type 0} (laws : Laws K V H) (o : IsTotalOrder laws.cmp) (eqv :
   digests_at [] = refl
   digests_at (n ∷ ns) = ap (λ ds. n.digest ∷ ds) (digests_at ns)
 
-  -- of the nodes of a page of which one is lacked the side doesn't have all with the digest of these nodes, while digests are faithful
+  -- of the nodes of a page of which one is missing the side doesn't have all with the digest of these nodes, while digests are faithful
   pub has_not_all : HaveFaithfulNodes laws local peer → (s : Tree K (List ℕ)) → IsPageOf laws.cmp (laws.key_digest peer.hasher) peer.base s (tree_map laws peer) → (nodes : List (K × List ℕ)) → nodes ≡ map pair_of (nodes_of s)
       → (keys : List K) (digest : List ℕ) (k : K) → Lacked k → AllByRecursion (λ n. get laws.cmp (tree_map laws peer) n.0 ≡ Some n.1) nodes
       → SameKeys laws.cmp (keys_among nodes) keys → digest ≡ nodes_digest nodes → HasNodes laws local keys digest → AnyByRecursion (Same laws.cmp k) (keys_among nodes) → ⊥
@@ -162,7 +162,7 @@ module _ {K V H : Type 0} (laws : Laws K V H) (o : IsTotalOrder laws.cmp) (eqv :
   any_alike (r ∷ rs) (x ∷ ss) k s (inl t) = inl (o.congr k x.0 r.0 t ∙ tied_back o r.0 x.0 s.0.0)
   any_alike (r ∷ rs) (x ∷ ss) k s (inr i) = inr (any_alike rs ss k s.1 i)
 
-  -- a key that is lacked has a row
+  -- a key that is missing has a row
   pub has_row_there : (k : K) → Lacked k → get laws.cmp peer.rows k ≡ None → ⊥
   has_row_there k (d, there, lacks) none =
       let never : None ≡ Some d = ap (option_map (laws.value_digest peer.hasher)) (sym none) ∙ sym (get_digests laws.cmp o (laws.value_digest peer.hasher) peer.rows k) ∙ there in
@@ -178,7 +178,7 @@ module _ {K V H : Type 0} (laws : Laws K V H) (o : IsTotalOrder laws.cmp) (eqv :
       not_so true n = absurd (cc)
       not_so false n = refl
 
-  -- of rows of the peer one whose key is lacked is taken
+  -- of rows of the peer one whose key is missing is taken
   pub new_rows_cover : ((h : H) (a b : V) → laws.eq a b ≡ true → laws.value_digest h a ≡ laws.value_digest h b) → DigestTheirValuesAlike laws local peer
       → (rows : List (K × V)) (k : K) → Lacked k → AllByRecursion Theirs rows → AnyByRecursion (λ r. Same laws.cmp k r.0) rows → AnyByRecursion (λ r. Same laws.cmp k r.0) (new_rows laws local rows)
   new_rows_cover respects alike rows k l = any-filter (λ r. Same laws.cmp k r.0) Theirs (λ row. not (has_row laws local row)) passes rows

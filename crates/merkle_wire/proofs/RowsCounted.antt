@@ -42,7 +42,7 @@ module _ {K V H : Type 0} (laws : Laws K V H) (o : IsTotalOrder laws.cmp) (local
         total-less (λ (r : K × V). total (times_at laws.cmp r.0) ks) (λ r. times_in laws.cmp r.0 g) (λ r. ascend_times laws.cmp o r.0 g ks up) rows,
       )
 
-  -- with the rows in the gaps between them, or behind the last
+  -- with the rows in the gaps between them, or after the last
   pub parts_counted : (g : Gap K) (ks : List K) (pages : List (Option (List ℕ))) (new : List (Gap K)) → AreNewGaps laws local g ks pages new → AscendIn laws.cmp g ks → AreKeys ks → total In new + length ks ≤ In g
   parts_counted g ks pages new is up a =
       omega (

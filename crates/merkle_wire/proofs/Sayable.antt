@@ -39,7 +39,7 @@ use Rattle.merkle_wire.proofs.StepCovers.{finds_own}
 use Rattle.merkle_wire.proofs.TellingReplies.{Fits}
 
 module _ {K : Type 0} (cmp : K → K → Ordering) (o : IsTotalOrder cmp) where
-  -- what is above a key that parts a gap, and in the gap, is behind the key
+  -- what is above a key that parts a gap, and in the gap, is after the key
   behind_each : {X : Type 0} (g : Gap K) (k : K) (ps : List (K × X)) → AllByRecursion (λ p. Below cmp k p.0) ps → AllByRecursion (λ p. IsInGap cmp p.0 g) ps → AllByRecursion (λ p. IsInGap cmp p.0 (part_behind g k)) ps
   behind_each g k ps = each-both (λ p. Below cmp k p.0) (λ p. IsInGap cmp p.0 g) (λ p. IsInGap cmp p.0 (part_behind g k)) ps (λ p low inside. (low, inside.1))
 

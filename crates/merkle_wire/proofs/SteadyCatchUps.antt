@@ -342,7 +342,7 @@ module _ {K V H : Type 0} (laws : Laws K V H) (o : IsTotalOrder laws.cmp) (eqv :
     no_more_rounds rounds [] many some a = some refl
     no_more_rounds rounds (g ∷ gaps) many some ((t, f, low), a) = absurd (omega (arith, many, low))
 
-    -- so it is not taken for want of memory or for a limit alone
+    -- so it fails only when out of memory or at a limit
     pub memory_alone : (digest_of : K → List ℕ) (before : Underway K V) (question : Question K) (reply : List ℕ) (error : SessionError) → IsSteady laws (side peer) root before → SameQuestion laws.cmp encoding before.asked question
         → IsReply laws.cmp laws.bytes_of encoding values digest_of n peer.rows peer.tree question reply → IsStopped laws n encoding values is_key is_value local before reply error → IsMemoryOrLimit error
     memory_alone digest_of before question reply error s same is = by error

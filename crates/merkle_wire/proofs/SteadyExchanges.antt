@@ -1,5 +1,5 @@
 -- An exchange of messages with an honest peer whose rows and settings stayed as it answered, by any tree of its map: what comes next is steady, leaves less
--- to ask for, and has keys of the two sides alone; and the reply is refused for want of memory alone.
+-- to ask for, and has keys of the two sides alone; and the reply is refused only when out of memory.
 use Rattle.std.proofs.Common.{◌≡◌, ℕ, Bool, true, List, length, refl, sym, ap, subst, ◌∙◌, arith}
 use Rattle.std.specs.List.{AllByRecursion}
 use Rattle.std.specs.Cmp.{IsTotalOrder, IsEquivalence}
@@ -46,8 +46,8 @@ use Rattle.merkle_wire.proofs.SessionEnds.{leaves_less}
 use Rattle.merkle_wire.proofs.AskedNext.{next_steady}
 use Rattle.merkle_wire.proofs.SteadyCatchUps.{memory_alone, stay}
 
--- what comes of a reply: where it is taken, what comes next covers what is lacked, is steady, leaves less to ask for, and has keys of the two sides alone;
--- and it is refused for want of memory alone
+-- what comes of a reply: where it is taken, what comes next covers what is missing, is steady, leaves less to ask for, and has keys of the two sides alone;
+-- and it is refused only when out of memory
 pub record Comes {K V H : Type 0} (laws : Laws K V H) (n : ℕ) (encoding : K → List ℕ) (values : V → List ℕ) (local peer : Side K V H) (before : Underway K V) (reply : List ℕ) : Type 1 where
   pub covers : (next : Next K V) → IsNext laws n encoding values local before reply next → (root : Tree K (List ℕ)) → IsTreeOf laws.cmp (laws.key_digest peer.hasher) peer.base root (tree_map laws peer) → HasSmallMap laws n peer
       → Covers laws local peer root before → CoversNext laws local peer root encoding next
@@ -98,7 +98,7 @@ module _ {K V H : Type 0} (laws : Laws K V H) (o : IsTotalOrder laws.cmp) (eqv :
         subst (λ s. HasKeysNext laws local s next) same
         (next_keys laws o eqv encoding values tell n local peer peer.tree.root (sides peer.tree.root of_met small) (lengths small) digest_of before question reply next (subst (λ s. HasKeysOfSides laws local s before) (sym same) keys) alike replies comes)
 
-    -- and the reply is not taken for want of memory or for a limit alone
+    -- and the reply fails only when out of memory or at a limit
     stops_for_memory : (is_key : K → Type 0) (is_value : V → Type 0) (error : SessionError) → IsStopped laws n encoding values is_key is_value local before reply error
         → WhileSteady laws n (side met) (λ root. CanBeTold laws is_key is_value (side met) → IsMemoryOrLimit error) before
     stops_for_memory is_key is_value error stopped root of_peer small steady told =
@@ -133,7 +133,7 @@ module _ {K V H : Type 0} (laws : Laws K V H) (o : IsTotalOrder laws.cmp) (eqv :
       stops = stops_for_memory;
     }
 
--- a message has no reply for want of memory, where it asks something by the peer's settings
+-- a message has no reply when out of memory, where it asks something by the peer's settings
 pub unanswered_for_memory : (error : AnswerError) → (IsUnread error → ⊥) → (IsOfOthers error → ⊥) → error ≡ answer.Memory
 unanswered_for_memory answer.Memory unread others = refl
 unanswered_for_memory (answer.Malformed e) unread others = absurd (unread tt)

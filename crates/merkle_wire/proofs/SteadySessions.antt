@@ -1,4 +1,4 @@
--- A session with an honest peer, whatever carries the messages: each of its answers is taken, but for want of memory, and they come to an end.
+-- A session with an honest peer, whatever carries the messages: each of its answers is taken, unless out of memory, and they come to an end.
 use Rattle.std.proofs.Common.{◌≡◌, ℕ, ◌+◌, ◌*◌, ◌≤◌, Bool, true, List, [], ◌∷◌, length, refl, sym, ap, subst, ◌⊎◌, inl, inr, arith}
 use Rattle.std.proofs.lemmas.List.{length-map}
 use Rattle.std.specs.Cmp.{IsTotalOrder, IsEquivalence}

@@ -46,7 +46,7 @@ module _ {X Y : Type 0} (P : X → Y → Type 0) (bytes : X × Y → List ℕ) (
   pub continued_all : (asked : List X) (begun now : List ℕ) (i : ℕ) → IsContinued asked begun i now → length asked ≤ i → IsTelling asked begun now
   continued_all asked begun now i on all = on now (told_upto (drop i asked) now (inl (drop_all i asked all)))
 
-  -- behind a front of two bytes that answers, since at least one entry is told
+  -- after a front of two bytes that answers, since at least one entry is told
   pub telling_answers : (asked : List X) (begun reply : List ℕ) → length begun ≡ 2 → IsTelling asked begun reply → (told : List (X × Y)) × Answers P asked told × (reply ≡ begun ++ flat_map bytes told)
   telling_answers asked begun reply two t = (t.fits.told, record { left = t.fits.left; begins = t.fits.begins; some = some; each = t.holds }, t.fits.is)
     where

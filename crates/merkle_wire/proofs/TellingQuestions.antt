@@ -27,7 +27,7 @@ same_rest : (a b : ℕ) (r s : List ℕ) → a ∷ b ∷ r ≡ a ∷ b ∷ s →
 same_rest a b r s e = let f : b ∷ r ≡ b ∷ s = cc in cc
 
 module _ {K : Type 0} (cmp : K → K → Ordering) (encoding : K → List ℕ) where
-  -- equal bounds, behind which bytes go on alike
+  -- equal bounds, after which bytes go on alike
   abbrev pub SameBoundTold : Option K → Option K → Type 0
   SameBoundTold a b = SameBound cmp a b × ((last : List ℕ) → bound_key encoding last a ≡ bound_key encoding last b)
 

@@ -31,7 +31,7 @@ module _ {X Y : Type 0} (bytes : X × Y → List ℕ) (E : X → X → Type 0) (
       let (first, rest) = told t u (flat_map bytes ts) (flat_map bytes us) s.0 p.0 q.0 e in
       ((s.0, first), told_alike ts us l m s.1 p.1 q.1 rest)
 
--- how many bytes digests have, and that a page has a digest or none before each node and behind the last
+-- how many bytes digests have, and that a page has a digest or none before each node and after the last
 abbrev pub Fits : {K V : Type 0} → ℕ → Outline K V → Type 0
 Fits n (rows_told rows) = ⊤
 Fits n (digests_told nodes) = AllByRecursion (λ d. length d.1 ≡ n) nodes
@@ -56,7 +56,7 @@ pages_tell (p ∷ ps) (q ∷ qs) r s n a b e =
     let (rest, f) = pages_tell ps qs r s (omega (arith, n)) a.1 b.1 more in
     (λ i. first i ∷ rest i, f)
 
--- behind digests of pages there is another where others have more
+-- after digests of pages there is another where others have more
 pub pages_begin : (ps qs : List (Option (List ℕ))) (r s : List ℕ) → AllByRecursion IsPageDigest ps → AllByRecursion IsPageDigest qs → length ps < length qs → pages_bytes ps ++ r ≡ pages_bytes qs ++ s
     → (page : Option (List ℕ)) × (behind : List ℕ) × IsPageDigest page × (r ≡ option_bytes (λ d. d) page ++ behind)
 pages_begin ps [] r s a b n e = absurd (omega (arith, n))
@@ -65,7 +65,7 @@ pages_begin (p ∷ ps) (q ∷ qs) r s a b n e =
     pages_begin ps qs r s a.1 b.1 (omega (arith, n))
     (page_tells p q (pages_bytes ps ++ r) (pages_bytes qs ++ s) a.0 b.0 (sym (append_assoc (option_bytes (λ d. d) p) (pages_bytes ps) r) ∙ e ∙ append_assoc (option_bytes (λ d. d) q) (pages_bytes qs) s)).1
 
--- behind digests of n bytes there are as many where others have more
+-- after digests of n bytes there are as many where others have more
 pub digests_begin : (n : ℕ) (cs ds : List (List ℕ)) (r s : List ℕ) → AllByRecursion (λ d. length d ≡ n) cs → AllByRecursion (λ d. length d ≡ n) ds → length cs < length ds
     → flat_map (λ d. d) cs ++ r ≡ flat_map (λ d. d) ds ++ s → n ≤ length r
 digests_begin n cs [] r s a b l e = absurd (omega (arith, l))

@@ -80,7 +80,7 @@ module _ {K : Type 0} (cmp : K → K → Ordering) (o : IsTotalOrder cmp) (k : K
   total-same (i ∷ is) [] s = absurd s
   total-same (i ∷ is) (j ∷ js) s = omega (arith, at-same i j s.0, total-same is js s.1)
 
-  -- before a key that parts a gap, at it and behind it the key is as often as in the gap, at most
+  -- before a key that parts a gap, at it and after it the key is as often as in the gap, at most
   parted : (a low at up b : Bool)
       → ((low ≡ true) × (at ≡ false) × (up ≡ false) × (b ≡ true)) ⊎ (((low ≡ false) × (at ≡ true) × (up ≡ false) × (a ≡ true) × (b ≡ true)) ⊎ ((low ≡ false) × (at ≡ false) × (up ≡ true) × (a ≡ true)))
       → cond (a && low) 1 0 + (cond at 1 0 + cond (up && b) 1 0) ≤ cond (a && b) 1 0
@@ -92,7 +92,7 @@ module _ {K : Type 0} (cmp : K → K → Ordering) (o : IsTotalOrder cmp) (k : K
   parted a low at up b (inr (inl (el, ee, eu, ea, eb))) = rw (el, ee, eu, ea, eb) (omega arith)
   parted a low at up b (inr (inr (el, ee, eu, ea))) = rw (el, ee, eu, ea) (omega arith)
 
-  -- where the key is by one that parts a gap: before it, at it or behind it, and so within one bound or both
+  -- where the key is by one that parts a gap: before it, at it or after it, and so within one bound or both
   abbrev Where : Gap K → K → Type 0
   Where g j =
       ((below cmp k j ≡ true) × (is_eq (cmp k j) ≡ false) × (below cmp j k ≡ false) × (is_before cmp g.before k ≡ true))
@@ -117,7 +117,7 @@ module _ {K : Type 0} (cmp : K → K → Ordering) (o : IsTotalOrder cmp) (k : K
   ascend_times g [] up = omega arith
   ascend_times g (j ∷ ks) up = omega (arith, ascend_times (part_behind g j) ks up.2, part_times g j (up.0, up.1))
 
-  -- and then it isn't behind them
+  -- and then it isn't after them
   pub ascend_and_behind : {V : Type 0} (g : Gap K) (row : K × V) (rows : List (K × V)) → AscendIn cmp g (map (λ r. r.0) (row ∷ rows))
       → total (times_at cmp k) (map (λ r. r.0) (row ∷ rows)) + times_in cmp k (part_behind g (last_key row.0 rows)) ≤ times_in cmp k g
   ascend_and_behind g row [] up = omega (arith, part_times g row.0 (up.0, up.1))

@@ -22,7 +22,7 @@ use Rattle.merkle_wire.proofs.WrittenKeys.{told_as_keys}
 use Rattle.merkle_wire.proofs.TellingReplies.{Fits, SameRow, keys_tell, outline_some, outline_tells, page_tells, part_tells, pages_begin, digests_begin, rows_tell, same_length}
 use Rattle.merkle_wire.proofs.Outside.{ascend-same}
 
--- a byte at the front, and what is behind it
+-- a byte at the front, and what is after it
 first_byte : (a b : ℕ) (r s : List ℕ) → a ∷ r ≡ b ∷ s → (a ≡ b) × (r ≡ s)
 first_byte a b r s e = (cc, cc)
 
@@ -30,7 +30,7 @@ none_same : {X : Type 0} (E : X → X → Type 0) (xs : List X) → AllZip E xs 
 none_same E [] s = refl
 none_same E (x ∷ xs) s = absurd s
 
--- the digests of nodes, one behind the other, and what holds of them
+-- the digests of nodes, one after the other, and what holds of them
 pub flat_digests : {K : Type 0} (nodes : List (K × List ℕ)) → flat_map (λ d. d.1) nodes ≡ flat_map (λ d. d) (map (λ d. d.1) nodes)
 flat_digests [] = refl
 flat_digests (d ∷ ds) = ap (λ t. d.1 ++ t) (flat_digests ds)
@@ -40,7 +40,7 @@ each_digest n [] a = tt
 each_digest n (d ∷ ds) a = (a.0, each_digest n ds a.1)
 
 module _ {K : Type 0} (encoding : K → List ℕ) (is_key : K → Type 0) where
-  -- no keys behind a key
+  -- no keys after a key
   abbrev pub NoKeys : List ℕ → List ℕ → Type 0
   NoKeys last left = (keys : List K) (rest : List ℕ) → AllByRecursion is_key keys → left ≢ keys_told encoding last keys ++ rest
 
@@ -63,7 +63,7 @@ module _ {K : Type 0} (encoding : K → List ℕ) (is_key : K → Type 0) where
       none (wanted keys) rest (wanted_each keys are) (e ∙ ap (λ t. t ++ rest) (ap (keys_told encoding last) (sym (wanted_back keys)) ∙ sym (told_as_keys encoding last (wanted keys))))
 
 module _ {K : Type 0} (cmp : K → K → Ordering) (o : IsTotalOrder cmp) (encoding : K → List ℕ) (tells : (x y : K) → encoding x ≡ encoding y → Same cmp x y) (is_key : K → Type 0) where
-  -- what stands behind keys that were read
+  -- what stands after keys that were read
   behind_keys : (last : List ℕ) (keys others : List K) (tail left rest more : List ℕ) → left ≡ keys_told encoding last keys ++ rest → left ≡ (keys_told encoding last others ++ tail) ++ more
       → AllZip (Same cmp) others keys × (rest ≡ tail ++ more)
   behind_keys last keys others tail left rest more read e =
@@ -202,23 +202,23 @@ pub no_page_digest : (left : List ℕ) → ((flag : Bool) (more : List ℕ) → 
 no_page_digest left none None rest is e = none false rest e
 no_page_digest left none (Some d) rest is e = none true (d ++ rest) e
 
--- so many digests, one more than were read
+-- this many digests, one more than were read
 pub no_digests : (n count : ℕ) (left rest : List ℕ) (ds : List (List ℕ)) → left ≡ flat_map (λ d. d) ds ++ rest → AllByRecursion (λ d. length d ≡ n) ds → length ds < count → length rest < n → NoDigests n count left
 no_digests n count left rest ds read are few short others more many long e =
     let behind = digests_begin n ds others rest more are long (omega (arith, few, many)) (sym read ∙ e) in omega (arith, short, behind)
 
--- so many digests of pages
+-- this many digests of pages
 pub no_pages : (count : ℕ) (left rest : List ℕ) (ps : List (Option (List ℕ))) → left ≡ pages_bytes ps ++ rest → AllByRecursion IsPageDigest ps → length ps < count → NoPageDigest rest → NoPageDigests count left
 no_pages count left rest ps read are few none others more many long e =
     let (page, behind, is, f) = pages_begin ps others rest more are long (omega (arith, few, many)) (sym read ∙ e) in none page behind is f
 
--- the number of rows was read, and behind it no digest of a page stands
+-- the number of rows was read, and after it no digest of a page stands
 pub no_root-digest : (count : ℕ) (left rest : List ℕ) → left ≡ count_bytes count ++ rest → NoPageDigest rest → (all : List ℕ) → SaysRoot all → left ≢ all
 no_root-digest count left rest read none all (number, digest, few, is, said) e =
     let page = option_bytes (λ d. d) digest in
     none digest [] is ((count_told count number rest page (sym read ∙ e ∙ said)).1 ∙ sym (append-nil page))
 
--- or more stands behind that
+-- or more stands after that
 pub no_root-end : (count : ℕ) (digest : Option (List ℕ)) (left middle rest : List ℕ) → left ≡ count_bytes count ++ middle → middle ≡ option_bytes (λ d. d) digest ++ rest → IsPageDigest digest → rest ≢ []
     → (all : List ℕ) → SaysRoot all → left ≢ all
 no_root-end count digest left middle rest read then is more all (number, other, few, of, said) e =

@@ -1,4 +1,4 @@
--- A session of messages brings what is lacked, and when digests are faithful in one.
+-- A session of messages brings what is missing, and when digests are faithful in one.
 use Rattle.std.proofs.Common.{◌≡◌, ℕ, true, List, [], ◌∷◌, length, map, Some, refl, sym, ap, subst, ◌∙◌, arith}
 use Rattle.std.proofs.lemmas.List.{length-map}
 use Rattle.std.specs.Cmp.{IsTotalOrder, IsEquivalence}
@@ -52,7 +52,7 @@ module _ {K V H : Type 0} (laws : Laws K V H) (o : IsTotalOrder laws.cmp) (eqv :
       let (root, of_peer) = first_tree s.begun s.more rows s.exchanges in
       chain_brings s.begun s.more rows root of_peer s.exchanges (begun_covers laws encoding local peer root s.begun s.settings s.asks_root s.nothing_found)
 
--- digests of n bytes each, one behind the other, tell as many digests
+-- digests of n bytes each, one after the other, tell as many digests
 digests_tell : (n : ℕ) (ds es : List (List ℕ)) → AllByRecursion (λ d. length d ≡ n) ds → AllByRecursion (λ d. length d ≡ n) es → length ds ≡ length es → flat_map (λ d. d) ds ≡ flat_map (λ e. e) es → ds ≡ es
 digests_tell n [] [] a b c e = refl
 digests_tell n [] (y ∷ es) a b c e = absurd (omega (arith, c))

@@ -30,7 +30,7 @@ module _ {K : Type 0} (cmp : K → K → Ordering) where
   AscendIn g = AscendBetween g.after g.before
 
   -- the keys of what was told of the page over a gap ascend within it; a page that has others below it has a node, and a page or none before each
-  -- node and behind the last; and the digests of values have n bytes, those of pages 16
+  -- node and after the last; and the digests of values have n bytes, those of pages 16
   abbrev pub LiesIn : {V : Type 0} → ℕ → Gap K → Outline K V → Type 0
   LiesIn n g (rows_told rows) = AscendIn g (map (λ r. r.0) rows)
   LiesIn n g (digests_told nodes) = AscendIn g (map (λ d. d.0) nodes) × AllByRecursion (λ d. length d.1 ≡ n) nodes

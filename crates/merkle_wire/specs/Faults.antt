@@ -16,12 +16,12 @@ use Rattle.merkle_wire.specs.declared.session.MessagesError.TheVariants as messa
 use Rattle.merkle_wire.specs.declared.session_error.SessionError.{SessionError}
 use Rattle.merkle_wire.specs.declared.session_error.SessionError.TheVariants as session
 
--- why a message that was not read has no reply: want of memory, or where it is no message
+-- why a message that was not read has no reply: out of memory, or where it is no message
 abbrev pub unread_message : ReadError → AnswerError
 unread_message read.Memory = answer.Memory
 unread_message (read.Unexpected offset expected) = answer.Malformed (read.Unexpected offset expected)
 
--- why a reply that was not read ends a catch-up: want of memory, or where it is no reply
+-- why a reply that was not read ends a catch-up: out of memory, or where it is no reply
 abbrev pub unread_reply : ReadError → SessionError
 unread_reply read.Memory = session.Memory
 unread_reply (read.Unexpected offset expected) = session.Malformed (read.Unexpected offset expected)
@@ -43,7 +43,7 @@ abbrev pub OfMessage : {E : Type 0} → (AnswerError → Type 0) → KeptError E
 OfMessage Holds (Answer error) = Holds error
 OfMessage Holds (Rows error) = ⊤
 
--- a reply is refused for want of memory, or for this reason
+-- a reply is refused when out of memory, or for this reason
 abbrev pub IsRefusedFor : Type 0 → SessionError → Type 0
 IsRefusedFor reason session.Memory = ⊤
 IsRefusedFor reason (session.Malformed error) = reason

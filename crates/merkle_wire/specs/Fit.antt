@@ -31,7 +31,7 @@ module _ {K : Type 0} (cmp : K → K → Ordering) (is_key : K → Type 0) where
   abbrev pub AreNodesIn : ℕ → Gap K → List (K × List ℕ) → Type 0
   AreNodesIn n gap nodes = AscendIn cmp gap (map (λ d. d.0) nodes) × AllByRecursion (λ d. is_key d.0) nodes × AllByRecursion (λ d. length d.1 ≡ n) nodes
 
-  -- a page: its keys ascend in the gap, of which there is one, with a page or none before each of them and behind the last
+  -- a page: its keys ascend in the gap, of which there is one, with a page or none before each of them and after the last
   abbrev pub IsPageIn : Gap K → List ℕ → List K → List (Option (List ℕ)) → Type 0
   IsPageIn gap digest keys pages = (keys ≢ []) × AscendIn cmp gap keys × AllByRecursion is_key keys
       × (length digest ≡ 16) × (length pages ≡ length keys + 1) × AllByRecursion IsPageDigest pages

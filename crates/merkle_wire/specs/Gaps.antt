@@ -1,4 +1,4 @@
--- Gaps behind a key, as bytes.
+-- Gaps after a key, as bytes.
 use Rattle.std.specs.Prelude.{◌≡◌, ℕ, ◌≤◌, Bool, true, ◌&&◌, List, ◌++◌, length, Option}
 use denote.Ref.{Bor}
 use Rattle.std.proofs.Common.{sym, ap, ap₂, ◌∙◌, arith}
@@ -20,11 +20,11 @@ abbrev pub between : {K : Type 0} → Option (Bor K) → Option (Bor K) → Gap 
 between after before = record { after = bound_of after; before = bound_of before }
 
 module _ {K : Type 0} (encoding : K → List ℕ) where
-  -- the bound that its keys are above, and behind that the bound that they are below
+  -- the bound that its keys are above, and after that the bound that they are below
   abbrev pub gap_behind : List ℕ → Gap K → List ℕ
   gap_behind last g = bound_behind encoding last g.after ++ bound_behind encoding (bound_key encoding last g.after) g.before
 
-  -- the last key behind a gap
+  -- the last key after a gap
   abbrev pub gap_key : List ℕ → Gap K → List ℕ
   gap_key last g = bound_key encoding (bound_key encoding last g.after) g.before
 
@@ -37,7 +37,7 @@ module _ {K : Type 0} (is_key : K → Type 0) where
 
 module _ {K : Type 0} (encoding : K → List ℕ) (eq : K → K → Bool)
     (told : (x y : K) (r s : List ℕ) → encoding x ++ r ≡ encoding y ++ s → (eq x y ≡ true) × (r ≡ s)) where
-  -- bytes that begin with those of a gap tell its bounds, the last key behind it, and what is behind it
+  -- bytes that begin with those of a gap tell its bounds, the last key after it, and what is after it
   pub gap_told : (last : List ℕ) (a b : Gap K) (r s : List ℕ) → gap_behind encoding last a ++ r ≡ gap_behind encoding last b ++ s
       → (option_eq eq a.after b.after && option_eq eq a.before b.before ≡ true) × (gap_key encoding last a ≡ gap_key encoding last b) × (r ≡ s)
   gap_told last a b r s e =

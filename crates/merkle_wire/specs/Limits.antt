@@ -10,17 +10,17 @@ use Rattle.merkle_wire.specs.declared.session_error.SessionError.TheVariants as 
 abbrev pub no_limits : Limits
 no_limits = record { replies = None; rows = None; bytes = None }
 
--- a limit allows so many
+-- a limit allows this many
 abbrev pub Allows : Option ℕ → ℕ → Type 0
 Allows None number = ⊤
 Allows (Some most) number = number ≤ most
 
--- after so many more, this is left of a limit
+-- after this many more, this is left of a limit
 abbrev pub IsLeftOf : Option ℕ → ℕ → Option ℕ → Type 0
 IsLeftOf None number left = left ≡ None
 IsLeftOf (Some most) number left = (rest : ℕ) × (rest + number ≡ most) × (left ≡ Some rest)
 
--- a reply of so many bytes leaves this of the limits
+-- a reply of this many bytes leaves this of the limits
 pub record IsLeftAfter (reply : ℕ) (before after : Limits) : Type 0 where
   pub replies : IsLeftOf before.replies 1 after.replies
   pub bytes : IsLeftOf before.bytes reply after.bytes
@@ -31,13 +31,13 @@ abbrev pub IsAbove : ℕ → Option ℕ → Type 0
 IsAbove number None = ⊥
 IsAbove number (Some most) = most < number
 
--- a reply of so many bytes is one too many, or has too many bytes
+-- a reply of this many bytes is one too many, or has too many bytes
 abbrev pub IsOverLimit : ℕ → Limits → SessionError → Type 0
 IsOverLimit reply limits (session.Limit limit.Replies) = IsAbove 1 limits.replies
 IsOverLimit reply limits (session.Limit limit.Bytes) = IsAbove reply limits.bytes
 IsOverLimit reply limits _ = ⊥
 
--- so many rows are too many
+-- this many rows are too many
 abbrev pub IsOverRows : ℕ → Limits → SessionError → Type 0
 IsOverRows rows limits (session.Limit limit.Rows) = IsAbove rows limits.rows
 IsOverRows rows limits _ = ⊥

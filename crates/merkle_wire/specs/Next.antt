@@ -36,13 +36,13 @@ module _ {K V : Type 0} (cmp : K → K → Ordering) where
   abbrev pub HaveTwins : List (K × V) → Type 0
   HaveTwins rows = (first : K × V) × (next : K × V) × (others : List (K × V)) × IsPermutation rows (first ∷ next ∷ others) × Same cmp first.0 next.0
 
-  -- the rows don't come: memory was refused, or two of them have equal keys
+  -- the rows don't come: memory ran out, or two of them have equal keys
   abbrev pub IsTwice : List (K × V) → SessionError → Type 0
   IsTwice rows Memory = ⊤
   IsTwice rows Twice = HaveTwins rows
   IsTwice rows _ = ⊥
 
-  -- a catch-up doesn't go on: memory was refused, outlines are to be asked for after 256 rounds of them, or nothing is and of the rows two have equal
+  -- a catch-up doesn't go on: memory ran out, outlines are to be asked for after 256 rounds of them, or nothing is and of the rows two have equal
   -- keys
   abbrev pub IsEnded : ℕ → Found K V → SessionError → Type 0
   IsEnded rounds found Memory = ⊤
@@ -61,7 +61,7 @@ IsCame cmp rows (Ask session message) = ⊥
 IsCame cmp rows (Came came) = IsPermutation rows came.items × IsMap cmp came.items
 
 module _ {K V : Type 0} (encoding : K → List ℕ) where
-  -- the question is asked, with what was found besides, in so many rounds
+  -- the question is asked, with what was found besides, in this many rounds
   abbrev pub IsAsked : Question K → Found K V → ℕ → Next K V → Type 0
   IsAsked question found rounds (Ask session message) =
       (message.items ≡ question_bytes encoding question)
@@ -91,7 +91,7 @@ module _ {K V H : Type 0} (laws : Laws K V H) (n : ℕ) (encoding : K → List �
   abbrev pub Takes : Contents K V H → Underway K V → List ℕ → Next K V → Type 0
   Takes replica before reply next = IsNext (side replica) before reply next
 
-  -- it is not taken, where bytes of keys and values are those of which these hold: memory was refused, it is no reply to what was asked, or it goes
+  -- it is not taken, where bytes of keys and values are those of which these hold: memory ran out, it is no reply to what was asked, or it goes
   -- over a limit; else it could be taken, but the catch-up doesn't go on
   abbrev pub IsStopped : (K → Type 0) → (V → Type 0) → Side K V H → Underway K V → List ℕ → SessionError → Type 0
   IsStopped is_key is_value local before reply Memory = ⊤
@@ -109,7 +109,7 @@ abbrev pub HasLeft : {K V : Type 0} → Limits → Next K V → Type 0
 HasLeft left (Ask session message) = (session.left ≡ left) × Allows left.rows (length session.found.rows)
 HasLeft left (Came rows) = Allows left.rows (length rows.items)
 
--- a reply of so many bytes is taken off the limits, and the rows that were found are within them
+-- a reply of this many bytes is taken off the limits, and the rows that were found are within them
 abbrev pub StaysWithin : {K V : Type 0} → Underway K V → ℕ → Next K V → Type 0
 StaysWithin before reply next = (left : Limits) × IsLeftAfter reply before.left left × HasLeft left next
 

@@ -9,7 +9,7 @@ use Rattle.merkle_tree_theory.specs.Outline.{Item, of_node, of_page}
 use Rattle.merkle_wire.specs.RowsAt.{AreRowsAt}
 
 -- rows; keys with the digests of their values; or a page with others below it: the digest of its nodes, their keys, and the digest of the
--- page before each of them and of that behind the last
+-- page before each of them and of that after the last
 pub data Outline (K V : Type 0) : Type 0 where
   rows_told : List (K × V) → Outline K V
   digests_told : List (K × List ℕ) → Outline K V
@@ -22,7 +22,7 @@ module _ {K : Type 0} where
   nodes_among (of_node k d ∷ xs) = (k, d) ∷ nodes_among xs
   nodes_among (of_page g d ∷ xs) = nodes_among xs
 
-  -- the digest of the page before each node and of that behind the last, where `before` is what stands before the first item
+  -- the digest of the page before each node and of that after the last, where `before` is what stands before the first item
   abbrev pub pages_beside : Option (List ℕ) → List (Item K (List ℕ)) → List (Option (List ℕ))
   pages_beside before [] = before ∷ []
   pages_beside before (of_node k d ∷ xs) = before ∷ pages_beside None xs
@@ -38,7 +38,7 @@ module _ {K : Type 0} where
   abbrev pub keys_among : List (K × List ℕ) → List K
   keys_among = map (λ p. p.0)
 
--- the digest of digests, one behind the other
+-- the digest of digests, one after the other
 abbrev pub digest_of_all : List (List ℕ) → List ℕ
 digest_of_all ds = siphash128 zero_key (flat_map (λ d. d) ds)
 
@@ -62,7 +62,7 @@ module _ {K V : Type 0} (cmp : K → K → Ordering) (rows : List (K × V)) wher
       (with_pages ≡ true) × (digest ≡ nodes_digest (nodes_among items)) × (keys ≡ keys_among (nodes_among items)) × (pages ≡ pages_beside None items)
 
 module _ {K : Type 0} (encoding : K → List ℕ) where
-  -- how many keys there are, and the keys, each behind the one before
+  -- how many keys there are, and the keys, each after the one before
   abbrev pub keys_told : List ℕ → List K → List ℕ
   keys_told = run_bytes (λ last k. key_behind last (encoding k)) (λ last k. encoding k)
 
@@ -71,7 +71,7 @@ abbrev pub pages_bytes : List (Option (List ℕ)) → List ℕ
 pages_bytes = flat_map (option_bytes (λ d. d))
 
 module _ {K V : Type 0} (encoding : K → List ℕ) (values : V → List ℕ) where
-  -- the bytes of what is told, behind a key
+  -- the bytes of what is told, after a key
   abbrev pub outline_bytes : List ℕ → Outline K V → List ℕ
   outline_bytes last (rows_told rows) = 0 ∷ run_bytes (row_behind encoding values) (row_key encoding) last rows
   outline_bytes last (digests_told nodes) = 1 ∷ (keys_told encoding last (keys_among nodes) ++ flat_map (λ p. p.1) nodes)

@@ -29,7 +29,7 @@ abbrev pub FindsNoRun : {X S : Type 0} → (S → X → List ℕ) → (S → X �
 FindsNoRun bytes next is_entry s reader error = IsMalformed error → IsNoRun bytes next is_entry s reader.left.now
 
 module _ {K : Type 0} (encoding : K → List ℕ) where
-  -- gaps, each behind the last key of the one before
+  -- gaps, each after the last key of the one before
   abbrev pub gaps_bytes : List (OwnedGap K) → List ℕ
   gaps_bytes = run_bytes (λ last g. gap_behind encoding last (owned_gap g)) (λ last g. gap_key encoding last (owned_gap g)) []
 
@@ -37,7 +37,7 @@ module _ {K : Type 0} (encoding : K → List ℕ) where
   abbrev pub counted_gaps_bytes : Kind → ℕ → List (OwnedGap K) → List ℕ
   counted_gaps_bytes kind most gaps = (front kind ++ count_bytes most) ++ gaps_bytes gaps
 
-  -- keys, each behind the one before
+  -- keys, each after the one before
   abbrev pub keys_bytes : List ℕ → List (Wanted K) → List ℕ
   keys_bytes = run_bytes (λ last w. key_behind last (encoding w.key)) (λ last w. encoding w.key)
 

@@ -32,16 +32,16 @@ pub record Answers {X Y : Type 0} (P : X → Y → Type 0) (asked : List X) (tol
   pub some : asked ≢ [] → told ≢ []
   pub each : AllByRecursion (λ t. P t.0 t.1) told
 
--- each entry fits behind the bytes that stand before it, and those before the first begin so
+-- each entry fits after the bytes that stand before it, and those before the first begin so
 abbrev pub EachFits : {X : Type 0} → (X → List ℕ) → (List ℕ → X → Type 0) → List ℕ → List X → Type 0
 EachFits bytes Fits begun [] = ⊤
 EachFits bytes Fits begun (t ∷ ts) = Fits begun t × EachFits bytes Fits (begun ++ bytes t) ts
 
--- behind these bytes of a reply there is room for an entry: they are fewer than so many, or the two of the front
+-- after these bytes of a reply there is room for an entry: they are fewer than this many, or the two of the front
 abbrev pub HasRoom : ℕ → List ℕ → Type 0
 HasRoom most bytes = length bytes < max most 3
 
--- behind these there is none
+-- after these there is none
 abbrev pub IsFull : ℕ → List ℕ → Type 0
 IsFull most bytes = max most 3 ≤ length bytes
 
@@ -65,14 +65,14 @@ module _ {K V : Type 0} (cmp : K → K → Ordering) (rows : List (K × V)) wher
   IsPartOf gap part = (more : List (K × V)) × (pairs_within cmp (owned_gap gap) rows ≡ part.rows ++ more) × (part.whole ≡ true → more ≡ []) × (part.whole ≡ false → part.rows ≢ [])
 
 module _ {K V : Type 0} (encoding : K → List ℕ) (values : V → List ℕ) where
-  -- outlines, each behind the bound that the keys of its gap are above
+  -- outlines, each after the bound that the keys of its gap are above
   abbrev pub outline_over_bytes : OwnedGap K × Outline K V → List ℕ
   outline_over_bytes t = outline_bytes encoding values (bound_key encoding [] t.0.after) t.1
 
   abbrev pub outlines_bytes : List (OwnedGap K × Outline K V) → List ℕ
   outlines_bytes = flat_map outline_over_bytes
 
-  -- rows behind a key
+  -- rows after a key
   abbrev pub rows_bytes : List ℕ → List (K × V) → List ℕ
   rows_bytes = entries_bytes (row_behind encoding values) (row_key encoding)
 
@@ -90,7 +90,7 @@ module _ {K V : Type 0} (encoding : K → List ℕ) (values : V → List ℕ) wh
   abbrev pub length_with_rows : List ℕ → OwnedGap K → List (K × V) → ℕ
   length_with_rows bytes gap rows = length bytes + length (rows_bytes (bound_key encoding [] gap.after) rows)
 
-  -- a part has all rows, or ends with the row by which there are so many bytes, which leaves no room for another part
+  -- a part has all rows, or ends with the row by which there are this many bytes, which leaves no room for another part
   abbrev pub RowsFit : ℕ → List ℕ → OwnedGap K × Part K V → Type 0
   RowsFit most bytes t = ((i : ℕ) → i ≢ 0 → i < length t.1.rows → length_with_rows bytes t.0 (take i t.1.rows) < most)
       × ((t.1.whole ≡ true) ⊎ (most ≤ length_with_rows bytes t.0 t.1.rows))
@@ -102,20 +102,20 @@ value_at_bytes values t = option_bytes values t.1
 abbrev pub values_bytes : {K V : Type 0} → (V → List ℕ) → List (Wanted K × Option V) → List ℕ
 values_bytes values = flat_map (value_at_bytes values)
 
--- a reply that begins so tells the values at all keys, or at the first up to that by which it has so many bytes
+-- a reply that begins so tells the values at all keys, or at the first up to that by which it has this many bytes
 abbrev pub ValuesFit : {K V : Type 0} → (V → List ℕ) → ℕ → List (Wanted K) → List ℕ → List ℕ → Type 0
 ValuesFit values most = TellsWhatFits (value_at_bytes values) (λ bytes t. HasRoom most bytes) most
 
 module _ {K V : Type 0} (encoding : K → List ℕ) (values : V → List ℕ) where
-  -- it tells the outlines over all gaps, or over the first up to that by which it has so many bytes
+  -- it tells the outlines over all gaps, or over the first up to that by which it has this many bytes
   abbrev pub OutlinesFit : ℕ → List (OwnedGap K) → List ℕ → List ℕ → Type 0
   OutlinesFit most = TellsWhatFits (outline_over_bytes encoding values) (λ bytes t. HasRoom most bytes) most
 
-  -- it tells the rows in all gaps, or in the first, and of the rows in a gap all, or the first, up to that by which it has so many bytes
+  -- it tells the rows in all gaps, or in the first, and of the rows in a gap all, or the first, up to that by which it has this many bytes
   abbrev pub PartsFit : ℕ → List (OwnedGap K) → List ℕ → List ℕ → Type 0
   PartsFit most = TellsWhatFits (part_in_bytes encoding values) (λ bytes t. HasRoom most bytes × RowsFit encoding values most bytes t) most
 
-  -- the reply to a question tells all that it asks for, or the first of it up to that by which it has so many bytes
+  -- the reply to a question tells all that it asks for, or the first of it up to that by which it has this many bytes
   abbrev pub EndsWithin : ℕ → Question K → List ℕ → Type 0
   EndsWithin most (Root settings) reply = ⊤
   EndsWithin most (Outlines n gaps) reply = OutlinesFit most gaps.items (front outlines_kind) reply

@@ -5,7 +5,7 @@ use Rattle.key_order.specs.Order.{Same}
 use Rattle.key_order.specs.Map.{get}
 
 module _ {K V : Type 0} (cmp : K → K → Ordering) (rows : List (K × V)) where
-  -- `found` has the row at each of the keys, one behind the other, but for keys that aren't there
+  -- `found` has the row at each of the keys, one after the other, but for keys that aren't there
   abbrev pub AreRowsAt : List K → List (K × V) → Type 0
   AreRowsAt [] found = found ≡ []
   AreRowsAt (k ∷ ks) found =

@@ -87,7 +87,7 @@ module _ {K V H : Type 0} (laws : Laws K V H) (local peer : Side K V H) where
     pub nodes : HaveFaithfulNodes
     pub values : DigestTheirValuesAlike
 
-  -- the nodes of no page of the peer collide: where their digest is equal on both sides, the digests of the values, one behind the other, are the
+  -- the nodes of no page of the peer collide: where their digest is equal on both sides, the digests of the values, one after the other, are the
   -- same bytes
   abbrev pub NoNodesCollide : Type 0
   NoNodesCollide = (ds es : List (List ℕ)) → HaveOneNodesDigest ds es → flat_map (λ d. d) ds ≡ flat_map (λ e. e) es
@@ -106,7 +106,7 @@ module _ {K V H : Type 0} (laws : Laws K V H) (local peer : Side K V H) where
     pub new : AllByRecursion IsNewRow rows
     pub all : IsFaithfulSession → (k : K) → IsLacked laws local peer k → AnyByRecursion (λ r. Same laws.cmp k r.0) rows
 
-  -- so many such rows are joined
+  -- this many such rows are joined
   abbrev pub HasJoined : ℕ → List (K × V) → Type 0
   HasJoined joined after = (rows : List (K × V)) × (joined ≡ length rows) × AreBrought rows × IsJoin laws.cmp laws.eq laws.join local.rows rows after
 
@@ -122,11 +122,11 @@ module _ {K V H : Type 0} (laws : Laws K V H) (replica peer : Contents K V H) wh
   BringsRows rows = AreBrought laws (side replica) (side peer) rows.items
 
   module _ (after : Contents K V H) where
-    -- the replica has joined so many of them
+    -- the replica has joined this many of them
     abbrev pub JoinsNewRows : ℕ → Type 0
     JoinsNewRows joined = HasJoined laws (side replica) (side peer) joined after.rows
 
-    -- while digests are faithful, to have joined so many rows is a catch-up
+    -- while digests are faithful, to have joined this many rows is a catch-up
     abbrev pub CatchesUpWhileFaithful : ℕ → Type 0
     CatchesUpWhileFaithful joined = IsFaithfulSession laws (side replica) (side peer) → IsCatchUpOf laws (side replica) (side peer) joined after.rows
 
@@ -139,7 +139,7 @@ module _ {K V H : Type 0} (laws : Laws K V H) (replica peer : Contents K V H) wh
     EndsEarly error = IsMessagesRefused laws (side replica) (side peer) error after.rows
 
 module _ {K V H : Type 0} (laws : Laws K V H) where
-  -- a has joined so many rows of b, and then b so many of a
+  -- a has joined this many rows of b, and then b this many of a
   abbrev pub HaveJoined : Contents K V H → Contents K V H → Contents K V H → Contents K V H → ℕ × ℕ → Type 0
   HaveJoined a b a' b' joined =
       HasJoined laws (side a) (side b) joined.0 a'.rows × HasJoined laws (side b) (with_rows (side a) a'.rows) joined.1 b'.rows
@@ -180,7 +180,7 @@ module _ {K V H : Type 0} (laws : Laws K V H) (local peer : Side K V H) (root : 
     pub new : AllByRecursion (IsNewRow laws local peer) u.found.rows
     pub all : IsFaithfulSession laws local peer → (k : K) → IsLacked laws local peer k → AsksAbout laws peer root k u.asked ⊎ IsAmong laws peer root k u.found
 
-  -- the message that is sent next asks what the catch-up asks, which covers what is lacked; or the rows came
+  -- the message that is sent next asks what the catch-up asks, which covers what is missing; or the rows came
   abbrev pub CoversNext : (K → List ℕ) → Next K V → Type 0
   CoversNext encoding (Ask session message) = (message.items ≡ question_bytes encoding session.asked) × Covers session
   CoversNext encoding (Came rows) = AreBrought laws local peer rows.items

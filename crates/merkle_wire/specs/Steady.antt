@@ -128,7 +128,7 @@ module _ {K V H : Type 0} (laws : Laws K V H) (peer : Side K V H) (root : Tree K
   LeavesLess before (Ask session message) = left_for session < left_for before
   LeavesLess before (Came rows) = ⊤
 
--- memory was refused, or a limit was reached
+-- memory ran out, or a limit was reached
 abbrev pub IsMemoryOrLimit : SessionError → Type 0
 IsMemoryOrLimit session.Memory = ⊤
 IsMemoryOrLimit (session.Limit limit) = ⊤
@@ -160,7 +160,7 @@ module _ {K V H : Type 0} (laws : Laws K V H) (local peer : Side K V H) where
   HasKeysNext (Ask session message) = HasKeysOfSides session
   HasKeysNext (Came rows) = ⊤
 
-  -- between sides that are set alike and whose rows can be told, a message has no reply, and a reply isn't taken, for want of memory alone
+  -- between sides that are set alike and whose rows can be told, only a lack of memory leaves a message without a reply, or a reply not taken
   module _ (is_key : K → Type 0) (is_value : V → Type 0) where
     abbrev pub IsForMemory : MessagesError → Type 0
     IsForMemory (Answer error) = AreSetAlike laws local peer → CanBeTold laws is_key is_value local → CanBeTold laws is_key is_value peer → error ≡ answer.Memory
@@ -186,7 +186,7 @@ module _ {K V H : Type 0} (laws : Laws K V H) (n : ℕ) (peer : Side K V H) wher
   KeepsKeys local next = HasSmallMap laws n peer → HasKeysNext laws local peer next
 
 module _ {K V H : Type 0} (laws : Laws K V H) where
-  -- between replicas that are set alike and whose rows can be told, a session ends early for want of memory alone
+  -- between replicas that are set alike and whose rows can be told, a session ends early only when out of memory
   abbrev pub LacksMemory : Contents K V H → Contents K V H → (K → Type 0) → (V → Type 0) → MessagesError → Type 0
   LacksMemory replica peer is_key is_value fault = IsForMemory laws (side replica) (side peer) is_key is_value fault
 
@@ -213,7 +213,7 @@ module _ {K V H : Type 0} (laws : Laws K V H) (n : ℕ) (encoding : K → List �
   SessionsEnd = (local peer : Side K V H) → IsMap laws.cmp local.rows → IsMap laws.cmp peer.rows → HasSmallMap laws n peer
       → (begun last : Underway K V) (more : List (Underway K V)) → IsBegun begun → AreExchangesTo local peer begun more last → length more ≤ 3 * length peer.rows + 2
 
-  -- and an answer of a peer whose rows can be told is not taken then for want of memory or for a limit alone
+  -- and an answer of a peer whose rows can be told fails then only when out of memory or at a limit
   abbrev pub AnswersAreTaken : (K → Type 0) → (V → Type 0) → Type 0
   AnswersAreTaken is_key is_value = (local peer : Side K V H) → IsMap laws.cmp local.rows → IsMap laws.cmp peer.rows → HasSmallMap laws n peer → CanBeTold laws is_key is_value peer
       → (begun last : Underway K V) (more : List (Underway K V)) → IsBegun begun → AreExchangesTo local peer begun more last

@@ -33,7 +33,7 @@ use Rattle.merkle_wire.specs.declared.session_error.SessionError.{SessionError}
 use Rattle.merkle_wire.specs.declared.wanted.Wanted.{Wanted}
 
 module _ {K V : Type 0} (cmp : K → K → Ordering) where
-  -- the gap behind the last of the rows, of which there is one, is added
+  -- the gap after the last of the rows, of which there is one, is added
   abbrev pub AddsBehind : List (K × V) → OwnedGap K → List (OwnedGap K) → List (OwnedGap K) → Type 0
   AddsBehind rows gap left left' = (row : K × V) × (behind : List (K × V)) × (own : OwnedGap K) × (rows ≡ row ∷ behind)
       × SameGap cmp (part_behind (owned_gap gap) (last_key row.0 behind)) (owned_gap own) × (left' ≡ left ++ own ∷ [])
@@ -63,7 +63,7 @@ module _ {K V H : Type 0} (laws : Laws K V H) (tree : State K H) where
       × Reads old (option_bytes (λ d. d) page) new × IsPageDigest page
       × ForItsRows laws tree (λ local. IsNewGap laws local gap page gaps) × (after ≡ record before { below = before.below ++ gaps })
 
-  -- so were those of the pages before the keys and behind the last
+  -- so were those of the pages before the keys and after the last
   abbrev pub TakesPages : OwnedGap K → List (Wanted K) → Reader → Reader → Found K V → Found K V → Type 0
   TakesPages gap keys old new before after = (pages : List (Option (List ℕ))) × (gaps : List (Gap K))
       × Reads old (pages_bytes pages) new × AllByRecursion IsPageDigest pages × (length pages ≡ length (map (λ w. w.key) keys) + 1)
@@ -82,7 +82,7 @@ module _ {K V H : Type 0} (laws : Laws K V H) (tree : State K H) where
       × ForItsRows laws tree (λ local. AddsKeys laws local nodes before after)
 
 module _ {K V H : Type 0} (laws : Laws K V H) (n : ℕ) (encoding : K → List ℕ) (tree : State K H) where
-  -- keys behind a key were read, with digests of their values, in a gap, and taken
+  -- keys after a key were read, with digests of their values, in a gap, and taken
   abbrev pub TakesDigests : List ℕ → OwnedGap K → Reader → Reader → Found K V → Found K V → Type 0
   TakesDigests last gap old new before after = (nodes : List (K × List ℕ))
       × Reads old (keys_told encoding last (keys_among nodes) ++ flat_map (λ d. d.1) nodes) new
@@ -97,7 +97,7 @@ module _ {K V H : Type 0} (laws : Laws K V H) (n : ℕ) (encoding : K → List �
       × ForItsRows laws tree (λ local. IsTaken laws local (owned_gap gap) (page_told digest keys pages) before after)
 
 module _ {K V H : Type 0} (laws : Laws K V H) (encoding : K → List ℕ) (values : V → List ℕ) (tree : State K H) where
-  -- rows behind a key were read, in a gap, and taken
+  -- rows after a key were read, in a gap, and taken
   abbrev pub TakesRows : List ℕ → OwnedGap K → Reader → Reader → Found K V → Found K V → Type 0
   TakesRows last gap old new before after = (rows : List (K × V))
       × Reads old (run_bytes (row_behind encoding values) (row_key encoding) last rows) new
@@ -110,7 +110,7 @@ module _ {K V H : Type 0} (laws : Laws K V H) (n : ℕ) (encoding : K → List �
       × Reads old (outline_bytes encoding values (bound_key encoding [] gap.after) told) new
       × LiesIn laws.cmp n (owned_gap gap) told × ForItsRows laws tree (λ local. IsTaken laws local (owned_gap gap) told before after)
 
-  -- so was what was told of the pages over the first gaps, so many of them
+  -- so was what was told of the pages over the first gaps, this many of them
   abbrev pub TakesOutlinesOf : List (OwnedGap K) → Reader → Reader → Found K V → Found K V → ℕ → Type 0
   TakesOutlinesOf gaps old new before after count = (count ≤ length gaps)
       × ((told : List (OwnedGap K × Outline K V)) × (map (λ t. t.0) told ≡ take count gaps)
@@ -131,7 +131,7 @@ module _ {K V H : Type 0} (laws : Laws K V H) (n : ℕ) (encoding : K → List �
   abbrev pub TakesParts : Vec (OwnedGap K) → List ℕ → Found K V → Found K V → Vec (OwnedGap K) → Type 0
   TakesParts gaps reply before after left = ForItsRows laws tree (λ local. HasParts laws n encoding values local gaps.items reply before after left.items)
 
-  -- a part of the rows in a gap was read, and taken; the gap behind it is added where there are more
+  -- a part of the rows in a gap was read, and taken; the gap after it is added where there are more
   abbrev pub TakesPart : OwnedGap K → Reader → Reader → Vec (OwnedGap K) → Vec (OwnedGap K) → Found K V → Found K V → Type 0
   TakesPart gap old new left left' before after = (part : Part K V) × (behind : List (OwnedGap K))
       × Reads old (part_bytes encoding values (bound_key encoding [] gap.after) part) new
@@ -139,7 +139,7 @@ module _ {K V H : Type 0} (laws : Laws K V H) (n : ℕ) (encoding : K → List �
       × ForItsRows laws tree (λ local. IsBehind laws local (owned_gap gap) part behind)
       × (left'.items ≡ left.items ++ behind) × ForItsRows laws tree (λ local. AddsRows laws local part.rows before after)
 
-  -- so were parts of the first gaps, so many of them
+  -- so were parts of the first gaps, this many of them
   abbrev pub TakesPartsOf : List (OwnedGap K) → Reader → Reader → Vec (OwnedGap K) → Vec (OwnedGap K) → Found K V → Found K V → ℕ → Type 0
   TakesPartsOf gaps old new left left' before after count = (count ≤ length gaps)
       × ((told : List (OwnedGap K × Part K V)) × (behind : List (OwnedGap K)) × (map (λ t. t.0) told ≡ take count gaps)
@@ -149,17 +149,17 @@ module _ {K V H : Type 0} (laws : Laws K V H) (n : ℕ) (encoding : K → List �
       × ForItsRows laws tree (λ local. AddsRows laws local (flat_map (λ t. t.1.rows) told) before after))
 
 module _ {K : Type 0} (cmp : K → K → Ordering) (is_key : K → Type 0) (encoding : K → List ℕ) where
-  -- a reply is refused for want of memory, or where no nodes in the gap stood at the front, behind a key
+  -- a reply is refused when out of memory, or where no nodes in the gap stood at the front, after a key
   abbrev pub RefusesNodes : ℕ → List ℕ → OwnedGap K → Reader → SessionError → Type 0
   RefusesNodes n last gap reader = IsRefusedFor (NoNodes cmp is_key encoding n last gap reader.left.now)
 
 module _ {K V : Type 0} (is_value : V → Type 0) (values : V → List ℕ) where
-  -- a reply to keys is refused for want of memory, or where it says no values at the first of them
+  -- a reply to keys is refused when out of memory, or where it says no values at the first of them
   abbrev pub RefusesValues : Vec (Wanted K) → List ℕ → SessionError → Type 0
   RefusesValues keys reply = IsRefusedFor (SaysNot rows_at_kind (SaysValues is_value values keys.items) reply)
 
 module _ {K V : Type 0} (cmp : K → K → Ordering) (is_key : K → Type 0) (is_value : V → Type 0) (encoding : K → List ℕ) (values : V → List ℕ) where
-  -- a reply is refused for want of memory, or where no rows in the gap stood at the front, behind a key
+  -- a reply is refused when out of memory, or where no rows in the gap stood at the front, after a key
   abbrev pub RefusesRows : List ℕ → OwnedGap K → Reader → SessionError → Type 0
   RefusesRows last gap reader = IsRefusedFor (NoRows cmp is_key is_value encoding values last gap reader.left.now)
 

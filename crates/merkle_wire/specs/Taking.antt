@@ -114,12 +114,12 @@ module _ {K V H : Type 0} (laws : Laws K V H) (local : Side K V H) where
   AreTaken [] before after = after ≡ before
   AreTaken (t ∷ ts) before after = (mid : Found K V) × IsTaken (owned_gap t.0) t.1 before mid × AreTaken ts mid after
 
-  -- the gap behind the last of the rows, up to equal keys, where they are not all
+  -- the gap after the last of the rows, up to equal keys, where they are not all
   abbrev pub IsBehind : Gap K → Part K V → List (OwnedGap K) → Type 0
   IsBehind gap part left = (part.whole ≡ true × left ≡ []) ⊎ ((row : K × V) × (rows : List (K × V)) × (own : OwnedGap K)
       × (part.whole ≡ false) × (part.rows ≡ row ∷ rows) × SameGap laws.cmp (part_behind gap (last_key row.0 rows)) (owned_gap own) × (left ≡ own ∷ []))
 
-  -- the gaps behind parts, one behind the other
+  -- the gaps after parts, one after the other
   abbrev pub AreBehind : List (OwnedGap K × Part K V) → List (OwnedGap K) → Type 0
   AreBehind [] left = left ≡ []
   AreBehind (t ∷ ts) left = (first : List (OwnedGap K)) × (rest : List (OwnedGap K)) × IsBehind (owned_gap t.0) t.1 first × AreBehind ts rest × (left ≡ first ++ rest)

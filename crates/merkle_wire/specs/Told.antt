@@ -24,7 +24,7 @@ use Rattle.merkle_wire.specs.declared.nodes.ToldRows.{ToldRows}
 use Rattle.merkle_wire.specs.declared.outlines.Telling.{Telling}
 use Rattle.merkle_wire.specs.declared.wanted.Wanted.{Wanted}
 
--- the bytes of a bound that is lent, behind none
+-- the bytes of a bound that is lent, after none
 abbrev pub bound_before : {K : Type 0} → (K → List ℕ) → Option (Bor K) → List ℕ
 bound_before encoding bound = bound_key encoding [] (option_map (λ key. key.now) bound)
 
@@ -33,24 +33,24 @@ abbrev pub lent_page_bytes : Option (Bor (List ℕ)) → List ℕ
 lent_page_bytes digest = option_bytes (λ d. d) (option_map (λ d. d.now) digest)
 
 module _ {K : Type 0} (encoding : K → List ℕ) where
-  -- the keys of nodes that are lent, behind a key
+  -- the keys of nodes that are lent, after a key
   abbrev pub node_keys_bytes : List ℕ → List (Bor K × Bor (List ℕ)) → List ℕ
   node_keys_bytes last nodes = keys_told encoding last (keys_among (node_pairs nodes))
 
-  -- such nodes behind a key, as digests
+  -- such nodes after a key, as digests
   abbrev pub digests_bytes : List ℕ → List (Bor K × Bor (List ℕ)) → List ℕ
   digests_bytes last nodes = 1 ∷ (node_keys_bytes last nodes ++ flat_map (λ p. p.1) (node_pairs nodes))
 
-  -- a page with these nodes and items, behind a key
+  -- a page with these nodes and items, after a key
   abbrev pub page_bytes : List ℕ → List (Bor K × Bor (List ℕ)) → List (OutlineItemOf K (List ℕ)) → List ℕ
   page_bytes last nodes list = 2 ∷ (nodes_digest (node_pairs nodes) ++ (node_keys_bytes last nodes ++ pages_bytes (pages_beside None (items list))))
 
 module _ {K V : Type 0} (encoding : K → List ℕ) (values : V → List ℕ) where
-  -- the first of the rows are added behind a key, so many of them
+  -- the first of the rows are added after a key, this many of them
   abbrev pub AddsFirst : List ℕ → List (K × V) → Vec ℕ → Vec ℕ → ℕ → Type 0
   AddsFirst last rows old new count = AddsBytes old (rows_bytes encoding values last (take count rows)) new
 
-  -- behind each of these but the last there is room for more
+  -- after each of these but the last there is room for more
   abbrev pub LeavesRoom : List ℕ → List (K × V) → ℕ → Vec ℕ → ℕ → Type 0
   LeavesRoom last rows room old count = (i : ℕ) → i ≢ 0 → i < count → length (old.items ++ rows_bytes encoding values last (take i rows)) < room
 
@@ -61,19 +61,19 @@ module _ {K V : Type 0} (cmp : K → K → Ordering) (values : V → List ℕ) (
   AddsValueAt key old new false = (get cmp rows key ≡ None) × (new.items ≡ old.items)
 
 module _ {K V : Type 0} (cmp : K → K → Ordering) (encoding : K → List ℕ) (values : V → List ℕ) (rows : List (K × V)) where
-  -- the row at a key is added behind the last one, where there is one
+  -- the row at a key is added after the last one, where there is one
   abbrev pub AddsRowAt : K → List ℕ → List ℕ → ToldRows → ToldRows → Type 0
   AddsRowAt key last last' old new =
       ((get cmp rows key ≡ None) × (last' ≡ last) × (new.count ≡ old.count) × (new.bytes.items ≡ old.bytes.items))
       ⊎ ((value : V) × (get cmp rows key ≡ Some value) × (last' ≡ encoding key) × (new.count ≡ old.count + 1)
       × (new.bytes.items ≡ old.bytes.items ++ row_behind encoding values last (key, value)))
 
-  -- these are the rows of nodes that are lent, behind a key, as bytes, and how many they are
+  -- these are the rows of nodes that are lent, after a key, as bytes, and how many they are
   abbrev pub AreRowsOf : List (Bor K × Bor (List ℕ)) → List ℕ → ToldRows → Type 0
   AreRowsOf nodes last told = (found : List (K × V)) × AreRowsAt cmp rows (keys_among (node_pairs nodes)) found
       × (told.count ≡ length found) × (told.bytes.items ≡ rows_bytes encoding values last found)
 
-  -- what is told of nodes that are lent is written behind a key
+  -- what is told of nodes that are lent is written after a key
   abbrev pub TellsNodes : List (Bor K × Bor (List ℕ)) → List ℕ → Vec ℕ → Vec ℕ → Type 0
   TellsNodes nodes last old new = (told : Outline K V) × AreNodes cmp rows (node_pairs nodes) told
       × AddsBytes old (outline_bytes encoding values last told) new
@@ -84,13 +84,13 @@ module _ {K V : Type 0} (cmp : K → K → Ordering) (encoding : K → List ℕ)
       × AddsBytes old (outline_bytes encoding values last told) new
 
 module _ {K V : Type 0} (cmp : K → K → Ordering) (encoding : K → List ℕ) (values : V → List ℕ) (rows : List (K × V)) where
-  -- the rows in a gap are written, or the first of them, as far as so many bytes suffice
+  -- the rows in a gap are written, or the first of them, as far as this many bytes suffice
   abbrev pub TellsPart : ℕ → OwnedGap K → Vec ℕ → Vec ℕ → Type 0
   TellsPart most gap old new = (part : Part K V) × IsPartOf cmp rows gap part
       × AddsBytes old (part_bytes encoding values (bound_key encoding [] gap.after) part) new
       × RowsFit encoding values most old.items (gap, part)
 
-  -- so are the rows in the first of the gaps, behind the front
+  -- so are the rows in the first of the gaps, after the front
   abbrev pub TellsParts : List (OwnedGap K) → Vec ℕ → Type 0
   TellsParts gaps reply = (told : List (OwnedGap K × Part K V)) × Answers (IsPartOf cmp rows) gaps told
       × (reply.items ≡ front rows_in_kind ++ parts_bytes encoding values told)
@@ -100,7 +100,7 @@ module _ {K V : Type 0} (cmp : K → K → Ordering) (values : V → List ℕ) (
   abbrev pub TellsValue : K → Vec ℕ → Vec ℕ → Type 0
   TellsValue key old new = AddsBytes old (option_bytes values (get cmp rows key)) new
 
-  -- so are the values at the first of the keys, behind the front
+  -- so are the values at the first of the keys, after the front
   abbrev pub TellsValues : List (Wanted K) → Vec ℕ → Type 0
   TellsValues keys reply = (told : List (Wanted K × Option V)) × Answers (λ wanted value. value ≡ get cmp rows wanted.key) keys told
       × (reply.items ≡ front rows_at_kind ++ values_bytes values told)
@@ -112,7 +112,7 @@ module _ {K V H : Type 0} (cmp : K → K → Ordering) (bytes_of encoding : K �
   TellsPage gap old new = (told : Outline K V) × IsTold cmp rows telling.with_pages (items_over cmp bytes_of tree gap) told
       × AddsBytes old (outline_bytes encoding values (bound_key encoding [] gap.after) told) new
 
-  -- so is what is told of the pages over the first of the gaps, behind the front of this kind
+  -- so is what is told of the pages over the first of the gaps, after the front of this kind
   abbrev pub TellsPages : Kind → List (OwnedGap K) → Vec ℕ → Type 0
   TellsPages kind gaps reply = (told : List (OwnedGap K × Outline K V)) × Answers (λ g. IsTold cmp rows telling.with_pages (items_over cmp bytes_of tree g)) gaps told
       × (reply.items ≡ front kind ++ outlines_bytes encoding values told)

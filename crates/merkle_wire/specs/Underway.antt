@@ -44,7 +44,7 @@ module _ {K V H : Type 0} (laws : Laws K V H) (n : ℕ) (encoding : K → List �
       × (reply ≡ front rows_at_kind ++ values_bytes values told) × (told ≢ []) × (keys ≡ map (λ t. t.0) told ++ left)
       × AddsRows laws local (flat_map value_row told) before after
 
-  -- rows came in the first gaps, in one at least, and those were taken that the side doesn't have; `left` are the gaps behind rows that are not all
+  -- rows came in the first gaps, in one at least, and those were taken that the side doesn't have; `left` are the gaps after rows that are not all
   -- of their gap, and the others
   abbrev pub HasParts : List (OwnedGap K) → List ℕ → Found K V → Found K V → List (OwnedGap K) → Type 0
   HasParts gaps reply before after left = (told : List (OwnedGap K × Part K V)) × (behind : List (OwnedGap K)) × (rest : List (OwnedGap K))

@@ -29,11 +29,11 @@ SaysNot kind S reply = (all : List ℕ) → S all → reply ≢ front kind ++ al
 abbrev pub NoPageDigest : List ℕ → Type 0
 NoPageDigest left = (page : Option (List ℕ)) (rest : List ℕ) → IsPageDigest page → left ≢ option_bytes (λ d. d) page ++ rest
 
--- not so many of these
+-- not this many of these
 abbrev pub NoPageDigests : ℕ → List ℕ → Type 0
 NoPageDigests count left = (pages : List (Option (List ℕ))) (rest : List ℕ) → length pages ≡ count → AllByRecursion IsPageDigest pages → left ≢ pages_bytes pages ++ rest
 
--- not so many digests of n bytes
+-- not this many digests of n bytes
 abbrev pub NoDigests : ℕ → ℕ → List ℕ → Type 0
 NoDigests n count left = (digests : List (List ℕ)) (rest : List ℕ) → length digests ≡ count → AllByRecursion (λ d. length d ≡ n) digests → left ≢ flat_map (λ d. d) digests ++ rest
 
@@ -42,18 +42,18 @@ abbrev pub NoValue : {V : Type 0} → (V → Type 0) → (V → List ℕ) → Li
 NoValue {V} is_value values left = (value : Option V) (rest : List ℕ) → IsOption is_value value → left ≢ option_bytes values value ++ rest
 
 module _ {K : Type 0} (cmp : K → K → Ordering) (is_key : K → Type 0) (encoding : K → List ℕ) where
-  -- no nodes in a gap, behind a key, with digests of n bytes
+  -- no nodes in a gap, after a key, with digests of n bytes
   abbrev pub NoNodes : ℕ → List ℕ → OwnedGap K → List ℕ → Type 0
   NoNodes n last gap left = (nodes : List (K × List ℕ)) (rest : List ℕ) → AreNodesIn cmp is_key n (owned_gap gap) nodes
       → left ≢ (keys_told encoding last (keys_among nodes) ++ flat_map (λ d. d.1) nodes) ++ rest
 
-  -- no page over a gap, behind a key
+  -- no page over a gap, after a key
   abbrev pub NoPage : List ℕ → OwnedGap K → List ℕ → Type 0
   NoPage last gap left = (digest : List ℕ) (keys : List K) (pages : List (Option (List ℕ))) (rest : List ℕ) → IsPageIn cmp is_key (owned_gap gap) digest keys pages
       → left ≢ (digest ++ (keys_told encoding last keys ++ pages_bytes pages)) ++ rest
 
 module _ {K V : Type 0} (cmp : K → K → Ordering) (is_key : K → Type 0) (is_value : V → Type 0) (encoding : K → List ℕ) (values : V → List ℕ) where
-  -- no rows in a gap, behind a key
+  -- no rows in a gap, after a key
   abbrev pub NoRows : List ℕ → OwnedGap K → List ℕ → Type 0
   NoRows last gap left = (rows : List (K × V)) (rest : List ℕ) → AreRowsIn cmp is_key is_value (owned_gap gap) rows
       → left ≢ run_bytes (row_behind encoding values) (row_key encoding) last rows ++ rest

@@ -22,13 +22,13 @@ use merkle_search_tree::{MerkleSearchTree, OutlineItem};
 use std::alloc::{AllocError, AllocFailed, Global};
 use std::fmt;
 
-/// How many bytes a reply of [`answer`] has at which it ends, if it can't tell all before: 64 MiB.
+/// The length at which [`answer`] ends a reply: 64 MiB. The asking side asks again for the rest.
 pub const MOST_BYTES: usize = 67_108_864;
 
 /// Why a message has no reply. The asking side is to be sent a [`refusal`](crate::refusal).
 #[derive(Clone, Copy, Debug, PartialEq, Eq, Drop)]
 pub enum AnswerError {
-    /// Memory was refused.
+    /// Out of memory.
     Memory,
     /// The bytes are no message.
     Malformed(ReadError),
@@ -109,9 +109,9 @@ pub fn answer<K: Key + Decode, V: Join + Encode + Drop, H: RowHasher<N, K, V>, c
     answer_within(alloc, replica, message, MOST_BYTES)
 }
 
-/// The reply to a message: all that is asked for, or the first entries, one at least, up to that by which it has so many bytes. Of the rows in a gap it
-/// tells all, or the first, one at least, up to that by which it has so many bytes, and then nothing more. The asking side asks for the rest. The
-/// replica keeps its rows; pages that lack a digest get it.
+/// The reply to a message. It has all entries that are asked for, or the first ones: it ends with the entry that brings it to this many bytes, and
+/// has at least one. The rows in a gap end in the same way, and nothing follows rows that are cut. The asking side asks for the rest. The replica
+/// keeps its rows; pages that lack a digest get one.
 ///
 /// # Errors
 ///
@@ -143,7 +143,7 @@ pub fn answer_within<
     }
 }
 
-/// Why a message has no reply of a side whose rows are kept elsewhere.
+/// Why a side whose rows are kept elsewhere has no reply to a message.
 #[derive(Drop)]
 pub enum KeptError<E> {
     /// The message has none. The asking side is to be sent a [`refusal`](crate::refusal).
@@ -152,8 +152,8 @@ pub enum KeptError<E> {
     Rows(E),
 }
 
-/// The reply to a message, as [`answer_within`] gives it, of a side whose rows are kept anywhere, and the digests of their values in a tree. Pages that
-/// lack a digest get it.
+/// The reply to a message of a side whose rows are kept anywhere, with the digests of their values in a tree. It is the reply that [`answer_within`]
+/// gives. Pages that lack a digest get one.
 ///
 /// # Errors
 ///

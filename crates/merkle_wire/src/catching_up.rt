@@ -3,36 +3,29 @@ ghost use Rattle.std.specs.Prelude.{◌≡◌, ◌≤◌, IsSome, IfOk, IfErr, O
 ghost use Rattle.merkle_replica.specs.Contents.{side};
 ghost use Rattle.merkle_tree_theory.specs.State.{SameSettings, map_of};
 ghost use Rattle.merkle_wire.specs.Asking.{AsksForOutlines};
-ghost use Rattle.merkle_wire.specs.Faults.{IsRefusedFor};
-ghost use Rattle.merkle_wire.specs.Fit.{SaysRoot};
 ghost use Rattle.merkle_wire.specs.Found.{nothing};
 ghost use Rattle.merkle_wire.specs.ItsRows.{ForItsRows};
 ghost use Rattle.merkle_wire.specs.Limits.{Allows};
 ghost use Rattle.merkle_wire.specs.Next.{AsksFew, GoesOn, HasLeft, IsAsked, IsCame, IsEnded, IsNext, IsStopped, IsTwice, OnlyAskedFor, StaysWithin, Takes, rounds_with};
 ghost use Rattle.merkle_wire.specs.Questions.{AsksForOwnRoot, AsksForRoot, IsQuestion, question_bytes};
-ghost use Rattle.merkle_wire.specs.Replies.{root_reply_bytes};
 ghost use Rattle.merkle_wire.specs.Steady.{IsKeyOf};
-ghost use Rattle.merkle_wire.specs.Steps.{RefusesReply, TakesRoot};
+ghost use Rattle.merkle_wire.specs.Steps.{RefusesReply};
 ghost use Rattle.merkle_wire.specs.Underway.{HasTaken};
-ghost use Rattle.merkle_wire.specs.Unfit.{SaysNot};
-ghost use Rattle.merkle_wire.specs.declared.message.Kind.TheVariants.{Root as root_kind};
 ghost use Rattle.merkle_wire.specs.declared.session_error.SessionError.TheVariants.{Memory, TooManyRounds};
 
-use crate::gaps::OwnedGap;
 use crate::limits::Limits;
 use crate::message::Kind;
-use crate::pages::decode_page;
 use crate::question::{Question, encode_question};
-use crate::replies::{expect, take_outlines, take_parts, take_values};
+use crate::replies::{take_outlines, take_parts, take_values};
+use crate::root::take_root;
 use crate::session_error::SessionError;
 use crate::settings::{Settings, settings_of, settings_of_tree};
-use crate::sifting::has_page;
 use crate::within::rows_ascend;
 use crate::work::Work;
-use merkle_bytes::{Decode, Reader};
-use merkle_digest::{Hasher, Key, PageDigest};
+use merkle_bytes::Decode;
+use merkle_digest::{Hasher, Key};
 use merkle_replica::{Join, Replica, RowHasher};
-use merkle_search_tree::{Gap, MerkleSearchTree};
+use merkle_search_tree::MerkleSearchTree;
 use std::alloc::{AllocError, Global};
 use std::cmp::Ordering;
 use std::marker::Model;
@@ -40,10 +33,7 @@ use std::marker::Model;
 /// How many rounds of outlines are asked for at most: a tree has at most 256 levels.
 const MOST_ROUNDS: u32 = 256;
 
-/// The part of the peer's rows below which a replica asks for all of them.
-const FEWEST: u64 = 4;
-
-/// A catch-up that is under way: it waits for a reply.
+/// A catch-up that waits for a reply.
 ///
 /// A contract sees what was asked, what has been found, how many rounds of outlines were asked for, and what is left of the limits.
 ///
@@ -100,11 +90,11 @@ pub enum Next<K, V> {
 }
 
 impl<K: Key + Decode, V: Join + Decode> CatchingUp<K, V> {
-    /// A catch-up of a replica that begins, with the default limits, and the first message, which tells the replica's settings.
+    /// Begins a catch-up of a replica, with the default limits. Returns it with the first message, which has the replica's settings.
     ///
     /// # Errors
     ///
-    /// Want of memory.
+    /// Out of memory.
     pub fn begin<H: RowHasher<N, K, V>, const N: usize>(
         alloc: Global,
         replica: &Replica<K, V, H, N>,
@@ -117,11 +107,12 @@ impl<K: Key + Decode, V: Join + Decode> CatchingUp<K, V> {
         begin(alloc, settings_of(alloc, replica)?)
     }
 
-    /// A catch-up of a side whose rows are kept anywhere that begins, and the first message, which tells the settings of the tree of their digests.
+    /// Begins a catch-up of a side whose rows are kept anywhere. Returns it with the first message, which has the settings of the tree of their
+    /// digests.
     ///
     /// # Errors
     ///
-    /// Want of memory.
+    /// Out of memory.
     pub fn begin_of<H: RowHasher<N, K, V>, const N: usize>(
         alloc: Global,
         tree: &MerkleSearchTree<K, V, H, N>,
@@ -137,7 +128,12 @@ impl<K: Key + Decode, V: Join + Decode> CatchingUp<K, V> {
         begin(alloc, settings_of_tree(alloc, tree)?)
     }
 
-    /// The same catch-up, which takes no more of its peer from here on than the limits allow.
+    /// The same catch-up under these limits, which count from here on.
+    ///
+    /// ```rust crates/wire_tests/src/limits.rt
+    /// let (session, message) = CatchingUp::begin(alloc, &local)?;
+    /// let session = session.within(limits);
+    /// ```
     pub fn within(self, limits: Limits) -> Self
         ensures { result ≡ record self { left = limits } }
     {
@@ -154,14 +150,13 @@ impl<K: Key + Decode, V: Join + Decode> CatchingUp<K, V> {
         self.rounds
     }
 
-    /// Takes a reply: what this side doesn't have of what came is added to what was found, and the next question is made of that, or the rows
-    /// are handed out where nothing is left to ask. The replica keeps its rows; pages that lack a digest get it.
+    /// Takes a reply. It records whatever this side lacks, and returns the next question, or the rows once nothing is left to ask. The replica keeps
+    /// its rows; pages that lack a digest get one.
     ///
-    /// A page that the peer tells by its digest is asked for where this side's own page that fills the same gap hasn't that digest, and is spared
-    /// only where this side has a page with it. The nodes of a page are asked for where, by their one digest, this side hasn't all of them, and
-    /// nowhere else.
+    /// The next question asks for a page of the peer if this side's page over the same gap has another digest, and skips it only if this side has a
+    /// page with its digest. It asks for the nodes of a page if and only if their one digest shows that this side hasn't all of them.
     ///
-    /// It looks up each key and each page that came, down one path of the tree, and takes memory in proportion to the bytes that came.
+    /// It looks up each key and each page that came, down one path of the tree. It takes memory in proportion to the bytes that came.
     ///
     /// # Errors
     ///
@@ -273,7 +268,7 @@ fn begin<K: Key + Decode, V: Join + Decode>(
     Ok((session, message))
 }
 
-/// Takes a reply to a question, and answers what of it is to be asked again.
+/// Takes a reply to a question, and returns what of it is to be asked again.
 fn take_reply<K: Key + Decode, V: Join + Decode, H: RowHasher<N, K, V>, const N: usize>(
     alloc: Global,
     tree: &MerkleSearchTree<K, V, H, N>,
@@ -321,51 +316,6 @@ fn take_reply<K: Key + Decode, V: Join + Decode, H: RowHasher<N, K, V>, const N:
             Ok(Some(Question::RowsIn(left)))
         }
     }
-}
-
-/// Takes the number of the peer's rows and the digest of its root page.
-fn take_root<K: Key + Decode, V: Join + Decode, H: RowHasher<N, K, V>, const N: usize>(
-    alloc: Global,
-    tree: &MerkleSearchTree<K, V, H, N>,
-    count: u64,
-    reply: &[u8],
-    work: &mut Work<K, V>,
-) -> Result<(), SessionError>
-    requires { IsSome tree.now.root_hash }
-    ensures taken { OnOk result (TakesRoot H.laws tree.now reply.now work.old work.new) }
-    ensures refused { IfErr result (IsRefusedFor (SaysNot root_kind SaysRoot reply.now)) }
-{
-    let (rows, digest) = decode_root(alloc, reply)?;
-    let Some(digest) = digest else {
-        return Ok(());
-    };
-    if has_page(tree, &Gap::everywhere(), &digest) {
-        return Ok(());
-    }
-    if has_few(count, rows) {
-        work.add_whole(OwnedGap::everywhere())?;
-        return Ok(());
-    }
-    work.add_below(OwnedGap::everywhere())?;
-    Ok(())
-}
-
-/// How many rows the peer has, and the digest of its root page, or none.
-fn decode_root(alloc: Global, reply: &[u8]) -> Result<(u64, Option<PageDigest>), SessionError>
-    ensures read { IfOk result (λ root. reply.now ≡ root_reply_bytes root.0 root.1) }
-    ensures refused { IfErr result (IsRefusedFor (SaysNot root_kind SaysRoot reply.now)) }
-{
-    let mut reader = Reader::new(alloc, reply);
-    expect(&mut reader, Kind::Root)?;
-    let rows = reader.count()?;
-    let digest = decode_page(&mut reader)?;
-    reader.end()?;
-    Ok((rows, digest))
-}
-
-/// Whether a replica with so many rows has few of those of a peer with so many: it asks for all then.
-fn has_few(own: u64, count: u64) -> bool {
-    own < count / FEWEST
 }
 
 /// Goes on where all that was asked for came: asks for what is found, or hands out the rows where there is nothing.

@@ -9,7 +9,7 @@ use merkle_digest::Key;
 use merkle_search_tree::Gap;
 use std::alloc::AllocError;
 
-/// A gap with keys of its own: the keys above one key and below another. Where one of the two is absent, the gap has no bound on that side.
+/// A gap that owns its bounds: the keys above one key and below another. A missing bound leaves that side open.
 #[derive(PartialEq, Eq, Drop)]
 pub struct OwnedGap<K> {
     /// The keys of the gap are above this one.
@@ -45,7 +45,7 @@ impl<K: Key> OwnedGap<K> {
     ///
     /// # Errors
     ///
-    /// Want of memory.
+    /// Out of memory.
     pub(crate) fn between(after: Option<&K>, before: Option<&K>) -> Result<Self, AllocError>
         ensures { IfOk result (λ gap. SameGap K.cmp (between after.entry before.entry) (owned_gap gap)) }
     {

@@ -9,13 +9,13 @@ use merkle_digest::{Hasher, Key};
 use merkle_replica::{Join, Replica};
 use std::alloc::AllocError;
 
-/// The rows of a side that answers, wherever they are kept: what of them is told in a message. The digests of their values are in a
+/// The rows of the answering side, wherever they are kept. The digests of their values are in a
 /// [`MerkleSearchTree`](merkle_search_tree::MerkleSearchTree) beside them.
 ///
-/// A call may fail, as where a disk or a network is read, and the message is then not answered. Values are told as bytes, so that one that is kept
+/// A call may fail, for example to read a disk or a network, and the message is then not answered. Values are told as bytes, so that one that is kept
 /// as its bytes need not be read and written again.
 pub trait KeptRows<K: Ord + Encode, V: Encode> {
-    /// Why a row can't be told: for want of memory, or for a reason of where the rows are kept.
+    /// Why a row can't be told: out of memory, or a reason of where the rows are kept.
     type Error: From<AllocError> + Drop;
 
     /// The rows, in ascending key order.
@@ -29,12 +29,12 @@ pub trait KeptRows<K: Ord + Encode, V: Encode> {
     fn count(&self) -> Result<u64, Self::Error>
         ensures { IfOk result (λ count. count ≡ length (rows self.now)) };
 
-    /// Adds the bytes of the value at a key, where there is one, and answers whether there is.
+    /// Adds the bytes of the value at a key, where there is one, and returns whether there is.
     fn add_value(&self, key: &K, bytes: &mut Vec<u8>) -> Result<bool, Self::Error>
         ensures { IfOk result (AddsValueAt K.cmp V.encoding (rows self.now) key.now bytes.old bytes.new) };
 
-    /// Adds the rows in a gap, or the first of them: how many they are, the rows, each with its key behind the one before, and a byte 1 where they are
-    /// all, or 0 where more are behind. It ends with the row by which there are so many bytes. [`tell_part`] does it with rows in memory.
+    /// Adds the rows in a gap, or the first of them: how many they are, the rows, each with its key after the one before, and a byte 1 where they are
+    /// all, or 0 where more are after. It ends with the row by which there are this many bytes. [`tell_part`] does it with rows in memory.
     fn add_part(
         &self,
         most_bytes: usize,

@@ -13,6 +13,7 @@ mod outlines;
 mod pages;
 mod question;
 mod replies;
+mod root;
 mod rows_at;
 mod rows_in;
 mod session;

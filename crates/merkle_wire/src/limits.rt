@@ -5,9 +5,10 @@ ghost use Rattle.merkle_wire.specs.Limits.{Allows, IsAbove, IsLeftAfter, IsLeftO
 use crate::session_error::SessionError;
 use std::fmt;
 
-/// How much a catch-up takes of its peer at most. `None` is no limit.
+/// The most that a catch-up takes from its peer. `None` means no limit.
 ///
-/// Without limits, a peer that sends one row a reply for ever is heard for ever. The default is 1,000,000 replies, 2^32 rows and 2^36 bytes (64 GiB).
+/// Without limits, a peer can keep a catch-up busy for ever, with one row in each reply. The default is 1,000,000 replies, 2^32 rows and 2^36 bytes
+/// (64 GiB).
 #[derive(Clone, Copy, Debug, PartialEq, Eq, Drop)]
 pub struct Limits {
     /// How many replies.
@@ -51,7 +52,7 @@ impl Limits {
         }
     }
 
-    /// What a reply of so many bytes leaves.
+    /// What a reply of this many bytes leaves.
     pub(crate) fn after(self, bytes: usize) -> Result<Limits, SessionError>
         ensures left { IfOk result (IsLeftAfter bytes self) }
         ensures over { IfErr result (IsOverLimit bytes self) }
@@ -81,7 +82,7 @@ impl Limits {
     }
 }
 
-/// What is left of a limit after so many more, or none where they are too many.
+/// What is left of a limit after this many more, or none where they are too many.
 fn less(limit: Option<u64>, number: u64) -> Option<Option<u64>>
     ensures { MatchOption result (IsAbove number limit) (IsLeftOf limit number) }
 {

@@ -119,7 +119,7 @@ pub(crate) fn decode_kind(reader: &mut Reader<'_>) -> Result<Kind, ReadError>
 ///
 /// # Errors
 ///
-/// Want of memory.
+/// Out of memory.
 pub fn refusal(alloc: Global) -> Result<Vec<u8>, AllocError>
     ensures { IfOk result (λ message. message.items ≡ front Kind.Refusal) }
 {

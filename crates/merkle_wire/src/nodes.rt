@@ -32,7 +32,7 @@ pub(crate) fn nodes_of<'a, K, const N: usize>(
     Ok(nodes)
 }
 
-/// The digest of nodes: that of the digests of their values, one behind the other.
+/// The digest of nodes: that of the digests of their values, one after the other.
 pub(crate) fn nodes_digest<K, const N: usize>(nodes: &[NodeRef<'_, N, K>]) -> [u8; 16]
     ensures { result ≡ nodes_digest (node_pairs nodes.now) }
 {
@@ -58,7 +58,7 @@ pub(crate) fn encode_keys<K: Encode, const N: usize>(
     Ok(())
 }
 
-/// Writes nodes: their rows, where the values are at hand and have at most so many bytes on average, else their keys and the digests of their values.
+/// Writes nodes: their rows, where the values are at hand and have at most this many bytes on average, else their keys and the digests of their values.
 pub(crate) fn write_nodes<K: Key + Encode, V: Encode, R: KeptRows<K, V>, const N: usize>(
     alloc: Global,
     rows: &R,
@@ -89,7 +89,7 @@ struct ToldRows {
     bytes: Vec<u8>,
 }
 
-/// The rows of nodes, where the values are at hand and have at most so many bytes on average.
+/// The rows of nodes, where the values are at hand and have at most this many bytes on average.
 fn short_rows<K: Key + Encode, V: Encode, R: KeptRows<K, V>, const N: usize>(
     alloc: Global,
     rows: &R,
@@ -109,7 +109,7 @@ fn short_rows<K: Key + Encode, V: Encode, R: KeptRows<K, V>, const N: usize>(
     Ok(found)
 }
 
-/// The rows of nodes behind a key, where their values have at most so many bytes.
+/// The rows of nodes after a key, where their values have at most this many bytes.
 fn rows_of<K: Key + Encode, V: Encode, R: KeptRows<K, V>, const N: usize>(
     alloc: Global,
     rows: &R,
@@ -135,7 +135,7 @@ fn rows_of<K: Key + Encode, V: Encode, R: KeptRows<K, V>, const N: usize>(
     Ok(Some(told))
 }
 
-/// Adds the row at a key behind the last one, where there is one. `value` has the bytes of its value then, and none else.
+/// Adds the row at a key after the last one, where there is one. `value` has the bytes of its value then, and none else.
 fn add_row<K: Key + Encode, V: Encode, R: KeptRows<K, V>>(
     rows: &R,
     key: &K,

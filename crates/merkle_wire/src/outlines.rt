@@ -31,7 +31,7 @@ pub(crate) struct Telling {
     pub(crate) most_bytes: usize,
 }
 
-/// A message of this kind that tells of the pages over the gaps, one behind the other, as far as the bytes suffice.
+/// A message of this kind that tells of the pages over the gaps, one after the other, as far as the bytes suffice.
 pub(crate) fn tell_pages<
     K: Key + Encode + Drop,
     V: Encode,
@@ -145,7 +145,7 @@ fn has_page<K, const N: usize>(list: &[OutlineItem<'_, N, K>]) -> bool
     false
 }
 
-/// Writes a page: a byte 2, the digest of its nodes, its keys, and the digest of the page before each of them and of that behind the last.
+/// Writes a page: a byte 2, the digest of its nodes, its keys, and the digest of the page before each of them and of that after the last.
 fn write_page<K: Encode, const N: usize>(
     list: &[OutlineItem<'_, N, K>],
     nodes: &[NodeRef<'_, N, K>],
@@ -161,7 +161,7 @@ fn write_page<K: Encode, const N: usize>(
     Ok(())
 }
 
-/// Writes the digest of the page before each node, and of that behind the last.
+/// Writes the digest of the page before each node, and of that after the last.
 fn encode_pages<K, const N: usize>(
     list: &[OutlineItem<'_, N, K>],
     bytes: &mut Vec<u8>,

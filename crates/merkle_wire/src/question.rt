@@ -22,9 +22,9 @@ pub enum Question<K> {
     /// How many rows there are, and the digest of the root page, where the peer has these settings.
     Root(Settings<K>),
     /// The outlines of the pages over these gaps. Of a page without pages below it the rows are sent in place of the digests of their
-    /// values, where the values have so many bytes at most, on average.
+    /// values, where the values have this many bytes at most, on average.
     Outlines(u64, Vec<OwnedGap<K>>),
-    /// The nodes of the pages over these gaps: as rows, where their values have so many bytes at most, on average, else as digests.
+    /// The nodes of the pages over these gaps: as rows, where their values have this many bytes at most, on average, else as digests.
     Nodes(u64, Vec<OwnedGap<K>>),
     /// The rows at these keys.
     RowsAt(Vec<Wanted<K>>),
@@ -36,7 +36,7 @@ pub enum Question<K> {
 ///
 /// # Errors
 ///
-/// Want of memory.
+/// Out of memory.
 pub(crate) fn encode_question<K: Encode>(
     alloc: Global,
     question: &Question<K>,
@@ -84,7 +84,7 @@ fn with_run<T: EncodeInRun>(
     Ok(message)
 }
 
-/// What a message asks for. It reads the bytes once, in one pass, and takes memory for keys of at most 64 times as many.
+/// What a message asks for. It reads the bytes in one pass. The keys that it makes take at most 64 times as many bytes.
 ///
 /// ```rust crates/wire_tests/src/first_calls.rt
 /// let (_, message) = CatchingUp::begin(alloc, &laptop)?;
@@ -101,7 +101,7 @@ pub fn decode_question<K: Decode>(alloc: Global, message: &[u8]) -> Result<Quest
     ensures asks { IfOk result (λ question. message.now ≡ question_bytes K.encoding question) }
     ensures question { IfOk result (IsQuestion K.is_value) }
 
-    // So a message is read if and only if it asks, but for want of memory; and else the error says where it can't be read on.
+    // So a message is read if and only if it asks, unless out of memory; and else the error says where it can't be read on.
     ensures malformed { IfErr result (λ error. IsMalformed error → AsksNothing K.encoding K.is_value message.now) }
     ensures refused { IfErr result (IsRefusal (length message.now) message.now) }
 {

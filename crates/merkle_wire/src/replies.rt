@@ -34,7 +34,7 @@ pub(crate) fn expect(reader: &mut Reader<'_>, kind: Kind) -> Result<(), SessionE
     Err(SessionError::OtherKind)
 }
 
-/// A reader of what stands behind the front of a reply of this kind, which isn't nothing.
+/// A reader of what stands after the front of a reply of this kind, which isn't nothing.
 fn reader_of<'a>(alloc: Global, reply: &'a [u8], kind: Kind) -> Result<Reader<'a>, SessionError>
     ensures read { IfOk result (λ reader. reply.now ≡ front kind ++ reader.left.now) }
     ensures some { IfOk result (λ reader. reader.left.now ≢ []) }
@@ -48,7 +48,7 @@ fn reader_of<'a>(alloc: Global, reply: &'a [u8], kind: Kind) -> Result<Reader<'a
     Ok(reader)
 }
 
-/// Takes what came of the pages over the first of the gaps, or over all of them, and answers the others.
+/// Takes what came of the pages over the first of the gaps, or over all of them, and returns the others.
 pub(crate) fn take_outlines<
     K: Key + Decode,
     V: Join + Decode,
@@ -75,7 +75,7 @@ pub(crate) fn take_outlines<
     Ok(gaps.split_off(count)?)
 }
 
-/// Takes what came of the pages over the first of the gaps, as far as bytes came, and answers how many these are.
+/// Takes what came of the pages over the first of the gaps, as far as bytes came, and returns how many these are.
 fn take_first_outlines<K: Key + Decode, V: Join + Decode, H: RowHasher<N, K, V>, const N: usize>(
     reader: &mut Reader<'_>,
     tree: &MerkleSearchTree<K, V, H, N>,
@@ -100,7 +100,7 @@ fn take_first_outlines<K: Key + Decode, V: Join + Decode, H: RowHasher<N, K, V>,
     Ok(count)
 }
 
-/// Takes the values at the first of the keys, or at all of them, and answers the others.
+/// Takes the values at the first of the keys, or at all of them, and returns the others.
 pub(crate) fn take_values<K: Key + Decode, V: Join + Decode, H: RowHasher<N, K, V>, const N: usize>(
     alloc: Global,
     tree: &MerkleSearchTree<K, V, H, N>,
@@ -124,7 +124,7 @@ pub(crate) fn take_values<K: Key + Decode, V: Join + Decode, H: RowHasher<N, K, 
     Ok(left)
 }
 
-/// Takes the rows in the first of the gaps, or in all of them, and answers the others, with what is left of a gap of which not all rows came.
+/// Takes the rows in the first of the gaps, or in all of them, and returns the others, with what is left of a gap of which not all rows came.
 pub(crate) fn take_parts<K: Key + Decode, V: Join + Decode, H: RowHasher<N, K, V>, const N: usize>(
     alloc: Global,
     tree: &MerkleSearchTree<K, V, H, N>,
@@ -145,7 +145,7 @@ pub(crate) fn take_parts<K: Key + Decode, V: Join + Decode, H: RowHasher<N, K, V
     Ok(left)
 }
 
-/// Takes the rows in the first of the gaps, as far as bytes came, adds what is left of a gap of which not all rows came, and answers how many
+/// Takes the rows in the first of the gaps, as far as bytes came, adds what is left of a gap of which not all rows came, and returns how many
 /// gaps these are.
 fn take_first_parts<K: Key + Decode, V: Join + Decode, H: RowHasher<N, K, V>, const N: usize>(
     reader: &mut Reader<'_>,

@@ -12,7 +12,7 @@ use merkle_bytes::Encode;
 use merkle_digest::Key;
 use std::alloc::{AllocError, Global};
 
-/// A message that tells the values at the keys, one behind the other, as far as the bytes suffice.
+/// A message that tells the values at the keys, one after the other, as far as the bytes suffice.
 pub(crate) fn tell_values<K: Key + Encode + Drop, V: Encode, R: KeptRows<K, V>>(
     alloc: Global,
     rows: &R,

@@ -15,7 +15,7 @@ use crate::outlines::is_full;
 use merkle_bytes::{Encode, EncodeInRun, KeyRun, encode_count};
 use std::alloc::{AllocError, Global};
 
-/// A message that tells the rows in the gaps, one gap behind the other, as far as the bytes suffice.
+/// A message that tells the rows in the gaps, one gap after the other, as far as the bytes suffice.
 pub(crate) fn tell_rows<K: Ord + Encode, V: Encode, R: KeptRows<K, V>>(
     alloc: Global,
     rows: &R,
@@ -35,11 +35,11 @@ pub(crate) fn tell_rows<K: Ord + Encode, V: Encode, R: KeptRows<K, V>>(
     Ok(bytes)
 }
 
-/// Writes the rows in a gap, or the first of them: how many they are, the rows, and a byte 1 where they are all, or 0 where more are behind.
+/// Writes the rows in a gap, or the first of them: how many they are, the rows, and a byte 1 where they are all, or 0 where more are after.
 ///
 /// # Errors
 ///
-/// Want of memory.
+/// Out of memory.
 pub fn tell_part<K: Ord + Encode, V: Encode>(
     alloc: Global,
     rows: &[(K, V)],
@@ -69,7 +69,7 @@ fn byte_of(flag: bool) -> u8
     if flag { 1 } else { 0 }
 }
 
-/// Writes the first of the rows, up to that by which there are as many bytes as the room, and answers how many they are.
+/// Writes the first of the rows, up to that by which there are as many bytes as the room, and returns how many they are.
 fn encode_first<K: Encode, V: Encode>(
     rows: &[(K, V)],
     room: usize,

@@ -30,7 +30,7 @@ pub enum MessagesError {
     Answer(AnswerError),
     /// A reply was refused. Nothing is joined.
     Session(SessionError),
-    /// Memory was refused as the rows were joined: the first of them are, this many.
+    /// Out of memory as the rows were joined: the first of them are, this many.
     Join(usize),
 }
 
@@ -46,7 +46,7 @@ impl fmt::Display for MessagesError {
     }
 }
 
-/// Catches up with a peer by the messages of a session, each made to bytes and read again, and answers how many rows of the peer were joined.
+/// Catches up with a peer by messages, each written to bytes and read again. Returns how many rows of the peer were joined.
 ///
 /// ```rust crates/wire_tests/src/first_calls.rt
 /// laptop.put(String::from_str(alloc, "bananas")?, 7)?;
@@ -67,7 +67,7 @@ pub fn catch_up_by_messages<
     replica: &mut Replica<K, V, H, N>,
     peer: &mut Replica<K, V, H, N>,
 ) -> Result<usize, MessagesError>
-    // New rows of the peer are joined; while digests are faithful, all that this side lacked.
+    // New rows of the peer are joined; while digests are faithful, all that this side was missing.
     ensures joined { IfOk result (JoinsNewRows H.laws replica.old peer.old replica.new) }
 
     // So it is a catch-up then, and leaves the join of both sides' rows.
@@ -77,7 +77,7 @@ pub fn catch_up_by_messages<
     // Refused, it has joined no row, or the first ones. For its settings it is refused only where the two are not set alike.
     ensures refused { IfErr result (EndsEarly H.laws replica.old peer.old replica.new) }
 
-    // Between sides that are set alike and whose rows can be told it ends early for want of memory alone.
+    // Between sides that are set alike and whose rows can be told it ends early only when out of memory.
     ensures memory { IfErr result (LacksMemory H.laws replica.old peer.old K.is_value V.is_value) }
 
     ensures peer_rows { peer.new.rows ≡ peer.old.rows }
@@ -103,7 +103,7 @@ pub fn catch_up_by_messages<
 pub enum BothMessagesError {
     /// In the first of them.
     First(MessagesError),
-    /// In the second one, after the first joined so many rows.
+    /// In the second one, after the first joined this many rows.
     Second(usize, MessagesError),
 }
 
@@ -119,7 +119,7 @@ impl fmt::Display for BothMessagesError {
 }
 
 /// `a` catches up with `b` by messages, and then `b` with `a`. Both then hold the join of their maps, while digests are faithful in what is met
-/// before each of the two. It answers how many rows each of them joined.
+/// before each of the two. It returns how many rows each of them joined.
 ///
 /// # Errors
 ///

@@ -10,7 +10,7 @@ use std::fmt;
 /// Why a catch-up over a wire ended early. Nothing is joined then.
 #[derive(Clone, Copy, Debug, PartialEq, Eq, Drop)]
 pub enum SessionError {
-    /// Memory was refused.
+    /// Out of memory.
     Memory,
     /// The bytes are no reply.
     Malformed(ReadError),

@@ -15,7 +15,7 @@ use merkle_search_tree::MerkleSearchTree;
 use merkle_search_tree::builder::PageFormat;
 use std::alloc::{AllocError, Global};
 
-/// What the digests of a side rest on.
+/// What the digests of a side depend on.
 #[derive(Drop)]
 pub struct Settings<K> {
     /// The level base.

@@ -163,7 +163,7 @@ fn take_page<K: Key + Decode, V: Join + Drop, H: RowHasher<N, K, V>, const N: us
     Ok(())
 }
 
-/// Takes the digests of the pages before the keys and behind the last of them.
+/// Takes the digests of the pages before the keys and after the last of them.
 fn take_pages<K: Key + Decode, V: Join + Drop, H: RowHasher<N, K, V>, const N: usize>(
     reader: &mut Reader<'_>,
     tree: &MerkleSearchTree<K, V, H, N>,
@@ -227,7 +227,7 @@ pub(crate) fn take_value<K: Key + Decode, V: Join + Decode, H: RowHasher<N, K, V
     Ok(())
 }
 
-/// Takes the rows in a gap, or the first of them, and adds the gap behind these, where there are more.
+/// Takes the rows in a gap, or the first of them, and adds the gap after these, where there are more.
 pub(crate) fn take_part<K: Key + Decode, V: Join + Decode, H: RowHasher<N, K, V>, const N: usize>(
     reader: &mut Reader<'_>,
     tree: &MerkleSearchTree<K, V, H, N>,
@@ -253,7 +253,7 @@ pub(crate) fn take_part<K: Key + Decode, V: Join + Decode, H: RowHasher<N, K, V>
     Ok(())
 }
 
-/// Adds what is left of a gap behind the last of the rows.
+/// Adds what is left of a gap after the last of the rows.
 fn add_behind<K: Key, V>(
     rows: &[(K, V)],
     gap: &OwnedGap<K>,

@@ -12,7 +12,7 @@ pub struct Wanted<K> {
     pub key: K,
 }
 
-/// The key behind the last one.
+/// The key after the last one.
 impl<K: Encode> EncodeInRun for Wanted<K> {
     ghost bytes_behind = { λ last wanted. key_behind last (K.encoding wanted.key) };
 

@@ -118,14 +118,14 @@ impl<K: Drop, V: Drop> Work<K, V> {
         Ok(())
     }
 
-    /// Notes that rows came in so many bytes.
+    /// Notes that rows came in this many bytes.
     pub(crate) fn note_bytes(&mut self, bytes: usize)
         ensures { self.new ≡ self.old }
     {
         self.bytes = self.bytes.saturating_add(bytes as u64);
     }
 
-    /// Notes that the keys of so many nodes came in so many bytes, which are all there.
+    /// Notes that the keys of this many nodes came in this many bytes, which are all there.
     pub(crate) fn note_same(&mut self, count: usize, bytes: usize)
         ensures { self.new ≡ self.old }
     {
@@ -159,11 +159,11 @@ impl<K: Drop, V: Drop> Work<K, V> {
     }
 
     /// What is to be asked next, where anything is: first the nodes of pages, then the pages below, then the rows. Where so many of the rows that
-    /// came are lacked that all rows are fewer bytes than outlines, the rows of the pages below are asked for at once.
+    /// came are missing that all rows are fewer bytes than outlines, the rows of the pages below are asked for at once.
     ///
     /// # Errors
     ///
-    /// Want of memory.
+    /// Out of memory.
     pub(crate) fn next_question(
         &mut self,
         digest_bytes: usize,
@@ -193,15 +193,15 @@ impl<K: Drop, V: Drop> Work<K, V> {
         Ok(None)
     }
 
-    /// Whether so many of the rows that came are lacked that to ask for all rows costs less than to find those that are: to find one takes some
-    /// 256 bytes of keys, digests and rows beside it. One that is lacked doesn't tell.
+    /// Whether so many of the rows that came are missing that to ask for all rows costs less than to find those that are: to find one takes some
+    /// 256 bytes of keys, digests and rows beside it. One that is missing doesn't tell.
     fn is_dense(&self) -> bool {
         let found = self.came.lacked.saturating_sub(1);
         found.saturating_mul(256) > self.bytes
     }
 
     /// How many bytes values may have, on average, for rows to be asked for and not their digests: as many as a digest has, and
-    /// more where most rows are lacked.
+    /// more where most rows are missing.
     fn most(&self, digest_bytes: usize) -> u64 {
         let all = self.came.all.saturating_add(self.digested.all);
         let lacked = self.came.lacked.saturating_add(self.digested.lacked);

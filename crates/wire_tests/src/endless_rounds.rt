@@ -7,7 +7,7 @@ use merkle_wire::{CatchingUp, Next, SessionError};
 use std::alloc::{AllocError, Global};
 use std::test::Fail;
 
-/// A key behind another one, or behind none.
+/// A key after another one, or after none.
 fn key_behind(alloc: Global, after: Option<[u8; 8]>, key: &[u8; 8]) -> Result<Vec<u8>, AllocError> {
     let mut bytes = Vec::new(alloc);
     let mut run = KeyRun::behind(alloc, after.as_ref())?;
@@ -15,7 +15,7 @@ fn key_behind(alloc: Global, after: Option<[u8; 8]>, key: &[u8; 8]) -> Result<Ve
     Ok(bytes)
 }
 
-/// The outline of a page over a gap above a key: one node, a page behind it, and a digest of nodes.
+/// The outline of a page over a gap above a key: one node, a page after it, and a digest of nodes.
 fn page_above(
     alloc: Global,
     after: Option<[u8; 8]>,

@@ -75,7 +75,7 @@ fn other_spellings_of_counts_are_refused(rt: HostRuntime) -> Result<(), Fail> {
     Ok(())
 }
 
-/// Keys of a run and the bytes of each behind the one before it: how many bytes it keeps and how many more it has, in one byte or behind
+/// Keys of a run and the bytes of each after the one before it: how many bytes it keeps and how many more it has, in one byte or after
 /// f0, and these.
 const KEYS: [(&str, &str); 6] = [
     ("", "01 00"),
@@ -184,7 +184,7 @@ fn refused<T: Decode>(alloc: Global, text: &str) -> Result<Option<ReadError>, Fa
     }
 }
 
-/// That this was expected behind so many bytes.
+/// That this was expected after this many bytes.
 fn behind(offset: usize, expected: Expected) -> Option<ReadError> {
     Some(ReadError::Unexpected { offset, expected })
 }
@@ -214,7 +214,7 @@ fn bytes_that_are_no_value_are_refused(rt: HostRuntime) -> Result<(), Fail> {
     Ok(())
 }
 
-/// Bytes that are no key behind the text `ab`, whose bytes are 02 61 62, and what was expected behind how many of them: two counts that are
+/// Bytes that are no key after the text `ab`, whose bytes are 02 61 62, and what was expected after how many of them: two counts that are
 /// longer than need be, a byte above f0, counts that are cut, more kept than there is, more that could be kept, a rest that is cut, and bytes
 /// that are no text.
 const NO_KEYS: [(&str, usize, Expected); 9] = [
@@ -245,7 +245,7 @@ fn other_spellings_of_keys_are_refused(rt: HostRuntime) -> Result<(), Fail> {
     Ok(())
 }
 
-/// Fronts of a key of 300 bytes behind one of as many, how many letters a and b stand behind each, and what was expected behind how many bytes,
+/// Fronts of a key of 300 bytes after one of as many, how many letters a and b stand after each, and what was expected after how many bytes,
 /// where that is no key: of the 290 bytes that both begin with 255 are kept, and no fewer and no more.
 const LONG_KEYS: [(&str, usize, usize, Option<(usize, Expected)>); 4] = [
     ("f0 ff01 2d", 35, 10, None),
@@ -254,14 +254,14 @@ const LONG_KEYS: [(&str, usize, usize, Option<(usize, Expected)>); 4] = [
     ("f0 a202 0a", 0, 10, Some((4, Expected::Front))),
 ];
 
-/// So many letters a, and so many letters b.
+/// This many letters a, and this many letters b.
 fn letters(alloc: Global, first: usize, second: usize) -> Result<Vec<u8>, AllocError> {
     let mut letters = vec![in alloc; b'a'; first]?;
     letters.append(&mut vec![in alloc; b'b'; second]?)?;
     Ok(letters)
 }
 
-/// The key behind the last one that bytes say, of a front in hex and so many letters.
+/// The key after the last one that bytes say, of a front in hex and this many letters.
 fn read_behind(
     alloc: Global,
     last: &Vec<u8>,
@@ -275,7 +275,7 @@ fn read_behind(
     Ok(key)
 }
 
-/// The bytes of a key behind the last one.
+/// The bytes of a key after the last one.
 fn written_behind(alloc: Global, last: &Vec<u8>, key: &Vec<u8>) -> Result<Vec<u8>, AllocError> {
     let mut bytes = Vec::new(alloc);
     let mut run = KeyRun::behind(alloc, Some(last))?;

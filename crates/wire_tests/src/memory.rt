@@ -1,4 +1,4 @@
-//! A catch-up by messages for which memory is refused: the rows are as before, or the first of the rows that were lacked are joined. Under
+//! A catch-up by messages that runs out of memory: the rows are as before, or the first of the rows that were missing are joined. Under
 //! `tests/refusals` each request for memory of the test is refused.
 
 use crate::playing::Rows;
@@ -43,7 +43,7 @@ fn theirs() -> Values {
     values
 }
 
-/// Our values joined with the first so many of theirs that we lack.
+/// Our values joined with the first of theirs that we lack, this many of them.
 fn joined_first(count: usize) -> Values {
     let mut values = ours();
     let mut left = count;
@@ -81,7 +81,7 @@ fn are(rows: &[(String, u64)], values: &Values) -> bool {
     rows.next().is_none()
 }
 
-/// How many of the rows that were lacked a catch-up says that it joined; none where it says it wrongly, or refuses more than memory.
+/// How many of the rows that were missing a catch-up says that it joined; none where it says it wrongly, or refuses more than memory.
 fn count_of(answer: Result<usize, MessagesError>) -> Option<usize> {
     match answer {
         Ok(LACKED) => Some(LACKED),
@@ -92,7 +92,7 @@ fn count_of(answer: Result<usize, MessagesError>) -> Option<usize> {
     }
 }
 
-/// Whether a catch-up leaves our rows joined with as many of the rows that are lacked as it says, the first ones.
+/// Whether a catch-up leaves our rows joined with as many of the rows that are missing as it says, the first ones.
 fn joins_the_first(alloc: Global) -> Result<bool, AllocError> {
     let mut local = map_of(alloc, &ours())?;
     let mut peer = map_of(alloc, &theirs())?;

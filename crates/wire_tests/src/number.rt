@@ -58,7 +58,7 @@ impl HashBytes for Number {
     }
 }
 
-/// The eight bytes behind their number.
+/// The eight bytes after their number.
 impl Encode for Number {
     ghost encoding = { λ number. string_encoding number.bytes };
 

@@ -28,7 +28,7 @@ pub fn begun<K: Key + Decode + HashBytes, V: Join + Decode + HashBytes>(
     Ok(Waiting { session, message })
 }
 
-/// The rows that a session brings from the peer, whose replies end at so many bytes.
+/// The rows that a session brings from the peer, whose replies end at this many bytes.
 pub fn rows_lacked<K: Key + Decode + HashBytes, V: Join + Decode + HashBytes>(
     alloc: Global,
     local: &mut Rows<K, V>,

@@ -10,7 +10,7 @@ use std::alloc::{AllocError, Global};
 use std::num::NonZeroU8;
 use std::test::Fail;
 
-/// Bytes in hex that are no question: what should have stood behind so many bytes. A reply, a version and a kind that there is not, bytes that are
+/// Bytes in hex that are no question: what should have stood after this many bytes. A reply, a version and a kind that there is not, bytes that are
 /// cut or go on, a promised length, a flag and a page format that there is not, and a key in its longer spelling.
 const NO_QUESTIONS: [(&str, usize, Expected); 17] = [
     ("", 0, Expected::Bytes(2)),

@@ -26,7 +26,7 @@ struct Side<K: Sample, V: Worth> {
     values: Vec<u64>,
 }
 
-/// A replica without rows, by a level base and a page format, for so many keys.
+/// A replica without rows, by a level base and a page format, for this many keys.
 fn empty<K: Sample, V: Worth>(
     alloc: Global,
     settings: (u8, PageFormat),
@@ -61,7 +61,7 @@ fn update<K: Sample, V: Worth>(
     Ok(())
 }
 
-/// Makes so many random updates.
+/// Makes this many random updates.
 fn updates<K: Sample, V: Worth>(
     alloc: Global,
     side: &mut Side<K, V>,
@@ -230,7 +230,7 @@ fn five<K: Sample, V: Worth>(alloc: Global, random: &mut Random) -> Result<Ring<
     Ok(Ring { sides, joined })
 }
 
-/// Whether the first replica catches up with the last as it is to; it then stands behind that.
+/// Whether the first replica catches up with the last as it is to; it then stands after that.
 fn turns<K: Sample, V: Worth>(alloc: Global, sides: &mut Vec<Side<K, V>>) -> Result<bool, Fail> {
     if sides.is_empty() {
         return Ok(false);

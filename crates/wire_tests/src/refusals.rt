@@ -30,7 +30,7 @@ pub(crate) fn is_as_before(replica: &Bytes) -> bool {
 enum Found {
     /// It asks this.
     Asks(Vec<u8>),
-    /// So many rows came.
+    /// This many rows came.
     Came(usize),
     /// It refused what came.
     Refused(SessionError),
@@ -62,20 +62,20 @@ pub const ROOT: &str = "0181 05 01 07070707070707070707070707070707";
 /// A first reply by which all rows are asked for: a peer with 16 rows.
 const MANY: &str = "0181 10 01 07070707070707070707070707070707";
 
-/// An outline behind `ROOT`: a page with the node 8, whose nodes are lacked, and no page beside it. Its nodes are asked for then.
+/// An outline after `ROOT`: a page with the node 8, whose nodes are missing, and no page beside it. Its nodes are asked for then.
 const EIGHT: &str = "0182 02 05050505050505050505050505050505 01 02 0108 00 00";
 
 /// The same with a page below 8.
 const BELOW: &str =
     "0182 02 05050505050505050505050505050505 01 02 0108 01 06060606060606060606060606060606 00";
 
-/// The nodes behind `EIGHT`, as digests: the value at 8 is asked for then.
+/// The nodes after `EIGHT`, as digests: the value at 8 is asked for then.
 const DIGEST: &str = "0183 01 01 02 0108 05050505050505050505050505050505";
 
 /// Nodes that are none.
 pub const NONE: &str = "0183 00 00";
 
-/// Whether a session refuses the last of these replies in hex for bytes that should have stood behind so many others.
+/// Whether a session refuses the last of these replies in hex for bytes that should have stood after this many others.
 fn is_malformed(
     alloc: Global,
     local: &mut Bytes,
@@ -89,8 +89,8 @@ fn is_malformed(
     Ok(after(alloc, local, replies)? == Found::Refused(error))
 }
 
-/// Replies to the first message that are none, and what should have stood behind so many bytes: another version, a kind that there is not, cut
-/// messages, a count and a flag out of form, and a byte behind the end.
+/// Invalid replies to the first message, and what should have stood after this many bytes: another version, a kind that there is not, cut
+/// messages, a count and a flag out of form, and a byte after the end.
 const NO_ROOTS: [(&str, usize, Expected); 8] = [
     ("", 0, Expected::Bytes(2)),
     ("01", 0, Expected::Bytes(2)),
@@ -125,7 +125,7 @@ fn first_replies_that_are_refused(rt: HostRuntime) -> Result<(), Fail> {
     Ok(())
 }
 
-/// Replies where the outline over the gap of all keys was asked for, and what should have stood behind so many bytes: an outline of a kind that
+/// Replies where the outline over the gap of all keys was asked for, and what should have stood after this many bytes: an outline of a kind that
 /// there is not, promised lengths of 2 ^ 40, keys that keep more than there is, could keep more, or are spelled at length, bytes that are no
 /// key, digests that are cut, and an outline more than was asked for.
 const NO_OUTLINES: [(&str, usize, Expected); 10] = [
@@ -184,7 +184,7 @@ fn outlines_that_are_refused(rt: HostRuntime) -> Result<(), Fail> {
     Ok(())
 }
 
-/// Sessions of a lying peer whose last reply is no message that was due, and what should have stood behind so many bytes: a page where its nodes alone were
+/// Sessions of a lying peer whose last reply is no message that was due, and what should have stood after this many bytes: a page where its nodes alone were
 /// asked for, values that are cut, out of form, or more than were asked for, and a flag of rows out of form.
 const NO_REPLIES: [(&[&str], usize, Expected); 5] = [
     (
@@ -256,7 +256,7 @@ fn later_replies_that_are_refused(rt: HostRuntime) -> Result<(), Fail> {
     Ok(())
 }
 
-/// What a session asks behind replies, so that the refusals above are of what they say: rows at the keys that were asked for are
+/// What a session asks after replies, so that the refusals above are of what they say: rows at the keys that were asked for are
 /// told without a key, so a row at another can't be said.
 #[test]
 fn sessions_that_go_on(rt: HostRuntime) -> Result<(), Fail> {
@@ -282,7 +282,7 @@ fn sessions_that_go_on(rt: HostRuntime) -> Result<(), Fail> {
     Ok(())
 }
 
-/// Whether so many rows come behind replies.
+/// Whether so many rows come after replies.
 fn end_with(
     alloc: Global,
     local: &mut Bytes,
@@ -295,7 +295,7 @@ fn end_with(
     }
 }
 
-/// How many rows come behind replies.
+/// How many rows come after replies.
 #[test]
 fn sessions_that_end(rt: HostRuntime) -> Result<(), Fail> {
     let alloc = rt.alloc();

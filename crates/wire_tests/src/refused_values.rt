@@ -27,7 +27,7 @@ fn list_comes_back<T: Decode>(alloc: Global, list: &[T]) -> Result<bool, ReadErr
     Ok(read.as_slice() == list)
 }
 
-/// Whether a list whose keys stand behind a key is read back from its bytes.
+/// Whether a list whose keys stand after a key is read back from its bytes.
 fn run_comes_back<T: DecodeInRun>(
     alloc: Global,
     bound: &String,
@@ -106,7 +106,7 @@ fn bounds(alloc: Global) -> Result<Vec<Option<String>>, AllocError> {
     Ok(bounds)
 }
 
-/// Whether lists of rows and of bounds come back behind a key.
+/// Whether lists of rows and of bounds come back after a key.
 fn runs_come_back(alloc: Global) -> Result<bool, ReadError> {
     let bound = text(alloc, "apple")?;
     Ok(

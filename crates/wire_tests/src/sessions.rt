@@ -10,7 +10,7 @@ use std::test::Fail;
 /// A replica of numbers.
 pub(crate) type Numbers<K> = Replica<K, u64, SipHasher, 16>;
 
-/// A replica with so many keys of a kind, where those whose number `step` divides have the value `value`, and the others 1.
+/// A replica with this many keys of a kind, where those whose number `step` divides have the value `value`, and the others 1.
 pub(crate) fn numbers<K: Sample>(
     alloc: Global,
     count: u64,
@@ -101,10 +101,10 @@ const LARGE: [Case; 4] = [
     (20_000, 1, 20_000, 4, 62_600),
 ];
 
-/// How many bytes a row has by itself: a text of nine letters behind its length, and a number below 128.
+/// How many bytes a row has by itself: a text of nine letters after its length, and a number below 128.
 const ROW: usize = 11;
 
-/// The first session of a side with so many rows that brings other rows than a case says or costs more, or more than all rows of the peer by
+/// The first session of a side with this many rows that brings other rows than a case says or costs more, or more than all rows of the peer by
 /// themselves and a tenth: what it took, where there is one.
 fn first_over(alloc: Global, own: u64, cases: &[Case]) -> Result<Option<Done>, Fail> {
     let mut local = numbers::<String>(alloc, own, 1, 1)?;

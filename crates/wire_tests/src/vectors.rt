@@ -98,7 +98,7 @@ fn reply_of<V: Join + HashBytes + Decode + Copy>(
     Ok(None)
 }
 
-/// Whether a session has these messages and replies, where a reply ends at so many bytes, and brings these rows in the end.
+/// Whether a session has these messages and replies, where a reply ends at this many bytes, and brings these rows in the end.
 fn plays<V: Join + HashBytes + Decode + Copy>(
     alloc: Global,
     sides: (Animals<V>, Animals<V>),

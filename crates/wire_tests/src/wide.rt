@@ -49,7 +49,7 @@ impl Join for Wide {
     }
 }
 
-/// The 32 bytes behind their number.
+/// The 32 bytes after their number.
 impl Encode for Wide {
     ghost encoding = { λ wide. string_encoding wide.bytes };
 

@@ -2,7 +2,7 @@ use Rattle.std.proofs.Common.{◌+◌, ◌-◌, length}
 use Rattle.merkle_delta.specs.Steps.{HaveChecksums}
 use Rattle.merkle_delta.proofs.delta.run_len.Given as goal
 
--- so many are the same
+-- this many are the same
 abbrev pub invariant-same : goal.invariant-same
 invariant-same l = HaveChecksums l.checksums l.chunks l.from l.done l.len
 

@@ -5,7 +5,7 @@ use Rattle.merkle_wire.specs.Outlines.{pages_bytes}
 use Rattle.merkle_wire.proofs.ItemsMore.{pages_before, page_behind}
 use Rattle.merkle_wire.proofs.outlines.encode_pages.Given as goal
 
--- the pages before the first nodes are written, and that behind them is held
+-- the pages before the first nodes are written, and that after them is held
 abbrev pub invariant-items : goal.invariant-items
 invariant-items g l =
     let first = items (take l.item-index l.list) in

@@ -26,7 +26,7 @@ use Rattle.merkle_wire.proofs.replies.take_values.Goals as goal
 some_told : (g : Over) (t : Wanted g.row.K.Denot × Option g.row.V.Denot) → 1 ≤ length (option_bytes g.V.Encode.encoding t.1)
 some_told g t = value_some g.K.Ord.cmp g.V.PartialEq.eq g.K.Encode.encoding g.V.Encode.encoding (key_tells g.K.Ord.cmp g.K.Encode.encoding g.K.PartialEq.eq g.met.K.Ord.matches_eq g.met.K.Decode.told) g.met.V.Decode.told t.1
 
--- and tells what stands behind it
+-- and tells what stands after it
 same_behind : (g : Over) (wanted : Wanted g.row.K.Denot) (y z : Option g.row.V.Denot) (r s : List ℕ) → ⊤ → IsOption g.V.Decode.is_value z → option_bytes g.V.Encode.encoding y ++ r ≡ option_bytes g.V.Encode.encoding z ++ s → r ≡ s
 same_behind g wanted y z r s _ _ e = (value_tells g.K.Ord.cmp g.V.PartialEq.eq g.K.Encode.encoding g.V.Encode.encoding (key_tells g.K.Ord.cmp g.K.Encode.encoding g.K.PartialEq.eq g.met.K.Ord.matches_eq g.met.K.Decode.told) g.met.V.Decode.told y z r s e).1
 

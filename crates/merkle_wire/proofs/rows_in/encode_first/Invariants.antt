@@ -2,7 +2,7 @@ use Rattle.std.proofs.Common.{◌≡◌, ◌≢◌, ◌≤◌, ◌<◌, ℕ, ◌
 use Rattle.merkle_bytes.specs.Runs.{entries_bytes, state_behind, row_behind, row_key}
 use Rattle.merkle_wire.proofs.rows_in.encode_first.Given as goal
 
--- the first rows are written, and behind each of them there is room
+-- the first rows are written, and after each of them there is room
 abbrev pub invariant-rows : goal.invariant-rows
 invariant-rows g l =
     let bytes = row_behind g.K.Encode.encoding g.V.Encode.encoding in

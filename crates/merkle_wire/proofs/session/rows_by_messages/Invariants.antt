@@ -8,7 +8,7 @@ use Rattle.merkle_wire.specs.Sessions.{Covers, TellsOwn}
 use Rattle.merkle_wire.specs.Steady.{HasKeysOfSides, IsSteady, left_for}
 use Rattle.merkle_wire.proofs.session.rows_by_messages.Given as goal
 
--- the message asks what the catch-up asks, by own settings and at keys of the two sides, which covers what is lacked and is steady, by the tree that
+-- the message asks what the catch-up asks, by own settings and at keys of the two sides, which covers what is missing and is steady, by the tree that
 -- the peer had; it has no limits; and rows and settings stay
 abbrev pub invariant-exchanges : goal.invariant-exchanges
 invariant-exchanges g l = record {

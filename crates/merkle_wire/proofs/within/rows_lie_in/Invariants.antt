@@ -5,7 +5,7 @@ use Rattle.merkle_wire.proofs.Ascending.{GoOnFrom}
 use Rattle.merkle_wire.proofs.Outside.{GoOnBehind}
 use Rattle.merkle_wire.proofs.within.rows_lie_in.Given as goal
 
--- keys that ascend from the last one on go on with those so far, and where all ascend, those behind do from there
+-- keys that ascend from the last one on go on with those so far, and where all ascend, those after do from there
 abbrev pub invariant-rows : goal.invariant-rows
 invariant-rows g l =
     GoOnFrom g.K.Ord.cmp (λ x. x.0) (owned_gap l.gap) (bound_of l.after) (take l.row-index l.rows)

@@ -4,7 +4,7 @@ use Rattle.merkle_wire.specs.Fit.{SaysRoot}
 use Rattle.merkle_wire.specs.declared.message.Kind.TheVariants.{Root as root_kind}
 use Rattle.merkle_wire.proofs.Fronts.{refused_unread, says_not}
 use Rattle.merkle_wire.proofs.Unfit.{no_root-digest, no_root-end}
-use Rattle.merkle_wire.proofs.catching_up.decode_root.Goals as goal
+use Rattle.merkle_wire.proofs.root.decode_root.Goals as goal
 
 pub returns-in_err-digest-clause-refused : goal.returns-in_err-digest-clause-refused
 returns-in_err-digest-clause-refused c =

@@ -1,0 +1,60 @@
+//! An exchange of messages between two sides whose rows are kept elsewhere.
+ghost use Rattle.std.specs.Prelude.{◌≡◌, IfOk};
+ghost use Rattle.merkle_tree_theory.specs.State.{SameSettings, map_of};
+ghost use Rattle.merkle_wire.specs.ItsRows.{ForItsRows, HasDigestsOf, side_with};
+ghost use Rattle.merkle_wire.specs.Questions.{question_bytes};
+ghost use Rattle.merkle_wire.specs.Sessions.{IsExchange};
+
+use merkle_bytes::Decode;
+use merkle_digest::Key;
+use merkle_replica::{Join, RowHasher};
+use merkle_search_tree::MerkleSearchTree;
+use merkle_search_tree::laws::every_tree_is_sound;
+use merkle_wire::{CatchingUp, KeptError, KeptRows, MOST_BYTES, Next, SessionError, answer_by};
+use std::alloc::Global;
+
+/// Why an exchange came to nothing.
+#[derive(Drop)]
+pub enum ExchangeError<E> {
+    /// The peer has no reply.
+    Answer(KeptError<E>),
+    /// Its reply was refused.
+    Session(SessionError),
+}
+
+/// The peer answers a message by its tree and its rows, and the other side takes the reply by its tree. It is an exchange of a session, as
+/// [`merkle_wire::laws`] speak of them, whatever the rows of the side that takes it.
+pub fn exchange_by_trees<
+    K: Key + Decode,
+    V: Join + Decode,
+    H: RowHasher<N, K, V>,
+    R: KeptRows<K, V>,
+    const N: usize,
+>(
+    alloc: Global,
+    local: &mut MerkleSearchTree<K, V, H, N>,
+    count: u64,
+    peer: &mut MerkleSearchTree<K, V, H, N>,
+    rows: &R,
+    session: CatchingUp<K, V>,
+    message: &[u8],
+) -> Result<Next<K, V>, ExchangeError<R::Error>>
+    requires asks { message.now ≡ question_bytes K.encoding session.asked }
+    requires digests { HasDigestsOf H.laws peer.old (R.rows rows.now) }
+    ensures exchanged { IfOk result (λ next. ForItsRows H.laws local.old
+        (λ own. IsExchange H.laws N K.encoding V.encoding own (side_with peer.old (R.rows rows.now)) session next)) }
+    ensures map { map_of local.new ≡ map_of local.old }
+    ensures settings { SameSettings local.old local.new }
+    ensures peer_map { map_of peer.new ≡ map_of peer.old }
+    ensures peer_settings { SameSettings peer.old peer.new }
+{
+    let reply = match answer_by(alloc, peer, rows, message, MOST_BYTES) {
+        Ok(reply) => reply,
+        Err(error) => return Err(ExchangeError::Answer(error)),
+    };
+    every_tree_is_sound(peer);
+    match session.take_by(local, count, &reply) {
+        Ok(next) => Ok(next),
+        Err(error) => Err(ExchangeError::Session(error)),
+    }
+}
