@@ -32,7 +32,7 @@ module _ (eq : Register → Register → Bool) (e : IsEquivalence eq) (join : Re
       (on eq e join j (J a (J b c)) (J (J a b) c) (J b c) (back eq e join j (J (J a b) c) (J a (J b c)) (assoc eq e join j a b c))
       (cong eq e join j (J a b) b c c (on eq e join j (J a b) (J b b) b (cong eq e join j a b b b (back eq e join j b a alike) (same eq e join j b)) (idem eq e join j b)) (same eq e join j c)))
 
-  -- what adds n to c does so behind y too
+  -- what adds n to c does so after y too
   behind : (n y b c : Option Register) → E b (J n c) → E (J y b) (J n (J y c))
   behind n y b c h = on eq e join j (J y b) (J y (J n c)) (J n (J y c)) (cong eq e join j y y b (J n c) (same eq e join j y) h) (swap y n c)
 

@@ -1,5 +1,5 @@
 -- A catch-up over two streams, exchange by exchange, and what a peer answers.
-use Rattle.std.proofs.Common.{◌≡◌, ℕ, ◌≤◌, List, [], ◌∷◌, ◌++◌, length, Option, refl, sym, subst, append_assoc, append-nil}
+use Rattle.std.proofs.Common.{ℕ, ◌≤◌, List, [], ◌∷◌, ◌++◌, length, Option, refl, sym, subst, append_assoc}
 use Rattle.std.specs.Global.{Vec}
 use Rattle.std.specs.Io.KnownBytes.{Appends, Consumes}
 use Rattle.std.specs.List.{AllByRecursion, flat_map}
@@ -84,10 +84,6 @@ module _ (replica : EntryContents) (most : ℕ) (before : Streams) where
       told = all_read (λ e. frame_of e.1) before.1 mid.1 after.1 come.exchanges (message.items, reply) come.told came;
     }
 
-  -- no message was answered yet
-  pub has_served_none : HasServed replica most before before
-  has_served_none = ([], record { replies = tt; fits = tt; asked = Consumes-nil before.1; told = Appends-nil before.0 })
-
   -- one more was
   pub has_served_more : (mid after : Streams) (message reply : List ℕ) → HasServed replica most before mid → IsReplyBy entry_laws 16 key_encoding register_encoding replica message reply
       → length message ≤ most → Consumes mid.1 after.1 (frame_of message) → Appends mid.0 after.0 (frame_of reply) → HasServed replica most before after
@@ -98,17 +94,5 @@ module _ (replica : EntryContents) (most : ℕ) (before : Streams) where
       fits = each-append (λ e. length e.0 ≤ most) exchanges ((message, reply) ∷ []) served.fits (fits, tt);
       asked = all_read (λ e. frame_of e.0) before.1 mid.1 after.1 exchanges (message, reply) served.asked came;
       told = all_written (λ e. frame_of e.1) before.0 mid.0 after.0 exchanges (message, reply) served.told sent;
-    },
-  )
-
-  -- nothing was read since
-  pub has_served_all : (mid after : Streams) → HasServed replica most before mid → Consumes mid.1 after.1 [] → after.0 ≡ mid.0 → HasServed replica most before after
-  has_served_all mid after (exchanges, served) none same = (
-    exchanges,
-    record {
-      replies = served.replies;
-      fits = served.fits;
-      asked = subst (Consumes before.1 after.1) (append-nil (all_asked exchanges)) (Consumes-trans before.1 mid.1 after.1 _ _ served.asked none);
-      told = subst (λ w. Appends before.0 w (all_told exchanges)) (sym same) served.told;
     },
   )

@@ -1,4 +1,4 @@
--- A message behind its length, read part by part.
+-- A message after its length, read part by part.
 use Rattle.std.proofs.Common.{◌≡◌, ℕ, ◌≤◌, ◌<◌, List, ◌++◌, length, take, drop, get_or, Option, sym, ap, subst, ◌∙◌, w64}
 use Rattle.std.specs.Int.{from_le_bytes}
 use Rattle.std.specs.Io.KnownBytes.{Consumes}

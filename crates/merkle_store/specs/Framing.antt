@@ -4,7 +4,7 @@ use Rattle.std.specs.Global.{Vec}
 use Rattle.std.specs.Int.{w64, to_le_bytes}
 use Rattle.std.specs.Io.KnownBytes.{Consumes, IsAtEnd}
 
--- a message behind its length, which has eight bytes, the lowest first
+-- a message after its length, which has eight bytes, the lowest first
 abbrev pub frame_of : List ℕ → List ℕ
 frame_of message = to_le_bytes w64 (length message) ++ message
 

@@ -40,14 +40,14 @@ entry_laws = record {
 abbrev pub key_encoding : Text → List ℕ
 key_encoding key = string_encoding (string_bytes key)
 
--- all messages of the asking side, each behind its length, and all replies likewise
+-- all messages of the asking side, each after its length, and all replies likewise
 abbrev pub all_asked : Exchanges → List ℕ
 all_asked exchanges = flat_map (λ e. frame_of e.0) exchanges
 
 abbrev pub all_told : Exchanges → List ℕ
 all_told exchanges = flat_map (λ e. frame_of e.1) exchanges
 
--- the replica catches up with whoever reads one stream and writes the other: its messages are written, their replies read, of so many bytes at most each,
+-- the replica catches up with whoever reads one stream and writes the other: its messages are written, their replies read, of this many bytes at most each,
 -- and these entries come
 pub record CatchesUp (replica : EntryContents) (most : ℕ) (before after : Streams) (entries : List (Text × Register)) : Type 0 where
   pub underway : Underway Text Register
@@ -59,7 +59,7 @@ pub record CatchesUp (replica : EntryContents) (most : ℕ) (before after : Stre
   pub asked : Appends before.0 after.0 (all_asked exchanges)
   pub told : Consumes before.1 after.1 (all_told exchanges)
 
--- the replica replies to these messages, read from one stream, of so many bytes at most each, on the other
+-- the replica replies to these messages, read from one stream, of this many bytes at most each, on the other
 pub record IsServed (replica : EntryContents) (most : ℕ) (before after : Streams) (exchanges : Exchanges) : Type 0 where
   pub replies : AreRepliesBy entry_laws 16 key_encoding register_encoding replica exchanges
   pub fits : AllByRecursion (λ e. length e.0 ≤ most) exchanges

@@ -22,7 +22,7 @@ const CHUNK: usize = 16_384;
 
 /// Who is told how a long message comes on.
 pub trait Watch {
-    /// So many bytes more have come.
+    /// This many bytes more have come.
     fn came(&mut self, bytes: usize);
 }
 
@@ -90,7 +90,7 @@ fn append<R: Read>(from: &mut R, chunk: &mut [u8], body: &mut Vec<u8>) -> Result
     Ok(())
 }
 
-/// Reads so many bytes. The memory that it takes grows with the bytes that come, and not with the length that was promised.
+/// Reads this many bytes. The memory that it takes grows with the bytes that come, and not with the length that was promised.
 fn receive_body<R: Read, P: Watch>(
     alloc: Global,
     from: &mut R,

@@ -1,11 +1,11 @@
 //! A pull over a pair of pipes or a socket, from both sides.
-ghost use Rattle.std.specs.Prelude.{◌≡◌, ◌≤◌, length, IfOk, IfErr, OnOk};
+ghost use Rattle.std.specs.Prelude.{◌≡◌, ◌≤◌, ◌↔◌, length, All, IsTrue, IfOk, IfErr, OnOk};
 ghost use Rattle.std.specs.Io.KnownBytes.{Appends, Consumes, IsAtEnd};
 ghost use Rattle.merkle_tree_theory.specs.State.{SameSettings};
 ghost use Rattle.store_table.specs.Logs.{IsSteady};
 ghost use Rattle.merkle_store.specs.Framing.{frame_of};
 ghost use Rattle.merkle_store.specs.Kept.{KeepsInStep, StaysSet};
-ghost use Rattle.merkle_store.specs.Pulls.{AreNews, HasBrought, LeavesNewsOver, IsBehind, StaysUnlessPulled};
+ghost use Rattle.merkle_store.specs.Pulls.{AreNews, HasBrought, IsShort, LeavesNewsOver, IsBehind, IsUntaken, StaysUnlessPulled};
 ghost use Rattle.merkle_store.specs.Sessions.{CatchesUp, HasServed};
 
 use crate::fault::StoreFault;
@@ -17,15 +17,30 @@ use merkle_delta::{CatchingUp, Next, answer_within};
 use merkle_search_tree::laws::every_tree_is_sound;
 use merkle_wire::refusal;
 use sqlite_trees::store::Store as Trees;
-use std::alloc::Global;
+use std::alloc::{AllocError, Global};
 use std::fmt;
 use std::io::{Read, Write};
+use store_table::Register;
 use store_table::table::Entries;
 
 /// How many messages a pull sends at most, which the peer can't raise. A session asks for the root, for the outlines of at most 256 rounds
 /// with their nodes, and for the rows that these leave: a thousand messages suffice. Each part of an answer that has more than one costs
 /// one more; where parts have [`ANSWER_BYTES`], this many bring a tebibyte, which no store in memory has.
 const MOST_MESSAGES: usize = 65_536;
+
+/// How many bytes the key, the writer and the value of a peer's entry have at most: 1 MiB each.
+pub const MOST_TEXT: usize = 1_048_576;
+
+/// An entry of a peer that isn't taken.
+#[derive(Debug, Drop)]
+pub struct Untaken {
+    /// Its key.
+    pub key: String,
+    /// Its time, in milliseconds since 1970.
+    pub time: u64,
+    /// Who wrote it.
+    pub writer: String,
+}
 
 /// Why a pull ended early. The store is then as it was, but for [`StoreFault::Behind`].
 #[derive(Debug, Drop)]
@@ -34,6 +49,10 @@ pub enum PullFault {
     Wire(WireFault),
     /// The store refused what came, or failed.
     Store(StoreFault),
+    /// The peer sent an entry whose time is too far ahead of the clock.
+    Ahead(Untaken),
+    /// The peer sent an entry whose key, writer or value has more than [`MOST_TEXT`].
+    TooLong(Untaken),
 }
 
 impl From<WireFault> for PullFault {
@@ -61,6 +80,10 @@ impl fmt::Display for PullFault {
         match self {
             PullFault::Wire(fault) => write!(f, "{fault}"),
             PullFault::Store(fault) => write!(f, "{fault}"),
+            PullFault::Ahead(_) => write!(f, "{}", StoreFault::Future),
+            PullFault::TooLong(_) => f.write_str(
+                "the peer sent a text of more than 1 MiB: nothing was joined",
+            ),
         }
     }
 }
@@ -86,7 +109,7 @@ impl Traffic {
         }
     }
 
-    /// With a message of so many bytes and a reply of so many more, each with its length.
+    /// With a message of this many bytes and a reply of this many more, each with its length.
     fn with(&self, sent: usize, came: usize) -> Self {
         Traffic {
             messages: self.messages.saturating_add(1),
@@ -159,6 +182,62 @@ fn entries_of_peer<R: Read, W: Write, P: Watch>(
     Err(WireFault::Endless)
 }
 
+/// Whether the key, the writer and the value of an entry are as short as they have to be.
+fn is_short(entry: &(String, Register)) -> bool
+    ensures { IsTrue result ↔ IsShort entry.now }
+{
+    let value = match &entry.1.value {
+        Some(text) => text.len(),
+        None => 0,
+    };
+    entry.0.len() <= MOST_TEXT && entry.1.writer.len() <= MOST_TEXT && value <= MOST_TEXT
+}
+
+/// An entry of a peer that isn't taken, in memory of its own.
+fn naming(alloc: Global, entry: &(String, Register)) -> Result<Untaken, AllocError> {
+    Ok(Untaken {
+        key: String::from_str(alloc, entry.0.as_str())?,
+        time: entry.1.time,
+        writer: String::from_str(alloc, entry.1.writer.as_str())?,
+    })
+}
+
+/// The fault of an entry that is too far ahead of the clock.
+fn ahead_of(alloc: Global, entry: &(String, Register)) -> PullFault
+    ensures { ¬ IsBehind result }
+{
+    match naming(alloc, entry) {
+        Ok(entry) => PullFault::Ahead(entry),
+        Err(_) => PullFault::Store(StoreFault::Memory),
+    }
+}
+
+/// The fault of an entry that is too long.
+fn too_long(alloc: Global, entry: &(String, Register)) -> PullFault
+    ensures { ¬ IsBehind result }
+{
+    match naming(alloc, entry) {
+        Ok(entry) => PullFault::TooLong(entry),
+        Err(_) => PullFault::Store(StoreFault::Memory),
+    }
+}
+
+/// Refuses entries of a peer of which one is too long, or too far ahead of the clock.
+fn expect_fit(alloc: Global, entries: &[(String, Register)], latest: u64) -> Result<(), PullFault>
+    ensures short { OnOk result (All IsShort entries.now) }
+    ensures told { IfErr result (λ why. ¬ IsBehind why) }
+{
+    'entries: for entry in entries {
+        if !is_short(entry) {
+            return Err(too_long(alloc, entry));
+        }
+        if entry.1.time > latest {
+            return Err(ahead_of(alloc, entry));
+        }
+    }
+    Ok(())
+}
+
 /// The entries of a peer that are later than what the store has for their keys: what a pull would bring. The store keeps its rows. It takes the
 /// time and the memory of a pull that joins nothing.
 ///
@@ -180,6 +259,7 @@ pub fn look<S: Trees + Drop, R: Read, W: Write, P: Watch>(
 {
     let alloc = store.alloc();
     let (entries, _traffic) = entries_of_peer(alloc, &mut store.replica, from, to, most, watch)?;
+    expect_fit(alloc, &entries, store.latest)?;
     let news = store.news(entries)?;
     Ok(news)
 }
@@ -187,13 +267,13 @@ pub fn look<S: Trees + Drop, R: Read, W: Write, P: Watch>(
 /// Brings the entries of a peer that the store lacks, all or none. A reply has at most `most` bytes, else the peer is refused.
 ///
 /// ```rust crates/mst/src/peers.rt
-/// Ok(pulling::pull(
+/// let pulled = pulling::pull(
 ///     store,
 ///     &mut rt.stdin(),
 ///     &mut rt.stdout(),
 ///     MOST_BYTES,
 ///     &mut lines,
-/// )?)
+/// );
 /// ```
 ///
 /// # Errors
@@ -214,6 +294,9 @@ pub fn pull<S: Trees + Drop, R: Read, W: Write, P: Watch>(
     // Refused, the rows in memory stay, and the file's too, but for `Behind`.
     ensures memory { IfErr result (λ why. ¬ IsBehind why → store.new.replica.rows ≡ store.old.replica.rows) }
     ensures refused { StaysUnlessPulled S.Store store.old.log store.new.log result }
+
+    // Of a peer that sends an entry which isn't taken, nothing is written.
+    ensures untouched { IfErr result (λ why. IsUntaken why → store.new.log ≡ store.old.log) }
     ensures steady { IsSteady S.Store store.old.log store.new.log }
 
     // A crash leaves what it could leave before, or trees with a row too for each entry that came and is later, and no other.
@@ -222,6 +305,7 @@ pub fn pull<S: Trees + Drop, R: Read, W: Write, P: Watch>(
 {
     let alloc = store.alloc();
     let (entries, traffic) = entries_of_peer(alloc, &mut store.replica, from, to, most, watch)?;
+    expect_fit(alloc, &entries, store.latest)?;
     let count = entries.len();
     let news = store.join(entries)?;
     Ok(Brought {

@@ -32,7 +32,7 @@ pub struct Store<S: Trees + Drop> {
     writer: String,
     pub(crate) replica: EntryReplica,
     /// The greatest time of a peer's entry that is joined.
-    latest: u64,
+    pub(crate) latest: u64,
 }
 
 // Written out, so that a caller doesn't prove again how each part is dropped.
@@ -203,7 +203,7 @@ impl<S: Trees + Drop> Store<S> {
     /// # Errors
     ///
     /// [`StoreFault::Time`] where the key's register has the greatest time of all, [`StoreFault::Behind`] where the file has the write and
-    /// memory was refused for the row in memory, and faults of the file; but for `Behind` all is as it was.
+    /// memory ran out for the row in memory, and faults of the file; but for `Behind` all is as it was.
     pub fn write(&mut self, now: u64, key: String, value: Option<String>) -> Result<(), StoreFault>
         ensures kept { KeepsInStep S.Store self.old self.new result }
 
@@ -250,12 +250,12 @@ impl<S: Trees + Drop> Store<S> {
         Ok(news_of(&self.replica, entries))
     }
 
-    /// Joins entries, as those of a peer, all or none, and answers how many were later than what their keys had: the file takes no others.
+    /// Joins entries, as those of a peer, all or none, and returns how many were later than what their keys had: the file takes no others.
     ///
     /// # Errors
     ///
     /// [`StoreFault::Future`] where an entry has a time that is more than a day ahead of the clock; [`StoreFault::Time`] where the database
-    /// can't hold the time of one that is later; [`StoreFault::Behind`] where the file has the entries and memory was refused for the rows in
+    /// can't hold the time of one that is later; [`StoreFault::Behind`] where the file has the entries and memory ran out for the rows in
     /// memory; and faults of the file. But for `Behind` all is as it was.
     pub fn join(&mut self, entries: Entries) -> Result<usize, StoreFault>
         ensures kept { KeepsInStep S.Store self.old self.new result }
@@ -311,7 +311,7 @@ impl<S: Trees + Drop> Store<S> {
     ///
     /// # Errors
     ///
-    /// Want of memory.
+    /// Out of memory.
     pub fn root_hash(&mut self) -> Result<RootHash, AllocError>
         ensures digest { IfOk result (λ digest. digest ≡ page_digest self.old.replica.tree.format string_bytes self.old.replica.tree.root) }
         ensures rows { self.new.replica.rows ≡ self.old.replica.rows }

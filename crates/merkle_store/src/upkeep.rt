@@ -97,7 +97,7 @@ fn join_all_in_memory(replica: &mut EntryReplica, entries: Entries) -> Result<()
 ///
 /// # Errors
 ///
-/// [`StoreFault::Behind`] where the file has the entry and memory was refused for the row in memory; after each other fault both are as
+/// [`StoreFault::Behind`] where the file has the entry and memory ran out for the row in memory; after each other fault both are as
 /// they were.
 pub fn add_entry<S: Store>(
     alloc: Global,
@@ -130,7 +130,7 @@ pub fn add_entry<S: Store>(
 ///
 /// # Errors
 ///
-/// [`StoreFault::Behind`] where the file has the entries and memory was refused for the rows in memory; after each other fault both are
+/// [`StoreFault::Behind`] where the file has the entries and memory ran out for the rows in memory; after each other fault both are
 /// as they were.
 pub fn add_entries<S: Store>(
     alloc: Global,

@@ -8,7 +8,7 @@ use std::fmt;
 /// Why a peer was not served or not heard.
 #[derive(Debug, Drop)]
 pub enum WireFault {
-    /// Memory was refused.
+    /// Out of memory.
     Memory,
     /// A message is longer than it may be.
     TooLong(u64),
@@ -20,7 +20,7 @@ pub enum WireFault {
     Device,
     /// The peer's message has no reply.
     Question(AnswerError),
-    /// The peer's reply is none.
+    /// The peer's reply is invalid.
     Reply(SessionError),
 }
 
@@ -68,16 +68,13 @@ impl fmt::Display for WireFault {
     fn fmt<W: fmt::Write>(&self, f: &mut fmt::Formatter<W>) -> fmt::Result {
         match self {
             WireFault::Memory => f.write_str("out of memory"),
-            WireFault::TooLong(len) => write!(
-                f,
-                "a message of {len} bytes is longer than it may be"
-            ),
-            WireFault::Cut => f.write_str("the peer stopped in the middle"),
-            WireFault::Endless => f.write_str("the peer's answers have no end"),
+            WireFault::TooLong(len) => write!(f, "a message of {len} bytes is too long"),
+            WireFault::Cut => f.write_str("the connection ended in the middle of a session"),
+            WireFault::Endless => f.write_str("the peer sent too many replies"),
             WireFault::Device => f.write_str("the connection to the peer failed"),
             WireFault::Question(error) => write!(f, "{error}"),
             WireFault::Reply(SessionError::Refused) => f.write_str(
-                "the peer refused what was asked: it may hash under another key",
+                "the peer rejected the request: it may have another hash key",
             ),
             WireFault::Reply(error) => write!(f, "{error}"),
         }

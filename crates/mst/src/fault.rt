@@ -2,6 +2,7 @@
 use merkle_store::pulling::PullFault;
 use merkle_store::wire::WireFault;
 use mst_commands::Fault;
+use mst_commands::fault::Named;
 use sqlite_std_file::OpenError;
 use sqlite_trees::error::StoreError;
 use std::alloc::AllocError;
@@ -19,8 +20,14 @@ pub enum Failure {
     Path(OpenError),
     /// The file wasn't opened or made.
     File(OpenFault),
+    /// The file is a store in a mode that isn't read here.
+    Mode(&'static str),
     /// A pull failed.
     Pull(PullFault),
+    /// A peer sent an entry whose time is too far ahead of the clock.
+    Ahead(Named),
+    /// A peer sent an entry whose key, writer or value is too long.
+    TooLong(Named),
     /// Commands of a shell failed, each with its line on standard error.
     Lines(u64),
 }
@@ -87,10 +94,19 @@ impl fmt::Display for Failure {
         match self {
             Failure::Command(fault) => write!(f, "{fault}"),
             Failure::Path(OpenError::Io(error)) if error.kind() == ErrorKind::Unsupported =>
-                f.write_str("the file, or its log beside it, is no plain file with one name"),
+                f.write_str("the file, or its log beside it, isn't a regular file with one name"),
             Failure::Path(error) => write!(f, "{error}"),
             Failure::File(fault) => write!(f, "{fault}"),
+            Failure::Mode(what) => f.write_str(what),
             Failure::Pull(fault) => write!(f, "{fault}"),
+            Failure::Ahead(entry) => write!(
+                f,
+                "the peer sent an entry from the future, which --allow-ahead takes: {entry}: nothing was joined"
+            ),
+            Failure::TooLong(entry) => write!(
+                f,
+                "the peer sent an entry whose key, writer or value is longer than 1 MiB: {entry}: nothing was joined"
+            ),
             Failure::Lines(1) => f.write_str("1 command failed"),
             Failure::Lines(count) => write!(f, "{count} commands failed"),
         }

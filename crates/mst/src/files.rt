@@ -2,6 +2,7 @@
 ghost use Rattle.std.specs.Prelude.{IfOk, IsTrue};
 
 use crate::fault::Failure;
+use crate::look::expect_store;
 use mst_commands::Fault;
 use sqlite_disk::{Disk, Files};
 use sqlite_std_file::{File, OpenError, Unknown};
@@ -10,7 +11,7 @@ use sqlite_trees::error::StoreError;
 use sqlite_trees::store::Store;
 use std::fs::{self, OpenOptions};
 use std::hash::{BuildHasher, RandomState};
-use std::io::ErrorKind;
+use std::io::{self, ErrorKind};
 use std::os::unix::fs::OpenOptionsExt;
 use std::thread::sleep;
 use std::time::Duration;
@@ -23,12 +24,20 @@ pub type FileTrees = FileStore<Unsure<File>>;
 
 /// A log whose file can be closed. What runs over any such one has no file to drop, whose many parts make a function slow to prove.
 pub trait Closing: Sized + Drop {
+    /// Closes the file, into which its log is copied.
+    fn close_copied(self) -> Result<(), Failure>;
+
     /// Closes the file. Where there is no room or no memory to copy what its log holds, the log keeps that, and what was committed is read
     /// from there.
     fn close_all(self) -> Result<(), Failure>;
 }
 
 impl Closing for Log<FileTrees> {
+    fn close_copied(self) -> Result<(), Failure> {
+        store_file::close(self.into_trees())?;
+        Ok(())
+    }
+
     fn close_all(self) -> Result<(), Failure> {
         match store_file::close(self.into_trees()) {
             Ok(()) | Err(StoreError::Full | StoreError::OutOfMemory) => Ok(()),
@@ -37,7 +46,7 @@ impl Closing for Log<FileTrees> {
     }
 }
 
-/// Closes the file of a log behind what was done on it. Where both failed, the reason is that of the first.
+/// Closes the file of a log after what was done on it. Where both failed, the reason is that of the first.
 pub fn close_behind<L: Closing, T: Drop>(log: L, done: Result<T, Failure>) -> Result<T, Failure> {
     let closed = log.close_all();
     let done = done?;
@@ -53,15 +62,46 @@ fn is_there(rt: &HostRuntime, path: &str) -> Result<bool, OpenError> {
 /// How many times a second a file is tried that another process has.
 const TRIES: u64 = 20;
 
+/// What the system says of this process's limits.
+const LIMITS: &str = "/proc/self/limits";
+
+/// The limit on the length of files in a line of that, if it is the line that has it. A limit that is none has no number.
+fn limit_in(line: &str) -> Option<u64> {
+    let Some(rest) = line.strip_prefix("Max file size") else {
+        return None;
+    };
+    let Some(word) = rest.split_ascii_whitespace().next() else {
+        return None;
+    };
+    match word.parse::<u64>() {
+        Ok(bytes) => Some(bytes),
+        Err(_) => None,
+    }
+}
+
+/// How many bytes a file may have. A write past that would end the process, so that no such is tried.
+fn longest_file(rt: &HostRuntime) -> u64 {
+    let Ok(limits) = fs::read_to_string(rt, LIMITS) else {
+        return u64::MAX;
+    };
+    for line in limits.lines() {
+        if let Some(bytes) = limit_in(line) {
+            return bytes;
+        }
+    }
+    u64::MAX
+}
+
 /// The file of a store and its log, as files of which nothing is known.
 fn files_at(rt: &HostRuntime, path: &str) -> Result<Files<Unsure<File>>, OpenError>
     ensures log { IfOk result (λ files. IsTrue (⟦<Unsure<File> as Disk>⟧.is_usable files.log)) }
     ensures db { IfOk result (λ files. IsTrue (⟦<Unsure<File> as Disk>⟧.is_usable files.db)) }
 {
+    let most = longest_file(rt);
     let files = sqlite_std_file::open(rt, path, Unknown)?;
     Ok(Files {
-        log: Unsure::new(files.log),
-        db: Unsure::new(files.db),
+        log: Unsure::within(files.log, most),
+        db: Unsure::within(files.db, most),
     })
 }
 
@@ -70,7 +110,7 @@ fn is_in_use(opened: &Result<Files<Unsure<File>>, OpenError>) -> bool {
     matches!(opened, Err(OpenError::Busy))
 }
 
-/// The files, once no other process has them. They are tried again for so many seconds.
+/// The files, once no other process has them. They are tried again for this many seconds.
 fn wait_for(rt: &HostRuntime, path: &str, seconds: u64) -> Result<Files<Unsure<File>>, OpenError>
     ensures log { IfOk result (λ files. IsTrue (⟦<Unsure<File> as Disk>⟧.is_usable files.log)) }
     ensures db { IfOk result (λ files. IsTrue (⟦<Unsure<File> as Disk>⟧.is_usable files.db)) }
@@ -86,11 +126,19 @@ fn wait_for(rt: &HostRuntime, path: &str, seconds: u64) -> Result<Files<Unsure<F
     opened
 }
 
-/// Opens a file that is there. Where another process has it, it is tried again for so many seconds.
-pub fn open_file(rt: &HostRuntime, path: &str, seconds: u64) -> Result<Log<FileTrees>, Failure> {
-    if !is_there(rt, path)? {
-        return Err(Failure::Command(Fault::NoStore));
+/// Refuses a name of no file.
+pub fn expect_file(rt: &HostRuntime, path: &str) -> Result<(), Failure> {
+    if is_there(rt, path)? {
+        Ok(())
+    } else {
+        Err(Failure::Command(Fault::NoStore))
     }
+}
+
+/// Opens a file that is there. Where another process has it, it is tried again for this many seconds.
+pub fn open_file(rt: &HostRuntime, path: &str, seconds: u64) -> Result<Log<FileTrees>, Failure> {
+    expect_file(rt, path)?;
+    expect_store(rt, path)?;
     let files = wait_for(rt, path, seconds)?;
     Ok(Log::over(store_file::open(rt.alloc(), files)?))
 }
@@ -136,7 +184,7 @@ where
 {
     let mut log = log;
     let made = create(rt.alloc(), &mut log, writer, hash_key);
-    let closed = log.close_all();
+    let closed = log.close_copied();
     made?;
     closed
 }
@@ -169,7 +217,47 @@ fn make_file(rt: &HostRuntime, path: &str) -> Result<(), Failure> {
     }
 }
 
-/// Makes a store in a new file. Where that fails, what it made is taken away: the file, and the log unless one was there.
+/// How many bytes a log has at least that may have pages: its header and that of a page.
+const LOG_WITH_PAGES: u64 = 56;
+
+/// Refuses a name that a file has, or whose log has pages of another file.
+fn expect_none(rt: &HostRuntime, path: &str, log: &str) -> Result<(), Failure> {
+    match fs::symlink_metadata(rt, path) {
+        Ok(_) => return Err(Failure::Command(Fault::Exists)),
+        Err(error) if error.kind() == ErrorKind::NotFound => {}
+        Err(error) => return Err(Failure::Path(OpenError::Io(error))),
+    }
+    match fs::symlink_metadata(rt, log) {
+        Ok(found) if !found.is_file() => {
+            Err(Failure::Path(OpenError::Io(ErrorKind::Unsupported.into())))
+        }
+        Ok(found) if found.len() >= LOG_WITH_PAGES => Err(Failure::Mode(
+            "there is a log without its file: remove FILE-wal",
+        )),
+        _ => Ok(()),
+    }
+}
+
+/// Gives a file its name, unless one has it by now. The folder is synced too, so that the name is there after a crash.
+fn put_in_place(rt: &HostRuntime, made: &str, path: &str, log: &str) -> Result<(), Failure> {
+    expect_none(rt, path, log)?;
+    if let Err(error) = fs::rename(rt, made, path) {
+        return Err(Failure::Path(OpenError::Io(error)));
+    }
+    // (the next command on the file syncs its folder too)
+    let _ = sync_folder(rt, path);
+    Ok(())
+}
+
+/// Syncs the folder of a file.
+fn sync_folder(rt: &HostRuntime, path: &str) -> io::Result<()> {
+    let mut folder = fs::canonicalize(rt, path)?;
+    folder.pop();
+    fs::open(rt, folder.as_str())?.sync_all()
+}
+
+/// Makes a store in a new file, which has another name until the store is whole. So there is a store at the end, or no file of this name; stopped
+/// in between, it leaves a file and a log under that other name, which nothing needs.
 pub fn make_store(
     rt: &HostRuntime,
     path: &str,
@@ -178,15 +266,19 @@ pub fn make_store(
 ) -> Result<(), Failure> {
     let writer = name_of_copy(rt, writer)?;
     let hash_key = key_of_store(rt, hash_key)?;
+    let number = random(rt)?;
     let log = format!(in rt.alloc(); "{path}-wal")?;
-    let had_log = is_there(rt, log.as_str())?;
-    make_file(rt, path)?;
-    let filled = fill_file(rt, path, writer.as_str(), &hash_key);
-    if filled.is_err() {
-        let _ = fs::remove_file(rt, path);
-        if !had_log {
-            let _ = fs::remove_file(rt, log.as_str());
-        }
+    let made = format!(in rt.alloc(); "{path}-{number:016x}")?;
+    let made_log = format!(in rt.alloc(); "{path}-{number:016x}-wal")?;
+    expect_none(rt, path, log.as_str())?;
+    make_file(rt, made.as_str())?;
+    let done = match fill_file(rt, made.as_str(), writer.as_str(), &hash_key) {
+        Ok(()) => put_in_place(rt, made.as_str(), path, log.as_str()),
+        Err(failure) => Err(failure),
+    };
+    if done.is_err() {
+        let _ = fs::remove_file(rt, made.as_str());
     }
-    filled
+    let _ = fs::remove_file(rt, made_log.as_str());
+    done
 }

@@ -1,16 +1,18 @@
 //! A key-value store in one SQLite file, kept in step with its copies over any pair of pipes.
 //!
-//! It ends with status 0; with 1, and a line on standard error, where a key is not there or a command failed; and with 2, and a line
-//! there, where the command line is none.
+//! It ends with status 0; with 1, and a line on standard error, where a key is not there or a command failed; with 2, and a line
+//! there, where the command line is none; and with 3, and a line there, where another process has the file.
 #![tactic(auto)]
 
 mod fault;
 mod files;
+mod look;
 mod peers;
 mod shell;
 mod tasks;
 
 use fault::Failure;
+use mst_commands::Fault;
 use mst_commands::escape::escape;
 use mst_words::verb::{HELP, VERSION, form_of};
 use mst_words::{Asked, Wrong, read_words};
@@ -21,14 +23,22 @@ use std::process::ExitCode;
 
 /// Says that the command line is none.
 fn refused(rt: &HostRuntime, wrong: &Wrong<'_>) -> ExitCode {
-    let _ = eprintln!(rt; "mst: {wrong}: mst --help tells the commands");
+    let _ = eprintln!(rt; "mst: {wrong}: see mst --help");
     ExitCode::from(2)
+}
+
+/// The status with which the program ends early.
+fn status_of(failure: &Failure) -> ExitCode {
+    match failure {
+        Failure::Command(Fault::InUse) => ExitCode::from(3),
+        _ => ExitCode::FAILURE,
+    }
 }
 
 /// Says why the program ends early.
 fn failed(rt: &HostRuntime, failure: &Failure) -> ExitCode {
     let _ = eprintln!(rt; "mst: {failure}");
-    ExitCode::FAILURE
+    status_of(failure)
 }
 
 /// Says why a command on a file ends early. The name of the file stands in one line, as a key does in a list.
@@ -37,7 +47,7 @@ fn failed_on(rt: &HostRuntime, file: &str, failure: &Failure) -> ExitCode {
         return failed(rt, failure);
     };
     let _ = eprintln!(rt; "mst: {name}: {failure}");
-    ExitCode::FAILURE
+    status_of(failure)
 }
 
 /// Prints a text.
@@ -69,7 +79,7 @@ fn main(rt: HostRuntime) -> ExitCode {
             Err(error) => failed(&rt, &Failure::from(error)),
         },
         Err(error) if error.kind() == ErrorKind::InvalidData => refused(&rt, &Wrong::NotText),
-        // The words are refused for that alone, or for want of memory.
+        // The words fail for that alone, or memory ran out.
         Err(_) => failed(&rt, &Failure::from(AllocError)),
     }
 }

@@ -2,9 +2,12 @@
 use crate::fault::Failure;
 use merkle_store::Store;
 use merkle_store::framing::{MOST_BYTES, Unwatched, Watch};
-use merkle_store::pulling::{self, Brought};
+use merkle_store::pulling::{self, Brought, PullFault, Untaken};
+use mst_commands::escape::cut;
+use mst_commands::fault::Named;
 use mst_commands::lines::write_keys;
 use sqlite_trees::store::Store as Trees;
+use std::alloc::{AllocError, Global};
 use std::io::{IsTerminal, Write};
 use store_table::table::Entries;
 
@@ -72,27 +75,59 @@ pub fn serve<S: Trees + Drop>(rt: &HostRuntime, store: &mut Store<S>) -> Result<
     Ok(())
 }
 
+/// What is said of an entry of a peer that isn't taken.
+fn told(alloc: Global, entry: &Untaken) -> Result<Named, AllocError> {
+    Ok(Named {
+        key: cut(alloc, entry.key.as_str())?,
+        time: entry.time,
+        writer: cut(alloc, entry.writer.as_str())?,
+    })
+}
+
+/// Why a pull failed, with the names of an entry in one line each.
+fn failure_of(alloc: Global, fault: PullFault) -> Failure {
+    match fault {
+        PullFault::Ahead(entry) => match told(alloc, &entry) {
+            Ok(entry) => Failure::Ahead(entry),
+            Err(error) => Failure::from(error),
+        },
+        PullFault::TooLong(entry) => match told(alloc, &entry) {
+            Ok(entry) => Failure::TooLong(entry),
+            Err(error) => Failure::from(error),
+        },
+        other => Failure::Pull(other),
+    }
+}
+
 /// Brings what a peer has.
 pub fn pull<S: Trees + Drop>(rt: &HostRuntime, store: &mut Store<S>) -> Result<Brought, Failure> {
     let mut lines = lines_of(rt);
-    Ok(pulling::pull(
+    let pulled = pulling::pull(
         store,
         &mut rt.stdin(),
         &mut rt.stdout(),
         MOST_BYTES,
         &mut lines,
-    )?)
+    );
+    match pulled {
+        Ok(brought) => Ok(brought),
+        Err(fault) => Err(failure_of(rt.alloc(), fault)),
+    }
 }
 
 /// The entries that a pull would bring.
 pub fn look<S: Trees + Drop>(rt: &HostRuntime, store: &mut Store<S>) -> Result<Entries, Failure> {
-    Ok(pulling::look(
+    let looked = pulling::look(
         store,
         &mut rt.stdin(),
         &mut rt.stdout(),
         MOST_BYTES,
         &mut Unwatched,
-    )?)
+    );
+    match looked {
+        Ok(news) => Ok(news),
+        Err(fault) => Err(failure_of(rt.alloc(), fault)),
+    }
 }
 
 /// Tells on standard error the keys of entries, a line each, once memory was found for all lines.

@@ -4,13 +4,14 @@ ghost use Rattle.mst_commands.specs.Carries.{Carries};
 ghost use Rattle.store_table.specs.Logs.{IsSteady, Leaves, LeavesNoMore, Makes, StaysInOk};
 
 use crate::fault::Failure;
-use crate::files::{Closing, close_behind, make_store, open_file};
+use crate::files::{Closing, close_behind, expect_file, make_store, open_file};
 use crate::{peers, shell};
 use merkle_digest::RootHash;
 use merkle_store::Store;
 use merkle_store::upkeep::read_replica;
 use mst_commands::clock::now;
-use mst_commands::run;
+use mst_commands::input::read_input;
+use mst_commands::{Input, run};
 use mst_words::hash_key::number_of;
 use mst_words::{Given, Verb};
 use sqlite_std_file::OpenError;
@@ -29,16 +30,17 @@ fn root_of<S: Trees>(rt: &HostRuntime, log: &mut Log<S>, note: &Note) -> Result<
     Ok(replica.root_hash().clone()?)
 }
 
-/// Runs a command on an open log of a store that notes this of itself.
+/// Runs a command on an open log of a store that notes this of itself, with what was read from standard input before.
 pub fn run_open<S: Trees>(
     rt: &HostRuntime,
     log: &mut Log<S>,
     note: &Note,
     verb: Verb,
     given: &Given<'_>,
+    input: Input,
 ) -> Result<(), Failure>
-    ensures carried { Makes S.Store log.old log.new result (Carries verb (string_bytes note.now.writer) given.now) }
-    ensures crash { Leaves S.Store log.old log.new (Carries verb (string_bytes note.now.writer) given.now) }
+    ensures carried { Makes S.Store log.old log.new result (Carries verb (string_bytes note.now.writer) given.now input) }
+    ensures crash { Leaves S.Store log.old log.new (Carries verb (string_bytes note.now.writer) given.now input) }
 {
     if verb == Verb::HashKey {
         println!(rt; "{:032x}", number_of(&note.hash_key))?;
@@ -48,7 +50,7 @@ pub fn run_open<S: Trees>(
         println!(rt; "{}", root_of(rt, log, note)?)?;
         return Ok(());
     }
-    run::run(rt, log, note.writer.as_str(), verb, given)?;
+    run::run(rt, log, note.writer.as_str(), verb, given, input)?;
     if verb == Verb::Status {
         println!(rt; "root {}", root_of(rt, log, note)?)?;
     }
@@ -61,15 +63,16 @@ fn run_lent<S: Trees>(
     log: &mut Log<S>,
     verb: Verb,
     given: &Given<'_>,
+    input: Input,
 ) -> Result<(), Failure> {
     let note = recognise(rt.alloc(), log)?;
     if verb == Verb::Shell {
         return shell::run_lines(rt, log, &note);
     }
-    run_open(rt, log, &note, verb, given)
+    run_open(rt, log, &note, verb, given, input)
 }
 
-/// The time that a store is opened at: entries of a peer of up to a day behind it are taken.
+/// The time that a store is opened at: entries of a peer of up to a day after it are taken.
 fn time_of(rt: &HostRuntime, given: &Given<'_>) -> Result<u64, Failure> {
     if given.ahead {
         Ok(u64::MAX)
@@ -107,7 +110,9 @@ where
     let mut store = store;
     let pulled = peers::pull(rt, &mut store);
     let brought = close_behind(store.into_log(), pulled)?;
-    peers::tell(rt, &brought)
+    // (what came is in the file, though nobody may read how much it was)
+    let _ = peers::tell(rt, &brought);
+    Ok(())
 }
 
 /// Looks at what a pull would bring, and tells it once the file is closed.
@@ -127,6 +132,7 @@ fn run_on<S: Trees + Drop>(
     log: Log<S>,
     verb: Verb,
     given: &Given<'_>,
+    input: Input,
 ) -> Result<(), Failure>
 where
     Log<S>: Closing,
@@ -135,7 +141,7 @@ where
     if let Verb::Serve | Verb::Pull | Verb::Diff = verb {
         return run_peer(rt, log, verb, time_of(rt, given)?);
     }
-    let done = run_lent(rt, &mut log, verb, given);
+    let done = run_lent(rt, &mut log, verb, given, input);
     close_behind(log, done)
 }
 
@@ -149,12 +155,15 @@ fn print_size(rt: &HostRuntime, path: &str) -> Result<(), Failure> {
     Ok(())
 }
 
-/// Runs a command on a file.
+/// Runs a command on a file, which is opened once standard input was read to its end where the command takes something from there.
 pub fn run(rt: &HostRuntime, verb: Verb, path: &str, given: &Given<'_>) -> Result<(), Failure> {
     if verb == Verb::Init {
         return make_store(rt, path, given.writer, given.hash_key);
     }
-    run_on(rt, open_file(rt, path, given.wait)?, verb, given)?;
+    // (a file that isn't there is told before anything is typed)
+    expect_file(rt, path)?;
+    let input = read_input(rt, verb, given)?;
+    run_on(rt, open_file(rt, path, given.wait)?, verb, given, input)?;
     if verb == Verb::Status {
         print_size(rt, path)?;
     }

@@ -87,7 +87,7 @@ say_more is_log number at records entries after fields entry said is says same =
     (say_more_as is_log number records entries fields entry said (subst (λ n. SaysEntry is_log n fields entry) is says))
 
 module _ {W : Type 0} (contents : W → Option (List ℕ)) where
-  -- records behind records
+  -- records after records
   pub writes_then : (a b c : Writer W) (one two : List ℕ) → WritesRecords contents a b one → WritesRecords contents b c two → WritesRecords contents a c (one ++ two)
   writes_then a b c one two first second before =
       let p = first before in
@@ -102,7 +102,7 @@ module _ {W : Type 0} (contents : W → Option (List ℕ)) where
   of_empty (Some x) None text h = h
   of_empty (Some x) (Some y) text h = h ∙ ap (λ l. l ++ text) (append-nil x)
 
-  -- what a new writer wrote is behind what its output had
+  -- what a new writer wrote is after what its output had
   pub written_all : (out last : W) (first end : Writer W) (text : List ℕ) → writer_under first ≡ out → writer_pending first ≡ []
       → Appends (text_written contents first) (text_written contents end) text → Keeps (text_written contents end) (contents last) → Appends (contents out) (contents last) text
   written_all out last first end text under none wrote kept =
@@ -111,11 +111,11 @@ module _ {W : Type 0} (contents : W → Option (List ℕ)) where
       (subst (λ w. Appends (append_known (contents w) (writer_pending first)) (contents last) text) under
       (Appends-kept _ _ _ text wrote kept)))
 
-  -- a record behind those that were written
+  -- a record after those that were written
   pub written_more : (out : W) (before after : Writer W) (text more all : List ℕ) → HasWritten contents out before text → WritesRecords contents before after more → text ++ more ≡ all → HasWritten contents out after all
   written_more out before after text more all had writes is =
       (had.0, had.1, subst (WritesRecords contents had.0 after) is (writes_then had.0 before after text more had.2 writes))
 
-  -- what was written is behind what the output had
+  -- what was written is after what the output had
   pub written_out : (out last : W) (writer : Writer W) (text : List ℕ) → HasWritten contents out writer text → Keeps (text_written contents writer) (contents last) → Appends (contents out) (contents last) text
   written_out out last writer text had kept = written_all out last had.0 writer text had.1.under had.1.empty (had.2 had.1.before).1 kept

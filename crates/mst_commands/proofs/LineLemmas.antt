@@ -19,7 +19,7 @@ take_both (x ∷ xs) ys (suc n) =
     let same : n - length xs ≡ suc n - length (x ∷ xs) = omega arith in
     ap (λ l. x ∷ l) (take_both xs ys n ∙ ap (λ m. take n xs ++ take m ys) same)
 
--- the lines of rows and of one more, as many as may be listed behind them
+-- the lines of rows and of one more, as many as may be listed after them
 pub lines_more : (bounds : Bounds) (json : Bool) (limit left : ℕ) (rows : List (Key × Register)) (row : Key × Register) → left ≡ limit - length (filter_map (pair_within bounds) rows)
     → lines_of bounds json limit rows ++ lines_of bounds json left (row ∷ []) ≡ lines_of bounds json limit (rows ++ row ∷ [])
 lines_more bounds json limit left rows row is =
@@ -30,7 +30,7 @@ lines_more bounds json limit left rows row is =
     ∙ ap (flat_map (line_as json)) (sym (take_both pairs next limit))
     ∙ ap (λ (l : List Pair). flat_map (line_as json) (take limit l)) (sym (filter_map-append (pair_within bounds) rows (row ∷ [])))
 
--- how many may be listed behind rows and one more
+-- how many may be listed after rows and one more
 pub left_more : (bounds : Bounds) (limit left after : ℕ) (rows : List (Key × Register)) (row : Key × Register) → left ≡ limit - length (filter_map (pair_within bounds) rows)
     → after ≡ left - length (filter_map (pair_within bounds) (row ∷ [])) → after ≡ limit - length (filter_map (pair_within bounds) (rows ++ row ∷ []))
 left_more bounds limit left after rows row is e =

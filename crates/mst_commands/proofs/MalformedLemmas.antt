@@ -1,6 +1,6 @@
 -- Texts of CSV that are refused.
-use Rattle.std.proofs.Common.{◌≡◌, ◌≢◌, ℕ, ◌^◌, ◌<◌, ◌≤◌, true, false, List, [], ◌∷◌, ◌++◌, length, Option, Some, None, refl, ap, sym, subst, ◌∙◌, string_bytes, arith}
-use Rattle.std.specs.Prelude.{IfSome, IsSomeAnd}
+use Rattle.std.proofs.Common.{◌≡◌, ℕ, Bool, ◌^◌, ◌<◌, ◌≤◌, true, false, List, [], ◌∷◌, ◌++◌, length, Option, Some, None, Result, Ok, Err, inl, refl, ap, sym, subst, ◌∙◌, string_bytes, arith}
+use Rattle.std.specs.Prelude.{IfErr, IfSome, IsSomeAnd}
 use Rattle.std.specs.Str.Parse.{IsNumeral, digits_value, without_leading_plus}
 use Rattle.key_order.specs.Text.{Text as Key}
 use Rattle.csv.specs.Machine.{Read, next_record}
@@ -13,8 +13,8 @@ use Rattle.csv.specs.declared.parser.State.{State}
 use Rattle.csv.specs.declared.parser.State.TheVariants as st
 use Rattle.csv.specs.declared.reader.Reader.{Reader}
 use Rattle.csv.specs.declared.reader.Trim.TheVariants as trim
-use Rattle.mst_commands.specs.Malformed.{Begins, EndsFor, GoesOnInNoText, IsNoText, SaysNone, SaysNoChange, StopsReading}
-use Rattle.mst_commands.specs.Records.{change_fields, field_or_empty, log_fields, pair_fields, HasRead}
+use Rattle.mst_commands.specs.Malformed.{Begins, EndsFor, GoesOnInNoText, IsBadText, IsImportRefused, IsNoText, IsParseRefused, LacksHeader, SaysNone, SaysNoChange, StopsReading}
+use Rattle.mst_commands.specs.Records.{change_fields, field_or_empty, pair_fields, HasRead}
 use Rattle.mst_commands.specs.declared.fault.Fault.{Fault}
 use Rattle.mst_commands.specs.declared.fault.Fault.TheVariants as fault
 
@@ -30,10 +30,10 @@ ends-for fault.Exists f g h = absurd h
 ends-for fault.InUse f g h = absurd h
 ends-for fault.NoKey f g h = absurd h
 ends-for (fault.TooLong what) f g h = absurd h
-ends-for fault.Future f g h = absurd h
+ends-for (fault.Future entry) f g h = absurd h
 ends-for fault.System f g h = absurd h
 
--- one record more behind those that were reached
+-- one record more after those that were reached
 reached-more : (cfg : Config) (s s2 : State) (xs ys : List ℕ) (records : List (List (List ℕ))) (p : Read)
     → Reached cfg s xs records s2 ys → next_record cfg s2 [] [] ys ≡ Some p → Reached cfg s xs (records ++ p.0 ∷ []) p.1 p.2
 unfolding Reached
@@ -83,6 +83,21 @@ pub if-known : {P Q : List ℕ → Type 0} (text : Option (List ℕ)) → ((byte
 if-known None f h = tt
 if-known (Some bytes) f h = f bytes h
 
+-- what holds of the bytes that were read holds of a text that is known, which these are
+of-all : (Q : List ℕ → Type 0) (text : Option (List ℕ)) (all : List ℕ) → IfSome text (λ bytes. all ≡ bytes) → Q all → IfSome text Q
+of-all Q None all same h = tt
+of-all Q (Some bytes) all same h = subst Q same h
+
+-- where the records of the bytes that were read end an import, so do those of the text
+import-refused : (is_log : Bool) (text : Option (List ℕ)) (all : List ℕ) (why : Fault) → IfSome text (λ bytes. all ≡ bytes) → IsParseRefused is_log (Some all) why → IsImportRefused is_log text why
+import-refused is_log text all why same refused =
+    ends-for why (λ lacks. of-all (LacksHeader is_log) text all same lacks) (λ bad. of-all (IsBadText is_log) text all same (inl bad)) refused
+
+pub refused-as : {A : Type 0} (is_log : Bool) (text : Option (List ℕ)) (all : List ℕ) (result : Result A Fault) → IfSome text (λ bytes. all ≡ bytes)
+    → IfErr result (IsParseRefused is_log (Some all)) → IfErr result (IsImportRefused is_log text)
+refused-as is_log text all (Ok entries) same refused = tt
+refused-as is_log text all (Err why) same refused = import-refused is_log text all why same refused
+
 -- a record of keys and texts that says an entry has two fields
 of-pair : (row : List (List ℕ)) (key : List ℕ) (value : Option Key) → IsSomeAnd value (λ text. row ≡ pair_fields (key, string_bytes text))
     → (text : Key) × (value ≡ Some text) × (row ≡ key ∷ string_bytes text ∷ [])
@@ -90,12 +105,6 @@ of-pair row key None says = absurd says
 of-pair row key (Some text) says = (text, refl, says)
 
 module _ (row : List (List ℕ)) where
-  -- so another number of fields says none, and neither does a key or a text that is too long
-  pub no-pair : length row ≢ 2 → SaysNone false row
-  no-pair other number entry says within =
-      let p = of-pair row (string_bytes entry.0) entry.1.value says.fields in
-      other (ap length p.2)
-
   pub long-key : 1048576 < length (field_or_empty row 0) → SaysNone false row
   unfolding field_at
   long-key long number entry says within =
@@ -125,13 +134,6 @@ change-of None = refl
 change-of (Some text) = refl
 
 module _ (row : List (List ℕ)) where
-  -- so it is with the record of a change
-  pub no-five : length row ≢ 5 → SaysNone true row
-  no-five other number entry says within =
-      let n = change-length entry.1.value in
-      let all : length row ≡ length (log_fields says.0 entry) = ap length says.2 in
-      other (omega (arith, all, n))
-
   pub long-log-key : 1048576 < length (field_or_empty row 0) → SaysNone true row
   unfolding field_at
   long-log-key long number entry says within =

@@ -1,27 +1,15 @@
 -- What was read of the table.
-use Rattle.std.proofs.Common.{◌≡◌, ℕ, ◌+◌, max, Bool, false, cond, List, [], ◌∷◌, ◌++◌, flat_map, ap, sym, ◌∙◌, append-nil, append_assoc}
+use Rattle.std.proofs.Common.{◌≡◌, ℕ, ◌+◌, Bool, false, cond, List, [], ◌∷◌, ◌++◌, flat_map, ap, sym, ◌∙◌, append-nil, append_assoc}
 use Rattle.std.specs.List.{count_by}
 use Rattle.std.proofs.lemmas.List.Concat.{flat_map-append}
 use Rattle.std.proofs.lemmas.List.Sums.{fold-append}
 use Rattle.key_order.specs.Text.{Text as Key}
 use Rattle.csv.specs.Writing.{row_text, default_writer}
-use Rattle.store_table.specs.Rows.{says_text, is_removal}
 use Rattle.store_table.specs.declared.register.Register.{Register}
-use Rattle.store_table.specs.declared.rows.Summary.{Summary}
-use Rattle.mst_commands.specs.Reads.{SumsOn}
 use Rattle.mst_commands.specs.Records.{header, pair_text, pairs_text}
 
 count_more : {X : Type 0} (p : X → Bool) (xs : List X) (x : X) → count_by p (xs ++ x ∷ []) ≡ count_by p xs + cond (p x) 1 0
 count_more p xs x = fold-append (λ a y. a + cond (p y) 1 0) 0 xs (x ∷ [])
-
--- the numbers of rows and of one more
-pub sums_on : (before after : Summary) (row : Key × Register) → after.keys ≡ before.keys + cond (says_text row) 1 0 → after.removed ≡ before.removed + cond (is_removal row) 1 0
-    → after.last ≡ max before.last row.1.time → SumsOn before row after
-sums_on before after row keys removed last rows was = record {
-  keys = keys ∙ ap (λ n. n + cond (says_text row) 1 0) was.keys ∙ sym (count_more says_text rows row);
-  removed = removed ∙ ap (λ n. n + cond (is_removal row) 1 0) was.removed ∙ sym (count_more is_removal rows row);
-  last = last ∙ ap (λ n. max n row.1.time) was.last ∙ sym (fold-append (λ latest (r : Key × Register). max latest r.1.time) 0 rows (row ∷ []));
-}
 
 pieces_then : {X : Type 0} (f : X → List ℕ) (front : List ℕ) (xs : List X) (x : X) → (front ++ flat_map f xs) ++ f x ≡ front ++ flat_map f (xs ++ x ∷ [])
 pieces_then f front xs x =

@@ -1,5 +1,5 @@
 -- Writes by the writer of a name, and imports.
-use Rattle.std.proofs.Common.{◌≡◌, ◌⊎◌, inl, inr, ℕ, List, map, Option, IfSome, is_some, string_bytes, subst, arith}
+use Rattle.std.proofs.Common.{◌≡◌, ◌⊎◌, inl, inr, ℕ, List, map, Option, string_bytes, subst, arith}
 use Rattle.key_order.specs.Text.{Text as Key}
 use Rattle.sqlite_trees.specs.declared.store.Store.{Ghosts}
 use Rattle.sqlite_trees.specs.Tree.{Trees}
@@ -9,7 +9,6 @@ use Rattle.store_table.specs.Latest.{WritesOver}
 use Rattle.store_table.specs.Logs.{IsClean, IsSteady, Leaves, LeavesNoMore, trees_of}
 use Rattle.store_table.specs.declared.register.Register.{Register}
 use Rattle.mst_commands.specs.Imports.{AddsOf, Imports}
-use Rattle.mst_commands.specs.Records.{HasEntries}
 use Rattle.mst_commands.specs.Writes.{WritesBy}
 
 -- a crash in a write by a writer of this name
@@ -21,25 +20,23 @@ by_name g key name writer now value old new is leaves trees left = by (leaves tr
     by (inl at) = inl (at.0, (writer, is, at.1))
     by (inr r) = inr r
 
-module _ (text : Option (List ℕ)) (log : Option ℕ) (name : List ℕ) (now : ℕ) (came added : List (Key × Register)) (read : IfSome text (λ bytes. HasEntries (is_some log) bytes came)) where
+module _ (log : Option ℕ) (name : List ℕ) (now : ℕ) (came added : List (Key × Register)) where
   -- rows that are added to trees that were only read since
-  pub imported : (old mid new : Trees) → mid ≡ old → AddsOf log name now old came added → HasMore (map entry_row added) mid new → Imports text log name now old new
+  pub imported : (old mid new : Trees) → mid ≡ old → AddsOf log name now old came added → HasMore (map entry_row added) mid new → Imports came log name now old new
   imported old mid new same chosen more = record {
-    came = came;
     added = added;
-    read = read;
     chosen = chosen;
     more = subst (λ (t : Trees). HasMore (map entry_row added) t new) same more;
   }
 
   -- a crash leaves these rows, or what it could leave before
   pub import_leaves : {S : Type 0} (g : Ghosts S) (old mid new : S) → IsSteady g old mid → (IsClean g mid → AddsOf log name now (trees_of g old) came added)
-      → (IsClean g mid → trees_of g mid ≡ trees_of g old) → LeavesNoMore g old mid → Leaves g mid new (HasMore (map entry_row added)) → Leaves g old new (Imports text log name now)
+      → (IsClean g mid → trees_of g mid ≡ trees_of g old) → LeavesNoMore g old mid → Leaves g mid new (HasMore (map entry_row added)) → Leaves g old new (Imports came log name now)
   import_leaves g old mid new steady chosen same no_more leaves trees left = by (leaves trees left)
     where
       first : IsClean g mid → IsClean g old
       first clean = omega (arith, steady.clean, clean)
 
-      by : (IsClean g mid × HasMore (map entry_row added) (trees_of g mid) trees) ⊎ g.recovers mid trees → (IsClean g old × Imports text log name now (trees_of g old) trees) ⊎ g.recovers old trees
+      by : (IsClean g mid × HasMore (map entry_row added) (trees_of g mid) trees) ⊎ g.recovers mid trees → (IsClean g old × Imports came log name now (trees_of g old) trees) ⊎ g.recovers old trees
       by (inl at) = inl (first at.0, imported (trees_of g old) (trees_of g mid) trees (same at.0) (chosen at.0) at.1)
       by (inr r) = inr (no_more trees r)

@@ -1,5 +1,5 @@
 -- What each command makes of the table of a store.
-use Rattle.std.specs.Prelude.{◌≡◌, ◌+◌, ◌-◌, ◌^◌, min, ℕ, false, true, List, Option, Some, None, if◌then◌else◌, string_bytes}
+use Rattle.std.specs.Prelude.{◌≡◌, ◌+◌, ◌-◌, ◌^◌, min, ℕ, ⊤, false, true, List, [], Option, Some, None, if◌then◌else◌, string_bytes}
 use Rattle.key_order.specs.Text.{Text as Key}
 use Rattle.mst_words.specs.declared.parse.Given.{Given}
 use Rattle.mst_words.specs.declared.verb.Verb.{Verb}
@@ -7,16 +7,34 @@ use Rattle.mst_words.specs.declared.verb.Verb.TheVariants.{Put, Del, Import, Com
 use Rattle.sqlite_trees.specs.Tree.{Trees}
 use Rattle.store_table.specs.Latest.{IsThere}
 use Rattle.store_table.specs.Rows.{IsCompacted}
+use Rattle.store_table.specs.declared.register.Register.{Register}
 use Rattle.mst_commands.specs.Imports.{Imports}
 use Rattle.mst_commands.specs.Writes.{WritesBy}
+use Rattle.mst_commands.specs.declared.input.Input.{Input}
+use Rattle.mst_commands.specs.declared.input.Input.TheVariants.{Nothing, Value, Records}
 
--- the text is the value that was given, unless that is read from the input
-abbrev pub IsGiven : Given → Key → Type 0
-IsGiven given text = given.is_input ≡ false → string_bytes text ≡ given.value.now
+-- what a command reads from the input: a put whose value is to come from there reads it, and an import its entries
+abbrev pub IsInputOf : Verb → Given → Input → Type 0
+IsInputOf Put given (Value text) = given.is_input ≡ true
+IsInputOf Import given (Records entries) = ⊤
+IsInputOf Put given Nothing = given.is_input ≡ false
+IsInputOf Import given Nothing = ⊥
+IsInputOf _ given Nothing = ⊤
+IsInputOf _ given _ = ⊥
+
+-- the value of a put: that of the input, or else the one that is given
+abbrev pub value_of : Input → Given → List ℕ
+value_of (Value text) given = string_bytes text
+value_of _ given = given.value.now
+
+-- the entries of an import: those of the input
+abbrev pub entries_of : Input → List (Key × Register)
+entries_of (Records entries) = entries.items
+entries_of _ = []
 
 -- a put writes the value under the key, at some time of the clock
-abbrev pub Puts : List ℕ → Given → Trees → Trees → Type 0
-Puts name given old new = (now : ℕ) × (text : Key) × IsGiven given text × WritesBy given.key.now name now (Some text) old new
+abbrev pub Puts : List ℕ → Given → Input → Trees → Trees → Type 0
+Puts name given input old new = (now : ℕ) × (text : Key) × (string_bytes text ≡ value_of input given) × WritesBy given.key.now name now (Some text) old new
 
 -- a removal is written of the key
 abbrev pub Dels : List ℕ → Given → Trees → Trees → Type 0
@@ -30,9 +48,9 @@ latest_time given now = if given.ahead then 2 ^ 64 - 1 else min (now + 86400000)
 abbrev pub limit_of : Given → ℕ → Option ℕ
 limit_of given now = if given.log then Some (latest_time given now) else None
 
--- an import adds the entries of what the input had
-abbrev pub ImportsGiven : List ℕ → Given → Trees → Trees → Type 0
-ImportsGiven name given old new = (now : ℕ) × (text : Option (List ℕ)) × Imports text (limit_of given now) name now old new
+-- an import adds the entries that the input had
+abbrev pub ImportsGiven : List ℕ → Given → Input → Trees → Trees → Type 0
+ImportsGiven name given input old new = (now : ℕ) × Imports (entries_of input) (limit_of given now) name now old new
 
 -- the time below which a compaction drops removals: so long before the clock's, or none
 abbrev pub forgets_below : Option ℕ → ℕ → ℕ
@@ -43,10 +61,10 @@ forgets_below (Some span) now = now - span
 abbrev pub Compacts : Given → Trees → Trees → Type 0
 Compacts given old new = (now : ℕ) × IsCompacted (forgets_below given.forget now) old new
 
--- what a command makes of the table, by the writer of this name and with what it is given: those that read leave it as it is
-abbrev pub Carries : Verb → List ℕ → Given → Trees → Trees → Type 0
-Carries Put name given old new = Puts name given old new
-Carries Del name given old new = Dels name given old new
-Carries Import name given old new = ImportsGiven name given old new
-Carries Compact name given old new = Compacts given old new
-Carries _ name given old new = new ≡ old
+-- what a command makes of the table, by the writer of this name, with what it is given and what it read: those that only read leave it as it is
+abbrev pub Carries : Verb → List ℕ → Given → Input → Trees → Trees → Type 0
+Carries Put name given input old new = Puts name given input old new
+Carries Del name given input old new = Dels name given old new
+Carries Import name given input old new = ImportsGiven name given input old new
+Carries Compact name given input old new = Compacts given old new
+Carries _ name given input old new = new ≡ old

@@ -8,7 +8,7 @@ use Rattle.std.specs.Str.{chars}
 abbrev pub escape_of : ℕ → List ℕ
 escape_of c = cond (c == 9) (codes "\\t") (cond (c == 10) (codes "\\n") (cond (c == 13) (codes "\\r") (cond (c == 92) (codes "\\\\") (c ∷ []))))
 
--- the letter that stands for a character behind a backslash, or none where the character stands for itself
+-- the letter that stands for a character after a backslash, or none where the character stands for itself
 abbrev pub IsLetterOf : ℕ → Option ℕ → Type 0
 IsLetterOf c found = MatchOption found (escape_of c ≡ c ∷ []) (λ letter. escape_of c ≡ 92 ∷ letter ∷ [])
 

@@ -10,6 +10,11 @@ abbrev pub IsTooLong : Fault → Type 0
 IsTooLong (fault.TooLong what) = ⊤
 IsTooLong _ = ⊥
 
+-- an entry is too far ahead of the clock
+abbrev pub IsAhead : Fault → Type 0
+IsAhead (fault.Future entry) = ⊤
+IsAhead _ = ⊥
+
 -- an input or an output failed
 abbrev pub IsDevice : Fault → Type 0
 IsDevice (fault.Device error) = ⊤

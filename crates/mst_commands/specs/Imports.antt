@@ -1,5 +1,5 @@
 -- What an import makes of the entries that it reads.
-use Rattle.std.specs.Prelude.{◌≡◌, ◌≤◌, ◌<◌, ℕ, Bool, List, map, filter, All, Any, Option, Some, None, is_some, IfSome, string_bytes}
+use Rattle.std.specs.Prelude.{◌≡◌, ◌≤◌, ◌<◌, ℕ, Bool, List, map, filter, All, Any, Option, Some, None, string_bytes}
 use Rattle.std.specs.Global.{Vec}
 use Rattle.std.specs.List.{AllZip}
 use Rattle.key_order.specs.Text.{Text as Key, text_order}
@@ -10,7 +10,6 @@ use Rattle.store_table.specs.Entries.{entry_row}
 use Rattle.store_table.specs.Registers.{is_later, time_after}
 use Rattle.store_table.specs.Rows.{AreLatest, HasLatestRows}
 use Rattle.store_table.specs.declared.register.Register.{Register}
-use Rattle.mst_commands.specs.Records.{HasEntries}
 
 -- the entry as this name writes it: at the clock's time, or one above that of the register that the rows have for its key
 pub record IsDated (rows : List (Key × Register)) (name : List ℕ) (now : ℕ) (entry dated : Key × Register) : Type 0 where
@@ -41,10 +40,8 @@ abbrev pub AddsOf : Option ℕ → List ℕ → ℕ → Trees → List (Key × R
 AddsOf log name now trees came added =
     (rows last : List (Key × Register)) × HasLatestRows trees rows × AreLatest came last × AreAdded log name now rows last added
 
--- the entries of a text, where it is known, that an import adds are rows more, and nothing else changes
-pub record Imports (text : Option (List ℕ)) (log : Option ℕ) (name : List ℕ) (now : ℕ) (old new : Trees) : Type 0 where
-  pub came : List (Key × Register)
+-- those of the entries that came which an import adds are rows more, and nothing else changes
+pub record Imports (came : List (Key × Register)) (log : Option ℕ) (name : List ℕ) (now : ℕ) (old new : Trees) : Type 0 where
   pub added : List (Key × Register)
-  pub read : IfSome text (λ bytes. HasEntries (is_some log) bytes came)
   pub chosen : AddsOf log name now old came added
   pub more : HasMore (map entry_row added) old new

@@ -5,6 +5,7 @@ pub mod Faults
 pub mod Imports
 pub mod Lines
 pub mod Malformed
+pub mod Quotes
 pub mod Reads
 pub mod Records
 pub mod Writes

@@ -40,7 +40,7 @@ line_where json pair = option_map_or (line_as json) pair []
 abbrev pub row_line : Listing → Key × Register → List ℕ
 row_line listing row = line_where listing.json (pair_within listing.bounds row)
 
--- a line for each row that is listed, for so many at most
+-- a line for each row that is listed, for this many at most
 abbrev pub lines_of : Bounds → Bool → ℕ → List (Key × Register) → List ℕ
 lines_of bounds json limit rows = flat_map (line_as json) (take limit (filter_map (pair_within bounds) rows))
 

@@ -1,5 +1,5 @@
 -- Which texts of CSV an import refuses, and what else ends one.
-use Rattle.std.specs.Prelude.{◌≢◌, ◌≤◌, ◌<◌, ◌^◌, ℕ, Bool, List, [], ◌∷◌, ◌++◌, length, ⊤, ◌⊎◌, Option, IfSome, IsSomeAnd, string_bytes}
+use Rattle.std.specs.Prelude.{◌≡◌, ◌≢◌, ◌≤◌, ◌<◌, ◌^◌, ℕ, Bool, List, [], ◌∷◌, ◌++◌, length, ⊤, false, ◌⊎◌, Option, IfSome, IsSomeAnd, string_bytes}
 use Rattle.key_order.specs.Text.{Text as Key}
 use Rattle.csv.specs.Reading.{AreRecords, Reached, default_config, strip_bom}
 use Rattle.csv.specs.Records.{AllText}
@@ -9,6 +9,7 @@ use Rattle.csv.specs.declared.parser.State.{State}
 use Rattle.csv.specs.declared.parser.State.TheVariants as st
 use Rattle.csv.specs.declared.reader.Reader.{Reader}
 use Rattle.store_table.specs.declared.register.Register.{Register}
+use Rattle.mst_commands.specs.Quotes.{is_quoted}
 use Rattle.mst_commands.specs.Records.{header, HasRead, SaysEntry, SaysValue}
 use Rattle.mst_commands.specs.declared.fault.Fault.{Fault}
 use Rattle.mst_commands.specs.declared.fault.Fault.TheVariants as fault
@@ -24,7 +25,7 @@ pub record IsWithin (entry : Key × Register) : Type 0 where
   pub writer : length (string_bytes entry.1.writer) ≤ 1048576
   pub value : IfSome entry.1.value (λ text. length (string_bytes text) ≤ 1048576)
 
--- a record behind the header says no such entry
+-- a record after the header says no such entry
 abbrev pub SaysNone : Bool → List (List ℕ) → Type 0
 SaysNone is_log fields = (number : ℕ) (entry : Key × Register) → SaysEntry is_log number fields entry → ¬ IsWithin entry
 
@@ -40,19 +41,19 @@ HasOtherHeader is_log text = (first : List (List ℕ)) × Begins text (first ∷
 abbrev pub LacksHeader : Bool → List ℕ → Type 0
 LacksHeader is_log text = AreRecords default_config st.StartRecord (strip_bom text) [] ⊎ HasOtherHeader is_log text
 
--- behind these records of a text comes one that is not in UTF-8
+-- after these records of a text comes one that is not in UTF-8
 abbrev pub GoesOnInNoText : List ℕ → List (List (List ℕ)) → Type 0
 GoesOnInNoText text records = (fields : List (List ℕ)) × Begins text (records ++ fields ∷ []) × ¬ (AllText fields)
 
--- behind the header of a text comes a record that says no entry
+-- after the header of a text comes a record that says no entry
 abbrev pub GoesOnInNoEntry : Bool → List ℕ → List (List (List ℕ)) → Type 0
 GoesOnInNoEntry is_log text records = (fields : List (List ℕ)) × Begins text (header is_log ∷ records ++ fields ∷ []) × SaysNone is_log fields
 
--- a text has a record that is not in UTF-8, or behind the header one that says no entry
+-- a text has a record that is not in UTF-8, or after the header one that says no entry
 abbrev pub HasBadRecord : Bool → List ℕ → Type 0
 HasBadRecord is_log text = (records : List (List (List ℕ))) × (GoesOnInNoText text records ⊎ GoesOnInNoEntry is_log text records)
 
--- an import ends early for its header, for one of its records, or for want of memory, the store or a device
+-- an import ends early for its header, for one of its records, or if memory, the store or a device fails
 abbrev pub EndsFor : Type 0 → Type 0 → Fault → Type 0
 EndsFor first row (fault.NoHeader names) = first
 EndsFor first row (fault.BadLine line why) = row
@@ -61,13 +62,21 @@ EndsFor first row (fault.Store why) = ⊤
 EndsFor first row (fault.Device error) = ⊤
 EndsFor first row _ = ⊥
 
--- a command ends early for want of memory, the store or a device alone
+-- a command ends early only if memory, the store or a device fails
 abbrev pub IsFailure : Fault → Type 0
 IsFailure = EndsFor ⊥ ⊥
 
--- for its header or a record it ends only where these are wrong, as far as the text is known
+-- for its header or a record the reading of records ends only where these are wrong, as far as the text is known
+abbrev pub IsParseRefused : Bool → Option (List ℕ) → Fault → Type 0
+IsParseRefused is_log text = EndsFor (IfSome text (LacksHeader is_log)) (IfSome text (HasBadRecord is_log))
+
+-- a text has such a record, or a quote in it is open or stands where none may
+abbrev pub IsBadText : Bool → List ℕ → Type 0
+IsBadText is_log text = HasBadRecord is_log text ⊎ (is_quoted text ≡ false)
+
+-- so it is with an import, which ends for the quotes too
 abbrev pub IsImportRefused : Bool → Option (List ℕ) → Fault → Type 0
-IsImportRefused is_log text = EndsFor (IfSome text (LacksHeader is_log)) (IfSome text (HasBadRecord is_log))
+IsImportRefused is_log text = EndsFor (IfSome text (LacksHeader is_log)) (IfSome text (IsBadText is_log))
 
 -- a read stops at a record that is not in UTF-8, as far as the text is known, or for something else than the text
 abbrev pub StopsReading : {R : Type 0} → (R → Option (List ℕ)) → Reader R → Fault → Type 0

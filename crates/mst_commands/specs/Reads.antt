@@ -41,7 +41,7 @@ abbrev pub WritesLog : {W : Type 0} → (W → Option (List ℕ)) → W → Tree
 WritesLog contents old trees new =
     (entries : List (Key × Register)) × HoldsEntries trees entries × Appends (contents old) (contents new) (log_text entries)
 
--- so many of the rows say a text, so many are removals, and this is the greatest time
+-- this many of the rows say a text, this many are removals, and this is the greatest time
 pub record HaveNumbers (rows : List (Key × Register)) (summary : Summary) : Type 0 where
   pub keys : summary.keys ≡ count_by says_text rows
   pub removed : summary.removed ≡ count_by is_removal rows

@@ -32,7 +32,7 @@ change_fields (Some text) = codes "put" ∷ string_bytes text ∷ []
 abbrev pub log_fields : List ℕ → Key × Register → List (List ℕ)
 log_fields time entry = string_bytes entry.0 ∷ time ∷ string_bytes entry.1.writer ∷ change_fields entry.1.value
 
--- the digits of a number, which may stand behind a plus
+-- the digits of a number, which may stand after a plus
 abbrev pub SpellsNumber : List ℕ → ℕ → Type 0
 SpellsNumber bytes n = IsNumeral 10 (without_leading_plus bytes) × (n ≡ digits_value 10 (without_leading_plus bytes))
 
@@ -46,7 +46,7 @@ pub record SaysPair (number : ℕ) (row : List (List ℕ)) (entry : Key × Regis
   pub time : entry.1.time ≡ number
   pub writer : string_bytes entry.1.writer ≡ []
 
--- a record behind the header, of a log or of keys and texts, says this entry
+-- a record after the header, of a log or of keys and texts, says this entry
 abbrev pub SaysEntry : Bool → ℕ → List (List ℕ) → Key × Register → Type 0
 SaysEntry is_log number fields entry = MatchBool is_log (SaysChange fields entry) (SaysPair number fields entry)
 
@@ -57,7 +57,7 @@ SayEntries is_log number [] (entry ∷ entries) = ⊥
 SayEntries is_log number (fields ∷ records) [] = ⊥
 SayEntries is_log number (fields ∷ records) (entry ∷ entries) = SaysEntry is_log number fields entry × SayEntries is_log (number + 1) records entries
 
--- the first record is the header, and those behind it say the entries
+-- the first record is the header, and those after it say the entries
 abbrev pub SayAll : Bool → List (List (List ℕ)) → List (Key × Register) → Type 0
 SayAll is_log [] entries = ⊥
 SayAll is_log (first ∷ records) entries = (first ≡ header is_log) × SayEntries is_log 1 records entries

@@ -5,7 +5,7 @@ ghost use Rattle.mst_commands.specs.Escapes.{IsLetterOf, escape_of, line_of, cod
 
 use std::alloc::{AllocError, Global};
 
-/// The letter that stands for a character behind a backslash in a list.
+/// The letter that stands for a character after a backslash in a list.
 fn letter_of(character: char) -> Option<char>
     ensures { IsLetterOf character result }
 {
@@ -37,6 +37,24 @@ pub fn escape(alloc: Global, text: &str) -> Result<String, AllocError>
 {
     let mut line = String::new(alloc);
     'characters: for character in text.chars() {
+        push_escaped(&mut line, character)?;
+    }
+    Ok(line)
+}
+
+/// How many characters of a text a line shows that names it.
+const SHOWN: usize = 100;
+
+/// The first characters of a text, in one line, and three dots where there are more.
+pub fn cut(alloc: Global, text: &str) -> Result<String, AllocError> {
+    let mut line = String::new(alloc);
+    let mut count = 0usize;
+    'characters: for character in text.chars() {
+        if count >= SHOWN {
+            line.push_str("...")?;
+            break;
+        }
+        count = count.saturating_add(1);
         push_escaped(&mut line, character)?;
     }
     Ok(line)

@@ -8,6 +8,27 @@ use std::alloc::{AllocError, AllocFailed};
 use std::{fmt, io};
 use store_table::StoreFault;
 
+/// What is said of an entry that isn't taken.
+#[derive(Debug, Drop)]
+pub struct Named {
+    /// Its key, in one line, cut where it is long.
+    pub key: String,
+    /// Its time, in milliseconds since 1970.
+    pub time: u64,
+    /// Who wrote it, as the key.
+    pub writer: String,
+}
+
+impl fmt::Display for Named {
+    fn fmt<W: fmt::Write>(&self, f: &mut fmt::Formatter<W>) -> fmt::Result {
+        write!(
+            f,
+            "{}, written by {} at {}",
+            self.key, self.writer, self.time
+        )
+    }
+}
+
 /// Why a command ends early. The file is then as it was.
 #[derive(Debug, Drop)]
 pub enum Fault {
@@ -28,7 +49,7 @@ pub enum Fault {
     /// A line of an import is wrong, for this reason.
     BadLine(u64, &'static str),
     /// An import of a log has an entry whose time is too far ahead of the clock.
-    Future,
+    Future(Named),
     /// The store refused or failed.
     Store(StoreFault),
     /// Standard input or output failed.
@@ -85,7 +106,7 @@ pub fn read_fault(error: &csv::Error) -> Fault
 {
     match error.kind() {
         ErrorKind::Utf8 { pos, .. } => match pos {
-            Some(position) => Fault::BadLine(position.line, "it is no text in UTF-8"),
+            Some(position) => Fault::BadLine(position.line, "it isn't valid UTF-8"),
             None => Fault::NotText,
         },
         ErrorKind::OutOfMemory => Fault::Store(StoreFault::Memory),
@@ -103,6 +124,17 @@ pub fn write_fault(error: &csv::Error) -> Fault
     }
 }
 
+/// Why a read of the input ended early.
+pub fn input_fault(error: io::Error) -> Fault
+    ensures { IsFailure result }
+{
+    if error.kind() == io::ErrorKind::OutOfMemory {
+        Fault::Store(StoreFault::Memory)
+    } else {
+        Fault::Device(error)
+    }
+}
+
 /// The error of the device from which CSV is read, or to which it is written.
 fn device_error(kind: &ErrorKind) -> io::Error {
     match kind {
@@ -114,12 +146,14 @@ fn device_error(kind: &ErrorKind) -> io::Error {
 impl fmt::Display for Fault {
     fn fmt<W: fmt::Write>(&self, f: &mut fmt::Formatter<W>) -> fmt::Result {
         match self {
-            Fault::NoStore => f.write_str("there is no such file: mst init FILE makes a store"),
-            Fault::Exists => f.write_str("there is a file already"),
+            Fault::NoStore => f.write_str(
+                "there is no such file: mst init makes a store, and mst-clone a copy of one",
+            ),
+            Fault::Exists => f.write_str("the file exists already"),
             Fault::InUse => f.write_str("the file is in use by another process"),
             Fault::NoKey => f.write_str("no such key"),
-            Fault::TooLong(what) => write!(f, "{what} has more than 1 MiB"),
-            Fault::NotText => f.write_str("standard input is no text in UTF-8"),
+            Fault::TooLong(what) => write!(f, "{what} is longer than 1 MiB"),
+            Fault::NotText => f.write_str("standard input isn't valid UTF-8"),
             Fault::NoHeader(header) => write!(
                 f,
                 "line 1 of the input is missing, or is not {header}: nothing is imported"
@@ -128,8 +162,9 @@ impl fmt::Display for Fault {
                 f,
                 "line {line} of the input: {why}: nothing is imported"
             ),
-            Fault::Future => f.write_str(
-                "the input has an entry from the future: nothing is imported",
+            Fault::Future(entry) => write!(
+                f,
+                "the input has an entry from the future, which --allow-ahead takes: {entry}: nothing is imported"
             ),
             Fault::Store(fault) => write!(f, "{fault}"),
             Fault::Device(error) => write!(f, "standard input or output failed: {error}"),

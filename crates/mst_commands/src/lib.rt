@@ -5,11 +5,14 @@ pub mod bounds;
 pub mod clock;
 pub mod escape;
 pub mod fault;
+pub mod input;
 pub mod lines;
 pub mod log;
+pub mod quotes;
 pub mod reading;
 pub mod records;
 pub mod run;
 pub mod writing;
 
 pub use fault::Fault;
+pub use input::Input;

@@ -40,7 +40,7 @@ fn write_object<W: Write>(alloc: Global, out: &mut W, key: &str, text: &str) -> 
     Ok(())
 }
 
-/// Writes the line of a row where it is listed, and answers whether it is.
+/// Writes the line of a row where it is listed, and returns whether it is.
 fn write_row<W: Write>(
     alloc: Global,
     out: &mut W,
@@ -66,7 +66,7 @@ fn write_row<W: Write>(
     Ok(true)
 }
 
-/// Writes the line of the next row where it is listed and as long as some may be, and answers how many may be listed then.
+/// Writes the line of the next row where it is listed and as long as some may be, and returns how many may be listed then.
 pub fn write_next<W: Write>(
     alloc: Global,
     out: &mut W,

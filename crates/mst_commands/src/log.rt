@@ -57,7 +57,7 @@ fn write_entry<W: Write + Drop>(
 ///
 /// # Errors
 ///
-/// [`Fault::Device`], and [`Fault::Store`] for want of memory.
+/// [`Fault::Device`], and [`Fault::Store`] when out of memory.
 pub fn write_log<W: Write + Drop>(
     alloc: Global,
     out: W,

@@ -4,9 +4,11 @@ ghost use Rattle.std.specs.Io.KnownBytes.{Appends, Keeps};
 ghost use Rattle.csv.specs.Records.{fields_of};
 ghost use Rattle.csv.specs.Writing.{text_written};
 ghost use Rattle.mst_commands.specs.Records.{header, field_or_empty, pair_fields, pair_text, pairs_text, SaysPair, SaysChange, SaysEntry, SaysValue, HasEntries, HasRead, HasWritten, ReadsOne, WritesRecord, WritesRecords};
-ghost use Rattle.mst_commands.specs.Malformed.{EndsFor, IsFailure, IsImportRefused, SaysNoChange, SaysNone, StopsReading};
+ghost use Rattle.mst_commands.specs.Malformed.{EndsFor, IsFailure, IsImportRefused, IsParseRefused, SaysNoChange, SaysNone, StopsReading};
+ghost use Rattle.mst_commands.specs.Quotes.{is_quoted};
 
-use crate::fault::{Fault, read_fault, write_fault};
+use crate::fault::{Fault, input_fault, read_fault, write_fault};
+use crate::quotes::expect_quotes;
 use csv::{Reader, ReaderBuilder, StringRecord, Writer};
 use std::alloc::Global;
 use std::io::{Read, Write};
@@ -50,7 +52,7 @@ fn text_of(alloc: Global, row: &StringRecord, at: usize) -> Result<String, Fault
 {
     let text = field(row, at);
     if text.len() > MOST {
-        return Err(Fault::BadLine(line_of(row), "a key or a value has more than 1 MiB"));
+        return Err(Fault::BadLine(line_of(row), "a key or a value is longer than 1 MiB"));
     }
     Ok(String::from_str(alloc, text)?)
 }
@@ -119,7 +121,7 @@ fn entry_of(alloc: Global, row: &StringRecord, number: u64) -> Result<(String, R
     ensures none { IfErr result (EndsFor ⊥ (SaysNone false (fields_of row.now))) }
 {
     if row.len() != 2 {
-        return Err(Fault::BadLine(line_of(row), "it has another number of fields than two"));
+        return Err(Fault::BadLine(line_of(row), "it doesn't have two fields"));
     }
     let key = text_of(alloc, row, 0)?;
     let text = text_of(alloc, row, 1)?;
@@ -145,7 +147,7 @@ fn change_of(alloc: Global, row: &StringRecord) -> Result<Option<String>, Fault>
             if field(row, 4).is_empty() {
                 Ok(None)
             } else {
-                Err(Fault::BadLine(line_of(row), "a removal has no value"))
+                Err(Fault::BadLine(line_of(row), "a removal can't have a value"))
             }
         }
         _ => Err(Fault::BadLine(line_of(row), "the change is neither put nor del")),
@@ -158,13 +160,13 @@ fn log_entry_of(alloc: Global, row: &StringRecord) -> Result<(String, Register),
     ensures none { IfErr result (EndsFor ⊥ (SaysNone true (fields_of row.now))) }
 {
     if row.len() != 5 {
-        return Err(Fault::BadLine(line_of(row), "it has another number of fields than five"));
+        return Err(Fault::BadLine(line_of(row), "it doesn't have five fields"));
     }
     let Ok(time) = field(row, 1).parse::<u64>() else {
-        return Err(Fault::BadLine(line_of(row), "the time is no number"));
+        return Err(Fault::BadLine(line_of(row), "the time isn't a number"));
     };
     if time > LAST_TIME {
-        return Err(Fault::BadLine(line_of(row), "the time is above the last that there is"));
+        return Err(Fault::BadLine(line_of(row), "the time is 2^63 or more"));
     }
     let key = text_of(alloc, row, 0)?;
     let writer = text_of(alloc, row, 2)?;
@@ -179,7 +181,7 @@ fn log_entry_of(alloc: Global, row: &StringRecord) -> Result<(String, Register),
     ))
 }
 
-/// The entry of a record behind the header.
+/// The entry of a record after the header.
 fn read_entry(
     alloc: Global,
     row: &StringRecord,
@@ -206,7 +208,7 @@ fn reader_of<R: Read>(alloc: Global, from: R) -> Reader<R>
         .from_reader(alloc, from)
 }
 
-/// Reads the next record, and answers whether there was one.
+/// Reads the next record, and returns whether there was one.
 fn read_next<R: Read>(reader: &mut Reader<R>, row: &mut StringRecord) -> Result<bool, Fault>
     ensures read { IfOk result (λ found. ReadsOne R.remaining reader.old reader.new found (fields_of row.new)) }
     ensures no_text { IfErr result (StopsReading R.remaining reader.old) }
@@ -217,14 +219,10 @@ fn read_next<R: Read>(reader: &mut Reader<R>, row: &mut StringRecord) -> Result<
     }
 }
 
-/// The entries of a CSV behind its header: of a log as they are, else with the number of the record as the time.
-///
-/// # Errors
-///
-/// [`Fault::NoHeader`], [`Fault::BadLine`], [`Fault::Device`], and [`Fault::Store`] for want of memory.
-pub fn read_entries<R: Read + Drop>(alloc: Global, from: R, is_log: bool) -> Result<Entries, Fault>
+/// The entries of a CSV after its header, whose quotes are right: of a log as they are, else with the number of the record as the time.
+fn parse_entries<R: Read + Drop>(alloc: Global, from: R, is_log: bool) -> Result<Entries, Fault>
     ensures read { IfOk result (λ entries. IfSome (R.remaining from) (λ bytes. HasEntries is_log bytes entries.items)) }
-    ensures refused { IfErr result (IsImportRefused is_log (R.remaining from)) }
+    ensures refused { IfErr result (IsParseRefused is_log (R.remaining from)) }
 {
     let mut entries = Vec::new(alloc);
     let mut reader = reader_of(alloc, from);
@@ -241,6 +239,35 @@ pub fn read_entries<R: Read + Drop>(alloc: Global, from: R, is_log: bool) -> Res
         entries.push(entry)?;
     }
     Err(Fault::Store(StoreFault::Memory))
+}
+
+/// The bytes that an input has to its end.
+fn read_all<R: Read + Drop>(alloc: Global, from: R) -> Result<Vec<u8>, Fault>
+    ensures all { IfOk result (λ all. IfSome (R.remaining from) (λ bytes. all.items ≡ bytes)) }
+    ensures faults { IfErr result IsFailure }
+{
+    let mut bytes = Vec::new(alloc);
+    let mut from = from;
+    match from.read_to_end(&mut bytes) {
+        Ok(_) => Ok(bytes),
+        Err(error) => Err(input_fault(error)),
+    }
+}
+
+/// The entries of a CSV after its header: of a log as they are, else with the number of the record as the time. The input is read to its end first.
+///
+/// # Errors
+///
+/// [`Fault::NoHeader`], [`Fault::BadLine`], also where a quote stands where none may or isn't closed, [`Fault::Device`], and [`Fault::Store`] for
+/// out of memory.
+pub fn read_entries<R: Read + Drop>(alloc: Global, from: R, is_log: bool) -> Result<Entries, Fault>
+    ensures read { IfOk result (λ entries. IfSome (R.remaining from) (λ bytes. HasEntries is_log bytes entries.items)) }
+    ensures quoted { OnOk result (IfSome (R.remaining from) (λ bytes. is_quoted bytes ≡ true)) }
+    ensures refused { IfErr result (IsImportRefused is_log (R.remaining from)) }
+{
+    let text = read_all(alloc, from)?;
+    expect_quotes(&text)?;
+    parse_entries(alloc, text.as_slice(), is_log)
 }
 
 /// Writes a record of a key and a text.
@@ -283,7 +310,7 @@ pub fn finish<W: Write + Drop>(writer: Writer<W>) -> Result<W, Fault>
     }
 }
 
-/// A writer of CSV behind the header of keys and values.
+/// A writer of CSV after the header of keys and values.
 pub fn begin_pairs<W: Write + Drop>(out: W) -> Result<Writer<W>, Fault>
     ensures begun { IfOk result (λ writer. HasWritten W.contents out writer (pairs_text [])) }
     ensures faults { IfErr result IsFailure }

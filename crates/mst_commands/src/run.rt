@@ -7,12 +7,12 @@ ghost use Rattle.mst_commands.specs.Faults.{IsDevice, StaysAtDevice};
 use crate::bounds::{Bounds, Listing};
 use crate::clock::{latest, now};
 use crate::fault::Fault;
+use crate::input::{Input, entries_in, value_of};
 use crate::reading::{count, export, export_log, get, list, status};
-use crate::writing::{del, import, put_text, read_text};
+use crate::writing::{del, import, put_text};
 use mst_words::{Given, Verb};
 use sqlite_trees::store::Store;
 use std::io::{self, BufWriter, ErrorKind, Write};
-use store_table::StoreFault;
 use store_table::log::Log;
 use store_table::rows::compact;
 
@@ -22,16 +22,13 @@ fn put_given<S: Store>(
     log: &mut Log<S>,
     writer: &str,
     given: &Given<'_>,
+    input: Input,
 ) -> Result<(), Fault>
-    ensures carried { Makes S.Store log.old log.new result (Puts writer.now given.now) }
-    ensures crash { Leaves S.Store log.old log.new (Puts writer.now given.now) }
+    ensures carried { Makes S.Store log.old log.new result (Puts writer.now given.now input) }
+    ensures crash { Leaves S.Store log.old log.new (Puts writer.now given.now input) }
 {
     let alloc = rt.alloc();
-    let text = if given.is_input {
-        read_text(alloc, rt.stdin())?
-    } else {
-        String::from_str(alloc, given.value)?
-    };
+    let text = value_of(alloc, given, input)?;
     put_text(alloc, log, writer, now(rt)?, given.key, text)
 }
 
@@ -117,15 +114,16 @@ fn print_csv<S: Store>(rt: &HostRuntime, log: &mut Log<S>, is_log: bool) -> Resu
     Ok(())
 }
 
-/// Writes the records on standard input.
+/// Writes the entries of standard input.
 fn import_given<S: Store>(
     rt: &HostRuntime,
     log: &mut Log<S>,
     writer: &str,
     given: &Given<'_>,
+    input: Input,
 ) -> Result<(), Fault>
-    ensures carried { Makes S.Store log.old log.new result (ImportsGiven writer.now given.now) }
-    ensures crash { Leaves S.Store log.old log.new (ImportsGiven writer.now given.now) }
+    ensures carried { Makes S.Store log.old log.new result (ImportsGiven writer.now given.now input) }
+    ensures crash { Leaves S.Store log.old log.new (ImportsGiven writer.now given.now input) }
 {
     let time = now(rt)?;
     let limit = if given.log {
@@ -133,14 +131,11 @@ fn import_given<S: Store>(
     } else {
         None
     };
-    match import(rt.alloc(), log, writer, time, rt.stdin(), limit) {
-        // What came is the input's, and of no peer.
-        Err(Fault::Store(StoreFault::Future)) => Err(Fault::Future),
-        done => done,
-    }
+    let came = entries_in(rt.alloc(), input);
+    import(rt.alloc(), log, writer, time, came, limit)
 }
 
-/// Leaves one row for each key, and drops removals that are older than so many milliseconds.
+/// Leaves one row for each key, and drops removals that are older than this many milliseconds.
 fn compact_given<S: Store>(
     rt: &HostRuntime,
     log: &mut Log<S>,
@@ -157,27 +152,28 @@ fn compact_given<S: Store>(
     Ok(())
 }
 
-/// Runs a command that needs no tree on the log of a store that writes by this name.
+/// Runs a command that needs no tree on the log of a store that writes by this name, with what it read from standard input before.
 pub fn run<S: Store>(
     rt: &HostRuntime,
     log: &mut Log<S>,
     writer: &str,
     verb: Verb,
     given: &Given<'_>,
+    input: Input,
 ) -> Result<(), Fault>
-    ensures carried { Makes S.Store log.old log.new result (Carries verb writer.now given.now) }
+    ensures carried { Makes S.Store log.old log.new result (Carries verb writer.now given.now input) }
     // A crash leaves what it could leave before, or trees with what the command writes.
-    ensures crash { Leaves S.Store log.old log.new (Carries verb writer.now given.now) }
+    ensures crash { Leaves S.Store log.old log.new (Carries verb writer.now given.now input) }
 {
     let alloc = rt.alloc();
     match verb {
-        Verb::Put => put_given(rt, log, writer, given),
+        Verb::Put => put_given(rt, log, writer, given, input),
         Verb::Get => unless_gone(print_value(rt, log, given.key)),
         Verb::Del => del(alloc, log, writer, now(rt)?, given.key),
         Verb::List => unless_gone(print_list(rt, log, given)),
         Verb::Count => print_count(rt, log),
         Verb::Status => print_status(rt, log, writer),
-        Verb::Import => import_given(rt, log, writer, given),
+        Verb::Import => import_given(rt, log, writer, given, input),
         Verb::Export => unless_gone(print_csv(rt, log, given.log)),
         Verb::Compact => compact_given(rt, log, given),
         _ => Ok(()),

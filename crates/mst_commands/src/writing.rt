@@ -1,18 +1,19 @@
 //! The commands that write.
-ghost use Rattle.std.specs.Prelude.{◌≡◌, ◌≢◌, ◌≤◌, ◌<◌, ◌⊎◌, is_some, length, string_len, filter, All, IfOk, IfErr, OnOk, true, false};
+ghost use Rattle.std.specs.Prelude.{◌≡◌, ◌≢◌, ◌≤◌, ◌<◌, ◌⊎◌, length, string_len, filter, All, IfOk, IfErr, OnOk, true, false};
 ghost use Rattle.key_order.specs.Text.{text_order};
 ghost use Rattle.key_order.specs.Map.{IsMap};
 ghost use Rattle.store_table.specs.Latest.{IsThere};
 ghost use Rattle.store_table.specs.Logs.{IsSteady, trees_of, Finds, Makes, Shows, Refuses, StaysInOk, StaysInErr, LeavesNoMore, Leaves};
-ghost use Rattle.mst_commands.specs.Faults.{IsTooLong};
+ghost use Rattle.mst_commands.specs.Faults.{IsAhead, IsTooLong};
 ghost use Rattle.mst_commands.specs.Writes.{WritesBy};
-ghost use Rattle.mst_commands.specs.Malformed.{IsFailure, IsImportRefused};
+ghost use Rattle.mst_commands.specs.Malformed.{IsFailure};
 ghost use Rattle.mst_commands.specs.Imports.{IsDated, AreDated, HaveFutureTime, is_newer, AddsOf, Imports};
 
-use crate::fault::Fault;
-use crate::records::{MOST, read_entries};
+use crate::escape::cut;
+use crate::fault::{Fault, Named, input_fault};
+use crate::records::MOST;
 use sqlite_trees::store::Store;
-use std::alloc::Global;
+use std::alloc::{AllocError, Global};
 use std::io::Read;
 use store_table::latest::{put, remove};
 use store_table::log::Log;
@@ -39,14 +40,16 @@ pub fn within(text: &str, what: &'static str) -> Result<(), Fault>
 ///
 /// # Errors
 ///
-/// [`Fault::NotText`], [`Fault::Device`], and [`Fault::Store`] for want of memory.
+/// [`Fault::NotText`], [`Fault::Device`], and [`Fault::Store`] when out of memory.
 pub fn read_text<R: Read + Drop>(alloc: Global, from: R) -> Result<String, Fault>
     ensures fits { IfOk result (λ text. string_len text ≤ MOST) }
     ensures faults { IfErr result (λ why. why ≢ Fault.NotText → ¬ IsTooLong why → IsFailure why) }
 {
     let mut bytes = Vec::new(alloc);
     let mut from = from.take(1_048_577);
-    from.read_to_end(&mut bytes)?;
+    if let Err(error) = from.read_to_end(&mut bytes) {
+        return Err(input_fault(error));
+    }
     if bytes.len() > MOST {
         return Err(Fault::TooLong("the value"));
     }
@@ -182,14 +185,34 @@ fn retain_news(news: &mut Entries, rows: &[(String, Register)])
     );
 }
 
+/// What is said of an entry that is too far ahead of the clock.
+fn naming(alloc: Global, entry: &(String, Register)) -> Result<Named, AllocError> {
+    Ok(Named {
+        key: cut(alloc, entry.0.as_str())?,
+        time: entry.1.time,
+        writer: cut(alloc, entry.1.writer.as_str())?,
+    })
+}
+
+/// The fault of an entry that is too far ahead of the clock.
+fn ahead_of(alloc: Global, entry: &(String, Register)) -> Fault
+    ensures { ¬ IsAhead result → IsFailure result }
+{
+    match naming(alloc, entry) {
+        Ok(entry) => Fault::Future(entry),
+        Err(error) => Fault::from(error),
+    }
+}
+
 /// Refuses entries whose time is above the latest that is taken.
-fn not_above(entries: &[(String, Register)], latest: u64) -> Result<(), Fault>
+fn not_above(alloc: Global, entries: &[(String, Register)], latest: u64) -> Result<(), Fault>
     ensures timely { OnOk result (All (λ entry. entry.1.time ≤ latest) entries.now) }
-    ensures future { IfErr result (λ why. (why ≡ Fault.Store StoreFault.Future) × HaveFutureTime latest entries.now) }
+    ensures future { IfErr result (λ why. HaveFutureTime latest entries.now) }
+    ensures faults { IfErr result (λ why. ¬ IsAhead why → IsFailure why) }
 {
     'entries: for entry in entries {
         if entry.1.time > latest {
-            return Err(Fault::Store(StoreFault::Future));
+            return Err(ahead_of(alloc, entry));
         }
     }
     Ok(())
@@ -209,41 +232,39 @@ fn entries_to_add<S: Store>(
     ensures refused { StaysInErr S.Store log.old log.new result }
     ensures steady { IsSteady S.Store log.old log.new }
     ensures crash { LeavesNoMore S.Store log.old log.new }
-    ensures faults { IfErr result IsFailure }
+    ensures faults { IfErr result (λ why. ¬ IsAhead why → IsFailure why) }
 {
     let rows = read_latest(alloc, log)?;
     let mut last = latest_rows(came);
     let Some(latest) = limit else {
         return all_dated(alloc, &rows, writer, now, last);
     };
-    not_above(&last, latest)?;
+    not_above(alloc, &last, latest)?;
     retain_news(&mut last, &rows);
     Ok(last)
 }
 
-/// Writes the records of a CSV, all or none: the last of each key; and of a log, where `limit` has the latest time that an entry may have,
+/// Writes the entries of an import, all or none: the last of each key; and of a log, where `limit` has the latest time that an entry may have,
 /// those that are later than what the store has.
 ///
 /// # Errors
 ///
-/// [`Fault::NoHeader`] and [`Fault::BadLine`] name what is wrong in the CSV, [`Fault::Future`] that an entry of a log is later than `limit`;
-/// [`Fault::Store`] and [`Fault::Device`]. The file is then as it was.
-pub fn import<S: Store, R: Read + Drop>(
+/// [`Fault::Future`] names an entry of a log that is later than `limit`; and [`Fault::Store`]. The file is then as it was.
+pub fn import<S: Store>(
     alloc: Global,
     log: &mut Log<S>,
     writer: &str,
     now: u64,
-    from: R,
+    came: Entries,
     limit: Option<u64>,
 ) -> Result<(), Fault>
-    ensures written { Makes S.Store log.old log.new result (Imports (R.remaining from) limit writer.now now) }
+    ensures written { Makes S.Store log.old log.new result (Imports came.items limit writer.now now) }
     ensures refused { StaysInErr S.Store log.old log.new result }
-    // It is refused for its header or one of its records only where these are wrong.
-    ensures malformed { IfErr result (IsImportRefused (is_some limit) (R.remaining from)) }
+    // But for an entry of a log that is too late it fails only if memory or the store does.
+    ensures faults { IfErr result (λ why. ¬ IsAhead why → IsFailure why) }
     // A crash leaves what it could leave before, or trees with all that is imported.
-    ensures crash { Leaves S.Store log.old log.new (Imports (R.remaining from) limit writer.now now) }
+    ensures crash { Leaves S.Store log.old log.new (Imports came.items limit writer.now now) }
 {
-    let came = read_entries(alloc, from, limit.is_some())?;
     let added = entries_to_add(alloc, log, writer, now, came, limit)?;
     add_all(alloc, log, &added)?;
     Ok(())

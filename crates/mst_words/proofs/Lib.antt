@@ -1,4 +1,3 @@
 pub mod HashKeyLemmas
 pub mod LineLemmas
 pub mod SpanLemmas
-pub mod WordLemmas

@@ -7,7 +7,7 @@ use Rattle.mst_words.specs.Lines.{IsRead, Line, closed, next, read_all, start, w
 use Rattle.mst_words.specs.declared.line.NoWords.{NoWords}
 use Rattle.mst_words.specs.declared.line.NoWords.TheVariants.{Wrong, Memory}
 
--- characters that are read behind others
+-- characters that are read after others
 pub read-append : (cs ds : List ℕ) (line : Line) → read_all (cs ++ ds) line ≡ option_and_then (read_all ds) (read_all cs line)
 read-append [] ds line = refl
 read-append (c ∷ cs) ds line =
@@ -17,7 +17,7 @@ read-append (c ∷ cs) ds line =
 pub read-more : (cs : List ℕ) (c : ℕ) (line on : Line) → read_all cs start ≡ Some line → next c line ≡ Some on → read_all (cs ++ c ∷ []) start ≡ Some on
 read-more cs c line on before now = read-append cs (c ∷ []) start ∙ ap (option_and_then (read_all (c ∷ []))) before ∙ ap (option_and_then (read_all [])) now
 
--- a character that has no meaning, and any behind it
+-- a character that has no meaning, and any after it
 stops : (cs ds : List ℕ) (c : ℕ) (line : Line) → read_all cs start ≡ Some line → next c line ≡ None → read_all (cs ++ c ∷ ds) start ≡ None
 stops cs ds c line before now = read-append cs (c ∷ ds) start ∙ ap (option_and_then (read_all (c ∷ ds))) before ∙ ap (option_and_then (read_all ds)) now
 

@@ -3,7 +3,7 @@ use Rattle.std.proofs.Common.{◌≡◌, refl, ap, sym, ◌∙◌, List, [], ◌
 use Rattle.std.proofs.lemmas.List.{length_push}
 use Rattle.mst_words.specs.Spans.{unit_of, HasUnit, IsManyOf, IsSpan}
 
--- two texts of which each has one letter behind it are the same, and so are the letters, where the wholes are
+-- two texts of which each has one letter after it are the same, and so are the letters, where the wholes are
 same-ends : (xs ys : List ℕ) (a b : ℕ) → xs ++ a ∷ [] ≡ ys ++ b ∷ [] → (xs ≡ ys) × (a ≡ b)
 same-ends [] [] a b same = (refl, cc)
 same-ends [] (y ∷ ys) a b same = absurd (omega (arith, ap length same, length_push ys b))

@@ -15,7 +15,7 @@ use Rattle.mst_words.specs.declared.verb.Setting.{Setting}
 use Rattle.mst_words.specs.declared.verb.Setting.TheVariants.{From, To, Prefix, Limit, Json, Log, Forget, Ahead, Wait, HashKey as ForHashKey}
 use Rattle.mst_words.specs.declared.verb.Verb.{Verb}
 
--- the word is the decimal digits of this number of 64 bits, which may stand behind a plus
+-- the word is the decimal digits of this number of 64 bits, which may stand after a plus
 abbrev pub IsNumber : Word → ℕ → Type 0
 IsNumber word number =
     IsNumeral 10 (without_leading_plus word) × (number ≡ digits_value 10 (without_leading_plus word)) × (number < 2 ^ 64)
@@ -55,7 +55,7 @@ at_place None word reading = Err (LeftOver word)
 at_place (Some place) word reading =
     Ok (record reading { said = placed place word reading.is_behind reading.said; places = reading.places + 1 })
 
--- the first word that is no option is the file, and those behind it stand at the places of the command
+-- the first word that is no option is the file, and those after it stand at the places of the command
 abbrev pub stands : Verb → Option Word → Word → Reading → Result Reading Mistake
 stands verb None word reading = Ok (record reading { file = Some word })
 stands verb (Some file) word reading = at_place (slice_get (places_of verb) reading.places) word reading
@@ -94,7 +94,7 @@ TakesOption verb word reading result =
 abbrev pub is_option : Word → Bool
 is_option word = not (bytes_eq word (codes "-")) && starts_with nat_eq word (codes "-")
 
--- the next word, where no value is to come: behind `--` no word is an option
+-- the next word, where no value is to come: after `--` no word is an option
 abbrev pub TakesWord : Verb → Word → Reading → Result Reading Mistake → Type 0
 TakesWord verb word reading result =
     MatchBool (reading.is_behind || not (is_option word)) (result ≡ stands verb reading.file word reading)
@@ -125,7 +125,7 @@ finished verb (Some setting) file reading = Err (NoValue (codes "the last option
 finished verb None None reading = Err (Missing (codes "FILE"))
 finished verb None (Some file) reading = completed verb file reading
 
--- where a word was taken, the words behind it are read, and else its mistake is that of all
+-- where a word was taken, the words after it are read, and else its mistake is that of all
 abbrev pub GoesOn : Result Reading Mistake → (Reading → Type 0) → (Mistake → Type 0) → Type 0
 GoesOn (Ok next) Rest Wrong = Rest next
 GoesOn (Err why) Rest Wrong = Wrong why
@@ -141,7 +141,7 @@ ReadsOn verb reading (word ∷ words) result =
 abbrev pub Gives : Verb → Option Word → List Word → Result (Word × Said) Mistake → Type 0
 Gives verb file words result = ReadsOn verb (begun file) words result
 
--- whether a value stands behind a word, which is an option of the command
+-- whether a value stands after a word, which is an option of the command
 abbrev pub IsBeforeValue : Verb → Word → Bool → Type 0
 IsBeforeValue verb word is_before =
     (found : Option Setting) × IsSettingOf word found × (is_before ≡ option_map_or (λ setting. takes verb setting && takes_value setting) found false)
@@ -150,7 +150,7 @@ IsBeforeValue verb word is_before =
 abbrev pub is_help : Word → Bool
 is_help word = bytes_eq word (codes "--help") || bytes_eq word (codes "-h")
 
--- a word where an option may stand asks for help, or `--` ends the options, or the words behind it say
+-- a word where an option may stand asks for help, or `--` ends the options, or the words after it say
 abbrev pub AsksFrom : Verb → Word → (Bool → Type 0) → Bool → Type 0
 AsksFrom verb word Rest result =
     MatchBool (is_help word) (result ≡ true)
@@ -162,7 +162,7 @@ AsksHelp verb is_value [] result = result ≡ false
 AsksHelp verb true (word ∷ words) result = AsksHelp verb false words result
 AsksHelp verb false (word ∷ words) result = AsksFrom verb word (λ is_before. AsksHelp verb is_before words result) result
 
--- what the words behind the name of a command ask for: its help, or else that it is run with what they give
+-- what the words after the name of a command ask for: its help, or else that it is run with what they give
 abbrev pub AsksOf : Verb → List Word → Result Request Mistake → Type 0
 AsksOf verb words (Ok (HelpOf other)) = (other ≡ verb) × AsksHelp verb false words true
 AsksOf verb words (Ok (Run other file said)) = (other ≡ verb) × AsksHelp verb false words false × Gives verb None words (Ok (file, said))
@@ -175,7 +175,7 @@ abbrev pub AsksBy : Option Verb → Word → List Word → Result Request Mistak
 AsksBy None name words result = result ≡ Err (NoSuchCommand name)
 AsksBy (Some verb) name words result = AsksOf verb words result
 
--- what a word that names a command and the words behind it ask for
+-- what a word that names a command and the words after it ask for
 abbrev pub AsksNamed : Word → List Word → Result Request Mistake → Type 0
 AsksNamed name words result = (found : Option Verb) × IsVerbOf name found × AsksBy found name words result
 
@@ -184,7 +184,7 @@ abbrev pub AsksHelpBy : Option Verb → Word → Result Request Mistake → Type
 AsksHelpBy None name result = result ≡ Err (NoSuchCommand name)
 AsksHelpBy (Some verb) name result = result ≡ Ok (HelpOf verb)
 
--- what the words behind `help` ask for: the help of the program, or of the command that the first of them names
+-- what the words after `help` ask for: the help of the program, or of the command that the first of them names
 abbrev pub AsksHelpOf : List Word → Result Request Mistake → Type 0
 AsksHelpOf [] result = result ≡ Ok Help
 AsksHelpOf (name ∷ words) result = (found : Option Verb) × IsVerbOf name found × AsksHelpBy found name result

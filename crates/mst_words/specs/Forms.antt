@@ -1,4 +1,4 @@
--- What stands behind each command.
+-- What stands after each command.
 use Rattle.std.specs.Prelude.{◌<◌, ℕ, Bool, true, false, List, [], ◌∷◌, length, codes}
 use Rattle.mst_words.specs.declared.verb.Place.{Place}
 use Rattle.mst_words.specs.declared.verb.Place.TheVariants.{Key, Value, Writer}
@@ -7,7 +7,7 @@ use Rattle.mst_words.specs.declared.verb.Setting.TheVariants.{From, To, Prefix, 
 use Rattle.mst_words.specs.declared.verb.Verb.{Verb}
 use Rattle.mst_words.specs.declared.verb.Verb.TheVariants.{Init, Put, Get, Del, List as ListOf, Count, Root, HashKey, Status, Import, Export, Compact, Shell, Serve, Pull, Diff}
 
--- what stands at each place behind the file
+-- what stands at each place after the file
 abbrev pub places_of : Verb → List Place
 places_of Init = Writer ∷ []
 places_of Put = Key ∷ Value ∷ []

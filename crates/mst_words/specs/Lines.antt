@@ -17,7 +17,7 @@ pub record Line : Type 0 where
 abbrev pub start : Line
 start = record { words = []; word = []; place = Between }
 
--- the character that stands for another behind a backslash
+-- the character that stands for another after a backslash
 abbrev pub meant_by : ℕ → Option ℕ
 meant_by c = cond (c == 116) (Some 9) (cond (c == 110) (Some 10) (cond (c == 114) (Some 13) (cond (c == 92) (Some 92) (cond (c == 34) (Some 34) None))))
 
@@ -43,7 +43,7 @@ read_plain c line =
 abbrev pub read_quoted : ℕ → Line → Line
 read_quoted c line = cond (c == 34) (record line { place = Within }) (cond (c == 92) (record line { place = Escaped }) (spelt Quoted c line))
 
--- a character at its place, or none where it has no meaning behind a backslash
+-- a character at its place, or none where it has no meaning after a backslash
 abbrev pub read_at : Place → ℕ → Line → Option Line
 read_at Between c line = Some (read_plain c line)
 read_at Within c line = Some (read_plain c line)
@@ -74,7 +74,7 @@ words_in text = option_and_then (λ (line : Line). closed line.place line) (read
 abbrev pub line_of : Reading → Line
 line_of reading = record { words = map string_bytes reading.words.items; word = string_bytes reading.word; place = reading.place }
 
--- a line was read so far, or memory was refused, or it has no words
+-- a line was read so far, or memory ran out, or it has no words
 abbrev pub IsRead : Option Line → Result Reading NoWords → Type 0
 IsRead line (Ok reading) = line ≡ Some (line_of reading)
 IsRead line (Err Memory) = ⊤

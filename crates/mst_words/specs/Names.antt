@@ -45,7 +45,7 @@ IsVerbOf name found = MatchOption found ((verb : Verb) → name ≢ verb_name ve
 abbrev pub IsSettingOf : List ℕ → Option Setting → Type 0
 IsSettingOf name found = MatchOption found ((setting : Setting) → name ≢ setting_name setting) (λ setting. name ≡ setting_name setting)
 
--- whether a value stands behind a setting
+-- whether a value stands after a setting
 abbrev pub takes_value : Setting → Bool
 takes_value Json = false
 takes_value Log = false

@@ -52,7 +52,7 @@ nothing_said = record {
   wait = 0;
 }
 
--- how far the words of a command have been read: what they give, the file, how many stood at places behind it, the setting whose value is to
+-- how far the words of a command have been read: what they give, the file, how many stood at places after it, the setting whose value is to
 -- come, and whether `--` has come
 pub record Reading : Type 0 where
   pub said : Said

@@ -5,15 +5,15 @@ use Rattle.mst_words.specs.declared.wrong.Wrong.TheVariants.{NoCommand, NoSuchCo
 
 -- why a command line is wrong
 abbrev pub wrong_text : Wrong → List ℕ
-wrong_text NoCommand = codes "there is no command"
-wrong_text (NoSuchCommand name) = codes "there is no command " ++ name.now
-wrong_text (NoSuchOption name) = codes "the command has no option " ++ (name.now ++ codes " (words behind -- are no options)")
-wrong_text (NoValue name) = name.now ++ codes " has no value"
+wrong_text NoCommand = codes "no command is given"
+wrong_text (NoSuchCommand name) = codes "no such command: " ++ name.now
+wrong_text (NoSuchOption name) = codes "the command has no option " ++ (name.now ++ codes " (words after -- are never options)")
+wrong_text (NoValue name) = name.now ++ codes " needs a value"
 wrong_text (HasValue name) = name.now ++ codes " takes no value"
-wrong_text (NoNumber word) = word.now ++ codes " is no number"
-wrong_text (NoSpan word) = word.now ++ codes " is no span of time, as 30d, 12h, 15m or 90s are"
-wrong_text (NoHashKey word) = word.now ++ codes " is no hash key of 32 hexadecimal digits"
-wrong_text (LeftOver word) = word.now ++ codes " is a word too many"
+wrong_text (NoNumber word) = word.now ++ codes " isn't a number"
+wrong_text (NoSpan word) = word.now ++ codes " isn't a span of time such as 30d, 12h, 15m or 90s"
+wrong_text (NoHashKey word) = word.now ++ codes " isn't a hash key: 32 hexadecimal digits"
+wrong_text (LeftOver word) = codes "unexpected word: " ++ word.now
 wrong_text (Missing name) = name.now ++ codes " is missing"
-wrong_text (NoLog name) = name.now ++ codes " says nothing without --log"
-wrong_text NotText = codes "a word is no text in UTF-8"
+wrong_text (NoLog name) = name.now ++ codes " needs --log"
+wrong_text NotText = codes "a word isn't valid UTF-8"

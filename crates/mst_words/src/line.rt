@@ -9,7 +9,7 @@ use std::alloc::{AllocError, Global};
 pub enum NoWords {
     /// A quote isn't closed, or a backslash has no meaning.
     Wrong,
-    /// Memory was refused.
+    /// Out of memory.
     Memory,
 }
 
@@ -32,11 +32,11 @@ enum Place {
     Within,
     /// In a word, between quotes.
     Quoted,
-    /// Behind a backslash between quotes.
+    /// After a backslash between quotes.
     Escaped,
 }
 
-/// The character for which one behind a backslash stands.
+/// The character for which one after a backslash stands.
 fn meant_by(character: char) -> Option<char>
     ensures { result ≡ meaning_of character }
 {

@@ -1,7 +1,8 @@
 //! A command line as what it asks for.
 ghost use Rattle.std.specs.Prelude.{◌≡◌, map, codes, slice_get, string_bytes, false};
 ghost use Rattle.std.specs.Option.{option_copied, option_map_or};
-ghost use Rattle.mst_words.specs.Commands.{Asks, AsksHelp, AsksHelpOf, AsksNamed, Gives, IsBeforeValue, IsNumber, Reads, Sets, Takes, TakesOption, finished, is_alone as said_alone, is_help as names_help, is_option as begins_option, placed as says_at, stands};
+ghost use Rattle.mst_words.specs.Commands.{Asks, AsksHelp, AsksHelpOf, AsksNamed, Gives, IsBeforeValue, IsNumber, Reads, Sets, Takes, TakesOption};
+ghost use Rattle.mst_words.specs.Commands.{finished, is_alone as said_alone, is_help as names_help, is_option as begins_option, placed as says_at, stands};
 ghost use Rattle.mst_words.specs.Forms.{least_of, place_name, places_of};
 ghost use Rattle.mst_words.specs.Said.{NoNumber, begun, command_of, reading_of, request_of, said_by, told};
 
@@ -53,7 +54,7 @@ struct Taken<'a> {
     given: Given<'a>,
     /// The file, once it is there.
     file: Option<&'a str>,
-    /// How many words stood at places behind the file.
+    /// How many words stood at places after the file.
     places: usize,
     /// The setting whose value is to come.
     pending: Option<Setting>,
@@ -164,7 +165,7 @@ fn with_value<'a>(given: Given<'a>, setting: Setting, word: &'a str) -> Result<G
     Ok(given)
 }
 
-/// Takes an option, and its value where it has one behind `=`.
+/// Takes an option, and its value where it has one after `=`.
 fn at_option<'a>(taken: Taken<'a>, verb: Verb, word: &'a str) -> Result<Taken<'a>, Wrong<'a>>
     ensures { TakesOption verb word.now (reading_of taken.entry) (told reading_of result) }
 {
@@ -289,7 +290,7 @@ pub fn given_of<'a>(
     finish(taken, verb, &form)
 }
 
-/// Whether the word behind this one is the value of an option that the command takes.
+/// Whether the word after this one is the value of an option that the command takes.
 fn is_before_value(verb: Verb, word: &str) -> bool
     ensures { IsBeforeValue verb word.now result }
 {
@@ -306,7 +307,7 @@ fn is_help(word: &str) -> bool
     word == "--help" || word == "-h"
 }
 
-/// Whether the words behind a command ask for help, where an option may stand: neither as the value of one, nor behind `--`.
+/// Whether the words after a command ask for help, where an option may stand: neither as the value of one, nor after `--`.
 fn asks_help(verb: Verb, words: &[String]) -> bool
     ensures { AsksHelp verb false (map string_bytes words.now) result }
 {
@@ -327,7 +328,7 @@ fn asks_help(verb: Verb, words: &[String]) -> bool
     false
 }
 
-/// What the words behind a command ask for.
+/// What the words after a command ask for.
 fn of_command<'a>(name: &'a str, words: &'a [String]) -> Result<Asked<'a>, Wrong<'a>>
     ensures { AsksNamed name.now (map string_bytes words.now) (told request_of result) }
 {
@@ -341,7 +342,7 @@ fn of_command<'a>(name: &'a str, words: &'a [String]) -> Result<Asked<'a>, Wrong
     Ok(Asked::Run(verb, file, given))
 }
 
-/// What the words behind `help` ask for: the help of the program, or of the command that the first of them names.
+/// What the words after `help` ask for: the help of the program, or of the command that the first of them names.
 ///
 /// # Errors
 ///

@@ -21,7 +21,7 @@ fn parts_of(word: &str) -> Option<(&str, u64)>
     None
 }
 
-/// The milliseconds of so many of a unit.
+/// The milliseconds of this many of a unit.
 fn many_of(count: &str, unit: u64) -> Option<u64>
     requires { 0 < unit }
     ensures { MatchOption result ((span : ℕ) → ¬ IsManyOf count.now unit span) (IsManyOf count.now unit) }

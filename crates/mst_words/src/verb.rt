@@ -32,7 +32,7 @@ pub enum Place {
     Writer,
 }
 
-/// What is given behind `--` and a name.
+/// What is given after `--` and a name.
 #[derive(Clone, Copy, Debug, PartialEq, Eq)]
 pub enum Setting {
     From,
@@ -50,7 +50,7 @@ pub enum Setting {
 /// How the words of a command are given.
 #[derive(Clone, Copy)]
 pub struct Form {
-    /// What stands at each place behind the file.
+    /// What stands at each place after the file.
     pub places: &'static [Place],
     /// How many of the places have to be there.
     pub least: usize,
@@ -102,7 +102,7 @@ pub fn setting_of(name: &str) -> Option<Setting>
     }
 }
 
-/// Whether a setting has a value behind it.
+/// Whether a setting has a value after it.
 pub fn has_value(setting: Setting) -> bool
     ensures { result ≡ takes_value setting }
 {
@@ -115,35 +115,35 @@ pub fn has_value(setting: Setting) -> bool
 const PUT_HELP: &str = "\
 usage: mst put FILE KEY VALUE
 
-Writes the text VALUE under KEY. The VALUE - is read from standard input, to its end; behind -- it is the text -.
+Writes the text VALUE under KEY. The VALUE - is read from standard input, to its end; after -- it is the text -.
 ";
 
 const LIST_HELP: &str = "\
 usage: mst list FILE [--from KEY] [--to KEY] [--prefix TEXT] [--limit N] [--json]
 
-Prints KEY, tab, VALUE of each key, ascending by the bytes of the key. A tab, a newline, a carriage return and a backslash are printed
-as \\t, \\n, \\r and \\\\. With --json each line is an object with the names key and value.
+Prints a line for each key, sorted by the bytes of the keys: KEY, tab, VALUE. A tab, a newline, a carriage return and a backslash are
+printed as \\t, \\n, \\r and \\\\. With --json each line is an object with the names key and value.
 
-  --from KEY     no key below this one
-  --to KEY       no key above this one
-  --prefix TEXT  only keys that begin like this
+  --from KEY     from this key on
+  --to KEY       up to this key, and including it
+  --prefix TEXT  only keys that begin with TEXT
   --limit N      at most N keys
 ";
 
 const IMPORT_HELP: &str = "\
 usage: mst import FILE [--log [--allow-ahead]]
 
-Writes the records of the CSV on standard input, all or none. Its first line is key,value. Of records with one key the last counts.
+Writes the records of the CSV on standard input, all or none. Its first line is key,value. The last record of a key counts.
 With --log it takes the entries of an export with --log, each at its own time and by its own writer.
 
-  --allow-ahead  of a log, takes entries whose time is more than a day ahead of this clock, too
+  --allow-ahead  with --log: also takes entries more than a day ahead of this clock
 ";
 
 const EXPORT_HELP: &str = "\
 usage: mst export FILE [--log]
 
-Prints the keys and values as CSV, whose first line is key,value. With --log it prints each entry of the log, removals too, with the
-first line key,time,writer,change,value, where the change is put or del.
+Prints the keys and values as CSV, with the first line key,value. With --log it prints each entry of the log, removals too, with the
+first line key,time,writer,change,value; the change is put or del.
 ";
 
 const COMPACT_HELP: &str = "\
@@ -151,72 +151,73 @@ usage: mst compact FILE [--forget-removals-older-than TIME]
 
 Leaves one row in the file for each key. It changes no key and no value.
 
-  --forget-removals-older-than TIME  drops removals that are older, as 30d (or h, m, s): a copy that hasn't seen a
-                                     removal that was dropped brings the key back at the next sync
+  --forget-removals-older-than TIME  drops removals older than TIME, such as 30d, 12h, 15m or 90s: a copy that hasn't
+                                     seen a dropped removal brings the key back at the next sync
 ";
 
 const PULL_HELP: &str = "\
 usage: mst pull FILE [--allow-ahead]
 
-Brings what a peer has that serves, on standard input and standard output, all or nothing.
+Fetches what a peer that runs mst serve has later, over standard input and standard output, all or nothing.
 
-  --allow-ahead  takes entries whose time is more than a day ahead of this clock, too: a later write of their keys
-                 is then above their time
+  --allow-ahead  also takes entries more than a day ahead of this clock: a later write of their keys gets a time
+                 after theirs
 ";
 
 const DIFF_HELP: &str = "\
 usage: mst diff FILE [--allow-ahead]
 
-Tells which keys a pull would bring from a peer that serves, on standard input and standard output, and brings nothing. It prints them on
-standard error, a line each, as list writes keys. mst-sync --diff prints them on standard output.
+Prints on standard error the keys that a pull would bring, one a line, as list prints keys. It speaks with the peer over standard input
+and standard output, and brings nothing. mst-sync --diff prints the keys on standard output.
 
-  --allow-ahead  as of mst pull, which refuses entries more than a day ahead of this clock
+  --allow-ahead  also takes entries more than a day ahead of this clock; without it they make mst diff fail
 ";
 
 const INIT_HELP: &str = "\
 usage: mst init FILE [WRITER] [--hash-key KEY]
 
-Makes a store. WRITER is the name by which this copy writes; left out, it is a random one.
+Makes a store. WRITER is the name by which this copy writes; by default it is a random one.
 
-  --hash-key KEY  hashes under this key, as mst hash-key prints it, and not under a random one: copies pull from each other
-                  only where they have the same. mst-clone hands it on
+  --hash-key KEY  hashes under this key, as mst hash-key prints it, not under a random one: only copies with the same key
+                  pull from each other. mst-clone passes it on
 ";
 
 const GET_HELP: &str = "\
 usage: mst get FILE KEY
 
-Prints the value of the key as it is, and a newline. It ends with status 1 where the key isn't there.
+Prints the value of the key as it is, and a newline. It ends with status 1 if the key isn't there.
 ";
 
 const DEL_HELP: &str = "\
 usage: mst del FILE KEY
 
-Removes the key. It ends with status 1 where the key isn't there.
+Removes the key. It ends with status 1 if the key isn't there.
 ";
 
 const STATUS_HELP: &str = "\
 usage: mst status FILE
 
-Prints how many keys, removed keys and rows the file has, the time of the last write, its writer, its root hash and its size.
+Prints how many keys, removed keys and rows the file has, the time of the last write, the name by which this copy writes,
+the root hash and the file's size.
 ";
 
 const ROOT_HELP: &str = "\
 usage: mst root FILE
 
-Prints the root hash, which copies share whose keys have the same last rows, times and writers too.
+Prints the root hash. Two copies have the same one if their keys have the same last rows, with the same times and writers.
 ";
 
 const HASH_KEY_HELP: &str = "\
 usage: mst hash-key FILE
 
-Prints the key under which the store hashes, as 32 hexadecimal digits. All copies of a store have the same.
+Prints the hash key, as 32 hexadecimal digits. All copies of a store have the same.
 ";
 
 const SHELL_HELP: &str = "\
 usage: mst shell FILE
 
-Reads commands from standard input, a line each, without mst and FILE. A word in double quotes may have blanks, and \\\\, \\t, \\n, \\r
-and \\\" for these characters.
+Reads commands from standard input, one a line, without mst and FILE. A word in double quotes may have blanks; in it \\\\, \\t, \\n, \\r
+and \\\" stand for these characters.
 ";
 
 const SERVE_HELP: &str = "\
@@ -225,7 +226,7 @@ usage: mst serve FILE
 Answers a peer that pulls, on standard input and standard output.
 ";
 
-/// What stands at each place behind the file.
+/// What stands at each place after the file.
 fn places_of(verb: Verb) -> &'static [Place]
     ensures { result.now ≡ places_behind verb }
 {
@@ -303,19 +304,20 @@ usage: mst COMMAND FILE [WORDS]
   list FILE              prints each key with its value
   count FILE             prints how many keys there are
   status FILE            prints what the file holds
-  root FILE              prints the root hash, which copies with the same last rows share
-  hash-key FILE          prints the key under which the store hashes, which all its copies share
+  root FILE              prints the root hash, equal for copies with the same last rows
+  hash-key FILE          prints the hash key, which all copies of a store share
   import FILE            writes the CSV on standard input
   export FILE            prints the keys and values as CSV
   compact FILE           leaves one row in the file for each key
-  shell FILE             reads commands from standard input, a line each
+  shell FILE             reads commands from standard input, one a line
   serve FILE             answers a peer on standard input and standard output
-  pull FILE              brings what a peer on standard input and standard output has
-  diff FILE              tells which keys a pull would bring
+  pull FILE              fetches what a peer on standard input and standard output has later
+  diff FILE              prints the keys that a pull would bring
 
-mst help COMMAND tells more of a command. Words behind -- are no options. mst --version prints the version.
-Each command but init takes --wait SECONDS: so long it waits for a file that another process has, and is then refused.
-It ends with status 0; with 1, and a line on standard error, where it failed or a key isn't there; with 2 for a wrong command line.
+mst help COMMAND describes a command. Words after -- are never options. mst --version prints the version.
+Each command except init takes --wait SECONDS: while another process has the file, it tries again for that long.
+The status is 0 if all went well; 1, with a line on standard error, if something failed or a key is missing; 2 for a wrong
+command line; 3 if another process has the file.
 ";
 
 /// The name and the version of the program.

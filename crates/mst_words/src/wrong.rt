@@ -38,24 +38,24 @@ impl fmt::Display for Wrong<'_> {
 
     fn fmt<W: fmt::Write>(&self, f: &mut fmt::Formatter<W>) -> fmt::Result {
         match self {
-            Wrong::NoCommand => f.write_str("there is no command"),
-            Wrong::NoSuchCommand(name) => write!(f, "there is no command {name}"),
+            Wrong::NoCommand => f.write_str("no command is given"),
+            Wrong::NoSuchCommand(name) => write!(f, "no such command: {name}"),
             Wrong::NoSuchOption(name) => write!(
                 f,
-                "the command has no option {name} (words behind -- are no options)"
+                "the command has no option {name} (words after -- are never options)"
             ),
-            Wrong::NoValue(name) => write!(f, "{name} has no value"),
+            Wrong::NoValue(name) => write!(f, "{name} needs a value"),
             Wrong::HasValue(name) => write!(f, "{name} takes no value"),
-            Wrong::NoNumber(word) => write!(f, "{word} is no number"),
+            Wrong::NoNumber(word) => write!(f, "{word} isn't a number"),
             Wrong::NoSpan(word) => write!(
                 f,
-                "{word} is no span of time, as 30d, 12h, 15m or 90s are"
+                "{word} isn't a span of time such as 30d, 12h, 15m or 90s"
             ),
-            Wrong::NoHashKey(word) => write!(f, "{word} is no hash key of 32 hexadecimal digits"),
-            Wrong::LeftOver(word) => write!(f, "{word} is a word too many"),
+            Wrong::NoHashKey(word) => write!(f, "{word} isn't a hash key: 32 hexadecimal digits"),
+            Wrong::LeftOver(word) => write!(f, "unexpected word: {word}"),
             Wrong::Missing(name) => write!(f, "{name} is missing"),
-            Wrong::NoLog(name) => write!(f, "{name} says nothing without --log"),
-            Wrong::NotText => f.write_str("a word is no text in UTF-8"),
+            Wrong::NoLog(name) => write!(f, "{name} needs --log"),
+            Wrong::NotText => f.write_str("a word isn't valid UTF-8"),
         }
     }
 }

@@ -15,7 +15,7 @@ pub enum OpenFault {
     Io,
     /// The disk or the file has no room.
     Full,
-    /// Memory was refused.
+    /// Out of memory.
     Memory,
     /// The file is no SQLite database, or one of something else.
     Foreign,
@@ -66,11 +66,11 @@ impl fmt::Display for OpenFault {
             OpenFault::Io => "the disk failed",
             OpenFault::Full => "the disk or the file is full",
             OpenFault::Memory => "out of memory",
-            OpenFault::Foreign => "the file is no store",
+            OpenFault::Foreign => "the file isn't a store",
             OpenFault::Format =>
                 "the file is a store in an earlier format, which this program can't read",
             OpenFault::Corrupt => "the file is damaged",
-            OpenFault::Exists => "there is a database already",
+            OpenFault::Exists => "the file has a database already",
         })
     }
 }

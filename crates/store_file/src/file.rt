@@ -91,7 +91,7 @@ fn named<D: Disk>(error: OpenError, before: Tally, left: &Unopened<D>) -> OpenFa
 ///
 /// # Errors
 ///
-/// [`OpenFault`]: what the files are instead, a failure of the disk, or want of memory. By the code, and by no clause, nothing is written.
+/// [`OpenFault`]: what the files are instead, a failure of the disk, or out of memory. By the code, and by no clause, nothing is written.
 pub fn open<D: Disk + Drop>(alloc: Global, files: Files<D>) -> Result<FileStore<D>, OpenFault>
     requires log { IsTrue (D.Disk.is_usable files.log) }
     requires db { IsTrue (D.Disk.is_usable files.db) }
@@ -124,7 +124,7 @@ pub fn open<D: Disk + Drop>(alloc: Global, files: Files<D>) -> Result<FileStore<
 ///
 /// # Errors
 ///
-/// [`OpenFault::Exists`] where they hold a database, a failure of the disk, or want of memory.
+/// [`OpenFault::Exists`] where they hold a database, a failure of the disk, or out of memory.
 pub fn create<D: Disk + Drop>(alloc: Global, files: Files<D>) -> Result<FileStore<D>, OpenFault>
     requires log { IsTrue (D.Disk.is_usable files.log) }
     requires db { IsTrue (D.Disk.is_usable files.db) }
@@ -156,7 +156,7 @@ const SIZES: [usize; 8] = [512, 1024, 2048, 4096, 8192, 16_384, 32_768, 65_536];
 ///
 /// # Errors
 ///
-/// [`AllocError`] where memory is refused.
+/// [`AllocError`] if memory runs out.
 #[tactic(auto, using(crate::proofs::StoreLemmas::left_in))]
 pub fn is_store<D: Disk>(store: &FileStore<D>) -> Result<bool, AllocError>
     ensures tables { IfOk result (λ is. IsTrue is → HasTables store.now) }

@@ -274,6 +274,6 @@ fn makes_no_store_over_another(rt: HostRuntime) -> Result<(), Fail> {
 #[test]
 fn says_why(rt: HostRuntime) -> Result<(), Fail> {
     let text = format!(in rt.alloc(); "{}", OpenFault::Foreign)?;
-    assert_eq!(rt; text.as_str(), "the file is no store");
+    assert_eq!(rt; text.as_str(), "the file isn't a store");
     Ok(())
 }

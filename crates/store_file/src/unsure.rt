@@ -17,19 +17,32 @@ pub struct Unsure<D: Disk> {
     failed: u64,
     /// The reads whose bytes failed the test against a digest.
     caught: u64,
+    /// The writes that found no room below the longest file.
+    refused: u64,
+    /// How many bytes a file may have.
+    most: u64,
 }
 
 impl<D: Disk> Unsure<D> {
     ghost use Rattle.store_file.specs.Unsure.{disk_below};
 
-    /// The same disk, of which nothing is known.
+    /// The same disk, of which nothing is known, and whose file may have any length.
     pub fn new(inner: D) -> Unsure<D>
+        ensures { disk_below result ≡ inner }
+    {
+        Unsure::within(inner, u64::MAX)
+    }
+
+    /// The same, where a write past this many bytes finds no room: a process that may make no longer files is ended by the system if it tries.
+    pub fn within(inner: D, most: u64) -> Unsure<D>
         ensures { disk_below result ≡ inner }
     {
         Unsure {
             inner,
             failed: 0,
             caught: 0,
+            refused: 0,
+            most,
         }
     }
 }
@@ -43,7 +56,7 @@ impl<D: Disk> Disk for Unsure<D> {
 
     ghost faults = { λ u. D.Disk.faults u.inner + u.failed };
 
-    ghost tally_of = { λ u. both_counts (D.Disk.tally_of u.inner) (record { caught = u.caught; refused = 0 }) };
+    ghost tally_of = { λ u. both_counts (D.Disk.tally_of u.inner) (record { caught = u.caught; refused = u.refused }) };
 
     ghost is_clean = { λ _. false };
 
@@ -68,7 +81,7 @@ impl<D: Disk> Disk for Unsure<D> {
     fn tally(&self) -> Tally {
         self.inner.tally().plus(Tally {
             caught: self.caught,
-            refused: 0,
+            refused: self.refused,
         })
     }
 
@@ -100,6 +113,12 @@ impl<D: Disk> Disk for Unsure<D> {
     }
 
     fn write_at(&mut self, at: usize, bytes: &[u8]) -> io::Result<()> {
+        let end = (at as u64).saturating_add(bytes.len() as u64);
+        if end > self.most {
+            self.failed = self.failed.saturating_add(1);
+            self.refused = self.refused.saturating_add(1);
+            return Err(io::ErrorKind::StorageFull.into());
+        }
         self.inner.write_at(at, bytes)
     }
 

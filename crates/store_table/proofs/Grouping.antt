@@ -38,7 +38,7 @@ alike a b same x = ap (λ (bytes : List ℕ). pointwise nat_eq (string_bytes x.0
 tail_same : (x : Entry) (xs ys : List Entry) → x ∷ xs ≡ x ∷ ys → xs ≡ ys
 tail_same x xs ys e = cc
 
--- what is behind a row depends on its key alone
+-- what is after a row depends on its key alone
 from_alike : (a b : Entry) → same_key b a ≡ true → (xs tail : List Entry) → dedup_from same_key b xs ≡ b ∷ tail → dedup_from same_key a xs ≡ a ∷ tail
 from_alike a b same [] tail e = ap (λ l. a ∷ l) (tail_same b [] tail e)
 from_alike a b same (x ∷ xs) tail e = step (same_key x a) (same_key x b) refl (sym (alike a b same x)) (from_alike a b same xs tail)

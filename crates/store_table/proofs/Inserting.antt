@@ -1,10 +1,8 @@
 -- Entries that are inserted among others at their places.
 use Rattle.std.proofs.Common.{◌≡◌, ◌⊎◌, inl, inr, List, [], ◌∷◌, ◌++◌, map, refl, ap, subst, ◌∙◌}
-use Rattle.std.specs.List.Sorted.{IsPermutation}
 use Rattle.std.specs.Ordering.{match_ordering}
 use Rattle.std.specs.declared.cmp.Ordering.{Ordering}
 use Rattle.std.specs.declared.cmp.Ordering.TheVariants.{Less, Equal, Greater}
-use Rattle.std.proofs.lemmas.List.Sorted.{IsPermutation-middle}
 use Rattle.key_order.specs.Text.{Text as Key}
 use Rattle.sqlite_value.specs.Keys.{plain}
 use Rattle.sqlite_trees.specs.Tree.{Trees, IsAscending, IsIndex, insert_entry}
@@ -74,10 +72,6 @@ inserted e es =
       },
     )
 
--- what comes between moves to the front
-pub between_permutes : (e : Key × Register) (es all : List (Key × Register)) → IsBetween e es all → IsPermutation all (e ∷ es)
-between_permutes e es all between = rw (between.old, between.new) (IsPermutation-middle between.front e between.back)
-
 -- all are what es become where these are inserted, one after the other
 abbrev pub AreInserted : List (Key × Register) → List (Key × Register) → List (Key × Register) → Type 0
 AreInserted [] es all = all ≡ es
@@ -96,9 +90,3 @@ pub holds_more : (old new : Trees) (es added : List (Key × Register)) → Holds
 holds_more old new es added held has =
     let all = insert_all added es held.ascending in
     (all.0, record { rows = has.entries ∙ ap (λ rows. with_rows rows (map entry_row added)) held.rows ∙ all.1; ascending = all.2 }, all.3)
-
--- trees that have the row of one entry too hold the entries with it inserted
-pub holds_one_more : (old new : Trees) (es : List (Key × Register)) (e : Key × Register) → HoldsEntries old es → HasMore (entry_row e ∷ []) old new → (all : List (Key × Register)) × HoldsEntries new all × IsInserted e es all
-holds_one_more old new es e held has =
-    let one = inserted e es in
-    (one.0, record { rows = has.entries ∙ ap (λ rows. insert_entry plain (entry_row e) rows) held.rows ∙ one.1.rows; ascending = one.1.ascending held.ascending }, one.1)

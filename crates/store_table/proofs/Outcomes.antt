@@ -1,5 +1,5 @@
 -- What follows from a call that succeeds.
-use Rattle.std.proofs.Common.{subst, sym, ◌≡◌, OnOk, OnErr, IfOk, IfErr, Result, Ok, Err}
+use Rattle.std.proofs.Common.{subst, sym, ◌≡◌, OnOk, OnErr, IfOk, Result, Ok, Err}
 
 pub on_ok : {A E : Type 0} (r : Result A E) (P Q : Type 0) → (P → Q) → OnOk r P → OnOk r Q
 on_ok (Ok x) P Q f h = f h
@@ -9,21 +9,9 @@ pub if_ok : {A E : Type 0} (r : Result A E) (P Q : A → Type 0) → ((x : A) �
 if_ok (Ok x) P Q f h = f x h
 if_ok (Err e) P Q f h = tt
 
-pub to_on_ok : {A E : Type 0} (r : Result A E) (P : A → Type 0) (Q : Type 0) → ((x : A) → P x → Q) → IfOk r P → OnOk r Q
-to_on_ok (Ok x) P Q f h = f x h
-to_on_ok (Err e) P Q f h = tt
-
-pub of_ok : {A E : Type 0} (r : Result A E) (P : Type 0) (x : A) → r ≡ Ok x → OnOk r P → P
-of_ok (Ok y) P x is h = h
-of_ok (Err e) P x is h = absurd (let k = is in cc)
-
 pub on_err : {A E : Type 0} (r : Result A E) (P : Type 0) → P → OnErr r P
 on_err (Ok x) P h = tt
 on_err (Err e) P h = h
-
-pub to_on_err : {A E : Type 0} (r : Result A E) (P : E → Type 0) (Q : Type 0) → ((e : E) → P e → Q) → IfErr r P → OnErr r Q
-to_on_err (Ok x) P Q f h = tt
-to_on_err (Err e) P Q f h = f e h
 
 -- what a call found is so of the settled result
 pub settled_ok : {S A E : Type 0} (C : S → Type 0) (mid new : S) (r done : Result A E) (Q P : A → Type 0) (B : Type 0) → r ≡ done → OnOk r (new ≡ mid) → C new

@@ -73,7 +73,7 @@ stays_kept a b h = rw h record {
   marks = λ o. refl;
 }
 
--- the cursor has the rows behind those that are read to give
+-- the cursor has the rows after those that are read to give
 abbrev pub Passes : List Row → List Row → View → Type 0
 Passes rows seen v = (left : List Row) × (v.cursors 0 ≡ Some left) × (rows ≡ seen ++ left)
 
@@ -122,7 +122,7 @@ module _ {S : Type 0} (g : Ghosts S) (a b c : S) where
 pub quiet_steady : {S : Type 0} (g : Ghosts S) (a b : S) → StaysQuiet g a b → IsSteady g a b
 quiet_steady g a b h = record { clean = h.clean; counts = h.counts; closes = h.closes }
 
--- a step behind another that commits nothing
+-- a step after another that commits nothing
 pub uncommitted_then : {S : Type 0} (g : Ghosts S) (a b c : S) → CommitsNothing g a b → CommitsNothing g b c → CommitsNothing g a c
 uncommitted_then g a b c h k =
     let steady = steady_then g a b c (quiet_steady g a b h.quiet) (quiet_steady g b c k.quiet) in

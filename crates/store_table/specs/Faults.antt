@@ -11,7 +11,7 @@ abbrev pub fault_of : StoreError → StoreFault
 fault_of OutOfMemory = fault.Memory
 fault_of other = fault.Database other
 
--- the database failed, a row of the tables is neither an entry nor a note, or memory was refused
+-- the database failed, a row of the tables is neither an entry nor a note, or memory ran out
 abbrev pub IsFailure : StoreFault → Type 0
 IsFailure (fault.Database error) = ⊤
 IsFailure fault.Malformed = ⊤

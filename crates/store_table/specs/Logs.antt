@@ -40,7 +40,7 @@ module _ {S : Type 0} (g : Ghosts S) where
   abbrev pub LeavesNoMore : S → S → Type 0
   LeavesNoMore old new = (trees : Trees) → g.recovers new trees → g.recovers old trees
 
-  -- a crash may leave what it could leave before, or over a clean disk trees that are so of the old ones
+  -- a crash may leave what it could leave before, or on a clean disk trees that `Is` relates to the old ones
   abbrev pub Leaves : S → S → (Trees → Trees → Type 0) → Type 0
   Leaves old new Is = (trees : Trees) → g.recovers new trees → (IsClean old × Is (trees_of old) trees) ⊎ g.recovers old trees
 
@@ -51,27 +51,27 @@ module _ {S : Type 0} (g : Ghosts S) where
     pub closes : IsClean new → IsOpen old → IsOpen new ⊎ MoreFaults (g.faults old) (g.faults new)
 
   module _ {A E : Type 0} (old new : S) (result : Result A E) where
-    -- over a clean disk the answer in `Ok` is so of the trees
+    -- on a clean disk, `Is` relates the trees to the answer of a successful call
     abbrev pub Finds : (Trees → A → Type 0) → Type 0
     Finds Is = IsClean new → IfOk result (Is (trees_of old))
 
-    -- over a clean disk a call that is `Ok` shows this of the trees
+    -- on a clean disk, a successful call shows that `Is` holds of the trees
     abbrev pub Shows : (Trees → Type 0) → Type 0
     Shows Is = IsClean new → OnOk result (Is (trees_of old))
 
-    -- over a clean disk a call that is `Ok` makes trees that are so of the old ones
+    -- on a clean disk, `Is` relates the old and the new trees of a successful call
     abbrev pub Makes : (Trees → Trees → Type 0) → Type 0
     Makes Is = IsClean new → OnOk result (Is (trees_of old) (trees_of new))
 
-    -- over a clean disk a call that is `Ok` makes trees that are so of the old ones and of the answer
+    -- on a clean disk, `Is` relates the old trees, the new trees and the answer of a successful call
     abbrev pub MakesAndFinds : (Trees → Trees → A → Type 0) → Type 0
     MakesAndFinds Is = IsClean new → IfOk result (Is (trees_of old) (trees_of new))
 
-    -- over a clean disk a call fails by this error only where the trees were so
+    -- on a clean disk, a call fails with this error only if `Is` held of the trees
     abbrev pub Refuses : E → (Trees → Type 0) → Type 0
     Refuses why Is = IsClean new → IsErrOf result why → Is (trees_of old)
 
-    -- over a clean disk the trees are as they were in `Ok`
+    -- on a clean disk, a successful call leaves the trees as they were
     abbrev pub StaysInOk : Type 0
     StaysInOk = IsClean new → OnOk result (trees_of new ≡ trees_of old)
 

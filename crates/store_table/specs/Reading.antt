@@ -21,7 +21,7 @@ Takes old new (Some entry) = (left : List Row) × (old.cursors 0 ≡ Some (entry
 abbrev pub Groups : Type 0
 Groups = List (Key × Register) × Option (Key × Register)
 
--- an entry behind the others, of the last key or of another
+-- an entry after the others, of the last key or of another
 abbrev pub with_entry : List (Key × Register) → Option (Key × Register) → Key × Register → Groups
 with_entry given None entry = (given, Some entry)
 with_entry given (Some last) entry = if same_key last entry then (given, Some entry) else (given ++ last ∷ [], Some entry)
@@ -34,7 +34,7 @@ groups_in entries = fold (λ (s : Groups) entry. with_entry s.0 s.1 entry) ([], 
 abbrev pub last_of : Groups → List (Key × Register)
 last_of groups = groups.0 ++ cons_option groups.1 []
 
--- an entry behind `last`, where a walk has one, ends its group where the answer says so
+-- an entry after `last`, where a walk has one, ends its group where the answer says so
 abbrev pub EndsGroup : Option (Key × Register) → Option (Key × Register) → Key × Register → Option (Key × Register) → Type 0
 EndsGroup last next entry ended = (given : List (Key × Register)) → with_entry given last entry ≡ (given ++ cons_option ended [], next)
 

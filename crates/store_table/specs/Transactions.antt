@@ -22,7 +22,7 @@ module _ {S : Type 0} (g : Ghosts S) where
     pub committed : IsClean g new → IsOpen g new → (g.view new).committed ≡ (g.view old).committed
     pub was_open : IsClean g new → IsOpen g new → IsOpen g old
 
-  -- in `Ok` it made trees that are so of the old ones, and committed them; in `Err` it can go back
+  -- in `Ok` it made trees that `Is` relates to the old ones, and committed them; in `Err` it can go back
   pub record IsTransaction {A E : Type 0} (old new : S) (result : Result A E) (Is : Trees → Trees → Type 0) : Type 0 where
     pub made : Makes g old new result Is
     pub log : OnOk result (IsLog g new)

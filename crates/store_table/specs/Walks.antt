@@ -30,10 +30,10 @@ abbrev pub GivesAll : View → View → Type 0
 GivesAll old new = new.cursors 0 ≡ Some (old.trees 0)
 
 module _ {S : Type 0} (g : Ghosts S) {A E : Type 0} (old new : S) (result : Result A E) where
-  -- a call that is `Ok` makes, over a clean disk, a view that is so of the old one
+  -- on a clean disk, `Is` relates the old and the new view of a successful call
   abbrev pub MakesView : (View → View → Type 0) → Type 0
   MakesView Is = OnOk result (IsClean g new → Is (g.view old) (g.view new))
 
-  -- it makes, over a clean disk, a view that is so of the old one and of the answer
+  -- on a clean disk, `Is` relates the old view, the new view and the answer of a successful call
   abbrev pub MakesViewAndFinds : (View → View → A → Type 0) → Type 0
   MakesViewAndFinds Is = IfOk result (λ found. IsClean g new → Is (g.view old) (g.view new) found)

@@ -10,7 +10,7 @@ use std::fmt;
 pub enum StoreFault {
     /// The database failed.
     Database(StoreError),
-    /// Memory was refused.
+    /// Out of memory.
     Memory,
     /// A row of the tables is neither an entry nor a note of a store.
     Malformed,
@@ -22,7 +22,7 @@ pub enum StoreFault {
     Time,
     /// A peer sent an entry whose time is too far ahead of the clock: nothing was joined.
     Future,
-    /// The file has the change, and memory was refused for the rows in memory: the store is to be opened again.
+    /// The file has the change, and memory ran out for the rows in memory: the store is to be opened again.
     Behind,
 }
 
@@ -55,18 +55,20 @@ impl fmt::Display for StoreFault {
             StoreFault::Database(error) => write!(f, "{error}"),
             StoreFault::Memory => f.write_str("out of memory"),
             StoreFault::Malformed => f.write_str(
-                "a row of the store is neither an entry nor its note",
+                "the file is damaged: a row is neither an entry nor the store's note",
             ),
-            StoreFault::Foreign => f.write_str("the file is a database, but no store"),
+            StoreFault::Foreign => f.write_str("the file is a database, but isn't a store"),
             StoreFault::Format(format) => write!(
                 f,
                 "the file is a store in format {format}, which this program can't read"
             ),
-            StoreFault::Time => f.write_str("the key has the last time that there is"),
+            StoreFault::Time => f.write_str(
+                "the key has the last possible time: it can't be overwritten or removed",
+            ),
             StoreFault::Future => f.write_str(
                 "the peer sent an entry from the future: nothing was joined",
             ),
-            StoreFault::Behind => f.write_str("the change is in the file, but memory is out"),
+            StoreFault::Behind => f.write_str("the change is in the file, but memory ran out"),
         }
     }
 }

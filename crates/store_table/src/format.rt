@@ -38,7 +38,7 @@ pub struct Note {
     pub hash_key: [u8; HASH_KEY_LEN],
 }
 
-/// Fills in the first note, and answers whether it is the only one.
+/// Fills in the first note, and returns whether it is the only one.
 fn only_note<S: Store>(
     trees: &mut S,
     none: &Row,
@@ -262,7 +262,7 @@ fn commit_note<S: Store>(
 ///
 /// ```rust crates/mst/src/files.rt
 /// let made = create(rt.alloc(), &mut log, writer, hash_key);
-/// let closed = log.close_all();
+/// let closed = log.close_copied();
 /// made?;
 /// closed
 /// ```

@@ -192,7 +192,7 @@ fn has_text(found: &Option<Register>) -> bool
     }
 }
 
-/// Removes a key, and answers whether it was there. Where it was not, nothing is written.
+/// Removes a key, and returns whether it was there. Where it was not, nothing is written.
 ///
 /// ```rust crates/mst_commands/src/writing.rt
 /// let there = remove(alloc, log, writer, now, key)?;

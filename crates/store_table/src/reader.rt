@@ -112,7 +112,7 @@ fn next_entry<S: Store>(
     }
 }
 
-/// Takes an entry in behind those that a walk has read, and answers the last one before it where that is of another key.
+/// Takes an entry in after those that a walk has read, and returns the last one before it where that is of another key.
 fn take_in(walk: &mut Walk, entry: (String, Register)) -> Option<(String, Register)>
     ensures ended { EndsGroup walk.old.ahead walk.new.ahead entry result }
     ensures count { walk.new.count ≡ walk.old.count }

@@ -21,7 +21,7 @@ impl Register {
     ///
     /// # Errors
     ///
-    /// Want of memory.
+    /// Out of memory.
     pub fn copy(&self) -> Result<Register, AllocError>
         ensures { IfOk result (λ copy. ⟦<Register as PartialEq>⟧.eq copy self.now ≡ true) }
     {

@@ -91,7 +91,7 @@ fn forget(rows: &mut Entries, before: u64)
     );
 }
 
-/// Leaves one row in the table for each key, and none for a removal that is older than `before`, and answers how many are left.
+/// Leaves one row in the table for each key, and none for a removal that is older than `before`, and returns how many are left.
 ///
 /// # Errors
 ///

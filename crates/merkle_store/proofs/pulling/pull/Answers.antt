@@ -38,6 +38,7 @@ returns-clause-brought g c =
     record {
       came = came;
       caught_up = c.in_ok-entries.ensures.came;
+      short = rw c.deref.ensures.value at c.in_ok-expect_fit.ensures.short;
       timely = c.in_ok-news.ensures.timely;
       entries = search rules;
       news = c.in_ok-news.ensures.count ∙ ap (λ rs. length (later_entries rs came)) rows;

@@ -8,18 +8,18 @@ returns-clause-written g c clean =
     let s = g.S.Store in
     let mid = c.entries_to_add.new.log in
     let early : IsClean s mid = omega (arith, c.add_all.ensures.steady.clean, clean) in
-    imported (g.R.Read.remaining c.args.from) c.args.limit c.args.writer.now c.args.now c.in_ok-came.came.items c.deref.result.now
-    (rw c.is_some.ensures at c.in_ok-came.ensures.read) (trees_of s c.args.log.now) (trees_of s mid) (trees_of s c.add_all.new.log) (c.in_ok-added.ensures.unchanged early)
+    imported c.args.limit c.args.writer.now c.args.now c.args.came.items c.deref.result.now
+    (trees_of s c.args.log.now) (trees_of s mid) (trees_of s c.add_all.new.log) (c.in_ok-added.ensures.unchanged early)
     (rw (← c.deref.ensures.value) at (c.in_ok-added.ensures.added early)) (c.in_ok-add_all.ensures.added clean)
 
 pub returns-clause-crash : goal.returns-clause-crash
 returns-clause-crash g c =
-    import_leaves (g.R.Read.remaining c.args.from) c.args.limit c.args.writer.now c.args.now c.in_ok-came.came.items c.deref.result.now
-    (rw c.is_some.ensures at c.in_ok-came.ensures.read) g.S.Store c.args.log.now c.entries_to_add.new.log c.add_all.new.log c.entries_to_add.ensures.steady
+    import_leaves c.args.limit c.args.writer.now c.args.now c.args.came.items c.deref.result.now
+    g.S.Store c.args.log.now c.entries_to_add.new.log c.add_all.new.log c.entries_to_add.ensures.steady
     (rw (← c.deref.ensures.value) at c.in_ok-added.ensures.added) c.in_ok-added.ensures.unchanged c.entries_to_add.ensures.crash c.add_all.ensures.crash
 
 pub returns-in_err-add_all-clause-crash : goal.returns-in_err-add_all-clause-crash
 returns-in_err-add_all-clause-crash g c =
-    import_leaves (g.R.Read.remaining c.args.from) c.args.limit c.args.writer.now c.args.now c.in_ok-came.came.items c.deref.result.now
-    (rw c.is_some.ensures at c.in_ok-came.ensures.read) g.S.Store c.args.log.now c.entries_to_add.new.log c.add_all.new.log c.entries_to_add.ensures.steady
+    import_leaves c.args.limit c.args.writer.now c.args.now c.args.came.items c.deref.result.now
+    g.S.Store c.args.log.now c.entries_to_add.new.log c.add_all.new.log c.entries_to_add.ensures.steady
     (rw (← c.deref.ensures.value) at c.in_ok-added.ensures.added) c.in_ok-added.ensures.unchanged c.entries_to_add.ensures.crash c.add_all.ensures.crash

@@ -1,4 +1,4 @@
-use Rattle.std.proofs.Common.{◌≤◌, ◌<◌, All, length, refl, sym, subst, arith}
+use Rattle.std.proofs.Common.{◌≤◌, ◌<◌, All, length, sym, subst, arith}
 use Rattle.std.proofs.lemmas.List.{take_all}
 use Rattle.std.proofs.lemmas.List.Elements.{All-more}
 use Rattle.key_order.specs.Text.{Text as Key}
@@ -18,4 +18,4 @@ returns-clause-timely c =
 pub returns-then-entry-latest-clause-future : goal.returns-then-entry-latest-clause-future
 returns-then-entry-latest-clause-future c =
     let low : c.entries.entry-index < length c.args.entries.now = omega arith in
-    (refl, (c.entries.entry-index, c.entry-item.result, low, sym c.entry-item.is, c.if-entry-latest.true))
+    (c.entries.entry-index, c.entry-item.result, low, sym c.entry-item.is, c.if-entry-latest.true)

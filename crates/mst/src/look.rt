@@ -1,0 +1,221 @@
+//! What a file is, told by reading alone: so that a file of others stays as it is, and gets no log beside it.
+ghost use Rattle.std.specs.Prelude.{◌<◌};
+
+use crate::fault::Failure;
+use sqlite_std_file::OpenError;
+use std::alloc::Global;
+use std::fs::{self, File};
+use std::io::{self, Read};
+use std::os::unix::fs::FileExt;
+use store_file::OpenFault;
+use store_file::catalog::{ABOUT_SQL, ENTRIES_SQL, FORMER_ABOUT_SQL, FORMER_ENTRIES_SQL};
+
+/// The longest page of a SQLite database.
+const LONGEST_PAGE: usize = 65_536;
+
+/// The bytes of a database's header, after which the first page has its list of tables.
+const HEADER: usize = 100;
+
+/// The bytes of a log's header, and of the header of each page in it.
+const LOG_HEADER: usize = 32;
+
+const FRAME_HEADER: usize = 24;
+
+/// How many pages of a log are looked at.
+const MOST_FRAMES: u64 = 16_777_216;
+
+/// What a first page is of.
+#[derive(Clone, Copy, Debug, PartialEq, Eq)]
+enum First {
+    /// A store, or what may be a damaged one.
+    Store,
+    /// A store in an earlier format.
+    Former,
+    /// A SQLite database that ends within its first page.
+    Cut,
+    /// Anything else.
+    Other,
+}
+
+/// The byte at a place, or 0 after the end.
+fn byte_at(bytes: &[u8], at: usize) -> usize
+    ensures { result < 256 }
+{
+    match bytes.get(at) {
+        Some(byte) => *byte as usize,
+        None => 0,
+    }
+}
+
+/// The number in two bytes, the higher first.
+fn pair_at(bytes: &[u8], at: usize) -> usize
+    ensures { result < 65536 }
+{
+    byte_at(bytes, at) * 256 + byte_at(bytes, at.saturating_add(1))
+}
+
+/// Where a row of a list of tables ends, which begins with its length in one byte or two and its number in one.
+fn end_of_row(page: &[u8], start: usize) -> usize {
+    let first = byte_at(page, start);
+    let (length, bytes) = if first < 128 {
+        (first, 2)
+    } else {
+        (
+            (first - 128) * 128 + byte_at(page, start.saturating_add(1)),
+            3,
+        )
+    };
+    start.saturating_add(length).saturating_add(bytes)
+}
+
+/// Whether one of the two rows of a list of tables, the first of which has the number 0, ends with how its table is made.
+fn is_made_so(page: &[u8], number: usize, sql: &str) -> bool {
+    let place = if number == 0 { 108 } else { 110 };
+    let end = end_of_row(page, pair_at(page, place));
+    end <= page.len() && page[..end].ends_with(sql.as_bytes())
+}
+
+/// Whether the two rows of a list of tables are those of tables that are made so.
+fn are_made_so(page: &[u8], entries: &str, about: &str) -> bool {
+    is_made_so(page, 0, entries) && is_made_so(page, 1, about)
+}
+
+/// Whether a text stands somewhere in a page.
+fn has_text(page: &[u8], text: &str) -> bool {
+    for at in 0..page.len() {
+        if page[at..].starts_with(text.as_bytes()) {
+            return true;
+        }
+    }
+    false
+}
+
+/// What a first page is of. A page of another kind than a list of tables, in which a store's tables stand, is one that was damaged.
+fn first_of(page: &[u8]) -> First {
+    let kind = byte_at(page, HEADER);
+    if kind == 13 {
+        let rows = pair_at(page, 103);
+        return match rows {
+            2 if are_made_so(page, ENTRIES_SQL, ABOUT_SQL) => First::Store,
+            2 if are_made_so(page, FORMER_ENTRIES_SQL, FORMER_ABOUT_SQL) => First::Former,
+            2 if are_made_so(page, ENTRIES_SQL, FORMER_ABOUT_SQL) => First::Former,
+            _ => First::Other,
+        };
+    }
+    if kind != 5 && has_text(page, ENTRIES_SQL) && has_text(page, ABOUT_SQL) {
+        return First::Store;
+    }
+    if page.starts_with(b"SQLite format 3\0") && page.len() < pair_at(page, 16).max(512) {
+        return First::Cut;
+    }
+    First::Other
+}
+
+/// The first bytes of a file, as many as there are up to a number.
+fn read_up_to(alloc: Global, file: &File, most: usize) -> io::Result<Vec<u8>> {
+    let mut bytes = Vec::new(alloc);
+    let mut from = file.take(most as u64);
+    from.read_to_end(&mut bytes)?;
+    Ok(bytes)
+}
+
+/// The bytes of a file from a place on, up to a number.
+fn read_from(alloc: Global, file: &File, at: u64, most: usize) -> io::Result<Vec<u8>> {
+    let mut bytes = vec![in alloc; 0u8; most]?;
+    let count = file.read_at(&mut bytes, at)?;
+    bytes.truncate(count);
+    Ok(bytes)
+}
+
+/// The number in four bytes, the highest first.
+fn number_at(bytes: &[u8], at: usize) -> usize {
+    pair_at(bytes, at) * 65_536 + pair_at(bytes, at.saturating_add(2))
+}
+
+/// Whether the page at a place of a log is the first one of a store.
+fn is_store_at(alloc: Global, log: &File, at: u64, size: usize) -> io::Result<bool> {
+    let page = read_from(alloc, log, at, size)?;
+    Ok(page.len() == size && first_of(&page) == First::Store)
+}
+
+/// Whether a log has a first page of a store, where the database file itself has none yet.
+fn log_has_store(alloc: Global, log: &File) -> io::Result<bool> {
+    let size = number_at(&read_from(alloc, log, 0, LOG_HEADER)?, 8);
+    if size < 512 || size > LONGEST_PAGE {
+        return Ok(false);
+    }
+    let mut at = LOG_HEADER as u64;
+    for _ in 0..MOST_FRAMES {
+        let frame = read_from(alloc, log, at, FRAME_HEADER)?;
+        if frame.len() < FRAME_HEADER {
+            break;
+        }
+        let page = at.saturating_add(FRAME_HEADER as u64);
+        if number_at(&frame, 0) == 1 && is_store_at(alloc, log, page, size)? {
+            return Ok(true);
+        }
+        at = page.saturating_add(size as u64);
+    }
+    Ok(false)
+}
+
+/// Whether there is a log beside a file, with a first page of a store.
+fn has_store_in_log(rt: &HostRuntime, path: &str) -> Result<bool, Failure> {
+    let name = format!(in rt.alloc(); "{path}-wal")?;
+    if !is_plain(rt, name.as_str())? {
+        return Ok(false);
+    }
+    let log = fs::open(rt, name.as_str()).map_err(failure_of)?;
+    Ok(log_has_store(rt.alloc(), &log).map_err(failure_of)?)
+}
+
+/// What a failure of the system at a path means.
+fn failure_of(error: io::Error) -> Failure {
+    Failure::Path(OpenError::Io(error))
+}
+
+/// Whether a plain file has this name.
+fn is_plain(rt: &HostRuntime, path: &str) -> Result<bool, Failure> {
+    match fs::metadata(rt, path) {
+        Ok(found) => Ok(found.is_file()),
+        Err(error) if error.kind() == io::ErrorKind::NotFound => Ok(false),
+        Err(error) => Err(failure_of(error)),
+    }
+}
+
+/// Refuses the file of a store in a mode that isn't read here.
+fn expect_mode(page: &[u8]) -> Result<(), Failure> {
+    if number_at(page, 52) != 0 {
+        return Err(Failure::Mode(
+            "the file is a store with auto_vacuum on, which this program can't read: turn it off by sqlite3 FILE 'PRAGMA auto_vacuum = 0; VACUUM'",
+        ));
+    }
+    if byte_at(page, 20) != 0 {
+        return Err(Failure::Mode(
+            "the file is a store with reserved bytes in its pages, which this program can't read",
+        ));
+    }
+    Ok(())
+}
+
+/// Refuses a file that is no store, or one in a mode that isn't read here. It reads the first page, and those of a log where that isn't one of a
+/// store, and writes nothing. What is no plain file is left to the call that opens it.
+pub fn expect_store(rt: &HostRuntime, path: &str) -> Result<(), Failure> {
+    if !is_plain(rt, path)? {
+        return Ok(());
+    }
+    let file = fs::open(rt, path).map_err(failure_of)?;
+    let page = read_up_to(rt.alloc(), &file, LONGEST_PAGE).map_err(failure_of)?;
+    let first = first_of(&page);
+    if first == First::Store {
+        return expect_mode(&page);
+    }
+    if has_store_in_log(rt, path)? {
+        return Ok(());
+    }
+    Err(Failure::File(match first {
+        First::Former => OpenFault::Format,
+        First::Cut => OpenFault::Corrupt,
+        _ => OpenFault::Foreign,
+    }))
+}

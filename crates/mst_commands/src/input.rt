@@ -1,0 +1,59 @@
+//! What a command reads from standard input.
+ghost use Rattle.std.specs.Prelude.{◌≡◌, IfOk, string_bytes};
+ghost use Rattle.mst_commands.specs.Carries.{IsInputOf, entries_of, value_of as value_from};
+
+use crate::fault::Fault;
+use crate::records::read_entries;
+use crate::writing::read_text;
+use mst_words::{Given, Verb};
+use std::alloc::{AllocError, Global};
+use store_table::table::Entries;
+
+/// What a command has from standard input, which is read to its end before a file is opened.
+#[derive(Drop)]
+pub enum Input {
+    /// Nothing: the command line says all.
+    Nothing,
+    /// The value of a put.
+    Value(String),
+    /// The entries of an import.
+    Records(Entries),
+}
+
+/// Reads what a command takes from standard input, to its end: the value of a put, where it is to come from there, or the entries of an import.
+///
+/// # Errors
+///
+/// As those of [`read_text`] and [`read_entries`].
+pub fn read_input(rt: &HostRuntime, verb: Verb, given: &Given<'_>) -> Result<Input, Fault>
+    ensures { IfOk result (IsInputOf verb given.now) }
+{
+    match verb {
+        Verb::Put if given.is_input => Ok(Input::Value(read_text(rt.alloc(), rt.stdin())?)),
+        Verb::Import => {
+            let entries = read_entries(rt.alloc(), rt.stdin(), given.log)?;
+            Ok(Input::Records(entries))
+        }
+        _ => Ok(Input::Nothing),
+    }
+}
+
+/// The value of a put: that of the input, or else the one that is given.
+pub(crate) fn value_of(alloc: Global, given: &Given<'_>, input: Input) -> Result<String, AllocError>
+    ensures { IfOk result (λ text. string_bytes text ≡ value_from input given.now) }
+{
+    match input {
+        Input::Value(text) => Ok(text),
+        _ => String::from_str(alloc, given.value),
+    }
+}
+
+/// The entries of an import: those of the input.
+pub(crate) fn entries_in(alloc: Global, input: Input) -> Entries
+    ensures { result.items ≡ entries_of input }
+{
+    match input {
+        Input::Records(entries) => entries,
+        _ => Vec::new(alloc),
+    }
+}
