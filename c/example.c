@@ -26,7 +26,7 @@ static void check(int status) {
     exit(1);
 }
 
-/* A message of so many bytes more, which are still to be written. */
+/* A message of this many bytes more, which are still to be written. */
 static void grow(struct message *message, size_t len) {
     message->bytes = realloc(message->bytes, message->len + len);
     if (!message->bytes) exit(1);

@@ -32,7 +32,7 @@ const char *mst_version(void);
 
 enum {
     MST_DONE = 0,         /* the call did what it is for */
-    MST_NO_MEMORY = 1,    /* memory was refused; the same call may be made again */
+    MST_NO_MEMORY = 1,    /* out of memory; the same call may be made again */
     MST_MALFORMED = 2,    /* the bytes are no list of the kind that the call takes, or its rows don't ascend where they have to */
     MST_TOO_SHORT = 3,    /* `out` is too short, and is as before; *needed says how many bytes it takes */
     MST_BAD_ARGUMENT = 4, /* an argument isn't one that the call takes */
@@ -53,7 +53,7 @@ int mst_tree_new(struct mst_tree *out);
 
 /* The same with a key of SipHash for keys and values (pages are hashed under the zero key always), a level base and a page format.
  * Peers that compare trees have all three in common: mst_diff can't tell that they haven't, and asks for far too much. The level
- * base is from 1 to 255: from 2 to 128, about one key in so many stands above level 0, so that a lesser base makes more and smaller
+ * base is from 1 to 255: from 2 to 128, about one key in that many is above level 0, so that a lesser base makes more and smaller
  * pages; about one in 256 stands above level 1, whatever the base. The page format is 1, or 2, in which what a page digest is made
  * of can be read in one way only: take 2 where no peer needs root hashes of the Rust crate. MST_BAD_ARGUMENT for any other base or
  * format, too; MST_NO_MEMORY. One request for memory. */
@@ -91,8 +91,8 @@ int mst_tree_upsert(struct mst_tree *tree, const uint8_t *key, size_t key_len, c
 int mst_tree_upsert_digest(struct mst_tree *tree, const uint8_t *key, size_t key_len, const uint8_t digest[16]);
 
 /* Sets the rows of a list of rows (below) one after the other, each as mst_tree_upsert does, and writes how many were set. They come in
- * any order, over what the tree has, and of rows with one key the last stays. MST_NO_MEMORY where memory is refused for a row: *done rows
- * in front of it were set, and neither it nor those behind it; the same call may be made again. MST_MALFORMED where it is no list of
+ * any order, over what the tree has, and of rows with one key the last stays. MST_NO_MEMORY if memory runs out for a row: *done rows
+ * in front of it were set, and neither it nor those after it; the same call may be made again. MST_MALFORMED where it is no list of
  * rows, and then none is set; MST_BAD_ARGUMENT. The list is read twice and not kept. Time and memory for each row as for
  * mst_tree_upsert; where rows that ascend are to be the whole map, mst_tree_load takes less of both. */
 int mst_tree_upsert_rows(struct mst_tree *tree, const uint8_t *rows, size_t rows_len, size_t *done);
@@ -165,7 +165,7 @@ struct mst_range {
 };
 
 /* Goes to the next range of a list of page ranges or key ranges, without copying or taking memory. *at is where it stands: 0 before
- * the first, where the whole list is read once, and then what the call before left there. MST_ABSENT behind the last; MST_MALFORMED
+ * the first, where the whole list is read once, and then what the call before left there. MST_ABSENT after the last; MST_MALFORMED
  * where a mark of such a list and a number don't stand in front, at 0 also where the bytes are no such list (that a first key is above
  * a last one isn't looked for), and at a place within them where no range of the list's kind begins; MST_BAD_ARGUMENT where *at is
  * beyond the end of bytes that have such a front. At a place that no call left there it is as safe, but may answer a range that isn't

@@ -18,7 +18,7 @@
  *
  * `b` keeps nothing between messages, so that it may serve many. For both ways, do the same with the sides exchanged. The bytes of the
  * messages are those of docs/WIRE.md, where keys and values are byte strings; a refusal is `01 ff`. The packages for Rust and Python
- * send each behind its length in eight bytes, the lowest first, and end a catch-up by a message of no bytes: then the sides may be
+ * send each after its length in eight bytes, the lowest first, and end a catch-up by a message of no bytes: then the sides may be
  * exchanged over the same connection.
  *
  * A peer may send any bytes: the calls are safe, what comes are rows that were asked for, and what they say is the peer's. A peer that
@@ -64,7 +64,7 @@ int mst_replica_new_with(struct mst_replica *out, const uint8_t key[16], uint8_t
 void mst_replica_free(struct mst_replica *replica);
 
 /* Joins a value at a key: where there is none it is put there, and else the greater of the two stays. Both are copied, may be empty, and
- * have any bytes. MST_NO_MEMORY; MST_BAD_ARGUMENT where the handle has no replica. The place is found by halving, and the rows behind a new
+ * have any bytes. MST_NO_MEMORY; MST_BAD_ARGUMENT where the handle has no replica. The place is found by halving, and the rows after a new
  * key move up by one: time in proportion to these, at a few nanoseconds each, and to the lengths. So put many rows in the order of their
  * keys, as memcmp has it: in any other order the time is in proportion to the square of their number. */
 int mst_replica_put(struct mst_replica *replica, const uint8_t *key, size_t key_len, const uint8_t *value, size_t value_len);
@@ -103,7 +103,7 @@ int mst_replica_answer(struct mst_replica *replica, const uint8_t *question, siz
 int mst_replica_ask(struct mst_replica *replica, size_t *message_len);
 
 /* Takes the reply to the question that was asked last. Where the catch-up asks on, it keeps the next question as the message, writes its
- * length, which isn't 0, and a *joined of 0; the rows stay. Where all that was lacked came, it joins the rows that came, writes a length
+ * length, which isn't 0, and a *joined of 0; the rows stay. If all that was missing came, it joins the rows that came, writes a length
  * of 0 and how many these were, and the catch-up is over.
  *
  * MST_ABSENT where no catch-up is under way. MST_MALFORMED where the bytes are no reply to what was asked, MST_REFUSED where the peer

@@ -16,7 +16,7 @@ static void put(struct mst_replica *replica, const char *key, const char *value)
     check(mst_replica_put(replica, (const uint8_t *)key, strlen(key), (const uint8_t *)value, strlen(value)));
 }
 
-/* The message that a replica keeps, of so many bytes: these go to the peer. */
+/* The message that a replica keeps, of this many bytes: these go to the peer. */
 static uint8_t *message(struct mst_replica *replica, size_t len) {
     uint8_t *bytes = malloc(len);
     if (!bytes) exit(1);

@@ -37,7 +37,7 @@ static void carry(int reads, uint8_t *bytes, size_t len) {
     }
 }
 
-/* Sends a message behind its length, in eight bytes, the lowest first. */
+/* Sends a message after its length, in eight bytes, the lowest first. */
 static void send_bytes(uint8_t *message, size_t len) {
     uint8_t front[8];
     int at;

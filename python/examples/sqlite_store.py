@@ -1,22 +1,53 @@
-"""Rows in SQLite, and the tree over them: what a store of one's own needs for a sync. Of two values of a key the one with the later clock
-stays, and of two with equal clocks the greater; a row that is taken out stays as a row with an empty value, so that no peer brings it back."""
+"""Rows in SQLite, and the tree over them in memory: what a store of your own needs for a sync. Of two values of a key the one with the later
+clock stays, and of two with equal clocks the greater. A row that is taken out stays as a row with an empty value, so no peer brings it back."""
 import socket
 import sqlite3
 import threading
-from typing import Iterator, Tuple
+from typing import List, Tuple
 
 from mst import Tree, sync
 
 
-class Rows:
-    """A table of keys and values, of which each begins with eight bytes of a clock."""
+class Table:
+    """A table in SQLite of which the greater value of a key stays, and the tree over it."""
 
     def __init__(self, path: str) -> None:
-        self.table = sqlite3.connect(path, check_same_thread=False)
-        self.table.execute("CREATE TABLE IF NOT EXISTS rows (key BLOB PRIMARY KEY, value BLOB NOT NULL) WITHOUT ROWID")
-        self.tree = Tree()
-        # a table is in the order of its keys, as SQLite orders blobs, and so does a tree
-        self.tree.load(self.table.execute("SELECT key, value FROM rows ORDER BY key"))
+        self._table = sqlite3.connect(path, check_same_thread=False)
+        self._table.execute("CREATE TABLE IF NOT EXISTS rows (key BLOB PRIMARY KEY, value BLOB NOT NULL) WITHOUT ROWID")
+        self._lock = threading.Lock()
+        self._load()
+
+    def _load(self) -> None:
+        """Loads the tree by one scan. SQLite orders blobs by their bytes, as a tree does."""
+        self._version = self._table.execute("PRAGMA data_version").fetchone()
+        self._tree = Tree()
+        self._tree.load(self._table.execute("SELECT key, value FROM rows ORDER BY key"))
+
+    @property
+    def tree(self) -> Tree:
+        """The tree; loaded anew if another connection committed, or if it isn't known how a commit ended."""
+        with self._lock:
+            if self._version != self._table.execute("PRAGMA data_version").fetchone():
+                self._load()
+            return self._tree
+
+    def between(self, first: bytes, last: bytes) -> "List[Tuple[bytes, bytes]]":
+        with self._lock:    # so that no row of a transaction under way is sent to a peer
+            return self._table.execute("SELECT key, value FROM rows WHERE key BETWEEN ? AND ? ORDER BY key", (first, last)).fetchall()
+
+    def join(self, key: bytes, value: bytes) -> None:
+        with self._lock:
+            version, self._version = self._version, None
+            with self._table:    # a transaction, which is committed at the end of the block
+                done = self._table.execute("INSERT INTO rows VALUES (?, ?) ON CONFLICT (key) DO UPDATE SET value = excluded.value "
+                                           "WHERE excluded.value > value", (key, value))
+            if done.rowcount:
+                self._tree[key] = value
+            self._version = version
+
+
+class Rows(Table):
+    """The same, with values that begin with eight bytes of a clock, and with removals."""
 
     def put(self, key: bytes, clock: int, value: bytes) -> None:
         self.join(key, clock.to_bytes(8, "big") + value)
@@ -24,17 +55,8 @@ class Rows:
     def take_out(self, key: bytes, clock: int) -> None:
         self.put(key, clock, b"")
 
-    def between(self, first: bytes, last: bytes) -> "Iterator[Tuple[bytes, bytes]]":
-        yield from self.table.execute("SELECT key, value FROM rows WHERE key BETWEEN ? AND ? ORDER BY key", (first, last))
-
-    def join(self, key: bytes, value: bytes) -> None:
-        done = self.table.execute("INSERT INTO rows VALUES (?, ?) ON CONFLICT (key) DO UPDATE SET value = excluded.value "
-                                  "WHERE excluded.value > value", (key, value))
-        if done.rowcount:
-            self.tree[key] = value
-
     def rows(self) -> "dict[str, str]":
-        found = self.table.execute("SELECT key, substr(value, 9) FROM rows WHERE length(value) > 8 ORDER BY key")
+        found = self._table.execute("SELECT key, substr(value, 9) FROM rows WHERE length(value) > 8 ORDER BY key")
         return {key.decode(): value.decode() for key, value in found}
 
 

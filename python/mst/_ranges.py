@@ -31,7 +31,7 @@ class KeyRange(NamedTuple):
 
 
 def _entries(data: bytes, digest: int) -> "Iterator[Tuple[bytes, bytes, bytes]]":
-    """The entries of bytes that are a list: two keys, and a digest of so many bytes."""
+    """The entries of bytes that are a list: two keys, and a digest of this many bytes."""
     at = _FRONT
     while at < len(data):
         first = at + 8

@@ -84,7 +84,7 @@ class HeldReplica(Mapping[bytes, bytes]):
             self.put(*row)
 
     def put(self, key: bytes, value: bytes) -> None:
-        """Joins a value at a key: where there is one, the greater of both stays. A new key takes time in proportion to the rows behind it, at a
+        """Joins a value at a key: where there is one, the greater of both stays. A new key takes time in proportion to the rows after it, at a
         few nanoseconds each: put many rows in the order of their keys, as `HeldReplica(rows)` does."""
         try:
             status = library.mst_replica_put(self._address, key, len(key), value, len(value))
@@ -182,7 +182,7 @@ class HeldReplica(Mapping[bytes, bytes]):
 
     def catch_up(self, read: Read, write: Write, *, limit: int = LIMIT, messages: int = MESSAGES) -> int:
         """Brings the rows of a peer that runs `serve` over a connection, and returns how many came. At the end the peer is told so: then it may
-        catch up, and this side serve, over the same connection. `read` and `write` are those of `sync`. A message goes behind how many bytes
+        catch up, and this side serve, over the same connection. `read` and `write` are those of `sync`. A message goes after how many bytes
         it has, in eight bytes, the lowest first; a reply of more than `limit` bytes is refused, and the peer is asked that many questions at
         most. The keys that a message spells may have 64 times its bytes together.
 
@@ -306,7 +306,7 @@ def _check(status: int, joined: int = 0) -> None:
 
 
 def _send(write: Write, message: bytes) -> None:
-    """Sends a message behind how many bytes it has. One of no bytes ends a catch-up."""
+    """Sends a message after how many bytes it has. One of no bytes ends a catch-up."""
     write(_pack(len(message)) + message)
 
 

@@ -58,7 +58,7 @@ def sync_steps(store: Replica, *, first: bool, limit: int = LIMIT) -> Steps:
 
 
 def sync(store: Replica, read: "Callable[[int], bytes]", write: "Callable[[bytes], object]", *, first: bool, limit: int = LIMIT) -> Synced:
-    """Brings a store and a peer's into step. `read` gives at most so many bytes, at least one, and none at the end, as `recv` of a socket
+    """Brings a store and a peer's into step. `read` returns at most that many bytes, at least one, and none at the end, as `recv` of a socket
     and `read` of a file do; `write` sends all that it is given, as `sendall` does, and flushes it where it is buffered.
 
     EOFError where the peer ends before; MalformedError where it sends what is no message or not asked for; what `read`, `write` and the
@@ -225,6 +225,6 @@ def _rows(data: bytes) -> "List[Tuple[bytes, bytes]]":
 
 
 def _string(data: bytes, at: int) -> "Tuple[bytes, int]":
-    """The string at a place of a list, and the place behind it."""
+    """The string at a place of a list, and the place after it."""
     end = at + 8 + _number(data, at)[0]
     return data[at + 8:end], end

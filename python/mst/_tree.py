@@ -30,7 +30,7 @@ class Page(NamedTuple):
 
 
 def _page(data: bytes, at: int) -> "Tuple[Page, int]":
-    """The page that is at a place of a list of pages, and the place behind it and what is below it."""
+    """The page that is at a place of a list of pages, and the place after it and what is below it."""
     level, has_digest = data[at + 1], data[at + 2]
     at += 3
     digest = data[at:at + 16] if has_digest else None
@@ -78,10 +78,10 @@ class Tree:
 
         Trees that are compared have key, level base, page format and key feed in common. Where others may choose keys of rows, take a secret `key` of
         SipHash, which all replicas share: under one that they know, they can choose keys that all lie on one page, and then each call takes
-        time in proportion to the number of keys. The level base is from 1 to 255: from 2 to 128, about one key in so many stands above
+        time in proportion to the number of keys. The level base is from 1 to 255: from 2 to 128, about one key in that many is above
         level 0. Page format 1 is that of the Rust crate; take 2 where no peer needs its root hashes.
 
-        The key feed says what of a key is fed to SipHash: its "bytes" alone; or those of a "text", with a byte 0xff behind them; or those of a
+        The key feed says what of a key is fed to SipHash: its "bytes" alone; or those of a "text", with a byte 0xff after them; or those of a
         "vector", with their number in front of them. In page format 1 a tree with "text" has the root hashes of the Rust crate for keys of
         the type `String` under its own SipHasher, and one with "vector" those for `Vec<u8>`, where values are what `Hash` of Rust feeds.
         """
@@ -129,7 +129,7 @@ class Tree:
 
     def update(self, rows: Rows) -> None:
         """Sets each key of the rows to the digest of its value, in any order; of rows with one key the last stays. They go over a thousand at a
-        time. Where a row is none of bytes, or memory is refused, some of those in front are set, and none behind.
+        time. If a row isn't bytes, or memory runs out, some of those in front are set, and none after it.
 
         >>> tree = Tree({b"kiwi": b"1"})
         >>> tree.update([(b"melon", b"1"), (b"kiwi", b"2"), (b"melon", b"2")])

@@ -70,7 +70,7 @@ impl Builder {
         Self { hasher, ..self }
     }
 
-    /// Sets the level base: from 2 to 128, about one key in so many stands above level 0, so that a lesser base makes more and smaller
+    /// Sets the level base: from 2 to 128, about one key in that many is above level 0, so that a lesser base makes more and smaller
     /// pages.
     pub fn with_level_base(self, level_base: NonZeroU8) -> Self {
         Self { level_base, ..self }

@@ -5,7 +5,7 @@
 //! bytes of time, the highest first, and the last writer wins; for a removal put a value that says so.
 //!
 //! Over a connection that carries bytes in order, one side calls [`Replica::catch_up`] and the other [`Replica::serve`], and then the other
-//! way round. The messages are those of docs/WIRE.md of the repository, where keys and values are byte strings, each behind how many bytes it
+//! way round. The messages are those of docs/WIRE.md of the repository, where keys and values are byte strings, each after how many bytes it
 //! has, in eight bytes, the lowest first; one of no bytes ends a catch-up. The package for Python speaks them too.
 //!
 //! ```
@@ -81,7 +81,7 @@ pub enum Fault {
     Refused,
     /// No catch-up is under way, or another began in the place of this one.
     NotAsking,
-    /// Memory was refused, when so many of the rows that came were joined, the first in the order of their keys.
+    /// Out of memory, when this many of the rows that came were joined, the first in the order of their keys.
     OutOfMemory {
         /// How many rows these are: none but where the last reply had come.
         joined: usize,
@@ -211,7 +211,7 @@ impl Replica {
         Ok(Self { replica, guess: Cell::new(1024), begun: 0 })
     }
 
-    /// Joins a value at a key: where there is one, the greater of both stays. A new key takes time in proportion to the rows behind it, at a
+    /// Joins a value at a key: where there is one, the greater of both stays. A new key takes time in proportion to the rows after it, at a
     /// few nanoseconds each: put many rows in the order of their keys, as `extend` and `collect` do.
     pub fn put(&mut self, key: impl AsRef<[u8]>, value: impl AsRef<[u8]>) {
         granted(self.try_put(key, value));
@@ -420,7 +420,7 @@ pub fn serve_by(
     }
 }
 
-const TOO_MANY: &str = "the peer isn't done after so many questions as the limit allows";
+const TOO_MANY: &str = "the peer isn't done after as many questions as the limit allows";
 
 /// All rows are taken first, and put in the order of their keys, which is the fast one.
 impl<K: AsRef<[u8]>, V: AsRef<[u8]>> Extend<(K, V)> for Replica {

@@ -61,7 +61,7 @@ pub fn sync<R: Replica>(store: &mut R, connection: &mut (impl Read + Write), fir
     sync_within(LIMIT, store, connection, first)
 }
 
-/// The same, where a message of the peer has at most so many bytes.
+/// The same, if a message of the peer has at most this many bytes.
 pub fn sync_within<R: Replica>(
     limit: u64,
     store: &mut R,

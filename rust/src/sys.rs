@@ -352,7 +352,7 @@ pub(crate) fn difference(local: &[u8], peer: &[u8]) -> Result<Vec<u8>, Refused> 
 /// A range of a list: the first key, the last, and in a list of page ranges the page's digest.
 pub(crate) type Entry<'a> = (&'a [u8], &'a [u8], Option<&'a [u8; 16]>);
 
-/// The range of a list of page ranges or key ranges that is at `at`, which goes to the next; `None` behind the last.
+/// The range of a list of page ranges or key ranges that is at `at`, which goes to the next; `None` after the last.
 pub(crate) fn next_range<'a>(list: &'a [u8], at: &mut usize) -> Result<Option<Entry<'a>>, Refused> {
     let mut found = Range { first: ptr::null(), first_len: 0, last: ptr::null(), last_len: 0, digest: ptr::null() };
     // SAFETY: the list is a slice, which lives for as long as what is answered. A place beyond its end would be MST_BAD_ARGUMENT.
@@ -361,7 +361,7 @@ pub(crate) fn next_range<'a>(list: &'a [u8], at: &mut usize) -> Result<Option<En
         Err(Refused::Absent) => return Ok(None),
         Err(refused) => return Err(refused),
     }
-    // SAFETY: what a call that is done writes points to bytes of the list, so many as it says, and to 16 of a digest.
+    // SAFETY: what a call that is done writes points to bytes of the list, as many as it says, and to 16 of a digest.
     Ok(Some(unsafe {
         (
             slice::from_raw_parts(found.first, found.first_len),
@@ -374,7 +374,7 @@ pub(crate) fn next_range<'a>(list: &'a [u8], at: &mut usize) -> Result<Option<En
 /// A row of a list: its key and its value.
 type Pair<'a> = (&'a [u8], &'a [u8]);
 
-/// The row of a list of rows or of digests that is at `at`, which goes to the next; `None` behind the last.
+/// The row of a list of rows or of digests that is at `at`, which goes to the next; `None` after the last.
 pub(crate) fn next_row<'a>(list: &'a [u8], at: &mut usize) -> Result<Option<Pair<'a>>, Refused> {
     let mut found = Row { key: ptr::null(), key_len: 0, value: ptr::null(), value_len: 0 };
     // SAFETY: the list is a slice, which lives for as long as what is answered. A place beyond its end would be MST_BAD_ARGUMENT.
@@ -383,7 +383,7 @@ pub(crate) fn next_row<'a>(list: &'a [u8], at: &mut usize) -> Result<Option<Pair
         Err(Refused::Absent) => return Ok(None),
         Err(refused) => return Err(refused),
     }
-    // SAFETY: what a call that is done writes points to bytes of the list, so many as it says.
+    // SAFETY: what a call that is done writes points to bytes of the list, as many as it says.
     Ok(Some(unsafe {
         (slice::from_raw_parts(found.key, found.key_len), slice::from_raw_parts(found.value, found.value_len))
     }))

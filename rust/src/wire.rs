@@ -7,7 +7,7 @@ pub(crate) fn send(connection: &mut impl Write, message: &[u8]) -> io::Result<()
     connection.flush()
 }
 
-/// The next message of the peer, of at most so many bytes. Memory is taken as they come.
+/// The next message of the peer, of at most this many bytes. Memory is taken as they come.
 pub(crate) fn take(connection: &mut impl Read, limit: u64) -> io::Result<Vec<u8>> {
     let mut len = [0; 8];
     connection.read_exact(&mut len)?;

@@ -22,7 +22,7 @@ pub fn put_bytes(bytes: &[u8], out: &mut [u8], needed: &mut usize) -> u32
     DONE
 }
 
-/// The same of bytes that were made, where they were: `MEMORY` where memory was refused for them, and then `needed` is as before too.
+/// The same of bytes that were made, where they were: `MEMORY` where there was no memory for them, and then `needed` is as before too.
 pub fn put_made(made: Result<Vec<u8>, AllocError>, out: &mut [u8], needed: &mut usize) -> u32
     ensures done { result ≡ 0 → IsOkAnd made (λ bytes. AreInFront bytes.items out.old out.new) }
     ensures short { result ≡ 3 → IsOkAnd made (λ bytes. length out.old < length bytes.items) }

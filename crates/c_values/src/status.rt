@@ -2,7 +2,7 @@
 
 /// The call did what it is for.
 pub const DONE: u32 = 0;
-/// Memory was refused.
+/// Out of memory.
 pub const MEMORY: u32 = 1;
 /// The bytes that were given are none that the call takes.
 pub const MALFORMED: u32 = 2;

@@ -10,15 +10,15 @@ use std::alloc::Global;
 pub enum Task {
     /// Print what the trees of the sample keys answer.
     Answers,
-    /// Print the times of the operations on so many keys each.
+    /// Print the times of the operations on this many keys each.
     Times(Vec<usize>),
-    /// Print the times of cutting out so many ranges each.
+    /// Print the times of cutting out this many ranges each.
     CutTimes(Vec<usize>),
-    /// Print the times of pulls from replicas of so many rows each.
+    /// Print the times of pulls from replicas of this many rows each.
     PullTimes(Vec<usize>),
-    /// Print the times of catch-ups with replicas of so many rows each.
+    /// Print the times of catch-ups with replicas of this many rows each.
     CatchUpTimes(Vec<usize>),
-    /// Print how many messages and bytes catch-ups over a wire take with replicas of so many rows each.
+    /// Print how many messages and bytes catch-ups over a wire take with replicas of this many rows each.
     Sessions(Vec<usize>),
 }
 

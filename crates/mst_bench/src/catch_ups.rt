@@ -16,14 +16,14 @@ type Plain = merkle_wire::CatchingUp<String, u64>;
 /// A session by deltas.
 type ByDeltas = merkle_delta::CatchingUp<String, u64>;
 
-/// The bytes of a key of 17 bytes behind its length, of a value below 128, and of a digest behind its length.
+/// The bytes of a key of 17 bytes after its length, of a value below 128, and of a digest after its length.
 const KEY: usize = 18;
 
 const VALUE: usize = 1;
 
 const DIGEST: usize = 17;
 
-/// How many of so many rows differ in the lines of the table: none, 1, 10, 100, a hundredth, a tenth, and all.
+/// How many of this many rows differ in the lines of the table: none, 1, 10, 100, a hundredth, a tenth, and all.
 fn differing_of(alloc: Global, count: usize) -> Result<Vec<usize>, Fault> {
     let mut differing = Vec::new(alloc);
     for many in [0, 1, 10, 100, count / 100, count / 10, count] {
@@ -74,7 +74,7 @@ fn replica(
     }
 }
 
-/// So many random places below a bound, or all of them, each once and in ascending order.
+/// This many random places below a bound, or all of them, each once and in ascending order.
 fn places(alloc: Global, many: usize, bound: usize) -> Result<Vec<usize>, Fault> {
     let mut places = Vec::new(alloc);
     if many == bound {
@@ -145,7 +145,7 @@ fn bytes_of_pull(peer: &Numbers, pulled: usize) -> Result<usize, Fault> {
     Ok(list.saturating_add(pulled.saturating_mul(KEY + VALUE)))
 }
 
-/// Times a session, both sides of it, which joins nothing, and answers what it takes over a wire.
+/// Times a session, both sides of it, which joins nothing, and returns what it takes over a wire.
 fn time_session<S: Session, R: Clock>(
     rt: &R,
     alloc: Global,
@@ -184,7 +184,7 @@ enum Way {
     Pull,
 }
 
-/// Joins the rows of a peer, and answers how many were joined.
+/// Joins the rows of a peer, and returns how many were joined.
 fn join(local: &mut Numbers, peer: &mut Numbers, way: Way) -> Option<usize> {
     match way {
         Way::CatchUp => Some(local.catch_up(peer).ok()?.joined),
@@ -192,7 +192,7 @@ fn join(local: &mut Numbers, peer: &mut Numbers, way: Way) -> Option<usize> {
     }
 }
 
-/// Times the joining of a peer's rows, and answers how many were joined.
+/// Times the joining of a peer's rows, and returns how many were joined.
 fn time_join<R: Clock>(
     rt: &R,
     local: Numbers,

@@ -8,7 +8,7 @@ use std::fmt;
 pub enum Fault {
     /// The arguments are no task.
     Usage,
-    /// Memory was refused.
+    /// Out of memory.
     Memory,
     /// The clock could not be read.
     Clock,

@@ -26,7 +26,7 @@ fn rows(alloc: Global, keys: &[String]) -> Result<Vec<(String, u64)>, Fault> {
     Ok(rows)
 }
 
-/// The tree of rows of different keys in key order, which are refused only for want of memory.
+/// The tree of rows of different keys in key order, which are refused only when out of memory.
 fn loaded(alloc: Global, rows: Vec<(String, u64)>) -> Result<Tree, Fault> {
     match Tree::from_ascending(alloc, Builder::default(), rows) {
         Ok(tree) => Ok(tree),

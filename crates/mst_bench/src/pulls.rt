@@ -22,7 +22,7 @@ fn sorted_keys(alloc: Global, count: usize) -> Result<Vec<String>, Fault> {
 }
 
 /// The replica of every second of these keys, from the first or the second on, not hashed: at every tenth of its rows the value `tenth`,
-/// else 1. The keys are different and ascend, so that rows are refused only for want of memory.
+/// else 1. The keys are different and ascend, so that rows are refused only when out of memory.
 fn replica(alloc: Global, sorted: &[String], parity: usize, tenth: u64) -> Result<Numbers, Fault> {
     let mut rows = Vec::new(alloc);
     for (place, key) in sorted.iter().enumerate() {
@@ -53,7 +53,7 @@ fn time_pull<R: Clock>(
     }
 }
 
-/// The best times of pulls from a peer with so many rows: into a replica without rows, into one with as many other keys, and into one
+/// The best times of pulls from a peer with this many rows: into a replica without rows, into one with as many other keys, and into one
 /// with the same keys, of which every tenth has another value.
 #[derive(Drop)]
 struct PullTimes {

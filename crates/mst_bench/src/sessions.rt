@@ -12,7 +12,7 @@ pub(crate) type Numbers = Replica<String, u64, SipHasher, 16>;
 /// each of 256 levels, and two for rows; and each once more for each 64 MiB of what it is answered, or where it was told by a delta in vain.
 const MOST_MESSAGES: usize = 2_048;
 
-/// What comes after a reply: the next message, or so many rows.
+/// What comes after a reply: the next message, or this many rows.
 pub(crate) enum Step<S> {
     Ask(S, Vec<u8>),
     Came(usize),

@@ -25,7 +25,7 @@ each_trivial (x ∷ xs) = (tt, each_trivial xs)
 
 module _ {X : Type 0} (P : X → Type 0) (bytes : X → List ℕ)
     (ends : (x y : X) (r s : List ℕ) → P x → P y → length (bytes x ++ r) < 2 ^ 64 → bytes x ++ r ≡ bytes y ++ s → r ≡ s) where
-  -- what is behind some of the entries is the other entries
+  -- what is after some of the entries is the other entries
   pub behind : (xs done : List X) (rest : List ℕ) → AllByRecursion P xs → AllByRecursion P done → length done ≤ length xs → length (flat_map bytes xs) < 2 ^ 64
       → flat_map bytes xs ≡ flat_map bytes done ++ rest → (ys : List X) × AllByRecursion P ys × (length ys + length done ≡ length xs) × (rest ≡ flat_map bytes ys)
   behind xs [] rest ps qs low fits e = (xs, ps, omega arith, sym e)
@@ -35,7 +35,7 @@ module _ {X : Type 0} (P : X → Type 0) (bytes : X → List ℕ)
       let b = behind xs ds rest ps.1 qs.1 (omega arith) (omega (arith, length-append (bytes x) (flat_map bytes xs))) next in
       (b.0, b.1, omega (arith, b.2), b.3)
 
-  -- behind fewer entries than all there is one more
+  -- after fewer entries than all there is one more
   pub one_left : (xs done : List X) (rest : List ℕ) → AllByRecursion P xs → AllByRecursion P done → length done < length xs → length (flat_map bytes xs) < 2 ^ 64
       → flat_map bytes xs ≡ flat_map bytes done ++ rest → (y : X) × (s : List ℕ) × P y × (rest ≡ bytes y ++ s)
   one_left xs done rest ps qs low fits e = let b = behind xs done rest ps qs (omega arith) fits e in first b.0 b.1 b.2 b.3
@@ -44,7 +44,7 @@ module _ {X : Type 0} (P : X → Type 0) (bytes : X → List ℕ)
       first [] a n f = absurd (omega (arith, n))
       first (y ∷ ys) a n f = (y, flat_map bytes ys, a.0, f)
 
-  -- and behind all of them nothing
+  -- and after all of them nothing
   pub none_left : (xs done : List X) (rest : List ℕ) → AllByRecursion P xs → AllByRecursion P done → length done ≡ length xs → length (flat_map bytes xs) < 2 ^ 64
       → flat_map bytes xs ≡ flat_map bytes done ++ rest → rest ≡ []
   none_left xs done rest ps qs all fits e = let b = behind xs done rest ps qs (omega arith) fits e in last b.0 b.2 b.3

@@ -22,7 +22,7 @@ writes_both xs ys s u t a b = record {
   refused = b.refused ∙ a.refused;
 }
 
--- where no memory was refused, each entry was written
+-- where memory didn't run out, each entry was written
 pub all_written : (s t : Pages) (calls : List Call) (all : Bool) → s.count ≤ 2 ^ 64 - 1 → t.refused ≡ false
     → Visits (λ before call more after. Visited call more before after) s calls all t → Writes (flat_map written calls) s t
 all_written s t [] all fits whole over = writes_none s fits

@@ -23,7 +23,7 @@ pub one_list_of_rows : (all : List ℕ) (xs ys : List (List ℕ × List ℕ)) �
 one_list_of_rows all xs ys short e f =
     sym (map-id xs) ∙ one_list row_bytes some_row (λ _. ⊤) (λ x. x) one_trivial_row row_mark all xs ys short (each_trivial xs) (each_trivial ys) e f ∙ map-id ys
 
--- a page range as its keys, and its digest with what is behind
+-- a page range as its keys, and its digest with what is after
 pub as_row : (e : Entry (List ℕ) (List ℕ)) (rest : List ℕ) → entry_bytes e ++ rest ≡ row_bytes (e.first, e.last) ++ (e.digest ++ rest)
 as_row e rest =
     let first = text_bytes e.first in let last = text_bytes e.last in
@@ -62,7 +62,7 @@ pub one_list_of_key_ranges : (all : List ℕ) (ss ts : List (Span (List ℕ))) �
 one_list_of_key_ranges all ss ts short e f =
     sym (map-id ss) ∙ one_list span_bytes (λ s. some_row (bounds s)) (λ _. ⊤) (λ s. s) one_span key_mark all ss ts short (each_trivial ss) (each_trivial ts) e f ∙ map-id ts
 
--- a key and its digest with what is behind
+-- a key and its digest with what is after
 pub as_text : (x : List ℕ × List ℕ) (rest : List ℕ) → digest_bytes x ++ rest ≡ text_bytes x.0 ++ (x.1 ++ rest)
 as_text x rest = append_assoc (text_bytes x.0) x.1 rest
 

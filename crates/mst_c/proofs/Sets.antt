@@ -59,7 +59,7 @@ to_rows (e ∷ es) each =
     let rest = to_rows es each.1 in
     λ i. (ap (λ t. row_bytes e.0 ++ t) (nil_from_length e.1 each.0.1) ∙ append-nil (row_bytes e.0)) i ++ rest i
 
--- so many rows are so many entries of a list of rows
+-- this many rows are this many entries of a list of rows
 pub entries_from_rows : (count : ℕ) (bytes : List ℕ) → AreManyRows count bytes → AreEntries false false count bytes
 entries_from_rows count bytes are =
     let parts = from_rows are.0 in (map as_entry are.0, length-map are.0 as_entry ∙ are.1, parts.0, are.2 ∙ parts.1)

@@ -24,7 +24,7 @@ two_length true x rest =
     omega (arith, length-append (text_bytes x.0 ++ x.1) rest, length-append (text_bytes x.0) x.1, length-append (number_bytes (length x.0)) x.0)
 two_length false x rest = omega (arith, row_length x rest)
 
--- an entry as its two parts, and its digest with what is behind
+-- an entry as its two parts, and its digest with what is after
 pub parts_flat : (plain : Bool) (e : EntryParts) (rest : List ℕ) → parts_bytes plain e ++ rest ≡ two_bytes plain e.0 ++ (e.1 ++ rest)
 parts_flat plain e rest = append_assoc (two_bytes plain e.0) e.1 rest
 
@@ -54,7 +54,7 @@ one_mark false false true e = absurd (omega (arith, ap (λ bytes. get_or bytes 3
 one_mark rows false false e = refl
 
 module _ (rows : Bool) (list : List ℕ) (b : Bool) (m : ℕ) (body : List ℕ) (e : list ≡ mark_of rows b ++ (number_bytes m ++ body)) where
-  -- the entries are behind the mark and the number, which are 12 bytes
+  -- the entries are after the mark and the number, which are 12 bytes
   pub body_at : length list - length body ≡ 12
   body_at = omega (arith, ap length e, list_length (mark_of rows b) m body, mark_length rows b)
 

@@ -29,7 +29,7 @@ one_row x y r s fits e =
     let second = one_text x.1 y.1 r s (omega (arith, ap length at, length-append (text_bytes x.0) (text_bytes x.1 ++ r))) first.1 in
     ((λ i. (first.0 i, second.0 i)), second.1)
 
--- a row and so many bytes behind it
+-- a row and this many bytes after it
 pub one_row_with : (x y : List ℕ × List ℕ) (a b r s : List ℕ) → length a ≡ length b → length (row_bytes x ++ (a ++ r)) < 2 ^ 64
     → row_bytes x ++ (a ++ r) ≡ row_bytes y ++ (b ++ s) → (x ≡ y) × (a ≡ b) × (r ≡ s)
 one_row_with x y a b r s same fits e =

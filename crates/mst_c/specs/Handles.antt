@@ -17,7 +17,7 @@ Changes None new R = ⊥
 Changes (Some s) None R = ⊥
 Changes (Some s) (Some t) R = R s.tree t.tree
 
--- bytes of which this holds, as many as needed, are in front of out, and behind them it is as before
+-- bytes of which this holds, as many as needed, are in front of out, and after them it is as before
 abbrev pub IsOutput : List ℕ → List ℕ → ℕ → (List ℕ → Type 0) → Type 0
 IsOutput old new needed P = (bytes : List ℕ) × P bytes × (needed ≡ length bytes) × (needed ≤ length old) × (new ≡ bytes ++ drop needed old)
 

@@ -8,7 +8,7 @@ pub record Hashing : Type 0 where
   pub key : List ℕ
   pub feed : ℕ
 
--- what is fed of a key: its bytes; in the way 1 a byte 255 behind them, and in the way 2 their number in front of them
+-- what is fed of a key: its bytes; in the way 1 a byte 255 after them, and in the way 2 their number in front of them
 abbrev pub fed : ℕ → List ℕ → List ℕ
 fed feed key = if nat_eq feed 1 then key ++ 255 ∷ [] else (if nat_eq feed 2 then text_bytes key else key)
 

@@ -22,7 +22,7 @@ IsPageRange e = (length e.digest ≡ 16) × Upto bytes_cmp e.first e.last
 abbrev pub ArePageRanges : List ℕ → List (Entry (List ℕ) (List ℕ)) → Type 0
 ArePageRanges bytes es = (bytes ≡ page_ranges_bytes es) × AllByRecursion IsPageRange es
 
--- the list of these page ranges has so many bytes, and some it has
+-- the list of these page ranges has this many bytes, and some it has
 abbrev pub IsLengthOf : List (Entry (List ℕ) (List ℕ)) → ℕ → Type 0
 IsLengthOf es len = (0 < len) × ((bytes : List ℕ) × ArePageRanges bytes es × (len ≡ length bytes))
 
@@ -42,7 +42,7 @@ HasPairs pairs old new = (map_of new ≡ pairs) × IsMap key_cmp pairs × SameSe
 abbrev pub IsLoaded : List ℕ → ByteState → ByteState → Type 0
 IsLoaded bytes old new = (rows : List (List ℕ × List ℕ)) × AreRows bytes rows × (rows_of new ≡ digests (siphash128 old.hasher.key) rows) × SameSettings old new
 
--- the bytes are so many rows, whatever the order of their keys
+-- the bytes are this many rows, whatever the order of their keys
 abbrev pub AreManyRows : ℕ → List ℕ → Type 0
 AreManyRows count bytes = (rows : List (List ℕ × List ℕ)) × (length rows ≡ count) × (bytes ≡ flat_map row_bytes rows)
 
@@ -56,16 +56,16 @@ pub record AreSet (rows : List (List ℕ × List ℕ)) (old new : ByteState) : T
   pub pairs : rows_of new ≡ set_rows (siphash128 old.hasher.key) (rows_of old) rows
   pub settings : SameSettings old new
 
--- the bytes are so many rows, of which the first `done` were set
+-- the bytes are this many rows, of which the first `done` were set
 abbrev pub AreSetOf : ℕ → List ℕ → ℕ → ByteState → ByteState → Type 0
 AreSetOf count bytes done old new =
     (rows : List (List ℕ × List ℕ)) × (length rows ≡ count) × (bytes ≡ flat_map row_bytes rows) × (done ≤ count) × AreSet (take done rows) old new
 
--- the rows that the bytes spell, whatever the order of their keys, were all set, and there are so many of them
+-- the rows that the bytes spell, whatever the order of their keys, were all set, and there are this many of them
 abbrev pub AllSet : List ℕ → ℕ → ByteState → ByteState → Type 0
 AllSet bytes count old new = (rows : List (List ℕ × List ℕ)) × (bytes ≡ rows_bytes rows) × (count ≡ length rows) × AreSet rows old new
 
--- of the rows that the bytes spell the first so many were set, and not all
+-- of the rows that the bytes spell, the first ones were set, this many, and not all
 abbrev pub FirstSet : List ℕ → ℕ → ByteState → ByteState → Type 0
 FirstSet bytes count old new = (rows : List (List ℕ × List ℕ)) × (bytes ≡ rows_bytes rows) × (count < length rows) × AreSet (take count rows) old new
 
@@ -111,16 +111,16 @@ BeginsWithNoRange bytes = (e : Entry (List ℕ) (List ℕ)) (rest : List ℕ) �
 abbrev pub BeginsWithNoDigest : List ℕ → Type 0
 BeginsWithNoDigest bytes = (row : List ℕ × List ℕ) (rest : List ℕ) → HasDigest row → bytes ≢ digest_bytes row ++ rest
 
--- the bytes are not so many page ranges
+-- the bytes are not this many page ranges
 abbrev pub AreNotSoManyRanges : ℕ → List ℕ → Type 0
 AreNotSoManyRanges count bytes =
     (es : List (Entry (List ℕ) (List ℕ))) → AllByRecursion IsPageRange es → length es ≡ count → bytes ≢ flat_map entry_bytes es
 
--- they are not so many rows
+-- they are not this many rows
 abbrev pub AreNotSoManyRows : ℕ → List ℕ → Type 0
 AreNotSoManyRows count bytes = (given : List (List ℕ × List ℕ)) → length given ≡ count → bytes ≢ flat_map row_bytes given
 
--- they are not so many keys with digests
+-- they are not this many keys with digests
 abbrev pub AreNotSoManyDigests : ℕ → List ℕ → Type 0
 AreNotSoManyDigests count bytes =
     (given : List (List ℕ × List ℕ)) → AllByRecursion HasDigest given → length given ≡ count → bytes ≢ flat_map digest_bytes given
@@ -133,7 +133,7 @@ IsNoDigestList bytes = (given : List (List ℕ × List ℕ)) → AllByRecursion 
 abbrev pub AreNotBothRanges : List ℕ → List ℕ → Type 0
 AreNotBothRanges local peer = (ls ps : List (Entry (List ℕ) (List ℕ))) → ArePageRanges local ls → ¬ (ArePageRanges peer ps)
 
--- the bytes are so many rows, and these have the digests of their values under a key
+-- the bytes are this many rows, and these have the digests of their values under a key
 abbrev pub DigestsSoManyRows : ℕ → List ℕ → List ℕ → Vec (Vec ℕ × List ℕ) → Type 0
 DigestsSoManyRows count bytes key rows = (given : List (List ℕ × List ℕ)) × (bytes ≡ flat_map row_bytes given) × (length given ≡ count)
     × (map by_bytes rows.items ≡ digests (siphash128 key) given)

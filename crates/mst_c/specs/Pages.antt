@@ -14,7 +14,7 @@ use Rattle.mst_c.specs.declared.walk.Pages.{Pages}
 abbrev pub Call : Type 0
 Call = Event (Vec ℕ) (List ℕ)
 
--- what is written at a call: a page, before those below it, and a key, behind the page below it
+-- what is written at a call: a page, before those below it, and a key, after the page below it
 abbrev pub written : Call → List Call
 written (visit_page t is_high) = visit_page t is_high ∷ []
 written (pre_visit_node n) = []
@@ -61,7 +61,7 @@ pub record Writes (entries : List Call) (old new : Pages) : Type 0 where
   pub count : new.count ≡ min (old.count + length entries) (2 ^ 64 - 1)
   pub refused : new.refused ≡ old.refused
 
--- a call went on and wrote these entries, or memory was refused
+-- a call went on and wrote these entries, or memory ran out
 abbrev pub Went : Bool → List Call → Pages → Pages → Type 0
 Went true [] old new = new ≡ old
 Went true (e ∷ es) old new = Writes (e ∷ es) old new

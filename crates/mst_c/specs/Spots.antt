@@ -9,7 +9,7 @@ use Rattle.mst_c.specs.declared.entries.MstSpot.{MstSpot}
 abbrev pub mark_of : Bool → Bool → List ℕ
 mark_of rows digests = if rows then (if digests then digest_mark else row_mark) else (if digests then page_mark else key_mark)
 
--- how long the digest behind the two parts of an entry is
+-- how long the digest after the two parts of an entry is
 abbrev pub digest_len : Bool → ℕ
 digest_len hashed = if hashed then 16 else 0
 
@@ -17,7 +17,7 @@ digest_len hashed = if hashed then 16 else 0
 abbrev pub gap_len : Bool → ℕ
 gap_len plain = if plain then 0 else 8
 
--- the two keys of a range, or the key and the value of a row; and the digest behind them
+-- the two keys of a range, or the key and the value of a row; and the digest after them
 abbrev pub EntryParts : Type 0
 EntryParts = (List ℕ × List ℕ) × List ℕ
 
@@ -37,7 +37,7 @@ parts_bytes plain e = two_bytes plain e.0 ++ e.1
 abbrev pub IsParts : Bool → Bool → EntryParts → Type 0
 IsParts plain hashed e = IsTwo plain e.0 × (length e.1 ≡ digest_len hashed)
 
--- the bytes are so many entries, whose second part is a digest or a string, and which have a digest behind it or none
+-- the bytes are this many entries, whose second part is a digest or a string, and which have a digest after it or none
 abbrev pub AreEntries : Bool → Bool → ℕ → List ℕ → Type 0
 AreEntries plain hashed count bytes = (es : List EntryParts) × (length es ≡ count) × AllByRecursion (IsParts plain hashed) es × (bytes ≡ flat_map (parts_bytes plain) es)
 
@@ -45,7 +45,7 @@ AreEntries plain hashed count bytes = (es : List EntryParts) × (length es ≡ c
 abbrev pub IsList : Bool → List ℕ → Type 0
 IsList rows list = (digests : Bool) × (count : ℕ) × (body : List ℕ) × (list ≡ mark_of rows digests ++ (number_bytes count ++ body)) × AreEntries (rows && digests) (not rows && digests) count body
 
--- the mark of either kind of list stands in front, and a number behind it
+-- the mark of either kind of list stands in front, and a number after it
 abbrev pub HasFront : Bool → List ℕ → Type 0
 HasFront rows list = (digests : Bool) × (count : ℕ) × (body : List ℕ) × (list ≡ mark_of rows digests ++ (number_bytes count ++ body))
 
@@ -70,11 +70,11 @@ BeginsWithEntry plain hashed bytes two rest =
 abbrev pub BeginsWithNoEntry : Bool → Bool → List ℕ → Type 0
 BeginsWithNoEntry plain hashed bytes = (e : EntryParts) (rest : List ℕ) → IsParts plain hashed e → bytes ≢ parts_bytes plain e ++ rest
 
--- the second part of an entry lies behind the first one, and is as long as this
+-- the second part of an entry lies after the first one, and is as long as this
 abbrev pub HasSecond : Bool → List ℕ → MstSpot → Type 0
 HasSecond plain second spot = (spot.last_at ≡ spot.first_at + spot.first_len + gap_len plain) × (spot.last_len ≡ length second)
 
--- the list's mark stands in front, and an entry of its kind lies where the spot says: it begins at `old`, or behind the mark and the
+-- the list's mark stands in front, and an entry of its kind lies where the spot says: it begins at `old`, or after the mark and the
 -- number where that is 0, and then the whole is a list; and it ends at `new`
 pub record IsEntryAt (rows : Bool) (list : List ℕ) (old new : ℕ) (spot : MstSpot) : Type 0 where
   pub digests : Bool

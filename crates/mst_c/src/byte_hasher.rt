@@ -17,7 +17,7 @@ pub struct ByteHasher {
     feed: u8,
 }
 
-/// A key's bytes, and behind them the byte 255, as `Hash` of Rust feeds a `str`.
+/// A key's bytes, and after them the byte 255, as `Hash` of Rust feeds a `str`.
 const TEXT: u8 = 1;
 /// How many bytes a key has, and its bytes, as `Hash` of Rust feeds a `Vec<u8>`.
 const VECTOR: u8 = 2;
@@ -47,7 +47,7 @@ impl ByteHasher {
         sip.finish128()
     }
 
-    /// SipHash of these bytes, one part behind the other.
+    /// SipHash of these bytes, one part after the other.
     fn hash_parts(&self, front: &[u8], behind: &[u8]) -> [u8; 16]
         ensures { result ≡ siphash128 self.now.key (front.now ++ behind.now) }
     {

@@ -96,7 +96,7 @@ impl ByteTree {
         }
     }
 
-    /// Takes a key out, and answers whether it was there. Where it wasn't, and refused, the tree is as before.
+    /// Takes a key out, and returns whether it was there. Where it wasn't, and refused, the tree is as before.
     pub fn remove(&mut self, alloc: Global, key: &[u8]) -> Result<bool, AllocError>
         ensures done { IfOk result (λ found. IsDel key.now found self.old.tree self.new.tree) }
         ensures absent { IfOk result (λ found. found ≡ false → self.new ≡ self.old) }
@@ -121,7 +121,7 @@ impl ByteTree {
         }
     }
 
-    /// Sets the rows of a list one after the other until memory is refused, and answers how many were set, and whether that is all of
+    /// Sets the rows of a list one after the other until memory runs out, and returns how many were set, and whether that is all of
     /// them. `None` where the bytes are no list of rows, and then the tree is as before.
     pub fn upsert_rows(&mut self, alloc: Global, list: &[u8]) -> Option<(usize, bool)>
         ensures all { IfSome result (λ set. set.1 ≡ true → AllSet list.now set.0 self.old.tree self.new.tree) }
@@ -137,7 +137,7 @@ impl ByteTree {
         Some((done as usize, done == count))
     }
 
-    /// Sets so many rows, which the bytes are, one after the other until memory is refused, and answers how many were set.
+    /// Sets this many rows, which the bytes are, one after the other until memory runs out, and returns how many were set.
     fn set_rows(&mut self, alloc: Global, count: u64, body: &[u8]) -> u64
         requires { AreManyRows count body.now }
         ensures { AreSetOf count body.now result self.old.tree self.new.tree }

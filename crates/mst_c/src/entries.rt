@@ -11,7 +11,7 @@ use crate::wire::{DIGESTS, KEY_RANGES, PAGE_RANGES, ROWS};
 use c_values::status::{ABSENT, ARGUMENT, DONE, MALFORMED};
 
 /// Where the parts of an entry lie in its list: places in bytes from the front of the list, and lengths in bytes. The place of a string
-/// is behind its length.
+/// is after its length.
 #[repr(C)]
 #[derive(Drop)]
 pub struct MstSpot {
@@ -52,7 +52,7 @@ fn front_of(rows: bool, list: &[u8]) -> Option<(bool, u64, &[u8])>
     }
 }
 
-/// The two parts at the front, the second a digest where that is asked, and the bytes behind them.
+/// The two parts at the front, the second a digest where that is asked, and the bytes after them.
 fn two_of(plain: bool, bytes: &[u8]) -> Option<(&[u8], &[u8], &[u8])>
     ensures two { IfSome result (λ r. BeginsWithTwo plain bytes.now (r.0.now, r.1.now) r.2.now) }
     ensures none { result ≡ None → BeginsWithNoTwo plain bytes.now }
@@ -65,7 +65,7 @@ fn two_of(plain: bool, bytes: &[u8]) -> Option<(&[u8], &[u8], &[u8])>
     }
 }
 
-/// The two parts of the entry at the front, and the bytes behind the entry.
+/// The two parts of the entry at the front, and the bytes after the entry.
 fn entry_of(plain: bool, hashed: bool, bytes: &[u8]) -> Option<(&[u8], &[u8], &[u8])>
     ensures entry { IfSome result (λ r. BeginsWithEntry plain hashed bytes.now (r.0.now, r.1.now) r.2.now) }
     ensures none { result ≡ None → BeginsWithNoEntry plain hashed bytes.now }
@@ -79,7 +79,7 @@ fn entry_of(plain: bool, hashed: bool, bytes: &[u8]) -> Option<(&[u8], &[u8], &[
     }
 }
 
-/// Whether the bytes are so many entries.
+/// Whether the bytes are this many entries.
 pub fn is_list(plain: bool, hashed: bool, count: u64, body: &[u8]) -> bool
     ensures { (result ≡ true) ↔ AreEntries plain hashed count body.now }
 {
@@ -161,11 +161,11 @@ fn next(rows: bool, list: &[u8], at: &mut usize, spot: &mut MstSpot) -> u32
     DONE
 }
 
-/// Writes where the parts of the range at `at` lie, and moves `at` behind it. An `at` of 0 is the first one, and there the whole
+/// Writes where the parts of the range at `at` lie, and moves `at` after it. An `at` of 0 is the first one, and there the whole
 /// list is read once to see that it is one of page ranges or of key ranges.
 ///
 /// `DONE`; `MALFORMED` where a mark and a number don't stand in front, where `at` is 0 and the whole is no list, or where `at` is within
-/// the list and no entry of the mark's kind begins there; `ABSENT` behind the last entry; `ARGUMENT` where `at` is beyond the end. Where it isn't `DONE`, `at` and
+/// the list and no entry of the mark's kind begins there; `ABSENT` after the last entry; `ARGUMENT` where `at` is beyond the end. Where it isn't `DONE`, `at` and
 /// `spot` are as before.
 #[unsafe(no_mangle)]
 pub extern "C" fn mst_proved_ranges_next(list: &[u8], at: &mut usize, spot: &mut MstSpot) -> u32

@@ -1,4 +1,4 @@
-//! Merkle search trees for callers in C. A handle has a tree of byte strings, or none; each call answers a status.
+//! Merkle search trees for callers in C. A handle has a tree of byte strings, or none; each call returns a status.
 //!
 //! A caller passes pointers that are not null, and slices as a pointer and a length. `c/mst.c` tests that, and is what programs call.
 #![tactic(auto)]

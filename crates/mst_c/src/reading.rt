@@ -25,7 +25,7 @@ const LEAST_RANGE: usize = 32;
 /// Why bytes were not read.
 #[derive(Clone, Copy, Debug, PartialEq, Eq)]
 pub enum ReadError {
-    /// Memory was refused.
+    /// Out of memory.
     Memory,
     /// The bytes are no such list.
     Malformed,
@@ -60,7 +60,7 @@ fn number(bytes: &[u8; 8]) -> u64
     u64::from_le_bytes(*bytes)
 }
 
-/// The number at the front, and the bytes behind it.
+/// The number at the front, and the bytes after it.
 fn number_of(bytes: &[u8]) -> Option<(u64, &[u8])>
     ensures number { IfSome result (λ r. bytes.now ≡ number_bytes r.0 ++ r.1.now) }
     ensures none { result ≡ None → length bytes.now < 8 }
@@ -69,7 +69,7 @@ fn number_of(bytes: &[u8]) -> Option<(u64, &[u8])>
     Some((number(front), rest))
 }
 
-/// The string at the front, and the bytes behind it.
+/// The string at the front, and the bytes after it.
 fn text_of(bytes: &[u8]) -> Option<(&[u8], &[u8])>
     ensures text { IfSome result (λ r. bytes.now ≡ text_bytes r.0.now ++ r.1.now) }
     ensures short { IfSome result (λ r. length r.0.now < 2 ^ 64) }
@@ -79,7 +79,7 @@ fn text_of(bytes: &[u8]) -> Option<(&[u8], &[u8])>
     rest.split_at_checked(len as usize)
 }
 
-/// The two strings at the front, and the bytes behind them.
+/// The two strings at the front, and the bytes after them.
 pub fn pair_of(bytes: &[u8]) -> Option<(&[u8], &[u8], &[u8])>
     ensures pair { IfSome result (λ r. bytes.now ≡ row_bytes (r.0.now, r.1.now) ++ r.2.now) }
     ensures none { result ≡ None → (row : List ℕ × List ℕ) (rest : List ℕ) → bytes.now ≢ row_bytes row ++ rest }
@@ -89,7 +89,7 @@ pub fn pair_of(bytes: &[u8]) -> Option<(&[u8], &[u8], &[u8])>
     Some((first, second, rest))
 }
 
-/// The number of entries behind this mark, and the bytes of the entries.
+/// The number of entries after this mark, and the bytes of the entries.
 pub fn body_of<'b>(mark: &[u8; 4], bytes: &'b [u8]) -> Option<(u64, &'b [u8])>
     ensures body { IfSome result (λ r. bytes.now ≡ mark.now ++ (number_bytes r.0 ++ r.1.now)) }
     ensures none { result ≡ None → (count : ℕ) (rest : List ℕ) → bytes.now ≢ mark.now ++ (number_bytes count ++ rest) }
@@ -101,7 +101,7 @@ pub fn body_of<'b>(mark: &[u8; 4], bytes: &'b [u8]) -> Option<(u64, &'b [u8])>
     number_of(rest)
 }
 
-/// The page range at the front, whose keys lie in the bytes, and the bytes behind it.
+/// The page range at the front, whose keys lie in the bytes, and the bytes after it.
 fn range_of(bytes: &[u8]) -> Option<(OwnedPageRange<Key<'_>>, &[u8])>
     ensures range { IfSome result (λ r. BeginsWithRange bytes.now r.0 r.1.now) }
     ensures none { result ≡ None → BeginsWithNoRange bytes.now }
@@ -140,7 +140,7 @@ fn push_digest(
     }
 }
 
-/// So many page ranges, which the bytes are, and in which their keys lie. Room for them is made once.
+/// This many page ranges, which the bytes are, and in which their keys lie. Room for them is made once.
 fn ranges_of<'b>(
     alloc: Global,
     count: u64,
@@ -178,7 +178,7 @@ pub fn decode<'b>(alloc: Global, bytes: &'b [u8]) -> Result<PageRangeSnapshot<Ke
     Ok(PageRangeSnapshot::from_owned(alloc, ranges)?)
 }
 
-/// So many rows, which the bytes are, each with the digest of its value.
+/// This many rows, which the bytes are, each with the digest of its value.
 fn rows_of(
     alloc: Global,
     hasher: &ByteHasher,
@@ -215,7 +215,7 @@ pub fn decode_rows(
     rows_of(alloc, hasher, count, body)
 }
 
-/// The key at the front and its digest, and the bytes behind them.
+/// The key at the front and its digest, and the bytes after them.
 pub fn keyed_of(bytes: &[u8]) -> Option<(&[u8], &[u8; 16], &[u8])>
     ensures keyed { IfSome result (λ r. bytes.now ≡ digest_bytes (r.0.now, r.1.now) ++ r.2.now) }
     ensures sized { IfSome result (λ r. length r.1.now ≡ 16) }
@@ -226,7 +226,7 @@ pub fn keyed_of(bytes: &[u8]) -> Option<(&[u8], &[u8; 16], &[u8])>
     Some((key, digest, rest))
 }
 
-/// So many keys with digests, which the bytes are.
+/// This many keys with digests, which the bytes are.
 fn digests_of(alloc: Global, count: u64, body: &[u8]) -> Result<Vec<(Vec<u8>, [u8; 16])>, ReadError>
     ensures rows { IfOk result (λ rows. body.now ≡ flat_map digest_bytes (map by_bytes rows.items)) }
     ensures counted { IfOk result (λ rows. row_count (map by_bytes rows.items) ≡ count) }
@@ -257,7 +257,7 @@ pub fn decode_digests(alloc: Global, bytes: &[u8]) -> Result<Vec<(Vec<u8>, [u8; 
     digests_of(alloc, count, body)
 }
 
-/// What [`diff_snapshots`] answers on two lists of page ranges, as bytes.
+/// What [`diff_snapshots`] returns on two lists of page ranges, as bytes.
 pub fn differences(alloc: Global, local: &[u8], peer: &[u8]) -> Result<Vec<u8>, ReadError>
     ensures answer { IfOk result (λ out. IsDiffOf local.now peer.now out.items) }
     ensures malformed { result ≡ Err Malformed → AreNotBothRanges local.now peer.now }

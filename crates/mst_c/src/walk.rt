@@ -36,7 +36,7 @@ impl Pages {
         }
     }
 
-    /// The list of what was written, where no memory was refused.
+    /// The list of what was written, where memory didn't run out.
     pub fn list(&self, alloc: Global) -> Result<Vec<u8>, AllocError>
         ensures whole { IfOk result (λ out. self.now.refused ≡ false) }
         ensures list { IfOk result (λ out. out.items ≡ tree_mark ++ (number_bytes self.now.count ++ self.now.bytes.items)) }
@@ -83,7 +83,7 @@ fn put_key(node: &Node<16, Vec<u8>>, out: &mut Vec<u8>) -> Result<(), AllocError
     put_text(node.key().as_slice(), out)
 }
 
-/// Writes each page before those below it, and each key behind the page below it, until memory is refused.
+/// Writes each page before those below it, and each key after the page below it, until memory runs out.
 impl Visitor<16, Vec<u8>> for Pages {
     ghost step = { λ before call more after. Visited call more before after };
 

@@ -1,7 +1,7 @@
 //! Page ranges, and ranges of keys, as bytes.
 //!
 //! A list is a mark of four bytes, the number of its entries, and the entries. An entry is its first key and its last key, each as
-//! its length and its bytes, and behind them, in a list of page ranges, the 16 bytes of the page's digest; in a list of rows it is a
+//! its length and its bytes, and after them, in a list of page ranges, the 16 bytes of the page's digest; in a list of rows it is a
 //! key and a value. A number is eight bytes, the lowest first.
 
 ghost use Rattle.std.specs.Prelude.{◌≡◌, ◌+◌, ◌++◌, OnOk, IfOk, IfSome, length, map};

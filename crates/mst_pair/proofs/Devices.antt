@@ -2,8 +2,8 @@
 use Rattle.std.proofs.Common.{subst, ◌≡◌, ℕ, List, [], ◌++◌, Option, None, Some, sym, ap, append_assoc, Result, Ok, Err, ◌∙◌, length, take, drop, take-append-drop, ◌-◌, append-nil, IsErr}
 use Rattle.std.proofs.lemmas.List.{take_rest}
 use Rattle.std.proofs.KnownBytes.{Appends-trans}
-use Rattle.std.specs.Io.KnownBytes.{Consumes, Appends, Keeps}
-use Rattle.mst_pair.specs.Devices.{KeepsOrHides, ConsumesOrHides, AppendsOrHides, Writes, WritesPart, Passes}
+use Rattle.std.specs.Io.KnownBytes.{Appends, Keeps}
+use Rattle.mst_pair.specs.Devices.{KeepsOrHides, AppendsOrHides, Writes, WritesPart, Passes}
 
 -- after a write of n bytes, what is left of all to write
 pub moves_front : (all done rest : List ℕ) (n : ℕ) → all ≡ done ++ rest → all ≡ (done ++ take n rest) ++ take (length rest - n) (drop n rest)
@@ -21,12 +21,6 @@ appends_or_hides_after a b None bs cs p q = tt
 appends_or_hides_after None b (Some z) bs cs p q = tt
 appends_or_hides_after (Some x) None (Some z) bs cs p q = absurd p
 appends_or_hides_after (Some x) (Some y) (Some z) bs cs p q = q ∙ ap (λ l. l ++ cs) p ∙ append_assoc x bs cs
-
-pub consumes_then_hides : (a b c : Option (List ℕ)) (bs : List ℕ) → Consumes a b bs → KeepsOrHides b c → ConsumesOrHides a c bs
-consumes_then_hides None b c bs p q = tt
-consumes_then_hides (Some x) None c bs p q = absurd p
-consumes_then_hides (Some x) (Some y) None bs p q = (y, p)
-consumes_then_hides (Some x) (Some y) (Some z) bs p q = p ∙ ap (λ l. bs ++ l) (sym q)
 
 -- two writes one after the other
 pub writes_after : {A E : Type 0} → (r : Result A E) (a b c : Option (List ℕ)) (bs cs : List ℕ) → Appends a b bs → Writes r b c cs → Writes r a c (bs ++ cs)
@@ -52,11 +46,11 @@ Appends-kept (Some x) None c bs p q = absurd p
 Appends-kept (Some x) (Some y) None bs p q = absurd q
 Appends-kept (Some x) (Some y) (Some z) bs p q = q ∙ p
 
--- text behind pending text was written but for what is pending now
+-- text after pending text was written but for what is pending now
 abbrev pub Passed : Option (List ℕ) → Option (List ℕ) → List ℕ → List ℕ → List ℕ → Type 0
 Passed old new pending bs pending' = (written : List ℕ) × Appends old new written × (pending ++ bs ≡ written ++ pending')
 
--- text added behind pending text, and more text behind that
+-- text added after pending text, and more text after that
 pub passed_more : (a b c : Option (List ℕ)) (p q s xs ys : List ℕ) → Passed a b p xs q → Passed b c q ys s → Passed a c p (xs ++ ys) s
 passed_more a b c p q s xs ys (written, before, split) (more, after, rest) = (
   written ++ more,

@@ -64,7 +64,7 @@ pub bad_command : {C : Type 0} (Found : C → Type 0) (r : Option C) (word argum
 bad_command Found None word arguments line w e refuted = λ q spelled. refuted q (spelled_by q word arguments line w e spelled)
 bad_command Found (Some c) word arguments line w e found = tt
 
--- what stands behind the name of a replica in the arguments of `put` or `del`: a row or a key
+-- what stands after the name of a replica in the arguments of `put` or `del`: a row or a key
 Follows : List ℕ → List ℕ → Type 0
 Follows word rest = ((word ≡ codes "put") × ((key : List ℕ) × (n : ℕ) × IsRowText rest key n)) ⊎ ((word ≡ codes "del") × IsKey rest)
 
@@ -87,7 +87,7 @@ pub bad_name : (word name rest arguments : List ℕ) → length word ≡ 3 → H
 bad_name word name rest arguments short none e no_name =
     named word arguments short (λ other follows behind a. no_name other (first_unique name (name_text other) rest follows none (no_space_name other) (sym e ∙ a)).0)
 
--- arguments that name a replica, and what is behind it may not follow
+-- arguments that name a replica, and what is after it may not follow
 bad_rest : (word : List ℕ) (name : ReplicaName) (rest arguments : List ℕ) → length word ≡ 3 → arguments ≡ name_text name ++ space ∷ rest → (Follows word rest → ⊥) → (q : Request) → IsSpelledBy q word arguments → ⊥
 bad_rest word name rest arguments short e no_rest =
     named word arguments short (λ other follows behind a. no_rest (subst (Follows word) (sym (first_unique (name_text name) (name_text other) rest follows (no_space_name name) (no_space_name other) (sym e ∙ a)).1) behind))

@@ -10,7 +10,7 @@ KeepsOrHides old None = ⊤
 KeepsOrHides None (Some ys) = ⊤
 KeepsOrHides (Some xs) (Some ys) = ys ≡ xs
 
--- the bytes begin with bs and lose them, and those behind bs may be told no more
+-- the bytes begin with bs and lose them, and those after bs may be told no more
 abbrev pub ConsumesOrHides : Option (List ℕ) → Option (List ℕ) → List ℕ → Type 0
 ConsumesOrHides None new bs = ⊤
 ConsumesOrHides (Some xs) None bs = (rest : List ℕ) × (xs ≡ bs ++ rest)
@@ -59,7 +59,7 @@ abbrev pub Writes : {A E : Type 0} → Result A E → Option (List ℕ) → Opti
 Writes (Ok x) old new bs = Appends old new bs
 Writes (Err e) old new bs = WritesPart old new bs
 
--- Text that was pending, and bs behind it, was written but for what is pending now; at an error a beginning of it was.
+-- Text that was pending, and bs after it, was written but for what is pending now; at an error a beginning of it was.
 abbrev pub Passes : {A E : Type 0} → Result A E → Option (List ℕ) → Option (List ℕ) → List ℕ → List ℕ → List ℕ → Type 0
 Passes (Ok x) old new pending bs pending' = (written : List ℕ) × Appends old new written × (pending ++ bs ≡ written ++ pending')
 Passes (Err e) old new pending bs pending' = WritesPart old new (pending ++ bs)

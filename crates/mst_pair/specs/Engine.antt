@@ -22,7 +22,7 @@ AreRangesToAsk format local peer = IsAnswerFor text_laws (side_of format local) 
 abbrev pub Pulls : PageFormat → List TextRow → List TextRow → Answer Text → List TextRow → Type 0
 Pulls format local peer = IsPull text_laws (side_of format local) (side_of format peer)
 
--- memory was refused to a pull: nothing changed, or the first rows in the ranges were joined
+-- a pull ran out of memory: nothing changed, or the first rows in the ranges were joined
 abbrev pub StopsPulling : PageFormat → List TextRow → List TextRow → List TextRow → Type 0
 StopsPulling format local peer after = (after ≡ local) ⊎ ((answer : Answer Text) × (done : ℕ) × IsPartOfPull text_laws (side_of format local) (side_of format peer) answer done after)
 
@@ -32,12 +32,12 @@ TakesTurns format answers local peer local' peer' =
     (met : List (Side Text ℕ (List ℕ) × Side Text ℕ (List ℕ)))
     × IsByTurns text_laws answers (side_of format local) (side_of format peer) local' peer' met
 
--- pulls by turns, local first, of which those with these answers were made, and memory was refused to the next
+-- pulls by turns, local first, of which those with these answers were made, and the next ran out of memory
 abbrev pub StopsAfter : PageFormat → List (Answer Text) → List TextRow → List TextRow → List TextRow → List TextRow → Type 0
 StopsAfter format [] local peer local' peer' = StopsPulling format local peer local' × (peer' ≡ peer)
 StopsAfter format (answer ∷ answers) local peer local' peer' = (after : List TextRow) × Pulls format local peer answer after × StopsAfter format answers peer after peer' local'
 
--- memory was refused to d pulls by turns, local first: fewer whole pulls were made, and then one stopped
+-- d pulls by turns, local first, ran out of memory: fewer whole pulls were made, and then one stopped
 abbrev pub StopsInTurns : PageFormat → ℕ → List TextRow → List TextRow → List TextRow → List TextRow → Type 0
 StopsInTurns format d local peer local' peer' = (answers : List (Answer Text)) × (length answers < d) × StopsAfter format answers local peer local' peer'
 
@@ -49,7 +49,7 @@ MayAsk s name = AreRangesToAsk s.format (rows s name) (other_rows s name)
 abbrev pub HasPulled : Replicas → ReplicaName → Replicas → Answer Text → Type 0
 HasPulled old name new answer = Pulls old.format (rows old name) (other_rows old name) answer (rows new name)
 
--- memory was refused to its pull
+-- its pull ran out of memory
 abbrev pub StopsInPull : Replicas → ReplicaName → Replicas → Type 0
 StopsInPull old name new = StopsPulling old.format (rows old name) (other_rows old name) (rows new name)
 
@@ -57,11 +57,11 @@ StopsInPull old name new = StopsPulling old.format (rows old name) (other_rows o
 abbrev pub HavePulledByTurns : Replicas → Replicas → List (Answer Text) → Type 0
 HavePulledByTurns old new answers = TakesTurns old.format answers old.a old.b new.a new.b
 
--- the reply where memory was refused
+-- the reply where memory ran out
 abbrev pub no_memory : List ℕ
 no_memory = text_line (codes "no memory")
 
--- memory was refused, and nothing changed
+-- memory ran out, and nothing changed
 abbrev pub LacksMemory : Replicas → List ℕ → Replicas → Type 0
 LacksMemory old reply new = (reply ≡ no_memory) × (new ≡ old)
 
@@ -105,7 +105,7 @@ Answers old (set_format format) reply new =
 abbrev pub Step : Replicas → List ℕ → List ℕ → Replicas → Type 0
 Step old line reply new = ((q : Request) × IsSpelled q line × Answers old q reply new) ⊎ (IsBad line × (reply ≡ text_line (codes "bad line")) × (new ≡ old))
 
--- a call writes the ranges of the pages that show rows, or that memory was refused
+-- a call writes the ranges of the pages that show rows, or that memory ran out
 abbrev pub WritesPages : {A E : Type 0} → PageFormat → List TextRow → Result A E → Option (List ℕ) → Option (List ℕ) → Type 0
 WritesPages format shown result taken taken' =
     (reply : List ℕ) × ((reply ≡ ranges_text (map span_of (page_ranges format shown))) ⊎ (reply ≡ no_memory)) × Writes result taken taken' reply

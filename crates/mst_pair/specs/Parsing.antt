@@ -50,7 +50,7 @@ ReadsRequest word arguments found =
 abbrev pub ReadsDigit : List ℕ → Option ℕ → Type 0
 ReadsDigit text found = MatchOption found ((d : ℕ) → d ≤ 9 → text ≢ digit d ∷ []) (λ d. (d ≤ 9) × (text ≡ digit d ∷ []))
 
--- what stands before the first space and behind it, where there is one
+-- what stands before the first space and after it, where there is one
 abbrev pub ReadsField : List ℕ → Option (Bor (List ℕ) × Bor (List ℕ)) → Type 0
 ReadsField text found = MatchOption found (HasNoSpace text) (λ parts. HasNoSpace parts.0.now × (text ≡ parts.0.now ++ space ∷ parts.1.now))
 

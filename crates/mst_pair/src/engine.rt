@@ -53,7 +53,7 @@ impl Engine {
         }
     }
 
-    /// Makes both replicas anew in a page format, where neither has a row, and answers whether it did. It takes no memory.
+    /// Makes both replicas anew in a page format, where neither has a row, and returns whether it did. It takes no memory.
     pub fn set_format(&mut self, format: PageFormat) -> bool
         ensures empty { IsTrue result ↔ HasNoRow self.old }
         ensures new { self.new ≡ (if result then record { a = []; b = []; format = format } else self.old) }
@@ -77,7 +77,7 @@ impl Engine {
         }
     }
 
-    /// Joins a row into a replica. Where memory is refused, nothing changes.
+    /// Joins a row into a replica. If memory runs out, nothing changes.
     pub fn join_row(&mut self, name: ReplicaName, key: &str, number: u64) -> Result<(), AllocError>
         ensures ok { OnOk result (JoinsRow (rows self.old name) (rows self.new name) key.now number) }
         ensures other { other_rows self.new name ≡ other_rows self.old name }
@@ -91,7 +91,7 @@ impl Engine {
         }
     }
 
-    /// Takes the row of a key out of a replica, and answers whether there was one; a pull may bring it back. Where memory is refused,
+    /// Takes the row of a key out of a replica, and returns whether there was one; a pull may bring it back. If memory runs out,
     /// nothing changes.
     pub fn delete_row(&mut self, name: ReplicaName, key: &str) -> Result<bool, AllocError>
         ensures ok { IfOk result (λ found. DeletesRow (rows self.old name) (rows self.new name) key.now found) }

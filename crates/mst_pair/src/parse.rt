@@ -30,7 +30,7 @@ pub enum Command<'a> {
     Pull(ReplicaName),
     /// Tell whether the replicas have the same root hash.
     Same,
-    /// Have the replicas pull from each other by turns, so many times.
+    /// Have the replicas pull from each other by turns, this many times.
     Turns(u8),
     /// Make both replicas anew in a page format, where neither has a row.
     Format(PageFormat),
@@ -116,7 +116,7 @@ fn is_word(text: &[u8], word: &[u8]) -> bool
     text == word
 }
 
-/// What stands before the first space, and what stands behind it.
+/// What stands before the first space, and what stands after it.
 fn first_field(text: &[u8]) -> Option<(&[u8], &[u8])>
     ensures { ReadsField text.now result }
 {

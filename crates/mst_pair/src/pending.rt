@@ -31,7 +31,7 @@ impl Pending {
         }
     }
 
-    /// Adds text behind the one that is pending. Where there is no room, all of it is written first.
+    /// Adds text after the one that is pending. Where there is no room, all of it is written first.
     pub fn write<W: Sink>(&mut self, text: &str, writer: &mut W) -> Result<(), Failed>
         ensures bytes { Passes result (W.taken writer.old) (W.taken writer.new) self.old text.now self.new }
         ensures failed { MarksFailure result (W.has_failed writer.old) (W.has_failed writer.new) }

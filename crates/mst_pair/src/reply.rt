@@ -22,7 +22,7 @@ pub trait ReplyLine {
     /// The text of the line.
     ghost line_text: { Self → List ℕ };
 
-    /// Adds the line behind the text that is pending.
+    /// Adds the line after the text that is pending.
     fn write_line<W: Sink>(&self, pending: &mut Pending, writer: &mut W) -> Result<(), Failed>
         ensures bytes { Passes result (W.taken writer.old) (W.taken writer.new) pending.old (line_text self.now) pending.new }
         ensures failed { MarksFailure result (W.has_failed writer.old) (W.has_failed writer.new) };
@@ -66,7 +66,7 @@ impl ReplyLine for Pulled<String> {
     }
 }
 
-/// Writes that memory was refused.
+/// Writes that memory ran out.
 pub fn write_no_memory<W: Sink>(writer: &mut W) -> Result<(), Failed>
     ensures bytes { Writes result (W.taken writer.old) (W.taken writer.new) no_memory }
     ensures failed { MarksFailure result (W.has_failed writer.old) (W.has_failed writer.new) }

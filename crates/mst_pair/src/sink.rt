@@ -19,7 +19,7 @@ pub trait Sink {
     /// Whether what was taken is handed on.
     ghost is_flushed: { Self → Bool };
 
-    /// Takes some bytes from the front of `bytes`, and answers how many: at most their count, and 0 only
+    /// Takes some bytes from the front of `bytes`, and returns how many: at most their count, and 0 only
     /// where there are none.
     ///
     /// # Errors
@@ -99,7 +99,7 @@ impl<W: Writer> Sink for ToWrite<W> {
     ///
     /// # Errors
     ///
-    /// `Failed` where the writer answers an error or takes none of some bytes, or a call has failed before. The writer then has what it
+    /// `Failed` where the writer returns an error or takes none of some bytes, or a call has failed before. The writer then has what it
     /// had.
     fn write(&mut self, bytes: &[u8]) -> Result<usize, Failed>
         ensures bound { IfOk result (λ n. n ≤ length bytes.now) }
@@ -128,7 +128,7 @@ impl<W: Writer> Sink for ToWrite<W> {
     ///
     /// # Errors
     ///
-    /// `Failed` where the writer answers an error, or a call has failed before. The writer then has what it had.
+    /// `Failed` where the writer returns an error, or a call has failed before. The writer then has what it had.
     fn flush(&mut self) -> Result<(), Failed>
         ensures ok { OnOk result (Keeps (W.contents (writer_inside self.old)) (W.contents (writer_inside self.new))) }
         ensures flushed { OnOk result (⟦<ToWrite<W> as Sink>⟧.is_flushed self.new ≡ true) }

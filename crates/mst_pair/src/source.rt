@@ -22,7 +22,7 @@ pub trait Source {
     /// Whether a read ever answered an error.
     ghost has_failed: { Self → Bool };
 
-    /// Moves some bytes from the front of the bytes left to the front of `buf`, and answers how many: at most
+    /// Moves some bytes from the front of the bytes left to the front of `buf`, and returns how many: at most
     /// the length of `buf`, and 0 for a `buf` with room only at the end.
     ///
     /// # Errors
@@ -70,7 +70,7 @@ impl<R: Reader> FromRead<R> {
         FromRead::with_reads(inner, u64::MAX)
     }
 
-    /// A source that reads from this reader, has not failed, and fails after so many reads.
+    /// A source that reads from this reader, has not failed, and fails after this many reads.
     pub fn with_reads(inner: R, reads: u64) -> Self
         ensures inside { reader_inside result ≡ inner }
         ensures not_failed { ⟦<FromRead<R> as Source>⟧.has_failed result ≡ false }
@@ -106,7 +106,7 @@ impl<R: Reader> Source for FromRead<R> {
     ///
     /// # Errors
     ///
-    /// `Failed` where the reader answers an error, a call has failed before, or no read is left. The reader then has what it had.
+    /// `Failed` where the reader returns an error, a call has failed before, or no read is left. The reader then has what it had.
     fn read(&mut self, buf: &mut [u8]) -> Result<usize, Failed>
         ensures bound { IfOk result (λ n. n ≤ length buf.new) }
         ensures bytes { IfOk result (ReaderGives R.remaining self.old self.new buf.new) }

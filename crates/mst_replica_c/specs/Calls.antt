@@ -110,7 +110,7 @@ IsIdle held = held.session ≡ None
 abbrev pub IsOver : ByteReplica → Type 0
 IsOver new = (new.session ≡ None) × (new.message.items ≡ [])
 
--- the catch-up took the reply, so many rows came, and they are joined
+-- the catch-up took the reply, this many rows came, and they are joined
 pub record HasJoined (reply : List ℕ) (joined : ℕ) (old new : ByteReplica) : Type 0 where
   pub rows : Vec (Vec ℕ × ByteValue)
   pub taken : HasTaken reply (Came rows) old
@@ -122,7 +122,7 @@ pub record HasJoined (reply : List ℕ) (joined : ℕ) (old new : ByteReplica) :
 abbrev pub IsDropped : ByteReplica → ByteReplica → Type 0
 IsDropped old new = (old.session ≢ None) × SameRows old new × IsOver new
 
--- rows came, of which the first so many are joined, and not all
+-- rows came, of which the first ones, this many, are joined, and not all
 pub record IsCutShort (reply : List ℕ) (joined : ℕ) (old new : ByteReplica) : Type 0 where
   pub rows : Vec (Vec ℕ × ByteValue)
   pub taken : HasTaken reply (Came rows) old
@@ -131,7 +131,7 @@ pub record IsCutShort (reply : List ℕ) (joined : ℕ) (old new : ByteReplica) 
   pub none : joined ≡ 0 → new.replica.rows ≡ old.replica.rows
   pub over : IsOver new
 
--- the catch-up is over for want of memory: no row is joined, or the first so many of those that came
+-- the catch-up is over, out of memory: no row is joined, or the first ones that came, this many
 abbrev pub IsCut : List ℕ → ℕ → ByteReplica → ByteReplica → Type 0
 IsCut reply joined old new = ((joined ≡ 0) × IsDropped old new) ⊎ IsCutShort reply joined old new
 

@@ -13,7 +13,7 @@ Changes None new R = ⊥
 Changes (Some old) None R = ⊥
 Changes (Some old) (Some new) R = R old new
 
--- these bytes, as many as needed, are in front of out, and behind them it is as before
+-- these bytes, as many as needed, are in front of out, and after them it is as before
 abbrev pub IsOutput : List ℕ → List ℕ → ℕ → List ℕ → Type 0
 IsOutput old new needed bytes = (needed ≡ length bytes) × (needed ≤ length old) × (new ≡ bytes ++ drop needed old)
 

@@ -45,9 +45,9 @@ impl Drop for ByteReplica {
 pub enum Taken {
     /// The message that is kept is to be sent.
     Asks,
-    /// The catch-up is over, and so many rows are joined.
+    /// The catch-up is over, and this many rows are joined.
     Joined(usize),
-    /// The catch-up is over, and memory was refused after so many rows.
+    /// The catch-up is over, and memory ran out after this many rows.
     Cut(usize),
     /// The catch-up is over, no row is joined, and this is the status.
     Failed(u32),
@@ -144,7 +144,7 @@ impl ByteReplica {
         }
     }
 
-    /// Keeps the refusal as the message, and answers this status; or `MEMORY`, and the message is as before.
+    /// Keeps the refusal as the message, and returns this status; or `MEMORY`, and the message is as before.
     fn refuse(&mut self, alloc: Global, status: u32) -> u32
         ensures refusal { result ≢ 1 → (result ≡ status) × (self.new.message.items ≡ front Refusal) }
         ensures memory { result ≡ 1 → status ≢ 1 → self.new.message ≡ self.old.message }

@@ -123,7 +123,7 @@ pub struct Listed<'a> {
 }
 
 impl Listed<'_> {
-    /// The next answer of the list, for so many bytes; no byte where the list is over.
+    /// The next answer of the list, for this many bytes; no byte where the list is over.
     fn answer(&mut self, room: usize) -> io::Result<usize>
         ensures { IfOk result (λ count. count ≤ room) }
     {
@@ -183,7 +183,7 @@ impl Read for ByteReader<'_> {
     }
 }
 
-/// A writer of std that takes `room` bytes, one at a time; then it answers an error, or that it takes none.
+/// A writer of std that takes `room` bytes, one at a time; then it returns an error, or that it takes none.
 #[derive(Drop)]
 pub struct ByteWriter {
     pub taken: ArrayVec<u8, 16>,

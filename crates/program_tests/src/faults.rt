@@ -69,7 +69,7 @@ fn serve_bytes(
     (result, writer.taken)
 }
 
-/// A writer of std with room for so many bytes.
+/// A writer of std with room for this many bytes.
 fn byte_writer(room: usize, takes_none: bool, refuses_flush: bool) -> ByteWriter {
     ByteWriter {
         taken: ArrayVec::new(),

@@ -1,4 +1,4 @@
-//! A run for which memory is refused.
+//! A run that runs out of memory.
 
 use crate::devices::serve;
 use crate::runs::PULLS;

@@ -36,7 +36,7 @@ const ROOTS_OF_FORMAT_2: [(u64, &str); 5] = [
     (1000, "AOKYcKgCzGnwzaasl2I7fg=="),
 ];
 
-/// What is written to a line that sets the format, to so many puts, and to a line that asks for the root hash.
+/// What is written to a line that sets the format, to this many puts, and to a line that asks for the root hash.
 fn root_of_rows(alloc: Global, format: u8, count: u64) -> Result<Vec<u8>, Fail> {
     let mut input = format!(in alloc; "format {format}\n")?;
     for number in (0..count).rev() {

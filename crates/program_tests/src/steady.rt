@@ -44,7 +44,7 @@ impl Writer for SteadyWriter {
     }
 }
 
-/// A source over such a reader answers no error while a read is left.
+/// A source over such a reader returns no error while a read is left.
 fn read(source: &mut FromRead<SteadyReader<'_>>, buf: &mut [u8]) -> Result<usize, Failed>
     requires works { ⟦<FromRead<SteadyReader<'static>> as Source>⟧.has_failed source.old ≡ false }
     requires left { 0 < ⟦<FromRead<SteadyReader<'static>> as Source>⟧.reads_left source.old }
@@ -53,7 +53,7 @@ fn read(source: &mut FromRead<SteadyReader<'_>>, buf: &mut [u8]) -> Result<usize
     source.read(buf)
 }
 
-/// A sink over such a writer answers no error to a write.
+/// A sink over such a writer returns no error to a write.
 fn write(sink: &mut ToWrite<SteadyWriter>, bytes: &[u8]) -> Result<usize, Failed>
     requires works { ⟦<ToWrite<SteadyWriter> as Sink>⟧.has_failed sink.old ≡ false }
     ensures { IsOk result }
@@ -61,7 +61,7 @@ fn write(sink: &mut ToWrite<SteadyWriter>, bytes: &[u8]) -> Result<usize, Failed
     sink.write(bytes)
 }
 
-/// A sink over such a writer answers no error to a flush.
+/// A sink over such a writer returns no error to a flush.
 fn flush(sink: &mut ToWrite<SteadyWriter>) -> Result<(), Failed>
     requires works { ⟦<ToWrite<SteadyWriter> as Sink>⟧.has_failed sink.old ≡ false }
     ensures { IsOk result }

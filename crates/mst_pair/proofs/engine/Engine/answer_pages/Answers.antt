@@ -2,7 +2,7 @@ use Rattle.std.proofs.Common.{◌≡◌, ◌⊎◌, ap, inl, inr}
 use Rattle.mst_pair.specs.Replicas.{Replicas}
 use Rattle.mst_pair.proofs.engine.Engine.answer_pages.Goals as goal
 
--- the rows are shown, or memory was refused, and nothing changed
+-- the rows are shown, or memory ran out, and nothing changed
 shown : {P : Type 0} (Lacks : Type 0) (old new : Replicas) → new ≡ old → P ⊎ Lacks → (P × (new ≡ old)) ⊎ (Lacks × (new ≡ old))
 shown Lacks old new same (inl p) = inl (p, same)
 shown Lacks old new same (inr lacks) = inr (lacks, same)
