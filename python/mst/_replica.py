@@ -297,7 +297,7 @@ def _check(status: int, joined: int = 0) -> None:
     if status == DONE:
         return
     if status == REFUSED:
-        raise RefusedError("the peer refused what was asked: its settings may be others")
+        raise RefusedError("the peer rejected the request: it may have other settings")
     if status == MALFORMED:
         raise MalformedError("the peer's reply isn't one to what was asked")
     if joined:

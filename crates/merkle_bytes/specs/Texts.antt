@@ -15,10 +15,10 @@ expected_text LastKey = codes "a key that is not below the one before it"
 expected_text Front = codes "what a key shares with the one before it, in its shortest form"
 expected_text Key = codes "a key"
 expected_text Flag = codes "a byte 0 or 1"
-expected_text Kind = codes "the byte of a kind"
-expected_text Question = codes "a message that asks"
-expected_text PageFormat = codes "the byte of a page format"
-expected_text Version = codes "the byte of the version"
+expected_text Kind = codes "a kind byte"
+expected_text Question = codes "a question"
+expected_text PageFormat = codes "a page format byte"
+expected_text Version = codes "the version byte"
 expected_text Length = codes "a byte string that is as long as the array"
 expected_text Number = codes "a number that fits"
 expected_text End = codes "the end"
@@ -27,4 +27,4 @@ expected_text End = codes "the end"
 abbrev pub read_error_text : ReadError → List ℕ
 read_error_text Memory = codes "out of memory"
 read_error_text (Unexpected offset expected) =
-    codes "after " ++ (decimal offset ++ (codes " bytes " ++ (expected_text expected ++ codes " was expected")))
+    codes "after " ++ (decimal offset ++ (codes " bytes, expected " ++ expected_text expected))

@@ -24,7 +24,7 @@ pub enum Expected {
     Flag,
     /// The byte of a kind.
     Kind,
-    /// A message that asks.
+    /// A question.
     Question,
     /// The byte of a page format.
     PageFormat,
@@ -76,10 +76,10 @@ impl fmt::Display for Expected {
             ),
             Expected::Key => f.write_str("a key"),
             Expected::Flag => f.write_str("a byte 0 or 1"),
-            Expected::Kind => f.write_str("the byte of a kind"),
-            Expected::Question => f.write_str("a message that asks"),
-            Expected::PageFormat => f.write_str("the byte of a page format"),
-            Expected::Version => f.write_str("the byte of the version"),
+            Expected::Kind => f.write_str("a kind byte"),
+            Expected::Question => f.write_str("a question"),
+            Expected::PageFormat => f.write_str("a page format byte"),
+            Expected::Version => f.write_str("the version byte"),
             Expected::Number => f.write_str("a number that fits"),
             Expected::Length => f.write_str("a byte string that is as long as the array"),
             Expected::End => f.write_str("the end"),
@@ -94,7 +94,7 @@ impl fmt::Display for ReadError {
         match self {
             ReadError::Memory => f.write_str("out of memory"),
             ReadError::Unexpected { offset, expected } => {
-                write!(f, "after {offset} bytes {expected} was expected")
+                write!(f, "after {offset} bytes, expected {expected}")
             }
         }
     }

@@ -32,7 +32,7 @@ IsUnread answer.Memory = ⊥
 IsUnread (answer.Malformed error) = ⊤
 IsUnread answer.OtherSettings = ⊥
 
--- the asking side has other settings
+-- the asking side has another hash key or other tree settings
 abbrev pub IsOfOthers : AnswerError → Type 0
 IsOfOthers answer.Memory = ⊥
 IsOfOthers (answer.Malformed error) = ⊥
@@ -60,18 +60,18 @@ IsRefusedFor reason (session.Limit limit) = ⊥
 abbrev pub answer_error_text : AnswerError → List ℕ
 answer_error_text answer.Memory = codes "out of memory"
 answer_error_text (answer.Malformed error) = codes "the message is malformed: " ++ read_error_text error
-answer_error_text answer.OtherSettings = codes "the asking side has other settings"
+answer_error_text answer.OtherSettings = codes "the asking side has another hash key or other tree settings"
 
 -- why a catch-up over a wire ended early
 abbrev pub session_error_text : SessionError → List ℕ
 session_error_text session.Memory = codes "out of memory"
 session_error_text (session.Malformed error) = codes "the reply is malformed: " ++ read_error_text error
-session_error_text session.OtherKind = codes "the reply is not what was asked for"
-session_error_text session.Refused = codes "the peer refused what was asked"
+session_error_text session.OtherKind = codes "the reply doesn't match the question"
+session_error_text session.Refused = codes "the peer rejected the request"
 session_error_text session.NothingCame = codes "the peer sent nothing of what was asked for"
-session_error_text session.NotInGap = codes "the peer sent keys that don't ascend or leave the gap that was asked for"
+session_error_text session.NotInGap = codes "the peer sent keys out of order or outside the requested gap"
 session_error_text session.NoNode = codes "the peer sent a page without a node"
-session_error_text session.TooManyRounds = codes "the peer's tree has no end"
+session_error_text session.TooManyRounds = codes "the peer's tree has too many levels"
 session_error_text session.Twice = codes "the peer sent a row twice"
 session_error_text (session.Limit limit) = codes "the peer sent more " ++ limit_text limit ++ codes " than the limit allows"
 

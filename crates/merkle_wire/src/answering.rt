@@ -76,7 +76,9 @@ impl fmt::Display for AnswerError {
         match self {
             AnswerError::Memory => f.write_str("out of memory"),
             AnswerError::Malformed(error) => write!(f, "the message is malformed: {error}"),
-            AnswerError::OtherSettings => f.write_str("the asking side has other settings"),
+            AnswerError::OtherSettings => f.write_str(
+                "the asking side has another hash key or other tree settings",
+            ),
         }
     }
 }

@@ -72,16 +72,14 @@ impl fmt::Display for SessionError {
         match self {
             SessionError::Memory => f.write_str("out of memory"),
             SessionError::Malformed(error) => write!(f, "the reply is malformed: {error}"),
-            SessionError::OtherKind => f.write_str("the reply is not what was asked for"),
-            SessionError::Refused => f.write_str("the peer refused what was asked"),
+            SessionError::OtherKind => f.write_str("the reply doesn't match the question"),
+            SessionError::Refused => f.write_str("the peer rejected the request"),
             SessionError::NothingCame => f.write_str("the peer sent nothing of what was asked for"),
             SessionError::NotInGap => {
-                f.write_str(
-                    "the peer sent keys that don't ascend or leave the gap that was asked for",
-                )
+                f.write_str("the peer sent keys out of order or outside the requested gap")
             }
             SessionError::NoNode => f.write_str("the peer sent a page without a node"),
-            SessionError::TooManyRounds => f.write_str("the peer's tree has no end"),
+            SessionError::TooManyRounds => f.write_str("the peer's tree has too many levels"),
             SessionError::Twice => f.write_str("the peer sent a row twice"),
             SessionError::Limit(limit) => write!(
                 f,

@@ -101,7 +101,7 @@ impl fmt::Display for Failure {
             Failure::Pull(fault) => write!(f, "{fault}"),
             Failure::Ahead(entry) => write!(
                 f,
-                "the peer sent an entry from the future, which --allow-ahead takes: {entry}: nothing was joined"
+                "the peer sent an entry more than a day ahead of the clock (--allow-ahead takes it): {entry}: nothing was joined"
             ),
             Failure::TooLong(entry) => write!(
                 f,

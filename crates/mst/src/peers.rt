@@ -51,10 +51,10 @@ fn words_for(count: usize, one: &'static str, more: &'static str) -> &'static st
 /// Says on standard error what a pull brought.
 pub fn tell(rt: &HostRuntime, brought: &Brought) -> Result<(), Failure> {
     eprintln!(rt;
-        "mst: {} {} news, of {} that came, in {} {}, {} bytes sent, {} came",
-        brought.news,
-        words_for(brought.news, "entry was", "entries were"),
+        "mst: pulled {} {}, {} of them new, in {} {}; {} bytes sent, {} received",
         brought.entries,
+        words_for(brought.entries, "entry", "entries"),
+        brought.news,
         brought.traffic.messages,
         words_for(brought.traffic.messages, "round", "rounds"),
         brought.traffic.sent,

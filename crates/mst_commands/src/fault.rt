@@ -156,7 +156,7 @@ impl fmt::Display for Fault {
             Fault::NotText => f.write_str("standard input isn't valid UTF-8"),
             Fault::NoHeader(header) => write!(
                 f,
-                "line 1 of the input is missing, or is not {header}: nothing is imported"
+                "the first line of the input must be {header}: nothing is imported"
             ),
             Fault::BadLine(line, why) => write!(
                 f,
@@ -164,7 +164,7 @@ impl fmt::Display for Fault {
             ),
             Fault::Future(entry) => write!(
                 f,
-                "the input has an entry from the future, which --allow-ahead takes: {entry}: nothing is imported"
+                "the input has an entry more than a day ahead of the clock (--allow-ahead takes it): {entry}: nothing is imported"
             ),
             Fault::Store(fault) => write!(f, "{fault}"),
             Fault::Device(error) => write!(f, "standard input or output failed: {error}"),

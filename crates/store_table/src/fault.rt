@@ -66,7 +66,7 @@ impl fmt::Display for StoreFault {
                 "the key has the last possible time: it can't be overwritten or removed",
             ),
             StoreFault::Future => f.write_str(
-                "the peer sent an entry from the future: nothing was joined",
+                "the peer sent an entry more than a day ahead of the clock: nothing was joined",
             ),
             StoreFault::Behind => f.write_str("the change is in the file, but memory ran out"),
         }

@@ -8,7 +8,7 @@ use std::test::Fail;
 const FAULTS: [(MessagesError, &str); 5] = [
     (
         MessagesError::Answer(AnswerError::OtherSettings),
-        "a message has no reply: the asking side has other settings",
+        "a message has no reply: the asking side has another hash key or other tree settings",
     ),
     (
         MessagesError::Session(SessionError::Memory),
