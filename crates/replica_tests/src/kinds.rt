@@ -1,9 +1,8 @@
-//! Maps of three kinds of keys: texts, byte strings and numbers.
+//! Maps of two kinds of keys: texts and byte strings.
 
 use merkle_digest::{HashBytes, Key, SipHasher};
 use merkle_replica::Replica;
 use std::alloc::{AllocError, Global};
-use testing::number_key;
 
 /// A kind of keys, which are in the order of their numbers.
 pub trait Kind: Key + HashBytes {
@@ -26,12 +25,6 @@ impl Kind for Vec<u8> {
             bytes.push(0)?;
         }
         Ok(bytes)
-    }
-}
-
-impl Kind for [u8; 2] {
-    fn of(_alloc: Global, number: u16) -> Result<Self, AllocError> {
-        Ok(number_key(number))
     }
 }
 

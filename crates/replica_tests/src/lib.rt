@@ -6,8 +6,6 @@ mod agreeing;
 #[cfg(test)]
 mod catch_ups;
 #[cfg(test)]
-mod faults;
-#[cfg(test)]
 mod hubs;
 #[cfg(test)]
 mod joins;
@@ -24,18 +22,10 @@ mod puts;
 #[cfg(test)]
 mod random_catch_ups;
 #[cfg(test)]
-mod random_pairs;
-#[cfg(test)]
-mod refusals;
-#[cfg(test)]
 mod refused_catch_ups;
-#[cfg(test)]
-mod refused_joins;
 #[cfg(test)]
 mod removals;
 #[cfg(test)]
 mod steps;
-#[cfg(test)]
-mod text;
 #[cfg(test)]
 mod turns;

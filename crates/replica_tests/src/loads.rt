@@ -68,28 +68,6 @@ fn rows_make_the_replica_that_puts_make(rt: HostRuntime) -> Result<(), Fail> {
     Ok(())
 }
 
-/// Lists of texts, with the place of the first that doesn't ascend.
-const REFUSED: [(&[&str], usize); 3] = [
-    (&["b", "a"], 1),
-    (&["a", "a"], 1),
-    (&["a", "b", "d", "c", "a"], 3),
-];
-
-#[test]
-fn rows_that_do_not_ascend_are_handed_back(rt: HostRuntime) -> Result<(), Fail> {
-    let alloc = rt.alloc();
-    for (texts, place) in REFUSED {
-        match loaded(alloc, rows(alloc, texts)?) {
-            Ok(_) => return Err(Fail::from("not refused")),
-            Err(refused) => {
-                assert!(rt; refused.rows == rows(alloc, texts)?);
-                assert!(rt; refused.why == LoadRefused::NotAscending(place));
-            }
-        }
-    }
-    Ok(())
-}
-
 /// Whether a load of three rows gives them, or hands them back when out of memory.
 fn loads_three(alloc: Global) -> Result<bool, AllocError> {
     match loaded(alloc, rows(alloc, ASCENDING[2])?) {

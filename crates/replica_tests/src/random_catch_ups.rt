@@ -1,9 +1,9 @@
-//! Catch-ups between maps of random puts and removals, whose keys are texts, byte strings or numbers: two maps with each other, and five
-//! through a hub or in a ring. The joins are worked out beside them, value by value.
+//! Catch-ups in both directions between two maps of random puts and removals, whose keys are texts or byte strings. The joins are worked out
+//! beside them, value by value.
 
 use crate::kinds::{Kind, Map, del, put};
 use merkle_digest::{HashBytes, Key};
-use merkle_replica::{catch_up_all, catch_up_both};
+use merkle_replica::catch_up_both;
 use merkle_search_tree::builder::{Builder, PageFormat};
 use std::alloc::{AllocError, Global};
 use std::test::Fail;
@@ -19,16 +19,6 @@ struct Side<K: Key + HashBytes> {
 /// Catch-ups in both directions, and whether memory was there.
 fn both_ways<K: Kind + Drop>(a: &mut Map<K>, b: &mut Map<K>) -> bool {
     catch_up_both(a, b).is_ok()
-}
-
-/// Catch-ups through a hub, and whether memory was there.
-fn all_through<K: Kind + Drop>(hub: &mut Map<K>, others: &mut [Map<K>]) -> bool {
-    catch_up_all(hub, others).is_ok()
-}
-
-/// A catch-up, and whether memory was there.
-fn one_way<K: Kind + Drop>(local: &mut Map<K>, peer: &mut Map<K>) -> bool {
-    local.catch_up(peer).is_ok()
 }
 
 /// Whether the root hashes of two maps are equal.
@@ -178,130 +168,7 @@ fn maps_of_texts_meet_in_format_1(rt: HostRuntime) -> Result<(), Fail> {
 }
 
 #[test]
-fn maps_of_texts_meet_in_format_2(rt: HostRuntime) -> Result<(), Fail> {
-    assert!(rt; first_apart::<String>(rt.alloc(), PageFormat::V2, 2)? == None);
-    Ok(())
-}
-
-#[test]
-fn maps_of_byte_strings_meet_in_format_1(rt: HostRuntime) -> Result<(), Fail> {
-    assert!(rt; first_apart::<Vec<u8>>(rt.alloc(), PageFormat::V1, 3)? == None);
-    Ok(())
-}
-
-#[test]
 fn maps_of_byte_strings_meet_in_format_2(rt: HostRuntime) -> Result<(), Fail> {
     assert!(rt; first_apart::<Vec<u8>>(rt.alloc(), PageFormat::V2, 4)? == None);
-    Ok(())
-}
-
-#[test]
-fn maps_of_numbers_meet_in_format_1(rt: HostRuntime) -> Result<(), Fail> {
-    assert!(rt; first_apart::<[u8; 2]>(rt.alloc(), PageFormat::V1, 5)? == None);
-    Ok(())
-}
-
-#[test]
-fn maps_of_numbers_meet_in_format_2(rt: HostRuntime) -> Result<(), Fail> {
-    assert!(rt; first_apart::<[u8; 2]>(rt.alloc(), PageFormat::V2, 6)? == None);
-    Ok(())
-}
-
-/// Maps, and the values that they are to come to have.
-#[derive(Drop)]
-struct Maps<K: Key + HashBytes> {
-    maps: Vec<Map<K>>,
-    joined: Vec<u64>,
-}
-
-/// Five maps of up to 300 rows.
-fn five<K: Kind + Drop>(alloc: Global, random: &mut Random) -> Result<Maps<K>, AllocError> {
-    let mut joined = vec![in alloc; 0; 300]?;
-    let mut maps = Vec::with_capacity(alloc, 5)?;
-    for _map in 0..5 {
-        let mut side: Side<K> = empty(alloc, PageFormat::V2, 300)?;
-        let count = random.below(600);
-        updates(alloc, &mut side, count, random)?;
-        raise(&mut joined, &side.values);
-        maps.push(side.map)?;
-    }
-    Ok(Maps { maps, joined })
-}
-
-/// Whether all maps have these values and no other rows.
-fn all_hold<K: Kind + Drop>(
-    alloc: Global,
-    maps: &[Map<K>],
-    values: &[u64],
-) -> Result<bool, AllocError> {
-    let mut is_right = true;
-    for map in maps {
-        is_right = holds(alloc, map, values)? && is_right;
-    }
-    Ok(is_right)
-}
-
-/// Whether five maps come to hold the join of all through the last one.
-fn meet_through_a_hub<K: Kind + Drop>(
-    alloc: Global,
-    random: &mut Random,
-) -> Result<bool, AllocError> {
-    let mut five: Maps<K> = five(alloc, random)?;
-    match five.maps.pop() {
-        None => Ok(false),
-        Some(mut hub) => {
-            let are_made = all_through(&mut hub, &mut five.maps);
-            let hub_holds = holds(alloc, &hub, &five.joined)?;
-            Ok(are_made && hub_holds && all_hold(alloc, &five.maps, &five.joined)?)
-        }
-    }
-}
-
-/// Whether the first of these maps catches up with the last; it then stands after that.
-fn catch_up_with_the_last<K: Kind + Drop>(ring: &mut Vec<Map<K>>) -> Result<bool, AllocError> {
-    if ring.len() < 2 {
-        return Ok(false);
-    }
-    let mut first = ring.remove(0);
-    let is_made = match ring.last_mut() {
-        None => false,
-        Some(last) => one_way(&mut first, last),
-    };
-    ring.push(first)?;
-    Ok(is_made)
-}
-
-/// Whether five maps in a ring come to hold the join of all, where each catches up with the one before it, twice round.
-fn meet_in_a_ring<K: Kind + Drop>(alloc: Global, random: &mut Random) -> Result<bool, AllocError> {
-    let mut ring: Maps<K> = five(alloc, random)?;
-    let mut are_made = true;
-    for _turn in 0..10 {
-        are_made = catch_up_with_the_last(&mut ring.maps)? && are_made;
-    }
-    Ok(are_made && all_hold(alloc, &ring.maps, &ring.joined)?)
-}
-
-/// Whether five maps of a kind of keys come to hold the join of all, through a hub and in a ring.
-fn five_meet<K: Kind + Drop>(alloc: Global, random: &mut Random) -> Result<bool, AllocError> {
-    Ok(meet_through_a_hub::<K>(alloc, random)? && meet_in_a_ring::<K>(alloc, random)?)
-}
-
-#[test]
-fn five_maps_meet(rt: HostRuntime) -> Result<(), Fail> {
-    let mut random = Random::new(7);
-    for round in 0..5 {
-        assert!(rt;
-            five_meet::<String>(rt.alloc(), &mut random)?,
-            "round {round}"
-        );
-        assert!(rt;
-            five_meet::<Vec<u8>>(rt.alloc(), &mut random)?,
-            "round {round}"
-        );
-        assert!(rt;
-            five_meet::<[u8; 2]>(rt.alloc(), &mut random)?,
-            "round {round}"
-        );
-    }
     Ok(())
 }

@@ -1,16 +1,10 @@
 //! Catch-ups between maps of about 300 rows that run out of memory: the rows are as before, or the first of the rows that were
-//! lacked are joined. Under `tests/refusals` each request for memory of the last test is refused.
+//! lacked are joined. Under `tests/refusals` each request for memory of the test is refused.
 
-use crate::text::CountedText;
 use merkle_digest::SipHasher;
 use merkle_replica::{CatchUpError, CaughtUp, Replica};
 use merkle_search_tree::builder::Builder;
 use std::alloc::{AllocError, Global};
-use std::cell::Cell;
-use std::test::Fail;
-
-/// A map of texts whose clones can be refused.
-type Counted<'a> = Replica<CountedText<'a>, u64, SipHasher, 16>;
 
 /// A map of texts, whose copies take memory.
 type Texts = Replica<String, u64, SipHasher, 16>;
@@ -62,31 +56,13 @@ fn joined_first(count: usize) -> Values {
     values
 }
 
-/// A key that is a text.
-trait Text {
-    /// The text.
-    fn text(&self) -> &str;
-}
-
-impl Text for CountedText<'_> {
-    fn text(&self) -> &str {
-        self.text
-    }
-}
-
-impl Text for String {
-    fn text(&self) -> &str {
-        self.as_str()
-    }
-}
-
 /// Whether the rows have these values and no others.
-fn are<K: Text>(rows: &[(K, u64)], values: &Values) -> bool {
+fn are(rows: &[(String, u64)], values: &Values) -> bool {
     let mut rows = rows.iter();
     for (number, value) in values.iter().enumerate() {
         if *value > 0 {
             match rows.next() {
-                Some(row) if row.0.text().parse::<usize>() == Ok(number) && row.1 == *value => {}
+                Some(row) if row.0.as_str().parse::<usize>() == Ok(number) && row.1 == *value => {}
                 _ => return false,
             }
         }
@@ -111,83 +87,6 @@ fn count_of(answer: Result<CaughtUp, CatchUpError>) -> Option<usize> {
             }
         }
     }
-}
-
-/// Puts a row.
-fn put_counted<'a>(
-    map: &mut Counted<'a>,
-    key: CountedText<'a>,
-    value: u64,
-) -> Result<(), AllocError> {
-    map.put(key, value)
-}
-
-/// A catch-up.
-fn catch_up_counted<'a>(
-    local: &mut Counted<'a>,
-    peer: &mut Counted<'a>,
-) -> Result<CaughtUp, CatchUpError> {
-    local.catch_up(peer)
-}
-
-/// The texts of the keys.
-fn texts(alloc: Global) -> Result<Vec<String>, AllocError> {
-    let mut texts = Vec::with_capacity(alloc, KEYS)?;
-    for number in 0..KEYS {
-        texts.push(format!(in alloc; "{number:03}")?)?;
-    }
-    Ok(texts)
-}
-
-/// The map of these values, at keys whose clones are counted.
-fn counted<'a>(
-    alloc: Global,
-    texts: &'a [String],
-    values: &Values,
-    clones_left: &'a Cell<u8>,
-) -> Result<Counted<'a>, AllocError> {
-    let mut map = Counted::new(alloc, Builder::default());
-    for (text, value) in texts.iter().zip(values) {
-        if *value > 0 {
-            clones_left.set(1);
-            let key = CountedText {
-                text: text.as_str(),
-                clones_left,
-            };
-            put_counted(&mut map, key, *value)?;
-        }
-    }
-    Ok(map)
-}
-
-/// How many of the rows that are missing a catch-up joins where this many clones of keys are at hand; none where the rows aren't then
-/// ours joined with the first ones, this many, or the peer's rows don't stay.
-fn joined_with(alloc: Global, texts: &[String], clones: u8) -> Result<Option<usize>, AllocError> {
-    let clones_left = Cell::new(0);
-    let mut local = counted(alloc, texts, &ours(), &clones_left)?;
-    let mut peer = counted(alloc, texts, &theirs(), &clones_left)?;
-    clones_left.set(clones);
-    let count = count_of(catch_up_counted(&mut local, &mut peer));
-    let is_kept = are(peer.rows(), &theirs());
-    match count {
-        Some(count) if is_kept && are(local.rows(), &joined_first(count)) => Ok(Some(count)),
-        _ => Ok(None),
-    }
-}
-
-// Each row that is missing is cloned once, and where its key is new a second time, for the tree: 124 and 62 clones.
-#[test]
-fn refused_clones_leave_the_first_rows(rt: HostRuntime) -> Result<(), Fail> {
-    let texts = texts(rt.alloc())?;
-    let mut before = 0;
-    for clones in 0..190 {
-        let count = joined_with(rt.alloc(), &texts, clones)?.ok_or("wrong rows")?;
-        assert!(rt; before <= count, "{clones} clones");
-        assert!(rt; (count == 0) == (clones < 125), "{clones} clones");
-        assert!(rt; (count == LACKED) == (clones >= 186), "{clones} clones");
-        before = count;
-    }
-    Ok(())
 }
 
 /// Puts a row.

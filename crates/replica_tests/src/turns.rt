@@ -123,19 +123,6 @@ fn four_turns_join_both(rt: HostRuntime) -> Result<(), Fail> {
     Ok(())
 }
 
-/// The ranges of keys that four pulls ask for, where a holds 1, 4, 5 and b holds 3, 7: a comma after those of each.
-const RANGES: &str = ", 1-3, 1-7, 1-7,";
-
-/// The ranges that these pulls asked for.
-fn ranges(alloc: Global, all: &[Pulled<[u8; 2]>]) -> Result<String, AllocError> {
-    let mut text = String::new(alloc);
-    for pulled in all {
-        add_ranges(alloc, &mut text, &pulled.ranges)?;
-        text.push_str(",")?;
-    }
-    Ok(text)
-}
-
 /// Adds these ranges to a text, a blank before each.
 pub fn add_ranges(
     alloc: Global,
@@ -150,32 +137,7 @@ pub fn add_ranges(
     Ok(())
 }
 
-#[test]
-fn turns_ask_for_growing_ranges(rt: HostRuntime) -> Result<(), Fail> {
-    let mut a = numbers(rt.alloc(), PageFormat::V1, "1 4 5")?;
-    let mut b = numbers(rt.alloc(), PageFormat::V1, "3 7")?;
-    match turn(rt.alloc(), &mut a, &mut b, 4) {
-        Ok(all) => assert!(rt; ranges(rt.alloc(), &all)?.as_str() == RANGES),
-        Err(_) => return Err(Fail::from("no memory")),
-    }
-    Ok(())
-}
-
 /// Pulls from a peer.
 pub fn pull(a: &mut Numbers, b: &mut Numbers) -> Result<Pulled<[u8; 2]>, PullError<[u8; 2]>> {
     a.pull(b)
-}
-
-#[test]
-fn calls_succeed_where_memory_is_at_hand(rt: HostRuntime) -> Result<(), Fail> {
-    let mut a = numbers(rt.alloc(), PageFormat::V1, "")?;
-    let mut b = numbers(rt.alloc(), PageFormat::V1, "2 1")?;
-    assert!(rt; put(&mut a, 3).is_ok());
-    assert!(rt; pull(&mut a, &mut b).is_ok());
-    match turn(rt.alloc(), &mut a, &mut b, 0) {
-        Ok(all) => assert!(rt; all.is_empty()),
-        Err(_) => return Err(Fail::from("no memory")),
-    }
-    assert!(rt; turn(rt.alloc(), &mut a, &mut b, 1).is_ok());
-    Ok(())
 }
