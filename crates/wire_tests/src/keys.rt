@@ -1,5 +1,4 @@
 //! Kinds of keys, each with a key for each number.
-use crate::number::Number;
 use merkle_bytes::Decode;
 use merkle_digest::{HashBytes, Key};
 use std::alloc::{AllocError, Global};
@@ -32,11 +31,5 @@ impl Sample for Vec<u8> {
 impl Sample for [u8; 8] {
     fn of(_alloc: Global, number: u64) -> Result<Self, AllocError> {
         Ok(number.to_be_bytes())
-    }
-}
-
-impl Sample for Number {
-    fn of(_alloc: Global, number: u64) -> Result<Self, AllocError> {
-        Ok(Number::new(number))
     }
 }

@@ -2,10 +2,6 @@
 #![tactic(auto)]
 
 #[cfg(test)]
-mod endless_rounds;
-#[cfg(test)]
-mod faults;
-#[cfg(test)]
 mod first_calls;
 #[cfg(test)]
 mod formats;
@@ -18,8 +14,6 @@ mod limits;
 #[cfg(test)]
 mod memory;
 #[cfg(test)]
-mod number;
-#[cfg(test)]
 mod playing;
 #[cfg(test)]
 mod questions_refused;
@@ -27,8 +21,6 @@ mod questions_refused;
 mod random_sessions;
 #[cfg(test)]
 mod refusals;
-#[cfg(test)]
-mod refused_values;
 #[cfg(test)]
 mod sessions;
 #[cfg(test)]

@@ -5,7 +5,7 @@ use std::alloc::Global;
 use std::test::Fail;
 
 /// How a session ends: with this many rows, or not; and how many bytes had come by then in how many replies.
-#[derive(Clone, Copy, Debug, PartialEq, Eq, Drop)]
+#[derive(Drop)]
 struct Ended {
     replies: u64,
     bytes: u64,

@@ -107,8 +107,3 @@ fn joins_the_first(alloc: Global) -> Result<bool, AllocError> {
 fn a_refused_session_has_joined_the_first_rows(rt: HostRuntime) {
     assert!(rt; joins_the_first(rt.alloc()) != Ok(false));
 }
-
-#[test]
-fn a_session_joins_all_rows_where_memory_is_at_hand(rt: HostRuntime) {
-    assert!(rt; joins_the_first(rt.alloc()) == Ok(true));
-}

@@ -14,13 +14,13 @@ const MOST_MESSAGES: usize = 10_000;
 
 /// A session that waits for the reply to a message.
 #[derive(Drop)]
-pub struct Waiting<K, V> {
-    pub session: CatchingUp<K, V>,
-    pub message: Vec<u8>,
+struct Waiting<K, V> {
+    session: CatchingUp<K, V>,
+    message: Vec<u8>,
 }
 
 /// A session that begins.
-pub fn begun<K: Key + Decode + HashBytes, V: Join + Decode + HashBytes>(
+fn begun<K: Key + Decode + HashBytes, V: Join + Decode + HashBytes>(
     alloc: Global,
     local: &Rows<K, V>,
 ) -> Result<Waiting<K, V>, Fail> {

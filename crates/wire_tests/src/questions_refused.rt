@@ -2,12 +2,8 @@
 use crate::hex::bytes_of;
 use crate::refusals::{Bytes, is_as_before, three};
 use merkle_bytes::{Expected, ReadError};
-use merkle_digest::SipHasher;
-use merkle_replica::Replica;
-use merkle_search_tree::builder::{Builder, PageFormat};
-use merkle_wire::{AnswerError, CatchingUp, answer, refusal};
-use std::alloc::{AllocError, Global};
-use std::num::NonZeroU8;
+use merkle_wire::{AnswerError, answer, refusal};
+use std::alloc::Global;
 use std::test::Fail;
 
 /// Bytes in hex that are no question: what should have stood after this many bytes. A reply, a version and a kind that there is not, bytes that are
@@ -69,41 +65,4 @@ fn refused_with(alloc: Global, peer: &mut Bytes, message: &[u8]) -> Option<Answe
         Ok(_) => None,
         Err(error) => Some(error),
     }
-}
-
-/// The first message of a replica with the key 1.
-fn first_message(alloc: Global, builder: Builder<SipHasher>) -> Result<Vec<u8>, Fail> {
-    let mut local: Bytes = Replica::new(alloc, builder);
-    local.put([1], 9)?;
-    let (_, message) = CatchingUp::begin(alloc, &local)?;
-    Ok(message)
-}
-
-/// Why the peer refuses a replica with these settings, where it does.
-fn refused_for(
-    alloc: Global,
-    peer: &mut Bytes,
-    builder: Builder<SipHasher>,
-) -> Result<Option<AnswerError>, Fail> {
-    let message = first_message(alloc, builder)?;
-    Ok(refused_with(alloc, peer, &message))
-}
-
-/// A replica with another level base, page format or key of its hasher than the peer's is refused by the peer. Other lengths of digests are in the
-/// table above.
-#[test]
-fn other_settings_are_refused(rt: HostRuntime) -> Result<(), Fail> {
-    let alloc = rt.alloc();
-    let mut peer = three(alloc)?;
-    let others = Some(AnswerError::OtherSettings);
-    let base = NonZeroU8::new(4).ok_or(AllocError)?;
-    let builder = Builder::default().with_level_base(base);
-    assert!(rt; refused_for(alloc, &mut peer, builder)? == others);
-    let builder = Builder::default().with_page_format(PageFormat::V2);
-    assert!(rt; refused_for(alloc, &mut peer, builder)? == others);
-    let builder = Builder::default().with_hasher(SipHasher::new(&[7; 16]));
-    assert!(rt; refused_for(alloc, &mut peer, builder)? == others);
-    assert!(rt; refused_for(alloc, &mut peer, Builder::default())? == None);
-    assert!(rt; is_as_before(&peer));
-    Ok(())
 }

@@ -1,13 +1,12 @@
 //! Sessions between replicas of random puts and removals, whose replies come in parts of random sizes. What each side is to have is worked out beside them,
 //! value by value.
 use crate::keys::Sample;
-use crate::number::Number;
-use crate::playing::{Rows, Waiting, begun, rows_lacked};
+use crate::playing::{Rows, rows_lacked};
 use crate::values::Worth;
 use crate::wide::Wide;
 use merkle_replica::Replica;
 use merkle_search_tree::builder::{Builder, PageFormat};
-use merkle_wire::{MOST_BYTES, Next, SessionError, answer};
+use merkle_wire::MOST_BYTES;
 use std::alloc::{AllocError, Global};
 use std::num::NonZeroU8;
 use std::test::Fail;
@@ -185,149 +184,9 @@ fn texts_meet(rt: HostRuntime) -> Result<(), Fail> {
     Ok(())
 }
 
+/// Here the values are longer than their digests.
 #[test]
 fn byte_strings_meet(rt: HostRuntime) -> Result<(), Fail> {
-    assert!(rt; first_apart::<Vec<u8>, u64>(rt.alloc(), 2)? == None);
-    Ok(())
-}
-
-#[test]
-fn arrays_meet(rt: HostRuntime) -> Result<(), Fail> {
-    assert!(rt; first_apart::<[u8; 8], u64>(rt.alloc(), 3)? == None);
-    Ok(())
-}
-
-#[test]
-fn numbers_meet(rt: HostRuntime) -> Result<(), Fail> {
-    assert!(rt; first_apart::<Number, u64>(rt.alloc(), 4)? == None);
-    Ok(())
-}
-
-#[test]
-fn long_values_meet(rt: HostRuntime) -> Result<(), Fail> {
-    assert!(rt; first_apart::<String, Wide>(rt.alloc(), 5)? == None);
-    Ok(())
-}
-
-/// Replicas that catch up in a ring, and the join that they are to come to.
-#[derive(Drop)]
-struct Ring<K: Sample, V: Worth> {
-    sides: Vec<Side<K, V>>,
-    joined: Vec<u64>,
-}
-
-/// Five random replicas.
-fn five<K: Sample, V: Worth>(alloc: Global, random: &mut Random) -> Result<Ring<K, V>, Fail> {
-    let mut joined = vec![in alloc; 0; 100]?;
-    let mut sides = Vec::new(alloc);
-    for _replica in 0..5 {
-        let mut side: Side<K, V> = empty(alloc, (4, PageFormat::V2), 100)?;
-        let count = random.below(200);
-        updates(alloc, &mut side, count, random)?;
-        raise(&mut joined, &side.values);
-        sides.push(side)?;
-    }
-    Ok(Ring { sides, joined })
-}
-
-/// Whether the first replica catches up with the last as it is to; it then stands after that.
-fn turns<K: Sample, V: Worth>(alloc: Global, sides: &mut Vec<Side<K, V>>) -> Result<bool, Fail> {
-    if sides.is_empty() {
-        return Ok(false);
-    }
-    let mut first = sides.remove(0);
-    let is_right = match sides.last_mut() {
-        None => false,
-        Some(last) => catches_up(alloc, &mut first, last, 200)?,
-    };
-    sides.push(first)?;
-    Ok(is_right)
-}
-
-/// Whether all replicas of a ring are to have the join.
-fn are_joined<K: Sample, V: Worth>(ring: &Ring<K, V>) -> bool {
-    let mut are_so = true;
-    for side in &ring.sides {
-        are_so = are_so && side.values == ring.joined;
-    }
-    are_so
-}
-
-/// Whether five random replicas in a ring come to hold the join of all by messages, where each catches up with the one before it, twice round.
-fn five_meet<K: Sample, V: Worth>(alloc: Global, random: &mut Random) -> Result<bool, Fail> {
-    let mut ring: Ring<K, V> = five(alloc, random)?;
-    let mut are_met = true;
-    for _turn in 0..10 {
-        are_met = turns(alloc, &mut ring.sides)? && are_met;
-    }
-    Ok(are_met && are_joined(&ring))
-}
-
-#[test]
-fn five_meet_in_a_ring(rt: HostRuntime) -> Result<(), Fail> {
-    let mut random = Random::new(7);
-    for round in 0..5 {
-        assert!(rt;
-            five_meet::<String, u64>(rt.alloc(), &mut random)?,
-            "{round}"
-        );
-        assert!(rt;
-            five_meet::<Number, Wide>(rt.alloc(), &mut random)?,
-            "{round}"
-        );
-    }
-    Ok(())
-}
-
-/// A replica of 40 numbers with 60 random updates.
-fn numbers_of(alloc: Global, random: &mut Random) -> Result<Rows<Number, u64>, AllocError> {
-    let mut side: Side<Number, u64> = empty(alloc, (2, PageFormat::V1), 40)?;
-    updates(alloc, &mut side, 60, random)?;
-    Ok(side.replica)
-}
-
-/// The reply of a peer that gets a row before it, at a key that neither side had.
-fn reply_behind_a_put(
-    alloc: Global,
-    peer: &mut Rows<Number, u64>,
-    random: &mut Random,
-    message: &[u8],
-) -> Result<Vec<u8>, Fail> {
-    peer.put(Number::new(random.below(1 << 20)), 9)?;
-    Ok(answer(alloc, peer, message)?)
-}
-
-/// How a session ends whose peer gets a row before each of its replies: `true` where rows come.
-fn ends_with_rows(alloc: Global, random: &mut Random) -> Result<Result<bool, SessionError>, Fail> {
-    let mut local = numbers_of(alloc, random)?;
-    let mut peer = numbers_of(alloc, random)?;
-    let mut waiting = begun(alloc, &local)?;
-    for _ in 0..100 {
-        let reply = reply_behind_a_put(alloc, &mut peer, random, &waiting.message)?;
-        match waiting.session.take(&mut local, &reply) {
-            Ok(Next::Ask(session, message)) => waiting = Waiting { session, message },
-            Ok(Next::Came(rows)) => return Ok(Ok(!rows.is_empty())),
-            Err(error) => return Ok(Err(error)),
-        }
-    }
-    Err(Fail::new("no end"))
-}
-
-/// A session with a peer whose rows change meanwhile brings rows, or is refused for a row that came twice, and for nothing else.
-#[test]
-fn peers_that_change_bring_rows_or_tell_one_twice(rt: HostRuntime) -> Result<(), Fail> {
-    let alloc = rt.alloc();
-    let mut random = Random::new(11);
-    let (mut came, mut twice) = (0u32, 0u32);
-    for _session in 0..200 {
-        match ends_with_rows(alloc, &mut random)? {
-            Ok(_) => came = came.saturating_add(1),
-            Err(error) => {
-                assert!(rt; error == SessionError::Twice);
-                twice = twice.saturating_add(1);
-            }
-        }
-    }
-    assert!(rt; came > 100 && twice > 0, "{came} and {twice}");
+    assert!(rt; first_apart::<Vec<u8>, Wide>(rt.alloc(), 2)? == None);
     Ok(())
 }

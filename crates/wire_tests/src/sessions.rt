@@ -3,7 +3,7 @@ use crate::keys::Sample;
 use merkle_digest::SipHasher;
 use merkle_replica::Replica;
 use merkle_search_tree::builder::Builder;
-use merkle_wire::{CatchingUp, Next, answer, catch_up_by_messages};
+use merkle_wire::{CatchingUp, Next, answer};
 use std::alloc::Global;
 use std::test::Fail;
 
@@ -32,7 +32,7 @@ pub(crate) fn numbers<K: Sample>(
 }
 
 /// What a session took, and how many rows it brought.
-#[derive(Debug, PartialEq, Eq, Drop)]
+#[derive(PartialEq, Eq, Drop)]
 pub(crate) struct Done {
     pub(crate) messages: usize,
     pub(crate) sent: usize,
@@ -138,60 +138,5 @@ fn nothing_comes_where_nothing_differs(rt: HostRuntime) -> Result<(), Fail> {
     let (_, done) = session(alloc, &mut local, &mut peer)?;
     assert!(rt; done.rows == 0);
     assert!(rt; done.messages == 1);
-    Ok(())
-}
-
-/// How many rows a catch-up joins, where it comes to its end.
-fn caught_up<K: Sample>(
-    alloc: Global,
-    local: &mut Numbers<K>,
-    peer: &mut Numbers<K>,
-) -> Option<usize> {
-    catch_up_by_messages(alloc, local, peer).ok()
-}
-
-/// Whether two replicas have these rows, and one root hash.
-fn are_joined<K: Sample>(a: &mut Numbers<K>, b: &mut Numbers<K>, wanted: &Numbers<K>) -> bool {
-    a.rows() == wanted.rows() && b.rows() == wanted.rows() && a.root_hash() == b.root_hash()
-}
-
-/// The join of both.
-fn joined<K: Sample>(alloc: Global) -> Result<Numbers<K>, Fail> {
-    let mut wanted = numbers::<K>(alloc, 600, 3, 5)?;
-    match wanted.put_all(twos::<K>(alloc)?) {
-        Ok(()) => Ok(wanted),
-        Err(_) => Err(Fail::new("memory")),
-    }
-}
-
-/// Whether catch-ups in both directions, between replicas of different sizes and values, bring the 267 rows in which the first differs from the
-/// second, and then the 334 in which that does from their join, and leave both with the greater number at each key.
-fn joins_both_ways<K: Sample>(alloc: Global) -> Result<bool, Fail> {
-    let mut a = numbers::<K>(alloc, 600, 3, 5)?;
-    let mut b = numbers::<K>(alloc, 400, 2, 4)?;
-    let brought = (
-        caught_up(alloc, &mut a, &mut b),
-        caught_up(alloc, &mut b, &mut a),
-    );
-    let wanted = joined::<K>(alloc)?;
-    Ok(brought == (Some(267), Some(334)) && are_joined(&mut a, &mut b, &wanted))
-}
-
-/// The rows of the smaller replica.
-fn twos<K: Sample>(alloc: Global) -> Result<Vec<(K, u64)>, Fail> {
-    let mut rows = Vec::new(alloc);
-    for i in 0..400u64 {
-        let value = if i % 2 == 0 { 4 } else { 1 };
-        rows.push((K::of(alloc, i)?, value))?;
-    }
-    Ok(rows)
-}
-
-#[test]
-fn three_kinds_of_keys_join_both_ways(rt: HostRuntime) -> Result<(), Fail> {
-    let alloc = rt.alloc();
-    assert!(rt; joins_both_ways::<String>(alloc)?);
-    assert!(rt; joins_both_ways::<Vec<u8>>(alloc)?);
-    assert!(rt; joins_both_ways::<[u8; 8]>(alloc)?);
     Ok(())
 }

@@ -12,7 +12,7 @@ use merkle_replica::Join;
 use std::alloc::{AllocError, Global};
 
 /// A value of 32 bytes, of which the greatest stays.
-#[derive(Clone, Copy, Debug, PartialEq, Eq, PartialOrd, Ord)]
+#[derive(Clone, Copy, PartialEq, Eq, PartialOrd, Ord)]
 pub struct Wide {
     pub bytes: [u8; 32],
 }
