@@ -2,8 +2,6 @@
 #![tactic(auto)]
 
 #[cfg(test)]
-mod many;
-#[cfg(test)]
 mod no_bytes;
 #[cfg(test)]
 mod planted;

@@ -54,15 +54,6 @@ fn pages_of_one_stream_are_found(rt: HostRuntime) -> Result<(), AllocError> {
     Ok(())
 }
 
-// A page whose one key has no byte has the stream of the empty page.
-#[test]
-fn empty_pages_are_looked_at(rt: HostRuntime) -> Result<(), AllocError> {
-    assert!(rt; !tell_texts(rt.alloc(), &[], &[""])?);
-    assert!(rt; !tell_texts(rt.alloc(), &[""], &[])?);
-    assert!(rt; tell_texts(rt.alloc(), &[], &[])?);
-    Ok(())
-}
-
 /// A replica of one key with this value.
 fn valued(alloc: Global, value: u64) -> Result<Replica<String, u64, NoBytes, 0>, AllocError> {
     let builder = Builder::default().with_hasher(NoBytes);

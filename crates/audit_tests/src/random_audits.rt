@@ -1,9 +1,6 @@
 //! Audits of random pairs of replicas under SipHash, which find that digests are faithful.
 use crate::rows::{Rows, key_of};
-use merkle_audit::{
-    are_faithful, digest_their_values_alike, have_faithful_nodes, have_faithful_pages,
-    have_faithful_values, is_faithful_session,
-};
+use merkle_audit::is_faithful_session;
 use merkle_search_tree::builder::{Builder, PageFormat};
 use std::alloc::{AllocError, Global};
 use std::num::NonZeroU8;
@@ -13,27 +10,10 @@ use testing::Random;
 /// The level bases: where it is small, few keys have several levels.
 const BASES: [u8; 3] = [2, 4, 16];
 
-/// What is decided.
-#[derive(Clone, Copy)]
-enum Part {
-    Values,
-    Alike,
-    Pages,
-    Nodes,
-    Both,
-    Session,
-}
-
-/// Whether it is so of two replicas.
-fn is_so(alloc: Global, part: Part, a: &mut Rows, b: &mut Rows) -> Result<bool, AllocError> {
-    match part {
-        Part::Values => Ok(have_faithful_values(a, b)),
-        Part::Alike => Ok(digest_their_values_alike(a, b)),
-        Part::Pages => have_faithful_pages(a, b),
-        Part::Nodes => have_faithful_nodes(alloc, a, b),
-        Part::Both => are_faithful(a, b),
-        Part::Session => is_faithful_session(alloc, a, b),
-    }
+/// Whether the digests of a session of two replicas are faithful: those of pages, of values and of the nodes of pages are, and both sides digest
+/// values alike.
+fn are_faithful(alloc: Global, a: &mut Rows, b: &mut Rows) -> Result<bool, AllocError> {
+    is_faithful_session(alloc, a, b)
 }
 
 /// A replica without rows, by a level base and a page format.
@@ -85,13 +65,13 @@ fn pair(
     Ok((a, b))
 }
 
-/// The first of 300 pairs in each page format of which it isn't so.
-fn first_other(alloc: Global, part: Part, seed: u64) -> Result<Option<u64>, AllocError> {
+/// The first of 300 pairs in each page format whose digests aren't faithful.
+fn first_other(alloc: Global, seed: u64) -> Result<Option<u64>, AllocError> {
     let mut random = Random::new(seed);
     for round in 0..300u64 {
         for format in [PageFormat::V1, PageFormat::V2] {
             let (mut a, mut b) = pair(alloc, format, &mut random)?;
-            if !is_so(alloc, part, &mut a, &mut b)? {
+            if !are_faithful(alloc, &mut a, &mut b)? {
                 return Ok(Some(round));
             }
         }
@@ -100,38 +80,8 @@ fn first_other(alloc: Global, part: Part, seed: u64) -> Result<Option<u64>, Allo
 }
 
 #[test]
-fn values_are_faithful(rt: HostRuntime) -> Result<(), Fail> {
-    assert!(rt; first_other(rt.alloc(), Part::Values, 1)? == None);
-    Ok(())
-}
-
-#[test]
-fn values_are_digested_alike(rt: HostRuntime) -> Result<(), Fail> {
-    assert!(rt; first_other(rt.alloc(), Part::Alike, 2)? == None);
-    Ok(())
-}
-
-#[test]
-fn pages_are_faithful(rt: HostRuntime) -> Result<(), Fail> {
-    assert!(rt; first_other(rt.alloc(), Part::Pages, 3)? == None);
-    Ok(())
-}
-
-#[test]
-fn nodes_are_faithful(rt: HostRuntime) -> Result<(), Fail> {
-    assert!(rt; first_other(rt.alloc(), Part::Nodes, 4)? == None);
-    Ok(())
-}
-
-#[test]
-fn digests_are_faithful(rt: HostRuntime) -> Result<(), Fail> {
-    assert!(rt; first_other(rt.alloc(), Part::Both, 5)? == None);
-    Ok(())
-}
-
-#[test]
 fn sessions_are_faithful(rt: HostRuntime) -> Result<(), Fail> {
-    assert!(rt; first_other(rt.alloc(), Part::Session, 6)? == None);
+    assert!(rt; first_other(rt.alloc(), 6)? == None);
     Ok(())
 }
 
@@ -147,7 +97,7 @@ fn equal_and_empty_replicas(rt: HostRuntime) -> Result<(), Fail> {
         updates(alloc, &mut a, 50, count, &mut random)?;
         updates(alloc, &mut b, 50, count, &mut again)?;
         assert!(rt; a.rows() == b.rows());
-        assert!(rt; is_faithful_session(alloc, &mut a, &mut b)?, "{count}");
+        assert!(rt; are_faithful(alloc, &mut a, &mut b)?, "{count}");
     }
     Ok(())
 }
