@@ -85,37 +85,6 @@ impl Sink for NarrowSink {
     }
 }
 
-/// A reader of std that fails at its first read alone.
-#[derive(Drop)]
-pub struct FailsOnce {
-    pub has_failed: bool,
-}
-
-impl Read for FailsOnce {
-    fn read(&mut self, buf: &mut [u8]) -> io::Result<usize> {
-        if !self.has_failed {
-            self.has_failed = true;
-            return Err(io::Error::from(ErrorKind::Other));
-        }
-        buf.fill(b'x');
-        Ok(buf.len())
-    }
-}
-
-/// A writer of std that takes all bytes and can't be flushed.
-#[derive(Drop)]
-pub struct CannotFlush;
-
-impl Write for CannotFlush {
-    fn write(&mut self, buf: &[u8]) -> io::Result<usize> {
-        Ok(buf.len())
-    }
-
-    fn flush(&mut self) -> io::Result<()> {
-        Err(io::Error::from(ErrorKind::Other))
-    }
-}
-
 /// A device of std that answers by a list: how many bytes it moves, or an error where there is none.
 #[derive(Drop)]
 pub struct Listed<'a> {
@@ -155,65 +124,6 @@ impl Write for Listed<'_> {
     fn flush(&mut self) -> io::Result<()> {
         self.answer(0)?;
         Ok(())
-    }
-}
-
-/// A reader of std that gives the bytes of `left`, one at a time, and then its end or an error.
-#[derive(Drop)]
-pub struct ByteReader<'a> {
-    pub left: &'a [u8],
-    pub fails: bool,
-}
-
-impl Read for ByteReader<'_> {
-    fn read(&mut self, buf: &mut [u8]) -> io::Result<usize> {
-        let Some((first, rest)) = self.left.split_first() else {
-            return if self.fails {
-                Err(io::Error::from(ErrorKind::Other))
-            } else {
-                Ok(0)
-            };
-        };
-        let Some(place) = buf.first_mut() else {
-            return Ok(0);
-        };
-        *place = *first;
-        self.left = rest;
-        Ok(1)
-    }
-}
-
-/// A writer of std that takes `room` bytes, one at a time; then it returns an error, or that it takes none.
-#[derive(Drop)]
-pub struct ByteWriter {
-    pub taken: ArrayVec<u8, 16>,
-    pub room: usize,
-    pub takes_none: bool,
-    pub refuses_flush: bool,
-}
-
-impl Write for ByteWriter {
-    fn write(&mut self, buf: &[u8]) -> io::Result<usize> {
-        let Some(first) = buf.first() else {
-            return Ok(0);
-        };
-        if self.room > 0 && self.taken.try_push(*first).is_ok() {
-            self.room -= 1;
-            return Ok(1);
-        }
-        if self.takes_none {
-            Ok(0)
-        } else {
-            Err(io::Error::from(ErrorKind::Other))
-        }
-    }
-
-    fn flush(&mut self) -> io::Result<()> {
-        if self.refuses_flush {
-            Err(io::Error::from(ErrorKind::Other))
-        } else {
-            Ok(())
-        }
     }
 }
 
