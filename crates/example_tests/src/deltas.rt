@@ -1,30 +1,9 @@
 use crate::rows::{are_rows, opened};
-use examples::deltas::{audited_exchange, exchange, most_told};
+use examples::deltas::{audited_exchange, exchange};
 use examples::store::Store;
-use merkle_delta::{CatchingUp, Chunks, Next};
+use merkle_delta::{CatchingUp, Next};
 use std::alloc::Global;
 use std::test::Fail;
-
-/// How many bytes are in chunks, how many a reply has, and how many what it tells can have at most.
-const LENGTHS: [(usize, usize, u128); 4] = [(0, 0, 0), (0, 18, 18), (15, 2, 17), (700, 30, 730)];
-
-/// How many bytes a reply of this many can tell over the chunks of this many others.
-fn most_over(alloc: Global, own: usize, reply: usize) -> Result<u128, Fail> {
-    let bytes = [7; 700];
-    let chunks = Chunks::cut(alloc, Vec::from_slice(alloc, &bytes[..own.min(700)])?)?;
-    Ok(most_told(&chunks, &bytes[..reply.min(700)]))
-}
-
-#[test]
-fn a_reply_tells_the_chunks_and_itself_at_most(rt: HostRuntime) -> Result<(), Fail> {
-    for (own, reply, most) in &LENGTHS {
-        assert!(rt;
-            most_over(rt.alloc(), *own, *reply)? == *most,
-            "{own} {reply}"
-        );
-    }
-    Ok(())
-}
 
 /// Rows of numbers by name.
 type Rows = &'static [(&'static str, u64)];

@@ -3,15 +3,6 @@ use examples::gossip::ranges_to_ask;
 use std::test::Fail;
 
 #[test]
-fn equal_replicas_ask_for_nothing(rt: HostRuntime) -> Result<(), Fail> {
-    let alloc = rt.alloc();
-    let mut local = opened(alloc, &[("a", 1), ("c", 3)])?;
-    let mut peer = opened(alloc, &[("a", 1), ("c", 3)])?;
-    assert!(rt; ranges_to_ask(alloc, &mut local, &mut peer)?.is_empty());
-    Ok(())
-}
-
-#[test]
 fn replicas_that_differ_ask(rt: HostRuntime) -> Result<(), Fail> {
     let alloc = rt.alloc();
     let mut local = opened(alloc, &[("a", 1), ("c", 3)])?;

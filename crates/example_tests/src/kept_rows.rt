@@ -1,16 +1,13 @@
-//! Sides whose rows are on a shelf meet replicas.
+//! Sides that have trees alone, and whose rows are on a shelf, bring rows of one another.
 use examples::shelf::{Shelf, ShelfError};
 use merkle_digest::SipHasher;
-use merkle_replica::Replica;
 use merkle_search_tree::MerkleSearchTree;
 use merkle_search_tree::builder::Builder;
-use merkle_wire::{CatchingUp, KeptError, MOST_BYTES, Next, answer_by, answer_within};
+use merkle_wire::{CatchingUp, KeptError, MOST_BYTES, Next, answer_by};
 use std::alloc::Global;
 use std::test::Fail;
 
 type Tree = MerkleSearchTree<String, u64, SipHasher, 16>;
-
-type Numbers = Replica<String, u64, SipHasher, 16>;
 
 /// A row: its key is the text of a number.
 type Row = (String, u64);
@@ -40,14 +37,6 @@ fn tree_of(alloc: Global, rows: &[Row]) -> Result<Tree, Fail> {
         }
     }
     Ok(tree)
-}
-
-fn replica_of(alloc: Global, rows: &[Row]) -> Result<Numbers, Fail> {
-    let mut replica: Numbers = Replica::new(alloc, Builder::default());
-    for row in rows {
-        replica.put(row.0.clone()?, row.1)?;
-    }
-    Ok(replica)
 }
 
 fn shelf_of(alloc: Global, rows: &[Row]) -> Result<Shelf<String, u64>, Fail> {
@@ -117,48 +106,6 @@ fn values_that_are_far_are_told_by_digests(rt: HostRuntime) -> Result<(), Fail> 
     assert_eq!(rt; rows[0].0.as_str(), "001234");
     assert!(rt; bytes < 3000, "{bytes}");
     Ok(())
-}
-
-#[test]
-fn all_rows_come_from_a_shelf(rt: HostRuntime) -> Result<(), Fail> {
-    let alloc = rt.alloc();
-    let all = numbers(alloc, 500, 500)?;
-    let mut peer = tree_of(alloc, &all)?;
-    let shelf = shelf_of(alloc, &all)?;
-    let mut local = tree_of(alloc, &[])?;
-    let (rows, _) = brought(alloc, &mut local, 0, &mut peer, &shelf)?;
-    assert_eq!(rt; rows.len(), all.len());
-    Ok(())
-}
-
-#[test]
-fn a_shelf_says_what_a_replica_says(rt: HostRuntime) -> Result<(), Fail> {
-    let alloc = rt.alloc();
-    let all = numbers(alloc, 2000, 2000)?;
-    let mut tree = tree_of(alloc, &all)?;
-    let shelf = shelf_of(alloc, &all)?;
-    let mut replica = replica_of(alloc, &all)?;
-    let some = numbers(alloc, 2000, 77)?;
-    let mut local = replica_of(alloc, &some)?;
-    let (mut session, mut message) = CatchingUp::begin(alloc, &local)?;
-    for _ in 0..1000 {
-        let reply = answer_within(alloc, &mut replica, &message, MOST_BYTES)?;
-        match answer_by(alloc, &mut tree, &shelf, &message, MOST_BYTES) {
-            Ok(other) => assert_eq!(rt; other.as_slice(), reply.as_slice()),
-            Err(_) => return Err(Fail::new("no reply")),
-        }
-        match session.take(&mut local, &reply)? {
-            Next::Ask(next, question) => {
-                session = next;
-                message = question;
-            }
-            Next::Came(rows) => {
-                assert_eq!(rt; rows.len(), 1);
-                return Ok(());
-            }
-        }
-    }
-    Err(Fail::new("no end"))
 }
 
 #[test]

@@ -26,8 +26,6 @@ mod removable;
 #[cfg(test)]
 mod rows;
 #[cfg(test)]
-mod sessions;
-#[cfg(test)]
 mod set;
 #[cfg(test)]
 mod store;

@@ -41,11 +41,3 @@ fn five_replicas_come_to_the_join_of_all(rt: HostRuntime) -> Result<(), Fail> {
     }
     Ok(())
 }
-
-#[test]
-fn a_hub_alone_keeps_its_rows(rt: HostRuntime) -> Result<(), Fail> {
-    let mut hub = opened(rt.alloc(), ROWS[0])?;
-    assert!(rt; gossips(rt.alloc(), &mut hub, &mut []));
-    assert!(rt; are_rows(hub.rows(), ROWS[0]));
-    Ok(())
-}

@@ -3,7 +3,6 @@ use crate::rows::{numbers, text};
 use examples::history::replay_and_remove;
 use examples::order::{Tree, built_both_ways};
 use examples::undo::set_and_remove;
-use merkle_search_tree::LoadRefused;
 use merkle_search_tree::builder::Builder;
 use merkle_search_tree::updates::Update;
 use std::test::Fail;
@@ -29,15 +28,6 @@ fn rows_in_any_order_make_one_tree(rt: HostRuntime) -> Result<(), Fail> {
         assert!(rt; is_one_tree(&rt, &mut upserted)?);
         assert!(rt; is_one_tree(&rt, &mut loaded)?);
     }
-    Ok(())
-}
-
-#[test]
-fn two_rows_of_one_key_are_refused(rt: HostRuntime) -> Result<(), Fail> {
-    let alloc = rt.alloc();
-    let rows = numbers(alloc, &[("b", 2), ("a", 1), ("b", 2)])?;
-    let built = built_both_ways(alloc, rows);
-    assert!(rt; built.err() == Some(LoadRefused::NotAscending(2)));
     Ok(())
 }
 

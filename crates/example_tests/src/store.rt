@@ -1,6 +1,5 @@
 use crate::rows::{are_rows, numbers, text};
 use examples::store::open_and_put;
-use merkle_search_tree::LoadRefused;
 use std::test::Fail;
 
 #[test]
@@ -15,17 +14,4 @@ fn rows_and_one_more(rt: HostRuntime) -> Result<(), Fail> {
         "GMC1EXBD3uaR25WicgHHFQ=="
     );
     Ok(())
-}
-
-#[test]
-fn rows_that_do_not_ascend(rt: HostRuntime) -> Result<(), Fail> {
-    let alloc = rt.alloc();
-    let rows = numbers(alloc, &[("a", 1), ("c", 3), ("b", 2)])?;
-    match open_and_put(alloc, rows, text(alloc, "d")?, 4) {
-        Ok(_) => Err(Fail::from("loaded")),
-        Err(refused) => {
-            assert_eq!(rt; refused, LoadRefused::NotAscending(2));
-            Ok(())
-        }
-    }
 }

@@ -1,8 +1,6 @@
 use crate::rows::{are_rows, opened};
 use examples::store::Store;
-use examples::wire::{
-    WireFault, ask, join, pull_over_bytes, rows_to_come, send_page_ranges, send_rows,
-};
+use examples::wire::{WireFault, pull_over_bytes, rows_to_come, send_page_ranges};
 use std::alloc::Global;
 use std::test::Fail;
 
@@ -32,64 +30,6 @@ fn four_pulls_over_bytes_leave_both_with_the_greater_numbers(rt: HostRuntime) ->
     Ok(())
 }
 
-/// Lists of rows that are cut, too long, with a count in a longer spelling, not UTF-8, or not ascending.
-const MALFORMED: [&[u8]; 7] = [
-    b"",
-    b"\x81",
-    b"\x01",
-    b"\0\0",
-    b"\x80\0",
-    b"\x01\x01\xff\x07",
-    b"\x02\x01b\x07\x01a\x07",
-];
-
-#[test]
-fn bytes_that_are_no_rows_change_nothing(rt: HostRuntime) -> Result<(), Fail> {
-    let alloc = rt.alloc();
-    let mut store = opened(alloc, &[("a", 9)])?;
-    for bytes in MALFORMED {
-        assert!(rt; join(alloc, &mut store, bytes) == Err(WireFault::Malformed));
-        assert!(rt; are_rows(store.rows(), &[("a", 9)]));
-    }
-    Ok(())
-}
-
-/// A list of one range, from a to a.
-const ASKED: &[u8] = b"\x01\x01a\x01a";
-/// A list of one row, a with 9.
-const SENT: &[u8] = b"\x01\x01a\x09";
-/// A list of one row, a with 300, which takes two bytes.
-const SENT_MORE: &[u8] = b"\x01\x01a\xac\x02";
-/// A list of two ranges that don't ascend, from b to b and from a to a.
-const FALLING: &[u8] = b"\x02\x01b\x01b\x01a\x01a";
-
-/// A store with this number at a, and 7 at b.
-fn store_of(alloc: Global, number: u64) -> Result<Store<u64>, Fail> {
-    opened(alloc, &[("a", number), ("b", 7)])
-}
-
-#[test]
-fn ranges_are_answered_with_their_rows(rt: HostRuntime) -> Result<(), Fail> {
-    for (number, wanted) in [(9, SENT), (300, SENT_MORE)] {
-        let store = store_of(rt.alloc(), number)?;
-        assert!(rt;
-            send_rows(rt.alloc(), &store, ASKED)?.as_slice() == wanted,
-            "{number}"
-        );
-    }
-    Ok(())
-}
-
-#[test]
-fn bytes_that_are_no_ranges_are_malformed(rt: HostRuntime) -> Result<(), Fail> {
-    let store = store_of(rt.alloc(), 9)?;
-    for bytes in MALFORMED {
-        assert!(rt; send_rows(rt.alloc(), &store, bytes).err() == Some(WireFault::Malformed));
-    }
-    assert!(rt; send_rows(rt.alloc(), &store, FALLING).err() == Some(WireFault::Malformed));
-    Ok(())
-}
-
 /// What a list of one page range from a to b begins with: all but its digest, of 16 bytes.
 const BOUNDS: &[u8] = b"\x01\x01a\x01b\x10";
 
@@ -103,20 +43,6 @@ fn a_page_range_is_its_bounds_and_its_digest(rt: HostRuntime) -> Result<(), Fail
     };
     // The tree has one page, so its digest is the root hash.
     assert_eq!(rt; digest, store.root_hash().as_bytes().as_slice());
-    Ok(())
-}
-
-/// A list of one page range, from b back to a.
-const BACKWARD: &[u8] = b"\x01\x01b\x01a\x10................";
-
-#[test]
-fn bytes_that_are_no_page_ranges_are_malformed(rt: HostRuntime) -> Result<(), Fail> {
-    let alloc = rt.alloc();
-    let mut store = opened(alloc, &[("a", 9)])?;
-    for bytes in MALFORMED {
-        assert!(rt; ask(alloc, &mut store, bytes).err() == Some(WireFault::Malformed));
-    }
-    assert!(rt; ask(alloc, &mut store, BACKWARD).err() == Some(WireFault::Malformed));
     Ok(())
 }
 
