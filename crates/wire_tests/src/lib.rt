@@ -2,6 +2,8 @@
 #![tactic(auto)]
 
 #[cfg(test)]
+mod endless_rounds;
+#[cfg(test)]
 mod first_calls;
 #[cfg(test)]
 mod formats;

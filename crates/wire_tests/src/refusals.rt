@@ -57,7 +57,7 @@ fn after(alloc: Global, local: &mut Bytes, replies: &[&str]) -> Result<Found, Fa
 }
 
 /// A first reply: a peer with 5 rows, the digest of whose root page is made of 7s. The outline over the gap of all keys is asked for then.
-const ROOT: &str = "0181 05 01 07070707070707070707070707070707";
+pub const ROOT: &str = "0181 05 01 07070707070707070707070707070707";
 
 /// A first reply by which all rows are asked for: a peer with 16 rows.
 const MANY: &str = "0181 10 01 07070707070707070707070707070707";
@@ -73,7 +73,7 @@ const BELOW: &str =
 const DIGEST: &str = "0183 01 01 02 0108 05050505050505050505050505050505";
 
 /// Nodes that are none.
-const NONE: &str = "0183 00 00";
+pub const NONE: &str = "0183 00 00";
 
 /// Whether a session refuses the last of these replies in hex for bytes that should have stood after this many others.
 fn is_malformed(
