@@ -1,6 +1,6 @@
 """Hostile input to the program `mst`: messages of syncs, CSV, lines of the shell and files of stores, each broken in many ways.
 
-A run must end with status 0, or with 1 and one line that says why. What is refused leaves the log as it was; what is taken adds to it
+A run must end with status 0, or with 1 to 9 and one line that says why. What is refused leaves the log as it was; what is taken adds to it
 and loses none of its entries; a file that is no store any more is left byte by byte.
 
 Of the inputs but those of files the least that is answered by each line of standard error may be kept, in store_corpus.txt. What is broken
@@ -144,7 +144,7 @@ class Driver:
         status, _, said = self.run(words)
         with open(self.tried, "rb") as file:
             left = file.read()
-        if status not in (0, 1) or status == 1 and (said.count(b"\n") != 1 or left != given):
+        if status not in range(10) or status and (said.count(b"\n") != 1 or left != given):
             return len(given), f"{words}: status {status}, {said}, and the file is {'as it was' if left == given else 'another'}"
         return len(given), None
 
@@ -182,7 +182,7 @@ class Driver:
         after = self.entries_of(self.tried)
         keeps = after is not None and not set(self.entries) - set(after)
         may_add = kind == "lines" or status == 0 and kind in ("replies", "rows", "log")
-        if status not in (0, 1) or not keeps or after != self.entries and not may_add or status == 1 and kind != "lines" and said.count(b"\n") != 1:
+        if status not in range(10) or not keeps or after != self.entries and not may_add or status and kind != "lines" and said.count(b"\n") != 1:
             return len(given), f"{words}: status {status}, {said[-300:]}, {'no entry is lost' if keeps else 'entries are lost'}; input {given[:2000].hex()}"
         return len(given), None
 

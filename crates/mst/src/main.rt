@@ -1,7 +1,6 @@
 //! A key-value store in one SQLite file, kept in step with its copies over any pair of pipes.
 //!
-//! It ends with status 0; with 1, and a line on standard error, where a key is not there or a command failed; with 2, and a line
-//! there, where the command line is none; and with 3, and a line there, where another process has the file.
+//! It ends with status 0, or with another one and a line on standard error that says why (`status`).
 #![tactic(auto)]
 
 mod fault;
@@ -9,13 +8,14 @@ mod files;
 mod look;
 mod peers;
 mod shell;
+mod status;
 mod tasks;
 
 use fault::Failure;
-use mst_commands::Fault;
 use mst_commands::escape::escape;
 use mst_words::verb::{HELP, VERSION, form_of};
 use mst_words::{Asked, Wrong, read_words};
+use status::{USAGE, status_of};
 use std::alloc::AllocError;
 use std::env;
 use std::io::ErrorKind;
@@ -24,21 +24,13 @@ use std::process::ExitCode;
 /// Says that the command line is none.
 fn refused(rt: &HostRuntime, wrong: &Wrong<'_>) -> ExitCode {
     let _ = eprintln!(rt; "mst: {wrong}: see mst --help");
-    ExitCode::from(2)
-}
-
-/// The status with which the program ends early.
-fn status_of(failure: &Failure) -> ExitCode {
-    match failure {
-        Failure::Command(Fault::InUse) => ExitCode::from(3),
-        _ => ExitCode::FAILURE,
-    }
+    ExitCode::from(USAGE)
 }
 
 /// Says why the program ends early.
 fn failed(rt: &HostRuntime, failure: &Failure) -> ExitCode {
     let _ = eprintln!(rt; "mst: {failure}");
-    status_of(failure)
+    ExitCode::from(status_of(failure))
 }
 
 /// Says why a command on a file ends early. The name of the file stands in one line, as a key does in a list.
@@ -47,7 +39,7 @@ fn failed_on(rt: &HostRuntime, file: &str, failure: &Failure) -> ExitCode {
         return failed(rt, failure);
     };
     let _ = eprintln!(rt; "mst: {name}: {failure}");
-    status_of(failure)
+    ExitCode::from(status_of(failure))
 }
 
 /// Prints a text.

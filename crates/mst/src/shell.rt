@@ -28,7 +28,7 @@ fn refusal_of(verb: Verb, given: &Given<'_>) -> Option<&'static str> {
     if given.is_input {
         return Some("put can't read standard input in the shell");
     }
-    if given.wait > 0 {
+    if given.wait.is_some() {
         return Some("the shell has the file already, so --wait has no effect");
     }
     match verb {

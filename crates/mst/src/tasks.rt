@@ -155,6 +155,9 @@ fn print_size(rt: &HostRuntime, path: &str) -> Result<(), Failure> {
     Ok(())
 }
 
+/// How many seconds a command waits for a file that another process has, unless it says otherwise.
+const PATIENCE: u64 = 5;
+
 /// Runs a command on a file, which is opened once standard input was read to its end where the command takes something from there.
 pub fn run(rt: &HostRuntime, verb: Verb, path: &str, given: &Given<'_>) -> Result<(), Failure> {
     if verb == Verb::Init {
@@ -163,7 +166,8 @@ pub fn run(rt: &HostRuntime, verb: Verb, path: &str, given: &Given<'_>) -> Resul
     // (a file that isn't there is told before anything is typed)
     expect_file(rt, path)?;
     let input = read_input(rt, verb, given)?;
-    run_on(rt, open_file(rt, path, given.wait)?, verb, given, input)?;
+    let seconds = given.wait.unwrap_or(PATIENCE);
+    run_on(rt, open_file(rt, path, seconds)?, verb, given, input)?;
     if verb == Verb::Status {
         print_size(rt, path)?;
     }

@@ -37,7 +37,7 @@ Sets From word said result = result ≡ Ok (record said { from = Some word })
 Sets To word said result = result ≡ Ok (record said { to = Some word })
 Sets Prefix word said result = result ≡ Ok (record said { prefix = Some word })
 Sets Limit word said result = Reads IsNumber word (λ number. record said { limit = Some number }) (NoNumber word) result
-Sets Wait word said result = Reads IsNumber word (λ number. record said { wait = number }) (NoNumber word) result
+Sets Wait word said result = Reads IsNumber word (λ number. record said { wait = Some number }) (NoNumber word) result
 Sets Forget word said result = Reads IsSpan word (λ span. record said { forget = Some span }) (NoSpan word) result
 Sets ForHashKey word said result = Reads IsHashKey word (λ key. record said { hash_key = Some key }) (NoHashKey word) result
 Sets Json word said result = result ≡ Ok (record said { json = true })

@@ -31,7 +31,7 @@ pub record Said : Type 0 where
   pub log : Bool
   pub forget : Option ℕ
   pub ahead : Bool
-  pub wait : ℕ
+  pub wait : Option ℕ
 
 -- what no words give
 abbrev pub nothing_said : Said
@@ -49,7 +49,7 @@ nothing_said = record {
   log = false;
   forget = None;
   ahead = false;
-  wait = 0;
+  wait = None;
 }
 
 -- how far the words of a command have been read: what they give, the file, how many stood at places after it, the setting whose value is to

@@ -32,8 +32,8 @@ pub struct Given<'a> {
     pub forget: Option<u64>,
     /// Whether entries of another copy may be more than a day ahead of the clock.
     pub ahead: bool,
-    /// How many seconds the command waits for a file that another process has.
-    pub wait: u64,
+    /// How many seconds the command waits for a file that another process has, if it says so.
+    pub wait: Option<u64>,
 }
 
 /// What a command line asks for.
@@ -81,7 +81,7 @@ fn nothing<'a>(file: Option<&'a str>) -> Taken<'a>
             log: false,
             forget: None,
             ahead: false,
-            wait: 0,
+            wait: None,
         },
         file,
         places: 0,
@@ -149,7 +149,7 @@ fn with_value<'a>(given: Given<'a>, setting: Setting, word: &'a str) -> Result<G
         Setting::To => given.to = Some(word),
         Setting::Prefix => given.prefix = Some(word),
         Setting::Limit => given.limit = Some(number_of(word)?),
-        Setting::Wait => given.wait = number_of(word)?,
+        Setting::Wait => given.wait = Some(number_of(word)?),
         Setting::Forget => match milliseconds_of(word) {
             Some(span) => given.forget = Some(span),
             None => return Err(Wrong::NoSpan(word)),

@@ -315,9 +315,11 @@ usage: mst COMMAND FILE [WORDS]
   diff FILE              prints the keys that a pull would bring
 
 mst help COMMAND describes a command. Words after -- are never options. mst --version prints the version.
-Each command except init takes --wait SECONDS: while another process has the file, it tries again for that long.
-The status is 0 if all went well; 1, with a line on standard error, if something failed or a key is missing; 2 for a wrong
-command line; 3 if another process has the file.
+Each command except init takes --wait SECONDS: while another process has the file, it tries again for that long, 5 seconds
+by default and not at all for 0.
+The status is 0 if all went well, and otherwise a line on standard error says why: 1 the key isn't there, 2 the command line
+is wrong, 3 another process has the file, 4 the file is damaged, 5 it isn't a store that this version reads, 6 the disk or
+the file is full, 7 the peer failed, 8 an entry is more than a day ahead of the clock, 9 anything else.
 ";
 
 /// The name and the version of the program.
