@@ -1,11 +1,9 @@
 //! Cuts, by answers that were worked out by hand, and on long lists.
-ghost use Rattle.std.specs.Prelude.{◌≤◌};
-
-use crate::texts::{Bounds, bounds_of, ranges};
+use crate::range_lists::{inserted, listed};
+use crate::texts::{Bounds, are, ranges};
 use merkle_diff::DiffRange;
-use merkle_diff::parts::{DiffListBuilder, RangeList, reduce_sync_range};
+use merkle_diff::parts::{DiffListBuilder, reduce_sync_range};
 use std::alloc::{AllocError, Global};
-use std::process::Abort;
 use std::test::Fail;
 
 /// A line for each: the bad ranges, the good ones, and what is left.
@@ -30,48 +28,44 @@ const CUTS: &str = "\
 | 1-9 |
 ";
 
-/// How many ranges a long list has.
-const MANY: u64 = 100_000;
-
 /// The good ranges, cut out of the merge of the bad ones.
 fn cut<'a>(
     alloc: Global,
     bad: &'a [Bounds],
     good: &'a [Bounds],
 ) -> Result<Vec<DiffRange<'a, u64>>, AllocError> {
-    let mut merged = RangeList::new(alloc);
-    for range in bad {
-        if range.0 <= range.1 {
-            merged.insert(&range.0, &range.1)?;
-        }
-    }
-    let mut cuts = Vec::new(alloc);
-    for range in good {
-        if range.0 <= range.1 {
-            cuts.push(DiffRange::new(&range.0, &range.1))?;
-        }
-    }
-    reduce_sync_range(alloc, merged.into_vec()?, cuts)
+    let merged = inserted(alloc, bad)?.into_vec()?;
+    reduce_sync_range(alloc, merged, listed(alloc, good)?)
 }
 
-/// What a builder with these marks answers.
-fn built<'a>(
+/// Marks these ranges consistent, or inconsistent.
+fn mark<'a>(
+    builder: &mut DiffListBuilder<'a, u64>,
+    ranges: &'a [Bounds],
+    are_good: bool,
+) -> Result<(), AllocError> {
+    for range in ranges {
+        if range.0 <= range.1 {
+            if are_good {
+                builder.consistent(&range.0, &range.1)?;
+            } else {
+                builder.inconsistent(&range.0, &range.1)?;
+            }
+        }
+    }
+    Ok(())
+}
+
+/// A builder with these marks.
+fn marked<'a>(
     alloc: Global,
     bad: &'a [Bounds],
     good: &'a [Bounds],
-) -> Result<Vec<DiffRange<'a, u64>>, AllocError> {
+) -> Result<DiffListBuilder<'a, u64>, AllocError> {
     let mut builder = DiffListBuilder::new(alloc);
-    for range in bad {
-        if range.0 <= range.1 {
-            builder.inconsistent(&range.0, &range.1)?;
-        }
-    }
-    for range in good {
-        if range.0 <= range.1 {
-            builder.consistent(&range.0, &range.1)?;
-        }
-    }
-    builder.into_diff_vec()
+    mark(&mut builder, bad, false)?;
+    mark(&mut builder, good, true)?;
+    Ok(builder)
 }
 
 /// Whether these ranges are left, in the merge of the bad ones and by a builder.
@@ -81,17 +75,17 @@ fn leaves(
     good: &[Bounds],
     left: &[Bounds],
 ) -> Result<bool, AllocError> {
-    let found = bounds_of(alloc, &cut(alloc, bad, good)?)?;
-    let made = bounds_of(alloc, &built(alloc, bad, good)?)?;
-    Ok(found.as_slice() == left && made.as_slice() == left)
+    let found = cut(alloc, bad, good)?;
+    let made = marked(alloc, bad, good)?.into_diff_vec()?;
+    Ok(are(&found, left) && are(&made, left))
 }
 
 /// Whether it is so with the ranges of a line.
-fn is_cut(alloc: Global, line: &str) -> Result<bool, Fail> {
-    let (bad, rest) = line.split_once('|').ok_or("no good ranges")?;
-    let (good, left) = rest.split_once('|').ok_or("nothing left")?;
+fn is_cut(alloc: Global, line: &str) -> Result<bool, AllocError> {
+    let (bad, rest) = line.split_once('|').ok_or(AllocError)?;
+    let (good, left) = rest.split_once('|').ok_or(AllocError)?;
     let (bad, good) = (ranges(alloc, bad)?, ranges(alloc, good)?);
-    Ok(leaves(alloc, &bad, &good, &ranges(alloc, left)?)?)
+    leaves(alloc, &bad, &good, &ranges(alloc, left)?)
 }
 
 #[test]
@@ -102,74 +96,38 @@ fn cuts_as_worked_out(rt: HostRuntime) -> Result<(), Fail> {
     Ok(())
 }
 
-/// The ranges from `start + 4 * i` on, `length` long, the last first.
-fn spaced(alloc: Global, start: u64, length: u64) -> Result<Vec<Bounds>, AllocError>
-    requires start { start ≤ 4 }
-    requires length { length ≤ 4 }
-{
+/// The 100,000 ranges from `start + 4 * i` on, `length` long.
+fn spaced(alloc: Global, start: u64, length: u64) -> Result<Vec<Bounds>, AllocError> {
     let mut ranges = Vec::new(alloc);
-    for i in 0..MANY {
-        let first = start + 4 * (MANY - 1 - i);
-        ranges.push((first, first + length))?;
+    for i in 0..100_000u64 {
+        let first = start.wrapping_add(4 * i);
+        ranges.push((first, first.wrapping_add(length)))?;
     }
     Ok(ranges)
 }
 
-/// Whether the ranges are those from `start + 4 * i` on, `length` long, ascending.
-fn check_spaced(rt: &impl Abort, found: &[DiffRange<'_, u64>], start: u64, length: u64)
-    requires start { start ≤ 4 }
-    requires length { length ≤ 4 }
-{
-    assert!(rt; found.len() == MANY as usize);
-    for i in 0..MANY {
-        let first = start + 4 * i;
-        let range = &found[i as usize];
-        assert!(rt; (*range.start(), *range.end()) == (first, first + length));
-    }
-}
-
 #[test]
-fn cuts_long_lists(rt: HostRuntime) -> Result<(), Fail> {
-    let whole = vec![in rt.alloc(); (0, 4 * MANY)]?;
+fn cuts_long_lists(rt: HostRuntime) -> Result<(), AllocError> {
     let good = spaced(rt.alloc(), 0, 2)?;
     let bad = spaced(rt.alloc(), 1, 2)?;
-    check_spaced(&rt, &cut(rt.alloc(), &whole, &good)?, 2, 2);
-    check_spaced(&rt, &built(rt.alloc(), &whole, &good)?, 2, 2);
-    check_spaced(&rt, &cut(rt.alloc(), &bad, &good)?, 2, 1);
-    check_spaced(&rt, &built(rt.alloc(), &bad, &good)?, 2, 1);
-    assert!(rt; bounds_of(rt.alloc(), &cut(rt.alloc(), &bad, &whole)?)?.len() == 0);
+    let left = spaced(rt.alloc(), 2, 1)?;
+    assert!(rt; leaves(rt.alloc(), &bad, &good, &left)?);
     Ok(())
 }
 
-/// Bad ranges, good ones, and what is left.
-const REFUSED: [(&[Bounds], &[Bounds], &[Bounds]); 6] = [
-    (&[(4, 10)], &[(5, 8)], &[(4, 5), (8, 10)]),
-    (&[(4, 10)], &[(4, 6), (6, 10)], &[]),
-    (&[(4, 10)], &[(4, 6), (6, 8)], &[(8, 10)]),
-    (&[(2, 15)], &[(2, 2), (5, 5), (15, 15)], &[(2, 15)]),
-    (
-        &[(4, 10), (20, 30)],
-        &[(5, 8), (20, 22)],
-        &[(4, 5), (8, 10), (22, 30)],
-    ),
-    (&[(0, 0), (4, 4), (1, 4)], &[(2, 42)], &[(0, 0), (1, 2)]),
-];
-
-/// Asserts that a cut is these ranges, or out of memory.
-fn expect(rt: &impl Abort, found: Result<Vec<DiffRange<'_, u64>>, AllocError>, left: &[Bounds]) {
-    if let Ok(found) = found {
-        assert!(rt; found.len() == left.len());
-        for (range, want) in found.iter().zip(left) {
-            assert!(rt; (*range.start(), *range.end()) == *want);
-        }
+// Under `tests/refusals` each request for memory is refused in turn: the cut is right, or it is want of memory.
+#[test]
+fn cuts_or_wants_memory(rt: HostRuntime) {
+    for line in CUTS.lines() {
+        assert!(rt; is_cut(rt.alloc(), line) != Ok(false));
     }
 }
 
-// Under `rt try --test --fail-alloc N` the Nth request for memory is refused: the cut is right, or it is want of memory.
+// A builder with one kind of marks takes no memory for its list.
 #[test]
-fn cuts_or_wants_memory(rt: HostRuntime) {
-    for case in &REFUSED {
-        expect(&rt, cut(rt.alloc(), case.0, case.1), case.2);
-        expect(&rt, built(rt.alloc(), case.0, case.1), case.2);
+fn one_kind_of_marks_or_wants_memory(rt: HostRuntime) -> Result<(), AllocError> {
+    if let Ok(builder) = marked(rt.alloc(), &[(4, 10), (0, 2)], &[]) {
+        assert!(rt; are(&builder.into_diff_vec()?, &[(0, 2), (4, 10)]));
     }
+    Ok(())
 }

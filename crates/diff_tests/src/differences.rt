@@ -1,7 +1,7 @@
 //! `diff`, by answers that were worked out by hand and by those of the Rust crate.
 use crate::rust_answers::RUST_ANSWERS;
-use crate::texts::{Bounds, Entry, bounds_of, difference, entries, page_ranges, ranges};
-use merkle_diff::{DiffRange, PageRange, diff, diff_lists, diff_slices};
+use crate::texts::{Bounds, Entry, are, entries, page_ranges, ranges};
+use merkle_diff::{PageRange, PageRangeSnapshot, diff, diff_slices, diff_snapshots};
 use merkle_digest::PageDigest;
 use std::alloc::{AllocError, Global};
 use std::process::Abort;
@@ -31,43 +31,61 @@ const WORKED_ANSWERS: &str = "\
 2-9:1 | 1-8:1 | 1-2
 ";
 
-/// What `diff_lists` answers.
-fn listed(alloc: Global, local: &[Entry], peer: &[Entry]) -> Result<Vec<Bounds>, AllocError> {
-    let found = diff_lists(alloc, page_ranges(alloc, local)?, page_ranges(alloc, peer)?)?;
-    bounds_of(alloc, &found)
+/// Whether `diff` answers these ranges.
+fn is_difference(
+    alloc: Global,
+    local: Vec<PageRange<'_, u64>>,
+    peer: Vec<PageRange<'_, u64>>,
+    answer: &[Bounds],
+) -> Result<bool, AllocError> {
+    Ok(are(&diff(alloc, local, peer)?, answer))
 }
 
-/// What `diff_slices` answers.
-fn sliced(alloc: Global, local: &[Entry], peer: &[Entry]) -> Result<Vec<Bounds>, AllocError> {
-    let local = page_ranges(alloc, local)?;
-    let peer = page_ranges(alloc, peer)?;
-    let found = diff_slices(alloc, &local, &peer)?;
-    bounds_of(alloc, &found)
-}
-
-/// Whether the three calls answer these ranges.
-fn answer_so(
+/// Whether it does so of page ranges with these entries.
+fn differ(
     alloc: Global,
     local: &[Entry],
     peer: &[Entry],
     answer: &[Bounds],
 ) -> Result<bool, AllocError> {
-    Ok(
-        difference(alloc, local, peer)?.as_slice() == answer
-            && listed(alloc, local, peer)?.as_slice() == answer
-            && sliced(alloc, local, peer)?.as_slice() == answer,
-    )
+    let local = page_ranges(alloc, local)?;
+    is_difference(alloc, local, page_ranges(alloc, peer)?, answer)
 }
 
-/// Whether they answer as a line says.
-fn is_answered(alloc: Global, line: &str) -> Result<bool, Fail> {
-    let (local, rest) = line.split_once('|').ok_or("no peer")?;
-    let (peer, answer) = rest.split_once('|').ok_or("no answer")?;
+/// A snapshot of page ranges with these entries.
+fn snapshot(alloc: Global, entries: &[Entry]) -> Result<PageRangeSnapshot<u64>, AllocError> {
+    PageRangeSnapshot::from_ranges(alloc, page_ranges(alloc, entries)?)
+}
+
+/// Whether `diff_snapshots` answers these ranges.
+fn snapshots_differ(
+    alloc: Global,
+    local: &[Entry],
+    peer: &[Entry],
+    answer: &[Bounds],
+) -> Result<bool, AllocError> {
+    let local = snapshot(alloc, local)?;
+    let peer = snapshot(alloc, peer)?;
+    Ok(are(&diff_snapshots(alloc, &local, &peer)?, answer))
+}
+
+/// Whether both answer as a line says.
+fn is_answered(alloc: Global, line: &str) -> Result<bool, AllocError> {
+    let (local, rest) = line.split_once('|').ok_or(AllocError)?;
+    let (peer, answer) = rest.split_once('|').ok_or(AllocError)?;
     let (local, peer) = (entries(alloc, local)?, entries(alloc, peer)?);
-    Ok(answer_so(alloc, &local, &peer, &ranges(alloc, answer)?)?)
+    let answer = ranges(alloc, answer)?;
+    Ok(differ(alloc, &local, &peer, &answer)? && snapshots_differ(alloc, &local, &peer, &answer)?)
 }
 
-fn answers_as_told(rt: &impl Abort, alloc: Global, text: &str) -> Result<(), Fail> {
+/// Asserts that both answer as the lines of a text say, and that it has that many lines.
+fn answers_as_told(
+    rt: &impl Abort,
+    alloc: Global,
+    text: &str,
+    count: usize,
+) -> Result<(), AllocError> {
+    assert!(rt; text.lines().count() == count);
     for line in text.lines() {
         assert!(rt; is_answered(alloc, line)?, "at {line}");
     }
@@ -75,55 +93,34 @@ fn answers_as_told(rt: &impl Abort, alloc: Global, text: &str) -> Result<(), Fai
 }
 
 #[test]
-fn answers_as_worked_out(rt: HostRuntime) -> Result<(), Fail> {
-    assert!(rt; WORKED_ANSWERS.lines().count() == 20);
-    answers_as_told(&rt, rt.alloc(), WORKED_ANSWERS)
+fn answers_as_worked_out(rt: HostRuntime) -> Result<(), AllocError> {
+    answers_as_told(&rt, rt.alloc(), WORKED_ANSWERS, 20)
 }
 
 #[test]
-fn answers_as_the_rust_crate(rt: HostRuntime) -> Result<(), Fail> {
-    assert!(rt; RUST_ANSWERS.lines().count() == 120);
-    answers_as_told(&rt, rt.alloc(), RUST_ANSWERS)
+fn answers_as_the_rust_crate(rt: HostRuntime) -> Result<(), AllocError> {
+    answers_as_told(&rt, rt.alloc(), RUST_ANSWERS, 120)
 }
 
-/// The page ranges from `i` to `200000 - i` for `i` from 0 to 99,999, all with this digest.
-fn nested(alloc: Global, digest: u8) -> Result<Vec<Entry>, AllocError> {
-    let mut entries = Vec::with_capacity(alloc, 100_000)?;
+/// The page ranges from `step * i` to `200000 - step * i` for `i` from 0 to 99,999, all with this digest: nested with a step of 1, and
+/// equal with 0.
+fn nested(alloc: Global, step: u64, digest: u8) -> Result<Vec<Entry>, AllocError> {
+    let mut entries = Vec::new(alloc);
     for i in 0..100_000u64 {
-        entries.push((i, 200_000 - i, digest))?;
+        let start = step.wrapping_mul(i);
+        entries.push((start, 200_000u64.wrapping_sub(start), digest))?;
     }
     Ok(entries)
 }
 
 #[test]
-fn answers_on_100_000_nested_ranges(rt: HostRuntime) -> Result<(), Fail> {
-    let peer = nested(rt.alloc(), 1)?;
-    let other = difference(rt.alloc(), &nested(rt.alloc(), 2)?, &peer)?;
-    assert!(rt; other.as_slice() == [(0, 200_000)].as_slice());
-    assert!(rt; difference(rt.alloc(), &peer, &peer)?.is_empty());
-    Ok(())
-}
-
-/// As many times the page range from 0 to 9, with this digest.
-fn equal(alloc: Global, digest: u8, count: usize) -> Result<Vec<Entry>, AllocError> {
-    let mut entries = Vec::with_capacity(alloc, count)?;
-    for _ in 0..count {
-        entries.push((0, 9, digest))?;
+fn answers_on_100_000_nested_ranges(rt: HostRuntime) -> Result<(), AllocError> {
+    for step in [0, 1] {
+        let local = nested(rt.alloc(), step, 2)?;
+        let peer = nested(rt.alloc(), step, 1)?;
+        assert!(rt; differ(rt.alloc(), &local, &peer, &[(0, 200_000)])?);
+        assert!(rt; differ(rt.alloc(), &peer, &peer, &[])?);
     }
-    Ok(entries)
-}
-
-/// Whether so many equal ranges differ from 100,000 others of the same bounds in these.
-fn differ_once(alloc: Global, count: usize) -> Result<bool, AllocError> {
-    let peer = equal(alloc, 1, 100_000)?;
-    let found = difference(alloc, &equal(alloc, 2, count)?, &peer)?;
-    Ok(found.as_slice() == [(0, 9)].as_slice())
-}
-
-#[test]
-fn answers_on_100_000_equal_ranges(rt: HostRuntime) -> Result<(), Fail> {
-    assert!(rt; differ_once(rt.alloc(), 1)?);
-    assert!(rt; differ_once(rt.alloc(), 100_000)?);
     Ok(())
 }
 
@@ -151,73 +148,35 @@ const REFUSED: [(&[Entry], &[Entry], &[Bounds]); 4] = [
     ),
 ];
 
-/// How many calls of `diff` answered, and how many wanted memory.
-#[derive(Clone, Copy)]
-struct Seen {
-    answers: u8,
-    wants: u8,
-}
-
-impl Seen {
-    /// Asserts that the ranges to ask for are these, or out of memory, and counts which of both.
-    fn expect(
-        &mut self,
-        rt: &impl Abort,
-        found: Result<Vec<DiffRange<'_, u64>>, AllocError>,
-        answer: &[Bounds],
-    ) {
-        match found {
-            Err(_) => self.wants = self.wants.saturating_add(1),
-            Ok(found) => {
-                self.answers = self.answers.saturating_add(1);
-                assert!(rt; found.len() == answer.len());
-                for (range, wanted) in found.iter().zip(answer) {
-                    assert!(rt; (*range.start(), *range.end()) == *wanted);
-                }
-            }
-        }
-    }
+/// Of a case, whether `diff` answers rightly, or wants memory; none where memory doesn't reach for the lists.
+fn judged(
+    alloc: Global,
+    local: &[Entry],
+    peer: &[Entry],
+    answer: &[Bounds],
+) -> Option<Result<bool, AllocError>> {
+    let local = page_ranges(alloc, local).ok()?;
+    let peer = page_ranges(alloc, peer).ok()?;
+    Some(is_difference(alloc, local, peer, answer))
 }
 
 // Under `tests/refusals` each request for memory is refused in turn: the answer is right, or it is want of memory. Over all runs it
 // has to see each of both.
 #[test]
 fn answers_or_wants_memory(rt: HostRuntime) {
-    let alloc = rt.alloc();
-    let mut seen = Seen {
-        answers: 0,
-        wants: 0,
-    };
+    let mut answers = 0u8;
+    let mut wants = 0u8;
     for (local, peer, answer) in REFUSED {
-        if let (Ok(local), Ok(peer)) = (page_ranges(alloc, local), page_ranges(alloc, peer)) {
-            seen.expect(&rt, diff(alloc, local, peer), answer);
-        }
-    }
-    let _ = println!(rt;
-        "answers: {}, wants of memory: {}",
-        seen.answers, seen.wants
-    );
-}
-
-// So it is on many ranges.
-#[test]
-fn answers_on_nested_ranges_or_wants_memory(rt: HostRuntime) {
-    let alloc = rt.alloc();
-    let mut seen = Seen {
-        answers: 0,
-        wants: 0,
-    };
-    if let (Ok(local), Ok(peer)) = (nested(alloc, 2), nested(alloc, 1)) {
-        for (local, answer) in [(&local, [(0, 200_000)].as_slice()), (&peer, &[])] {
-            if let (Ok(local), Ok(peer)) = (page_ranges(alloc, local), page_ranges(alloc, &peer)) {
-                seen.expect(&rt, diff(alloc, local, peer), answer);
+        match judged(rt.alloc(), local, peer, answer) {
+            Some(Ok(is_right)) => {
+                assert!(rt; is_right);
+                answers = answers.saturating_add(1);
             }
+            Some(Err(_)) => wants = wants.saturating_add(1),
+            None => {}
         }
     }
-    let _ = println!(rt;
-        "answers: {}, wants of memory: {}",
-        seen.answers, seen.wants
-    );
+    let _ = println!(rt; "answers: {answers}, wants of memory: {wants}");
 }
 
 fn page<'a>(start: &'a u64, end: &'a u64) -> Option<PageRange<'a, u64>> {

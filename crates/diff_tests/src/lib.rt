@@ -1,4 +1,4 @@
-//! Tests of page ranges, snapshots, lists of ranges and `diff`, by lists worked out by hand and answers of the Rust crate.
+//! Tests of snapshots, lists of ranges and `diff`, by lists worked out by hand and answers of the Rust crate.
 #![tactic(auto)]
 
 #[cfg(test)]
@@ -6,15 +6,11 @@ mod cuts;
 #[cfg(test)]
 mod differences;
 #[cfg(test)]
-mod page_ranges;
-#[cfg(test)]
 mod range_lists;
 #[cfg(test)]
 mod rust_answers;
 #[cfg(test)]
 mod shown;
-#[cfg(test)]
-mod snapshots;
 #[cfg(test)]
 mod text_keys;
 #[cfg(test)]

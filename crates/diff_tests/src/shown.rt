@@ -58,13 +58,19 @@ fn ranges_that_meet_become_one(rt: HostRuntime) -> Result<(), Fail> {
 }
 
 #[test]
-fn lists_at_hand(rt: HostRuntime) -> Result<(), Fail> {
+fn slices_at_hand(rt: HostRuntime) -> Result<(), Fail> {
     let alloc = rt.alloc();
     let local = [PageRange::new(&1, &4, digest(1))];
     let peer = [PageRange::new(&1, &5, digest(2))];
     let found = diff_slices(alloc, &local, &peer)?;
     assert_eq!(rt; found.len(), 1);
     assert_eq!(rt; (*found[0].start(), *found[0].end()), (1, 5));
+    Ok(())
+}
+
+#[test]
+fn vectors_at_hand(rt: HostRuntime) -> Result<(), Fail> {
+    let alloc = rt.alloc();
     let mut theirs = Vec::new(alloc);
     theirs.push(PageRange::new(&1, &5, digest(2)))?;
     let found = diff_lists(alloc, Vec::new(alloc), theirs)?;

@@ -1,15 +1,17 @@
-//! Page ranges whose keys are texts, so that each clone of a key takes memory.
+//! Snapshots whose keys are texts, so that each clone of a key takes memory: by each call that makes one.
 
-use merkle_diff::{OwnedPageRange, PageRange, PageRangeSnapshot};
+use merkle_diff::{OwnedPageRange, PageRangeSnapshot};
 use merkle_digest::PageDigest;
 use std::alloc::{AllocError, Global};
-use std::test::Fail;
 
 /// The ranges that the tests are on: start, end, and the number that each byte of the digest is.
 const RANGES: [(&str, &str, u8); 3] = [("ant", "bee", 1), ("cat", "cat", 2), ("dog", "owl", 3)];
 
+/// A snapshot of texts.
+type Snapshot = PageRangeSnapshot<String>;
+
 /// A snapshot of the ranges.
-fn snapshot(alloc: Global) -> Result<PageRangeSnapshot<String>, AllocError> {
+fn snapshot(alloc: Global) -> Result<Snapshot, AllocError> {
     let mut ranges = Vec::new(alloc);
     for (start, end, number) in RANGES {
         let start = String::from_str(alloc, start)?;
@@ -21,97 +23,55 @@ fn snapshot(alloc: Global) -> Result<PageRangeSnapshot<String>, AllocError> {
     PageRangeSnapshot::from_owned(alloc, ranges)
 }
 
-/// Whether it is a snapshot of the ranges.
-fn is_right(snapshot: &PageRangeSnapshot<String>) -> bool {
-    let mut is_right = snapshot.iter().len() == RANGES.len();
-    for (range, (start, end, number)) in snapshot.iter().zip(RANGES) {
-        is_right = is_right
-            && range.start().as_str() == start
-            && range.end().as_str() == end
-            && *range.hash().as_bytes() == [number; 16];
-    }
-    is_right
+/// Whether a clone of a snapshot is equal to it.
+fn is_cloned(original: &Snapshot) -> Result<bool, AllocError> {
+    Ok(original.try_clone()? == *original)
 }
 
-/// A clone of a snapshot.
-fn cloned(snapshot: &PageRangeSnapshot<String>) -> Result<PageRangeSnapshot<String>, AllocError> {
-    snapshot.try_clone()
+/// Whether its ranges make an equal snapshot, one at a time.
+fn is_collected(alloc: Global, original: &Snapshot) -> Result<bool, AllocError> {
+    Ok(PageRangeSnapshot::collect_ranges(alloc, original.iter())? == *original)
 }
 
-/// A snapshot of the ranges that a snapshot gives.
-fn made_anew(
-    alloc: Global,
-    snapshot: &PageRangeSnapshot<String>,
-) -> Result<PageRangeSnapshot<String>, AllocError> {
+/// Whether they do in a vector.
+fn is_made_anew(alloc: Global, original: &Snapshot) -> Result<bool, AllocError> {
+    let ranges = original.iter().collect(alloc)?;
+    Ok(PageRangeSnapshot::from_ranges(alloc, ranges)? == *original)
+}
+
+/// The ranges of a snapshot with keys of their own, each cloned once more.
+fn owned(alloc: Global, snapshot: &Snapshot) -> Result<Vec<OwnedPageRange<String>>, AllocError> {
     let mut ranges = Vec::new(alloc);
     for range in snapshot.iter() {
-        ranges.push(range)?;
+        let range = OwnedPageRange::from_range(alloc, range)?;
+        ranges.push(range.try_clone(alloc)?)?;
     }
-    PageRangeSnapshot::from_ranges(alloc, ranges)
+    Ok(ranges)
 }
 
-/// A range with keys of its own.
-fn owned(
-    alloc: Global,
-    range: PageRange<'_, String>,
-) -> Result<OwnedPageRange<String>, AllocError> {
-    OwnedPageRange::from_range(alloc, range)
+/// Whether these make an equal snapshot.
+fn is_made_of_owned(alloc: Global, original: &Snapshot) -> Result<bool, AllocError> {
+    Ok(PageRangeSnapshot::collect_owned(alloc, owned(alloc, original)?)? == *original)
 }
 
-/// A clone of a range with keys of its own.
-fn cloned_range(
-    alloc: Global,
-    range: &OwnedPageRange<String>,
-) -> Result<OwnedPageRange<String>, AllocError> {
-    range.try_clone(alloc)
-}
-
-/// The snapshot of ranges with keys of their own, each cloned once more.
-fn cloned_by_range(
-    alloc: Global,
-    snapshot: &PageRangeSnapshot<String>,
-) -> Result<PageRangeSnapshot<String>, AllocError> {
-    let mut ranges = Vec::new(alloc);
-    for range in snapshot.iter() {
-        let range = owned(alloc, range)?;
-        ranges.push(cloned_range(alloc, &range)?)?;
-    }
-    PageRangeSnapshot::from_owned(alloc, ranges)
-}
-
-/// Whether a copy of a snapshot is right, where it was made.
-fn is_copy(
-    original: &PageRangeSnapshot<String>,
-    copy: &Result<PageRangeSnapshot<String>, AllocError>,
-) -> bool {
-    match copy {
-        Ok(copy) => *copy == *original && is_right(copy),
-        Err(_) => true,
-    }
-}
-
-/// How many of the three ways to copy a snapshot give a copy; none where one is wrong, or the snapshot doesn't stay as it was.
-fn copies(alloc: Global) -> Result<Option<usize>, AllocError> {
+/// Whether the four ways to copy a snapshot give equal ones.
+fn copies_are_equal(alloc: Global) -> Result<bool, AllocError> {
     let original = snapshot(alloc)?;
-    let copies = [
-        cloned(&original),
-        made_anew(alloc, &original),
-        cloned_by_range(alloc, &original),
-    ];
-    if !is_right(&original) || !copies.iter().all(|copy| is_copy(&original, copy)) {
-        return Ok(None);
-    }
-    Ok(Some(copies.iter().filter(|copy| copy.is_ok()).count()))
+    Ok(
+        is_cloned(&original)?
+            && is_collected(alloc, &original)?
+            && is_made_anew(alloc, &original)?
+            && is_made_of_owned(alloc, &original)?,
+    )
 }
 
 #[test]
-fn copies_have_texts_of_their_own(rt: HostRuntime) -> Result<(), Fail> {
-    assert!(rt; copies(rt.alloc())? == Some(3));
-    Ok(())
+fn copies_have_texts_of_their_own(rt: HostRuntime) {
+    assert!(rt; copies_are_equal(rt.alloc()) == Ok(true));
 }
 
 // Under `tests/refusals` each request for memory is refused, those of the clones of texts too.
 #[test]
 fn copies_of_texts_are_right_or_want_memory(rt: HostRuntime) {
-    assert!(rt; copies(rt.alloc()) != Ok(None));
+    assert!(rt; copies_are_equal(rt.alloc()) != Ok(false));
 }

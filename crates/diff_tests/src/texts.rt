@@ -1,8 +1,7 @@
 //! Lists of page ranges, and of ranges, as texts: `3-7:1` is the page range from 3 to 7 whose digest has 16 bytes 1.
-use merkle_diff::{DiffRange, PageRange, diff};
+use merkle_diff::{DiffRange, PageRange};
 use merkle_digest::PageDigest;
 use std::alloc::{AllocError, Global};
-use std::test::Fail;
 
 /// A page range: its bounds, and the byte of its digest.
 pub type Entry = (u64, u64, u8);
@@ -10,27 +9,33 @@ pub type Entry = (u64, u64, u8);
 /// The bounds of a range.
 pub type Bounds = (u64, u64);
 
-fn bounds(word: &str) -> Result<Bounds, Fail> {
-    let (start, end) = word.split_once('-').ok_or("no range")?;
-    Ok((start.parse::<u64>()?, end.parse::<u64>()?))
+/// The bounds of a word.
+fn bounds(word: &str) -> Option<Bounds> {
+    let (start, end) = word.split_once('-')?;
+    Some((start.parse::<u64>().ok()?, end.parse::<u64>().ok()?))
 }
 
-/// The page ranges of a text.
-pub fn entries(alloc: Global, text: &str) -> Result<Vec<Entry>, Fail> {
+/// The page range of a word.
+fn entry(word: &str) -> Option<Entry> {
+    let (range, digest) = word.split_once(':')?;
+    let (start, end) = bounds(range)?;
+    Some((start, end, digest.parse::<u8>().ok()?))
+}
+
+/// The page ranges of a text. It fails, too, where a word is none.
+pub fn entries(alloc: Global, text: &str) -> Result<Vec<Entry>, AllocError> {
     let mut entries = Vec::new(alloc);
     for word in text.split_whitespace() {
-        let (range, digest) = word.split_once(':').ok_or("no digest")?;
-        let (start, end) = bounds(range)?;
-        entries.push((start, end, digest.parse::<u8>()?))?;
+        entries.push(entry(word).ok_or(AllocError)?)?;
     }
     Ok(entries)
 }
 
-/// The ranges of a text.
-pub fn ranges(alloc: Global, text: &str) -> Result<Vec<Bounds>, Fail> {
+/// The ranges of a text. It fails, too, where a word is none.
+pub fn ranges(alloc: Global, text: &str) -> Result<Vec<Bounds>, AllocError> {
     let mut ranges = Vec::new(alloc);
     for word in text.split_whitespace() {
-        ranges.push(bounds(word)?)?;
+        ranges.push(bounds(word).ok_or(AllocError)?)?;
     }
     Ok(ranges)
 }
@@ -53,21 +58,15 @@ pub fn page_ranges(
     Ok(ranges)
 }
 
-/// The bounds of each range.
-pub fn bounds_of(alloc: Global, ranges: &[DiffRange<'_, u64>]) -> Result<Vec<Bounds>, AllocError> {
-    let mut bounds = Vec::with_capacity(alloc, ranges.len())?;
-    for range in ranges {
-        bounds.push((*range.start(), *range.end()))?;
+/// Whether ranges have these bounds.
+pub fn are(found: &[DiffRange<'_, u64>], wanted: &[Bounds]) -> bool {
+    if found.len() != wanted.len() {
+        return false;
     }
-    Ok(bounds)
-}
-
-/// What `diff` answers.
-pub fn difference(
-    alloc: Global,
-    local: &[Entry],
-    peer: &[Entry],
-) -> Result<Vec<Bounds>, AllocError> {
-    let found = diff(alloc, page_ranges(alloc, local)?, page_ranges(alloc, peer)?)?;
-    bounds_of(alloc, &found)
+    for i in 0..found.len() {
+        if (*found[i].start(), *found[i].end()) != wanted[i] {
+            return false;
+        }
+    }
+    true
 }

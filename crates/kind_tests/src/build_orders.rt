@@ -2,8 +2,7 @@
 
 use merkle_digest::{RootHash, SipHasher};
 use merkle_search_tree::MerkleSearchTree;
-use std::alloc::Global;
-use std::test::Fail;
+use std::alloc::{AllocError, Global};
 use testing::number_key;
 
 /// The default tree of the tests.
@@ -17,15 +16,13 @@ struct Step {
 }
 
 /// Sets a key to 1.
-fn put(tree: &mut Tree, key: u16) -> Result<(), Fail> {
-    match tree.upsert(number_key(key), &1) {
-        Ok(()) => Ok(()),
-        Err(_) => Err(Fail::from("no memory")),
-    }
+fn put(tree: &mut Tree, key: u16) -> Result<(), AllocError> {
+    tree.upsert(number_key(key), &1)?;
+    Ok(())
 }
 
 /// The step at which a tree has these keys.
-fn step_of(tree: &mut Tree, keys: u64) -> Result<Step, Fail> {
+fn step_of(tree: &mut Tree, keys: u64) -> Result<Step, AllocError> {
     Ok(Step {
         keys,
         root_hash: tree.root_hash().clone()?,
@@ -33,7 +30,7 @@ fn step_of(tree: &mut Tree, keys: u64) -> Result<Step, Fail> {
 }
 
 /// The steps of a tree that gets the keys `factor * i` modulo 64, with value 1, for i from 0 to 63.
-fn steps(alloc: Global, factor: u16) -> Result<Vec<Step>, Fail> {
+fn steps(alloc: Global, factor: u16) -> Result<Vec<Step>, AllocError> {
     let mut tree: Tree = MerkleSearchTree::with_defaults(alloc);
     let mut steps = Vec::new(alloc);
     let mut keys = 0u64;
@@ -70,7 +67,7 @@ fn equal_to(left: &Step, steps: &[Step]) -> Option<u32> {
 }
 
 #[test]
-fn root_hashes_agree_exactly_where_maps_do(rt: HostRuntime) -> Result<(), Fail> {
+fn root_hashes_agree_exactly_where_maps_do(rt: HostRuntime) -> Result<(), AllocError> {
     let mixed = steps(rt.alloc(), 37)?;
     let ascending = steps(rt.alloc(), 1)?;
     // No key, the key 0 alone, and all keys.

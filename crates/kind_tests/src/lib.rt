@@ -1,4 +1,4 @@
-//! Trees of each kind of keys, value digests, hashers and page formats, and default trees, with answers from outside.
+//! Trees of each kind of keys, value digests and page formats, and default trees, with answers from outside.
 #![tactic(auto)]
 
 #[cfg(test)]
@@ -6,14 +6,8 @@ mod build_orders;
 #[cfg(test)]
 mod doc_lines;
 #[cfg(test)]
-mod formats;
-#[cfg(test)]
-mod hashers;
-#[cfg(test)]
 mod kinds;
 #[cfg(test)]
 mod lengths;
-#[cfg(test)]
-mod orders;
 #[cfg(test)]
 mod rust_roots;

@@ -3,13 +3,12 @@
 ghost use Rattle.std.specs.Prelude.{◌≡◌, ◌-◌, ◌^◌, length, min};
 ghost use Rattle.merkle_tree_theory.specs.State.{map_of};
 
-use crate::upserts::UPSERTS;
+use crate::refusals::NINE;
 use merkle_digest::{Hasher, KeyBytes};
 use merkle_search_tree::visitor::Visitor;
 use merkle_search_tree::{MerkleSearchTree, Node, Page};
-use sample_trees::trees::{keys_of, numbers_of, tree_of};
-use std::alloc::Global;
-use std::test::Fail;
+use sample_trees::trees::tree;
+use std::alloc::AllocError;
 
 /// Counts the nodes.
 #[derive(Drop)]
@@ -67,17 +66,10 @@ fn lacking_once_hashed<K: Ord + KeyBytes, V, H: Hasher<N, K>, const N: usize>(
     tree.pages_to_hash()
 }
 
-/// Whether the tree of a line has as many nodes as the line has keys, and lacks no digest once it is hashed.
-fn is_counted(alloc: Global, line: &str) -> Result<bool, Fail> {
-    let keys = numbers_of(alloc, &keys_of(alloc, line)?)?;
-    let mut tree = tree_of(alloc, line)?;
-    Ok(count_nodes(&tree) == keys.len() && lacking_once_hashed(&mut tree) == 0)
-}
-
 #[test]
-fn counts_the_different_keys(rt: HostRuntime) -> Result<(), Fail> {
-    for line in UPSERTS.lines() {
-        assert!(rt; is_counted(rt.alloc(), line)?, "at {line}");
-    }
+fn counts_the_keys(rt: HostRuntime) -> Result<(), AllocError> {
+    let mut tree = tree(rt.alloc(), &NINE)?;
+    assert!(rt; count_nodes(&tree) == 9);
+    assert!(rt; lacking_once_hashed(&mut tree) == 0);
     Ok(())
 }

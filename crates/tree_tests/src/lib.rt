@@ -15,17 +15,11 @@ mod page_ranges;
 #[cfg(test)]
 mod places;
 #[cfg(test)]
-mod ranges_of_pages;
-#[cfg(test)]
 mod refusals;
 #[cfg(test)]
 mod removals;
 #[cfg(test)]
 mod replays;
-#[cfg(test)]
-mod shapes;
-#[cfg(test)]
-mod snapshots;
 #[cfg(test)]
 mod traversals;
 #[cfg(test)]

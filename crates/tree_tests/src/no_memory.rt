@@ -1,13 +1,13 @@
 //! Calls that take no memory. They succeed with every request for memory refused, once the tree that they are made at is there.
 
+use crate::refusals::NINE;
 use merkle_digest::{RootHash, SipHasher};
 use merkle_search_tree::MerkleSearchTree;
 use merkle_search_tree::builder::{Builder, PageFormat};
 use sample_trees::tally::Tally;
-use sample_trees::trees::{Tree, defined_root, put, tree};
+use sample_trees::trees::{Tree, defined_root, gives_its_list, put, tree};
 use std::alloc::{AllocError, Global};
 use std::process::Abort;
-use std::test::Fail;
 use testing::number_key;
 
 /// The default tree of texts.
@@ -18,51 +18,27 @@ const OF_NO_ROW: [u8; 16] = [
     0x50, 0x49, 0xd7, 0x47, 0x80, 0xa3, 0xe0, 0x7d, 0x42, 0x02, 0xab, 0x47, 0xd4, 0xce, 0xf2, 0xf4,
 ];
 
-#[test]
-fn a_built_tree_takes_no_memory(rt: HostRuntime) -> Result<(), Fail> {
-    let tree: Texts = Builder::default().try_clone()?.build(rt.alloc());
-    assert!(rt; tree.pages_to_hash() == 1);
-    Ok(())
-}
-
-#[test]
-fn a_tree_with_a_hasher_takes_no_memory(rt: HostRuntime) {
-    let tree: Texts = MerkleSearchTree::new_with_hasher(rt.alloc(), SipHasher::default());
-    assert!(rt; tree.pages_to_hash() == 1);
-}
-
 /// Asserts what calls answer at a tree without keys.
-fn expect_no_key(rt: &impl Abort, tree: &mut Texts) -> Result<(), Fail> {
-    assert!(rt; tree.serialise_page_ranges()?.is_none());
+fn expect_no_key(rt: &impl Abort, mut tree: Texts) -> Result<(), AllocError> {
+    assert!(rt; tree.pages_to_hash() == 1);
+    assert!(rt; gives_its_list(&tree)?);
     assert!(rt; *tree.root_hash().as_bytes() == OF_NO_ROW);
-    assert!(rt;
-        tree.serialise_page_ranges()?
-            .ok_or("not hashed")?
-            .is_empty()
-    );
+    assert!(rt; gives_its_list(&tree)?);
     assert!(rt; tree.find_counted(&"a") == (0, 0));
     assert!(rt; tree.remove(&"a")?.is_none());
     Ok(())
 }
 
 #[test]
-fn an_empty_tree_takes_no_memory(rt: HostRuntime) -> Result<(), Fail> {
-    let mut tree = MerkleSearchTree::with_defaults(rt.alloc());
-    expect_no_key(&rt, &mut tree)
+fn an_empty_tree_takes_no_memory(rt: HostRuntime) -> Result<(), AllocError> {
+    let alloc = rt.alloc();
+    expect_no_key(&rt, MerkleSearchTree::with_defaults(alloc))?;
+    expect_no_key(
+        &rt,
+        MerkleSearchTree::new_with_hasher(alloc, SipHasher::default()),
+    )?;
+    expect_no_key(&rt, Builder::default().try_clone()?.build(alloc))
 }
-
-/// Nine keys on their levels.
-const NINE: [(u16, u8); 9] = [
-    (2, 0),
-    (3, 1),
-    (4, 1),
-    (5, 0),
-    (6, 1),
-    (7, 2),
-    (11, 2),
-    (15, 1),
-    (42, 0),
-];
 
 /// The tree of the nine keys, which isn't hashed, and its root hash.
 fn nine(alloc: Global) -> Result<(Tree, RootHash), AllocError> {
@@ -73,7 +49,7 @@ fn nine(alloc: Global) -> Result<(Tree, RootHash), AllocError> {
 }
 
 /// Asserts what the calls answer at the tree of nine keys.
-fn expect_answers(rt: &impl Abort, tree: &mut Tree, wanted: &RootHash) -> Result<(), Fail> {
+fn expect_answers(rt: &impl Abort, tree: &mut Tree, wanted: &RootHash) -> Result<(), AllocError> {
     assert!(rt; tree.serialise_page_ranges()?.is_none());
     assert!(rt; *tree.root_hash() == *wanted);
     assert!(rt; tree.find_counted(&number_key(8)).0 == 1);
@@ -88,7 +64,7 @@ fn expect_answers(rt: &impl Abort, tree: &mut Tree, wanted: &RootHash) -> Result
 }
 
 #[test]
-fn a_tree_takes_no_memory_but_for_new_keys(rt: HostRuntime) -> Result<(), Fail> {
+fn a_tree_takes_no_memory_but_for_new_keys(rt: HostRuntime) -> Result<(), AllocError> {
     if let Ok((mut tree, root_hash)) = nine(rt.alloc()) {
         if let Ok(nodes) = tree.node_iter() {
             let mut count = 0u8;

@@ -15,10 +15,3 @@ fn places_of_keys_in_a_root_page(rt: HostRuntime) -> Result<(), Fail> {
     }
     Ok(())
 }
-
-#[test]
-fn no_key_is_found_in_a_new_tree(rt: HostRuntime) -> Result<(), Fail> {
-    let tree = tree(rt.alloc(), &[])?;
-    assert!(rt; tree.find_counted(&number_key(5)) == (0, 0));
-    Ok(())
-}

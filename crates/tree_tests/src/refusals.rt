@@ -1,16 +1,16 @@
 //! Refused memory. Under `rt try --test --fail-alloc N -- a_refused` the Nth request for memory of each of these tests is refused:
 //! then the answer is right, or it is out of memory with everything as before.
 
-use merkle_diff::{PageRange, PageRangeSnapshot};
-use merkle_digest::RootHash;
-use merkle_search_tree::PageRangeIter;
+use merkle_diff::PageRangeSnapshot;
 use sample_trees::root_pages::root_copy;
-use sample_trees::trees::{Tree, copy, defined_root, hashed, nodes, put, tree, value_at};
+use sample_trees::trees::{
+    Tree, copy, defined_root, gives_its_list, hashed, nodes, tree, value_at,
+};
 use std::alloc::{AllocError, Global};
-use testing::{Value, number_key};
+use testing::number_key;
 
 /// Nine keys on their levels.
-const NINE: [(u16, u8); 9] = [
+pub const NINE: [(u16, u8); 9] = [
     (7, 2),
     (11, 2),
     (3, 1),
@@ -21,9 +21,6 @@ const NINE: [(u16, u8); 9] = [
     (15, 1),
     (42, 0),
 ];
-
-/// The spans of the pages of the tree of the nine keys.
-const SPANS_OF_NINE: [(u16, u16); 6] = [(2, 42), (2, 6), (2, 2), (5, 5), (15, 42), (42, 42)];
 
 /// Keys on their levels, each of which is upserted into the tree of those before it.
 const GROWTHS: [&[(u16, u8)]; 3] = [
@@ -80,10 +77,8 @@ fn is_set_or_handed_back(alloc: Global, keys: &[(u16, u8)], last: u16) -> Result
     match tree.upsert(number_key(last), &value_at(last)) {
         Ok(()) => is_set(alloc, &mut tree, keys),
         Err(refused) => {
-            let is_told = format!(in alloc; "{refused}")?.as_str()
-                == "memory was refused, and the key was not set";
             let is_back = refused.into_key() == number_key(last);
-            Ok(is_told && is_back && is_as_before(alloc, &tree, &before)?)
+            Ok(is_back && is_as_before(alloc, &tree, &before)?)
         }
     }
 }
@@ -150,112 +145,18 @@ fn a_refused_removal_changes_nothing(rt: HostRuntime) {
     }
 }
 
-/// Whether the nodes are right after upserts of 1, 2, 1 with another value, and 3, of which the last may be refused.
-fn keeps_nodes(alloc: Global) -> Result<bool, AllocError> {
-    let mut tree = tree(alloc, &[(1, 0), (2, 0)])?;
-    let is_replaced = tree.upsert(number_key(1), &Value { number: 9 }).is_ok();
-    let wanted = if put(&mut tree, 3).is_ok() {
-        " 1=9 2=2 3=3"
-    } else {
-        " 1=9 2=2"
-    };
-    Ok(is_replaced && nodes(alloc, &tree)?.as_str() == wanted)
-}
-
-#[test]
-fn a_refused_upsert_keeps_the_nodes(rt: HostRuntime) {
-    assert!(rt; keeps_nodes(rt.alloc()) != Ok(false));
-}
-
-/// Whether a key that is there is accepted with the same value, and the root hash is then what it was.
-fn is_accepted(tree: &mut Tree, key: u16, root_hash: &RootHash) -> bool {
-    put(tree, key).is_ok()
-        && tree.root_hash_cached().is_none()
-        && tree.pages_to_hash() >= 1
-        && *tree.root_hash() == *root_hash
-}
-
-/// Whether each key that is there is accepted with the same value.
-fn takes_what_is_there(alloc: Global) -> Result<bool, AllocError> {
-    let mut tree = tree(alloc, &NINE)?;
-    let root_hash = tree.root_hash().clone()?;
-    let mut is_right = true;
-    for (number, _) in &NINE {
-        is_right = is_right && is_accepted(&mut tree, *number, &root_hash);
-    }
-    Ok(is_right)
-}
-
-#[test]
-fn a_refused_request_is_none_of_a_key_that_is_there(rt: HostRuntime) {
-    assert!(rt; takes_what_is_there(rt.alloc()) != Ok(false));
-}
-
 /// Whether the tree of the nine keys lists its nodes.
 fn lists_nodes(alloc: Global) -> Result<bool, AllocError> {
     let tree = tree(alloc, &NINE)?;
     Ok(nodes(alloc, &tree)?.as_str() == " 2=2 3=3 4=4 5=5 6=6 7=7 11=11 15=15 42=42")
 }
 
-/// Whether a page range has these numbers as its first and its last key.
-fn has_span(range: &PageRange<'_, [u8; 2]>, span: &(u16, u16)) -> bool {
-    *range.start() == number_key(span.0) && *range.end() == number_key(span.1)
-}
-
-/// Whether these page ranges have the spans of the pages of the nine keys.
-fn are_of_nine(ranges: &[PageRange<'_, [u8; 2]>]) -> bool {
-    ranges.len() == SPANS_OF_NINE.len()
-        && ranges
-            .iter()
-            .zip(&SPANS_OF_NINE)
-            .all(|(range, span)| has_span(range, span))
-}
-
-/// Whether the tree of the nine keys lists its page ranges.
+/// Whether it gives one at a time the page ranges that it lists.
 fn lists_ranges(alloc: Global) -> Result<bool, AllocError> {
-    let tree = nine(alloc)?;
-    match tree.serialise_page_ranges()? {
-        None => Ok(false),
-        Some(ranges) => Ok(are_of_nine(&ranges)),
-    }
+    gives_its_list(&nine(alloc)?)
 }
 
-/// Whether these page ranges, which come one at a time, have the spans of the pages of the nine keys.
-fn come_as_of_nine(ranges: PageRangeIter<'_, 32, [u8; 2]>) -> bool {
-    let mut ranges = ranges;
-    let mut is_right = true;
-    for span in &SPANS_OF_NINE {
-        is_right = is_right && ranges.next().is_some_and(|range| has_span(&range, span));
-    }
-    is_right && ranges.next().is_none()
-}
-
-/// Whether the tree of the nine keys gives its page ranges one at a time, or is refused with all digests as before.
-fn gives_ranges(alloc: Global) -> Result<bool, AllocError> {
-    let tree = nine(alloc)?;
-    let before = seen(alloc, &tree)?;
-    match tree.page_range_iter() {
-        Ok(None) => Ok(false),
-        Ok(Some(ranges)) => Ok(come_as_of_nine(ranges)),
-        Err(_) => is_as_before(alloc, &tree, &before),
-    }
-}
-
-/// Whether a tree without keys gives no iterator before it is hashed, and one without page ranges afterwards.
-fn gives_none(alloc: Global) -> Result<bool, AllocError> {
-    let mut tree = tree(alloc, &[])?;
-    let is_none_before = matches!(tree.page_range_iter(), Ok(None));
-    tree.root_hash();
-    match tree.page_range_iter() {
-        Ok(Some(ranges)) => {
-            let mut ranges = ranges;
-            Ok(is_none_before && ranges.next().is_none())
-        }
-        _ => Ok(false),
-    }
-}
-
-/// Whether a copy of each node of the tree of the nine keys is equal to it, the pages below it and their digests included.
+/// Whether a copy of each of its nodes is equal to it, the pages below it and their digests included.
 fn copies_nodes(alloc: Global) -> Result<bool, AllocError> {
     let tree = nine(alloc)?;
     let mut is_right = true;
@@ -265,43 +166,36 @@ fn copies_nodes(alloc: Global) -> Result<bool, AllocError> {
     Ok(is_right)
 }
 
-/// Whether a copy of the root page of the tree of the nine keys is equal to it, the pages below it and their digests included.
+/// Whether a copy of its root page is equal to it, the pages below it and their digests included, and has a range.
 fn copies_the_root_page(alloc: Global) -> Result<bool, AllocError> {
     let tree = nine(alloc)?;
     let copy = root_copy(alloc, &tree)?;
-    Ok(copy.is_equal && copy.page.hash().is_some())
+    Ok(copy.is_equal && copy.page.page_range().is_some())
 }
 
-/// Whether a copy of the tree of the nine keys has its pages and digests.
+/// Whether a copy of it has its pages and digests.
 fn copies_the_tree(alloc: Global) -> Result<bool, AllocError> {
     let tree = nine(alloc)?;
-    let copy = copy(&tree)?;
-    is_as_before(alloc, &copy, &seen(alloc, &tree)?)
+    is_as_before(alloc, &copy(&tree)?, &seen(alloc, &tree)?)
 }
 
 /// Whether each call gives what is right.
-fn answers(alloc: Global) -> [Result<bool, AllocError>; 7] {
-    [
-        lists_nodes(alloc),
-        lists_ranges(alloc),
-        gives_ranges(alloc),
-        gives_none(alloc),
-        copies_nodes(alloc),
-        copies_the_root_page(alloc),
-        copies_the_tree(alloc),
-    ]
+fn are_right(alloc: Global) -> Result<bool, AllocError> {
+    Ok(
+        lists_nodes(alloc)?
+            && lists_ranges(alloc)?
+            && copies_nodes(alloc)?
+            && copies_the_root_page(alloc)?
+            && copies_the_tree(alloc)?,
+    )
 }
 
 #[test]
 fn a_refused_call_is_want_of_memory(rt: HostRuntime) {
-    assert!(rt;
-        answers(rt.alloc())
-            .iter()
-            .all(|answer| *answer != Ok(false))
-    );
+    assert!(rt; are_right(rt.alloc()) != Ok(false));
 }
 
 #[test]
 fn calls_succeed_where_memory_is_at_hand(rt: HostRuntime) {
-    assert!(rt; answers(rt.alloc()).iter().all(|answer| *answer == Ok(true)));
+    assert!(rt; are_right(rt.alloc()) == Ok(true));
 }

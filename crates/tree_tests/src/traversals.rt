@@ -6,9 +6,8 @@ use merkle_digest::SipHasher;
 use merkle_search_tree::builder::Builder;
 use merkle_search_tree::visitor::Visitor;
 use merkle_search_tree::{MerkleSearchTree, Node, Page};
-use std::alloc::Global;
+use std::alloc::{AllocError, Global};
 use std::num::NonZeroU8;
-use std::test::Fail;
 
 /// A tree with the default hasher. Under SipHash of their two bytes, the highest first, and base 16, the keys 0, 30 and 525 are on
 /// level 0, the keys 6, 29, 34 and 524 on level 1, and the keys 107 and 461 on level 2. Under base 4 the key 1 is on level 0, and 0 on
@@ -16,7 +15,7 @@ use std::test::Fail;
 type Tree = MerkleSearchTree<[u8; 2], u64, SipHasher, 16>;
 
 /// A call, with the key of the node or the first key of the page.
-#[derive(Clone, Copy, Debug, PartialEq, Eq)]
+#[derive(Clone, Copy, PartialEq, Eq)]
 enum Call {
     VisitPage(Option<u16>, bool),
     PreVisitNode(u16),
@@ -77,16 +76,12 @@ fn first_number(page: &Page<16, [u8; 2]>) -> Option<u16> {
     }
 }
 
-/// The tree of these keys with this level base, upserted in this order.
-fn tree_of(alloc: Global, level_base: u8, keys: &[u16]) -> Result<Tree, Fail> {
-    let Some(base) = NonZeroU8::new(level_base) else {
-        return Err(Fail::from("a level base of 0"));
-    };
+/// The tree of these keys with this level base, upserted in this order. It fails, too, where the base is 0.
+fn tree_of(alloc: Global, level_base: u8, keys: &[u16]) -> Result<Tree, AllocError> {
+    let base = NonZeroU8::new(level_base).ok_or(AllocError)?;
     let mut tree: Tree = Builder::default().with_level_base(base).build(alloc);
     for number in keys {
-        if tree.upsert(number.to_be_bytes(), &1).is_err() {
-            return Err(Fail::from("no memory"));
-        }
+        tree.upsert(number.to_be_bytes(), &1)?;
     }
     Ok(tree)
 }
@@ -97,7 +92,7 @@ fn calls_of(
     level_base: u8,
     keys: &[u16],
     last: Option<Call>,
-) -> Result<Vec<Call>, Fail> {
+) -> Result<Vec<Call>, AllocError> {
     let tree = tree_of(alloc, level_base, keys)?;
     let mut recorder = Recorder {
         calls: Vec::new(alloc),
@@ -166,7 +161,7 @@ const SIX_PAGES: [Call; 39] = [
 ];
 
 #[test]
-fn calls_come_in_order(rt: HostRuntime) -> Result<(), Fail> {
+fn calls_come_in_order(rt: HostRuntime) -> Result<(), AllocError> {
     let keys = [107, 461, 6, 29, 34, 0, 30, 524, 525];
     assert!(rt; calls_of(rt.alloc(), 16, &keys, None)?.as_slice() == SIX_PAGES.as_slice());
     assert!(rt; calls_of(rt.alloc(), 4, &[1, 0], None)?.as_slice() == TWO_PAGES.as_slice());
@@ -176,45 +171,10 @@ fn calls_come_in_order(rt: HostRuntime) -> Result<(), Fail> {
 }
 
 #[test]
-fn a_false_answer_ends_the_traversal(rt: HostRuntime) -> Result<(), Fail> {
+fn a_false_answer_ends_the_traversal(rt: HostRuntime) -> Result<(), AllocError> {
     for i in 0..TWO_PAGES.len() {
         let calls = calls_of(rt.alloc(), 4, &[1, 0], Some(TWO_PAGES[i]))?;
         assert!(rt; calls.as_slice() == &TWO_PAGES[..i + 1]);
     }
-    Ok(())
-}
-
-/// The keys in the order in which a traversal visits their nodes.
-fn visited(alloc: Global, keys: &[u16]) -> Result<Vec<u16>, Fail> {
-    let mut numbers = Vec::new(alloc);
-    for call in &calls_of(alloc, 16, keys, None)? {
-        if let Call::VisitNode(number) = call {
-            numbers.push(*number)?;
-        }
-    }
-    Ok(numbers)
-}
-
-/// The keys in the order in which the iteration gives their nodes.
-fn iterated(alloc: Global, keys: &[u16]) -> Result<Vec<u16>, Fail> {
-    let mut numbers = Vec::new(alloc);
-    let tree = tree_of(alloc, 16, keys)?;
-    for node in tree.node_iter()? {
-        numbers.push(number_of(node))?;
-    }
-    Ok(numbers)
-}
-
-#[test]
-fn nodes_come_in_the_order_of_their_keys(rt: HostRuntime) -> Result<(), Fail> {
-    let alloc = rt.alloc();
-    let nine = [107, 461, 6, 29, 34, 0, 30, 524, 525];
-    let ascending = [0, 6, 29, 30, 34, 107, 461, 524, 525];
-    assert!(rt; visited(alloc, &nine)?.as_slice() == ascending.as_slice());
-    assert!(rt; iterated(alloc, &nine)?.as_slice() == ascending.as_slice());
-    let mixed: Vec<u16> = (0..64u16).map(|i| i.wrapping_mul(37) % 64).collect(alloc)?;
-    let ascending: Vec<u16> = (0..64u16).collect(alloc)?;
-    assert!(rt; visited(alloc, &mixed)? == ascending);
-    assert!(rt; iterated(alloc, &mixed)? == ascending);
     Ok(())
 }

@@ -1,12 +1,10 @@
-//! Upserts, by the nodes that are then there and by the root hash of the defined tree.
+//! Upserts, by the root hash of the defined tree, by the nodes that are then there, and by the digests that they drop and copies keep.
 
-use merkle_digest::{RootHash, SipHasher};
-use merkle_search_tree::MerkleSearchTree;
+use crate::refusals::NINE;
+use merkle_digest::RootHash;
 use merkle_search_tree::builder::PageFormat;
-use sample_trees::trees::{
-    FORMATS, Tree, copy, defined_root, hashed_in, keys_of, nodes, put, tree_in, tree_of,
-};
-use std::alloc::Global;
+use sample_trees::trees::{Tree, copy, defined_root, hashed, keys_of, nodes, put, tree, tree_in};
+use std::alloc::{AllocError, Global};
 use std::test::Fail;
 use testing::{Value, number_key};
 
@@ -53,25 +51,28 @@ pub const UPSERTS: &str = "\
 ";
 
 /// Whether a tree has this root hash, and every digest once it is asked for it.
-fn has_root(tree: &mut Tree, wanted: &RootHash) -> bool {
+pub fn has_root(tree: &mut Tree, wanted: &RootHash) -> bool {
     *tree.root_hash() == *wanted
         && tree.root_hash_cached() == Some(wanted)
         && tree.pages_to_hash() == 0
 }
 
 /// Whether the tree of these keys in a page format, upserted in this order, is the defined one.
-fn is_defined(alloc: Global, format: PageFormat, line: &str) -> Result<bool, Fail> {
-    let keys = keys_of(alloc, line)?;
-    let mut tree = tree_in(alloc, format, &keys)?;
-    Ok(has_root(&mut tree, &defined_root(alloc, format, &keys)?))
+fn is_defined(alloc: Global, format: PageFormat, keys: &[(u16, u8)]) -> Result<bool, AllocError> {
+    let mut tree = tree_in(alloc, format, keys)?;
+    Ok(has_root(&mut tree, &defined_root(alloc, format, keys)?))
+}
+
+/// Whether the trees of these keys in both formats are.
+fn are_defined(alloc: Global, keys: &[(u16, u8)]) -> Result<bool, AllocError> {
+    Ok(is_defined(alloc, PageFormat::V1, keys)? && is_defined(alloc, PageFormat::V2, keys)?)
 }
 
 #[test]
 fn makes_the_defined_tree(rt: HostRuntime) -> Result<(), Fail> {
     for line in UPSERTS.lines() {
-        for format in FORMATS {
-            assert!(rt; is_defined(rt.alloc(), format, line)?, "{format:?}: {line}");
-        }
+        let keys = keys_of(rt.alloc(), line)?;
+        assert!(rt; are_defined(rt.alloc(), &keys)?, "at {line}");
     }
     Ok(())
 }
@@ -84,81 +85,25 @@ fn makes_what_it_lacks(tree: &mut Tree) -> bool {
 }
 
 #[test]
-fn drops_the_digest_of_a_page_whose_high_page_moves(rt: HostRuntime) -> Result<(), Fail> {
-    let keys = keys_of(rt.alloc(), "1:1 2:1 5:0 4:2")?;
-    for format in FORMATS {
-        let mut tree = hashed_in(rt.alloc(), format, &keys)?;
-        put(&mut tree, 4)?;
-        assert!(rt; makes_what_it_lacks(&mut tree));
-        put(&mut tree, 4)?;
-        assert!(rt; makes_what_it_lacks(&mut tree));
-        assert!(rt; *tree.root_hash() == defined_root(rt.alloc(), format, &keys)?);
-    }
-    Ok(())
-}
-
-/// Three orders of the same keys on their levels.
-const ORDERS: [&str; 3] = [
-    "7:2 11:2 3:1 4:1 6:1 2:0 5:0 15:1 42:0",
-    "42:0 15:1 5:0 2:0 6:1 4:1 3:1 11:2 7:2",
-    "6:1 42:0 2:0 11:2 3:1 15:1 7:2 5:0 4:1",
-];
-
-#[test]
-fn gives_nodes_in_order(rt: HostRuntime) -> Result<(), Fail> {
-    for line in ORDERS {
-        let tree = tree_of(rt.alloc(), line)?;
-        let found = nodes(rt.alloc(), &tree)?;
-        assert!(rt;
-            found.as_str() == " 2=2 3=3 4=4 5=5 6=6 7=7 11=11 15=15 42=42",
-            "at {line}"
-        );
-    }
+fn drops_the_digest_of_a_page_whose_high_page_moves(rt: HostRuntime) -> Result<(), AllocError> {
+    let keys = [(1, 1), (2, 1), (5, 0), (4, 2)];
+    let mut tree = hashed(rt.alloc(), &keys)?;
+    put(&mut tree, 4)?;
+    assert!(rt; makes_what_it_lacks(&mut tree));
+    assert!(rt; *tree.root_hash() == defined_root(rt.alloc(), PageFormat::V1, &keys)?);
     Ok(())
 }
 
 #[test]
-fn replaces_the_digest_of_a_key(rt: HostRuntime) -> Result<(), Fail> {
-    let mut tree = tree_of(rt.alloc(), "1:0 2:0")?;
+fn replaces_the_digest_of_a_key(rt: HostRuntime) -> Result<(), AllocError> {
+    let mut tree = tree(rt.alloc(), &[(1, 0), (2, 0)])?;
     assert!(rt; tree.upsert(number_key(1), &Value { number: 9 }).is_ok());
     assert!(rt; nodes(rt.alloc(), &tree)?.as_str() == " 1=9 2=2");
     Ok(())
 }
 
-/// A tree of the default hasher.
-type DefaultTree = MerkleSearchTree<[u8; 2], u64, SipHasher, 16>;
-
-/// The default tree of the keys `factor * i` modulo 64, with value 1, for i from 0 to 63.
-fn multiples(alloc: Global, factor: u16) -> Result<DefaultTree, Fail> {
-    let mut tree: DefaultTree = MerkleSearchTree::with_defaults(alloc);
-    for i in 0..64u16 {
-        set(&mut tree, factor.wrapping_mul(i) % 64, 1)?;
-    }
-    Ok(tree)
-}
-
-/// Sets a key to a value.
-fn set(tree: &mut DefaultTree, key: u16, value: u64) -> Result<(), Fail> {
-    match tree.upsert(number_key(key), &value) {
-        Ok(()) => Ok(()),
-        Err(_) => Err(Fail::from("no memory")),
-    }
-}
-
-#[test]
-fn default_trees_forget_the_order_of_upserts(rt: HostRuntime) -> Result<(), Fail> {
-    let mut mixed = multiples(rt.alloc(), 37)?;
-    let mut ascending = multiples(rt.alloc(), 1)?;
-    assert!(rt; *mixed.root_hash() == *ascending.root_hash());
-    set(&mut mixed, 0, 2)?;
-    assert!(rt; *mixed.root_hash() != *ascending.root_hash());
-    set(&mut ascending, 0, 2)?;
-    assert!(rt; *mixed.root_hash() == *ascending.root_hash());
-    Ok(())
-}
-
 /// Whether a copy of a tree has the same root hash, and lacks as many digests.
-fn is_copied(tree: &Tree) -> Result<bool, Fail> {
+fn is_copied(tree: &Tree) -> Result<bool, AllocError> {
     let copy = copy(tree)?;
     Ok(
         copy.root_hash_cached() == tree.root_hash_cached()
@@ -167,8 +112,8 @@ fn is_copied(tree: &Tree) -> Result<bool, Fail> {
 }
 
 #[test]
-fn copies_keep_all_digests(rt: HostRuntime) -> Result<(), Fail> {
-    let mut tree = tree_of(rt.alloc(), ORDERS[0])?;
+fn copies_keep_all_digests(rt: HostRuntime) -> Result<(), AllocError> {
+    let mut tree = tree(rt.alloc(), &NINE)?;
     assert!(rt; is_copied(&tree)?);
     tree.root_hash();
     assert!(rt; is_copied(&tree)?);
