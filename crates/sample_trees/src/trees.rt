@@ -37,9 +37,6 @@ pub fn value_at(number: u16) -> Value {
     }
 }
 
-/// Both page formats.
-pub const FORMATS: [PageFormat; 2] = [PageFormat::V1, PageFormat::V2];
-
 /// The tree of no keys in a page format, whose hasher puts these keys on these levels.
 pub fn empty(alloc: Global, format: PageFormat, keys: &[(u16, u8)]) -> Result<Tree, AllocError> {
     Ok(
@@ -70,11 +67,6 @@ pub fn tree_in(alloc: Global, format: PageFormat, keys: &[(u16, u8)]) -> Result<
 /// The tree of these keys on these levels in format 1, upserted in this order.
 pub fn tree(alloc: Global, keys: &[(u16, u8)]) -> Result<Tree, AllocError> {
     tree_in(alloc, PageFormat::V1, keys)
-}
-
-/// The tree of the keys of a text in format 1, in its order.
-pub fn tree_of(alloc: Global, text: &str) -> Result<Tree, Fail> {
-    Ok(tree(alloc, &keys_of(alloc, text)?)?)
 }
 
 /// The hashed tree of the keys but the last in a page format, on the levels of all.
