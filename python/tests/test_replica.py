@@ -412,8 +412,9 @@ class Threads(unittest.TestCase):
         def fill():
             for i in range(0, 3000, 11):
                 replica.put(b"%d" % i, b"9")
-                if i % 500 == 0:
-                    self.assertEqual(list(replica), sorted(replica))
+                if i % 55 == 0:
+                    keys = list(replica)
+                    self.assertEqual(keys, sorted(keys))
 
         def begun_again(asking, answer):
             # a peer whose rows change in between may tell a key twice
