@@ -43,8 +43,8 @@ use std::alloc::{AllocError, Global};
 ///
 /// # Errors
 ///
-/// Out of memory. No memory is taken where the peer has no page range, or where its first begins and ends after local's first, or is
-/// within it and not equal to it: then there is nothing to ask for.
+/// Out of memory. If the peer has no page range, or its first begins and ends after local's first, or is within it and not equal to it,
+/// the result is empty, even if rows differ, and no memory is taken.
 pub fn diff<'p, T, U, K>(
     alloc: Global,
     local: T,
