@@ -319,7 +319,7 @@ pub fn pull<S: Trees + Drop, R: Read, W: Write, P: Watch>(
 /// [`ANSWER_BYTES`], and the peer asks for the rest.
 ///
 /// ```rust crates/mst/src/peers.rt
-/// let _traffic = pulling::serve(
+/// let traffic = pulling::serve(
 ///     store,
 ///     &mut rt.stdin(),
 ///     &mut rt.stdout(),

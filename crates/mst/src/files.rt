@@ -4,6 +4,7 @@ ghost use Rattle.std.specs.Prelude.{IfOk, IsTrue};
 use crate::fault::Failure;
 use crate::look::expect_store;
 use mst_commands::Fault;
+use mst_commands::backup::make_copy;
 use sqlite_disk::{Disk, Files};
 use sqlite_std_file::{File, OpenError, Unknown};
 use sqlite_store::FileStore;
@@ -16,8 +17,9 @@ use std::os::unix::fs::OpenOptionsExt;
 use std::thread::sleep;
 use std::time::Duration;
 use store_file::Unsure;
-use store_table::format::{HASH_KEY_LEN, create};
+use store_table::format::HASH_KEY_LEN;
 use store_table::log::Log;
+use store_table::table::Entries;
 
 /// The trees of a store's file.
 pub type FileTrees = FileStore<Unsure<File>>;
@@ -143,6 +145,14 @@ pub fn open_file(rt: &HostRuntime, path: &str, seconds: u64) -> Result<Log<FileT
     Ok(Log::over(store_file::open(rt.alloc(), files)?))
 }
 
+/// The same, once all its pages were read and found to be where they belong.
+pub fn open_whole(rt: &HostRuntime, path: &str, seconds: u64) -> Result<Log<FileTrees>, Failure> {
+    expect_file(rt, path)?;
+    expect_store(rt, path)?;
+    let files = wait_for(rt, path, seconds)?;
+    Ok(Log::over(store_file::open_whole(rt.alloc(), files)?))
+}
+
 /// A random number.
 fn random(rt: &HostRuntime) -> Result<u64, Failure> {
     match RandomState::new(rt) {
@@ -172,33 +182,36 @@ fn key_of_store(
     Ok((u128::from(high) << 64 | u128::from(low)).to_be_bytes())
 }
 
+/// What a new store has.
+#[derive(Clone, Copy)]
+struct Contents<'a> {
+    /// The name by which it writes.
+    writer: &'a str,
+    hash_key: &'a [u8; HASH_KEY_LEN],
+    entries: &'a Entries,
+}
+
 /// Makes a store in tables without rows, and closes it.
 fn create_on<S: Store + Drop>(
     rt: &HostRuntime,
     log: Log<S>,
-    writer: &str,
-    hash_key: &[u8; HASH_KEY_LEN],
+    new: &Contents<'_>,
 ) -> Result<(), Failure>
 where
     Log<S>: Closing,
 {
     let mut log = log;
-    let made = create(rt.alloc(), &mut log, writer, hash_key);
+    let made = make_copy(rt.alloc(), &mut log, new.writer, new.hash_key, new.entries);
     let closed = log.close_copied();
     made?;
     closed
 }
 
 /// Makes a store in a file without bytes.
-fn fill_file(
-    rt: &HostRuntime,
-    path: &str,
-    writer: &str,
-    hash_key: &[u8; HASH_KEY_LEN],
-) -> Result<(), Failure> {
+fn fill_file(rt: &HostRuntime, path: &str, new: &Contents<'_>) -> Result<(), Failure> {
     let files = files_at(rt, path)?;
     let log = Log::over(store_file::create(rt.alloc(), files)?);
-    create_on(rt, log, writer, hash_key)
+    create_on(rt, log, new)
 }
 
 /// Makes a file without bytes, where there is none.
@@ -258,21 +271,14 @@ fn sync_folder(rt: &HostRuntime, path: &str) -> io::Result<()> {
 
 /// Makes a store in a new file, which has another name until the store is whole. So there is a store at the end, or no file of this name; stopped
 /// in between, it leaves a file and a log under that other name, which nothing needs.
-pub fn make_store(
-    rt: &HostRuntime,
-    path: &str,
-    writer: Option<&str>,
-    hash_key: Option<[u8; HASH_KEY_LEN]>,
-) -> Result<(), Failure> {
-    let writer = name_of_copy(rt, writer)?;
-    let hash_key = key_of_store(rt, hash_key)?;
+fn make_whole(rt: &HostRuntime, path: &str, new: &Contents<'_>) -> Result<(), Failure> {
     let number = random(rt)?;
     let log = format!(in rt.alloc(); "{path}-wal")?;
     let made = format!(in rt.alloc(); "{path}-{number:016x}")?;
     let made_log = format!(in rt.alloc(); "{path}-{number:016x}-wal")?;
     expect_none(rt, path, log.as_str())?;
     make_file(rt, made.as_str())?;
-    let done = match fill_file(rt, made.as_str(), writer.as_str(), &hash_key) {
+    let done = match fill_file(rt, made.as_str(), new) {
         Ok(()) => put_in_place(rt, made.as_str(), path, log.as_str()),
         Err(failure) => Err(failure),
     };
@@ -281,4 +287,37 @@ pub fn make_store(
     }
     let _ = fs::remove_file(rt, made_log.as_str());
     done
+}
+
+/// Makes a store without entries, by this name and under this hash key, or random ones.
+pub fn make_store(
+    rt: &HostRuntime,
+    path: &str,
+    writer: Option<&str>,
+    hash_key: Option<[u8; HASH_KEY_LEN]>,
+) -> Result<(), Failure> {
+    let writer = name_of_copy(rt, writer)?;
+    let hash_key = key_of_store(rt, hash_key)?;
+    let new = Contents {
+        writer: writer.as_str(),
+        hash_key: &hash_key,
+        entries: &Vec::new(rt.alloc()),
+    };
+    make_whole(rt, path, &new)
+}
+
+/// Makes a store of these entries under this hash key, which writes by a random name.
+pub fn make_backup(
+    rt: &HostRuntime,
+    path: &str,
+    hash_key: &[u8; HASH_KEY_LEN],
+    entries: &Entries,
+) -> Result<(), Failure> {
+    let writer = name_of_copy(rt, None)?;
+    let new = Contents {
+        writer: writer.as_str(),
+        hash_key,
+        entries,
+    };
+    make_whole(rt, path, &new)
 }

@@ -3,6 +3,7 @@
 //! It ends with status 0, or with another one and a line on standard error that says why (`status`).
 #![tactic(auto)]
 
+mod change;
 mod fault;
 mod files;
 mod look;
@@ -12,9 +13,10 @@ mod status;
 mod tasks;
 
 use fault::Failure;
+use files::make_backup;
 use mst_commands::escape::escape;
 use mst_words::verb::{HELP, VERSION, form_of};
-use mst_words::{Asked, Wrong, read_words};
+use mst_words::{Asked, Given, Verb, Wrong, read_words};
 use status::{USAGE, status_of};
 use std::alloc::AllocError;
 use std::env;
@@ -50,12 +52,25 @@ fn show(rt: &HostRuntime, text: &str) -> ExitCode {
     }
 }
 
+/// Makes a backup of a file. What fails names the file that it is about.
+fn back_up(rt: &HostRuntime, file: &str, given: &Given<'_>) -> ExitCode {
+    let (note, entries) = match tasks::read_whole(rt, file, tasks::patience(given)) {
+        Ok(whole) => whole,
+        Err(failure) => return failed_on(rt, file, &failure),
+    };
+    match make_backup(rt, given.target, &note.hash_key, &entries) {
+        Ok(()) => ExitCode::SUCCESS,
+        Err(failure) => failed_on(rt, given.target, &failure),
+    }
+}
+
 /// Runs the words of the command line, without the name of the program.
 fn run(rt: &HostRuntime, words: &[String]) -> ExitCode {
     match read_words(words) {
         Ok(Asked::Help) => show(rt, HELP),
         Ok(Asked::HelpOf(verb)) => show(rt, form_of(verb).help),
         Ok(Asked::Version) => show(rt, VERSION),
+        Ok(Asked::Run(Verb::Backup, file, given)) => back_up(rt, file, &given),
         Ok(Asked::Run(verb, file, given)) => match tasks::run(rt, verb, file, &given) {
             Ok(()) => ExitCode::SUCCESS,
             Err(failure) => failed_on(rt, file, &failure),

@@ -2,12 +2,14 @@
 use crate::fault::Failure;
 use merkle_store::Store;
 use merkle_store::framing::{MOST_BYTES, Unwatched, Watch};
-use merkle_store::pulling::{self, Brought, PullFault, Untaken};
-use mst_commands::escape::cut;
+use merkle_store::pulling::{self, Brought, PullFault, Traffic, Untaken};
+use mst_commands::clock::now;
+use mst_commands::escape::{cut, escape};
 use mst_commands::fault::Named;
 use mst_commands::lines::write_keys;
 use sqlite_trees::store::Store as Trees;
 use std::alloc::{AllocError, Global};
+use std::env;
 use std::io::{IsTerminal, Write};
 use store_table::table::Entries;
 
@@ -63,15 +65,43 @@ pub fn tell(rt: &HostRuntime, brought: &Brought) -> Result<(), Failure> {
     Ok(())
 }
 
-/// Answers a peer. It says nothing of it: the side that asks does.
+/// Who asks: the address that ssh tells in the environment, or else a peer.
+fn peer_of(rt: &HostRuntime) -> Result<String, AllocError> {
+    let Ok(connection) = env::var(rt, "SSH_CONNECTION") else {
+        return String::from_str(rt.alloc(), "a peer");
+    };
+    match connection.as_str().split_once(' ') {
+        Some((address, _)) => escape(rt.alloc(), address),
+        None => escape(rt.alloc(), connection.as_str()),
+    }
+}
+
+/// Says on standard error whom this side served since then, in milliseconds since 1970, and what that took.
+fn tell_served(rt: &HostRuntime, traffic: &Traffic, begun: u64) -> Result<(), Failure> {
+    let millis = now(rt)?.saturating_sub(begun);
+    let peer = peer_of(rt)?;
+    eprintln!(rt;
+        "mst: served {peer}: {} {} in {millis} ms; {} bytes sent, {} received",
+        traffic.messages,
+        words_for(traffic.messages, "round", "rounds"),
+        traffic.sent,
+        traffic.came
+    )?;
+    Ok(())
+}
+
+/// Answers a peer, and says what that took.
 pub fn serve<S: Trees + Drop>(rt: &HostRuntime, store: &mut Store<S>) -> Result<(), Failure> {
-    let _traffic = pulling::serve(
+    let begun = now(rt)?;
+    let traffic = pulling::serve(
         store,
         &mut rt.stdin(),
         &mut rt.stdout(),
         MOST_BYTES,
         &mut Unwatched,
     )?;
+    // (the peer was served, though nobody may read what that took)
+    let _ = tell_served(rt, &traffic, begun);
     Ok(())
 }
 

@@ -10,7 +10,7 @@ use std::io::ErrorKind;
 use store_file::OpenFault;
 use store_table::StoreFault;
 
-/// The key isn't there.
+/// The key isn't there, or isn't as a write wants it.
 const NO_KEY: u8 = 1;
 /// The command line is wrong.
 pub const USAGE: u8 = 2;
@@ -52,7 +52,7 @@ fn of_store(fault: &StoreFault) -> u8 {
 /// The status for a fault of a command.
 fn of_command(fault: &Fault) -> u8 {
     match fault {
-        Fault::NoKey => NO_KEY,
+        Fault::NoKey | Fault::Unmet => NO_KEY,
         Fault::InUse => IN_USE,
         Fault::Future(_) => AHEAD,
         Fault::Store(fault) => of_store(fault),

@@ -1,10 +1,11 @@
 //! What each command does.
 ghost use Rattle.std.specs.Prelude.{string_bytes};
+ghost use Rattle.store_table.specs.Entries.{HoldsEntries};
 ghost use Rattle.mst_commands.specs.Carries.{Carries};
-ghost use Rattle.store_table.specs.Logs.{IsSteady, Leaves, LeavesNoMore, Makes, StaysInOk};
+ghost use Rattle.store_table.specs.Logs.{Finds, IsSteady, Leaves, LeavesNoMore, Makes, StaysInOk};
 
 use crate::fault::Failure;
-use crate::files::{Closing, close_behind, expect_file, make_store, open_file};
+use crate::files::{Closing, close_behind, expect_file, make_store, open_file, open_whole};
 use crate::{peers, shell};
 use merkle_digest::RootHash;
 use merkle_store::Store;
@@ -19,6 +20,7 @@ use sqlite_trees::store::Store as Trees;
 use std::fs;
 use store_table::format::{Note, recognise};
 use store_table::log::Log;
+use store_table::table::{Entries, read_log};
 
 /// The root hash of what the file holds.
 fn root_of<S: Trees>(rt: &HostRuntime, log: &mut Log<S>, note: &Note) -> Result<RootHash, Failure>
@@ -51,7 +53,7 @@ pub fn run_open<S: Trees>(
         return Ok(());
     }
     run::run(rt, log, note.writer.as_str(), verb, given, input)?;
-    if verb == Verb::Status {
+    if let Verb::Status | Verb::Check = verb {
         println!(rt; "root {}", root_of(rt, log, note)?)?;
     }
     Ok(())
@@ -67,7 +69,7 @@ fn run_lent<S: Trees>(
 ) -> Result<(), Failure> {
     let note = recognise(rt.alloc(), log)?;
     if verb == Verb::Shell {
-        return shell::run_lines(rt, log, &note);
+        return shell::run_lines(rt, log, &note, given.answers);
     }
     run_open(rt, log, &note, verb, given, input)
 }
@@ -126,6 +128,32 @@ where
     peers::tell_keys(rt, &news)
 }
 
+/// What a store notes of itself, and all its entries.
+fn whole_of<S: Trees>(rt: &HostRuntime, log: &mut Log<S>) -> Result<(Note, Entries), Failure>
+    ensures entries { Finds S.Store log.old log.new result (λ trees whole. HoldsEntries trees whole.1.items) }
+    ensures unchanged { StaysInOk S.Store log.old log.new result }
+    ensures crash { LeavesNoMore S.Store log.old log.new }
+{
+    let note = recognise(rt.alloc(), log)?;
+    let entries = read_log(rt.alloc(), log)?;
+    Ok((note, entries))
+}
+
+/// The same of a log that is open, and closes its file.
+fn whole_on<S: Trees + Drop>(rt: &HostRuntime, log: Log<S>) -> Result<(Note, Entries), Failure>
+where
+    Log<S>: Closing,
+{
+    let mut log = log;
+    let read = whole_of(rt, &mut log);
+    close_behind(log, read)
+}
+
+/// What a store notes of itself, and all its entries, out of its file.
+pub fn read_whole(rt: &HostRuntime, path: &str, seconds: u64) -> Result<(Note, Entries), Failure> {
+    whole_on(rt, open_file(rt, path, seconds)?)
+}
+
 /// Runs a command on a log that is open, and closes its file.
 fn run_on<S: Trees + Drop>(
     rt: &HostRuntime,
@@ -158,6 +186,11 @@ fn print_size(rt: &HostRuntime, path: &str) -> Result<(), Failure> {
 /// How many seconds a command waits for a file that another process has, unless it says otherwise.
 const PATIENCE: u64 = 5;
 
+/// How many seconds a command waits for such a file.
+pub fn patience(given: &Given<'_>) -> u64 {
+    given.wait.unwrap_or(PATIENCE)
+}
+
 /// Runs a command on a file, which is opened once standard input was read to its end where the command takes something from there.
 pub fn run(rt: &HostRuntime, verb: Verb, path: &str, given: &Given<'_>) -> Result<(), Failure> {
     if verb == Verb::Init {
@@ -166,9 +199,13 @@ pub fn run(rt: &HostRuntime, verb: Verb, path: &str, given: &Given<'_>) -> Resul
     // (a file that isn't there is told before anything is typed)
     expect_file(rt, path)?;
     let input = read_input(rt, verb, given)?;
-    let seconds = given.wait.unwrap_or(PATIENCE);
-    run_on(rt, open_file(rt, path, seconds)?, verb, given, input)?;
-    if verb == Verb::Status {
+    let seconds = patience(given);
+    if verb == Verb::Check {
+        run_on(rt, open_whole(rt, path, seconds)?, verb, given, input)?;
+    } else {
+        run_on(rt, open_file(rt, path, seconds)?, verb, given, input)?;
+    }
+    if let Verb::Status | Verb::Check = verb {
         print_size(rt, path)?;
     }
     Ok(())

@@ -29,6 +29,7 @@ ends-for fault.NoStore f g h = absurd h
 ends-for fault.Exists f g h = absurd h
 ends-for fault.InUse f g h = absurd h
 ends-for fault.NoKey f g h = absurd h
+ends-for fault.Unmet f g h = absurd h
 ends-for (fault.TooLong what) f g h = absurd h
 ends-for (fault.Future entry) f g h = absurd h
 ends-for fault.System f g h = absurd h

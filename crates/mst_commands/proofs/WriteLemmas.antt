@@ -40,3 +40,16 @@ module _ (log : Option ℕ) (name : List ℕ) (now : ℕ) (came added : List (Ke
       by : (IsClean g mid × HasMore (map entry_row added) (trees_of g mid) trees) ⊎ g.recovers mid trees → (IsClean g old × Imports came log name now (trees_of g old) trees) ⊎ g.recovers old trees
       by (inl at) = inl (first at.0, imported (trees_of g old) (trees_of g mid) trees (same at.0) (chosen at.0) at.1)
       by (inr r) = inr (no_more trees r)
+
+-- what is written to trees that were only read since
+pub written_read : (Q : Trees → Trees → Type 0) (old mid new : Trees) → mid ≡ old → Q mid new → Q old new
+written_read Q old mid new same written = subst (λ (t : Trees). Q t new) same written
+
+-- a crash leaves what a write leaves of trees that were only read before, and of which that shows `P`
+pub leaves_read : {S : Type 0} (g : Ghosts S) (old mid new : S) (P : Trees → Type 0) (Q : Trees → Trees → Type 0) → IsSteady g old mid → (IsClean g mid → P (trees_of g old))
+    → (IsClean g mid → trees_of g mid ≡ trees_of g old) → LeavesNoMore g old mid → Leaves g mid new Q → Leaves g old new (λ before after. P before × Q before after)
+leaves_read g old mid new P Q steady shown same no_more leaves trees left = by (leaves trees left)
+  where
+    by : (IsClean g mid × Q (trees_of g mid) trees) ⊎ g.recovers mid trees → (IsClean g old × (P (trees_of g old) × Q (trees_of g old) trees)) ⊎ g.recovers old trees
+    by (inl at) = inl (omega (arith, steady.clean, at.0), (shown at.0, written_read Q (trees_of g old) (trees_of g mid) trees (same at.0) at.1))
+    by (inr r) = inr (no_more trees r)

@@ -1,5 +1,5 @@
 -- What each command makes of the table of a store.
-use Rattle.std.specs.Prelude.{◌≡◌, ◌+◌, ◌-◌, ◌^◌, min, ℕ, ⊤, false, true, List, [], Option, Some, None, if◌then◌else◌, string_bytes}
+use Rattle.std.specs.Prelude.{◌≡◌, ◌+◌, ◌-◌, ◌^◌, min, ℕ, ⊤, false, true, List, [], Option, Some, None, IfSome, if◌then◌else◌, string_bytes}
 use Rattle.key_order.specs.Text.{Text as Key}
 use Rattle.mst_words.specs.declared.parse.Given.{Given}
 use Rattle.mst_words.specs.declared.verb.Verb.{Verb}
@@ -9,7 +9,7 @@ use Rattle.store_table.specs.Latest.{IsThere}
 use Rattle.store_table.specs.Rows.{IsCompacted}
 use Rattle.store_table.specs.declared.register.Register.{Register}
 use Rattle.mst_commands.specs.Imports.{Imports}
-use Rattle.mst_commands.specs.Writes.{WritesBy}
+use Rattle.mst_commands.specs.Writes.{IsMet, WritesBy}
 use Rattle.mst_commands.specs.declared.input.Input.{Input}
 use Rattle.mst_commands.specs.declared.input.Input.TheVariants.{Nothing, Value, Records}
 
@@ -32,9 +32,13 @@ abbrev pub entries_of : Input → List (Key × Register)
 entries_of (Records entries) = entries.items
 entries_of _ = []
 
--- a put writes the value under the key, at some time of the clock
-abbrev pub Puts : List ℕ → Given → Input → Trees → Trees → Type 0
-Puts name given input old new = (now : ℕ) × (text : Key) × (string_bytes text ≡ value_of input given) × WritesBy given.key.now name now (Some text) old new
+-- a put writes the value under the key, at some time of the clock, and only if the key was as it is wanted
+pub record Puts (name : List ℕ) (given : Given) (input : Input) (old new : Trees) : Type 0 where
+  pub wanted : IfSome given.wanted (λ wanted. IsMet wanted given.key.now true old)
+  pub now : ℕ
+  pub text : Key
+  pub value : string_bytes text ≡ value_of input given
+  pub written : WritesBy given.key.now name now (Some text) old new
 
 -- a removal is written of the key
 abbrev pub Dels : List ℕ → Given → Trees → Trees → Type 0

@@ -1,7 +1,9 @@
 pub mod Bounds
 pub mod Carries
+pub mod Copies
 pub mod Escapes
 pub mod Faults
+pub mod History
 pub mod Imports
 pub mod Lines
 pub mod Malformed

@@ -40,6 +40,8 @@ pub enum Fault {
     InUse,
     /// The key is not there.
     NoKey,
+    /// The key doesn't say what a write wants of it.
+    Unmet,
     /// A key or a value has more than 1 MiB.
     TooLong(&'static str),
     /// Standard input is no text in UTF-8.
@@ -152,6 +154,9 @@ impl fmt::Display for Fault {
             Fault::Exists => f.write_str("the file exists already"),
             Fault::InUse => f.write_str("the file is in use by another process"),
             Fault::NoKey => f.write_str("no such key"),
+            Fault::Unmet => f.write_str(
+                "the key isn't as --if-absent or --if-value asks: nothing is written",
+            ),
             Fault::TooLong(what) => write!(f, "{what} is longer than 1 MiB"),
             Fault::NotText => f.write_str("standard input isn't valid UTF-8"),
             Fault::NoHeader(header) => write!(

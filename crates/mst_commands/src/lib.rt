@@ -1,10 +1,12 @@
 //! The commands of `mst` on one store's file that need no tree: each reads or writes the table.
 #![tactic(auto)]
 
+pub mod backup;
 pub mod bounds;
 pub mod clock;
 pub mod escape;
 pub mod fault;
+pub mod history;
 pub mod input;
 pub mod lines;
 pub mod log;

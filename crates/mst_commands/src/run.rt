@@ -7,16 +7,17 @@ ghost use Rattle.mst_commands.specs.Faults.{IsDevice, StaysAtDevice};
 use crate::bounds::{Bounds, Listing};
 use crate::clock::{latest, now};
 use crate::fault::Fault;
+use crate::history::history;
 use crate::input::{Input, entries_in, value_of};
 use crate::reading::{count, export, export_log, get, list, status};
-use crate::writing::{del, import, put_text};
+use crate::writing::{del, import, put_if, put_text};
 use mst_words::{Given, Verb};
 use sqlite_trees::store::Store;
 use std::io::{self, BufWriter, ErrorKind, Write};
 use store_table::log::Log;
 use store_table::rows::compact;
 
-/// Writes the value that is given, or that of standard input.
+/// Writes the value that is given, or that of standard input, if the key is as it is wanted.
 fn put_given<S: Store>(
     rt: &HostRuntime,
     log: &mut Log<S>,
@@ -29,7 +30,10 @@ fn put_given<S: Store>(
 {
     let alloc = rt.alloc();
     let text = value_of(alloc, given, input)?;
-    put_text(alloc, log, writer, now(rt)?, given.key, text)
+    let Some(wanted) = given.wanted else {
+        return put_text(alloc, log, writer, now(rt)?, given.key, text);
+    };
+    put_if(alloc, log, writer, now(rt)?, given.key, text, wanted)
 }
 
 /// Prints the value of a key.
@@ -61,6 +65,22 @@ fn print_list<S: Store>(rt: &HostRuntime, log: &mut Log<S>, given: &Given<'_>) -
         json: given.json,
     };
     list(rt.alloc(), log, &mut out, &listing)?;
+    out.flush()?;
+    Ok(())
+}
+
+/// Prints the rows of a key.
+fn print_history<S: Store>(
+    rt: &HostRuntime,
+    log: &mut Log<S>,
+    given: &Given<'_>,
+) -> Result<(), Fault>
+    ensures unchanged { StaysInOk S.Store log.old log.new result }
+    ensures device { StaysAtDevice S.Store log.old log.new result }
+    ensures crash { LeavesNoMore S.Store log.old log.new }
+{
+    let mut out = BufWriter::new(rt.alloc(), io::writer(rt))?;
+    history(rt.alloc(), log, &mut out, given.key, given.json)?;
     out.flush()?;
     Ok(())
 }
@@ -171,8 +191,9 @@ pub fn run<S: Store>(
         Verb::Get => unless_gone(print_value(rt, log, given.key)),
         Verb::Del => del(alloc, log, writer, now(rt)?, given.key),
         Verb::List => unless_gone(print_list(rt, log, given)),
+        Verb::History => unless_gone(print_history(rt, log, given)),
         Verb::Count => print_count(rt, log),
-        Verb::Status => print_status(rt, log, writer),
+        Verb::Status | Verb::Check => print_status(rt, log, writer),
         Verb::Import => import_given(rt, log, writer, given, input),
         Verb::Export => unless_gone(print_csv(rt, log, given.log)),
         Verb::Compact => compact_given(rt, log, given),

@@ -5,17 +5,18 @@ ghost use Rattle.key_order.specs.Map.{IsMap};
 ghost use Rattle.store_table.specs.Latest.{IsThere};
 ghost use Rattle.store_table.specs.Logs.{IsSteady, trees_of, Finds, Makes, Shows, Refuses, StaysInOk, StaysInErr, LeavesNoMore, Leaves};
 ghost use Rattle.mst_commands.specs.Faults.{IsAhead, IsTooLong};
-ghost use Rattle.mst_commands.specs.Writes.{WritesBy};
+ghost use Rattle.mst_commands.specs.Writes.{is_met as says_it, IsMet, WritesBy, WritesIf};
 ghost use Rattle.mst_commands.specs.Malformed.{IsFailure};
 ghost use Rattle.mst_commands.specs.Imports.{IsDated, AreDated, HaveFutureTime, is_newer, AddsOf, Imports};
 
 use crate::escape::cut;
 use crate::fault::{Fault, Named, input_fault};
 use crate::records::MOST;
+use mst_words::Wanted;
 use sqlite_trees::store::Store;
 use std::alloc::{AllocError, Global};
 use std::io::Read;
-use store_table::latest::{put, remove};
+use store_table::latest::{find, put, remove, text_of};
 use store_table::log::Log;
 use store_table::rows::{latest_rows, read_latest, register_in};
 use store_table::table::{Entries, add_all};
@@ -78,6 +79,7 @@ pub fn put_text<S: Store>(
     ensures long { IfErr result (λ why. IsTooLong why → MOST < length key.now ⊎ MOST < string_len text) }
     ensures untouched { IfErr result (λ why. IsTooLong why → log.new ≡ log.old) }
     ensures refused { StaysInErr S.Store log.old log.new result }
+    ensures steady { IsSteady S.Store log.old log.new }
     ensures faults { IfErr result (λ why. ¬ IsTooLong why → IsFailure why) }
     // A crash leaves what it could leave before, or trees with the write.
     ensures crash { Leaves S.Store log.old log.new (WritesBy key.now writer.now now (Some text)) }
@@ -87,6 +89,67 @@ pub fn put_text<S: Store>(
     let writer = String::from_str(alloc, writer)?;
     put(alloc, log, writer, now, key, text)?;
     Ok(())
+}
+
+/// Whether a key that says this is as a write wants it.
+fn is_met(wanted: Wanted<'_>, said: &Option<String>) -> bool
+    ensures { result ≡ says_it wanted.entry said.now }
+{
+    match wanted {
+        Wanted::Absence => said.is_none(),
+        Wanted::Text(text) => match said {
+            Some(own) => own.as_str() == text,
+            None => false,
+        },
+    }
+}
+
+/// Refuses a key that isn't as a write wants it.
+fn expect<S: Store>(
+    alloc: Global,
+    log: &mut Log<S>,
+    key: &str,
+    wanted: Wanted<'_>,
+) -> Result<(), Fault>
+    ensures met { Shows S.Store log.old log.new result (IsMet wanted.entry key.now true) }
+    ensures unmet { Refuses S.Store log.old log.new result Fault.Unmet (IsMet wanted.entry key.now false) }
+    ensures faults { IfErr result (λ why. why ≢ Fault.Unmet → IsFailure why) }
+    ensures unchanged { StaysInOk S.Store log.old log.new result }
+    ensures refused { StaysInErr S.Store log.old log.new result }
+    ensures steady { IsSteady S.Store log.old log.new }
+    ensures crash { LeavesNoMore S.Store log.old log.new }
+{
+    let said = text_of(find(alloc, log, key)?);
+    if is_met(wanted, &said) {
+        Ok(())
+    } else {
+        Err(Fault::Unmet)
+    }
+}
+
+/// Writes a value under a key that is as wanted: not there, or with that text. It takes one look into the table more than [`put_text`].
+///
+/// # Errors
+///
+/// [`Fault::Unmet`] where the key isn't so, and those of [`put_text`]. The file is then as it was.
+pub fn put_if<S: Store>(
+    alloc: Global,
+    log: &mut Log<S>,
+    writer: &str,
+    now: u64,
+    key: &str,
+    text: String,
+    wanted: Wanted<'_>,
+) -> Result<(), Fault>
+    ensures written { Makes S.Store log.old log.new result (WritesIf wanted.entry key.now writer.now now (Some text)) }
+    ensures unmet { Refuses S.Store log.old log.new result Fault.Unmet (IsMet wanted.entry key.now false) }
+    ensures refused { StaysInErr S.Store log.old log.new result }
+    ensures faults { IfErr result (λ why. why ≢ Fault.Unmet → ¬ IsTooLong why → IsFailure why) }
+    // A crash leaves what it could leave before, or trees with the write.
+    ensures crash { Leaves S.Store log.old log.new (WritesIf wanted.entry key.now writer.now now (Some text)) }
+{
+    expect(alloc, log, key, wanted)?;
+    put_text(alloc, log, writer, now, key, text)
 }
 
 /// Removes a key.

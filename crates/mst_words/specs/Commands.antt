@@ -1,18 +1,18 @@
 -- What the words of a command line ask for, and what of them is wrong.
-use Rattle.std.specs.Prelude.{◌≡◌, ◌+◌, ◌^◌, ◌<◌, ℕ, nat_eq, nat_lt, Bool, true, false, not, ◌&&◌, ◌||◌, ◌==◌, if◌then◌else◌, List, [], ◌∷◌, length, codes, Option, Some, None, is_some, option_map, Result, Ok, Err, MatchBool, slice_get}
+use Rattle.std.specs.Prelude.{◌≡◌, ◌+◌, ◌^◌, ◌<◌, ℕ, nat_eq, nat_lt, Bool, true, false, not, ◌&&◌, ◌||◌, ◌==◌, if◌then◌else◌, List, [], ◌∷◌, length, codes, Option, Some, None, Result, Ok, Err, MatchBool, slice_get}
 use Rattle.std.specs.List.{position_or_len, before_first, after_first, starts_with}
 use Rattle.std.specs.Option.{option_map_or}
 use Rattle.std.specs.Str.{bytes_eq}
 use Rattle.std.specs.Str.Parse.{IsNumeral, digits_value, without_leading_plus}
 use Rattle.mst_words.specs.Forms.{places_of, least_of, place_name, takes}
 use Rattle.mst_words.specs.HashKeys.{IsHashKey}
-use Rattle.mst_words.specs.Names.{IsVerbOf, IsSettingOf, setting_name, takes_value}
+use Rattle.mst_words.specs.Names.{IsVerbOf, IsSettingOf, takes_value}
 use Rattle.mst_words.specs.Said.{Word, Said, Reading, Request, Help, HelpOf, Version, Run, Mistake, NoCommand, NoSuchCommand, NoSuchOption, NoValue, HasValue, NoNumber, NoSpan, NoHashKey, LeftOver, Missing, NoLog, begun}
 use Rattle.mst_words.specs.Spans.{IsSpan}
 use Rattle.mst_words.specs.declared.verb.Place.{Place}
-use Rattle.mst_words.specs.declared.verb.Place.TheVariants.{Key, Value, Writer}
+use Rattle.mst_words.specs.declared.verb.Place.TheVariants.{Key, Value, Writer, Target}
 use Rattle.mst_words.specs.declared.verb.Setting.{Setting}
-use Rattle.mst_words.specs.declared.verb.Setting.TheVariants.{From, To, Prefix, Limit, Json, Log, Forget, Ahead, Wait, HashKey as ForHashKey}
+use Rattle.mst_words.specs.declared.verb.Setting.TheVariants.{From, To, Prefix, Limit, Json, Log, Forget, Ahead, Wait, HashKey as ForHashKey, Absent, Old, Answers}
 use Rattle.mst_words.specs.declared.verb.Verb.{Verb}
 
 -- the word is the decimal digits of this number of 64 bits, which may stand after a plus
@@ -30,6 +30,7 @@ abbrev pub placed : Place → Word → Bool → Said → Said
 placed Key word is_behind said = record said { key = word }
 placed Value word is_behind said = record said { value = word; is_input = bytes_eq word (codes "-") && not is_behind }
 placed Writer word is_behind said = record said { writer = Some word }
+placed Target word is_behind said = record said { target = word }
 
 -- what a setting with this value says beside what is said
 abbrev pub Sets : Setting → Word → Said → Result Said Mistake → Type 0
@@ -43,6 +44,9 @@ Sets ForHashKey word said result = Reads IsHashKey word (λ key. record said { h
 Sets Json word said result = result ≡ Ok (record said { json = true })
 Sets Log word said result = result ≡ Ok (record said { log = true })
 Sets Ahead word said result = result ≡ Ok (record said { ahead = true })
+Sets Absent word said result = result ≡ Ok (record said { wanted = Some None })
+Sets Old word said result = result ≡ Ok (record said { wanted = Some (Some word) })
+Sets Answers word said result = result ≡ Ok (record said { answers = true })
 
 -- the same where words were read before
 abbrev pub SetsOn : Setting → Word → Reading → Result Reading Mistake → Type 0

@@ -1,11 +1,11 @@
 -- What stands after each command.
-use Rattle.std.specs.Prelude.{◌<◌, ℕ, Bool, true, false, List, [], ◌∷◌, length, codes}
+use Rattle.std.specs.Prelude.{ℕ, Bool, true, false, List, [], ◌∷◌, codes}
 use Rattle.mst_words.specs.declared.verb.Place.{Place}
-use Rattle.mst_words.specs.declared.verb.Place.TheVariants.{Key, Value, Writer}
+use Rattle.mst_words.specs.declared.verb.Place.TheVariants.{Key, Value, Writer, Target}
 use Rattle.mst_words.specs.declared.verb.Setting.{Setting}
-use Rattle.mst_words.specs.declared.verb.Setting.TheVariants.{From, To, Prefix, Limit, Json, Log, Forget, Ahead, Wait, HashKey as ForHashKey}
+use Rattle.mst_words.specs.declared.verb.Setting.TheVariants.{From, To, Prefix, Limit, Json, Log, Forget, Ahead, Wait, HashKey as ForHashKey, Absent, Old, Answers}
 use Rattle.mst_words.specs.declared.verb.Verb.{Verb}
-use Rattle.mst_words.specs.declared.verb.Verb.TheVariants.{Init, Put, Get, Del, List as ListOf, Count, Root, HashKey, Status, Import, Export, Compact, Shell, Serve, Pull, Diff}
+use Rattle.mst_words.specs.declared.verb.Verb.TheVariants.{Init, Put, Get, Del, List as ListOf, Import, Export, Compact, Shell, Pull, Diff, Backup, History}
 
 -- what stands at each place after the file
 abbrev pub places_of : Verb → List Place
@@ -13,6 +13,8 @@ places_of Init = Writer ∷ []
 places_of Put = Key ∷ Value ∷ []
 places_of Get = Key ∷ []
 places_of Del = Key ∷ []
+places_of Backup = Target ∷ []
+places_of History = Key ∷ []
 places_of _ = []
 
 -- how many of the places have to be there
@@ -21,6 +23,8 @@ least_of Init = 0
 least_of Put = 2
 least_of Get = 1
 least_of Del = 1
+least_of Backup = 1
+least_of History = 1
 least_of _ = 0
 
 -- what a place is called
@@ -28,6 +32,7 @@ abbrev pub place_name : Place → List ℕ
 place_name Key = codes "KEY"
 place_name Value = codes "VALUE"
 place_name Writer = codes "WRITER"
+place_name Target = codes "TO"
 
 -- whether a list shows fewer keys, or shows them otherwise, by a setting
 abbrev pub is_of_list : Setting → Bool
@@ -50,5 +55,9 @@ takes Export Log = true
 takes Compact Forget = true
 takes Pull Ahead = true
 takes Diff Ahead = true
+takes Put Absent = true
+takes Put Old = true
+takes Shell Answers = true
+takes History Json = true
 takes _ Wait = true
 takes _ _ = false

@@ -1,9 +1,9 @@
 -- What commands and settings are called.
 use Rattle.std.specs.Prelude.{◌≡◌, ◌≢◌, ℕ, List, Bool, true, false, codes, Option, MatchOption}
 use Rattle.mst_words.specs.declared.verb.Verb.{Verb}
-use Rattle.mst_words.specs.declared.verb.Verb.TheVariants.{Init, Put, Get, Del, List as ListOf, Count, Root, HashKey, Status, Import, Export, Compact, Shell, Serve, Pull, Diff}
+use Rattle.mst_words.specs.declared.verb.Verb.TheVariants.{Init, Put, Get, Del, List as ListOf, Count, Root, HashKey, Status, Import, Export, Compact, Shell, Serve, Pull, Diff, Backup, History, Check}
 use Rattle.mst_words.specs.declared.verb.Setting.{Setting}
-use Rattle.mst_words.specs.declared.verb.Setting.TheVariants.{From, To, Prefix, Limit, Json, Log, Forget, Ahead, Wait, HashKey as ForHashKey}
+use Rattle.mst_words.specs.declared.verb.Setting.TheVariants.{From, To, Prefix, Limit, Json, Log, Forget, Ahead, Wait, HashKey as ForHashKey, Absent, Old, Answers}
 
 -- the name of a command
 abbrev pub verb_name : Verb → List ℕ
@@ -23,6 +23,9 @@ verb_name Shell = codes "shell"
 verb_name Serve = codes "serve"
 verb_name Pull = codes "pull"
 verb_name Diff = codes "diff"
+verb_name Backup = codes "backup"
+verb_name History = codes "history"
+verb_name Check = codes "check"
 
 -- the name of a setting
 abbrev pub setting_name : Setting → List ℕ
@@ -36,6 +39,9 @@ setting_name Forget = codes "--forget-removals-older-than"
 setting_name Ahead = codes "--allow-ahead"
 setting_name Wait = codes "--wait"
 setting_name ForHashKey = codes "--hash-key"
+setting_name Absent = codes "--if-absent"
+setting_name Old = codes "--if-value"
+setting_name Answers = codes "--answers"
 
 -- the command of this name, or none where no command has it
 abbrev pub IsVerbOf : List ℕ → Option Verb → Type 0
@@ -50,4 +56,6 @@ abbrev pub takes_value : Setting → Bool
 takes_value Json = false
 takes_value Log = false
 takes_value Ahead = false
+takes_value Absent = false
+takes_value Answers = false
 takes_value _ = true

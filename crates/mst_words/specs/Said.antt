@@ -1,11 +1,13 @@
 -- What the words of a command line say, as bytes.
-use Rattle.std.specs.Prelude.{ℕ, Bool, false, List, [], Option, Some, None, Result}
+use Rattle.std.specs.Prelude.{ℕ, Bool, false, List, [], Option, Some, None, option_map, Result}
 use Rattle.std.specs.Option.{option_copied}
 use Rattle.std.specs.Result.{result_map_both}
 use Rattle.mst_words.specs.declared.parse.Asked.{Asked}
 use Rattle.mst_words.specs.declared.parse.Asked.TheVariants as asked
 use Rattle.mst_words.specs.declared.parse.Given.{Given}
 use Rattle.mst_words.specs.declared.parse.Taken.{Taken}
+use Rattle.mst_words.specs.declared.parse.Wanted.{Wanted}
+use Rattle.mst_words.specs.declared.parse.Wanted.TheVariants as wanted
 use Rattle.mst_words.specs.declared.verb.Setting.{Setting}
 use Rattle.mst_words.specs.declared.verb.Verb.{Verb}
 use Rattle.mst_words.specs.declared.wrong.Wrong.{Wrong}
@@ -22,6 +24,7 @@ pub record Said : Type 0 where
   pub value : Word
   pub is_input : Bool
   pub writer : Option Word
+  pub target : Word
   pub hash_key : Option (List ℕ)
   pub from : Option Word
   pub to : Option Word
@@ -32,6 +35,9 @@ pub record Said : Type 0 where
   pub forget : Option ℕ
   pub ahead : Bool
   pub wait : Option ℕ
+  -- what the key has to say, if the write depends on it: nothing, or this text
+  pub wanted : Option (Option Word)
+  pub answers : Bool
 
 -- what no words give
 abbrev pub nothing_said : Said
@@ -40,6 +46,7 @@ nothing_said = record {
   value = [];
   is_input = false;
   writer = None;
+  target = [];
   hash_key = None;
   from = None;
   to = None;
@@ -50,6 +57,8 @@ nothing_said = record {
   forget = None;
   ahead = false;
   wait = None;
+  wanted = None;
+  answers = false;
 }
 
 -- how far the words of a command have been read: what they give, the file, how many stood at places after it, the setting whose value is to
@@ -87,6 +96,11 @@ pub data Mistake : Type 0 where
   NoLog : Word → Mistake
   NotText : Mistake
 
+-- what a key has to say, as bytes
+abbrev pub wanted_of : Wanted → Option Word
+wanted_of wanted.Absence = None
+wanted_of (wanted.Text text) = Some text.now
+
 -- what is given, as bytes
 abbrev pub said_by : Given → Said
 said_by given = record {
@@ -94,6 +108,7 @@ said_by given = record {
   value = given.value.now;
   is_input = given.is_input;
   writer = option_copied given.writer;
+  target = given.target.now;
   hash_key = given.hash_key;
   from = option_copied given.from;
   to = option_copied given.to;
@@ -104,6 +119,8 @@ said_by given = record {
   forget = given.forget;
   ahead = given.ahead;
   wait = given.wait;
+  wanted = option_map wanted_of given.wanted;
+  answers = given.answers;
 }
 
 -- how far words were taken, as bytes

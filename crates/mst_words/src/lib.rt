@@ -9,6 +9,6 @@ pub mod verb;
 pub mod wrong;
 
 pub use line::{NoWords, words_of};
-pub use parse::{Asked, Given, given_of, help_of, read_words};
+pub use parse::{Asked, Given, Wanted, given_of, help_of, read_words};
 pub use verb::Verb;
 pub use wrong::Wrong;

@@ -1,9 +1,10 @@
 //! A command line as what it asks for.
 ghost use Rattle.std.specs.Prelude.{◌≡◌, map, codes, slice_get, string_bytes, false};
 ghost use Rattle.std.specs.Option.{option_copied, option_map_or};
-ghost use Rattle.mst_words.specs.Commands.{Asks, AsksHelp, AsksHelpOf, AsksNamed, Gives, IsBeforeValue, IsNumber, Reads, Sets, Takes, TakesOption};
+ghost use Rattle.mst_words.specs.Commands.{Asks, AsksHelp, AsksHelpOf, AsksNamed, Comes, Gives, IsBeforeValue, IsNumber, Reads, Sets, Takes, TakesOption};
 ghost use Rattle.mst_words.specs.Commands.{finished, is_alone as said_alone, is_help as names_help, is_option as begins_option, placed as says_at, stands};
 ghost use Rattle.mst_words.specs.Forms.{least_of, place_name, places_of};
+ghost use Rattle.mst_words.specs.Names.{takes_value};
 ghost use Rattle.mst_words.specs.Said.{NoNumber, begun, command_of, reading_of, request_of, said_by, told};
 
 use crate::hash_key::hash_key_of;
@@ -13,6 +14,15 @@ use crate::verb::{
 };
 use crate::wrong::Wrong;
 
+/// What a key has to say for a write to be made.
+#[derive(Clone, Copy, Debug, PartialEq, Eq)]
+pub enum Wanted<'a> {
+    /// Nothing: the key isn't there.
+    Absence,
+    /// This text.
+    Text(&'a str),
+}
+
 /// What the words of a command give.
 #[derive(Clone, Copy, Debug, PartialEq, Eq)]
 pub struct Given<'a> {
@@ -21,6 +31,8 @@ pub struct Given<'a> {
     /// Whether the value is to be read from standard input.
     pub is_input: bool,
     pub writer: Option<&'a str>,
+    /// The file that a backup makes.
+    pub target: &'a str,
     pub hash_key: Option<[u8; 16]>,
     pub from: Option<&'a str>,
     pub to: Option<&'a str>,
@@ -34,6 +46,10 @@ pub struct Given<'a> {
     pub ahead: bool,
     /// How many seconds the command waits for a file that another process has, if it says so.
     pub wait: Option<u64>,
+    /// What the key of a put has to say, if the write depends on it.
+    pub wanted: Option<Wanted<'a>>,
+    /// Whether each line of a shell is answered.
+    pub answers: bool,
 }
 
 /// What a command line asks for.
@@ -72,6 +88,7 @@ fn nothing<'a>(file: Option<&'a str>) -> Taken<'a>
             value: "",
             is_input: false,
             writer: None,
+            target: "",
             hash_key: None,
             from: None,
             to: None,
@@ -82,6 +99,8 @@ fn nothing<'a>(file: Option<&'a str>) -> Taken<'a>
             forget: None,
             ahead: false,
             wait: None,
+            wanted: None,
+            answers: false,
         },
         file,
         places: 0,
@@ -102,6 +121,7 @@ fn placed<'a>(given: Given<'a>, place: Place, word: &'a str, is_behind: bool) ->
             given.is_input = word == "-" && !is_behind;
         }
         Place::Writer => given.writer = Some(word),
+        Place::Target => given.target = word,
     }
     given
 }
@@ -161,15 +181,46 @@ fn with_value<'a>(given: Given<'a>, setting: Setting, word: &'a str) -> Result<G
         Setting::Json => given.json = true,
         Setting::Log => given.log = true,
         Setting::Ahead => given.ahead = true,
+        Setting::Absent => given.wanted = Some(Wanted::Absence),
+        Setting::Old => given.wanted = Some(Wanted::Text(word)),
+        Setting::Answers => given.answers = true,
     }
     Ok(given)
+}
+
+/// Takes a setting of this name, which has a value or none, with the value that stood after its `=`, if one did.
+fn at_setting<'a>(
+    taken: Taken<'a>,
+    setting: Setting,
+    name: &'a str,
+    value: Option<&'a str>,
+) -> Result<Taken<'a>, Wrong<'a>>
+    ensures { Comes (takes_value setting) setting name.now (option_copied value.entry) (reading_of taken.entry) (told reading_of result) }
+{
+    let mut taken = taken;
+    let word = match value {
+        Some(value) => {
+            if !has_value(setting) {
+                return Err(Wrong::HasValue(name));
+            }
+            value
+        }
+        None => {
+            if has_value(setting) {
+                taken.pending = Some(setting);
+                return Ok(taken);
+            }
+            name
+        }
+    };
+    taken.given = with_value(taken.given, setting, word)?;
+    Ok(taken)
 }
 
 /// Takes an option, and its value where it has one after `=`.
 fn at_option<'a>(taken: Taken<'a>, verb: Verb, word: &'a str) -> Result<Taken<'a>, Wrong<'a>>
     ensures { TakesOption verb word.now (reading_of taken.entry) (told reading_of result) }
 {
-    let mut taken = taken;
     let (name, value) = match word.split_once('=') {
         Some((name, value)) => (name, Some(value)),
         None => (word, None),
@@ -180,22 +231,7 @@ fn at_option<'a>(taken: Taken<'a>, verb: Verb, word: &'a str) -> Result<Taken<'a
     if !takes_setting(verb, setting) {
         return Err(Wrong::NoSuchOption(name));
     }
-    match value {
-        Some(value) => {
-            if !has_value(setting) {
-                return Err(Wrong::HasValue(name));
-            }
-            taken.given = with_value(taken.given, setting, value)?;
-        }
-        None => {
-            if has_value(setting) {
-                taken.pending = Some(setting);
-            } else {
-                taken.given = with_value(taken.given, setting, word)?;
-            }
-        }
-    }
-    Ok(taken)
+    at_setting(taken, setting, name, value)
 }
 
 /// Whether a word is an option, where `--` hasn't come.
@@ -238,6 +274,7 @@ fn name_of(places: &'static [Place], at: usize) -> &'static str
     match places.get(at) {
         Some(Place::Key) => "KEY",
         Some(Place::Value) => "VALUE",
+        Some(Place::Target) => "TO",
         _ => "WRITER",
     }
 }

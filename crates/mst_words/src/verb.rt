@@ -22,6 +22,9 @@ pub enum Verb {
     Serve,
     Pull,
     Diff,
+    Backup,
+    History,
+    Check,
 }
 
 /// What a word is at its place.
@@ -30,6 +33,7 @@ pub enum Place {
     Key,
     Value,
     Writer,
+    Target,
 }
 
 /// What is given after `--` and a name.
@@ -45,6 +49,9 @@ pub enum Setting {
     Ahead,
     Wait,
     HashKey,
+    Absent,
+    Old,
+    Answers,
 }
 
 /// How the words of a command are given.
@@ -58,7 +65,7 @@ pub struct Form {
     pub help: &'static str,
 }
 
-/// The command of this name. It compares the name with those of the sixteen commands, and takes no memory.
+/// The command of this name. It compares the name with those of the nineteen commands, and takes no memory.
 pub fn verb_of(name: &str) -> Option<Verb>
     ensures { IsVerbOf name.now result }
 {
@@ -79,6 +86,9 @@ pub fn verb_of(name: &str) -> Option<Verb>
         "serve" => Some(Verb::Serve),
         "pull" => Some(Verb::Pull),
         "diff" => Some(Verb::Diff),
+        "backup" => Some(Verb::Backup),
+        "history" => Some(Verb::History),
+        "check" => Some(Verb::Check),
         _ => None,
     }
 }
@@ -98,6 +108,9 @@ pub fn setting_of(name: &str) -> Option<Setting>
         "--allow-ahead" => Some(Setting::Ahead),
         "--wait" => Some(Setting::Wait),
         "--hash-key" => Some(Setting::HashKey),
+        "--if-absent" => Some(Setting::Absent),
+        "--if-value" => Some(Setting::Old),
+        "--answers" => Some(Setting::Answers),
         _ => None,
     }
 }
@@ -107,15 +120,19 @@ pub fn has_value(setting: Setting) -> bool
     ensures { result ≡ takes_value setting }
 {
     match setting {
-        Setting::Json | Setting::Log | Setting::Ahead => false,
+        Setting::Json | Setting::Log | Setting::Ahead | Setting::Absent | Setting::Answers => false,
         _ => true,
     }
 }
 
 const PUT_HELP: &str = "\
-usage: mst put FILE KEY VALUE
+usage: mst put FILE KEY VALUE [--if-absent | --if-value OLD]
 
 Writes the text VALUE under KEY. The VALUE - is read from standard input, to its end; after -- it is the text -.
+
+  --if-absent     only if the key isn't there
+  --if-value OLD  only if the key has the value OLD
+                  Otherwise nothing is written, and the status is 1. Only this copy is asked: another one may have a later write
 ";
 
 const LIST_HELP: &str = "\
@@ -194,6 +211,30 @@ usage: mst del FILE KEY
 Removes the key. It ends with status 1 if the key isn't there.
 ";
 
+const BACKUP_HELP: &str = "\
+usage: mst backup FILE TO
+
+Makes the store TO, with every row of FILE and its hash key. TO is there whole or not at all, and writes by a random name of its own.
+To restore it, copy TO to FILE and remove FILE-wal, while no command has FILE. Restore it on one machine alone: mst-clone makes
+further copies.
+";
+
+const CHECK_HELP: &str = "\
+usage: mst check FILE
+
+Reads every page of the file and every row, and makes the tree. It prints what mst status prints if all is well. If not, the status is
+4, and standard error says what is wrong: restore a backup, or see how far mst export FILE --log comes.
+";
+
+const HISTORY_HELP: &str = "\
+usage: mst history FILE KEY [--json]
+
+Prints a line for each row of the key, the oldest first: TIME, tab, WRITER, tab, put, tab, VALUE; or TIME, tab, WRITER, tab, del.
+TIME is in milliseconds since 1970. Texts are printed as list prints them. compact leaves the last row alone.
+
+  --json  each line is an object with the names time, writer and value, which is null for a removal
+";
+
 const STATUS_HELP: &str = "\
 usage: mst status FILE
 
@@ -214,10 +255,13 @@ Prints the hash key, as 32 hexadecimal digits. All copies of a store have the sa
 ";
 
 const SHELL_HELP: &str = "\
-usage: mst shell FILE
+usage: mst shell FILE [--answers]
 
 Reads commands from standard input, one a line, without mst and FILE. A word in double quotes may have blanks; in it \\\\, \\t, \\n, \\r
 and \\\" stand for these characters.
+What is put and removed between the lines begin and commit is written by commit, all or nothing; the line abort drops it.
+
+  --answers  after what a line prints, a line on standard output says how it ended: ok, or failed: and why
 ";
 
 const SERVE_HELP: &str = "\
@@ -233,7 +277,8 @@ fn places_of(verb: Verb) -> &'static [Place]
     match verb {
         Verb::Init => &[Place::Writer],
         Verb::Put => &[Place::Key, Place::Value],
-        Verb::Get | Verb::Del => &[Place::Key],
+        Verb::Get | Verb::Del | Verb::History => &[Place::Key],
+        Verb::Backup => &[Place::Target],
         _ => &[],
     }
 }
@@ -245,12 +290,15 @@ pub fn takes_setting(verb: Verb, setting: Setting) -> bool
     match setting {
         Setting::Wait => !matches!(verb, Verb::Init),
         Setting::HashKey => matches!(verb, Verb::Init),
-        Setting::From | Setting::To | Setting::Prefix | Setting::Limit | Setting::Json => {
+        Setting::From | Setting::To | Setting::Prefix | Setting::Limit => {
             matches!(verb, Verb::List)
         }
+        Setting::Json => matches!(verb, Verb::List | Verb::History),
         Setting::Log => matches!(verb, Verb::Import | Verb::Export),
         Setting::Ahead => matches!(verb, Verb::Import | Verb::Pull | Verb::Diff),
         Setting::Forget => matches!(verb, Verb::Compact),
+        Setting::Absent | Setting::Old => matches!(verb, Verb::Put),
+        Setting::Answers => matches!(verb, Verb::Shell),
     }
 }
 
@@ -273,6 +321,9 @@ fn help_of(verb: Verb) -> &'static str {
         Verb::Serve => SERVE_HELP,
         Verb::Pull => PULL_HELP,
         Verb::Diff => DIFF_HELP,
+        Verb::Backup => BACKUP_HELP,
+        Verb::History => HISTORY_HELP,
+        Verb::Check => CHECK_HELP,
     }
 }
 
@@ -301,14 +352,17 @@ usage: mst COMMAND FILE [WORDS]
   put FILE KEY VALUE     writes a value under a key; the value - is read from standard input
   get FILE KEY           prints the value of a key
   del FILE KEY           removes a key
+  history FILE KEY       prints the rows of a key, with times and writers
   list FILE              prints each key with its value
   count FILE             prints how many keys there are
   status FILE            prints what the file holds
+  check FILE             reads everything in the file, and prints the same
   root FILE              prints the root hash, equal for copies with the same last rows
   hash-key FILE          prints the hash key, which all copies of a store share
   import FILE            writes the CSV on standard input
   export FILE            prints the keys and values as CSV
   compact FILE           leaves one row in the file for each key
+  backup FILE TO         makes a copy with all rows, under another writer's name
   shell FILE             reads commands from standard input, one a line
   serve FILE             answers a peer on standard input and standard output
   pull FILE              fetches what a peer on standard input and standard output has later
@@ -317,8 +371,8 @@ usage: mst COMMAND FILE [WORDS]
 mst help COMMAND describes a command. Words after -- are never options. mst --version prints the version.
 Each command except init takes --wait SECONDS: while another process has the file, it tries again for that long, 5 seconds
 by default and not at all for 0.
-The status is 0 if all went well, and otherwise a line on standard error says why: 1 the key isn't there, 2 the command line
-is wrong, 3 another process has the file, 4 the file is damaged, 5 it isn't a store that this version reads, 6 the disk or
+The status is 0 if all went well, and otherwise a line on standard error says why: 1 the key isn't there, or isn't as
+--if-absent or --if-value asks, 2 the command line is wrong, 3 another process has the file, 4 the file is damaged, 5 it isn't a store that this version reads, 6 the disk or
 the file is full, 7 the peer failed, 8 an entry is more than a day ahead of the clock, 9 anything else.
 ";
 

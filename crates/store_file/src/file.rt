@@ -114,6 +114,32 @@ pub fn open<D: Disk + Drop>(alloc: Global, files: Files<D>) -> Result<FileStore<
     }
 }
 
+/// Opens the file of a store as [`open`] does, and reads all its pages first. It takes the time of that, and asks nothing of the files.
+///
+/// ```rust crates/mst/src/files.rt
+/// Ok(Log::over(store_file::open_whole(rt.alloc(), files)?))
+/// ```
+///
+/// # Errors
+///
+/// [`OpenFault::Corrupt`] unless each page is in one of the two tables or free, in one place, with rows that ascend; and those of [`open`]. By the
+/// code, and by no clause, nothing is written.
+pub fn open_whole<D: Disk + Drop>(alloc: Global, files: Files<D>) -> Result<FileStore<D>, OpenFault>
+    requires log { IsTrue (D.Disk.is_usable files.log) }
+    requires db { IsTrue (D.Disk.is_usable files.db) }
+    ensures honest { IfOk result (λ it. IsTrue (view it).is_clean → AreClean D.Disk files.log files.db) }
+    ensures laid_out { IfOk result (λ it. IsTrue (view it).is_clean → IsLaidOut (view it)) }
+{
+    let mut files = files;
+    let size = find_size(alloc, &mut files)?;
+    let fresh = unopened(alloc, files, size)?;
+    let before = fresh.tally();
+    match fresh.open() {
+        Ok(store) => Ok(store),
+        Err((error, left)) => Err(named(error, before, &left)),
+    }
+}
+
 /// Makes an empty store in files that hold nothing.
 ///
 /// ```rust crates/store_file/src/tests.rt

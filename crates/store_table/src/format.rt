@@ -151,7 +151,7 @@ fn in_format(note: Note) -> Result<Note, StoreFault>
 /// ```rust crates/mst/src/tasks.rt
 /// let note = recognise(rt.alloc(), log)?;
 /// if verb == Verb::Shell {
-///     return shell::run_lines(rt, log, &note);
+///     return shell::run_lines(rt, log, &note, given.answers);
 /// }
 /// ```
 ///
@@ -260,11 +260,9 @@ fn commit_note<S: Store>(
 
 /// Makes a store of tables without rows, which writes by this name and hashes under this key, or nothing. It takes the time of one transaction.
 ///
-/// ```rust crates/mst/src/files.rt
-/// let made = create(rt.alloc(), &mut log, writer, hash_key);
-/// let closed = log.close_copied();
-/// made?;
-/// closed
+/// ```rust crates/mst_commands/src/backup.rt
+/// create(alloc, log, writer, hash_key)?;
+/// add_all(alloc, log, entries)
 /// ```
 ///
 /// # Errors

@@ -3,13 +3,30 @@ use Rattle.store_table.proofs.Outcomes.{on_ok}
 use Rattle.mst_commands.proofs.CarryLemmas.{leaves_as}
 use Rattle.mst_commands.proofs.run.put_given.Goals as goal
 use Rattle.mst_commands.specs.Carries.{Puts}
-use Rattle.mst_commands.specs.Writes.{WritesBy}
+use Rattle.mst_commands.specs.Writes.{WritesBy, WritesIf}
 
+-- without a condition
+pub returns-in_default-clause-carried : goal.returns-in_default-clause-carried
+returns-in_default-clause-carried g c clean =
+    on_ok c.put_text.result _ _ (λ written. record { wanted = rw c.in_default.is tt; now = c.in_ok-now.field-0; text = c.in_ok-text.text; value = c.in_ok-text.ensures; written = written })
+    (c.put_text.ensures.written clean)
+
+pub returns-in_default-clause-crash : goal.returns-in_default-clause-crash
+returns-in_default-clause-crash g c =
+    leaves_as g.S.Store c.args.log.now c.put_text.new.log (WritesBy c.args.given.now.key.now c.args.writer.now c.in_ok-now.field-0 (Some c.in_ok-text.text))
+    (Puts c.args.writer.now c.args.given.now c.args.input)
+    (λ before after written. record { wanted = rw c.in_default.is tt; now = c.in_ok-now.field-0; text = c.in_ok-text.text; value = c.in_ok-text.ensures; written = written })
+    c.put_text.ensures.crash
+
+-- with one
 pub returns-clause-carried : goal.returns-clause-carried
 returns-clause-carried g c clean =
-    on_ok c.put_text.result _ _ (λ written. (c.in_ok-now.field-0, c.in_ok-text.text, c.in_ok-text.ensures, written)) (c.put_text.ensures.written clean)
+    on_ok c.put_if.result _ _ (λ both. record { wanted = rw c.in-Some.is both.0; now = c.in_ok-now-2.field-0; text = c.in_ok-text.text; value = c.in_ok-text.ensures; written = both.1 })
+    (c.put_if.ensures.written clean)
 
 pub returns-clause-crash : goal.returns-clause-crash
 returns-clause-crash g c =
-    leaves_as g.S.Store c.args.log.now c.put_text.new.log (WritesBy c.args.given.now.key.now c.args.writer.now c.in_ok-now.field-0 (Some c.in_ok-text.text))
-    (Puts c.args.writer.now c.args.given.now c.args.input) (λ before after written. (c.in_ok-now.field-0, c.in_ok-text.text, c.in_ok-text.ensures, written)) c.put_text.ensures.crash
+    leaves_as g.S.Store c.args.log.now c.put_if.new.log (WritesIf c.in-Some.wanted c.args.given.now.key.now c.args.writer.now c.in_ok-now-2.field-0 (Some c.in_ok-text.text))
+    (Puts c.args.writer.now c.args.given.now c.args.input)
+    (λ before after both. record { wanted = rw c.in-Some.is both.0; now = c.in_ok-now-2.field-0; text = c.in_ok-text.text; value = c.in_ok-text.ensures; written = both.1 })
+    c.put_if.ensures.crash

@@ -1,10 +1,9 @@
-use Rattle.std.proofs.Common.{◌≡◌, List, ℕ, Option, option_map, sym, ap, ◌∙◌, inl, inr}
+use Rattle.std.proofs.Common.{Option, option_map, sym, ap, ◌∙◌, inl, inr}
 use Rattle.std.proofs.lemmas.Iterator.{YieldsList-from_chars}
 use Rattle.std.proofs.lemmas.Iterator.Consumers.{YieldsList-end, YieldsList-so_far, YieldsList-turn}
 use Rattle.std.proofs.lemmas.List.{map-id}
 use Rattle.std.proofs.lemmas.Result.{err_from_is_err_and}
 use Rattle.mst_words.specs.Lines.{Line, closed, line_of}
-use Rattle.mst_words.specs.declared.line.NoWords.TheVariants.{Wrong}
 use Rattle.mst_words.specs.declared.line.Place.{Place}
 use Rattle.mst_words.proofs.LineLemmas.{no-words, read-more, same-error, stops-at, words-read, wrong-is-none}
 use Rattle.mst_words.proofs.line.words_of.Goals as goal

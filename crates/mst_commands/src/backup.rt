@@ -1,0 +1,28 @@
+//! A store made of the entries of another one.
+ghost use Rattle.store_table.specs.Logs.{Makes};
+ghost use Rattle.mst_commands.specs.Copies.{IsCopy};
+
+use sqlite_trees::store::Store;
+use std::alloc::Global;
+use store_table::format::{FORMAT, HASH_KEY_LEN, create};
+use store_table::log::Log;
+use store_table::table::add_all;
+use store_table::{Register, StoreFault};
+
+/// Makes a store of these entries in tables without rows, which writes by this name.
+///
+/// # Errors
+///
+/// As those of [`create`] and [`add_all`]. There may then be a store without entries.
+pub fn make_copy<S: Store>(
+    alloc: Global,
+    log: &mut Log<S>,
+    writer: &str,
+    hash_key: &[u8; HASH_KEY_LEN],
+    entries: &[(String, Register)],
+) -> Result<(), StoreFault>
+    ensures copied { Makes S.Store log.old log.new result (λ _. IsCopy FORMAT writer.now hash_key.now entries.now) }
+{
+    create(alloc, log, writer, hash_key)?;
+    add_all(alloc, log, entries)
+}
