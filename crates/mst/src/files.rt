@@ -137,12 +137,32 @@ pub fn expect_file(rt: &HostRuntime, path: &str) -> Result<(), Failure> {
     }
 }
 
+/// How many bytes a log has at least that may have pages: its header and that of a page.
+const LOG_WITH_PAGES: u64 = 56;
+
+/// Whether the log beside a file has no page, so that the first page of the file has said which tables there are.
+fn has_no_log(rt: &HostRuntime, path: &str) -> Result<bool, Failure> {
+    let log = format!(in rt.alloc(); "{path}-wal")?;
+    match fs::metadata(rt, log.as_str()) {
+        Ok(found) => Ok(found.len() < LOG_WITH_PAGES),
+        Err(_) => Ok(false),
+    }
+}
+
 /// Opens a file that is there. Where another process has it, it is tried again for this many seconds.
 pub fn open_file(rt: &HostRuntime, path: &str, seconds: u64) -> Result<Log<FileTrees>, Failure> {
     expect_file(rt, path)?;
     expect_store(rt, path)?;
     let files = wait_for(rt, path, seconds)?;
-    Ok(Log::over(store_file::open(rt.alloc(), files)?))
+    let opened = if has_no_log(rt, path)? {
+        store_file::open_trusted(rt.alloc(), files)
+    } else {
+        store_file::open(rt.alloc(), files)
+    };
+    match opened {
+        Ok(trees) => Ok(Log::over(trees)),
+        Err(fault) => Err(Failure::File(fault)),
+    }
 }
 
 /// The same, once all its pages were read and found to be where they belong.
@@ -229,9 +249,6 @@ fn make_file(rt: &HostRuntime, path: &str) -> Result<(), Failure> {
         Err(error) => Err(Failure::Path(OpenError::Io(error))),
     }
 }
-
-/// How many bytes a log has at least that may have pages: its header and that of a page.
-const LOG_WITH_PAGES: u64 = 56;
 
 /// Refuses a name that a file has, or whose log has pages of another file.
 fn expect_none(rt: &HostRuntime, path: &str, log: &str) -> Result<(), Failure> {

@@ -4,3 +4,4 @@ pub mod StoreLemmas
 pub mod Taken
 pub mod TakenFile
 pub mod TakenPages
+pub mod TakenRecovery

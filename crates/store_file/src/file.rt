@@ -114,6 +114,38 @@ pub fn open<D: Disk + Drop>(alloc: Global, files: Files<D>) -> Result<FileStore<
     }
 }
 
+/// Opens the file of a store as [`open`] does, and recovers it once where that one does twice, as it doesn't read whose tables these are: a database
+/// of other tables may be opened, too.
+///
+/// ```rust crates/store_file/src/tests.rt
+/// let mut second = open_trusted(alloc, files)?;
+/// let found = is_filled(rt, &mut second, &mut row);
+/// ```
+///
+/// # Errors
+///
+/// [`OpenFault`], but for [`OpenFault::Format`].
+pub fn open_trusted<D: Disk + Drop>(
+    alloc: Global,
+    files: Files<D>,
+) -> Result<FileStore<D>, OpenFault>
+    requires log { IsTrue (D.Disk.is_usable files.log) }
+    requires db { IsTrue (D.Disk.is_usable files.db) }
+    requires sound { AreClean D.Disk files.log files.db → ∥ HoldsStore (image_of D.Disk files) ∥₁ }
+    ensures honest { IfOk result (λ it. IsTrue (view it).is_clean → AreClean D.Disk files.log files.db) }
+    ensures laid_out { IfOk result (λ it. IsTrue (view it).is_clean → IsLaidOut (view it)) }
+    ensures found { IfOk result (λ it. IsTrue (view it).is_clean → (db : Trees) → HoldsTrees (image_of D.Disk files) db → (view it).committed ≡ db) }
+{
+    let mut files = files;
+    let size = find_size(alloc, &mut files)?;
+    let fresh = unopened(alloc, files, size)?;
+    let before = fresh.tally();
+    match fresh.open_trusted() {
+        Ok(store) => Ok(store),
+        Err((error, left)) => Err(named(error, before, &left)),
+    }
+}
+
 /// Opens the file of a store as [`open`] does, and reads all its pages first. It takes the time of that, and asks nothing of the files.
 ///
 /// ```rust crates/mst/src/files.rt

@@ -9,5 +9,5 @@ mod tests;
 pub mod unsure;
 
 pub use fault::{OpenFault, ReopenFault};
-pub use file::{close, close_files, create, is_store, open, open_whole, reopen};
+pub use file::{close, close_files, create, is_store, open, open_trusted, open_whole, reopen};
 pub use unsure::Unsure;

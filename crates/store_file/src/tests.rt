@@ -8,7 +8,7 @@ use crate::catalog::{
     ABOUT, ABOUT_SQL, ENTRIES, ENTRIES_SQL, FORMER_ABOUT_SQL, FORMER_ENTRIES_SQL,
 };
 use crate::file::close_any;
-use crate::{OpenFault, Unsure, close, close_files, create, is_store, open, reopen};
+use crate::{OpenFault, Unsure, close, close_files, create, is_store, open, open_trusted, reopen};
 use sqlite_disk::{Disk, Files, Memory};
 use sqlite_pager::{Options, Pager};
 use sqlite_store::{FileStore, Unopened};
@@ -174,6 +174,22 @@ fn are_filled(rt: &impl Abort, alloc: Global, files: Pair) -> Result<bool, Fail>
 fn keeps_what_is_committed(rt: HostRuntime) -> Result<(), Fail> {
     let files = filled(&rt, rt.alloc())?;
     assert!(rt; are_filled(&rt, rt.alloc(), files)?);
+    Ok(())
+}
+
+/// Whether a store that was filled has its rows where its tables aren't looked at.
+fn is_filled_unseen(rt: &impl Abort, alloc: Global) -> Result<bool, Fail> {
+    let files = filled(rt, alloc)?;
+    let mut row = Row::new(alloc);
+    let mut second = open_trusted(alloc, files)?;
+    let found = is_filled(rt, &mut second, &mut row);
+    close(second)?;
+    Ok(found?)
+}
+
+#[test]
+fn opens_what_is_trusted(rt: HostRuntime) -> Result<(), Fail> {
+    assert!(rt; is_filled_unseen(&rt, rt.alloc())?);
     Ok(())
 }
 

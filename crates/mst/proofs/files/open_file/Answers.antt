@@ -4,6 +4,6 @@ use Rattle.mst.proofs.files.open_file.Goals as goal
 
 pub over-requires : goal.over-requires
 over-requires c = record {
-  tables = λ clean. absurd (never_clean c.in_ok-open.field-0 (λ _. refl) clean);
-  rest = λ clean o. absurd (never_clean c.in_ok-open.field-0 (λ _. refl) clean);
+  tables = λ clean. absurd (never_clean c.in-Ok.trees (λ _. refl) clean);
+  rest = λ clean o. absurd (never_clean c.in-Ok.trees (λ _. refl) clean);
 }
