@@ -1,5 +1,5 @@
 -- What a pull brings to a store.
-use Rattle.std.specs.Prelude.{◌≡◌, ◌≤◌, ⊤, ℕ, List, All, length, Result, IfErr, IfSome, string_bytes}
+use Rattle.std.specs.Prelude.{◌≡◌, ◌≤◌, ⊤, ℕ, List, All, length, Option, Result, IfErr, IfSome, string_bytes}
 use Rattle.key_order.specs.Text.{Text}
 use Rattle.sqlite_trees.specs.declared.store.Store.{Ghosts}
 use Rattle.sqlite_trees.specs.Tree.{Trees}
@@ -20,6 +20,10 @@ pub record IsShort (entry : Text × Register) : Type 0 where
   pub key : length (string_bytes entry.0) ≤ 1048576
   pub writer : length (string_bytes entry.1.writer) ≤ 1048576
   pub value : IfSome entry.1.value (λ text. length (string_bytes text) ≤ 1048576)
+
+-- so many are no more than the most that there may be
+abbrev pub IsWithin : Option ℕ → ℕ → Type 0
+IsWithin most count = IfSome most (λ most. count ≤ most)
 
 module _ {S : Type 0} (store : Store S) where
   -- of the entries that came of a catch-up over the streams, each short and none from the future, these are all that are later than what the store has for their keys
@@ -55,10 +59,11 @@ abbrev pub IsBehind : PullFault → Type 0
 IsBehind (fault.Store why) = why ≡ Behind
 IsBehind _ = ⊥
 
--- the errors that name an entry of the peer
+-- the errors for the entries that a peer sent
 abbrev pub IsUntaken : PullFault → Type 0
 IsUntaken (fault.Ahead entry) = ⊤
 IsUntaken (fault.TooLong entry) = ⊤
+IsUntaken (fault.TooMany count) = ⊤
 IsUntaken _ = ⊥
 
 -- over a clean disk, while the log is open, its trees are as they were in each error but that

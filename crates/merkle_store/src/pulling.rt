@@ -5,7 +5,7 @@ ghost use Rattle.merkle_tree_theory.specs.State.{SameSettings};
 ghost use Rattle.store_table.specs.Logs.{IsSteady};
 ghost use Rattle.merkle_store.specs.Framing.{frame_of};
 ghost use Rattle.merkle_store.specs.Kept.{KeepsInStep, StaysSet};
-ghost use Rattle.merkle_store.specs.Pulls.{AreNews, HasBrought, IsShort, LeavesNewsOver, IsBehind, IsUntaken, StaysUnlessPulled};
+ghost use Rattle.merkle_store.specs.Pulls.{AreNews, HasBrought, IsShort, IsWithin, LeavesNewsOver, IsBehind, IsUntaken, StaysUnlessPulled};
 ghost use Rattle.merkle_store.specs.Sessions.{CatchesUp, HasServed};
 
 use crate::fault::StoreFault;
@@ -23,10 +23,16 @@ use std::io::{Read, Write};
 use store_table::Register;
 use store_table::table::Entries;
 
-/// How many messages a pull sends at most, which the peer can't raise. A session asks for the root, for the outlines of at most 256 rounds
-/// with their nodes, and for the rows that these leave: a thousand messages suffice. Each part of an answer that has more than one costs
-/// one more; where parts have [`ANSWER_BYTES`], this many bring a tebibyte, which no store in memory has.
+/// How many messages a pull sends at most, which the peer can't raise. Where parts of an answer have [`ANSWER_BYTES`], this many bring a tebibyte,
+/// which no store in memory has.
 const MOST_MESSAGES: usize = 65_536;
+
+/// How many messages a pull sends whatever comes. A session asks for the root, for the outlines of each level with their nodes, and for the rows that
+/// these leave. A tree has at most 33 levels, so this many suffice, but for the rest of an answer that has more than one part.
+const FREE_MESSAGES: usize = 256;
+
+/// How many bytes have to come for each further message. A part has more ([`ANSWER_BYTES`]).
+const BYTES_FOR_MESSAGE: usize = 65_536;
 
 /// How many bytes the key, the writer and the value of a peer's entry have at most: 1 MiB each.
 pub const MOST_TEXT: usize = 1_048_576;
@@ -53,6 +59,8 @@ pub enum PullFault {
     Ahead(Untaken),
     /// The peer sent an entry whose key, writer or value has more than [`MOST_TEXT`].
     TooLong(Untaken),
+    /// The peer sent this many entries, more than are taken.
+    TooMany(usize),
 }
 
 impl From<WireFault> for PullFault {
@@ -83,6 +91,10 @@ impl fmt::Display for PullFault {
             PullFault::Ahead(_) => write!(f, "{}", StoreFault::Future),
             PullFault::TooLong(_) => f.write_str(
                 "the peer sent a text of more than 1 MiB: nothing was joined",
+            ),
+            PullFault::TooMany(count) => write!(
+                f,
+                "the peer sent {count} entries, more than are taken: nothing was joined"
             ),
         }
     }
@@ -150,6 +162,15 @@ fn ask<R: Read, W: Write, P: Watch>(
     }
 }
 
+/// The traffic with a message of this many bytes and a reply of this many more. A peer that tells little in each reply isn't heard for ever.
+fn counted(traffic: &Traffic, sent: usize, came: usize) -> Result<Traffic, WireFault> {
+    let traffic = traffic.with(sent, came);
+    if traffic.messages > FREE_MESSAGES.saturating_add(traffic.came / BYTES_FOR_MESSAGE) {
+        return Err(WireFault::Endless);
+    }
+    Ok(traffic)
+}
+
 /// The entries of a peer that a replica lacks, and what went over the wire.
 fn entries_of_peer<R: Read, W: Write, P: Watch>(
     alloc: Global,
@@ -170,7 +191,7 @@ fn entries_of_peer<R: Read, W: Write, P: Watch>(
     let mut traffic = Traffic::none();
     'messages: for _ in 0..MOST_MESSAGES {
         let reply = ask(alloc, from, to, most, watch, &message)?;
-        traffic = traffic.with(message.len(), reply.len());
+        traffic = counted(&traffic, message.len(), reply.len())?;
         match session.take(replica, &reply)? {
             Next::Ask(next, question) => {
                 session = next;
@@ -222,6 +243,17 @@ fn too_long(alloc: Global, entry: &(String, Register)) -> PullFault
     }
 }
 
+/// Refuses more entries than are taken.
+fn expect_few(count: usize, most: Option<u64>) -> Result<(), PullFault>
+    ensures few { OnOk result (IsWithin most count) }
+    ensures told { IfErr result (λ why. ¬ IsBehind why) }
+{
+    match most {
+        Some(most) if count as u64 > most => Err(PullFault::TooMany(count)),
+        _ => Ok(()),
+    }
+}
+
 /// Refuses entries of a peer of which one is too long, or too far ahead of the clock.
 fn expect_fit(alloc: Global, entries: &[(String, Register)], latest: u64) -> Result<(), PullFault>
     ensures short { OnOk result (All IsShort entries.now) }
@@ -249,6 +281,7 @@ pub fn look<S: Trees + Drop, R: Read, W: Write, P: Watch>(
     from: &mut R,
     to: &mut W,
     most: u64,
+    most_entries: Option<u64>,
     watch: &mut P,
 ) -> Result<Entries, PullFault>
     ensures news { IfOk result (λ news. AreNews store.old most (W.contents to.old, R.remaining from.old)
@@ -259,19 +292,22 @@ pub fn look<S: Trees + Drop, R: Read, W: Write, P: Watch>(
 {
     let alloc = store.alloc();
     let (entries, _traffic) = entries_of_peer(alloc, &mut store.replica, from, to, most, watch)?;
+    expect_few(entries.len(), most_entries)?;
     expect_fit(alloc, &entries, store.latest)?;
     let news = store.news(entries)?;
     Ok(news)
 }
 
-/// Brings the entries of a peer that the store lacks, all or none. A reply has at most `most` bytes, else the peer is refused.
+/// Brings the entries of a peer that the store lacks, all or none. If a reply has more than `most` bytes, or more than `most_entries` entries come,
+/// the pull fails.
 ///
 /// ```rust crates/mst/src/peers.rt
 /// let pulled = pulling::pull(
 ///     store,
-///     &mut rt.stdin(),
+///     &mut from,
 ///     &mut rt.stdout(),
 ///     MOST_BYTES,
+///     given.max_entries,
 ///     &mut lines,
 /// );
 /// ```
@@ -284,9 +320,11 @@ pub fn pull<S: Trees + Drop, R: Read, W: Write, P: Watch>(
     from: &mut R,
     to: &mut W,
     most: u64,
+    most_entries: Option<u64>,
     watch: &mut P,
 ) -> Result<Brought, PullFault>
     ensures kept { KeepsInStep S.Store store.old store.new result }
+    ensures few { IfOk result (λ brought. IsWithin most_entries brought.entries) }
     ensures brought { IfOk result (HasBrought S.Store store.old store.new most (W.contents to.old, R.remaining from.old)
         (W.contents to.new, R.remaining from.new)) }
     ensures settings { StaysSet store.old store.new }
@@ -305,8 +343,9 @@ pub fn pull<S: Trees + Drop, R: Read, W: Write, P: Watch>(
 {
     let alloc = store.alloc();
     let (entries, traffic) = entries_of_peer(alloc, &mut store.replica, from, to, most, watch)?;
-    expect_fit(alloc, &entries, store.latest)?;
     let count = entries.len();
+    expect_few(count, most_entries)?;
+    expect_fit(alloc, &entries, store.latest)?;
     let news = store.join(entries)?;
     Ok(Brought {
         entries: count,
@@ -319,13 +358,13 @@ pub fn pull<S: Trees + Drop, R: Read, W: Write, P: Watch>(
 /// [`ANSWER_BYTES`], and the peer asks for the rest.
 ///
 /// ```rust crates/mst/src/peers.rt
-/// let traffic = pulling::serve(
+/// let served = pulling::serve(
 ///     store,
-///     &mut rt.stdin(),
+///     &mut from,
 ///     &mut rt.stdout(),
 ///     MOST_BYTES,
 ///     &mut Unwatched,
-/// )?;
+/// );
 /// ```
 ///
 /// # Errors

@@ -102,7 +102,7 @@ pub fn read_store<S: Trees>(
 /// ```rust crates/mst/src/tasks.rt
 /// let mut store = merkle_store::store::open(rt.alloc(), log, latest)?;
 /// if verb == Verb::Pull {
-///     return run_pull(rt, store);
+///     return run_pull(rt, store, given);
 /// }
 /// ```
 ///

@@ -14,7 +14,7 @@ pub enum WireFault {
     TooLong(u64),
     /// The peer stopped in the middle of a message, or before its reply.
     Cut,
-    /// The peer answers in more parts than a session may have.
+    /// The peer answers in more parts than a session may have, as one does that tells a row a reply.
     Endless,
     /// The input or the output failed.
     Device,

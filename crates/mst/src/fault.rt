@@ -28,6 +28,8 @@ pub enum Failure {
     Ahead(Named),
     /// A peer sent an entry whose key, writer or value is too long.
     TooLong(Named),
+    /// A peer sent more bytes than it may.
+    TooMany,
     /// Commands of a shell failed, each with its line on standard error.
     Lines(u64),
 }
@@ -107,6 +109,7 @@ impl fmt::Display for Failure {
                 f,
                 "the peer sent an entry whose key, writer or value is longer than 1 MiB: {entry}: nothing was joined"
             ),
+            Failure::TooMany => f.write_str("the peer sent more bytes than --max-bytes allows"),
             Failure::Lines(1) => f.write_str("1 command failed"),
             Failure::Lines(count) => write!(f, "{count} commands failed"),
         }

@@ -3,7 +3,6 @@
 //! It ends with status 0, or with another one and a line on standard error that says why (`status`).
 #![tactic(auto)]
 
-mod change;
 mod fault;
 mod files;
 mod look;
@@ -15,7 +14,8 @@ mod tasks;
 use fault::Failure;
 use files::make_backup;
 use mst_commands::escape::escape;
-use mst_words::verb::{HELP, VERSION, form_of};
+use mst_words::help::HELP;
+use mst_words::verb::{VERSION, form_of};
 use mst_words::{Asked, Given, Verb, Wrong, read_words};
 use status::{USAGE, status_of};
 use std::alloc::AllocError;

@@ -6,11 +6,12 @@ use merkle_store::pulling::{self, Brought, PullFault, Traffic, Untaken};
 use mst_commands::clock::now;
 use mst_commands::escape::{cut, escape};
 use mst_commands::fault::Named;
-use mst_commands::lines::write_keys;
+use mst_commands::news::write_news;
+use mst_words::Given;
 use sqlite_trees::store::Store as Trees;
 use std::alloc::{AllocError, Global};
 use std::env;
-use std::io::{IsTerminal, Write};
+use std::io::{IsTerminal, Read, Write};
 use store_table::table::Entries;
 
 /// How many bytes come between two lines on standard error.
@@ -90,16 +91,34 @@ fn tell_served(rt: &HostRuntime, traffic: &Traffic, begun: u64) -> Result<(), Fa
     Ok(())
 }
 
+/// How many bytes a peer may send, unless another number is given: 64 GiB.
+const MOST_OF_SESSION: u64 = 68_719_476_736;
+
+/// How many bytes a peer may send.
+fn most_of(given: &Given<'_>) -> u64 {
+    given.max_bytes.unwrap_or(MOST_OF_SESSION)
+}
+
 /// Answers a peer, and says what that took.
-pub fn serve<S: Trees + Drop>(rt: &HostRuntime, store: &mut Store<S>) -> Result<(), Failure> {
+pub fn serve<S: Trees + Drop>(
+    rt: &HostRuntime,
+    store: &mut Store<S>,
+    given: &Given<'_>,
+) -> Result<(), Failure> {
     let begun = now(rt)?;
-    let traffic = pulling::serve(
+    // (one byte more than the peer may send, so that the end of these isn't that of its messages)
+    let mut from = rt.stdin().take(most_of(given).saturating_add(1));
+    let served = pulling::serve(
         store,
-        &mut rt.stdin(),
+        &mut from,
         &mut rt.stdout(),
         MOST_BYTES,
         &mut Unwatched,
-    )?;
+    );
+    if from.limit() == 0 {
+        return Err(Failure::TooMany);
+    }
+    let traffic = served?;
     // (the peer was served, though nobody may read what that took)
     let _ = tell_served(rt, &traffic, begun);
     Ok(())
@@ -130,40 +149,54 @@ fn failure_of(alloc: Global, fault: PullFault) -> Failure {
 }
 
 /// Brings what a peer has.
-pub fn pull<S: Trees + Drop>(rt: &HostRuntime, store: &mut Store<S>) -> Result<Brought, Failure> {
+pub fn pull<S: Trees + Drop>(
+    rt: &HostRuntime,
+    store: &mut Store<S>,
+    given: &Given<'_>,
+) -> Result<Brought, Failure> {
     let mut lines = lines_of(rt);
+    let mut from = rt.stdin().take(most_of(given));
     let pulled = pulling::pull(
         store,
-        &mut rt.stdin(),
+        &mut from,
         &mut rt.stdout(),
         MOST_BYTES,
+        given.max_entries,
         &mut lines,
     );
     match pulled {
         Ok(brought) => Ok(brought),
+        Err(_) if from.limit() == 0 => Err(Failure::TooMany),
         Err(fault) => Err(failure_of(rt.alloc(), fault)),
     }
 }
 
 /// The entries that a pull would bring.
-pub fn look<S: Trees + Drop>(rt: &HostRuntime, store: &mut Store<S>) -> Result<Entries, Failure> {
+pub fn look<S: Trees + Drop>(
+    rt: &HostRuntime,
+    store: &mut Store<S>,
+    given: &Given<'_>,
+) -> Result<Entries, Failure> {
+    let mut from = rt.stdin().take(most_of(given));
     let looked = pulling::look(
         store,
-        &mut rt.stdin(),
+        &mut from,
         &mut rt.stdout(),
         MOST_BYTES,
+        given.max_entries,
         &mut Unwatched,
     );
     match looked {
         Ok(news) => Ok(news),
+        Err(_) if from.limit() == 0 => Err(Failure::TooMany),
         Err(fault) => Err(failure_of(rt.alloc(), fault)),
     }
 }
 
-/// Tells on standard error the keys of entries, a line each, once memory was found for all lines.
-pub fn tell_keys(rt: &HostRuntime, entries: &Entries) -> Result<(), Failure> {
+/// Tells on standard error what a pull would bring, a line for each entry, once memory was found for all lines.
+pub fn tell_news(rt: &HostRuntime, entries: &Entries, json: bool) -> Result<(), Failure> {
     let mut lines = Vec::new(rt.alloc());
-    write_keys(rt.alloc(), &mut lines, entries)?;
+    write_news(rt.alloc(), &mut lines, entries, json)?;
     rt.stderr().write_all(&lines)?;
     Ok(())
 }

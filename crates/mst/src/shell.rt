@@ -1,9 +1,11 @@
 //! Commands on one file, a line each.
-use crate::change::Change;
 use crate::fault::Failure;
-use crate::tasks::run_open;
+use crate::tasks::{print_end, run_open};
+use mst_commands::change::Change;
+use mst_commands::clock::now;
 use mst_commands::{Fault, Input};
-use mst_words::verb::{HELP, form_of, verb_of};
+use mst_words::help::HELP;
+use mst_words::verb::{form_of, verb_of};
 use mst_words::{Asked, Given, NoWords, Verb, given_of, help_of, words_of};
 use sqlite_trees::store::Store;
 use std::alloc::Global;
@@ -12,6 +14,9 @@ use std::io::{self, ErrorKind};
 use store_table::StoreFault;
 use store_table::format::Note;
 use store_table::log::Log;
+
+/// What is said of a `commit` or an `abort` that no `begin` stands before.
+const NO_CHANGE: &str = "no change has begun";
 
 /// A line of the shell.
 #[derive(Clone, Copy)]
@@ -118,7 +123,10 @@ fn run_verb<S: Store>(
         return run_waiting(rt, log, change, at, verb, &given);
     }
     match run_open(rt, log, note, verb, &given, Input::Nothing) {
-        Ok(()) => Ok(true),
+        Ok(()) => {
+            print_end(rt, verb, given.json, None)?;
+            Ok(true)
+        }
         Err(failure) => at.refuse(rt, &failure),
     }
 }
@@ -161,15 +169,12 @@ fn commit<S: Store>(
     let Some(change) = change.take() else {
         return at.refuse(rt, &NO_CHANGE);
     };
-    match change.land(rt, log, note.writer.as_str()) {
+    match change.land(rt.alloc(), log, note.writer.as_str(), now(rt)?) {
         Ok(true) => Ok(true),
         Ok(false) => at.refuse(rt, &"a line of the change failed: nothing of it is written"),
         Err(fault) => at.refuse(rt, &fault),
     }
 }
-
-/// What is said of a `commit` or an `abort` that no `begin` stands before.
-const NO_CHANGE: &str = "no change has begun";
 
 /// Runs a line that is one word about changes, if it is one, and returns whether it succeeded.
 fn run_of_change<S: Store>(

@@ -55,6 +55,7 @@ fn of_command(fault: &Fault) -> u8 {
         Fault::NoKey | Fault::Unmet => NO_KEY,
         Fault::InUse => IN_USE,
         Fault::Future(_) => AHEAD,
+        Fault::Damaged(_) => DAMAGED,
         Fault::Store(fault) => of_store(fault),
         Fault::Device(error) => of_device(error.kind()),
         _ => OTHER,
@@ -106,7 +107,7 @@ fn of_pull(fault: &PullFault) -> u8 {
         PullFault::Wire(fault) => of_wire(fault),
         PullFault::Store(fault) => of_store(fault),
         PullFault::Ahead(_) => AHEAD,
-        PullFault::TooLong(_) => PEER,
+        PullFault::TooLong(_) | PullFault::TooMany(_) => PEER,
     }
 }
 
@@ -119,7 +120,7 @@ pub fn status_of(failure: &Failure) -> u8 {
         Failure::Mode(_) => FOREIGN,
         Failure::Pull(fault) => of_pull(fault),
         Failure::Ahead(_) => AHEAD,
-        Failure::TooLong(_) => PEER,
+        Failure::TooLong(_) | Failure::TooMany => PEER,
         Failure::Lines(_) => OTHER,
     }
 }

@@ -32,7 +32,39 @@ fn root_of<S: Trees>(rt: &HostRuntime, log: &mut Log<S>, note: &Note) -> Result<
     Ok(replica.root_hash().clone()?)
 }
 
-/// Runs a command on an open log of a store that notes this of itself, with what was read from standard input before.
+/// Prints a root hash as a line of a status, or as a member of an object of JSON.
+fn print_root(rt: &HostRuntime, root: &RootHash, json: bool) -> Result<(), Failure> {
+    if json {
+        print!(rt; "\"root\":\"{root}\"")?;
+    } else {
+        println!(rt; "root {root}")?;
+    }
+    Ok(())
+}
+
+/// Prints what ends a status: how many bytes the file has, where that is told, and the end of an object of JSON.
+pub fn print_end(
+    rt: &HostRuntime,
+    verb: Verb,
+    json: bool,
+    bytes: Option<u64>,
+) -> Result<(), Failure> {
+    if !matches!(verb, Verb::Status | Verb::Check) {
+        return Ok(());
+    }
+    match bytes {
+        Some(bytes) if json => print!(rt; ",\"bytes\":{bytes}")?,
+        Some(bytes) => println!(rt; "bytes {bytes}")?,
+        None => {}
+    }
+    if json {
+        println!(rt; "}}")?;
+    }
+    Ok(())
+}
+
+/// Runs a command on an open log of a store that notes this of itself, with what was read from standard input before. What ends a status isn't
+/// printed yet (`print_end`).
 pub fn run_open<S: Trees>(
     rt: &HostRuntime,
     log: &mut Log<S>,
@@ -54,7 +86,7 @@ pub fn run_open<S: Trees>(
     }
     run::run(rt, log, note.writer.as_str(), verb, given, input)?;
     if let Verb::Status | Verb::Check = verb {
-        println!(rt; "root {}", root_of(rt, log, note)?)?;
+        print_root(rt, &root_of(rt, log, note)?, given.json)?;
     }
     Ok(())
 }
@@ -88,6 +120,7 @@ fn run_peer<S: Trees + Drop>(
     rt: &HostRuntime,
     log: Log<S>,
     verb: Verb,
+    given: &Given<'_>,
     latest: u64,
 ) -> Result<(), Failure>
 where
@@ -95,22 +128,26 @@ where
 {
     let mut store = merkle_store::store::open(rt.alloc(), log, latest)?;
     if verb == Verb::Pull {
-        return run_pull(rt, store);
+        return run_pull(rt, store, given);
     }
     if verb == Verb::Diff {
-        return run_diff(rt, store);
+        return run_diff(rt, store, given);
     }
-    let served = peers::serve(rt, &mut store);
+    let served = peers::serve(rt, &mut store, given);
     close_behind(store.into_log(), served)
 }
 
 /// Brings what a peer has, and says what that was once the file is closed.
-fn run_pull<S: Trees + Drop>(rt: &HostRuntime, store: Store<S>) -> Result<(), Failure>
+fn run_pull<S: Trees + Drop>(
+    rt: &HostRuntime,
+    store: Store<S>,
+    given: &Given<'_>,
+) -> Result<(), Failure>
 where
     Log<S>: Closing,
 {
     let mut store = store;
-    let pulled = peers::pull(rt, &mut store);
+    let pulled = peers::pull(rt, &mut store, given);
     let brought = close_behind(store.into_log(), pulled)?;
     // (what came is in the file, though nobody may read how much it was)
     let _ = peers::tell(rt, &brought);
@@ -118,14 +155,18 @@ where
 }
 
 /// Looks at what a pull would bring, and tells it once the file is closed.
-fn run_diff<S: Trees + Drop>(rt: &HostRuntime, store: Store<S>) -> Result<(), Failure>
+fn run_diff<S: Trees + Drop>(
+    rt: &HostRuntime,
+    store: Store<S>,
+    given: &Given<'_>,
+) -> Result<(), Failure>
 where
     Log<S>: Closing,
 {
     let mut store = store;
-    let looked = peers::look(rt, &mut store);
+    let looked = peers::look(rt, &mut store, given);
     let news = close_behind(store.into_log(), looked)?;
-    peers::tell_keys(rt, &news)
+    peers::tell_news(rt, &news, given.json)
 }
 
 /// What a store notes of itself, and all its entries.
@@ -167,20 +208,18 @@ where
 {
     let mut log = log;
     if let Verb::Serve | Verb::Pull | Verb::Diff = verb {
-        return run_peer(rt, log, verb, time_of(rt, given)?);
+        return run_peer(rt, log, verb, given, time_of(rt, given)?);
     }
     let done = run_lent(rt, &mut log, verb, given, input);
     close_behind(log, done)
 }
 
-/// Prints how many bytes a file has.
-fn print_size(rt: &HostRuntime, path: &str) -> Result<(), Failure> {
-    let bytes = match fs::metadata(rt, path) {
-        Ok(found) => found.len(),
-        Err(error) => return Err(Failure::Path(OpenError::Io(error))),
-    };
-    println!(rt; "bytes {bytes}")?;
-    Ok(())
+/// How many bytes a file has.
+fn size_of(rt: &HostRuntime, path: &str) -> Result<u64, Failure> {
+    match fs::metadata(rt, path) {
+        Ok(found) => Ok(found.len()),
+        Err(error) => Err(Failure::Path(OpenError::Io(error))),
+    }
 }
 
 /// How many seconds a command waits for a file that another process has, unless it says otherwise.
@@ -205,8 +244,5 @@ pub fn run(rt: &HostRuntime, verb: Verb, path: &str, given: &Given<'_>) -> Resul
     } else {
         run_on(rt, open_file(rt, path, seconds)?, verb, given, input)?;
     }
-    if let Verb::Status | Verb::Check = verb {
-        print_size(rt, path)?;
-    }
-    Ok(())
+    print_end(rt, verb, given.json, Some(size_of(rt, path)?))
 }

@@ -32,6 +32,7 @@ ends-for fault.NoKey f g h = absurd h
 ends-for fault.Unmet f g h = absurd h
 ends-for (fault.TooLong what) f g h = absurd h
 ends-for (fault.Future entry) f g h = absurd h
+ends-for (fault.Damaged rows) f g h = absurd h
 ends-for fault.System f g h = absurd h
 
 -- one record more after those that were reached

@@ -1,7 +1,7 @@
 -- What each command makes of the table of a store.
 use Rattle.std.specs.Prelude.{◌≡◌, ◌+◌, ◌-◌, ◌^◌, min, ℕ, ⊤, false, true, List, [], Option, Some, None, IfSome, if◌then◌else◌, string_bytes}
 use Rattle.key_order.specs.Text.{Text as Key}
-use Rattle.mst_words.specs.declared.parse.Given.{Given}
+use Rattle.mst_words.specs.declared.asked.Given.{Given}
 use Rattle.mst_words.specs.declared.verb.Verb.{Verb}
 use Rattle.mst_words.specs.declared.verb.Verb.TheVariants.{Put, Del, Import, Compact}
 use Rattle.sqlite_trees.specs.Tree.{Trees}

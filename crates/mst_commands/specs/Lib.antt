@@ -1,5 +1,6 @@
 pub mod Bounds
 pub mod Carries
+pub mod Changing
 pub mod Copies
 pub mod Escapes
 pub mod Faults
@@ -7,6 +8,7 @@ pub mod History
 pub mod Imports
 pub mod Lines
 pub mod Malformed
+pub mod News
 pub mod Quotes
 pub mod Reads
 pub mod Records

@@ -47,7 +47,3 @@ lines_of bounds json limit rows = flat_map (line_as json) (take limit (filter_ma
 -- what a list of rows writes
 abbrev pub list_of : Listing → List (Key × Register) → List ℕ
 list_of listing rows = lines_of listing.bounds listing.json listing.limit rows
-
--- the key of a row in a line
-abbrev pub key_line : Key × Register → List ℕ
-key_line row = line_of (string_bytes row.0) ++ codes "\n"

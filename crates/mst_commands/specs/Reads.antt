@@ -1,13 +1,17 @@
 -- What the commands that read find.
-use Rattle.std.specs.Prelude.{◌≡◌, ℕ, List, [], ◌∷◌, ◌++◌, Option, Some, codes, length, string_bytes, count_by, decimal}
+use Rattle.std.specs.Prelude.{◌≡◌, ℕ, Bool, List, [], ◌∷◌, ◌++◌, Option, Some, codes, length, string_bytes, count_by, decimal, if◌then◌else◌}
+use Rattle.std.specs.Global.{Vec}
 use Rattle.std.specs.Io.KnownBytes.{Appends}
 use Rattle.key_order.specs.Text.{Text as Key}
 use Rattle.sqlite_trees.specs.Tree.{Trees}
 use Rattle.store_table.specs.Entries.{HoldsEntries}
 use Rattle.store_table.specs.Latest.{IsLatestAt, text_of}
 use Rattle.store_table.specs.Rows.{HasLatestRows, says_text, is_removal, last_time}
+use Rattle.store_table.specs.Sifting.{AreSifted}
 use Rattle.store_table.specs.declared.register.Register.{Register}
 use Rattle.store_table.specs.declared.rows.Summary.{Summary}
+use Rattle.store_table.specs.declared.sifting.BadRow.{BadRow}
+use Rattle.mst_commands.specs.Escapes.{json_of}
 use Rattle.mst_commands.specs.Lines.{list_of}
 use Rattle.mst_commands.specs.Records.{pairs_text, log_text}
 use Rattle.mst_commands.specs.declared.bounds.Listing.{Listing}
@@ -41,6 +45,15 @@ abbrev pub WritesLog : {W : Type 0} → (W → Option (List ℕ)) → W → Tree
 WritesLog contents old trees new =
     (entries : List (Key × Register)) × HoldsEntries trees entries × Appends (contents old) (contents new) (log_text entries)
 
+-- each row of the table is that of an entry
+abbrev pub AreEntries : Trees → Type 0
+AreEntries trees = (entries : List (Key × Register)) × HoldsEntries trees entries
+
+-- the table's rows that are entries were written as CSV, and these are the others
+abbrev pub WritesSifted : {W : Type 0} → (W → Option (List ℕ)) → W → Trees → W × Vec BadRow → Type 0
+WritesSifted contents old trees done =
+    (entries : List (Key × Register)) × AreSifted (trees 0) entries (length done.1.items) × Appends (contents old) (contents done.0) (log_text entries)
+
 -- this many of the rows say a text, this many are removals, and this is the greatest time
 pub record HaveNumbers (rows : List (Key × Register)) (summary : Summary) : Type 0 where
   pub keys : summary.keys ≡ count_by says_text rows
@@ -61,7 +74,17 @@ status_text summary rows name =
     codes "keys " ++ (decimal summary.keys ++ (codes "\nremoved " ++ (decimal summary.removed ++ (codes "\nrows " ++ (decimal rows
     ++ (codes "\nlast write " ++ (decimal summary.last ++ (codes "\nwriter " ++ (name ++ codes "\n")))))))))
 
--- the table's numbers and a name were written
-abbrev pub WritesStatus : {W : Type 0} → List ℕ → (W → Option (List ℕ)) → W → W → Trees → Type 0
-WritesStatus name contents old new trees =
-    (summary : Summary) × IsSummary trees summary × Appends (contents old) (contents new) (status_text summary (length (trees 0)) name)
+-- the same as the members of an object of JSON, which go on
+abbrev pub status_object : Summary → ℕ → List ℕ → List ℕ
+status_object summary rows name =
+    codes "{\"keys\":" ++ (decimal summary.keys ++ (codes ",\"removed\":" ++ (decimal summary.removed ++ (codes ",\"rows\":" ++ (decimal rows
+    ++ (codes ",\"last_write\":" ++ (decimal summary.last ++ (codes ",\"writer\":" ++ (json_of name ++ codes ",")))))))))
+
+-- the numbers and the name, as JSON or in lines
+abbrev pub status_as : Bool → Summary → ℕ → List ℕ → List ℕ
+status_as json summary rows name = if json then status_object summary rows name else status_text summary rows name
+
+-- the table's numbers and a name were written, as JSON or in lines
+abbrev pub WritesStatus : {W : Type 0} → Bool → List ℕ → (W → Option (List ℕ)) → W → W → Trees → Type 0
+WritesStatus json name contents old new trees =
+    (summary : Summary) × IsSummary trees summary × Appends (contents old) (contents new) (status_as json summary (length (trees 0)) name)

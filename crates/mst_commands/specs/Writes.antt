@@ -5,8 +5,8 @@ use Rattle.std.specs.Str.{bytes_eq}
 use Rattle.key_order.specs.Text.{Text as Key}
 use Rattle.sqlite_trees.specs.Tree.{Trees}
 use Rattle.store_table.specs.Latest.{WritesOver}
-use Rattle.mst_words.specs.declared.parse.Wanted.{Wanted}
-use Rattle.mst_words.specs.declared.parse.Wanted.TheVariants as wanted
+use Rattle.mst_words.specs.declared.asked.Wanted.{Wanted}
+use Rattle.mst_words.specs.declared.asked.Wanted.TheVariants as wanted
 use Rattle.mst_commands.specs.Reads.{IsTextAt}
 
 -- one row is added, and nothing else changes: a write of the value by this name, over the latest register of the key

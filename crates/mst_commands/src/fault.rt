@@ -52,6 +52,8 @@ pub enum Fault {
     BadLine(u64, &'static str),
     /// An import of a log has an entry whose time is too far ahead of the clock.
     Future(Named),
+    /// So many rows of the table are no entries.
+    Damaged(usize),
     /// The store refused or failed.
     Store(StoreFault),
     /// Standard input or output failed.
@@ -170,6 +172,11 @@ impl fmt::Display for Fault {
             Fault::Future(entry) => write!(
                 f,
                 "the input has an entry more than a day ahead of the clock (--allow-ahead takes it): {entry}: nothing is imported"
+            ),
+            Fault::Damaged(1) => f.write_str("the file is damaged: 1 of its rows is no entry"),
+            Fault::Damaged(rows) => write!(
+                f,
+                "the file is damaged: {rows} of its rows are no entries"
             ),
             Fault::Store(fault) => write!(f, "{fault}"),
             Fault::Device(error) => write!(f, "standard input or output failed: {error}"),

@@ -45,7 +45,7 @@ fn write_line<W: Write>(alloc: Global, out: &mut W, register: &Register) -> Resu
 }
 
 /// A text as JSON, or null.
-fn json_or_null(alloc: Global, value: &Option<String>) -> Result<String, AllocError>
+pub(crate) fn json_or_null(alloc: Global, value: &Option<String>) -> Result<String, AllocError>
     ensures { IfOk result (λ text. string_bytes text ≡ change_json value.now) }
 {
     match value {

@@ -3,13 +3,16 @@
 
 pub mod backup;
 pub mod bounds;
+pub mod change;
 pub mod clock;
+pub mod damage;
 pub mod escape;
 pub mod fault;
 pub mod history;
 pub mod input;
 pub mod lines;
 pub mod log;
+pub mod news;
 pub mod quotes;
 pub mod reading;
 pub mod records;

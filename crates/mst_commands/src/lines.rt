@@ -1,8 +1,8 @@
 //! Keys and texts in lines.
-ghost use Rattle.std.specs.Prelude.{◌≡◌, ◌-◌, [], ◌∷◌, length, is_some, flat_map, filter_map, IfOk, IfErr, OnOk};
+ghost use Rattle.std.specs.Prelude.{◌≡◌, ◌-◌, [], ◌∷◌, length, is_some, filter_map, IfOk, IfErr, OnOk};
 ghost use Rattle.std.specs.Io.KnownBytes.{Appends};
 ghost use Rattle.mst_commands.specs.Malformed.{IsFailure};
-ghost use Rattle.mst_commands.specs.Lines.{text_line, json_line, line_as, row_line, pair_within, lines_of, key_line};
+ghost use Rattle.mst_commands.specs.Lines.{text_line, json_line, line_as, row_line, pair_within, lines_of};
 
 use crate::bounds::Listing;
 use crate::escape::{escape, json_string};
@@ -86,21 +86,4 @@ pub fn write_next<W: Write>(
     } else {
         Ok(left)
     }
-}
-
-/// Writes the keys of entries, a line each, as a list writes them.
-pub fn write_keys<W: Write>(
-    alloc: Global,
-    out: &mut W,
-    entries: &[(String, Register)],
-) -> Result<(), Fault>
-    ensures bytes { OnOk result (Appends (W.contents out.old) (W.contents out.new) (flat_map key_line entries.now)) }
-    ensures faults { IfErr result IsFailure }
-{
-    'entries: for entry in entries {
-        let key = escape(alloc, entry.0.as_str())?;
-        out.write_all(key.as_bytes())?;
-        out.write_all(b"\n")?;
-    }
-    Ok(())
 }

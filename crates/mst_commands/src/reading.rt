@@ -1,12 +1,14 @@
 //! The commands that read.
 ghost use Rattle.std.specs.Prelude.{◌≡◌, ◌≢◌, ◌+◌, if◌then◌else◌, ◌++◌, [], ◌∷◌, length, string_bytes, IfOk, IfErr, OnOk};
 ghost use Rattle.std.specs.Io.KnownBytes.{Appends};
-ghost use Rattle.store_table.specs.Logs.{Finds, Shows, Refuses, StaysInOk, StaysInErr, LeavesNoMore};
+ghost use Rattle.store_table.specs.Logs.{IsSteady, Finds, Shows, Refuses, StaysInOk, StaysInErr, LeavesNoMore};
 ghost use Rattle.mst_commands.specs.Faults.{IsDevice, StaysAtDevice};
 ghost use Rattle.mst_commands.specs.Malformed.{IsFailure};
-ghost use Rattle.mst_commands.specs.Reads.{IsTextAt, WritesText, WritesList, WritesCount, WritesStatus, WritesPairs, WritesLog, IsSummary, SumsOn, status_text};
+ghost use Rattle.mst_commands.specs.Reads.{IsTextAt, WritesText, WritesList, WritesCount, WritesStatus, WritesPairs, WritesLog, WritesSifted};
+ghost use Rattle.mst_commands.specs.Reads.{IsSummary, SumsOn, status_as, status_object as object_text, status_text};
 
 use crate::bounds::Listing;
+use crate::escape::json_string;
 use crate::fault::Fault;
 use crate::lines::write_next;
 use crate::log::write_log;
@@ -17,7 +19,7 @@ use std::io::Write;
 use store_table::log::Log;
 use store_table::reader::{begin, next_latest};
 use store_table::rows::Summary;
-use store_table::table::read_log;
+use store_table::sifting::{BadRow, Sifted, sift};
 use store_table::{Register, StoreFault, latest};
 
 /// The text of a key.
@@ -133,6 +135,7 @@ pub fn sum_up<S: Store>(alloc: Global, log: &mut Log<S>) -> Result<(Summary, usi
     ensures rows { Finds S.Store log.old log.new result (λ trees sum. sum.1 ≡ length (trees 0)) }
     ensures faults { IfErr result IsFailure }
     ensures unchanged { StaysInOk S.Store log.old log.new result }
+    ensures steady { OnOk result (IsSteady S.Store log.old log.new) }
     ensures crash { LeavesNoMore S.Store log.old log.new }
 {
     let mut walk = begin(alloc, log)?;
@@ -181,7 +184,42 @@ fn status_lines(alloc: Global, summary: &Summary, rows: usize, name: &str) -> Re
     )?)
 }
 
-/// Writes the numbers of the file, a line each, and the name by which it writes. It takes the time of reading all rows, and memory for a few.
+/// The numbers of the file and a name, as the members of an object of JSON, which go on.
+fn status_object(alloc: Global, summary: &Summary, rows: usize, name: &str) -> Result<String, Fault>
+    ensures text { IfOk result (λ text. string_bytes text ≡ object_text summary.now rows name.now) }
+    ensures faults { IfErr result IsFailure }
+{
+    let Summary {
+        keys,
+        removed,
+        last,
+    } = *summary;
+    let name = json_string(alloc, name)?;
+    Ok(format!(in alloc;
+        "{{\"keys\":{keys},\"removed\":{removed},\"rows\":{rows},\"last_write\":{last},\"writer\":{name},"
+    )?)
+}
+
+/// The numbers of the file and a name.
+fn status_of(
+    alloc: Global,
+    summary: &Summary,
+    rows: usize,
+    name: &str,
+    json: bool,
+) -> Result<String, Fault>
+    ensures text { IfOk result (λ text. string_bytes text ≡ status_as json summary.now rows name.now) }
+    ensures faults { IfErr result IsFailure }
+{
+    if json {
+        status_object(alloc, summary, rows, name)
+    } else {
+        status_lines(alloc, summary, rows, name)
+    }
+}
+
+/// Writes the numbers of the file and the name by which it writes: a line each, or as the first members of an object of JSON, behind which its
+/// others can follow. It takes the time of reading all rows, and memory for a few.
 ///
 /// # Errors
 ///
@@ -191,14 +229,16 @@ pub fn status<S: Store, W: Write>(
     log: &mut Log<S>,
     out: &mut W,
     name: &str,
+    json: bool,
 ) -> Result<(), Fault>
-    ensures written { Shows S.Store log.old log.new result (WritesStatus name.now W.contents out.old out.new) }
+    ensures written { Shows S.Store log.old log.new result (WritesStatus json name.now W.contents out.old out.new) }
     ensures faults { IfErr result IsFailure }
     ensures unchanged { StaysInOk S.Store log.old log.new result }
+    ensures steady { OnOk result (IsSteady S.Store log.old log.new) }
     ensures crash { LeavesNoMore S.Store log.old log.new }
 {
     let (summary, rows) = sum_up(alloc, log)?;
-    let text = status_lines(alloc, &summary, rows, name)?;
+    let text = status_of(alloc, &summary, rows, name, json)?;
     out.write_all(text.as_bytes())?;
     Ok(())
 }
@@ -231,7 +271,7 @@ pub fn export<S: Store, W: Write + Drop>(
     Err(Fault::Store(StoreFault::Malformed))
 }
 
-/// Writes the log as CSV, a record for each row of the table, and hands back the output.
+/// Writes the log as CSV, a record for each row of the table that is an entry, and hands back the output and the rows that are none.
 ///
 /// # Errors
 ///
@@ -240,13 +280,15 @@ pub fn export_log<S: Store, W: Write + Drop>(
     alloc: Global,
     log: &mut Log<S>,
     out: W,
-) -> Result<W, Fault>
-    ensures written { Finds S.Store log.old log.new result (WritesLog W.contents out) }
+) -> Result<(W, Vec<BadRow>), Fault>
+    ensures written { Finds S.Store log.old log.new result (WritesSifted W.contents out) }
+    ensures whole { Finds S.Store log.old log.new result (λ trees done. done.1.items ≡ [] → WritesLog W.contents out trees done.0) }
     ensures faults { IfErr result IsFailure }
     ensures unchanged { StaysInOk S.Store log.old log.new result }
     ensures device { StaysAtDevice S.Store log.old log.new result }
     ensures crash { LeavesNoMore S.Store log.old log.new }
 {
-    let entries = read_log(alloc, log)?;
-    write_log(alloc, out, &entries)
+    let Sifted { entries, bad } = sift(alloc, log)?;
+    let out = write_log(alloc, out, &entries)?;
+    Ok((out, bad))
 }

@@ -1,11 +1,12 @@
 //! A command on an open store.
 ghost use Rattle.std.specs.Prelude.{◌≡◌, IfErr, OnOk};
-ghost use Rattle.store_table.specs.Logs.{Makes, Leaves, LeavesNoMore, StaysInOk};
+ghost use Rattle.store_table.specs.Logs.{IsSteady, Makes, Leaves, LeavesNoMore, StaysInOk};
 ghost use Rattle.mst_commands.specs.Carries.{Carries, Compacts, ImportsGiven, Puts};
 ghost use Rattle.mst_commands.specs.Faults.{IsDevice, StaysAtDevice};
 
 use crate::bounds::{Bounds, Listing};
 use crate::clock::{latest, now};
+use crate::damage::{expect_entries, tell};
 use crate::fault::Fault;
 use crate::history::history;
 use crate::input::{Input, entries_in, value_of};
@@ -108,14 +109,45 @@ fn print_count<S: Store>(rt: &HostRuntime, log: &mut Log<S>) -> Result<(), Fault
 }
 
 /// Prints what the file holds.
-fn print_status<S: Store>(rt: &HostRuntime, log: &mut Log<S>, writer: &str) -> Result<(), Fault>
+fn print_status<S: Store>(
+    rt: &HostRuntime,
+    log: &mut Log<S>,
+    writer: &str,
+    json: bool,
+) -> Result<(), Fault>
     ensures unchanged { StaysInOk S.Store log.old log.new result }
+    ensures steady { OnOk result (IsSteady S.Store log.old log.new) }
     ensures crash { LeavesNoMore S.Store log.old log.new }
 {
     let mut out = BufWriter::new(rt.alloc(), io::writer(rt))?;
-    status(rt.alloc(), log, &mut out, writer)?;
+    status(rt.alloc(), log, &mut out, writer, json)?;
     out.flush()?;
     Ok(())
+}
+
+/// Prints what the file holds, once each row was found to be an entry.
+fn print_check<S: Store>(
+    rt: &HostRuntime,
+    log: &mut Log<S>,
+    writer: &str,
+    json: bool,
+) -> Result<(), Fault>
+    ensures unchanged { StaysInOk S.Store log.old log.new result }
+    ensures crash { LeavesNoMore S.Store log.old log.new }
+{
+    expect_entries(rt, log)?;
+    print_status(rt, log, writer, json)
+}
+
+/// Prints the log as CSV, but for rows that are no entries: these it names on standard error, and fails.
+fn print_log<S: Store>(rt: &HostRuntime, log: &mut Log<S>) -> Result<(), Fault>
+    ensures unchanged { StaysInOk S.Store log.old log.new result }
+    ensures device { StaysAtDevice S.Store log.old log.new result }
+    ensures crash { LeavesNoMore S.Store log.old log.new }
+{
+    let out = BufWriter::new(rt.alloc(), io::writer(rt))?;
+    let (_out, bad) = export_log(rt.alloc(), log, out)?;
+    tell(rt, &bad)
 }
 
 /// Prints the keys and values, or the log, as CSV.
@@ -124,13 +156,11 @@ fn print_csv<S: Store>(rt: &HostRuntime, log: &mut Log<S>, is_log: bool) -> Resu
     ensures device { StaysAtDevice S.Store log.old log.new result }
     ensures crash { LeavesNoMore S.Store log.old log.new }
 {
-    let alloc = rt.alloc();
-    let out = BufWriter::new(alloc, io::writer(rt))?;
     if is_log {
-        export_log(alloc, log, out)?;
-    } else {
-        export(alloc, log, out)?;
+        return print_log(rt, log);
     }
+    let out = BufWriter::new(rt.alloc(), io::writer(rt))?;
+    export(rt.alloc(), log, out)?;
     Ok(())
 }
 
@@ -193,7 +223,8 @@ pub fn run<S: Store>(
         Verb::List => unless_gone(print_list(rt, log, given)),
         Verb::History => unless_gone(print_history(rt, log, given)),
         Verb::Count => print_count(rt, log),
-        Verb::Status | Verb::Check => print_status(rt, log, writer),
+        Verb::Status => print_status(rt, log, writer, given.json),
+        Verb::Check => print_check(rt, log, writer, given.json),
         Verb::Import => import_given(rt, log, writer, given, input),
         Verb::Export => unless_gone(print_csv(rt, log, given.log)),
         Verb::Compact => compact_given(rt, log, given),

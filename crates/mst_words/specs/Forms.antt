@@ -3,9 +3,9 @@ use Rattle.std.specs.Prelude.{ℕ, Bool, true, false, List, [], ◌∷◌, codes
 use Rattle.mst_words.specs.declared.verb.Place.{Place}
 use Rattle.mst_words.specs.declared.verb.Place.TheVariants.{Key, Value, Writer, Target}
 use Rattle.mst_words.specs.declared.verb.Setting.{Setting}
-use Rattle.mst_words.specs.declared.verb.Setting.TheVariants.{From, To, Prefix, Limit, Json, Log, Forget, Ahead, Wait, HashKey as ForHashKey, Absent, Old, Answers}
+use Rattle.mst_words.specs.declared.verb.Setting.TheVariants.{From, To, Prefix, Limit, Json, Log, Forget, Ahead, Wait, HashKey as ForHashKey, Absent, Old, Answers, MaxBytes, MaxEntries}
 use Rattle.mst_words.specs.declared.verb.Verb.{Verb}
-use Rattle.mst_words.specs.declared.verb.Verb.TheVariants.{Init, Put, Get, Del, List as ListOf, Import, Export, Compact, Shell, Pull, Diff, Backup, History}
+use Rattle.mst_words.specs.declared.verb.Verb.TheVariants.{Init, Put, Get, Del, List as ListOf, Import, Export, Compact, Shell, Serve, Pull, Diff, Backup, History, Status, Check}
 
 -- what stands at each place after the file
 abbrev pub places_of : Verb → List Place
@@ -59,5 +59,13 @@ takes Put Absent = true
 takes Put Old = true
 takes Shell Answers = true
 takes History Json = true
+takes Status Json = true
+takes Check Json = true
+takes Diff Json = true
+takes Serve MaxBytes = true
+takes Pull MaxBytes = true
+takes Pull MaxEntries = true
+takes Diff MaxBytes = true
+takes Diff MaxEntries = true
 takes _ Wait = true
 takes _ _ = false

@@ -3,7 +3,7 @@ use Rattle.std.specs.Prelude.{◌≡◌, ◌≢◌, ℕ, List, Bool, true, false
 use Rattle.mst_words.specs.declared.verb.Verb.{Verb}
 use Rattle.mst_words.specs.declared.verb.Verb.TheVariants.{Init, Put, Get, Del, List as ListOf, Count, Root, HashKey, Status, Import, Export, Compact, Shell, Serve, Pull, Diff, Backup, History, Check}
 use Rattle.mst_words.specs.declared.verb.Setting.{Setting}
-use Rattle.mst_words.specs.declared.verb.Setting.TheVariants.{From, To, Prefix, Limit, Json, Log, Forget, Ahead, Wait, HashKey as ForHashKey, Absent, Old, Answers}
+use Rattle.mst_words.specs.declared.verb.Setting.TheVariants.{From, To, Prefix, Limit, Json, Log, Forget, Ahead, Wait, HashKey as ForHashKey, Absent, Old, Answers, MaxBytes, MaxEntries}
 
 -- the name of a command
 abbrev pub verb_name : Verb → List ℕ
@@ -42,6 +42,8 @@ setting_name ForHashKey = codes "--hash-key"
 setting_name Absent = codes "--if-absent"
 setting_name Old = codes "--if-value"
 setting_name Answers = codes "--answers"
+setting_name MaxBytes = codes "--max-bytes"
+setting_name MaxEntries = codes "--max-entries"
 
 -- the command of this name, or none where no command has it
 abbrev pub IsVerbOf : List ℕ → Option Verb → Type 0

@@ -2,12 +2,12 @@
 use Rattle.std.specs.Prelude.{ℕ, Bool, false, List, [], Option, Some, None, option_map, Result}
 use Rattle.std.specs.Option.{option_copied}
 use Rattle.std.specs.Result.{result_map_both}
-use Rattle.mst_words.specs.declared.parse.Asked.{Asked}
-use Rattle.mst_words.specs.declared.parse.Asked.TheVariants as asked
-use Rattle.mst_words.specs.declared.parse.Given.{Given}
+use Rattle.mst_words.specs.declared.asked.Asked.{Asked}
+use Rattle.mst_words.specs.declared.asked.Asked.TheVariants as asked
+use Rattle.mst_words.specs.declared.asked.Given.{Given}
 use Rattle.mst_words.specs.declared.parse.Taken.{Taken}
-use Rattle.mst_words.specs.declared.parse.Wanted.{Wanted}
-use Rattle.mst_words.specs.declared.parse.Wanted.TheVariants as wanted
+use Rattle.mst_words.specs.declared.asked.Wanted.{Wanted}
+use Rattle.mst_words.specs.declared.asked.Wanted.TheVariants as wanted
 use Rattle.mst_words.specs.declared.verb.Setting.{Setting}
 use Rattle.mst_words.specs.declared.verb.Verb.{Verb}
 use Rattle.mst_words.specs.declared.wrong.Wrong.{Wrong}
@@ -38,6 +38,8 @@ pub record Said : Type 0 where
   -- what the key has to say, if the write depends on it: nothing, or this text
   pub wanted : Option (Option Word)
   pub answers : Bool
+  pub max_bytes : Option ℕ
+  pub max_entries : Option ℕ
 
 -- what no words give
 abbrev pub nothing_said : Said
@@ -59,6 +61,8 @@ nothing_said = record {
   wait = None;
   wanted = None;
   answers = false;
+  max_bytes = None;
+  max_entries = None;
 }
 
 -- how far the words of a command have been read: what they give, the file, how many stood at places after it, the setting whose value is to
@@ -121,6 +125,8 @@ said_by given = record {
   wait = given.wait;
   wanted = option_map wanted_of given.wanted;
   answers = given.answers;
+  max_bytes = given.max_bytes;
+  max_entries = given.max_entries;
 }
 
 -- how far words were taken, as bytes

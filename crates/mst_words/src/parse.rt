@@ -7,62 +7,13 @@ ghost use Rattle.mst_words.specs.Forms.{least_of, place_name, places_of};
 ghost use Rattle.mst_words.specs.Names.{takes_value};
 ghost use Rattle.mst_words.specs.Said.{NoNumber, begun, command_of, reading_of, request_of, said_by, told};
 
+use crate::asked::{Asked, Given, Wanted};
 use crate::hash_key::hash_key_of;
 use crate::span::milliseconds_of;
 use crate::verb::{
     Form, Place, Setting, Verb, form_of, has_value, setting_of, takes_setting, verb_of,
 };
 use crate::wrong::Wrong;
-
-/// What a key has to say for a write to be made.
-#[derive(Clone, Copy, Debug, PartialEq, Eq)]
-pub enum Wanted<'a> {
-    /// Nothing: the key isn't there.
-    Absence,
-    /// This text.
-    Text(&'a str),
-}
-
-/// What the words of a command give.
-#[derive(Clone, Copy, Debug, PartialEq, Eq)]
-pub struct Given<'a> {
-    pub key: &'a str,
-    pub value: &'a str,
-    /// Whether the value is to be read from standard input.
-    pub is_input: bool,
-    pub writer: Option<&'a str>,
-    /// The file that a backup makes.
-    pub target: &'a str,
-    pub hash_key: Option<[u8; 16]>,
-    pub from: Option<&'a str>,
-    pub to: Option<&'a str>,
-    pub prefix: Option<&'a str>,
-    pub limit: Option<u64>,
-    pub json: bool,
-    pub log: bool,
-    /// Removals that are older, in milliseconds, are dropped.
-    pub forget: Option<u64>,
-    /// Whether entries of another copy may be more than a day ahead of the clock.
-    pub ahead: bool,
-    /// How many seconds the command waits for a file that another process has, if it says so.
-    pub wait: Option<u64>,
-    /// What the key of a put has to say, if the write depends on it.
-    pub wanted: Option<Wanted<'a>>,
-    /// Whether each line of a shell is answered.
-    pub answers: bool,
-}
-
-/// What a command line asks for.
-#[derive(Clone, Copy, Debug, PartialEq, Eq)]
-pub enum Asked<'a> {
-    /// The help of the program.
-    Help,
-    /// The help of a command.
-    HelpOf(Verb),
-    Version,
-    /// A command on a file.
-    Run(Verb, &'a str, Given<'a>),
-}
 
 /// The words so far.
 #[derive(Drop)]
@@ -101,6 +52,8 @@ fn nothing<'a>(file: Option<&'a str>) -> Taken<'a>
             wait: None,
             wanted: None,
             answers: false,
+            max_bytes: None,
+            max_entries: None,
         },
         file,
         places: 0,
@@ -184,6 +137,8 @@ fn with_value<'a>(given: Given<'a>, setting: Setting, word: &'a str) -> Result<G
         Setting::Absent => given.wanted = Some(Wanted::Absence),
         Setting::Old => given.wanted = Some(Wanted::Text(word)),
         Setting::Answers => given.answers = true,
+        Setting::MaxBytes => given.max_bytes = Some(number_of(word)?),
+        Setting::MaxEntries => given.max_entries = Some(number_of(word)?),
     }
     Ok(given)
 }

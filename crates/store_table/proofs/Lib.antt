@@ -9,5 +9,6 @@ pub mod OrderOfEntries
 pub mod Outcomes
 pub mod Reading
 pub mod RowLemmas
+pub mod SiftLemmas
 pub mod Walking
 pub mod Writing

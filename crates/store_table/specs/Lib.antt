@@ -9,6 +9,7 @@ pub mod RegisterBytes
 pub mod RegisterLaws
 pub mod Registers
 pub mod Rows
+pub mod Sifting
 pub mod Transactions
 pub mod Walks
 pub mod WireRegisters

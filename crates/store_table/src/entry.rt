@@ -1,9 +1,10 @@
 //! Entries as rows of the table.
-ghost use Rattle.std.specs.Prelude.{◌≡◌, ◌≤◌, ◌^◌, ◌++◌, ◌∷◌, [], pos, string_bytes, IfOk, IfErr, OnOk, IsErrOf};
+ghost use Rattle.std.specs.Prelude.{◌≡◌, ◌≢◌, ◌≤◌, ◌^◌, ◌++◌, ◌∷◌, [], ℕ, pos, string_bytes, IfOk, IfErr, OnOk, IsErrOf};
 ghost use Rattle.sqlite_value.specs.Value.{owned};
 ghost use Rattle.sqlite_value.specs.declared.value.Value.TheVariants.{Int, Text};
 ghost use Rattle.store_table.specs.Entries.{entry_row, entry_row_of, value_of};
 ghost use Rattle.store_table.specs.Faults.{IsFailure, IsUnwritten};
+ghost use Rattle.store_table.specs.Sifting.{IsNoEntry, IsNoText, IsNoValue};
 
 use crate::fault::StoreFault;
 use crate::register::Register;
@@ -53,6 +54,7 @@ pub(crate) fn fill_row(row: &mut Row, key: &str, register: &Register) -> Result<
 /// A text, in memory of its own.
 pub(crate) fn text_in(alloc: Global, value: ValueRef<'_>) -> Result<String, StoreFault>
     ensures text { IfOk result (λ text. owned value.entry ≡ Text (string_bytes text)) }
+    ensures none { IsErrOf result StoreFault.Malformed → IsNoText (owned value.entry) }
     ensures failed { IfErr result IsFailure }
 {
     let ValueRef::Text(bytes) = value else {
@@ -67,6 +69,7 @@ pub(crate) fn text_in(alloc: Global, value: ValueRef<'_>) -> Result<String, Stor
 /// A time.
 fn time_in(value: ValueRef<'_>) -> Result<u64, StoreFault>
     ensures time { IfOk result (λ time. owned value.entry ≡ Int (pos time)) }
+    ensures none { IsErrOf result StoreFault.Malformed → (time : ℕ) → owned value.entry ≢ Int (pos time) }
     ensures failed { IfErr result IsFailure }
 {
     let ValueRef::Int(number) = value else {
@@ -81,6 +84,7 @@ fn time_in(value: ValueRef<'_>) -> Result<u64, StoreFault>
 /// A text, or that the key was removed.
 fn value_in(alloc: Global, value: ValueRef<'_>) -> Result<Option<String>, StoreFault>
     ensures value { IfOk result (λ said. owned value.entry ≡ value_of said) }
+    ensures none { IsErrOf result StoreFault.Malformed → IsNoValue (owned value.entry) }
     ensures failed { IfErr result IsFailure }
 {
     match value {
@@ -92,6 +96,7 @@ fn value_in(alloc: Global, value: ValueRef<'_>) -> Result<Option<String>, StoreF
 /// The entry of a row, in memory of its own.
 pub(crate) fn entry_of(alloc: Global, row: &Row) -> Result<(String, Register), StoreFault>
     ensures entry { IfOk result (λ entry. row.now ≡ entry_row entry) }
+    ensures none { IsErrOf result StoreFault.Malformed → IsNoEntry row.now }
     ensures failed { IfErr result IsFailure }
 {
     if row.len() != 4 {

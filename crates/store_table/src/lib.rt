@@ -10,6 +10,7 @@ pub mod reader;
 pub mod register;
 mod registers;
 pub mod rows;
+pub mod sifting;
 pub mod table;
 mod walk;
 

@@ -2,6 +2,7 @@ use Rattle.std.proofs.Common.{◌++◌, ◌∷◌, [], Option, subst, ◌∙◌}
 use Rattle.key_order.specs.Text.{Text as Key}
 use Rattle.store_table.specs.Reading.{WalksOn}
 use Rattle.store_table.specs.declared.register.Register.{Register}
+use Rattle.store_table.proofs.Walking.{steady_then}
 use Rattle.mst_commands.proofs.reading.sum_up.Goals as goal
 
 pub returns-in_default-clause-numbers : goal.returns-in_default-clause-numbers
@@ -13,6 +14,11 @@ pub returns-in_default-clause-rows : goal.returns-in_default-clause-rows
 returns-in_default-clause-rows g c clean =
     let (given, walked, numbers) = c.rows.invariant in
     c.count.ensures ∙ (c.in_ok-row.ensures.all c.in_default.is clean c.args.log.now given walked).1
+
+pub returns-in_default-clause-steady : goal.returns-in_default-clause-steady
+returns-in_default-clause-steady g c =
+    let (given, walked, numbers) = c.rows.invariant in
+    steady_then g.S.Store c.args.log.now c.rows.log c.next_latest.new.log walked.read.steady c.next_latest.ensures.steady
 
 pub rows-preserved : goal.rows-preserved
 rows-preserved g c =
