@@ -12,7 +12,7 @@ use Rattle.key_order.specs.Map.{SameMap, rows_in}
 use Rattle.key_order.specs.Order.{Same}
 use Rattle.key_order.specs.Text.{Text, text_order}
 use Rattle.key_order.proofs.Clones.{string_clone}
-use Rattle.key_order.proofs.Numbers.{max_joining}
+use Rattle.key_order.specs.NumberLaws.{max_joining}
 use Rattle.key_order.proofs.SameRows.{joins-came}
 use Rattle.merkle_bytes.specs.Counts.{count_bytes}
 use Rattle.merkle_bytes.specs.Encodings.{list_bytes}

@@ -1,6 +1,6 @@
 //! Rows on a shelf that may be closed.
 ghost use Rattle.std.specs.Prelude.{◌≡◌, IfSome};
-ghost use Rattle.merkle_replica.specs.Places.{FindsRow};
+ghost use Rattle.key_order.specs.Places.{FindsRow};
 
 use merkle_bytes::Encode;
 use merkle_digest::Key;

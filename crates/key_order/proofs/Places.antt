@@ -1,14 +1,15 @@
 -- Where a key is among the pairs of a map, or would go, and what an edit at that place makes of the map.
-use Rattle.std.proofs.Common.{◌≡◌, ℕ, zero, suc, ◌<◌, ◌≤◌, true, false, List, [], ◌∷◌, length, get_or, set as list_set, Some, None, refl, sym, ◌∙◌, ap, arith}
+use Rattle.std.proofs.Common.{◌≡◌, ℕ, zero, suc, ◌<◌, ◌≤◌, true, false, List, [], ◌∷◌, length, get_or, set as list_set, Some, None, Result, Ok, Err, IfOk, IfErr, refl, sym, ◌∙◌, ap, arith}
 use Rattle.std.proofs.lemmas.Bool.{or_right}
 use Rattle.std.specs.List.{AllByRecursion, AllWithin, insert, remove}
-use Rattle.std.specs.List.Sorted.{IsNonDecreasingBy}
+use Rattle.std.specs.List.Sorted.{IsNonDecreasingBy, IsSearchInRange, IsBinarySearchResult}
 use Rattle.std.specs.Cmp.{IsTotalOrder, tied_back}
 use Rattle.std.specs.Ordering.{ordering_index, ordering_reverse, is_eq, is_lt}
 use Rattle.std.specs.declared.cmp.Ordering.{Ordering}
 use Rattle.std.specs.declared.cmp.Ordering.TheVariants.{Less, Equal, Greater}
 use Rattle.key_order.specs.Order.{Below, Same}
 use Rattle.key_order.specs.Map.{IsMap, get, has_key, set, del}
+use Rattle.key_order.specs.Places.{IsPlaceOf, IsGapFor}
 use Rattle.key_order.proofs.Bools.{is_less}
 use Rattle.key_order.proofs.Orders.{low_low, low_up, up_low, same_up}
 use Rattle.key_order.proofs.Dels.{NoEqual, del-here, del-past, del-none}
@@ -104,3 +105,12 @@ module _ {K X : Type 0} (cmp : K → K → Ordering) (o : IsTotalOrder cmp) wher
       rw (seen_from_above cmp o r.0 k (higher 0 r (omega arith) (omega arith))) (has_in_gap rows zero k (omega arith) (λ j d from to. absurd (omega arith)) (λ j d from to. higher (suc j) d (omega arith) (omega arith)))
   has_in_gap (r ∷ rows) (suc at) k within lower higher =
       rw (seen_from_below cmp o r.0 k (lower 0 r (omega arith) (omega arith))) (has_in_gap rows at k (omega arith) (λ j d from to. lower (suc j) d (omega arith) (omega arith)) (λ j d from to. higher (suc j) d (omega arith) (omega arith)))
+
+module _ {K V : Type 0} (cmp : K → K → Ordering) (o : IsTotalOrder cmp) where
+  -- a search by halving ends at the key, or at the gap for it
+  pub searched : (rows : List (K × V)) (key : K) (r : Result ℕ ℕ) → IsMap cmp rows → IsSearchInRange r (length rows) → IsBinarySearchResult (λ (row : K × V). cmp row.0 key) rows r
+      → record { found : IfOk r (λ at. IsPlaceOf cmp key rows at); absent : IfErr r (λ at. IsGapFor cmp key rows at) }
+  searched rows key (Ok at) up inside equal = record { found = record { in_range = inside; here = equal }; absent = tt }
+  searched rows key (Err at) up inside parted =
+      let parts = parted (comparisons_rise cmp o rows key up) in
+      record { found = tt; absent = record { in_range = inside; lower = parts.0; higher = parts.1 } }

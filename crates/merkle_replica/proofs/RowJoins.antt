@@ -16,7 +16,7 @@ use Rattle.std.specs.Cmp.{IsEquivalence}
 use Rattle.key_order.specs.Join.{IsJoin, IsJoining}
 use Rattle.merkle_replica.specs.Answers.{IsPartlyDone}
 use Rattle.merkle_replica.proofs.PullRows.{join_none}
-use Rattle.merkle_replica.specs.Places.{IsPlaceOf, IsGapFor}
+use Rattle.key_order.specs.Places.{IsPlaceOf, IsGapFor}
 use Rattle.merkle_replica.specs.Puts.{IsRising}
 use Rattle.merkle_replica.specs.Parted.{whole, FirstNotBelow, first_is}
 

@@ -11,7 +11,7 @@ use Rattle.key_order.proofs.Places.{del_at_place, has_at_place, has_in_gap}
 use Rattle.merkle_search_tree.specs.Loading.{digests}
 use Rattle.merkle_tree_theory.specs.State.{State, map_of}
 use Rattle.merkle_replica.specs.Contents.{IsKept}
-use Rattle.merkle_replica.specs.Places.{IsPlaceOf, IsGapFor}
+use Rattle.key_order.specs.Places.{IsPlaceOf, IsGapFor}
 
 module _ {K V D : Type 0} (cmp : K → K → Ordering) (o : IsTotalOrder cmp) (hash : V → D) where
   digests_del : (m : List (K × D)) (rows : List (K × V)) (k : K) → SameMap cmp (λ d c. d ≡ c) m (digests hash rows) → SameMap cmp (λ d c. d ≡ c) (del cmp m k) (digests hash (del cmp rows k))

@@ -1,26 +1,17 @@
--- A search by halving among rows, and an edit at the place that it finds.
-use Rattle.std.proofs.Common.{◌≡◌, ℕ, Bool, true, false, List, [], ◌∷◌, length, get_or, set as list_set, Some, Result, Ok, Err, IfOk, IfErr, sym, ◌∙◌, ap, subst}
+-- An edit at the place of a key among rows.
+use Rattle.std.proofs.Common.{◌≡◌, ℕ, Bool, true, false, List, [], ◌∷◌, length, get_or, set as list_set, Some, Result, Ok, Err, sym, ◌∙◌, ap, subst}
 use Rattle.std.specs.List.{insert}
 use Rattle.std.specs.Result.{is_err, is_ok, OnOk, OnErr}
-use Rattle.std.specs.List.Sorted.{IsSearchInRange, IsBinarySearchResult}
 use Rattle.std.specs.Cmp.{IsTotalOrder, IsEquivalence}
 use Rattle.std.specs.declared.cmp.Ordering.{Ordering}
 use Rattle.key_order.specs.Map.{IsMap, set}
 use Rattle.key_order.specs.Join.{IsJoining, IsJoin, joined}
+use Rattle.key_order.specs.Places.{IsPlaceOf, IsGapFor}
 use Rattle.key_order.proofs.Joins.{put_joins}
-use Rattle.key_order.proofs.Places.{comparisons_rise, get_at_place, set_at_place, get_in_gap, set_in_gap}
+use Rattle.key_order.proofs.Places.{get_at_place, set_at_place, get_in_gap, set_in_gap}
 use Rattle.key_order.proofs.Values.{Eq}
-use Rattle.merkle_replica.specs.Places.{IsPlaceOf, IsGapFor}
 
 module _ {K V : Type 0} (cmp : K → K → Ordering) (o : IsTotalOrder cmp) where
-  -- a search by halving ends at the key, or at the gap for it
-  pub searched : (rows : List (K × V)) (key : K) (r : Result ℕ ℕ) → IsMap cmp rows → IsSearchInRange r (length rows) → IsBinarySearchResult (λ (row : K × V). cmp row.0 key) rows r
-      → record { found : IfOk r (λ at. IsPlaceOf cmp key rows at); absent : IfErr r (λ at. IsGapFor cmp key rows at) }
-  searched rows key (Ok at) up inside equal = record { found = record { in_range = inside; here = equal }; absent = tt }
-  searched rows key (Err at) up inside parted =
-      let parts = parted (comparisons_rise cmp o rows key up) in
-      record { found = tt; absent = record { in_range = inside; lower = parts.0; higher = parts.1 } }
-
   -- another value at the key's place
   pub set_there : (rows : List (K × V)) (at : ℕ) (row : K × V) (key : K) (v : V) → IsMap cmp rows → IsPlaceOf cmp key rows at → row ≡ get_or rows at row → list_set rows at (row.0, v) ≡ set cmp rows key v
   set_there rows at row key v up place read =

@@ -7,7 +7,6 @@ pub mod Agreeing
 pub mod Answers
 pub mod Faithfully
 pub mod ByTurns
-pub mod Places
 pub mod Puts
 pub mod Parted
 pub mod Steps

@@ -4,9 +4,9 @@ ghost use Rattle.merkle_tree_theory.specs.State.{SameSettings};
 ghost use Rattle.merkle_replica.specs.Contents.{side};
 ghost use Rattle.merkle_replica.specs.Agreeing.{AreEqualWhileFaithful, IsTrueWhereEqual};
 
-use crate::join::Join;
 use crate::replica::Replica;
 use crate::row_hasher::RowHasher;
+use key_order::Join;
 use merkle_digest::Key;
 use merkle_search_tree::laws::{a_map_has_one_tree, every_tree_is_sound};
 

@@ -5,9 +5,9 @@ ghost use Rattle.merkle_replica.specs.CatchUp.{HaveCaughtUp, StopCatchingUp};
 ghost use Rattle.merkle_replica.specs.Faithfully.{ConvergeWhileFaithful};
 
 use crate::catch_up::{CatchUpError, CaughtUp};
-use crate::join::Join;
 use crate::replica::Replica;
 use crate::row_hasher::RowHasher;
+use key_order::Join;
 use merkle_digest::Key;
 
 /// Why catch-ups in both directions stopped: out of memory.

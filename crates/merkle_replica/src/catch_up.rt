@@ -10,11 +10,11 @@ ghost use Rattle.merkle_replica.specs.Faithfully.{JoinsWhileFaithful};
 ghost use Rattle.merkle_replica.specs.Missing.{nodes_to_compare, pages_to_open};
 
 use crate::descent::node_count;
-use crate::join::Join;
 use crate::laws::a_replica_has_the_tree_of_its_rows;
 use crate::replica::Replica;
 use crate::row_hasher::RowHasher;
 use crate::wanted::in_order;
+use key_order::Join;
 use merkle_digest::{Hasher, Key};
 use merkle_search_tree::OutlineItem;
 use merkle_search_tree::laws::{

@@ -8,10 +8,10 @@ ghost use Rattle.merkle_replica.specs.Contents.{side, tree_map};
 ghost use Rattle.merkle_replica.specs.Descent.{LeaveToAsk, AddsToAsk, HasDigestAt, node_count as count_of, outlines_over};
 ghost use Rattle.merkle_replica.specs.Missing.{has_page_over};
 
-use crate::join::Join;
 use crate::laws::a_replica_has_the_tree_of_its_rows;
 use crate::replica::Replica;
 use crate::row_hasher::RowHasher;
+use key_order::Join;
 use merkle_digest::{Key, PageDigest, ValueDigest};
 use merkle_search_tree::laws::{a_map_has_one_tree, equal_pages_have_equal_maps};
 use merkle_search_tree::{Gap, OutlineItem, OutlineItemOf};

@@ -3,8 +3,8 @@ ghost use Rattle.std.specs.Prelude.{OnOk, IfErr};
 ghost use Rattle.merkle_tree_theory.specs.State.{SameSettings};
 ghost use Rattle.merkle_replica.specs.Puts.{IsRising, HasGathered, IsGatheredTo};
 
-use crate::join::Join;
 use crate::replica::Replica;
+use key_order::Join;
 use merkle_digest::{Hasher, Key};
 
 /// How many new rows are put by themselves at most, each of which moves the own rows after it.

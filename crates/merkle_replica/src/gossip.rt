@@ -4,9 +4,9 @@ ghost use Rattle.key_order.specs.Order.{Same};
 ghost use Rattle.merkle_replica.specs.Gossip.{AllCatchUp, StopsCatchUps};
 
 use crate::catch_up::CatchUpError;
-use crate::join::Join;
 use crate::replica::Replica;
 use crate::row_hasher::RowHasher;
+use key_order::Join;
 use merkle_digest::Key;
 
 /// Why catch-ups of all stopped: out of memory.

@@ -3,7 +3,7 @@ ghost use Rattle.std.specs.Prelude.{◌≡◌};
 ghost use Rattle.std.specs.Cmp.Rules.{comparing};
 ghost use Rattle.std.proofs.Common.{rules};
 
-use crate::join::Join;
+use key_order::Join;
 use merkle_digest::{HashBytes, Sip24};
 use std::alloc::{AllocError, Global};
 

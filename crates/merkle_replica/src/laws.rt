@@ -7,9 +7,9 @@ ghost use Rattle.merkle_replica.specs.Faithfully.{CollisionFreeIsFaithful, Colli
 ghost use Rattle.merkle_replica.specs.Gossip.{GossipJoins, OrderIsIndifferent};
 ghost use Rattle.merkle_replica.specs.PullSteps.{AnswersAreThoseOfAPull, PullsHaveOneAnswer, PullsLeaveOneMap, StepsAreAPull};
 
-use crate::join::Join;
 use crate::replica::Replica;
 use crate::row_hasher::RowHasher;
+use key_order::Join;
 use merkle_digest::{Key, KeyBytes, KeyBytesExact};
 use merkle_search_tree::laws::{
     a_map_has_one_tree, a_tree_in_memory_is_small, equal_keys_have_equal_bytes,

@@ -13,8 +13,8 @@ ghost use Rattle.merkle_replica.specs.Answers.{spans_of, JoinsWithin, JoinsPartl
 ghost use Rattle.merkle_replica.specs.Puts.{IsRising, HasGathered, IsGatheredTo};
 ghost use Rattle.merkle_replica.specs.Parted.{whole, parted, JoinsParted, FirstNotBelow, first_is};
 
-use crate::join::Join;
 use crate::seek::{count_within, first_from, seek};
+use key_order::Join;
 use merkle_digest::{Hasher, Key};
 use merkle_search_tree::MerkleSearchTree;
 use std::alloc::{AllocError, Global};

@@ -9,9 +9,9 @@ ghost use Rattle.merkle_replica.specs.Faithfully.{CoverInPartWhileFaithful, Cove
 ghost use Rattle.merkle_replica.specs.Answers.{spans_of, MayAsk, HasPulled, StopsPulling};
 ghost use Rattle.merkle_replica.specs.Steps.{MayAskOf};
 
-use crate::join::Join;
 use crate::replica::Replica;
 use crate::row_hasher::RowHasher;
+use key_order::Join;
 use merkle_diff::{DiffRange, PageRangeSnapshot, diff};
 use merkle_digest::{Key, SameClone};
 use merkle_search_tree::laws::{every_tree_is_sound, page_ranges_of_a_map};

@@ -3,8 +3,8 @@ ghost use Rattle.std.specs.Prelude.{◌≡◌, OnOk, IfErr};
 ghost use Rattle.merkle_tree_theory.specs.State.{SameSettings};
 ghost use Rattle.merkle_replica.specs.Puts.{IsPuts, IsPutsTo};
 
-use crate::join::Join;
 use crate::replica::Replica;
+use key_order::Join;
 use merkle_digest::{Hasher, Key};
 use std::cmp::Ordering;
 

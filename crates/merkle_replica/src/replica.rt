@@ -5,12 +5,12 @@ ghost use Rattle.key_order.specs.Join.{IsJoin};
 ghost use Rattle.merkle_tree_theory.specs.Dropped.{RemovalDropsFew};
 ghost use Rattle.merkle_tree_theory.specs.State.{HasSettings, SameSettings};
 ghost use Rattle.merkle_replica.specs.Contents.{IsEmpty, HasItsDigests};
-ghost use Rattle.merkle_replica.specs.Places.{FindsRow, IsPlaceOf, IsGapFor};
+ghost use Rattle.key_order.specs.Places.{FindsRow, IsPlaceOf, IsGapFor};
 ghost use Rattle.merkle_replica.specs.Puts.{PutDropsFew};
 
-use crate::join::Join;
 use crate::merge::{Stopped, join_all, join_owned};
 use crate::value_hasher::ValueHasher;
+use key_order::Join;
 use merkle_digest::{Hasher, Key, RootHash};
 use merkle_search_tree::builder::Builder;
 use merkle_search_tree::{LoadRefused, MerkleSearchTree};

@@ -1,7 +1,7 @@
 //! What a replica needs of a hasher, in one bound.
 ghost use Rattle.std.specs.Prelude.{◌≡◌, refl};
 
-use crate::join::Join;
+use key_order::Join;
 use merkle_digest::{Hasher, KeyBytes};
 
 /// A hasher of the keys and of the values of a replica: every type that is `Hasher<N, K>` and `Hasher<N, V>` is one. It has no call of

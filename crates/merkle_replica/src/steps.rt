@@ -7,12 +7,11 @@ ghost use Rattle.merkle_tree_theory.specs.State.{SameSettings};
 ghost use Rattle.merkle_replica.specs.Answers.{spans_of};
 ghost use Rattle.merkle_replica.specs.Steps.{AreRanges, IsJoinRefused, MayAskOf};
 
-use crate::join::Join;
 use crate::pull::ask_of;
 use crate::replica::Replica;
 use crate::row_hasher::RowHasher;
 use crate::rows_within::{RowsWithin, are_ranges};
-use key_order::is_below;
+use key_order::{Join, is_below};
 use merkle_diff::PageRangeSnapshot;
 use merkle_digest::Key;
 use std::alloc::AllocError;

@@ -3,10 +3,10 @@ ghost use Rattle.std.specs.Prelude.{◌≡◌, ◌<◌, IfOk, IfErr, length};
 ghost use Rattle.merkle_tree_theory.specs.State.{SameSettings};
 ghost use Rattle.merkle_replica.specs.ByTurns.{IsTurn, IsTurnRefused, HavePulledByTurns, StopInTurns};
 
-use crate::join::Join;
 use crate::pull::{PullError, Pulled};
 use crate::replica::Replica;
 use crate::row_hasher::RowHasher;
+use key_order::Join;
 use merkle_digest::Key;
 use merkle_search_tree::laws::page_ranges_of_a_map;
 use std::alloc::Global;

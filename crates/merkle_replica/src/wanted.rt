@@ -5,9 +5,8 @@ ghost use Rattle.key_order.specs.Map.{IsPresent, get};
 ghost use Rattle.merkle_replica.specs.CatchUp.{AreCopies, IsAboveLast, IsCopyAt, IsOnceEach, NoneFalls};
 ghost use Rattle.merkle_replica.specs.Descent.{keys_of};
 
-use crate::join::Join;
 use crate::replica::Replica;
-use key_order::is_below;
+use key_order::{Join, is_below};
 use merkle_digest::{Hasher, Key};
 use std::alloc::{AllocError, Global};
 use std::cmp::Ordering;

@@ -3,7 +3,7 @@ ghost use Rattle.std.specs.Prelude.{◌≡◌, IfOk, IfErr};
 ghost use Rattle.std.specs.Option.{option_copied};
 ghost use Rattle.key_order.specs.Text.{text_order};
 ghost use Rattle.key_order.specs.Map.{IsMap, get};
-ghost use Rattle.merkle_replica.specs.Places.{IsPlaceOf, IsGapFor};
+ghost use Rattle.key_order.specs.Places.{IsPlaceOf, IsGapFor};
 
 use std::cmp::Ordering;
 use store_table::Register;

@@ -4,9 +4,9 @@ ghost use Rattle.merkle_digest.specs.Sip24.{Holds};
 ghost use Rattle.store_table.specs.WireRegisters.{register_encoding, IsRegister, register_some, register_told};
 
 use crate::register::Register;
+use key_order::Join;
 use merkle_bytes::{Decode, Encode, ReadError, Reader};
 use merkle_digest::{HashBytes, Sip24};
-use merkle_replica::Join;
 use std::alloc::{AllocError, Global};
 
 /// Its time, the length of the writer's name and the name, and 0, or 1 and the text: so that unequal registers feed unequal bytes.

@@ -3,7 +3,7 @@ ghost use Rattle.std.specs.Prelude.{◌≡◌, length, filter, IfOk, IfErr};
 ghost use Rattle.std.specs.Option.{option_copied};
 ghost use Rattle.key_order.specs.Text.{text_order};
 ghost use Rattle.key_order.specs.Map.{IsMap, get};
-ghost use Rattle.merkle_replica.specs.Places.{IsPlaceOf, IsGapFor};
+ghost use Rattle.key_order.specs.Places.{IsPlaceOf, IsGapFor};
 ghost use Rattle.store_table.specs.Logs.{IsSteady, Finds, Makes, MakesAndFinds, Refuses, StaysInOk, StaysInErr, Leaves, LeavesNoMore};
 ghost use Rattle.store_table.specs.Faults.{IsFailure, IsUnwritten};
 ghost use Rattle.store_table.specs.Rows.{AreLatest, HasLatestRows, HasLateRow, IsCompacted, stays};

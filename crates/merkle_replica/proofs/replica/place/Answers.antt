@@ -1,6 +1,6 @@
 use Rattle.std.proofs.Common.{rules}
 use Rattle.std.proofs.lemmas.Fn.{always_returns_same}
-use Rattle.merkle_replica.proofs.Searches.{searched}
+use Rattle.key_order.proofs.Places.{searched}
 use Rattle.merkle_replica.proofs.replica.place.Goals as goal
 
 -- the closure compares a row's key with the key

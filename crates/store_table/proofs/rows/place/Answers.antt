@@ -2,7 +2,7 @@ use Rattle.std.proofs.Common.{rules}
 use Rattle.std.proofs.lemmas.Fn.{always_returns_same}
 use Rattle.std.specs.String.{string_cmp_total}
 use Rattle.key_order.specs.Text.{text_order}
-use Rattle.merkle_replica.proofs.Searches.{searched}
+use Rattle.key_order.proofs.Places.{searched}
 use Rattle.store_table.proofs.rows.place.Goals as goal
 
 -- the closure compares a row's key with the key

@@ -2,7 +2,7 @@ use Rattle.std.proofs.Common.{◌≡◌, true, false, sym, ◌∙◌, subst}
 use Rattle.key_order.specs.Map.{has_key, del}
 use Rattle.key_order.proofs.Dels.{entry-absent, del-absent}
 use Rattle.merkle_replica.specs.Contents.{Contents}
-use Rattle.merkle_replica.specs.Places.{IsPlaceOf, IsGapFor}
+use Rattle.key_order.specs.Places.{IsPlaceOf, IsGapFor}
 use Rattle.merkle_replica.proofs.RowRemovals.{removed_there, has_there, has_new, kept_del}
 use Rattle.merkle_replica.proofs.replica.Replica.del.Goals as goal
 

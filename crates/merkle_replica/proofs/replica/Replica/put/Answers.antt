@@ -7,7 +7,7 @@ use Rattle.merkle_tree_theory.specs.Cache.{uncached_pages}
 use Rattle.merkle_tree_theory.specs.Page.{level}
 use Rattle.key_order.specs.Join.{IsJoin}
 use Rattle.key_order.specs.Map.{set}
-use Rattle.merkle_replica.specs.Places.{IsPlaceOf, IsGapFor}
+use Rattle.key_order.specs.Places.{IsPlaceOf, IsGapFor}
 use Rattle.merkle_replica.proofs.TreeFollowsRows.{kept_set}
 use Rattle.merkle_replica.proofs.Searches.{set_there, set_new, joins_there, joins_new, went}
 use Rattle.merkle_replica.proofs.replica.Replica.put.Goals as goal

@@ -3,7 +3,7 @@ use Rattle.key_order.specs.Map.{get}
 use Rattle.key_order.specs.Order.{Same}
 use Rattle.key_order.proofs.Places.{get_at_place, get_in_gap}
 use Rattle.merkle_replica.specs.Contents.{Contents}
-use Rattle.merkle_replica.specs.Places.{IsPlaceOf, IsGapFor}
+use Rattle.key_order.specs.Places.{IsPlaceOf, IsGapFor}
 use Rattle.merkle_replica.proofs.replica.Replica.row_at.Goals as goal
 
 pub returns-in-Ok : goal.returns-in-Ok

@@ -7,7 +7,7 @@ use std::alloc::{AllocError, Global};
 /// A value that can be joined with others of its type, so that replicas that hold different values for a key come to hold the
 /// same one. Every implementation proves that the order, the grouping and the repetition of the joined values don't matter.
 ///
-/// A number joins to the greater one, and `()` to itself; a [`Replica`](crate::Replica) of the latter is a set of keys:
+/// A number joins to the greater one, and `()` to itself; a replica of the latter is a set of keys:
 ///
 /// ```rust crates/replica_tests/src/joins.rt
 /// assert_eq!(rt; Join::join(&3, rt.alloc(), &9)?, 9);
@@ -15,7 +15,7 @@ use std::alloc::{AllocError, Global};
 /// assert_eq!(rt; Join::join(&(), rt.alloc(), &())?, ());
 /// ```
 ///
-/// A replica joins two values wherever a row comes whose key it has, by a [`put`](crate::Replica::put), as one of several, or in a pull,
+/// A replica joins two values wherever a row comes whose key it has, by a put, as one of several, or in a pull,
 /// which joins each value with itself before that, for a copy. So a join should cost about what a copy of the value does.
 pub trait Join: Eq {
     /// The join of two values, up to equality.
@@ -26,7 +26,7 @@ pub trait Join: Eq {
     /// # Errors
     ///
     /// `AllocError` where an implementation can't make the join, such as for lack of memory. The joins of numbers, of
-    /// [`Greatest`](crate::Greatest) and of `()` take no memory and are never refused.
+    /// `Greatest` of `merkle_replica` and of `()` take no memory and are never refused.
     fn join(&self, alloc: Global, other: &Self) -> Result<Self, AllocError>
         ensures { IfOk result (λ both. Self.eq both (join_of self.now other.now) ≡ true) };
 
@@ -37,7 +37,7 @@ pub trait Join: Eq {
 /// The greater number. It takes no memory.
 impl Join for u64 {
     ghost use Rattle.std.specs.Prelude.{max};
-    ghost use Rattle.key_order.proofs.Numbers.{max_joining};
+    ghost use Rattle.key_order.specs.NumberLaws.{max_joining};
 
     ghost join_of = { max };
 
