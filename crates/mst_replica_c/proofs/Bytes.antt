@@ -4,8 +4,8 @@ use Rattle.std.specs.Global.{Vec}
 use Rattle.std.specs.Option.{option_map}
 use Rattle.std.specs.Ordering.{is_eq}
 use Rattle.key_order.specs.Map.{get}
-use Rattle.mst_replica_c.specs.Values.{by_bytes, bytes_cmp, key_bytes, key_cmp, value_bytes}
-use Rattle.mst_replica_c.specs.declared.value.ByteValue.{ByteValue}
+use Rattle.c_rows.specs.Values.{by_bytes, bytes_cmp, key_bytes, key_cmp, value_bytes}
+use Rattle.c_rows.specs.declared.value.ByteValue.{ByteValue}
 
 map_choice : (b : Bool) (x y : Option ByteValue) → option_map value_bytes (cond b x y) ≡ cond b (option_map value_bytes x) (option_map value_bytes y)
 map_choice true x y = refl

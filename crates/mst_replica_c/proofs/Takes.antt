@@ -4,11 +4,11 @@ use Rattle.std.specs.Global.{Vec}
 use Rattle.key_order.specs.Join.{IsJoin}
 use Rattle.merkle_wire.specs.declared.catching_up.Next.TheVariants.{Came}
 use Rattle.mst_replica_c.specs.Calls.{HasTaken, IsJoinOf, IsOver, IsTaken, JoinsRows, SameRows, SameTalk}
-use Rattle.mst_replica_c.specs.Values.{byte_laws}
+use Rattle.c_rows.specs.Values.{byte_laws}
 use Rattle.mst_replica_c.specs.declared.byte_replica.ByteReplica.{ByteReplica}
 use Rattle.mst_replica_c.specs.declared.byte_replica.Taken.{Taken}
 use Rattle.mst_replica_c.specs.declared.byte_replica.Taken.TheVariants.{Asks, Joined, Cut, Failed}
-use Rattle.mst_replica_c.specs.declared.value.ByteValue.{ByteValue}
+use Rattle.c_rows.specs.declared.value.ByteValue.{ByteValue}
 
 module _ (old mid new : ByteReplica) (same : SameRows old mid) where
   joins_since : (rows : List (Vec ℕ × ByteValue)) → JoinsRows rows mid new → JoinsRows rows old new

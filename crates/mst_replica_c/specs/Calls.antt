@@ -16,12 +16,13 @@ use Rattle.merkle_wire.specs.declared.catching_up.Next.{Next}
 use Rattle.merkle_wire.specs.declared.catching_up.Next.TheVariants.{Ask, Came}
 use Rattle.merkle_wire.specs.declared.session_error.SessionError.{SessionError}
 use Rattle.merkle_wire.specs.declared.session_error.SessionError.TheVariants.{Memory, Refused}
-use Rattle.mst_replica_c.specs.Values.{by_bytes, byte_laws, key_bytes, key_encoding, rows_of, value_at, value_encoding}
-use Rattle.mst_replica_c.specs.Wire.{rows_bytes}
+use Rattle.c_rows.specs.Values.{by_bytes, byte_laws, key_bytes, key_encoding, value_encoding}
+use Rattle.c_rows.specs.Wire.{rows_bytes}
+use Rattle.c_rows.specs.declared.value.ByteValue.{ByteValue}
+use Rattle.mst_replica_c.specs.Values.{rows_of, value_at}
 use Rattle.mst_replica_c.specs.declared.byte_replica.ByteReplica.{ByteReplica}
 use Rattle.mst_replica_c.specs.declared.byte_replica.Taken.{Taken}
 use Rattle.mst_replica_c.specs.declared.byte_replica.Taken.TheVariants.{Asks, Joined, Cut, Failed}
-use Rattle.mst_replica_c.specs.declared.value.ByteValue.{ByteValue}
 
 -- no row, these settings, no catch-up, and no message
 abbrev pub IsFresh : List ℕ → ℕ → PageFormat → ByteReplica → Type 0

@@ -1,4 +1,3 @@
 pub mod Calls
 pub mod Handles
 pub mod Values
-pub mod Wire

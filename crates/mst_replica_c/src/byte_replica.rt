@@ -1,18 +1,18 @@
 //! What a handle holds: a replica of byte strings, the catch-up that it is in, and a message.
 ghost use Rattle.std.specs.Prelude.{◌≡◌, ◌≢◌, ◌⊎◌, None, Some, OnOk, OnErr, IfOk, length};
 ghost use Rattle.std.specs.Int.NonZero.{non_zero_u8_get};
+ghost use Rattle.c_rows.specs.Values.{key_bytes, key_cmp};
+ghost use Rattle.c_rows.specs.Wire.{rows_bytes};
 ghost use Rattle.key_order.specs.Map.{IsMap};
 ghost use Rattle.merkle_tree_theory.specs.Stream.{page_digest};
 ghost use Rattle.merkle_wire.specs.Messages.{front};
 ghost use Rattle.merkle_wire.specs.declared.message.Kind.TheVariants.{Refusal};
 ghost use Rattle.mst_replica_c.specs.Calls.{HasBegun, IsAnswered, IsFresh, IsNoQuestion, IsOfOthers, IsJoinOf, IsPut, OnlyHashes};
 ghost use Rattle.mst_replica_c.specs.Calls.{SameRows, TakesReply, early_status};
-ghost use Rattle.mst_replica_c.specs.Values.{IsFoundAt, key_bytes, key_cmp, rows_of};
-ghost use Rattle.mst_replica_c.specs.Wire.{rows_bytes};
+ghost use Rattle.mst_replica_c.specs.Values.{IsFoundAt, rows_of};
 
-use crate::list::encode;
-use crate::status::{OTHER_SETTINGS, REFUSED};
-use crate::value::ByteValue;
+use c_rows::status::{OTHER_SETTINGS, REFUSED};
+use c_rows::{ByteValue, encode};
 use c_values::status::{DONE, MALFORMED, MEMORY};
 use merkle_digest::SipHasher;
 use merkle_replica::{JoinRefused, Replica};

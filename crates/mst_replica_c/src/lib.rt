@@ -6,8 +6,5 @@
 
 mod byte_replica;
 mod handle;
-mod list;
 mod messages;
 mod replicas;
-mod status;
-mod value;

@@ -1,7 +1,8 @@
 use Rattle.std.proofs.Common.{Some, sym, ap, ◌∙◌}
 use Rattle.std.specs.Option.{option_map}
 use Rattle.key_order.specs.Map.{get}
-use Rattle.mst_replica_c.specs.Values.{bytes_cmp, rows_of, value_bytes}
+use Rattle.c_rows.specs.Values.{bytes_cmp, value_bytes}
+use Rattle.mst_replica_c.specs.Values.{rows_of}
 use Rattle.mst_replica_c.proofs.Bytes.{bytes_at}
 use Rattle.mst_replica_c.proofs.byte_replica.ByteReplica.get.Goals as goal
 

@@ -1,7 +1,7 @@
 use Rattle.std.proofs.Common.{refl, subst, sym}
 use Rattle.merkle_replica.specs.Contents.{side}
 use Rattle.merkle_wire.specs.Next.{IsNext}
-use Rattle.mst_replica_c.specs.Values.{byte_laws, key_encoding, value_encoding}
+use Rattle.c_rows.specs.Values.{byte_laws, key_encoding, value_encoding}
 use Rattle.mst_replica_c.proofs.Takes.{came_taken}
 use Rattle.mst_replica_c.proofs.byte_replica.ByteReplica.take.Goals as goal
 

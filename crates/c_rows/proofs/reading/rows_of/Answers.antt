@@ -1,0 +1,17 @@
+use Rattle.std.proofs.Common.{arith, ◌≡◌, ℕ, List, [], ◌∷◌, ◌++◌, length, sym, ap, ◌∙◌}
+use Rattle.std.specs.List.{flat_map}
+use Rattle.std.proofs.lemmas.List.{length-append}
+use Rattle.c_rows.specs.Values.{by_bytes_all}
+use Rattle.c_rows.specs.Wire.{row_bytes}
+use Rattle.c_rows.proofs.Lists.{read_more}
+use Rattle.c_rows.proofs.reading.rows_of.Goals as goal
+
+pub entries-preserved : goal.entries-preserved
+entries-preserved c =
+    let kept = c.entries.invariant in let done = by_bytes_all c.entries.rows.items in
+    let row : List ℕ × List ℕ = (c.in-Some.key.now, c.in-Some.value.now) in
+    let more : by_bytes_all c.push_row.new.rows.items ≡ done ++ row ∷ [] = c.in_ok-push_row.ensures in
+    record {
+      read = read_more row_bytes done row c.args.body.now c.entries.rest.now c.in-Some.behind.now kept.read c.in-Some.ensures ∙ ap (λ rows. flat_map row_bytes rows ++ c.in-Some.behind.now) (sym more);
+      counted = ap length more ∙ omega (arith, kept.counted, length-append done (row ∷ []));
+    }

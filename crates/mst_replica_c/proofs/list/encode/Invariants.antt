@@ -1,9 +1,0 @@
-use Rattle.std.proofs.Common.{◌≡◌, ◌++◌, length, take}
-use Rattle.std.specs.List.{flat_map}
-use Rattle.mst_replica_c.specs.Values.{by_bytes_all}
-use Rattle.mst_replica_c.specs.Wire.{number_bytes, row_bytes, row_mark}
-use Rattle.mst_replica_c.proofs.list.encode.Given as goal
-
--- the first rows are written
-abbrev pub invariant-rows : goal.invariant-rows
-invariant-rows l = l.out.items ≡ (row_mark ++ number_bytes (length l.rows)) ++ flat_map row_bytes (by_bytes_all (take l.row-index l.rows))
