@@ -9,11 +9,14 @@
 """
 from ._library import MalformedError, version
 from ._ranges import KeyRange, KeyRanges, PageRange, PageRanges, diff, unshared
-from ._replica import MESSAGES, REFUSAL, HeldReplica, RefusedError
+from ._replica import HeldReplica
 from ._store import Store
 from ._sync import LIMIT, Replica, Synced, sync, sync_steps, sync_streams
+from ._sync_tree import KeptRows, SyncTree
 from ._tree import Page, Tree
+from ._wire import MESSAGES, REFUSAL, RefusedError
 
 __version__ = version()
-__all__ = ["HeldReplica", "LIMIT", "KeyRange", "KeyRanges", "MESSAGES", "MalformedError", "Page", "PageRange", "PageRanges", "REFUSAL",
-           "RefusedError", "Replica", "Store", "Synced", "Tree", "diff", "sync", "sync_steps", "sync_streams", "unshared", "version"]
+__all__ = ["HeldReplica", "KeptRows", "LIMIT", "KeyRange", "KeyRanges", "MESSAGES", "MalformedError", "Page", "PageRange", "PageRanges",
+           "REFUSAL", "RefusedError", "Replica", "Store", "SyncTree", "Synced", "Tree", "diff", "sync", "sync_steps", "sync_streams", "unshared",
+           "version"]

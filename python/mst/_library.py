@@ -1,4 +1,4 @@
-"""The calls of mst.h and mst_replica.h, by ctypes. Nothing outside of the package needs it."""
+"""The calls of mst.h, mst_replica.h and mst_sync.h, by ctypes. Nothing outside of the package needs it."""
 import ctypes
 import functools
 import os
@@ -6,7 +6,7 @@ import sys
 import threading
 from typing import Any, Callable, ContextManager
 
-DONE, NO_MEMORY, MALFORMED, TOO_SHORT, BAD_ARGUMENT, ABSENT, OTHER_SETTINGS, REFUSED = range(8)
+DONE, NO_MEMORY, MALFORMED, TOO_SHORT, BAD_ARGUMENT, ABSENT, OTHER_SETTINGS, REFUSED, NEEDS_ROWS = range(9)
 
 _HANDLE, _BYTES, _SIZE, _OUT = ctypes.c_void_p, ctypes.c_char_p, ctypes.c_size_t, ctypes.c_void_p
 _CALLS = {
@@ -40,8 +40,21 @@ _CALLS = {
     "mst_replica_answer": [_HANDLE, _BYTES, _SIZE, _OUT],
     "mst_replica_ask": [_HANDLE, _OUT],
     "mst_replica_take": [_HANDLE, _BYTES, _SIZE, _OUT, _OUT],
+    "mst_sync_new_with": [_HANDLE, _BYTES, ctypes.c_uint8, ctypes.c_uint8],
+    "mst_sync_free": [_HANDLE],
+    "mst_sync_set": [_HANDLE, _BYTES, _SIZE, _BYTES, _SIZE],
+    "mst_sync_remove": [_HANDLE, _BYTES, _SIZE],
+    "mst_sync_find": [_HANDLE, _BYTES, _SIZE, _OUT],
+    "mst_sync_len": [_HANDLE, _OUT],
+    "mst_sync_root_hash": [_HANDLE, _OUT],
+    "mst_sync_message": [_HANDLE, _OUT, _SIZE, _OUT],
+    "mst_sync_list": [_HANDLE, _OUT, _SIZE, _OUT],
+    "mst_sync_ask": [_HANDLE, _OUT],
+    "mst_sync_take": [_HANDLE, _BYTES, _SIZE, _OUT, _OUT],
+    "mst_sync_answer": [_HANDLE, _BYTES, _SIZE, _OUT, _OUT],
+    "mst_sync_answer_with": [_HANDLE, _BYTES, _SIZE, _BYTES, _SIZE, ctypes.c_int, _SIZE, _OUT],
 }
-_RESULTS = {"mst_tree_free": None, "mst_replica_free": None, "mst_version": ctypes.c_char_p}
+_RESULTS = {"mst_tree_free": None, "mst_replica_free": None, "mst_sync_free": None, "mst_version": ctypes.c_char_p}
 
 
 class MalformedError(ValueError):

@@ -2,34 +2,21 @@
 
 The calls are those of mst_replica.h. The messages are those of docs/WIRE.md, where keys and values are byte strings.
 """
-import contextlib
 import ctypes
 import struct
 import threading
-from typing import Callable, Dict, Generator, ItemsView, Iterator, KeysView, Mapping, NoReturn, Optional, Tuple, ValuesView
+from typing import Dict, Generator, ItemsView, Iterator, KeysView, Mapping, NoReturn, Optional, Tuple, ValuesView
 
-from ._library import ABSENT, DONE, MALFORMED, OTHER_SETTINGS, REFUSED, TOO_SHORT, MalformedError, check, library, written
+from . import _wire
+from ._library import ABSENT, MALFORMED, OTHER_SETTINGS, TOO_SHORT, MalformedError, library, written
 from ._sync import LIMIT
 from ._tree import Rows
+from ._wire import MESSAGES, Read, Write
+from ._wire import check as _check
 
-MESSAGES = 1 << 16
-"""How many questions one catch-up asks or is answered, where no other number is given. A peer that keeps to the messages needs far fewer
-than a thousand, and one for each further 64 MiB."""
-
-REFUSAL = b"\x01\xff"
-"""The message that says that a question was refused."""
-
-_PIECE = 1 << 16
-_pack = struct.Struct("<Q").pack
 _number = struct.Struct("<Q").unpack_from
 
-Read = Callable[[int], bytes]
-Write = Callable[[bytes], object]
 Steps = Generator[bytes, bytes, int]
-
-
-class RefusedError(ValueError):
-    """A catch-up was refused by the side that was asked: mostly since the other side has another key of SipHash, level base or page format."""
 
 
 class HeldReplica(Mapping[bytes, bytes]):
@@ -155,6 +142,7 @@ class HeldReplica(Mapping[bytes, bytes]):
         settings, the reply is `REFUSAL`, which is to be sent too: a caller that wants to know compares it, and `serve` says which of both it
         was. The rows are as before, and nothing is kept between questions.
 
+        >>> from mst import REFUSAL
         >>> HeldReplica().answer(b"no question") == REFUSAL
         True
         """
@@ -188,17 +176,9 @@ class HeldReplica(Mapping[bytes, bytes]):
 
         EOFError where the peer ends before; what `catch_up_steps`, `read` and `write` raise. The rows are then as before, but for a
         MemoryError, and where it is the end that can't be told."""
-        with contextlib.closing(self.catch_up_steps(messages=messages)) as steps:
-            question = next(steps)
-            while True:
-                _send(write, question)
-                reply = _receive(read, limit)
-                try:
-                    question = steps.send(reply)
-                except StopIteration as end:
-                    _send(write, b"")
-                    came: int = end.value
-                    return came
+        came = _wire.ask(self.catch_up_steps(messages=messages), read, write, limit)
+        _wire.send(write, b"")
+        return came
 
     def serve(self, read: Read, write: Write, *, limit: int = LIMIT, messages: int = MESSAGES) -> int:
         """Answers a peer that runs `catch_up`, until it says that it is done or ends, and returns how many questions it was answered. The
@@ -207,26 +187,7 @@ class HeldReplica(Mapping[bytes, bytes]):
         RefusedError where the peer has other settings, and MalformedError where it sends what is no question, one of more bytes than the
         limit or more questions than `messages`: it is sent the refusal first, if it is still there. EOFError where it ends within a message;
         what `read` and `write` raise."""
-        count = 0
-        while True:
-            try:
-                question = _receive(read, limit, may_end=True)
-                if question and count == messages:
-                    raise MalformedError(f"the peer isn't done after {messages} questions")
-            except MalformedError:
-                _refuse(write)
-                raise
-            if not question:
-                return count
-            status, reply = self._answer(question)
-            if status == OTHER_SETTINGS:
-                _refuse(write)
-                raise RefusedError("the peer has other settings")
-            if status == MALFORMED:
-                _refuse(write)
-                raise MalformedError("the peer sent what is no question")
-            _send(write, reply)
-            count += 1
+        return _wire.answer(self._answer, read, write, limit, messages)
 
     def close(self) -> None:
         """Gives the memory back. To close a replica twice does no harm."""
@@ -290,49 +251,3 @@ class HeldReplica(Mapping[bytes, bytes]):
 
     def __repr__(self) -> str:
         return f"<HeldReplica at {self._handle.value:#x}>" if self._handle.value else "<HeldReplica, closed>"
-
-
-def _check(status: int, joined: int = 0) -> None:
-    """Raises what a status of a call on replicas means, but for DONE."""
-    if status == DONE:
-        return
-    if status == REFUSED:
-        raise RefusedError("the peer rejected the request: it may have other settings")
-    if status == MALFORMED:
-        raise MalformedError("the peer's reply isn't one to what was asked")
-    if joined:
-        raise MemoryError(f"{joined} of the rows that came are joined")
-    check(status)
-
-
-def _send(write: Write, message: bytes) -> None:
-    """Sends a message after how many bytes it has. One of no bytes ends a catch-up."""
-    write(_pack(len(message)) + message)
-
-
-def _refuse(write: Write) -> None:
-    """Tells the peer that it is refused. It may be gone, which says less than why."""
-    with contextlib.suppress(Exception):
-        _send(write, REFUSAL)
-
-
-def _receive(read: Read, limit: int, *, may_end: bool = False) -> bytes:
-    """The message that the peer sends; none where it ends instead of one and may."""
-    front = _exactly(read, 8, may_end)
-    size = _number(front)[0] if front else 0
-    if size > limit:
-        raise MalformedError(f"a message of {size} bytes came, and the limit is {limit}")
-    return _exactly(read, size)
-
-
-def _exactly(read: Read, size: int, may_end: bool = False) -> bytes:
-    """So many bytes; or none, where the peer ends before the first of them and may. Memory is taken as they come."""
-    came = bytearray()
-    while len(came) < size:
-        piece = read(min(size - len(came), _PIECE))
-        if not piece:
-            if may_end and not came:
-                return b""
-            raise EOFError("the peer ended within a catch-up")
-        came += piece
-    return bytes(came)

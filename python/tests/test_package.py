@@ -13,19 +13,20 @@ import mst
 
 HERE = os.path.dirname(os.path.abspath(__file__))
 TOP = os.path.join(HERE, "..", "..")
-# as `python -c`: an interpreter that says it has no lock, whose threads fill one tree and one replica
+# as `python -c`: an interpreter that says it has no lock, whose threads fill one tree and one replica, and one tree of rows that are elsewhere
 WITHOUT_A_LOCK = """
 import sys, threading
 sys._is_gil_enabled = lambda: False
-from mst import HeldReplica, Tree
+from mst import HeldReplica, SyncTree, Tree
 from mst._library import library
 assert hasattr(library.mst_tree_upsert, "__wrapped__") and hasattr(library.mst_replica_put, "__wrapped__")
-tree, replica = Tree(), HeldReplica()
+tree, replica, digests = Tree(), HeldReplica(), SyncTree()
 threads = [threading.Thread(target=tree.update, args=([(b"%d" % i, b"") for i in range(5000)],)) for _ in range(4)]
 threads += [threading.Thread(target=lambda: [replica.put(b"%d" % i, b"") for i in range(2000)]) for _ in range(4)]
+threads += [threading.Thread(target=lambda: [digests.__setitem__(b"%d" % i, b"") for i in range(2000)]) for _ in range(4)]
 [thread.start() for thread in threads]
 [thread.join() for thread in threads]
-print(len(tree), len(replica))
+print(len(tree), len(replica), len(digests))
 """
 
 
@@ -49,7 +50,10 @@ class Package(unittest.TestCase):
         self.assertEqual([line.split(",")[0] for line in written], ["agreed: True", "agreed: True", "1010 1010 True"])
         written = python(os.path.join(HERE, "..", "examples", "asyncio_replicas.py")).splitlines()
         self.assertEqual(written, ["0 rows came", "1000 rows came", "20 rows came", "1010 1010 True"])
-        self.assertEqual(len(glob.glob(os.path.join(HERE, "..", "examples", "*.py"))), 5)    # redis_store.py is run by tests/databases
+        written = python(os.path.join(HERE, "..", "examples", "sqlite_rows.py"))
+        self.assertEqual(written, "2 rows came\n{'apple': '1132 red', 'kiwi': '1207 brown', 'melon': '1131 ripe'}\n")
+        # redis_store.py, redis_rows.py and postgres_rows.py are run by tests/databases
+        self.assertEqual(len(glob.glob(os.path.join(HERE, "..", "examples", "*.py"))), 8)
 
     def test_the_wheel_has_no_link_out_of_it(self):
         with tempfile.TemporaryDirectory() as folder:
@@ -63,11 +67,11 @@ class Package(unittest.TestCase):
         self.assertNotIn("](", metadata[0])
 
     def test_an_interpreter_without_a_lock(self):
-        self.assertEqual(python("-c", WITHOUT_A_LOCK), "5000 2000\n")
+        self.assertEqual(python("-c", WITHOUT_A_LOCK), "5000 2000 2000\n")
 
 
 def load_tests(_loader, tests, _pattern):
-    for name in ["mst", "mst._tree", "mst._ranges", "mst._store", "mst._sync", "mst._replica"]:
+    for name in ["mst", "mst._tree", "mst._ranges", "mst._store", "mst._sync", "mst._replica", "mst._sync_tree"]:
         tests.addTests(doctest.DocTestSuite(importlib.import_module(name)))
     tests.addTests(doctest.DocFileSuite(os.path.join(HERE, "..", "README.md"), module_relative=False))
     return tests

@@ -1,5 +1,6 @@
 //! Lists of `mst.h`, byte by byte: four bytes of a mark, how many entries there are in eight bytes, the lowest first, and the entries.
 //! A string in them is its length in eight bytes and its bytes.
+use std::ops::Range;
 
 /// How many bytes are before the first entry.
 pub(crate) const FRONT: usize = 12;
@@ -40,6 +41,11 @@ impl Writer {
     /// Whether it has no entry.
     pub(crate) fn is_empty(&self) -> bool {
         self.count == 0
+    }
+
+    /// Some of its bytes: those of an entry that was added.
+    pub(crate) fn part(&self, at: Range<usize>) -> &[u8] {
+        &self.bytes[at]
     }
 
     pub(crate) fn into_bytes(mut self) -> Vec<u8> {

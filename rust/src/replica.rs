@@ -70,7 +70,8 @@ impl Default for Limits {
 }
 
 /// Why a question isn't answered, or a catch-up ended early. As an [`io::Error`] it is of the kind `InvalidData`, but for
-/// [`Fault::OutOfMemory`], which is of that name, and [`Fault::NotAsking`], which is `InvalidInput`; `get_ref` gives it back.
+/// [`Fault::OutOfMemory`], which is of that name, and [`Fault::NotAsking`] and [`Fault::OtherRows`], which are `InvalidInput`; `get_ref` gives it
+/// back.
 #[derive(Debug, Clone, Copy, PartialEq, Eq)]
 pub enum Fault {
     /// The bytes are no question, or no reply to what was asked.
@@ -81,6 +82,8 @@ pub enum Fault {
     Refused,
     /// No catch-up is under way, or another began in the place of this one.
     NotAsking,
+    /// The rows that were found aren't those that the question needs ([`SyncTree::answer_with`](crate::kept::SyncTree::answer_with)).
+    OtherRows,
     /// Out of memory, when this many of the rows that came were joined, the first in the order of their keys.
     OutOfMemory {
         /// How many rows these are: none but where the last reply had come.
@@ -89,12 +92,13 @@ pub enum Fault {
 }
 
 impl Fault {
-    fn of(refused: Refused, joined: usize) -> Self {
+    pub(crate) fn of(refused: Refused, joined: usize) -> Self {
         match refused {
             Refused::Malformed => Self::Malformed,
             Refused::OtherSettings => Self::OtherSettings,
             Refused::ByPeer => Self::Refused,
             Refused::Absent => Self::NotAsking,
+            Refused::Rows => Self::OtherRows,
             Refused::Memory => Self::OutOfMemory { joined },
         }
     }
@@ -107,6 +111,7 @@ impl fmt::Display for Fault {
             Self::OtherSettings => f.write_str("the peer that asks has other settings"),
             Self::Refused => f.write_str("the peer refused what it was asked: its settings may be others"),
             Self::NotAsking => f.write_str("no catch-up is under way, or another began in the place of this one"),
+            Self::OtherRows => f.write_str("the rows that were found aren't those that the question needs"),
             Self::OutOfMemory { joined } => write!(f, "memory was refused; {joined} of the rows that came are joined"),
         }
     }
@@ -124,7 +129,7 @@ impl From<Fault> for io::Error {
     fn from(fault: Fault) -> Self {
         let kind = match fault {
             Fault::Malformed | Fault::OtherSettings | Fault::Refused => ErrorKind::InvalidData,
-            Fault::NotAsking => ErrorKind::InvalidInput,
+            Fault::NotAsking | Fault::OtherRows => ErrorKind::InvalidInput,
             Fault::OutOfMemory { .. } => ErrorKind::OutOfMemory,
         };
         Self::new(kind, fault)
@@ -251,7 +256,7 @@ impl Replica {
     pub fn rows(&self) -> Rows {
         let list = granted(self.replica.rows(self.guess.get()));
         self.guess.set(list.len() + list.len() / 8);
-        Rows { list }
+        Rows::of_list(list)
     }
 
     /// The root hash: that of a tree of the same rows and settings. Replicas with the same settings and equal root hashes have the same rows,
@@ -350,7 +355,7 @@ pub fn catch_up_by<L: DerefMut<Target = Replica>>(
             Err(Fault::NotAsking)
         }
     };
-    let caught_up = asking(limits, connection, question, &mut take);
+    let caught_up = asking(limits, connection, question, |reply| take(reply).map_err(io::Error::from));
     if caught_up.is_err() {
         // No bytes are a reply to no question: what came of a catch-up that is still under way is let go.
         let _ = take(&[]);
@@ -358,12 +363,13 @@ pub fn catch_up_by<L: DerefMut<Target = Replica>>(
     caught_up
 }
 
-fn asking(
+/// The asking side over a connection.
+pub(crate) fn asking<E: From<io::Error>>(
     limits: Limits,
     connection: &mut (impl Read + Write),
     mut question: Vec<u8>,
-    mut take: impl FnMut(&[u8]) -> Result<Step, Fault>,
-) -> io::Result<usize> {
+    mut take: impl FnMut(&[u8]) -> Result<Step, E>,
+) -> Result<usize, E> {
     for _ in 0..limits.messages {
         wire::send(connection, &question)?;
         match take(&wire::take(connection, limits.bytes)?)? {
@@ -374,7 +380,7 @@ fn asking(
             }
         }
     }
-    Err(unexpected(TOO_MANY))
+    Err(unexpected(TOO_MANY).into())
 }
 
 /// Serves a peer by a call that answers each question, as [`Replica::answer`] of a replica behind a `Mutex`, which is locked for that alone.
@@ -397,19 +403,30 @@ pub fn serve_by(
     connection: &mut (impl Read + Write),
     mut answer: impl FnMut(&[u8]) -> Result<Vec<u8>, Fault>,
 ) -> io::Result<usize> {
+    let is_refused = |error: &io::Error| error.kind() == ErrorKind::InvalidData;
+    answering(limits, connection, |question| answer(question).map_err(io::Error::from), is_refused)
+}
+
+/// The answering side over a connection. The peer is told of errors by which it is refused.
+pub(crate) fn answering<E: From<io::Error>>(
+    limits: Limits,
+    connection: &mut (impl Read + Write),
+    mut answer: impl FnMut(&[u8]) -> Result<Vec<u8>, E>,
+    is_refused: impl Fn(&E) -> bool,
+) -> Result<usize, E> {
     let mut answered = 0;
     loop {
         let reply = match wire::take_or_end(connection, limits.bytes) {
             Ok(None) => return Ok(answered),
             Ok(Some(question)) if question.is_empty() => return Ok(answered),
-            Ok(Some(_)) if answered == limits.messages => Err(unexpected(TOO_MANY)),
-            Ok(Some(question)) => answer(&question).map_err(io::Error::from),
-            Err(error) => Err(error),
+            Ok(Some(_)) if answered == limits.messages => Err(unexpected(TOO_MANY).into()),
+            Ok(Some(question)) => answer(&question),
+            Err(error) => Err(error.into()),
         };
         match reply {
             Ok(reply) => wire::send(connection, &reply)?,
             Err(error) => {
-                if error.kind() == ErrorKind::InvalidData {
+                if is_refused(&error) {
                     // The peer may be gone, which says less than why it is refused.
                     let _ = wire::send(connection, &REFUSAL);
                 }
@@ -445,12 +462,17 @@ impl fmt::Debug for Replica {
     }
 }
 
-/// The rows that a replica had at one time, in the order of their keys.
+/// The rows that a replica had at one time, or that came in a catch-up ([`Came`](crate::kept::Came)), in the order of their keys.
 pub struct Rows {
     list: Vec<u8>,
 }
 
 impl Rows {
+    /// The rows of a list of rows, as the library writes it.
+    pub(crate) fn of_list(list: Vec<u8>) -> Self {
+        Self { list }
+    }
+
     /// How many rows there are.
     pub fn len(&self) -> usize {
         list::count(&self.list)

@@ -1,7 +1,11 @@
-//! The calls of `mst.h` and `mst_replica.h`, and a safe way to each. No other module has unsafe code.
+//! The calls of `mst.h`, `mst_replica.h` and `mst_sync.h`, and a safe way to each. No other module has unsafe code.
 #![allow(unsafe_code)]
 
-use crate::{replica::Step, OutOfMemory};
+use crate::{
+    kept::Next,
+    replica::{Rows, Step},
+    OutOfMemory,
+};
 use std::{
     cell::UnsafeCell,
     ffi::CStr,
@@ -13,11 +17,13 @@ const DONE: c_int = 0;
 const NO_MEMORY: c_int = 1;
 const MALFORMED: c_int = 2;
 const TOO_SHORT: c_int = 3;
+const BAD_ARGUMENT: c_int = 4;
 const ABSENT: c_int = 5;
 const OTHER_SETTINGS: c_int = 6;
 const REFUSED: c_int = 7;
+const NEEDS_ROWS: c_int = 8;
 
-/// `struct mst_tree`, and `struct mst_replica`.
+/// `struct mst_tree`, `struct mst_replica` and `struct mst_sync`.
 #[repr(C)]
 struct Handle {
     at: *mut u8,
@@ -75,6 +81,22 @@ extern "C" {
     fn mst_replica_ask(replica: *mut Handle, message_len: *mut usize) -> c_int;
     fn mst_replica_take(replica: *mut Handle, reply: *const u8, reply_len: usize, message_len: *mut usize,
                         joined: *mut usize) -> c_int;
+    fn mst_sync_new_with(out: *mut Handle, key: *const u8, level_base: u8, page_format: u8) -> c_int;
+    fn mst_sync_free(sync: *mut Handle);
+    fn mst_sync_set(sync: *mut Handle, key: *const u8, key_len: usize, value: *const u8, value_len: usize) -> c_int;
+    fn mst_sync_remove(sync: *mut Handle, key: *const u8, key_len: usize) -> c_int;
+    fn mst_sync_find(sync: *mut Handle, key: *const u8, key_len: usize, digest: *mut u8) -> c_int;
+    fn mst_sync_len(sync: *mut Handle, out: *mut usize) -> c_int;
+    fn mst_sync_root_hash(sync: *mut Handle, out: *mut u8) -> c_int;
+    fn mst_sync_message(sync: *mut Handle, out: *mut u8, out_len: usize, needed: *mut usize) -> c_int;
+    fn mst_sync_list(sync: *mut Handle, out: *mut u8, out_len: usize, needed: *mut usize) -> c_int;
+    fn mst_sync_ask(sync: *mut Handle, message_len: *mut usize) -> c_int;
+    fn mst_sync_take(sync: *mut Handle, reply: *const u8, reply_len: usize, message_len: *mut usize,
+                     list_len: *mut usize) -> c_int;
+    fn mst_sync_answer(sync: *mut Handle, question: *const u8, question_len: usize, message_len: *mut usize,
+                       list_len: *mut usize) -> c_int;
+    fn mst_sync_answer_with(sync: *mut Handle, question: *const u8, question_len: usize, rows: *const u8, rows_len: usize,
+                            is_all: c_int, most_bytes: usize, message_len: *mut usize) -> c_int;
 }
 
 /// What a call refuses.
@@ -90,6 +112,8 @@ pub(crate) enum Refused {
     OtherSettings,
     /// The peer that was asked refused.
     ByPeer,
+    /// The rows aren't those that a question needs.
+    Rows,
 }
 
 impl From<OutOfMemory> for Refused {
@@ -337,6 +361,145 @@ impl Drop for Replica {
     fn drop(&mut self) {
         // SAFETY: the handle is one that a call made, and isn't used again.
         unsafe { mst_replica_free(self.0.get_mut()) }
+    }
+}
+
+/// A handle that has a side of a sync, in a cell as that of a tree.
+pub(crate) struct Side(UnsafeCell<Handle>);
+
+// SAFETY: as of `Tree`, whose rules are those of `mst_sync.h` too.
+unsafe impl Send for Side {}
+
+/// The reply to a question, or the list of what it needs.
+pub(crate) enum Answered {
+    Reply(Vec<u8>),
+    Needs(Vec<u8>),
+}
+
+impl Side {
+    /// The side without keys with these settings; the page format is 1 or 2.
+    pub(crate) fn new(key: &[u8; 16], level_base: u8, page_format: u8) -> Result<Self, OutOfMemory> {
+        let mut handle = Handle { at: ptr::null_mut() };
+        // SAFETY: the handle has no side, and the key is of 16 bytes.
+        done_or_no_memory(unsafe { mst_sync_new_with(&mut handle, key.as_ptr(), level_base, page_format) })?;
+        Ok(Self(UnsafeCell::new(handle)))
+    }
+
+    /// Sets a key to the digest of a value.
+    pub(crate) fn set(&mut self, key: &[u8], value: &[u8]) -> Result<(), OutOfMemory> {
+        // SAFETY: key and value are slices.
+        done_or_no_memory(unsafe {
+            mst_sync_set(self.0.get_mut(), key.as_ptr(), key.len(), value.as_ptr(), value.len())
+        })
+    }
+
+    /// Takes a key out.
+    pub(crate) fn remove(&mut self, key: &[u8]) -> Result<(), Refused> {
+        // SAFETY: the key is a slice.
+        done(unsafe { mst_sync_remove(self.0.get_mut(), key.as_ptr(), key.len()) })
+    }
+
+    /// The digest of the value at a key.
+    pub(crate) fn find(&self, key: &[u8]) -> Result<[u8; 16], Refused> {
+        let mut digest = [0; 16];
+        // SAFETY: the key is a slice, `digest` is of 16 bytes, and no other call has the handle.
+        done(unsafe { mst_sync_find(self.0.get(), key.as_ptr(), key.len(), digest.as_mut_ptr()) })?;
+        Ok(digest)
+    }
+
+    /// How many keys there are.
+    pub(crate) fn len(&self) -> Result<usize, OutOfMemory> {
+        let mut len = 0;
+        // SAFETY: `len` is written to, and no other call has the handle.
+        done_or_no_memory(unsafe { mst_sync_len(self.0.get(), &mut len) })?;
+        Ok(len)
+    }
+
+    /// The root hash.
+    pub(crate) fn root_hash(&mut self) -> [u8; 16] {
+        let mut root = [0; 16];
+        // SAFETY: `root` is of 16 bytes.
+        let status = unsafe { mst_sync_root_hash(self.0.get_mut(), root.as_mut_ptr()) };
+        assert_eq!(status, DONE, "mst_sync_root_hash refuses nothing of a side");
+        root
+    }
+
+    /// The first question of a catch-up, which begins.
+    pub(crate) fn ask(&mut self) -> Result<Vec<u8>, OutOfMemory> {
+        let mut len = 0;
+        // SAFETY: `len` is written to.
+        done_or_no_memory(unsafe { mst_sync_ask(self.0.get_mut(), &mut len) })?;
+        self.message(len)
+    }
+
+    /// Takes a reply, and answers the next question, or the rows that came.
+    pub(crate) fn take(&mut self, reply: &[u8]) -> Result<Next, Refused> {
+        let (mut len, mut list_len) = (0, 0);
+        // SAFETY: the reply is a slice, and `len` and `list_len` are written to.
+        done(unsafe { mst_sync_take(self.0.get_mut(), reply.as_ptr(), reply.len(), &mut len, &mut list_len) })?;
+        if len == 0 {
+            return Ok(Next::Came(Rows::of_list(self.list(list_len)?)));
+        }
+        Ok(Next::Ask(self.message(len)?))
+    }
+
+    /// The reply to a question, or what it needs of the rows.
+    pub(crate) fn answer(&mut self, question: &[u8]) -> Result<Answered, Refused> {
+        let (mut len, mut list_len) = (0, 0);
+        // SAFETY: the question is a slice, and `len` and `list_len` are written to.
+        let status =
+            unsafe { mst_sync_answer(self.0.get_mut(), question.as_ptr(), question.len(), &mut len, &mut list_len) };
+        if status == NEEDS_ROWS {
+            return Ok(Answered::Needs(self.list(list_len)?));
+        }
+        done(status)?;
+        Ok(Answered::Reply(self.message(len)?))
+    }
+
+    /// The reply to a question by a list of rows that ascend: all that it needs, or the first of them. It ends with the entry that brings it to
+    /// `most` bytes.
+    pub(crate) fn answer_with(
+        &mut self,
+        question: &[u8],
+        rows: &[u8],
+        is_all: bool,
+        most: usize,
+    ) -> Result<Vec<u8>, Refused> {
+        let mut len = 0;
+        let (question_at, question_len, rows_at, rows_len) =
+            (question.as_ptr(), question.len(), rows.as_ptr(), rows.len());
+        // SAFETY: the question and the list are slices, and `len` is written to.
+        let status = unsafe {
+            let handle = self.0.get_mut();
+            mst_sync_answer_with(handle, question_at, question_len, rows_at, rows_len, is_all.into(), most, &mut len)
+        };
+        // (the rows ascend: so a bad argument is the first question of a catch-up, which needs none)
+        if status == NEEDS_ROWS || status == BAD_ARGUMENT {
+            return Err(Refused::Rows);
+        }
+        done(status)?;
+        Ok(self.message(len)?)
+    }
+
+    /// The message that is kept, of `len` bytes.
+    fn message(&self, len: usize) -> Result<Vec<u8>, OutOfMemory> {
+        // SAFETY: no other call has the handle, and `out` is memory of `len` bytes that nothing else has.
+        let message = written(len, |out, len, needed| unsafe { mst_sync_message(self.0.get(), out, len, needed) });
+        message.map_err(|_| OutOfMemory)
+    }
+
+    /// The list that is kept, of `len` bytes.
+    fn list(&self, len: usize) -> Result<Vec<u8>, OutOfMemory> {
+        // SAFETY: no other call has the handle, and `out` is memory of `len` bytes that nothing else has.
+        let list = written(len, |out, len, needed| unsafe { mst_sync_list(self.0.get(), out, len, needed) });
+        list.map_err(|_| OutOfMemory)
+    }
+}
+
+impl Drop for Side {
+    fn drop(&mut self) {
+        // SAFETY: the handle is one that a call made, and isn't used again.
+        unsafe { mst_sync_free(self.0.get_mut()) }
     }
 }
 

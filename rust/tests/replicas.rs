@@ -522,6 +522,7 @@ fn faults_are_errors() {
         (Fault::OtherSettings, ErrorKind::InvalidData),
         (Fault::Refused, ErrorKind::InvalidData),
         (Fault::NotAsking, ErrorKind::InvalidInput),
+        (Fault::OtherRows, ErrorKind::InvalidInput),
         (Fault::OutOfMemory { joined: 7 }, ErrorKind::OutOfMemory),
     ];
     for (fault, kind) in faults {

@@ -1,0 +1,472 @@
+"""Trees of the digests of rows that are kept elsewhere, as in a database, and catch-ups of such rows by messages, whose cost is what differs.
+
+The calls are those of mst_sync.h. The messages are those of docs/WIRE.md, where keys and values are byte strings.
+"""
+import asyncio
+import contextlib
+import ctypes
+import functools
+import itertools
+import os.path
+import threading
+from typing import Any, Callable, Dict, Generator, Iterable, Iterator, List, NoReturn, Optional, Protocol, Set, Tuple
+
+from . import _wire
+from ._library import ABSENT, MALFORMED, NEEDS_ROWS, OTHER_SETTINGS, MalformedError, library, written
+from ._ranges import _entries
+from ._sync import LIMIT, _list
+from ._wire import MESSAGES, Read, Write, check
+
+# How many bytes of rows are looked up for one reply; the peer asks for the rest.
+_MOST = 1 << 22
+# What the look-up of a row counts for, besides its bytes.
+_ROW = 16
+
+_set = library.mst_sync_set
+
+Row = Tuple[bytes, bytes]
+Steps = Generator[bytes, bytes, List[Row]]
+
+
+class KeptRows(Protocol):
+    """What a catch-up needs of rows that are kept elsewhere, as in a table of a database: three methods. If threads write, catch up or serve
+    at the same time, they call them at the same time."""
+
+    def get(self, key: bytes) -> "Optional[bytes]":
+        """The value at a key, or None."""
+
+    def scan(self, first: bytes, end: "Optional[bytes]") -> "Iterable[Row]":
+        """The rows with first <= key < end, or all with first <= key if the end is None, in the order of the bytes of their keys. No more are
+        taken than a reply needs, so read a few at a time. What it returns is closed then, if it has a method `close`."""
+
+    def join(self, came: "List[Row]") -> "Iterable[Row]":
+        """Joins rows, whose keys ascend, in one transaction, and returns the rows at their keys as they are after it. Of a value that came and
+        one that is there a rule makes one, whatever their order: in a `HeldReplica` the greater stays. A row that isn't taken is returned
+        as it was, or not at all."""
+
+
+class SyncTree:
+    """The digests of rows that are kept elsewhere, as in a database, in a Merkle search tree in memory; and catch-ups of these rows with those
+    of peers: other such trees, `HeldReplica`, and replicas in C and Rust.
+
+    >>> class Rows:
+    ...     def __init__(self):
+    ...         self.table = {}
+    ...     def get(self, key):
+    ...         return self.table.get(key)
+    ...     def scan(self, first, end):
+    ...         return ((key, self.table[key]) for key in sorted(self.table) if first <= key and (end is None or key < end))
+    ...     def join(self, came):
+    ...         self.table.update((key, max(value, self.table.get(key, b""))) for key, value in came)
+    ...         return [(key, self.table[key]) for key, _ in came]
+    >>> from mst import HeldReplica
+    >>> office, laptop = Rows(), HeldReplica({b"kiwi": b"1207 two", b"melon": b"1208 six"})
+    >>> tree = SyncTree(office)
+    >>> tree.join(office, [(b"apple", b"1131 ten"), (b"kiwi", b"1130 one")])
+    >>> steps = tree.catch_up_steps()
+    >>> try:
+    ...     question = next(steps)
+    ...     while True:
+    ...         question = steps.send(laptop.answer(question))
+    ... except StopIteration as end:
+    ...     tree.join(office, end.value)
+    >>> office.table
+    {b'apple': b'1131 ten', b'kiwi': b'1207 two', b'melon': b'1208 six'}
+
+    The rows are the truth, and the tree is never stored: `load` makes it of the rows, when the program starts. From then on it has to be told
+    of each write, after the commit: `join` writes and tells it; after a write by other means call `refresh`. So nothing is lost if the program
+    ends between a commit and the tree, and if it goes on after an error, the keys of that `join` or `refresh` are looked up again before the
+    next catch-up, answer or `refresh`.
+
+    Any thread may use a tree, to answer many peers too, and none waits for a peer. But it is in one catch-up at a time: if another begins, or
+    the tree is loaded anew, the one before raises ValueError. So hold a lock round each `catch_up`, and none round `serve`, if threads catch
+    up. It holds memory outside of Python, which `close`, a `with` statement or the collector gives back. ValueError if it is closed, in every
+    call but `close`; MemoryError if memory is refused, and then the tree is as before; TypeError if a key, a value or a message isn't bytes.
+    """
+
+    __slots__ = ("_handle", "_address", "_settings", "_lock", "_writing", "_under_way", "_unsure", "__weakref__")
+
+    def __init__(self, rows: "Optional[KeptRows]" = None, *, key: bytes = bytes(16), level_base: int = 16, page_format: int = 1) -> None:
+        """The tree of these rows, by `load`. The settings are those of `HeldReplica`, and peers that catch up with each other have all three in
+        common, and refuse others; but a tree without keys tells no key of SipHash, and is served under any."""
+        if len(key) != 16:
+            raise ValueError("the key of SipHash is of 16 bytes")
+        if not 1 <= level_base <= 255:
+            raise ValueError("the level base is from 1 to 255")
+        if page_format not in (1, 2):
+            raise ValueError("the page format is 1 or 2")
+        self._settings = key, level_base, page_format
+        self._handle = ctypes.c_void_p()
+        self._address = ctypes.addressof(self._handle)
+        # Held within each call of the library and until what it keeps is read; never while rows are looked up or written.
+        self._lock = threading.RLock()
+        # Held while rows are written, and looked up after a write, until the tree is set to them: so the last of several settings of a key is
+        # the one that was read last.
+        self._writing = threading.RLock()
+        self._under_way: "Optional[object]" = None
+        self._unsure: "Set[bytes]" = set()
+        check(library.mst_sync_new_with(self._address, key, level_base, page_format))
+        if rows is not None:
+            self.load(rows)
+
+    def load(self, rows: KeptRows) -> None:
+        """Makes the tree that of all rows, by one scan: when the program starts, and when it can't be sure that it told the tree of each write,
+        as after a restore of the database. `join` and `refresh` wait meanwhile; write by no other means. A catch-up that is under way ends
+        with ValueError. If the scan fails, or its keys don't ascend (ValueError), the tree is as before. It takes a few microseconds a row,
+        and never holds more than one row."""
+        sip_key, level_base, page_format = self._settings
+        with self._writing:
+            fresh = SyncTree(key=sip_key, level_base=level_base, page_format=page_format)
+            with contextlib.closing(_scanned(rows, b"", None)) as found:
+                for key, value in found:
+                    fresh[key] = value
+            with self._lock:
+                if not self._handle.value:
+                    raise ValueError("the tree is closed")
+                self._handle, fresh._handle = fresh._handle, self._handle
+                self._address, fresh._address = fresh._address, self._address
+                self._under_way = None
+            self._unsure = set()
+
+    def join(self, rows: KeptRows, came: "Iterable[Row]") -> None:
+        """Joins rows with those that are kept, by their own `join`, and sets the tree to what they then are: so `catch_up` does with what came,
+        and so a program writes. Each key comes once (ValueError). Another `join` or `refresh` waits meanwhile.
+
+        If it raises, the rows say what was written. The tree is brought to it before it is next given rows, except by `join`."""
+        joining = sorted(came)
+        if not all(isinstance(key, bytes) and isinstance(value, bytes) for key, value in joining):
+            raise TypeError("keys and values are bytes")
+        if any(row[0] == after[0] for row, after in zip(joining, joining[1:])):
+            raise ValueError("a key comes twice")
+        if not joining:
+            return
+        with self._writing:
+            try:
+                for key, value in rows.join(joining):
+                    self[key] = value
+            except BaseException:
+                self._unsure = self._unsure.union(key for key, _ in joining)
+                raise
+
+    def refresh(self, rows: KeptRows, keys: "Iterable[bytes]" = ()) -> None:
+        """Looks up keys, and sets the tree to their rows as they are, or takes keys out: call it after the commit of each write that isn't by
+        `join`, and after writes of another program. Keys that weren't looked up because it raised are looked up the next time, as are those
+        of a `join` that raised."""
+        asked = set(keys)
+        if not all(isinstance(key, bytes) for key in asked):
+            raise TypeError("keys are bytes")
+        with self._writing:
+            left = asked.union(self._unsure)
+            try:
+                while left:
+                    key = next(iter(left))
+                    value = rows.get(key)
+                    if value is None:
+                        self.discard(key)
+                    else:
+                        self[key] = value
+                    left.discard(key)
+            finally:
+                self._unsure = left
+
+    def __setitem__(self, key: bytes, value: bytes) -> None:
+        """Sets a key to the digest of a value. That the row is written is the caller's to see to, and, if several threads write, that the tree
+        is set in the order of the commits: `join` and `refresh` see to both."""
+        try:
+            with self._lock:
+                status = _set(self._address, key, len(key), value, len(value))
+        except ctypes.ArgumentError:
+            raise TypeError("keys and values are bytes") from None
+        if status:
+            check(status)
+
+    def __delitem__(self, key: bytes) -> None:
+        """Takes a key out; KeyError if it isn't there."""
+        if not self.discard(key):
+            raise KeyError(key)
+
+    def discard(self, key: bytes) -> bool:
+        """Takes a key out, and says whether it was there. A peer that has the row brings it back, unless a value says that it was removed."""
+        try:
+            with self._lock:
+                status = library.mst_sync_remove(self._address, key, len(key))
+        except ctypes.ArgumentError:
+            raise TypeError("keys are bytes") from None
+        if status == ABSENT:
+            return False
+        check(status)
+        return True
+
+    def get_digest(self, key: bytes) -> "Optional[bytes]":
+        """The digest of the value at a key; None if the key isn't there."""
+        digest = ctypes.create_string_buffer(16)
+        try:
+            with self._lock:
+                status = library.mst_sync_find(self._address, key, len(key), digest)
+        except ctypes.ArgumentError:
+            raise TypeError("keys are bytes") from None
+        if status == ABSENT:
+            return None
+        check(status)
+        return digest.raw
+
+    def __contains__(self, key: bytes) -> bool:
+        """Whether a key is there."""
+        return self.get_digest(key) is not None
+
+    def __len__(self) -> int:
+        """How many keys there are. It counts them."""
+        count = ctypes.c_size_t()
+        with self._lock:
+            check(library.mst_sync_len(self._address, ctypes.byref(count)))
+        return count.value
+
+    def __bool__(self) -> bool:
+        """A tree is true, as it is without a key: to count them for a test would be slow."""
+        return True
+
+    def root_hash(self) -> bytes:
+        """The root hash, 16 bytes: that of a `HeldReplica` with these rows and settings. It hashes the pages that changed since the last call."""
+        root = ctypes.create_string_buffer(16)
+        with self._lock:
+            check(library.mst_sync_root_hash(self._address, root))
+        return root.raw
+
+    def answer(self, rows: KeptRows, question: bytes) -> bytes:
+        """The reply to a question of a peer that catches up. Any bytes may be given. If they are no question, or the peer has other settings,
+        the reply is `REFUSAL`, which is to be sent too. It looks up the rows that the reply has, up to some 4 MiB and one row more, and keeps
+        nothing between questions. What `get` and `scan` raise; ValueError if what `scan` returns isn't in the order of its keys."""
+        return self._answer(rows, question)[1]
+
+    def catch_up_steps(self, *, messages: int = MESSAGES) -> Steps:
+        """A catch-up step by step, for a transport of one's own: it yields each question, whole, is sent the reply to it, and returns the rows
+        that came, in the order of their keys, each of which the tree lacks or has with another digest. Then give them to `join`: until then
+        nothing changes. It asks that many questions at most.
+
+        MalformedError if a reply isn't one to what was asked, or the peer goes on for too long, and RefusedError if it refuses.
+        MalformedError comes too if rows were written at the peer in between, so that a key came twice: then begin again."""
+        mine = object()
+        question = self._ask(mine)
+        try:
+            for _ in range(messages):
+                reply = yield question
+                question, came = self._take(mine, reply)
+                if not question:
+                    return came
+            raise MalformedError(f"the peer isn't done after {messages} questions")
+        finally:
+            self._leave(mine)
+
+    def catch_up(self, rows: KeptRows, read: Read, write: Write, *, limit: int = LIMIT, messages: int = MESSAGES) -> int:
+        """Brings the rows of a peer that runs `serve` over a connection, joins them, and returns how many came. At the end the peer is told so:
+        then it may catch up, and this side serve, over the same connection. `read` and `write` are those of `sync`. A message goes after how
+        many bytes it has, in eight bytes, the lowest first; a reply of more than `limit` bytes is refused, and the peer is asked that many
+        questions at most. The keys that a message spells may have 64 times its bytes together. All rows that come are held until they are
+        joined, once all came.
+
+        EOFError if the peer ends before; what `catch_up_steps`, `read` and `write` raise: rows and tree are then as before, unless it is the
+        end that can't be told. What `join` raises."""
+        self._settle(rows)
+        came = _wire.ask(self.catch_up_steps(messages=messages), read, write, limit)
+        self.join(rows, came)
+        _wire.send(write, b"")
+        return len(came)
+
+    def serve(self, rows: KeptRows, read: Read, write: Write, *, limit: int = LIMIT, messages: int = MESSAGES) -> int:
+        """Answers a peer that runs `catch_up`, until it says that it is done or ends, and returns how many questions it was answered. The
+        rest is as for `catch_up`, from the other side.
+
+        RefusedError if the peer has other settings, and MalformedError if it sends what is no question, one of more bytes than the limit or
+        more questions than `messages`: it is sent the refusal first, if it is still there. EOFError if it ends within a message; what
+        `answer`, `read` and `write` raise."""
+        return _wire.answer(functools.partial(self._answer, rows), read, write, limit, messages)
+
+    async def catch_up_streams(self, rows: KeptRows, reader: asyncio.StreamReader, writer: asyncio.StreamWriter, *, limit: int = LIMIT,
+                               messages: int = MESSAGES) -> int:
+        """The same as `catch_up`, over the streams of asyncio. The rows are called in threads of the loop's executor, so that the loop waits
+        neither for the peer nor for the database. A `join` that has begun goes on in its thread if the task is cancelled."""
+        await _in_thread(self._settle, rows)
+        came = await _wire.ask_streams(self.catch_up_steps(messages=messages), reader, writer, limit)
+        await _in_thread(self.join, rows, came)
+        await _wire.send_stream(writer, b"")
+        return len(came)
+
+    async def serve_streams(self, rows: KeptRows, reader: asyncio.StreamReader, writer: asyncio.StreamWriter, *, limit: int = LIMIT,
+                            messages: int = MESSAGES) -> int:
+        """The same as `serve`, over the streams of asyncio, with the rows called as in `catch_up_streams`."""
+        return await _wire.answer_streams(functools.partial(_in_thread, self._answer, rows), reader, writer, limit, messages)
+
+    def close(self) -> None:
+        """Gives the memory back. To close a tree twice does no harm."""
+        with self._lock:
+            library.mst_sync_free(self._address)
+
+    def _settle(self, rows: KeptRows) -> None:
+        """Looks up the keys of writes of which it isn't known how they ended."""
+        if self._unsure:
+            self.refresh(rows)
+
+    def _answer(self, rows: KeptRows, question: bytes) -> "Tuple[int, bytes]":
+        """The status of an answer, and the message that is to be sent."""
+        self._settle(rows)
+        size, needs_size = ctypes.c_size_t(), ctypes.c_size_t()
+        with self._lock:
+            try:
+                status = library.mst_sync_answer(self._address, question, len(question), ctypes.byref(size), ctypes.byref(needs_size))
+            except ctypes.ArgumentError:
+                raise TypeError("messages are bytes") from None
+            if status != NEEDS_ROWS:
+                return self._kept_reply(status, size.value)
+            needs = self._kept(library.mst_sync_list, needs_size.value)
+        found, is_all, most = _look_up(rows, needs, _MOST)
+        data = _list(sorted(found.items()))
+        with self._lock:
+            status = library.mst_sync_answer_with(self._address, question, len(question), data, len(data), is_all, most, ctypes.byref(size))
+            if status == NEEDS_ROWS:
+                raise RuntimeError("a reply needs more rows than were looked up for it")
+            return self._kept_reply(status, size.value)
+
+    def _kept_reply(self, status: int, size: int) -> "Tuple[int, bytes]":
+        if status not in (MALFORMED, OTHER_SETTINGS):
+            check(status)
+        return status, self._kept(library.mst_sync_message, size)
+
+    def _ask(self, mine: object) -> bytes:
+        """Begins a catch-up, and returns its first question."""
+        size = ctypes.c_size_t()
+        with self._lock:
+            check(library.mst_sync_ask(self._address, ctypes.byref(size)))
+            self._under_way = mine
+            return self._kept(library.mst_sync_message, size.value)
+
+    def _take(self, mine: object, reply: bytes) -> "Tuple[bytes, List[Row]]":
+        """Takes a reply, and returns the next question, or none and the rows that came."""
+        size, list_size = ctypes.c_size_t(), ctypes.c_size_t()
+        with self._lock:
+            if self._under_way is not mine:
+                raise ValueError("another catch-up of this tree began in the place of this one, or the tree was loaded anew")
+            try:
+                status = library.mst_sync_take(self._address, reply, len(reply), ctypes.byref(size), ctypes.byref(list_size))
+            except ctypes.ArgumentError:
+                raise TypeError("messages are bytes") from None
+            check(status)
+            if size.value:
+                return self._kept(library.mst_sync_message, size.value), []
+            came = self._kept(library.mst_sync_list, list_size.value)
+        return b"", [(key, value) for key, value, _ in _entries(came, 0)]
+
+    def _leave(self, mine: object) -> None:
+        """Ends a catch-up that was left, so that what came of it is let go: no bytes are a reply to no question."""
+        with self._lock:
+            if self._under_way is mine:
+                self._under_way = None
+                library.mst_sync_take(self._address, b"", 0, ctypes.byref(ctypes.c_size_t()), ctypes.byref(ctypes.c_size_t()))
+
+    def _kept(self, call: "Callable[..., int]", size: int) -> bytes:
+        """The message or the list that the library keeps."""
+        return written(size, lambda out, room, needed: call(self._address, out, room, needed))
+
+    def __reduce__(self) -> "NoReturn":
+        raise TypeError("a tree isn't copied or pickled; it is made anew of its rows")
+
+    def __enter__(self) -> "SyncTree":
+        return self
+
+    def __exit__(self, *_error: object) -> None:
+        self.close()
+
+    def __del__(self) -> None:
+        if hasattr(self, "_address"):
+            library.mst_sync_free(self._address)
+
+    def __repr__(self) -> str:
+        return f"<SyncTree at {self._handle.value:#x}>" if self._handle.value else "<SyncTree, closed>"
+
+
+# The rows that were looked up for a reply; whether they are all that it needs, and else they are the first of these; and by how many bytes it
+# ends, with the entry or the row that brings it there.
+_Found = Tuple[Dict[bytes, bytes], bool, int]
+
+
+def _look_up(rows: KeptRows, needs: bytes, most: int) -> _Found:
+    """Looks up the rows that a list of needs of mst_sync.h names, in the order of the list, until they have `most` bytes."""
+    needed = ((first, end) for first, end, _ in _entries(needs, 0))
+    entry = next(needed, None)
+    if entry is None:
+        return {}, True, most
+    look = _look_up_keys if entry[1] == b"\2" else _look_up_ranges
+    return look(rows, itertools.chain([entry], needed), most)
+
+
+# Where not all rows are looked up, a reply must end before those that weren't. So both functions count in `least` how many bytes the entries
+# take in a reply at the least. Rows of the first keys, or ranges, are handed in as such; if a key isn't there, or ranges don't ascend, they
+# can't be: then they are handed in as all rows, which for a reply that ends by `least` bytes they are.
+
+def _look_up_keys(rows: KeptRows, needed: "Iterator[Tuple[bytes, bytes]]", most: int) -> _Found:
+    """Of each key a reply has a byte, and if it is there at least one for how long the value is, and the value."""
+    found: "Dict[bytes, bytes]" = {}
+    size = least = 0
+    are_there = True
+    for key, _ in needed:
+        if size >= most:
+            return found, not are_there, least
+        value = found[key] if key in found else rows.get(key)
+        if value is None:
+            are_there = False
+            least += 1
+        else:
+            found[key] = value
+            size += len(value)
+            least += 2 + len(value)
+        size += _ROW + len(key)
+    return found, True, most
+
+
+def _look_up_ranges(rows: KeptRows, needed: "Iterator[Tuple[bytes, bytes]]", most: int) -> _Found:
+    """Of each range a reply has at least two bytes, and of each row in it two, the value, and what the key doesn't share with the one before.
+    One row more is looked up than the reply has, by which it says that its last range goes on, or the range before has ended."""
+    found: "Dict[bytes, bytes]" = {}
+    size = least = 0
+    bound: "Optional[bytes]" = b""
+    ascend = True
+    for first, kind in needed:
+        if size >= 2 * most:
+            return found, True, least
+        end = kind[1:] if kind[:1] == b"\1" else None
+        ascend = ascend and bound is not None and first >= bound and (end is None or end >= first)
+        bound, before = end, first[:-1]
+        with contextlib.closing(_scanned(rows, first, end)) as scanned:
+            for key, value in scanned:
+                if size >= most:
+                    found[key] = value
+                    return found, not ascend, least
+                found[key] = value
+                size += _ROW + len(key) + len(value)
+                least += 2 + len(value) + len(key) - len(os.path.commonprefix([before, key]))
+                before = key
+        size += _ROW + len(first)
+        least += 2
+    return found, True, most
+
+
+def _scanned(rows: KeptRows, first: bytes, end: "Optional[bytes]") -> "Generator[Row, None, None]":
+    """The rows of a range. ValueError if they aren't in it or don't ascend, as those of a table whose order isn't that of bytes."""
+    if end is not None and end <= first:
+        return
+    before: "Optional[bytes]" = None
+    found = rows.scan(first, end)
+    try:
+        for key, value in found:
+            if key < first or (end is not None and key >= end) or (before is not None and key <= before):
+                raise ValueError("scan returned a key that isn't in the range, or keys that don't ascend by their bytes")
+            yield key, value
+            before = key
+    finally:
+        close = getattr(found, "close", None)
+        if close is not None:
+            close()
+
+
+async def _in_thread(call: "Callable[..., Any]", *words: object) -> "Any":
+    """Makes a call in a thread of the loop's executor."""
+    return await asyncio.get_running_loop().run_in_executor(None, call, *words)

@@ -1,0 +1,194 @@
+"""Catch-ups over a connection: how a message is sent, and what each side does until the catch-up is over. docs/WIRE.md has the messages."""
+import asyncio
+import contextlib
+import struct
+from typing import Awaitable, Callable, Generator, Optional, Tuple, TypeVar
+
+from ._library import DONE, MALFORMED, OTHER_SETTINGS, REFUSED, MalformedError
+from ._library import check as check_of_tree
+
+MESSAGES = 1 << 16
+"""How many questions one catch-up asks or is answered, where no other number is given. A peer that keeps to the messages needs far fewer
+than a thousand, and one for each further 64 MiB."""
+
+REFUSAL = b"\x01\xff"
+"""The message that says that a question was refused."""
+
+_PIECE = 1 << 16
+_pack = struct.Struct("<Q").pack
+_number = struct.Struct("<Q").unpack_from
+_Came = TypeVar("_Came")
+
+Read = Callable[[int], bytes]
+Write = Callable[[bytes], object]
+# What answers a question: the status of the answer, and the message that is sent back.
+Answer = Callable[[bytes], Tuple[int, bytes]]
+AnswerLater = Callable[[bytes], Awaitable[Tuple[int, bytes]]]
+
+
+class RefusedError(ValueError):
+    """A catch-up was refused by the side that was asked: mostly since the other side has another key of SipHash, level base or page format."""
+
+
+def check(status: int, joined: int = 0) -> None:
+    """Raises what a status of a call on messages means, but for DONE."""
+    if status == DONE:
+        return
+    if status == REFUSED:
+        raise RefusedError("the peer rejected the request: it may have other settings")
+    if status == MALFORMED:
+        raise MalformedError("the peer's reply isn't one to what was asked")
+    if joined:
+        raise MemoryError(f"{joined} of the rows that came are joined")
+    check_of_tree(status)
+
+
+def ask(steps: "Generator[bytes, bytes, _Came]", read: Read, write: Write, limit: int) -> "_Came":
+    """Asks what the steps of a catch-up ask, and returns what they return. The peer isn't told that the catch-up is over."""
+    with contextlib.closing(steps):
+        question = next(steps)
+        while True:
+            send(write, question)
+            reply = receive(read, limit)
+            try:
+                question = steps.send(reply)
+            except StopIteration as end:
+                came: _Came = end.value
+                return came
+
+
+async def ask_streams(steps: "Generator[bytes, bytes, _Came]", reader: asyncio.StreamReader, writer: asyncio.StreamWriter,
+                      limit: int) -> "_Came":
+    """The same over the streams of asyncio."""
+    with contextlib.closing(steps):
+        question = next(steps)
+        while True:
+            await send_stream(writer, question)
+            reply = await receive_stream(reader, limit)
+            try:
+                question = steps.send(reply)
+            except StopIteration as end:
+                came: _Came = end.value
+                return came
+
+
+def answer(answers: Answer, read: Read, write: Write, limit: int, messages: int) -> int:
+    """Answers a peer until it says that it is done or ends, and returns how many questions it was answered."""
+    count = 0
+    while True:
+        try:
+            question = receive(read, limit, may_end=True)
+            _check_count(question, count, messages)
+        except MalformedError:
+            _refuse(write)
+            raise
+        if not question:
+            return count
+        status, reply = answers(question)
+        error = _fault(status)
+        if error:
+            _refuse(write)
+            raise error
+        send(write, reply)
+        count += 1
+
+
+async def answer_streams(answers: AnswerLater, reader: asyncio.StreamReader, writer: asyncio.StreamWriter, limit: int,
+                         messages: int) -> int:
+    """The same over the streams of asyncio."""
+    count = 0
+    while True:
+        try:
+            question = await receive_stream(reader, limit, may_end=True)
+            _check_count(question, count, messages)
+        except MalformedError:
+            await _refuse_stream(writer)
+            raise
+        if not question:
+            return count
+        status, reply = await answers(question)
+        error = _fault(status)
+        if error:
+            await _refuse_stream(writer)
+            raise error
+        await send_stream(writer, reply)
+        count += 1
+
+
+def send(write: Write, message: bytes) -> None:
+    """Sends a message after how many bytes it has. One of no bytes ends a catch-up."""
+    write(_pack(len(message)) + message)
+
+
+async def send_stream(writer: asyncio.StreamWriter, message: bytes) -> None:
+    """The same over a stream of asyncio."""
+    writer.write(_pack(len(message)) + message)
+    await writer.drain()
+
+
+def receive(read: Read, limit: int, *, may_end: bool = False) -> bytes:
+    """The message that the peer sends; none where it ends instead of one and may."""
+    front = _exactly(read, 8, may_end)
+    return _exactly(read, _size(front, limit)) if front else b""
+
+
+async def receive_stream(reader: asyncio.StreamReader, limit: int, *, may_end: bool = False) -> bytes:
+    """The same over a stream of asyncio."""
+    try:
+        front = await reader.readexactly(8)
+    except asyncio.IncompleteReadError as error:
+        if may_end and not error.partial:
+            return b""
+        raise EOFError("the peer ended within a catch-up") from None
+    try:
+        return await reader.readexactly(_size(front, limit))
+    except asyncio.IncompleteReadError:
+        raise EOFError("the peer ended within a catch-up") from None
+
+
+def _size(front: bytes, limit: int) -> int:
+    """How many bytes the message has whose front this is."""
+    size: int = _number(front)[0]
+    if size > limit:
+        raise MalformedError(f"a message of {size} bytes came, and the limit is {limit}")
+    return size
+
+
+def _exactly(read: Read, size: int, may_end: bool = False) -> bytes:
+    """So many bytes; or none, where the peer ends before the first of them and may. Memory is taken as they come."""
+    came = bytearray()
+    while len(came) < size:
+        piece = read(min(size - len(came), _PIECE))
+        if not piece:
+            if may_end and not came:
+                return b""
+            raise EOFError("the peer ended within a catch-up")
+        came += piece
+    return bytes(came)
+
+
+def _check_count(question: bytes, count: int, messages: int) -> None:
+    """MalformedError where this question is one too many."""
+    if question and count == messages:
+        raise MalformedError(f"the peer isn't done after {messages} questions")
+
+
+def _fault(status: int) -> "Optional[ValueError]":
+    """What is wrong with a question, if the status of the answer says so."""
+    if status == OTHER_SETTINGS:
+        return RefusedError("the peer has other settings")
+    if status == MALFORMED:
+        return MalformedError("the peer sent what is no question")
+    return None
+
+
+def _refuse(write: Write) -> None:
+    """Tells the peer that it is refused. It may be gone, which says less than why."""
+    with contextlib.suppress(Exception):
+        send(write, REFUSAL)
+
+
+async def _refuse_stream(writer: asyncio.StreamWriter) -> None:
+    """The same over a stream of asyncio."""
+    with contextlib.suppress(Exception):
+        await send_stream(writer, REFUSAL)

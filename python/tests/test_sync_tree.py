@@ -1,0 +1,1030 @@
+"""Trees of the digests of rows that are kept elsewhere: catch-ups of rows in a dict and in SQLite with one another and with replicas, by steps,
+over sockets and over asyncio; rows that fail; and peers that don't keep to the messages."""
+import asyncio
+import bisect
+import contextlib
+import copy
+import ctypes
+import importlib.util
+import os
+import pickle
+import random
+import signal
+import socket
+import sqlite3
+import subprocess
+import sys
+import tempfile
+import threading
+import unittest
+from unittest import mock
+
+from mst import REFUSAL, HeldReplica, MalformedError, RefusedError, SyncTree, Tree
+from mst._library import ABSENT, library
+from mst._sync import _list
+from mst._sync_tree import _look_up
+
+from .test_replica import both_ways, by_steps, drawn, in_threads, joined, lacked, number, said_by
+
+EXAMPLES = os.path.join(os.path.dirname(os.path.abspath(__file__)), "..", "examples")
+
+
+def example(name):
+    """An example as a module."""
+    spec = importlib.util.spec_from_file_location(name, os.path.join(EXAMPLES, f"{name}.py"))
+    module = importlib.util.module_from_spec(spec)
+    spec.loader.exec_module(module)
+    return module
+
+
+SqliteRows = example("sqlite_rows").Rows
+
+
+class Rows:
+    """Rows in a dict, of which the greater value stays; how many were looked up; and what a call does before it returns."""
+
+    def __init__(self, table=()):
+        self.table, self.looked_up, self.closed, self.fault = dict(table), 0, 0, {}
+
+    def _may_fail(self, when):
+        if self.fault.get(when):
+            raise self.fault[when]
+
+    def get(self, key):
+        self._may_fail("get")
+        self.looked_up += 1
+        return self.table.get(key)
+
+    def scan(self, first, end):
+        keys = sorted(self.table)
+        try:
+            for key in keys[bisect.bisect_left(keys, first):len(keys) if end is None else bisect.bisect_left(keys, end)]:
+                self._may_fail("scan")
+                self.looked_up += 1
+                yield key, self.table[key]
+        finally:
+            self.closed += 1
+
+    def join(self, came):
+        assert came and all(row[0] < after[0] for row, after in zip(came, came[1:]))
+        self._may_fail("join")
+        for key, value in came:
+            self.table[key] = max(value, self.table.get(key, b""))
+        self._may_fail("joined")
+        return [(key, self.table[key]) for key, _ in came]
+
+
+class Side:
+    """A tree with its rows, called as a `HeldReplica` is."""
+
+    def __init__(self, table=(), rows=None, **settings):
+        self.rows = Rows(table) if rows is None else rows
+        self.tree = SyncTree(self.rows, **settings)
+
+    def catch_up_steps(self, **words):
+        came = yield from self.tree.catch_up_steps(**words)
+        assert all(row[0] < after[0] for row, after in zip(came, came[1:]))
+        self.tree.join(self.rows, came)
+        return len(came)
+
+    def answer(self, question):
+        return self.tree.answer(self.rows, question)
+
+    def catch_up(self, read, write, **words):
+        return self.tree.catch_up(self.rows, read, write, **words)
+
+    def serve(self, read, write, **words):
+        return self.tree.serve(self.rows, read, write, **words)
+
+    def root_hash(self):
+        return self.tree.root_hash()
+
+    def put(self, key, value):
+        self.tree.join(self.rows, [(key, value)])
+
+
+def in_sqlite(table=(), **settings):
+    """A side whose rows are in SQLite."""
+    rows = SqliteRows(":memory:")
+    rows._table.executemany("INSERT INTO rows VALUES (?, ?)", dict(table).items())
+    rows._table.commit()
+    return Side(rows=rows, **settings)
+
+
+def rows_of(side):
+    return dict(side) if isinstance(side, HeldReplica) else dict(side.rows.scan(b"", None))
+
+
+KINDS = {"dict": Side, "sqlite": in_sqlite, "replica": HeldReplica}
+PAIRS = [("dict", "dict"), ("dict", "replica"), ("replica", "dict"), ("sqlite", "sqlite"), ("sqlite", "replica"), ("replica", "sqlite")]
+
+
+def pair(left, right, kinds, **settings):
+    return [KINDS[kind](rows, **settings) for kind, rows in zip(kinds, (left, right))]
+
+
+def count(value):
+    """The bytes of a count of docs/WIRE.md."""
+    return bytes([value]) if value < 128 else bytes([128 + value % 128]) + count(value // 128)
+
+
+def key_of_run(last, key):
+    """A key in a run after one whose bytes are given, and its own bytes."""
+    own = count(len(key)) + key
+    kept = len(os.path.commonprefix([last[:255], own]))
+    more = len(own) - kept
+    front = bytes([16 * kept + more]) if kept < 15 and more < 16 else b"\xf0" + count(kept) + count(more)
+    return front + own[kept:], own
+
+
+def asks_at(keys):
+    """The question for the values at keys."""
+    parts, last = [b"\1\4", count(len(keys))], b""
+    for key in keys:
+        piece, last = key_of_run(last, key)
+        parts.append(piece)
+    return b"".join(parts)
+
+
+def asks_in(gaps):
+    """The question for the rows in gaps."""
+    parts, last = [b"\1\5", count(len(gaps))], b""
+    for bound in [bound for gap in gaps for bound in gap]:
+        if bound is None:
+            parts.append(b"\0")
+        else:
+            piece, last = key_of_run(last, bound)
+            parts += [b"\1", piece]
+    return b"".join(parts)
+
+
+class Reply:
+    """Reads a reply."""
+
+    def __init__(self, reply, kind):
+        assert reply[:2] == bytes([1, kind]), reply[:2]
+        self.reply, self.at = reply, 2
+
+    def take(self, size):
+        part = self.reply[self.at:self.at + size]
+        assert len(part) == size
+        self.at += size
+        return part
+
+    def count(self):
+        value = place = 0
+        while True:
+            byte = self.take(1)[0]
+            value |= (byte & 127) << 7 * place
+            place += 1
+            if byte < 128:
+                return value
+
+    def string(self):
+        return self.take(self.count())
+
+    def is_over(self):
+        return self.at == len(self.reply)
+
+    def values(self):
+        """The entries of a reply with values."""
+        told = []
+        while not self.is_over():
+            told.append(self.string() if self.take(1) == b"\1" else None)
+        return told
+
+    def parts(self, gaps):
+        """The parts of a reply with the rows in gaps, each with its flag."""
+        told = []
+        while not self.is_over():
+            after = gaps[len(told)][0]
+            last, rows = b"" if after is None else count(len(after)) + after, []
+            for _ in range(self.count()):
+                kept, more = divmod(self.take(1)[0], 16)
+                if kept == 15:
+                    kept, more = self.count(), self.count()
+                last = last[:255][:kept] + self.take(more)
+                inner = Reply(b"\1\1" + last, 1)
+                rows.append((inner.string(), self.string()))
+            told.append((rows, self.take(1) == b"\1"))
+        return told
+
+
+def values_at(side, keys):
+    """The values at keys, in as many replies as it takes; and how many these were."""
+    told, replies = [], 0
+    while len(told) < len(keys):
+        entries = Reply(side.answer(asks_at(keys[len(told):])), 132).values()
+        assert entries
+        told, replies = told + entries, replies + 1
+    return told, replies
+
+
+def rows_in(side, gaps):
+    """The rows in each gap, in as many replies as it takes; and how many these were."""
+    told, replies, begun = [], 0, []
+    while len(told) < len(gaps):
+        rest = list(gaps[len(told):])
+        if begun:
+            rest[0] = (begun[-1][0], rest[0][1])
+        parts = Reply(side.answer(asks_in(rest)), 133).parts(rest)
+        assert parts and all(is_all for _, is_all in parts[:-1]) and (parts[-1][0] or parts[-1][1])
+        for rows, is_all in parts:
+            begun += rows
+            if is_all:
+                told.append(begun)
+                begun = []
+        replies += 1
+    return told, replies
+
+
+def is_within(key, gap):
+    return (gap[0] is None or key > gap[0]) and (gap[1] is None or key < gap[1])
+
+
+class Trees(unittest.TestCase):
+    def test_as_a_tree(self):
+        draw = random.Random(1)
+        for settings in [{}, {"key": bytes(range(16)), "level_base": 2, "page_format": 2}, {"level_base": 255}]:
+            tree, other, held = SyncTree(**settings), Tree(**settings), {}
+            for _ in range(1500):
+                key, value = bytes(draw.choices(b"\0a\xff", k=draw.randint(0, 4))), bytes(draw.choices(b"\0a\xff", k=draw.randint(0, 3)))
+                if draw.random() < 0.7:
+                    tree[key] = other[key] = held[key] = value
+                else:
+                    self.assertEqual((tree.discard(key), other.discard(key)), (key in held,) * 2)
+                    held.pop(key, None)
+                self.assertEqual((tree.get_digest(key), key in tree), (other.get_digest(key), key in held))
+            self.assertEqual((len(tree), tree.root_hash()), (len(held), other.root_hash()))
+            self.assertEqual(tree.root_hash(), HeldReplica(held, **settings).root_hash())
+            del tree[next(iter(held))]
+            self.assertEqual(len(tree), len(held) - 1)
+        self.assertRaises(KeyError, tree.__delitem__, b"none such")
+        self.assertTrue(SyncTree())
+
+    def test_a_load(self):
+        rows = Rows({b"b": b"1", b"a": b"2", b"": b""})
+        tree = SyncTree(rows)
+        self.assertEqual((tree.root_hash(), rows.closed), (Tree(rows.table).root_hash(), 1))
+        tree[b"more"] = b"1"
+        rows.table[b"c"] = b"1"
+        tree.load(rows)
+        self.assertEqual((tree.root_hash(), len(tree)), (Tree(rows.table).root_hash(), 4))
+        rows.fault["scan"] = OSError("lost")
+        self.assertRaises(OSError, tree.load, rows)
+        self.assertEqual(tree.root_hash(), Tree(rows.table).root_hash())
+
+    def test_a_load_ends_a_catch_up(self):
+        ours, theirs = Side({b"a": b"1"}), Side({b"b": b"2"})
+        steps = ours.tree.catch_up_steps()
+        reply = theirs.answer(next(steps))
+        ours.tree.load(ours.rows)
+        self.assertRaises(ValueError, steps.send, reply)
+        self.assertEqual((by_steps(ours, theirs.answer)[0], rows_of(ours)), (1, {b"a": b"1", b"b": b"2"}))
+
+    def test_rows_that_come_in_another_order(self):
+        class Others(Rows):
+            def scan(self, first, end):
+                return iter(self.out)
+
+        rows, side = Others(), Side({b"%d" % i: b"" for i in range(9)})
+        for rows.out in [[(b"b", b""), (b"a", b"")], [(b"a", b""), (b"a", b"")]]:
+            self.assertRaisesRegex(ValueError, "ascend", side.tree.load, rows)
+            self.assertRaisesRegex(ValueError, "ascend", side.tree.answer, rows, asks_in([(None, None)]))
+        for rows.out in [[(b"a", b"")], [(b"c", b"")], [(b"b", b""), (b"c", b"")]]:
+            self.assertRaisesRegex(ValueError, "range", side.tree.answer, rows, asks_in([(b"a", b"c")]))
+        self.assertEqual(len(side.tree), 9)
+
+    def test_one_that_is_closed(self):
+        rows = Rows({b"a": b"1"})
+        with SyncTree(rows) as tree:
+            self.assertEqual(len(tree), 1)
+        for call in [tree.root_hash, lambda: len(tree), lambda: tree.get_digest(b"a"), lambda: b"a" in tree, lambda: tree.discard(b"a"),
+                     lambda: tree.__setitem__(b"a", b""), lambda: tree.load(rows), lambda: tree.join(rows, [(b"a", b"2")]),
+                     lambda: tree.refresh(rows, [b"a"]), lambda: tree.answer(rows, b""), lambda: next(tree.catch_up_steps())]:
+            self.assertRaises(ValueError, call)
+        tree.close()
+        self.assertEqual(repr(tree), "<SyncTree, closed>")
+
+    def test_settings_and_words_that_are_none(self):
+        for settings in [{"key": b"short"}, {"level_base": 0}, {"level_base": 256}, {"page_format": 3}]:
+            self.assertRaises(ValueError, SyncTree, **settings)
+        rows = Rows({b"a": b"1"})
+        tree = SyncTree(rows)
+        for key, value in [("text", b""), (b"", "text"), (None, b""), (b"", 3), (bytearray(b"a"), b"")]:
+            self.assertRaises(TypeError, tree.__setitem__, key, value)
+            self.assertRaises(TypeError, tree.join, rows, [(key, value)])
+        for word in ["text", None, 3]:
+            for call in [tree.get_digest, tree.__contains__, tree.discard, lambda word: tree.refresh(rows, [word]), lambda word: tree.answer(rows, word)]:
+                self.assertRaises(TypeError, call, word)
+        self.assertRaisesRegex(ValueError, "twice", tree.join, rows, [(b"a", b"1"), (b"b", b""), (b"a", b"2")])
+        steps = tree.catch_up_steps()
+        next(steps)
+        self.assertRaises(TypeError, steps.send, "text")
+        for made in [copy.copy, copy.deepcopy, pickle.dumps]:
+            self.assertRaises(TypeError, made, tree)
+        self.assertEqual((rows.table, len(tree), tree._unsure), ({b"a": b"1"}, 1, set()))
+
+
+class CatchUps(unittest.TestCase):
+    def test_one_side_comes_to_hold_the_join_and_then_both_do(self):
+        draw = random.Random(5)
+        for kinds in PAIRS:
+            for size in [0, 1, 5, 60, 400] * 4:
+                left, right = drawn(draw, size), drawn(draw, draw.choice([0, size]))
+                wanted = joined(left, right)
+                ours, theirs = pair(left, right, kinds)
+                self.assertEqual(by_steps(ours, theirs.answer)[0], lacked(left, right))
+                self.assertEqual((rows_of(ours), rows_of(theirs)), (wanted, right))
+                self.assertEqual(by_steps(theirs, ours.answer)[0], lacked(right, wanted))
+                self.assertEqual((rows_of(theirs), theirs.root_hash()), (wanted, ours.root_hash()))
+                self.assertEqual((by_steps(ours, theirs.answer)[0], ours.root_hash()), (0, Tree(wanted).root_hash()))
+
+    def test_over_a_connection(self):
+        draw = random.Random(6)
+        for kinds in PAIRS:
+            for size in [0, 1, 60, 400] * 2:
+                left, right = drawn(draw, size), drawn(draw, size)
+                wanted = joined(left, right)
+                ours, theirs = pair(left, right, kinds)
+                (came, answered), (answered_to_ours, came_to_theirs) = both_ways(ours, theirs)
+                self.assertEqual((came, came_to_theirs), (lacked(left, right), lacked(right, wanted)))
+                self.assertTrue(answered >= 1 and answered_to_ours >= 1)
+                self.assertEqual((rows_of(ours), rows_of(theirs), ours.root_hash()), (wanted, wanted, theirs.root_hash()))
+
+    def test_changed_missing_and_more_rows(self):
+        same = {b"same%03d" % i: b"1" for i in range(300)}
+        left = {**same, b"same007": b"2", b"only left": b"1", b"changed": b"1"}
+        right = {**same, b"same008": b"3", b"only right": b"", b"changed": b"22", b"": b"the empty key", b"k" * 300: b"x" * 300}
+        for kinds in PAIRS:
+            ours, theirs = pair(left, right, kinds)
+            self.assertEqual(both_ways(ours, theirs)[0][0], 6)
+            self.assertEqual((rows_of(ours), rows_of(theirs)), (joined(left, right),) * 2)
+
+    def test_under_other_settings_that_both_have(self):
+        draw = random.Random(7)
+        for settings in [{"key": b"a key of SipHash"}, {"level_base": 2}, {"level_base": 255}, {"page_format": 2}]:
+            for kinds in PAIRS[:3]:
+                left, right = drawn(draw, 200), drawn(draw, 200)
+                ours, theirs = pair(left, right, kinds, **settings)
+                both_ways(ours, theirs)
+                self.assertEqual((rows_of(ours), rows_of(theirs)), (joined(left, right),) * 2)
+                self.assertEqual(ours.root_hash(), Tree(rows_of(ours), **settings).root_hash())
+
+    def test_what_it_costs_is_what_differs(self):
+        rows = {b"key%06d" % i: b"" for i in range(20000)}
+        ours, theirs = Side(rows), Side({**rows, b"key012345": b"new"})
+        theirs.rows.looked_up = ours.rows.looked_up = 0
+        came, size = by_steps(ours, theirs.answer)
+        self.assertEqual((came, ours.rows.table[b"key012345"]), (1, b"new"))
+        self.assertLess(size, 4000)
+        self.assertEqual((theirs.rows.looked_up, ours.rows.looked_up), (1, 0))
+        self.assertLess(by_steps(ours, theirs.answer)[1], 100)
+
+    def test_what_is_joined_in_between_stays(self):
+        ours, theirs = Side({b"a": b"1"}), Side({b"%d" % i: b"1" for i in range(500)})
+
+        def answer(question):
+            ours.put(b"7", b"2")
+            ours.put(b"b", b"2")
+            return theirs.answer(question)
+
+        by_steps(ours, answer)
+        self.assertEqual(rows_of(ours), {**rows_of(theirs), b"7": b"2", b"a": b"1", b"b": b"2"})
+        self.assertEqual(ours.root_hash(), Tree(rows_of(ours)).root_hash())
+
+    def test_a_side_answers_while_it_asks(self):
+        left, right, third = [{b"%d" % i: b"%d" % step for i in range(0, 600, step)} for step in (2, 3, 5)]
+        ours, theirs, others = Side(left), Side(right), Side(third)
+
+        def answer(question):
+            by_steps(others, ours.answer)
+            return theirs.answer(question)
+
+        by_steps(ours, answer)
+        self.assertEqual((rows_of(ours), rows_of(others)), (joined(left, right), joined(left, third)))
+
+    def test_another_catch_up_takes_the_place_of_one(self):
+        ours, theirs = Side({b"a": b"1"}), Side({b"b": b"2"})
+        first = ours.tree.catch_up_steps()
+        reply = theirs.answer(next(first))
+        self.assertEqual((by_steps(ours, theirs.answer)[0], rows_of(ours)), (1, {b"a": b"1", b"b": b"2"}))
+        self.assertRaises(ValueError, first.send, reply)
+
+    def test_one_that_is_left_is_let_go(self):
+        ours = Side({b"a": b"1"})
+        left = ours.tree.catch_up_steps()
+        next(left)
+        left.close()
+        size, other = ctypes.c_size_t(), ctypes.c_size_t()
+        self.assertEqual(library.mst_sync_take(ours.tree._address, b"", 0, ctypes.byref(size), ctypes.byref(other)), ABSENT)
+        self.assertEqual(by_steps(ours, Side({b"b": b"2"}).answer)[0], 1)
+
+    def test_a_rule_of_ones_own(self):
+        class Least(Rows):
+            def join(self, came):
+                for key, value in came:
+                    self.table[key] = min(value, self.table.get(key, value))
+                return [(key, self.table[key]) for key, _ in came]
+
+        ours, theirs = [Side(rows=Least(table)) for table in ({b"a": b"1", b"b": b"2"}, {b"a": b"2", b"b": b"1", b"c": b"3"})]
+        both_ways(ours, theirs)
+        self.assertEqual((rows_of(ours), ours.root_hash()), ({b"a": b"1", b"b": b"1", b"c": b"3"}, theirs.root_hash()))
+
+    def test_rows_that_arent_taken(self):
+        class Few(Rows):
+            def join(self, came):
+                return super().join([row for row in came if row[0] != b"b"])
+
+        ours, theirs = Side(rows=Few({b"a": b"1"})), Side({b"b": b"2", b"c": b"3"})
+        self.assertEqual((by_steps(ours, theirs.answer)[0], rows_of(ours)), (2, {b"a": b"1", b"c": b"3"}))
+        self.assertEqual(ours.root_hash(), Tree(rows_of(ours)).root_hash())
+
+
+class Parts(unittest.TestCase):
+    """Replies that have as many rows as fit, and as many look-ups."""
+
+    def test_catch_ups_in_parts(self):
+        draw = random.Random(8)
+        for most in [1, 40, 1000]:
+            with mock.patch("mst._sync_tree._MOST", most):
+                for kinds in PAIRS[:5]:
+                    for size in [5, 60, 400]:
+                        left, right = drawn(draw, draw.choice([0, size])), drawn(draw, size)
+                        ours, theirs = pair(left, right, kinds)
+                        both_ways(ours, theirs)
+                        self.assertEqual((rows_of(ours), rows_of(theirs)), (joined(left, right),) * 2)
+
+    def drawn_key(self, draw):
+        front = draw.choice([b"", b"", b"p" * 7, b"q" * 253, b"q" * 260])
+        return front + bytes(draw.choices(b"\0a\xff", k=draw.randint(0, 5)))
+
+    def drawn_gaps(self, draw, few):
+        if draw.random() < 0.3:
+            keys = sorted({self.drawn_key(draw) for _ in range(2 * draw.randint(1, few))})
+            return [(None, keys[0]), *zip(keys, keys[1:]), (keys[-1], None)]
+        return [tuple(draw.choice([None, self.drawn_key(draw)]) for _ in range(2)) for _ in range(draw.randint(1, few))]
+
+    def test_values_at_keys(self):
+        draw = random.Random(9)
+        for _ in range(300):
+            table = {self.drawn_key(draw): bytes(draw.randrange(20)) for _ in range(draw.randint(0, 40))}
+            side, keys = Side(table), [self.drawn_key(draw) for _ in range(draw.randint(1, 30))]
+            keys += draw.sample(sorted(table), min(len(table), draw.randint(0, 30)))
+            draw.shuffle(keys)
+            self.assertEqual(side.answer(asks_at(keys)), HeldReplica(table).answer(asks_at(keys)))
+            with mock.patch("mst._sync_tree._MOST", draw.choice([1, 17, 100, 500])):
+                self.assertEqual(values_at(side, keys)[0], [table.get(key) for key in keys])
+
+    def test_rows_in_ranges(self):
+        draw = random.Random(10)
+        for _ in range(300):
+            table = {self.drawn_key(draw): bytes(draw.randrange(20)) for _ in range(draw.randint(0, 60))}
+            side, gaps = Side(table), self.drawn_gaps(draw, 8)
+            self.assertEqual(side.answer(asks_in(gaps)), HeldReplica(table).answer(asks_in(gaps)))
+            with mock.patch("mst._sync_tree._MOST", draw.choice([1, 17, 100, 500, 2000])):
+                told = rows_in(side, gaps)[0]
+            self.assertEqual(told, [sorted(row for row in table.items() if is_within(row[0], gap)) for gap in gaps])
+
+    def test_no_more_is_looked_up_than_fits(self):
+        side = Side({b"key%06d" % i: b"v" * 100 for i in range(3000)})
+        keys = sorted(side.rows.table)
+        with mock.patch("mst._sync_tree._MOST", 10000):
+            for ask, some in [(lambda: side.answer(asks_in([(None, None)])), 100), (lambda: side.answer(asks_at(keys)), 100),
+                              (lambda: side.answer(asks_in([(b"x", b"y")] * 5000)), 1), (lambda: side.answer(asks_at([b"none"] * 5000)), 501),
+                              (lambda: side.answer(asks_in([(key, key + b"\0") for key in keys])), 1)]:
+                side.rows.looked_up = side.rows.closed = 0
+                self.assertLess(len(ask()), 12000)
+                self.assertLessEqual(side.rows.looked_up, some)
+                self.assertLessEqual(side.rows.closed, 2000)
+            told, replies = rows_in(side, [(None, None)])
+            self.assertEqual((told, replies > 25, replies < 60), ([sorted(side.rows.table.items())], True, True))
+
+    def test_what_is_handed_in_for_a_reply(self):
+        # rows of the first keys or ranges are handed in as such, and else as all
+        rows, keys = Rows({b"%02d" % i: b"v" * 10 for i in range(50)}), [b"%02d" % i for i in range(50)]
+        for needed, most, handed_in, is_all in [
+            ([], 100, 0, True),
+            ([(key, b"\2") for key in keys], 10000, 50, True),
+            ([(key, b"\2") for key in keys[::-1]], 100, 4, False),
+            ([(key, b"\2") for key in [b"none", *keys]], 100, 3, True),
+            ([(b"", b"\0")], 10000, 50, True),
+            ([(b"", b"\0")], 100, 5, False),
+            ([(b"1", b"\0011"), (b"11", b"\0")], 100, 4, False),
+            ([(b"4", b"\0"), (b"1", b"\0")], 300, 12, True),
+            ([(b"2", b"\0013"), (b"1", b"\0012")], 300, 12, True),
+            ([(b"2", b"\0011"), (b"3", b"\0")], 100, 4, True),
+        ]:
+            found, are_all, least = _look_up(rows, _list(needed), most)
+            self.assertEqual((len(found), are_all), (handed_in, is_all))
+            self.assertTrue(least == most if len(found) in (0, 50) else 0 < least < most)
+
+    def test_what_scan_returns_is_closed(self):
+        class Cursors(Rows):
+            def scan(self, first, end):
+                cursor = mock.Mock(spec=["__iter__", "__next__", "close"], wraps=super().scan(first, end))
+                cursor.__iter__ = lambda cursor: super(Cursors, self).scan(first, end)
+                self.cursors.append(cursor)
+                return cursor
+
+        rows = Cursors({b"%d" % i: b"1" for i in range(50)})
+        rows.cursors = []
+        tree = SyncTree(rows)
+        with mock.patch("mst._sync_tree._MOST", 100):
+            tree.answer(rows, asks_in([(None, None)]))
+        rows.fault["scan"] = OSError("lost")
+        self.assertRaises(OSError, tree.answer, rows, asks_in([(None, None)]))
+        self.assertEqual([cursor.close.call_count for cursor in rows.cursors], [1, 1, 1])
+
+    def test_a_row_that_is_longer_than_a_reply(self):
+        table = {b"a": b"1", b"long": b"x" * 100000, b"longer": b"y" * 100000, b"z": b""}
+        with mock.patch("mst._sync_tree._MOST", 1000):
+            ours, theirs = Side(), Side(table)
+            self.assertEqual((by_steps(ours, theirs.answer)[0], rows_of(ours)), (4, table))
+
+    def test_a_row_that_went_between_question_and_answer(self):
+        table = {b"%03d" % i: b"1" for i in range(200)}
+        ours, theirs = Side({**table, b"003": b"0", b"004": b"0", b"005": b"0"}), Side(table)
+
+        def answer(question):
+            if question[:2] == b"\1\4":
+                theirs.rows.table.pop(b"004", None)
+                theirs.rows.table[b"005"] = b"3"
+            return theirs.answer(question)
+
+        self.assertEqual((by_steps(ours, answer)[0], rows_of(ours)), (2, {**table, b"004": b"0", b"005": b"3"}))
+
+    def test_keys_of_one_front(self):
+        # keys that take few bytes in a reply, and many in memory
+        side = Side({b"k" * 240 + b"%05d" % i: b"" for i in range(2000)})
+        with mock.patch("mst._sync_tree._MOST", 20000):
+            side.rows.looked_up = 0
+            told, replies = rows_in(side, [(None, None)])
+        self.assertEqual((told, replies < 80), ([sorted(side.rows.table.items())], True))
+        self.assertLess(side.rows.looked_up, 3 * 2000)
+
+
+class Faults(unittest.TestCase):
+    """Rows that fail, and programs that end: nothing is lost."""
+
+    def in_step(self, side):
+        self.assertEqual(side.root_hash(), Tree(rows_of(side)).root_hash())
+
+    def test_a_join_that_writes_nothing(self):
+        ours, theirs = Side({b"a": b"1"}), Side({b"b": b"2"})
+        ours.rows.fault["join"] = OSError("lost")
+        self.assertRaises(OSError, by_steps, ours, theirs.answer)
+        self.assertEqual(rows_of(ours), {b"a": b"1"})
+        self.in_step(ours)
+        ours.rows.fault.clear()
+        self.assertEqual((by_steps(ours, theirs.answer)[0], rows_of(ours)), (1, {b"a": b"1", b"b": b"2"}))
+        self.in_step(ours)
+
+    def test_a_join_whose_commit_isnt_told(self):
+        for use in ["catch_up", "answer", "refresh"]:
+            ours, theirs = Side({b"a": b"1"}), Side({b"b": b"2", b"c": b"3"})
+            ours.rows.fault["joined"] = OSError("lost")
+            self.assertRaises(OSError, by_steps, ours, theirs.answer)
+            self.assertEqual((rows_of(ours), len(ours.tree)), ({b"a": b"1", b"b": b"2", b"c": b"3"}, 1))
+            ours.rows.fault["get"] = OSError("still lost")
+            self.assertRaises(OSError, ours.answer, b"any question")
+            ours.rows.fault.clear()
+            if use == "catch_up":
+                self.assertEqual(both_ways(ours, theirs)[0][0], 0)
+            elif use == "answer":
+                self.assertEqual((by_steps(theirs, ours.answer)[0], rows_of(theirs)), (1, rows_of(ours)))
+            else:
+                ours.tree.refresh(ours.rows)
+            self.in_step(ours)
+            self.assertEqual(ours.tree._unsure, set())
+
+    def test_a_refresh_that_fails_is_made_up_for(self):
+        ours, theirs = Side({b"a": b"1", b"b": b"1"}), Side()
+        ours.rows.table.update({b"a": b"2", b"c": b"3"})
+        del ours.rows.table[b"b"]
+        ours.rows.fault["get"] = OSError("lost")
+        self.assertRaises(OSError, ours.tree.refresh, ours.rows, [b"a", b"b", b"c"])
+        ours.rows.fault.clear()
+        self.assertEqual((by_steps(theirs, ours.answer)[0], rows_of(theirs)), (2, {b"a": b"2", b"c": b"3"}))
+        self.in_step(ours)
+
+    def test_a_refresh_after_writes_of_another_program(self):
+        side = Side({b"%d" % i: b"1" for i in range(50)})
+        side.rows.table.update({b"7": b"2", b"new": b"3"})
+        del side.rows.table[b"8"]
+        side.tree.refresh(side.rows, [b"7", b"8", b"new", b"none", b"9"])
+        self.in_step(side)
+        self.assertEqual(len(side.tree), 50)
+
+    def test_look_ups_that_fail(self):
+        theirs, pairs = Side({b"%03d" % i: b"1" for i in range(300)}), []
+        for when, held in [("scan", {}), ("get", {**theirs.rows.table, b"007": b"0"})]:
+            theirs.rows.fault = {when: OSError("lost")}
+            ours = Side(held)
+            ends = both_ways(ours, theirs)
+            self.assertEqual(([type(end) for end in ends], rows_of(ours)), ([EOFError, OSError], held))
+            theirs.rows.fault = {}
+            both_ways(ours, theirs)
+            self.assertEqual(rows_of(ours), rows_of(theirs))
+            pairs.append(ours)
+        self.in_step(theirs)
+
+    def test_the_end_cant_be_told(self):
+        ours, theirs = Side({b"a": b"1"}), Side({b"b": b"2"})
+        said = []
+        by_steps(Side({b"a": b"1"}), lambda question: said.append(theirs.answer(question)) or said[-1])
+
+        def write(message):
+            if message == bytes(8):
+                raise OSError("broken")
+
+        self.assertRaises(OSError, ours.catch_up, said_by(*said), write)
+        self.assertEqual(rows_of(ours), {b"a": b"1", b"b": b"2"})
+        self.in_step(ours)
+
+    def test_sqlite_that_fails_within_a_transaction(self):
+        ours, theirs = in_sqlite({b"a": b"1"}), Side({b"b": b"2", b"c": b"3"})
+        ours.rows._table.execute("CREATE TRIGGER t BEFORE INSERT ON rows WHEN NEW.key = x'63' BEGIN SELECT RAISE(ABORT, 'no'); END")
+        self.assertRaises(sqlite3.IntegrityError, by_steps, ours, theirs.answer)
+        self.assertEqual(rows_of(ours), {b"a": b"1"})
+        ours.rows._table.execute("DROP TRIGGER t")
+        both_ways(ours, theirs)
+        self.assertEqual((rows_of(ours), rows_of(theirs)), ({b"a": b"1", b"b": b"2", b"c": b"3"},) * 2)
+        self.in_step(ours)
+
+    def test_a_program_that_is_killed_between_commit_and_tree(self):
+        killed = ("import os, signal, sys\nfrom mst import SyncTree\nfrom sqlite_rows import Rows\n"
+                  "class Killing(Rows):\n    def join(self, came):\n        stand = super().join(came)\n"
+                  "        if came[0][0] == b'melon':\n            os.kill(os.getpid(), signal.SIGKILL)\n        return stand\n"
+                  "rows = Killing(sys.argv[1])\ntree = SyncTree(rows)\n"
+                  "tree.join(rows, [(b'kiwi', b'1')])\ntree.join(rows, [(b'melon', b'2'), (b'plum', b'3')])\n")
+        with tempfile.TemporaryDirectory() as folder:
+            path = os.path.join(folder, "rows.db")
+            done = subprocess.run([sys.executable, "-B", "-c", killed, path], timeout=60, check=False,
+                                  env={**os.environ, "PYTHONPATH": os.pathsep.join([EXAMPLES, *sys.path])})
+            self.assertEqual(done.returncode, -signal.SIGKILL)
+            ours, theirs = Side(rows=SqliteRows(path)), HeldReplica()
+            both_ways(theirs, ours)
+            self.assertEqual(dict(theirs), {b"kiwi": b"1", b"melon": b"2", b"plum": b"3"})
+            self.in_step(ours)
+
+
+class Peers(unittest.TestCase):
+    """What a peer may send."""
+
+    def test_other_settings_are_refused(self):
+        for settings in [{"key": bytes(range(16))}, {"level_base": 4}, {"page_format": 2}]:
+            for kinds in PAIRS[:3]:
+                ours, theirs = KINDS[kinds[0]]({b"a": b"1"}), KINDS[kinds[1]]({b"b": b"2"}, **settings)
+                self.assertRaises(RefusedError, by_steps, ours, theirs.answer)
+                self.assertEqual([type(end) for end in both_ways(ours, theirs)], [RefusedError, RefusedError])
+                self.assertEqual((rows_of(ours), rows_of(theirs)), ({b"a": b"1"}, {b"b": b"2"}))
+
+    def test_one_without_rows_tells_no_key(self):
+        ours, theirs = Side(key=bytes(range(16))), Side({b"a": b"1", b"b": b"2"})
+        self.assertEqual((by_steps(ours, theirs.answer)[0], rows_of(ours)), (2, rows_of(theirs)))
+        self.assertRaises(RefusedError, by_steps, ours, theirs.answer)
+
+    def test_what_is_no_reply(self):
+        theirs = HeldReplica((b"%d" % i, b"1") for i in range(300))
+        for altered in [lambda reply: reply[:-1], lambda reply: reply + b"\0", lambda reply: b"", lambda reply: b"\2" + reply[1:],
+                        lambda reply: bytes([reply[0], reply[1] ^ 1]) + reply[2:]]:
+            ours = Side({b"a": b"1"})
+            self.assertRaises(MalformedError, by_steps, ours, lambda question: altered(theirs.answer(question)))
+            self.assertEqual((rows_of(ours), len(ours.tree)), ({b"a": b"1"}, 1))
+
+    def test_what_is_no_question(self):
+        side, draw = Side({b"a": b"1", b"b": b"2"}), random.Random(9)
+        question = next(HeldReplica({b"b": b"2"}).catch_up_steps())
+        questions = [question, b"\1\2\x10\1\0\0", b"\1\3\x10\1\0\0", asks_at([b"a", b"zz", b"a"]), asks_in([(b"a", None), (None, b"b")]), bytes(20)]
+        for message in [b"", b"\1", question[:-1], question + b"\0", b"\2" + question[1:], REFUSAL, side.answer(question)]:
+            self.assertEqual(side.answer(message), REFUSAL)
+        replica = HeldReplica(side.rows.table)
+        for _ in range(5000):
+            message = bytearray(draw.choice(questions))
+            for _ in range(draw.randint(1, 3)):
+                message[draw.randrange(len(message))] = draw.randrange(256)
+            reply = side.answer(bytes(message))
+            # (pages are told by rows in a replica, and here by digests)
+            if message[1:2] in (b"\1", b"\4", b"\5"):
+                self.assertEqual(reply, replica.answer(bytes(message)))
+        self.assertEqual((rows_of(side), side.root_hash()), (dict(replica), replica.root_hash()))
+
+    def test_bytes_that_are_drawn(self):
+        side, draw = Side({b"a": b"1", b"b": b"2"}), random.Random(10)
+        for _ in range(3000):
+            side.answer(bytes([1, draw.randrange(8)]) + bytes(draw.choices(range(256), k=draw.randrange(30))))
+            steps = side.tree.catch_up_steps()
+            next(steps)
+            with contextlib.suppress(MalformedError, RefusedError, StopIteration):
+                steps.send(bytes([1, draw.choice([129, 130, 255])]) + bytes(draw.choices(range(256), k=draw.randrange(30))))
+            steps.close()
+        self.assertEqual((rows_of(side), side.root_hash()), ({b"a": b"1", b"b": b"2"}, Tree(side.rows.table).root_hash()))
+
+    def test_replies_that_are_altered(self):
+        for kind in ["dict", "replica"]:
+            theirs = KINDS[kind]((b"%d" % i, b"1") for i in range(0, 300, 3))
+            draw, ends = random.Random(11), set()
+            for _ in range(300):
+                ours = Side((b"%d" % i, b"1") for i in range(0, 300, 2))
+                before, at = rows_of(ours), draw.randrange(4)
+
+                def answer(question):
+                    nonlocal at
+                    reply = bytearray(theirs.answer(question))
+                    at -= 1
+                    if at == -1:
+                        for _ in range(draw.randint(1, 2)):
+                            reply[draw.randrange(min(len(reply), draw.choice([8, 1 << 20])))] = draw.randrange(256)
+                    return bytes(reply)
+
+                try:
+                    by_steps(ours, answer, messages=50)
+                    ends.add("done")
+                    self.assertTrue(all(ours.rows.table[key] >= value for key, value in before.items()))
+                except (MalformedError, RefusedError) as error:
+                    ends.add(type(error))
+                    self.assertEqual(rows_of(ours), before)
+                self.assertEqual(ours.root_hash(), Tree(rows_of(ours)).root_hash())
+            self.assertLessEqual({"done", MalformedError}, ends)
+
+    def test_a_peer_that_goes_on(self):
+        ours, theirs = Side(), Side((b"%d" % i, b"1") for i in range(300))
+        self.assertRaises(MalformedError, by_steps, ours, theirs.answer, messages=1)
+        self.assertEqual((rows_of(ours), by_steps(ours, theirs.answer, messages=2)[0]), ({}, 300))
+        question, written = next(HeldReplica().catch_up_steps()), []
+        self.assertRaises(MalformedError, theirs.serve, said_by(question, question, question), written.append, messages=2)
+        self.assertEqual((len(written), written[-1]), (3, number(2) + REFUSAL))
+        self.assertEqual(theirs.serve(said_by(question, question), written.append, messages=2), 2)
+
+    def test_a_peer_that_breaks_off(self):
+        theirs = Side((b"%d" % i, b"1") for i in range(300))
+        said = []
+        by_steps(Side({b"a": b"1"}), lambda question: said.append(theirs.answer(question)) or said[-1])
+        whole = b"".join(number(len(reply)) + reply for reply in said)
+        for kind in ["dict", "sqlite"]:
+            for end in {0, 1, 7, 8, 9, len(said[0]) + 7, len(said[0]) + 8, len(said[0]) + 9, len(whole) - 1}:
+                ours, came = KINDS[kind]({b"a": b"1"}), bytearray(whole[:end])
+
+                def read(size):
+                    piece, came[:size] = bytes(came[:size]), b""
+                    return piece
+
+                self.assertRaises(EOFError, ours.catch_up, read, lambda message: None)
+                self.assertEqual((rows_of(ours), ours.root_hash()), ({b"a": b"1"}, Tree({b"a": b"1"}).root_hash()))
+                self.assertEqual(both_ways(ours, theirs)[0][0], 300)
+                theirs = Side((b"%d" % i, b"1") for i in range(300))
+        written = []
+        self.assertEqual(theirs.serve(lambda size: b"", written.append), 0)
+        for end in (1, 7, 8, 9):
+            came = bytearray((number(6) + b"\1\2\x10\1\0\0")[:end])
+            self.assertRaises(EOFError, theirs.serve, read, written.append)
+        self.assertEqual(written, [])
+
+    def test_what_reads_and_writes_may_raise(self):
+        def breaks(_):
+            raise OSError("broken")
+
+        side = Side({b"a": b"1"})
+        for read, write in [(breaks, lambda message: None), (lambda size: b"", breaks)]:
+            self.assertRaises(OSError, side.catch_up, read, write)
+        self.assertRaises(OSError, side.serve, breaks, lambda message: None)
+        self.assertRaises(OSError, side.serve, said_by(next(HeldReplica().catch_up_steps())), breaks)
+        self.assertEqual(by_steps(side, HeldReplica({b"b": b"2"}).answer)[0], 1)
+
+    def test_lengths_above_the_limit(self):
+        side, written, taken = Side({b"a": b"1"}), [], []
+        question = next(HeldReplica({b"b": b"2"}).catch_up_steps())
+        reply = side.answer(question)
+        self.assertRaisesRegex(MalformedError, "the limit is", side.catch_up, said_by(reply), written.append, limit=len(reply) - 1)
+        self.assertRaisesRegex(MalformedError, "the limit is", side.serve, said_by(question), written.append, limit=len(question) - 1)
+        self.assertEqual(written[1:], [number(2) + REFUSAL])
+        self.assertEqual(side.serve(said_by(question), written.append, limit=len(question)), 1)
+        self.assertRaises(MalformedError, side.serve, said_by(b"no question"), written.append)
+        self.assertEqual(written[2:], [number(len(reply)) + reply, number(2) + REFUSAL])
+
+        def read(size):
+            taken.append(size)
+            return number(1 << 27) if len(taken) == 1 else b""
+
+        self.assertRaises(EOFError, side.catch_up, read, written.append)
+        self.assertLessEqual(max(taken), 1 << 16)
+
+    def test_a_socket_that_times_out(self):
+        side = Side({b"a": b"1"})
+        ours, theirs = socket.socketpair()
+        with ours, theirs:
+            ours.settimeout(0.05)
+            self.assertRaises(socket.timeout, side.catch_up, ours.recv, ours.sendall)
+            self.assertRaises(socket.timeout, side.serve, ours.recv, ours.sendall)
+        self.assertEqual(by_steps(side, HeldReplica({b"b": b"2"}).answer)[0], 1)
+
+
+async def over_streams(connection, *calls):
+    """Makes calls over a connection, one after the other, and closes it."""
+    reader, writer = await asyncio.open_connection(sock=connection)
+    try:
+        return [await call(reader, writer) for call in calls]
+    finally:
+        writer.close()
+
+
+class Streams(unittest.TestCase):
+    def streams(self, side, *calls, **words):
+        return [lambda reader, writer, call=call: getattr(side.tree, f"{call}_streams")(side.rows, reader, writer, **words) for call in calls]
+
+    def both(self, ours, theirs, **words):
+        async def run():
+            here, there = socket.socketpair()
+            return await asyncio.gather(over_streams(here, *self.streams(ours, "catch_up", "serve", **words)),
+                                        over_streams(there, *self.streams(theirs, "serve", "catch_up", **words)), return_exceptions=True)
+        return asyncio.run(run())
+
+    def test_both_ways(self):
+        draw = random.Random(12)
+        for kinds in [("dict", "dict"), ("sqlite", "sqlite")]:
+            for size in [0, 1, 400]:
+                left, right = drawn(draw, size), drawn(draw, size)
+                wanted = joined(left, right)
+                ours, theirs = pair(left, right, kinds)
+                ends = self.both(ours, theirs)
+                self.assertEqual((ends[0][0], ends[1][1]), (lacked(left, right), lacked(right, wanted)))
+                self.assertEqual((rows_of(ours), rows_of(theirs), ours.root_hash()), (wanted, wanted, theirs.root_hash()))
+
+    def test_with_a_replica_over_a_socket(self):
+        left, right = [{b"%d" % i: b"%d" % step for i in range(0, 600, step)} for step in (2, 3)]
+        ours, theirs = in_sqlite(left), HeldReplica(right)
+        here, there = socket.socketpair()
+
+        def peer():
+            with there:
+                there.settimeout(10)
+                return theirs.serve(there.recv, there.sendall), theirs.catch_up(there.recv, there.sendall)
+
+        ends = in_threads(peer, lambda: asyncio.run(over_streams(here, *self.streams(ours, "catch_up", "serve"))))
+        self.assertEqual((ends[0][1], ends[1][0]), (lacked(right, joined(left, right)), lacked(left, right)))
+        self.assertEqual((rows_of(ours), dict(theirs)), (joined(left, right),) * 2)
+
+    def test_the_loop_goes_on_while_rows_are_looked_up_and_written(self):
+        class Slow(Rows):
+            def scan(self, first, end):
+                went_on.append(goes_on.wait(2))
+                return super().scan(first, end)
+
+            def join(self, came):
+                went_on.append(goes_on.wait(2))
+                return super().join(came)
+
+        async def run():
+            here, there = socket.socketpair()
+            served = asyncio.gather(over_streams(here, *self.streams(ours, "catch_up")), over_streams(there, *self.streams(theirs, "serve")))
+            await asyncio.sleep(0.1)
+            self.assertEqual((served.done(), rows_of(ours)), (False, {}))
+            goes_on.set()
+            return await served
+
+        for slow in ["ours", "theirs"]:
+            goes_on, went_on, ours, theirs = threading.Event(), [], Side(), Side({b"%d" % i: b"1" for i in range(50)})
+            if slow == "ours":
+                ours.rows = Slow()
+                ours.rows.scan = Rows().scan
+            else:
+                theirs.rows = Slow(theirs.rows.table)
+            self.assertEqual((asyncio.run(run())[0], len(ours.tree), went_on), ([50], 50, [True]))
+
+    def test_what_isnt_well(self):
+        ends = self.both(Side({b"a": b"1"}), Side({b"b": b"2"}, page_format=2))
+        self.assertEqual([type(end) for end in ends], [RefusedError, RefusedError])
+        ends = self.both(Side({b"a": b"1"}), Side({b"b": b"2"}), limit=5)
+        self.assertEqual([type(end) for end in ends], [RefusedError, MalformedError])
+        ours = Side()
+        ends = self.both(ours, Side((b"%d" % i, b"1") for i in range(300)), messages=1)
+        self.assertEqual((type(ends[0]), rows_of(ours)), (MalformedError, {}))
+        theirs = Side((b"%d" % i, b"1") for i in range(300))
+        theirs.rows.fault["scan"] = OSError("lost")
+        ends = self.both(ours, theirs)
+        self.assertEqual(([type(end) for end in ends], rows_of(ours)), ([EOFError, OSError], {}))
+
+    def test_a_peer_that_breaks_off_or_sends_other_bytes(self):
+        side = Side({b"a": b"1"})
+        question = next(HeldReplica({b"b": b"2"}).catch_up_steps())
+        asked = number(len(question)) + question
+        for call, said, error in [("catch_up", b"", EOFError), ("catch_up", number(9) + b"1234", EOFError), ("catch_up", number(3) + b"abc", MalformedError),
+                                  ("serve", asked[:4], EOFError), ("serve", asked[:-1], EOFError), ("serve", number(3) + b"abc", MalformedError),
+                                  ("serve", asked, None), ("serve", b"", None), ("serve", asked + bytes(8), None)]:
+            here, there = socket.socketpair()
+            there.sendall(said)
+            there.shutdown(socket.SHUT_WR)
+            with there:
+                if error:
+                    self.assertRaises(error, asyncio.run, over_streams(here, *self.streams(side, call)))
+                else:
+                    self.assertEqual(asyncio.run(over_streams(here, *self.streams(side, call))), [1 if said else 0])
+        self.assertEqual((rows_of(side), by_steps(side, HeldReplica({b"b": b"2"}).answer)[0]), ({b"a": b"1"}, 1))
+
+    def test_a_task_that_is_cancelled(self):
+        ours, theirs = Side({b"a": b"1"}), Side({b"b": b"2"})
+
+        async def run():
+            here, there = socket.socketpair()
+            with there:
+                await asyncio.wait_for(over_streams(here, *self.streams(ours, "catch_up")), 0.05)
+
+        self.assertRaises(asyncio.TimeoutError, asyncio.run, run())
+        self.assertEqual((self.both(ours, theirs)[0][0], rows_of(ours)), (1, {b"a": b"1", b"b": b"2"}))
+
+
+class Threads(unittest.TestCase):
+    def setUp(self):
+        # threads take turns as often as they can
+        self.addCleanup(sys.setswitchinterval, sys.getswitchinterval())
+        sys.setswitchinterval(1e-6)
+
+    def test_threads_on_one_tree(self):
+        hub, peers = in_sqlite(), [HeldReplica((b"%d" % i, b"%d" % seed) for i in range(seed, 2000, 7)) for seed in range(4)]
+        wanted = {}
+        for rows in [*map(dict, peers), {b"%d" % i: b"9" for i in range(0, 2000, 11)}]:
+            wanted = joined(wanted, rows)
+
+        def write():
+            for i in range(0, 2000, 22):
+                hub.put(b"%d" % i, b"9")
+
+        def write_and_refresh():
+            for i in range(11, 2000, 22):
+                hub.rows.join([(b"%d" % i, b"9")])
+                hub.tree.refresh(hub.rows, [b"%d" % i])
+
+        def begun_again(asking, answer):
+            # a peer whose rows change in between may tell a key twice
+            for _ in range(100):
+                try:
+                    return by_steps(asking, answer)[0]
+                except MalformedError:
+                    pass
+            raise AssertionError("the rows always change in between")
+
+        def asks():
+            return sum(begun_again(hub, peer.answer) for peer in peers)
+
+        def loads():
+            for _ in range(3):
+                hub.tree.load(hub.rows)
+
+        ends = in_threads(write, write_and_refresh, *[lambda peer=peer: sum(begun_again(peer, hub.answer) for _ in range(10)) for peer in peers])
+        self.assertEqual([type(end) for end in ends], [type(None)] * 2 + [int] * 4)
+        ends = in_threads(write, asks, *[lambda peer=peer: begun_again(peer, hub.answer) for peer in peers])
+        self.assertEqual([type(end) for end in ends], [type(None)] + [int] * 5)
+        ends = in_threads(write, write_and_refresh, loads)
+        self.assertEqual(ends, [None] * 3)
+        for peer in peers:
+            by_steps(hub, peer.answer)
+        self.assertEqual((rows_of(hub), hub.root_hash()), (wanted, Tree(wanted).root_hash()))
+        for peer in peers:
+            by_steps(peer, hub.answer)
+            self.assertEqual(dict(peer), wanted)
+
+    def test_writes_of_one_key_by_threads(self):
+        side = in_sqlite()
+
+        def write(seed):
+            for i in range(100):
+                if i % 2:
+                    side.put(b"key", b"%03d" % (i * 7 % 100 + seed))
+                else:
+                    side.rows.join([(b"key", b"%03d" % (i * 7 % 100 + seed))])
+                    side.tree.refresh(side.rows, [b"key"])
+
+        self.assertEqual(in_threads(*[lambda seed=seed: write(seed) for seed in range(4)]), [None] * 4)
+        self.assertEqual(side.root_hash(), Tree(rows_of(side)).root_hash())
+
+    def test_a_write_while_another_is_told_to_the_tree(self):
+        class Slow(Rows):
+            def join(self, came):
+                stand = super().join(came)
+                written.set()
+                told.wait(0.3)
+                return stand
+
+        def refresh():
+            written.wait(10)
+            side.rows.table[b"key"] = b"2"
+            side.tree.refresh(side.rows, [b"key"])
+            told.set()
+
+        written, told, side = threading.Event(), threading.Event(), Side(rows=Slow())
+        self.assertEqual(in_threads(lambda: side.put(b"key", b"1"), refresh), [None, None])
+        self.assertEqual(side.root_hash(), Tree({b"key": b"2"}).root_hash())
+
+    def test_one_serves_many_connections(self):
+        hub, peers = in_sqlite((b"%d" % i, b"1") for i in range(500)), [HeldReplica({b"own%d" % at: b"1"}) for at in range(4)]
+        pairs = [socket.socketpair() for _ in peers]
+        ends = in_threads(*[lambda at=at: hub.serve(pairs[at][0].recv, pairs[at][0].sendall) for at in range(4)],
+                          *[lambda at=at: peers[at].catch_up(pairs[at][1].recv, pairs[at][1].sendall) for at in range(4)])
+        for connection in [connection for pair in pairs for connection in pair]:
+            connection.close()
+        self.assertEqual((ends[4:], [len(peer) for peer in peers]), ([500] * 4, [501] * 4))
+
+
+if __name__ == "__main__":
+    unittest.main()
