@@ -113,7 +113,7 @@ class Driver:
     def entries_of(self, store):
         """The entries of a store's log, or None where it isn't read."""
         status, written, _ = self.run(["export", store, "--log"])
-        return sorted(map(tuple, list(csv.reader(io.StringIO(written.decode(), newline="")))[1:])) if status == 0 else None
+        return sorted(map(tuple, list(csv.reader(io.StringIO(written.decode("utf-8", "surrogateescape"), newline="")))[1:])) if status == 0 else None
 
     def broken(self, chosen, given):
         given = bytearray(given)

@@ -4,4 +4,5 @@ pub mod EscapeLemmas
 pub mod LineLemmas
 pub mod MalformedLemmas
 pub mod ReadLemmas
+pub mod ShownLemmas
 pub mod WriteLemmas

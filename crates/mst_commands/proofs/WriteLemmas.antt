@@ -8,11 +8,12 @@ use Rattle.store_table.specs.Entries.{entry_row}
 use Rattle.store_table.specs.Latest.{WritesOver}
 use Rattle.store_table.specs.Logs.{IsClean, IsSteady, Leaves, LeavesNoMore, trees_of}
 use Rattle.store_table.specs.declared.register.Register.{Register}
+use Rattle.store_table.specs.declared.value.Value.{Value}
 use Rattle.mst_commands.specs.Imports.{AddsOf, Imports}
 use Rattle.mst_commands.specs.Writes.{WritesBy}
 
 -- a crash in a write by a writer of this name
-pub by_name : {S : Type 0} (g : Ghosts S) (key name : List ℕ) (writer : Key) (now : ℕ) (value : Option Key) (old new : S) → string_bytes writer ≡ name
+pub by_name : {S : Type 0} (g : Ghosts S) (key name : List ℕ) (writer : Key) (now : ℕ) (value : Option Value) (old new : S) → string_bytes writer ≡ name
     → Leaves g old new (WritesOver key writer now value) → Leaves g old new (WritesBy key name now value)
 by_name g key name writer now value old new is leaves trees left = by (leaves trees left)
   where

@@ -1,30 +1,31 @@
 -- What each command makes of the table of a store.
-use Rattle.std.specs.Prelude.{◌≡◌, ◌+◌, ◌-◌, ◌^◌, min, ℕ, ⊤, false, true, List, [], Option, Some, None, IfSome, if◌then◌else◌, string_bytes}
+use Rattle.std.specs.Prelude.{◌≡◌, ◌+◌, ◌-◌, ◌^◌, min, ℕ, ⊤, false, true, List, [], Option, Some, None, IfSome, if◌then◌else◌}
 use Rattle.key_order.specs.Text.{Text as Key}
 use Rattle.mst_words.specs.declared.asked.Given.{Given}
 use Rattle.mst_words.specs.declared.verb.Verb.{Verb}
 use Rattle.mst_words.specs.declared.verb.Verb.TheVariants.{Put, Del, Import, Compact}
 use Rattle.sqlite_trees.specs.Tree.{Trees}
-use Rattle.store_table.specs.Latest.{IsThere}
 use Rattle.store_table.specs.Rows.{IsCompacted}
+use Rattle.store_table.specs.Values.{IsValueOf}
 use Rattle.store_table.specs.declared.register.Register.{Register}
+use Rattle.store_table.specs.declared.value.Value.{Value}
 use Rattle.mst_commands.specs.Imports.{Imports}
 use Rattle.mst_commands.specs.Writes.{IsMet, WritesBy}
 use Rattle.mst_commands.specs.declared.input.Input.{Input}
-use Rattle.mst_commands.specs.declared.input.Input.TheVariants.{Nothing, Value, Records}
+use Rattle.mst_commands.specs.declared.input.Input.TheVariants.{Nothing, Bytes, Records}
 
 -- what a command reads from the input: a put whose value is to come from there reads it, and an import its entries
 abbrev pub IsInputOf : Verb → Given → Input → Type 0
-IsInputOf Put given (Value text) = given.is_input ≡ true
+IsInputOf Put given (Bytes bytes) = given.is_input ≡ true
 IsInputOf Import given (Records entries) = ⊤
 IsInputOf Put given Nothing = given.is_input ≡ false
 IsInputOf Import given Nothing = ⊥
 IsInputOf _ given Nothing = ⊤
 IsInputOf _ given _ = ⊥
 
--- the value of a put: that of the input, or else the one that is given
+-- the bytes of the value of a put: those of the input, or else those of the one that is given
 abbrev pub value_of : Input → Given → List ℕ
-value_of (Value text) given = string_bytes text
+value_of (Bytes bytes) given = bytes.items
 value_of _ given = given.value.now
 
 -- the entries of an import: those of the input
@@ -36,9 +37,9 @@ entries_of _ = []
 pub record Puts (name : List ℕ) (given : Given) (input : Input) (old new : Trees) : Type 0 where
   pub wanted : IfSome given.wanted (λ wanted. IsMet wanted given.key.now true old)
   pub now : ℕ
-  pub text : Key
-  pub value : string_bytes text ≡ value_of input given
-  pub written : WritesBy given.key.now name now (Some text) old new
+  pub value : Value
+  pub bytes : IsValueOf (value_of input given) value
+  pub written : WritesBy given.key.now name now (Some value) old new
 
 -- a removal is written of the key
 abbrev pub Dels : List ℕ → Given → Trees → Trees → Type 0

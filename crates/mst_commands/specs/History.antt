@@ -6,27 +6,24 @@ use Rattle.key_order.specs.Text.{Text as Key}
 use Rattle.sqlite_trees.specs.Tree.{Trees}
 use Rattle.store_table.specs.Entries.{HoldsEntries}
 use Rattle.store_table.specs.declared.register.Register.{Register}
+use Rattle.store_table.specs.declared.value.Value.{Value}
 use Rattle.mst_commands.specs.Escapes.{line_of, json_of}
+use Rattle.mst_commands.specs.Values.{value_line, said_member}
 
--- what was done at a time by a writer, in a line: a text was put, or the key was removed
-abbrev pub change_text : Option Key → List ℕ
-change_text (Some text) = codes "\tput\t" ++ (line_of (string_bytes text) ++ codes "\n")
+-- what was done at a time by a writer, in a line: a value was put, or the key was removed
+abbrev pub change_text : Option Value → List ℕ
+change_text (Some value) = codes "\tput\t" ++ (value_line value ++ codes "\n")
 change_text None = codes "\tdel\n"
 
 -- the line of a register
 abbrev pub change_line : Register → List ℕ
 change_line register = decimal register.time ++ (codes "\t" ++ (line_of (string_bytes register.writer) ++ change_text register.value))
 
--- a text as JSON, or null where the key was removed
-abbrev pub change_json : Option Key → List ℕ
-change_json (Some text) = json_of (string_bytes text)
-change_json None = codes "null"
-
 -- the line of a register, as an object of JSON
 abbrev pub change_object : Register → List ℕ
 change_object register =
     codes "{\"time\":" ++ (decimal register.time ++ (codes ",\"writer\":" ++ (json_of (string_bytes register.writer)
-    ++ (codes ",\"value\":" ++ (change_json register.value ++ codes "}\n")))))
+    ++ (codes "," ++ (said_member register.value ++ codes "}\n")))))
 
 -- the line of an entry, where it is one of the key
 unfoldable pub history_line : List ℕ → Bool → Key × Register → List ℕ

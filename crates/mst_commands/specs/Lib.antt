@@ -12,4 +12,5 @@ pub mod News
 pub mod Quotes
 pub mod Reads
 pub mod Records
+pub mod Values
 pub mod Writes

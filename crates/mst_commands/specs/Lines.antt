@@ -1,34 +1,36 @@
--- Keys and texts in lines, as a list writes them.
+-- Keys and values in lines, as a list writes them.
 use Rattle.std.specs.Prelude.{ℕ, Bool, List, [], ◌++◌, take, codes, string_bytes, Option, None, option_map, if◌then◌else◌, flat_map, filter_map}
 use Rattle.std.specs.Option.{option_map_or}
 use Rattle.key_order.specs.Text.{Text as Key}
 use Rattle.store_table.specs.declared.register.Register.{Register}
+use Rattle.store_table.specs.declared.value.Value.{Value}
 use Rattle.mst_commands.specs.Bounds.{is_within}
 use Rattle.mst_commands.specs.Escapes.{line_of, json_of}
+use Rattle.mst_commands.specs.Values.{value_line, value_member}
 use Rattle.mst_commands.specs.declared.bounds.Bounds.{Bounds}
 use Rattle.mst_commands.specs.declared.bounds.Listing.{Listing}
 
--- a key and its text, as bytes
+-- the bytes of a key, and its value
 abbrev pub Pair : Type 0
-Pair = List ℕ × List ℕ
+Pair = List ℕ × Value
 
--- the key and the text of a row, unless it is a removal
+-- the key and the value of a row, unless it is a removal
 abbrev pub pair_of : Key × Register → Option Pair
-pair_of row = option_map (λ text. (string_bytes row.0, string_bytes text)) row.1.value
+pair_of row = option_map (λ value. (string_bytes row.0, value)) row.1.value
 
--- a key, a tab and a text in a line
-abbrev pub text_line : List ℕ → List ℕ → List ℕ
-text_line key text = line_of key ++ (codes "\t" ++ (line_of text ++ codes "\n"))
+-- a key, a tab and a value in a line
+abbrev pub text_line : List ℕ → Value → List ℕ
+text_line key value = line_of key ++ (codes "\t" ++ (value_line value ++ codes "\n"))
 
--- a key and a text in a line, as an object of JSON
-abbrev pub json_line : List ℕ → List ℕ → List ℕ
-json_line key text = codes "{\"key\":" ++ (json_of key ++ (codes ",\"value\":" ++ (json_of text ++ codes "}\n")))
+-- a key and a value in a line, as an object of JSON
+abbrev pub json_line : List ℕ → Value → List ℕ
+json_line key value = codes "{\"key\":" ++ (json_of key ++ (codes "," ++ (value_member value ++ codes "}\n")))
 
--- the line of a key and its text, as JSON or not
+-- the line of a key and its value, as JSON or not
 abbrev pub line_as : Bool → Pair → List ℕ
 line_as json pair = if json then json_line pair.0 pair.1 else text_line pair.0 pair.1
 
--- the key and the text of a row that is listed: no removal, and its key is within the bounds
+-- the key and the value of a row that is listed: no removal, and its key is within the bounds
 abbrev pub pair_within : Bounds → Key × Register → Option Pair
 pair_within b row = if is_within b (string_bytes row.0) then pair_of row else None
 

@@ -1,16 +1,14 @@
 -- Which texts of CSV an import refuses, and what else ends one.
-use Rattle.std.specs.Prelude.{◌≡◌, ◌≢◌, ◌≤◌, ◌<◌, ◌^◌, ℕ, Bool, List, [], ◌∷◌, ◌++◌, length, ⊤, false, ◌⊎◌, Option, IfSome, IsSomeAnd, string_bytes}
+use Rattle.std.specs.Prelude.{◌≡◌, ◌≢◌, ◌≤◌, ◌<◌, ◌^◌, ℕ, Bool, List, [], ◌∷◌, ◌++◌, length, ⊤, false, ◌⊎◌, Option, IfSome, IsSomeAnd, IsUtf8, string_bytes}
 use Rattle.key_order.specs.Text.{Text as Key}
 use Rattle.csv.specs.Reading.{AreRecords, Reached, default_config, strip_bom}
-use Rattle.csv.specs.Records.{AllText}
-use Rattle.csv.specs.declared.error.ErrorKind.{ErrorKind}
-use Rattle.csv.specs.declared.error.ErrorKind.TheVariants as kind
 use Rattle.csv.specs.declared.parser.State.{State}
 use Rattle.csv.specs.declared.parser.State.TheVariants as st
-use Rattle.csv.specs.declared.reader.Reader.{Reader}
+use Rattle.store_table.specs.Values.{bytes_of}
 use Rattle.store_table.specs.declared.register.Register.{Register}
+use Rattle.store_table.specs.declared.value.Value.{Value}
 use Rattle.mst_commands.specs.Quotes.{is_quoted}
-use Rattle.mst_commands.specs.Records.{header, HasRead, SaysEntry, SaysValue}
+use Rattle.mst_commands.specs.Records.{header, SaysEntry, SaysValue}
 use Rattle.mst_commands.specs.declared.fault.Fault.{Fault}
 use Rattle.mst_commands.specs.declared.fault.Fault.TheVariants as fault
 
@@ -23,7 +21,7 @@ pub record IsWithin (entry : Key × Register) : Type 0 where
   pub key : length (string_bytes entry.0) ≤ 1048576
   pub time : entry.1.time < 2 ^ 63
   pub writer : length (string_bytes entry.1.writer) ≤ 1048576
-  pub value : IfSome entry.1.value (λ text. length (string_bytes text) ≤ 1048576)
+  pub value : IfSome entry.1.value (λ value. length (bytes_of value) ≤ 1048576)
 
 -- a record after the header says no such entry
 abbrev pub SaysNone : Bool → List (List ℕ) → Type 0
@@ -31,7 +29,11 @@ SaysNone is_log fields = (number : ℕ) (entry : Key × Register) → SaysEntry 
 
 -- the last two fields of a record of a log say no change, or a value of more than 1 MiB
 abbrev pub SaysNoChange : List (List ℕ) → Type 0
-SaysNoChange fields = (value : Option Key) → SaysValue fields value → IsSomeAnd value (λ text. 1048576 < length (string_bytes text))
+SaysNoChange fields = (said : Option Value) → SaysValue fields said → IsSomeAnd said (λ value. 1048576 < length (bytes_of value))
+
+-- a field is no key and no writer: it has more than 1 MiB, or isn't UTF-8
+abbrev pub IsNoName : List ℕ → Type 0
+IsNoName field = (1048576 < length field) ⊎ ¬ (IsUtf8 field)
 
 -- the first record of a text is another than the header
 abbrev pub HasOtherHeader : Bool → List ℕ → Type 0
@@ -41,23 +43,18 @@ HasOtherHeader is_log text = (first : List (List ℕ)) × Begins text (first ∷
 abbrev pub LacksHeader : Bool → List ℕ → Type 0
 LacksHeader is_log text = AreRecords default_config st.StartRecord (strip_bom text) [] ⊎ HasOtherHeader is_log text
 
--- after these records of a text comes one that is not in UTF-8
-abbrev pub GoesOnInNoText : List ℕ → List (List (List ℕ)) → Type 0
-GoesOnInNoText text records = (fields : List (List ℕ)) × Begins text (records ++ fields ∷ []) × ¬ (AllText fields)
-
 -- after the header of a text comes a record that says no entry
 abbrev pub GoesOnInNoEntry : Bool → List ℕ → List (List (List ℕ)) → Type 0
 GoesOnInNoEntry is_log text records = (fields : List (List ℕ)) × Begins text (header is_log ∷ records ++ fields ∷ []) × SaysNone is_log fields
 
--- a text has a record that is not in UTF-8, or after the header one that says no entry
+-- a text has after the header a record that says no entry
 abbrev pub HasBadRecord : Bool → List ℕ → Type 0
-HasBadRecord is_log text = (records : List (List (List ℕ))) × (GoesOnInNoText text records ⊎ GoesOnInNoEntry is_log text records)
+HasBadRecord is_log text = (records : List (List (List ℕ))) × GoesOnInNoEntry is_log text records
 
 -- an import ends early for its header, for one of its records, or if memory, the store or a device fails
 abbrev pub EndsFor : Type 0 → Type 0 → Fault → Type 0
 EndsFor first row (fault.NoHeader names) = first
 EndsFor first row (fault.BadLine line why) = row
-EndsFor first row fault.NotText = row
 EndsFor first row (fault.Store why) = ⊤
 EndsFor first row (fault.Device error) = ⊤
 EndsFor first row _ = ⊥
@@ -77,14 +74,3 @@ IsBadText is_log text = HasBadRecord is_log text ⊎ (is_quoted text ≡ false)
 -- so it is with an import, which ends for the quotes too
 abbrev pub IsImportRefused : Bool → Option (List ℕ) → Fault → Type 0
 IsImportRefused is_log text = EndsFor (IfSome text (LacksHeader is_log)) (IfSome text (IsBadText is_log))
-
--- a read stops at a record that is not in UTF-8, as far as the text is known, or for something else than the text
-abbrev pub StopsReading : {R : Type 0} → (R → Option (List ℕ)) → Reader R → Fault → Type 0
-StopsReading remaining reader why =
-    (text : Option (List ℕ)) (records : List (List (List ℕ))) → HasRead remaining text records reader
-    → EndsFor ⊥ (IfSome text (λ bytes. GoesOnInNoText bytes records)) why
-
--- an error of CSV says that a record is not in UTF-8
-abbrev pub IsNoText : ErrorKind → Type 0
-IsNoText (kind.Utf8 pos error) = ⊤
-IsNoText _ = ⊥

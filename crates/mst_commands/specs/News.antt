@@ -3,7 +3,7 @@ use Rattle.std.specs.Prelude.{ℕ, Bool, List, ◌++◌, codes, decimal, string_
 use Rattle.key_order.specs.Text.{Text as Key}
 use Rattle.store_table.specs.declared.register.Register.{Register}
 use Rattle.mst_commands.specs.Escapes.{line_of, json_of}
-use Rattle.mst_commands.specs.History.{change_json}
+use Rattle.mst_commands.specs.Values.{said_member}
 
 -- the key of an entry in a line
 abbrev pub key_line : Key × Register → List ℕ
@@ -13,7 +13,7 @@ key_line entry = line_of (string_bytes entry.0) ++ codes "\n"
 abbrev pub entry_object : Key × Register → List ℕ
 entry_object entry =
     codes "{\"key\":" ++ (json_of (string_bytes entry.0) ++ (codes ",\"time\":" ++ (decimal entry.1.time ++ (codes ",\"writer\":"
-    ++ (json_of (string_bytes entry.1.writer) ++ (codes ",\"value\":" ++ (change_json entry.1.value ++ codes "}\n")))))))
+    ++ (json_of (string_bytes entry.1.writer) ++ (codes "," ++ (said_member entry.1.value ++ codes "}\n")))))))
 
 -- the line of an entry, as JSON or not
 unfoldable pub news_line : Bool → Key × Register → List ℕ

@@ -1,39 +1,41 @@
 -- What the commands that read find.
-use Rattle.std.specs.Prelude.{◌≡◌, ℕ, Bool, List, [], ◌∷◌, ◌++◌, Option, Some, codes, length, string_bytes, count_by, decimal, if◌then◌else◌}
+use Rattle.std.specs.Prelude.{◌≡◌, ℕ, Bool, List, [], ◌∷◌, ◌++◌, Option, Some, codes, length, count_by, decimal, if◌then◌else◌}
 use Rattle.std.specs.Global.{Vec}
 use Rattle.std.specs.Io.KnownBytes.{Appends}
 use Rattle.key_order.specs.Text.{Text as Key}
 use Rattle.sqlite_trees.specs.Tree.{Trees}
 use Rattle.store_table.specs.Entries.{HoldsEntries}
-use Rattle.store_table.specs.Latest.{IsLatestAt, text_of}
-use Rattle.store_table.specs.Rows.{HasLatestRows, says_text, is_removal, last_time}
+use Rattle.store_table.specs.Latest.{IsLatestAt, said_by}
+use Rattle.store_table.specs.Rows.{HasLatestRows, says_value, is_removal, last_time}
 use Rattle.store_table.specs.Sifting.{AreSifted}
+use Rattle.store_table.specs.Values.{bytes_of}
 use Rattle.store_table.specs.declared.register.Register.{Register}
 use Rattle.store_table.specs.declared.rows.Summary.{Summary}
 use Rattle.store_table.specs.declared.sifting.BadRow.{BadRow}
+use Rattle.store_table.specs.declared.value.Value.{Value}
 use Rattle.mst_commands.specs.Escapes.{json_of}
 use Rattle.mst_commands.specs.Lines.{list_of}
 use Rattle.mst_commands.specs.Records.{pairs_text, log_text}
 use Rattle.mst_commands.specs.declared.bounds.Listing.{Listing}
 
--- this is what the latest register of the key says, where it says a text
-abbrev pub IsTextAt : Trees → List ℕ → Option Key → Type 0
-IsTextAt trees key text = (found : Option Register) × IsLatestAt trees key found × (text ≡ text_of found)
+-- this is what the latest register of the key says, where it says a value
+abbrev pub IsValueAt : Trees → List ℕ → Option Value → Type 0
+IsValueAt trees key said = (found : Option Register) × IsLatestAt trees key found × (said ≡ said_by found)
 
--- the text of the key, and a newline, was written
-abbrev pub WritesText : {W : Type 0} → List ℕ → (W → Option (List ℕ)) → W → W → Trees → Type 0
-WritesText key contents old new trees =
-    (text : Key) × IsTextAt trees key (Some text) × Appends (contents old) (contents new) (string_bytes text ++ 10 ∷ [])
+-- the value of the key, as it is, and a newline were written
+abbrev pub WritesValue : {W : Type 0} → List ℕ → (W → Option (List ℕ)) → W → W → Trees → Type 0
+WritesValue key contents old new trees =
+    (value : Value) × IsValueAt trees key (Some value) × Appends (contents old) (contents new) (bytes_of value ++ 10 ∷ [])
 
 -- the list of the latest rows of the table's entries was written
 abbrev pub WritesList : {W : Type 0} → Listing → (W → Option (List ℕ)) → W → W → Trees → Type 0
 WritesList listing contents old new trees =
     (rows : List (Key × Register)) × HasLatestRows trees rows × Appends (contents old) (contents new) (list_of listing rows)
 
--- how many of the latest rows say a text, and a newline, was written
+-- how many of the latest rows say a value, and a newline, was written
 abbrev pub WritesCount : {W : Type 0} → (W → Option (List ℕ)) → W → W → Trees → Type 0
 WritesCount contents old new trees =
-    (rows : List (Key × Register)) × HasLatestRows trees rows × Appends (contents old) (contents new) (decimal (count_by says_text rows) ++ 10 ∷ [])
+    (rows : List (Key × Register)) × HasLatestRows trees rows × Appends (contents old) (contents new) (decimal (count_by says_value rows) ++ 10 ∷ [])
 
 -- the latest rows of the table's entries were written as CSV
 abbrev pub WritesPairs : {W : Type 0} → (W → Option (List ℕ)) → W → Trees → W → Type 0
@@ -54,9 +56,9 @@ abbrev pub WritesSifted : {W : Type 0} → (W → Option (List ℕ)) → W → T
 WritesSifted contents old trees done =
     (entries : List (Key × Register)) × AreSifted (trees 0) entries (length done.1.items) × Appends (contents old) (contents done.0) (log_text entries)
 
--- this many of the rows say a text, this many are removals, and this is the greatest time
+-- this many of the rows say a value, this many are removals, and this is the greatest time
 pub record HaveNumbers (rows : List (Key × Register)) (summary : Summary) : Type 0 where
-  pub keys : summary.keys ≡ count_by says_text rows
+  pub keys : summary.keys ≡ count_by says_value rows
   pub removed : summary.removed ≡ count_by is_removal rows
   pub last : summary.last ≡ last_time rows
 

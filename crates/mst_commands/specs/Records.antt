@@ -1,5 +1,5 @@
--- Keys and texts, and logs, as records of CSV.
-use Rattle.std.specs.Prelude.{◌≡◌, ℕ, ◌+◌, Bool, List, [], ◌∷◌, ◌++◌, ⊤, codes, decimal, string_bytes, Option, Some, None, false, true, unwrap_or, IfSome, IsSomeAnd, MatchBool, if◌then◌else◌, flat_map}
+-- Keys and values, and logs, as records of CSV.
+use Rattle.std.specs.Prelude.{◌≡◌, ℕ, ◌+◌, Bool, List, [], ◌∷◌, ◌++◌, ⊤, codes, decimal, string_bytes, Option, Some, None, false, true, unwrap_or, IfSome, IsSomeAnd, IsUtf8, MatchBool, if◌then◌else◌, flat_map}
 use Rattle.std.specs.Option.{option_map_or}
 use Rattle.std.specs.Str.Parse.{IsNumeral, digits_value, without_leading_plus}
 use Rattle.std.specs.Io.KnownBytes.{Appends}
@@ -11,7 +11,9 @@ use Rattle.csv.specs.declared.parser.State.TheVariants as st
 use Rattle.csv.specs.declared.reader.Reader.{Reader}
 use Rattle.csv.specs.declared.reader.Trim.TheVariants as trim
 use Rattle.csv.specs.declared.writer.Writer.{Writer}
+use Rattle.store_table.specs.Values.{bytes_of, IsFormed}
 use Rattle.store_table.specs.declared.register.Register.{Register}
+use Rattle.store_table.specs.declared.value.Value.{Value}
 use Rattle.mst_commands.specs.Lines.{Pair, pair_of}
 
 -- the names of the fields, in the first record
@@ -19,34 +21,38 @@ abbrev pub header : Bool → List (List ℕ)
 header is_log =
     if is_log then codes "key" ∷ codes "time" ∷ codes "writer" ∷ codes "change" ∷ codes "value" ∷ [] else codes "key" ∷ codes "value" ∷ []
 
--- a key and its text
+-- a key and the bytes of its value
 abbrev pub pair_fields : Pair → List (List ℕ)
-pair_fields pair = pair.0 ∷ pair.1 ∷ []
+pair_fields pair = pair.0 ∷ bytes_of pair.1 ∷ []
 
--- what a change is called, and its text: none of a removal
-abbrev pub change_fields : Option Key → List (List ℕ)
+-- what a change is called, and the bytes of its value: none of a removal
+abbrev pub change_fields : Option Value → List (List ℕ)
 change_fields None = codes "del" ∷ [] ∷ []
-change_fields (Some text) = codes "put" ∷ string_bytes text ∷ []
+change_fields (Some value) = codes "put" ∷ bytes_of value ∷ []
 
 -- an entry of a log, with its time in these digits
 abbrev pub log_fields : List ℕ → Key × Register → List (List ℕ)
 log_fields time entry = string_bytes entry.0 ∷ time ∷ string_bytes entry.1.writer ∷ change_fields entry.1.value
 
--- the digits of a number, which may stand after a plus
+-- a text of the digits of a number, which may stand after a plus
 abbrev pub SpellsNumber : List ℕ → ℕ → Type 0
-SpellsNumber bytes n = IsNumeral 10 (without_leading_plus bytes) × (n ≡ digits_value 10 (without_leading_plus bytes))
+SpellsNumber bytes n = IsUtf8 bytes × IsNumeral 10 (without_leading_plus bytes) × (n ≡ digits_value 10 (without_leading_plus bytes))
 
--- a record of a log says this entry
+-- a record of a log says this entry, whose value has its one form
 abbrev pub SaysChange : List (List ℕ) → Key × Register → Type 0
-SaysChange fields entry = (time : List ℕ) × SpellsNumber time entry.1.time × (fields ≡ log_fields time entry)
+SaysChange fields entry = (time : List ℕ) × SpellsNumber time entry.1.time × (fields ≡ log_fields time entry) × IfSome entry.1.value IsFormed
 
--- a record of keys and texts says this entry: of no writer, with the number of the record as its time
+-- a pair is that of a record, and its value has its one form
+abbrev pub IsPairOf : List (List ℕ) → Pair → Type 0
+IsPairOf row pair = (row ≡ pair_fields pair) × IsFormed pair.1
+
+-- a record of keys and values says this entry: of no writer, with the number of the record as its time
 pub record SaysPair (number : ℕ) (row : List (List ℕ)) (entry : Key × Register) : Type 0 where
-  pub fields : IsSomeAnd entry.1.value (λ text. row ≡ pair_fields (string_bytes entry.0, string_bytes text))
+  pub fields : IsSomeAnd entry.1.value (λ value. IsPairOf row (string_bytes entry.0, value))
   pub time : entry.1.time ≡ number
   pub writer : string_bytes entry.1.writer ≡ []
 
--- a record after the header, of a log or of keys and texts, says this entry
+-- a record after the header, of a log or of keys and values, says this entry
 abbrev pub SaysEntry : Bool → ℕ → List (List ℕ) → Key × Register → Type 0
 SaysEntry is_log number fields entry = MatchBool is_log (SaysChange fields entry) (SaysPair number fields entry)
 
@@ -67,11 +73,11 @@ abbrev pub HasEntries : Bool → List ℕ → List (Key × Register) → Type 0
 HasEntries is_log text entries =
     (records : List (List (List ℕ))) × AreRecords default_config st.StartRecord (strip_bom text) records × SayAll is_log records entries
 
--- the record of a row that says a text, or nothing of a removal
+-- the record of a row that says a value, or nothing of a removal
 abbrev pub pair_text : Key × Register → List ℕ
 pair_text row = option_map_or (λ pair. row_text default_writer (pair_fields pair)) (pair_of row) []
 
--- rows as CSV: the header, and a record for each that says a text
+-- rows as CSV: the header, and a record for each that says a value
 abbrev pub pairs_text : List (Key × Register) → List ℕ
 pairs_text rows = row_text default_writer (header false) ++ flat_map pair_text rows
 
@@ -83,13 +89,13 @@ entry_text entry = row_text default_writer (log_fields (decimal entry.1.time) en
 abbrev pub log_text : List (Key × Register) → List ℕ
 log_text entries = row_text default_writer (header true) ++ flat_map entry_text entries
 
--- the field at a place, or an empty text
+-- the field at a place, or an empty one
 abbrev pub field_or_empty : List (List ℕ) → ℕ → List ℕ
 field_or_empty fields at = unwrap_or (field_at fields at) []
 
--- the last two fields of a record of a log say this text, or that it is a removal
-abbrev pub SaysValue : List (List ℕ) → Option Key → Type 0
-SaysValue fields value = change_fields value ≡ field_or_empty fields 3 ∷ field_or_empty fields 4 ∷ []
+-- the last two fields of a record of a log say this value in its one form, or that it is a removal
+abbrev pub SaysValue : List (List ℕ) → Option Value → Type 0
+SaysValue fields said = (change_fields said ≡ field_or_empty fields 3 ∷ field_or_empty fields 4 ∷ []) × IfSome said IsFormed
 
 -- a reader with the crate's defaults has read these records of the text, where the text is known
 pub record HasRead {R : Type 0} (remaining : R → Option (List ℕ)) (text : Option (List ℕ)) (records : List (List (List ℕ))) (reader : Reader R) : Type 0 where

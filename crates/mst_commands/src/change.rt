@@ -1,7 +1,7 @@
 //! Writes that land together.
-ghost use Rattle.std.specs.Prelude.{◌≡◌, [], None, Some, false, true, option_map, string_bytes, OnErr, OnOk};
+ghost use Rattle.std.specs.Prelude.{◌≡◌, [], None, false, true, OnErr, OnOk};
 ghost use Rattle.store_table.specs.Logs.{Leaves, LeavesNoMore, MakesAndFinds, StaysInErr, StaysInOk};
-ghost use Rattle.mst_commands.specs.Changing.{Lands, WaitsToo};
+ghost use Rattle.mst_commands.specs.Changing.{Lands, PutWaitsToo, WaitsToo};
 ghost use Rattle.mst_commands.specs.Imports.{Imports};
 
 use crate::fault::Fault;
@@ -10,16 +10,16 @@ use sqlite_trees::store::Store;
 use std::alloc::Global;
 use std::collections::BTreeMap;
 use std::marker::Model;
-use store_table::Register;
-use store_table::latest::{find, text_of};
+use store_table::latest::{find, value_of};
 use store_table::log::Log;
 use store_table::table::Entries;
+use store_table::{Register, Value};
 
 /// Writes that wait, the first one first.
 #[derive(Drop)]
 pub struct Change {
     entries: Entries,
-    /// Whether the last write of each key puts a text.
+    /// Whether the last write of each key puts a value.
     puts: BTreeMap<String, bool>,
     /// Whether a line of it failed, so that nothing of it lands.
     has_failed: bool,
@@ -53,8 +53,8 @@ impl Change {
     }
 
     /// Adds a write.
-    fn push(&mut self, alloc: Global, key: &str, value: Option<String>) -> Result<(), Fault>
-        ensures waits { OnOk result (WaitsToo key.now (option_map string_bytes value) self.old self.new) }
+    fn push(&mut self, alloc: Global, key: &str, value: Option<Value>) -> Result<(), Fault>
+        ensures waits { OnOk result (WaitsToo key.now value self.old self.new) }
         ensures kept { OnErr result (self.new ≡ self.old) }
     {
         self.puts
@@ -76,13 +76,13 @@ impl Change {
     ///
     /// [`Fault::TooLong`], and [`Fault::Store`] when out of memory.
     pub fn put(&mut self, alloc: Global, key: &str, text: &str) -> Result<(), Fault>
-        ensures waits { OnOk result (WaitsToo key.now (Some text.now) self.old self.new) }
+        ensures waits { OnOk result (PutWaitsToo key.now text.now self.old self.new) }
         ensures kept { OnErr result (self.new ≡ self.old) }
     {
-        within(key, "the key")?;
-        within(text, "the value")?;
+        within(key.as_bytes(), "the key")?;
+        within(text.as_bytes(), "the value")?;
         let text = String::from_str(alloc, text)?;
-        self.push(alloc, key, Some(text))
+        self.push(alloc, key, Some(Value::Text(text)))
     }
 
     /// Adds the removal of a key, which has to be there once what waits has landed.
@@ -98,7 +98,7 @@ impl Change {
     {
         let is_there = match self.puts.get(key) {
             Some(is_there) => *is_there,
-            None => text_of(find(alloc, log, key)?).is_some(),
+            None => value_of(find(alloc, log, key)?).is_some(),
         };
         if !is_there {
             return Err(Fault::NoKey);

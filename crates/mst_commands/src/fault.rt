@@ -1,7 +1,6 @@
 //! Why a command ends early.
 ghost use Rattle.std.specs.Prelude.{◌≡◌};
-ghost use Rattle.csv.specs.Reading.{error_kind};
-ghost use Rattle.mst_commands.specs.Malformed.{EndsFor, IsFailure, IsNoText};
+ghost use Rattle.mst_commands.specs.Malformed.{IsFailure};
 
 use csv::ErrorKind;
 use std::alloc::{AllocError, AllocFailed};
@@ -44,8 +43,6 @@ pub enum Fault {
     Unmet,
     /// A key or a value has more than 1 MiB.
     TooLong(&'static str),
-    /// Standard input is no text in UTF-8.
-    NotText,
     /// The first line of an import is another than this.
     NoHeader(&'static str),
     /// A line of an import is wrong, for this reason.
@@ -104,22 +101,8 @@ impl From<io::Error> for Fault {
     }
 }
 
-/// Why a read of CSV ended early.
-pub fn read_fault(error: &csv::Error) -> Fault
-    ensures { EndsFor ⊥ (IsNoText (error_kind error.now)) result }
-{
-    match error.kind() {
-        ErrorKind::Utf8 { pos, .. } => match pos {
-            Some(position) => Fault::BadLine(position.line, "it isn't valid UTF-8"),
-            None => Fault::NotText,
-        },
-        ErrorKind::OutOfMemory => Fault::Store(StoreFault::Memory),
-        other => Fault::Device(device_error(other)),
-    }
-}
-
-/// Why a write of CSV ended early.
-pub fn write_fault(error: &csv::Error) -> Fault
+/// Why a read or a write of CSV ended early.
+pub fn csv_fault(error: &csv::Error) -> Fault
     ensures { IsFailure result }
 {
     match error.kind() {
@@ -160,7 +143,6 @@ impl fmt::Display for Fault {
                 "the key isn't as --if-absent or --if-value asks: nothing is written",
             ),
             Fault::TooLong(what) => write!(f, "{what} is longer than 1 MiB"),
-            Fault::NotText => f.write_str("standard input isn't valid UTF-8"),
             Fault::NoHeader(header) => write!(
                 f,
                 "the first line of the input must be {header}: nothing is imported"

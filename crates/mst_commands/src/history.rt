@@ -3,30 +3,31 @@ ghost use Rattle.std.specs.Prelude.{◌≡◌, flat_map, string_bytes, IfOk, IfE
 ghost use Rattle.std.specs.Io.KnownBytes.{Appends};
 ghost use Rattle.store_table.specs.Logs.{Shows, StaysInOk, LeavesNoMore};
 ghost use Rattle.mst_commands.specs.Faults.{StaysAtDevice};
-ghost use Rattle.mst_commands.specs.History.{WritesHistory, change_json, change_line, change_object, change_text, history_line};
+ghost use Rattle.mst_commands.specs.History.{WritesHistory, change_line, change_object, change_text, history_line};
 ghost use Rattle.mst_commands.specs.Malformed.{IsFailure};
 
 use crate::escape::{escape, json_string};
 use crate::fault::Fault;
+use crate::values::{in_line, said_as_member};
 use sqlite_trees::store::Store;
-use std::alloc::{AllocError, Global};
+use std::alloc::Global;
 use std::io::Write;
-use store_table::Register;
 use store_table::log::Log;
 use store_table::table::read_log;
+use store_table::{Register, Value};
 
 /// Writes what was done to the key, after the time and the writer.
-fn write_change<W: Write>(alloc: Global, out: &mut W, value: &Option<String>) -> Result<(), Fault>
+fn write_change<W: Write>(alloc: Global, out: &mut W, value: &Option<Value>) -> Result<(), Fault>
     ensures bytes { OnOk result (Appends (W.contents out.old) (W.contents out.new) (change_text value.now)) }
     ensures faults { IfErr result IsFailure }
 {
-    let Some(text) = value else {
+    let Some(value) = value else {
         out.write_all(b"\tdel\n")?;
         return Ok(());
     };
-    let text = escape(alloc, text.as_str())?;
+    let line = in_line(alloc, value)?;
     out.write_all(b"\tput\t")?;
-    out.write_all(text.as_bytes())?;
+    out.write_all(line.as_bytes())?;
     out.write_all(b"\n")?;
     Ok(())
 }
@@ -44,16 +45,6 @@ fn write_line<W: Write>(alloc: Global, out: &mut W, register: &Register) -> Resu
     write_change(alloc, out, &register.value)
 }
 
-/// A text as JSON, or null.
-pub(crate) fn json_or_null(alloc: Global, value: &Option<String>) -> Result<String, AllocError>
-    ensures { IfOk result (λ text. string_bytes text ≡ change_json value.now) }
-{
-    match value {
-        Some(text) => json_string(alloc, text.as_str()),
-        None => String::from_str(alloc, "null"),
-    }
-}
-
 /// A register as an object of JSON, in a line.
 fn object_of(alloc: Global, register: &Register) -> Result<String, Fault>
     ensures text { IfOk result (λ text. string_bytes text ≡ change_object register.now) }
@@ -61,8 +52,8 @@ fn object_of(alloc: Global, register: &Register) -> Result<String, Fault>
 {
     let time = register.time;
     let writer = json_string(alloc, register.writer.as_str())?;
-    let value = json_or_null(alloc, &register.value)?;
-    Ok(format!(in alloc; "{{\"time\":{time},\"writer\":{writer},\"value\":{value}}}\n")?)
+    let said = said_as_member(alloc, &register.value)?;
+    Ok(format!(in alloc; "{{\"time\":{time},\"writer\":{writer},{said}}}\n")?)
 }
 
 /// Writes a register as an object of JSON.

@@ -1,12 +1,14 @@
 //! What a command reads from standard input.
-ghost use Rattle.std.specs.Prelude.{◌≡◌, IfOk, string_bytes};
+ghost use Rattle.std.specs.Prelude.{◌≡◌, IfOk};
+ghost use Rattle.store_table.specs.Values.{IsValueOf};
 ghost use Rattle.mst_commands.specs.Carries.{IsInputOf, entries_of, value_of as value_from};
 
 use crate::fault::Fault;
 use crate::records::read_entries;
-use crate::writing::read_text;
+use crate::writing::read_bytes;
 use mst_words::{Given, Verb};
 use std::alloc::{AllocError, Global};
+use store_table::Value;
 use store_table::table::Entries;
 
 /// What a command has from standard input, which is read to its end before a file is opened.
@@ -14,8 +16,8 @@ use store_table::table::Entries;
 pub enum Input {
     /// Nothing: the command line says all.
     Nothing,
-    /// The value of a put.
-    Value(String),
+    /// The bytes of the value of a put.
+    Bytes(Vec<u8>),
     /// The entries of an import.
     Records(Entries),
 }
@@ -24,12 +26,12 @@ pub enum Input {
 ///
 /// # Errors
 ///
-/// As those of [`read_text`] and [`read_entries`].
+/// As those of [`read_bytes`] and [`read_entries`].
 pub fn read_input(rt: &HostRuntime, verb: Verb, given: &Given<'_>) -> Result<Input, Fault>
     ensures { IfOk result (IsInputOf verb given.now) }
 {
     match verb {
-        Verb::Put if given.is_input => Ok(Input::Value(read_text(rt.alloc(), rt.stdin())?)),
+        Verb::Put if given.is_input => Ok(Input::Bytes(read_bytes(rt.alloc(), rt.stdin())?)),
         Verb::Import => {
             let entries = read_entries(rt.alloc(), rt.stdin(), given.log)?;
             Ok(Input::Records(entries))
@@ -39,12 +41,12 @@ pub fn read_input(rt: &HostRuntime, verb: Verb, given: &Given<'_>) -> Result<Inp
 }
 
 /// The value of a put: that of the input, or else the one that is given.
-pub(crate) fn value_of(alloc: Global, given: &Given<'_>, input: Input) -> Result<String, AllocError>
-    ensures { IfOk result (λ text. string_bytes text ≡ value_from input given.now) }
+pub(crate) fn value_of(alloc: Global, given: &Given<'_>, input: Input) -> Result<Value, AllocError>
+    ensures { IfOk result (λ value. IsValueOf (value_from input given.now) value) }
 {
     match input {
-        Input::Value(text) => Ok(text),
-        _ => String::from_str(alloc, given.value),
+        Input::Bytes(bytes) => Ok(Value::of(bytes)),
+        _ => Ok(Value::Text(String::from_str(alloc, given.value)?)),
     }
 }
 

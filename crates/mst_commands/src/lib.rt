@@ -17,6 +17,7 @@ pub mod quotes;
 pub mod reading;
 pub mod records;
 pub mod run;
+pub mod values;
 pub mod writing;
 
 pub use fault::Fault;

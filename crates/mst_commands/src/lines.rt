@@ -1,4 +1,4 @@
-//! Keys and texts in lines.
+//! Keys and values in lines.
 ghost use Rattle.std.specs.Prelude.{◌≡◌, ◌-◌, [], ◌∷◌, length, is_some, filter_map, IfOk, IfErr, OnOk};
 ghost use Rattle.std.specs.Io.KnownBytes.{Appends};
 ghost use Rattle.mst_commands.specs.Malformed.{IsFailure};
@@ -7,35 +7,36 @@ ghost use Rattle.mst_commands.specs.Lines.{text_line, json_line, line_as, row_li
 use crate::bounds::Listing;
 use crate::escape::{escape, json_string};
 use crate::fault::Fault;
+use crate::values::{as_member, in_line};
 use std::alloc::Global;
 use std::io::Write;
-use store_table::Register;
+use store_table::{Register, Value};
 
-/// Writes a key and its text as a line.
-fn write_line<W: Write>(alloc: Global, out: &mut W, key: &str, text: &str) -> Result<(), Fault>
-    ensures bytes { OnOk result (Appends (W.contents out.old) (W.contents out.new) (text_line key.now text.now)) }
+/// Writes a key and its value as a line.
+fn write_line<W: Write>(alloc: Global, out: &mut W, key: &str, value: &Value) -> Result<(), Fault>
+    ensures bytes { OnOk result (Appends (W.contents out.old) (W.contents out.new) (text_line key.now value.now)) }
     ensures faults { IfErr result IsFailure }
 {
     let key = escape(alloc, key)?;
-    let text = escape(alloc, text)?;
+    let value = in_line(alloc, value)?;
     out.write_all(key.as_bytes())?;
     out.write_all(b"\t")?;
-    out.write_all(text.as_bytes())?;
+    out.write_all(value.as_bytes())?;
     out.write_all(b"\n")?;
     Ok(())
 }
 
-/// Writes a key and its text as an object of JSON.
-fn write_object<W: Write>(alloc: Global, out: &mut W, key: &str, text: &str) -> Result<(), Fault>
-    ensures bytes { OnOk result (Appends (W.contents out.old) (W.contents out.new) (json_line key.now text.now)) }
+/// Writes a key and its value as an object of JSON.
+fn write_object<W: Write>(alloc: Global, out: &mut W, key: &str, value: &Value) -> Result<(), Fault>
+    ensures bytes { OnOk result (Appends (W.contents out.old) (W.contents out.new) (json_line key.now value.now)) }
     ensures faults { IfErr result IsFailure }
 {
     let key = json_string(alloc, key)?;
-    let text = json_string(alloc, text)?;
+    let member = as_member(alloc, value)?;
     out.write_all(b"{\"key\":")?;
     out.write_all(key.as_bytes())?;
-    out.write_all(b",\"value\":")?;
-    out.write_all(text.as_bytes())?;
+    out.write_all(b",")?;
+    out.write_all(member.as_bytes())?;
     out.write_all(b"}\n")?;
     Ok(())
 }
@@ -55,13 +56,13 @@ fn write_row<W: Write>(
     if !listing.bounds.hold(key) {
         return Ok(false);
     }
-    let Some(text) = &row.1.value else {
+    let Some(value) = &row.1.value else {
         return Ok(false);
     };
     if listing.json {
-        write_object(alloc, out, key, text.as_str())?;
+        write_object(alloc, out, key, value)?;
     } else {
-        write_line(alloc, out, key, text.as_str())?;
+        write_line(alloc, out, key, value)?;
     }
     Ok(true)
 }

@@ -4,7 +4,7 @@ ghost use Rattle.std.specs.Io.KnownBytes.{Appends};
 ghost use Rattle.mst_commands.specs.Malformed.{IsFailure};
 ghost use Rattle.mst_commands.specs.Records.{entry_text, log_text, WritesRecord, WritesRecords};
 
-use crate::fault::{Fault, write_fault};
+use crate::fault::{Fault, csv_fault};
 use crate::records::finish;
 use csv::Writer;
 use std::alloc::Global;
@@ -18,7 +18,7 @@ fn write_five<'a, W: Write + Drop>(
     time: &'a str,
     name: &'a str,
     change: &'a str,
-    value: &'a str,
+    value: &'a [u8],
 ) -> Result<(), Fault>
     ensures written { OnOk result (WritesRecord W.contents writer.old writer.new
         (key.now ∷ time.now ∷ name.now ∷ change.now ∷ value.now ∷ [])) }
@@ -29,10 +29,10 @@ fn write_five<'a, W: Write + Drop>(
         time.as_bytes(),
         name.as_bytes(),
         change.as_bytes(),
-        value.as_bytes(),
+        value,
     ]) {
         Ok(()) => Ok(()),
-        Err(error) => Err(write_fault(&error)),
+        Err(error) => Err(csv_fault(&error)),
     }
 }
 
@@ -48,8 +48,8 @@ fn write_entry<W: Write + Drop>(
     let time = entry.1.time.to_string(alloc)?;
     let (key, time, name) = (entry.0.as_str(), time.as_str(), entry.1.writer.as_str());
     match &entry.1.value {
-        Some(text) => write_five(writer, key, time, name, "put", text.as_str()),
-        None => write_five(writer, key, time, name, "del", ""),
+        Some(value) => write_five(writer, key, time, name, "put", value.as_bytes()),
+        None => write_five(writer, key, time, name, "del", "".as_bytes()),
     }
 }
 
@@ -67,7 +67,14 @@ pub fn write_log<W: Write + Drop>(
     ensures faults { IfErr result IsFailure }
 {
     let mut writer = Writer::from_writer(out);
-    write_five(&mut writer, "key", "time", "writer", "change", "value")?;
+    write_five(
+        &mut writer,
+        "key",
+        "time",
+        "writer",
+        "change",
+        "value".as_bytes(),
+    )?;
     'entries: for entry in entries {
         write_entry(alloc, &mut writer, entry)?;
     }

@@ -6,7 +6,7 @@ ghost use Rattle.mst_commands.specs.News.{entry_object, key_line, news_line};
 
 use crate::escape::{escape, json_string};
 use crate::fault::Fault;
-use crate::history::json_or_null;
+use crate::values::said_as_member;
 use std::alloc::Global;
 use std::io::Write;
 use store_table::Register;
@@ -30,10 +30,8 @@ fn object_of(alloc: Global, entry: &(String, Register)) -> Result<String, Fault>
     let key = json_string(alloc, entry.0.as_str())?;
     let time = entry.1.time;
     let writer = json_string(alloc, entry.1.writer.as_str())?;
-    let value = json_or_null(alloc, &entry.1.value)?;
-    Ok(format!(in alloc;
-        "{{\"key\":{key},\"time\":{time},\"writer\":{writer},\"value\":{value}}}\n"
-    )?)
+    let said = said_as_member(alloc, &entry.1.value)?;
+    Ok(format!(in alloc; "{{\"key\":{key},\"time\":{time},\"writer\":{writer},{said}}}\n")?)
 }
 
 /// Writes an entry as an object of JSON.

@@ -4,7 +4,7 @@ ghost use Rattle.std.specs.Io.KnownBytes.{Appends};
 ghost use Rattle.store_table.specs.Logs.{IsSteady, Finds, Shows, Refuses, StaysInOk, StaysInErr, LeavesNoMore};
 ghost use Rattle.mst_commands.specs.Faults.{IsDevice, StaysAtDevice};
 ghost use Rattle.mst_commands.specs.Malformed.{IsFailure};
-ghost use Rattle.mst_commands.specs.Reads.{IsTextAt, WritesText, WritesList, WritesCount, WritesStatus, WritesPairs, WritesLog, WritesSifted};
+ghost use Rattle.mst_commands.specs.Reads.{IsValueAt, WritesValue, WritesList, WritesCount, WritesStatus, WritesPairs, WritesLog, WritesSifted};
 ghost use Rattle.mst_commands.specs.Reads.{IsSummary, SumsOn, status_as, status_object as object_text, status_text};
 
 use crate::bounds::Listing;
@@ -20,31 +20,31 @@ use store_table::log::Log;
 use store_table::reader::{begin, next_latest};
 use store_table::rows::Summary;
 use store_table::sifting::{BadRow, Sifted, sift};
-use store_table::{Register, StoreFault, latest};
+use store_table::{Register, StoreFault, Value, latest};
 
-/// The text of a key.
-fn text_of<S: Store>(alloc: Global, log: &mut Log<S>, key: &str) -> Result<Option<String>, Fault>
-    ensures text { Finds S.Store log.old log.new result (λ trees text. IsTextAt trees key.now text) }
+/// The value of a key.
+fn value_at<S: Store>(alloc: Global, log: &mut Log<S>, key: &str) -> Result<Option<Value>, Fault>
+    ensures said { Finds S.Store log.old log.new result (λ trees said. IsValueAt trees key.now said) }
     ensures store { IfErr result (λ why. ¬ IsDevice why) }
     ensures faults { IfErr result IsFailure }
     ensures unchanged { StaysInOk S.Store log.old log.new result }
     ensures crash { LeavesNoMore S.Store log.old log.new }
 {
     let found = latest::find(alloc, log, key)?;
-    Ok(latest::text_of(found))
+    Ok(latest::value_of(found))
 }
 
-/// Writes a text, and a newline.
-fn write_text<W: Write>(out: &mut W, text: &str) -> Result<(), Fault>
-    ensures bytes { OnOk result (Appends (W.contents out.old) (W.contents out.new) (text.now ++ 10 ∷ [])) }
+/// Writes bytes, and a newline.
+fn write_ended<W: Write>(out: &mut W, bytes: &[u8]) -> Result<(), Fault>
+    ensures bytes { OnOk result (Appends (W.contents out.old) (W.contents out.new) (bytes.now ++ 10 ∷ [])) }
     ensures faults { IfErr result IsFailure }
 {
-    out.write_all(text.as_bytes())?;
+    out.write_all(bytes)?;
     out.write_all(b"\n")?;
     Ok(())
 }
 
-/// Writes the value of a key, and a newline.
+/// Writes the value of a key as it is, and a newline.
 ///
 /// # Errors
 ///
@@ -55,21 +55,21 @@ pub fn get<S: Store, W: Write>(
     out: &mut W,
     key: &str,
 ) -> Result<(), Fault>
-    ensures written { Shows S.Store log.old log.new result (WritesText key.now W.contents out.old out.new) }
-    ensures absent { Refuses S.Store log.old log.new result Fault.NoKey (λ trees. IsTextAt trees key.now None) }
+    ensures written { Shows S.Store log.old log.new result (WritesValue key.now W.contents out.old out.new) }
+    ensures absent { Refuses S.Store log.old log.new result Fault.NoKey (λ trees. IsValueAt trees key.now None) }
     ensures faults { IfErr result (λ why. why ≢ Fault.NoKey → IsFailure why) }
     ensures unchanged { StaysInOk S.Store log.old log.new result }
     ensures device { StaysAtDevice S.Store log.old log.new result }
     ensures crash { LeavesNoMore S.Store log.old log.new }
 {
-    let said = text_of(alloc, log, key)?;
+    let said = value_at(alloc, log, key)?;
     match said {
-        Some(text) => write_text(out, text.as_str()),
+        Some(value) => write_ended(out, value.as_bytes()),
         None => Err(Fault::NoKey),
     }
 }
 
-/// Writes each key that the listing shows with its text, ascending by key. It takes the time of reading all rows, and memory for a few.
+/// Writes each key that the listing shows with its value, ascending by key. It takes the time of reading all rows, and memory for a few.
 ///
 /// # Errors
 ///
@@ -153,7 +153,7 @@ pub fn sum_up<S: Store>(alloc: Global, log: &mut Log<S>) -> Result<(Summary, usi
     Err(Fault::Store(StoreFault::Malformed))
 }
 
-/// Writes how many keys have a text, and a newline. It takes the time of reading all rows, and memory for a few.
+/// Writes how many keys have a value, and a newline. It takes the time of reading all rows, and memory for a few.
 ///
 /// # Errors
 ///
@@ -166,7 +166,7 @@ pub fn count<S: Store, W: Write>(alloc: Global, log: &mut Log<S>, out: &mut W) -
 {
     let (summary, _rows) = sum_up(alloc, log)?;
     let text = summary.keys.to_string(alloc)?;
-    write_text(out, text.as_str())
+    write_ended(out, text.as_bytes())
 }
 
 /// The numbers of the file in lines, and a name.
@@ -243,7 +243,7 @@ pub fn status<S: Store, W: Write>(
     Ok(())
 }
 
-/// Writes the keys that have a text, each with its text, as CSV, and hands back the output. It takes the time of reading all rows, and memory
+/// Writes the keys that have a value, each with its value, as CSV, and hands back the output. It takes the time of reading all rows, and memory
 /// for a few.
 ///
 /// # Errors

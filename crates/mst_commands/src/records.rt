@@ -1,19 +1,21 @@
 //! Keys and values as CSV.
-ghost use Rattle.std.specs.Prelude.{◌≡◌, ◌≢◌, ◌<◌, [], length, string_bytes, true, false, IfOk, IfErr, OnOk, IfSome};
+ghost use Rattle.std.specs.Prelude.{◌≡◌, ◌≢◌, ◌<◌, [], ◌∷◌, length, string_bytes, true, false, IfOk, IfErr, OnOk, IfSome};
 ghost use Rattle.std.specs.Io.KnownBytes.{Appends, Keeps};
 ghost use Rattle.csv.specs.Records.{fields_of};
 ghost use Rattle.csv.specs.Writing.{text_written};
-ghost use Rattle.mst_commands.specs.Records.{header, field_or_empty, pair_fields, pair_text, pairs_text, SaysPair, SaysChange, SaysEntry, SaysValue, HasEntries, HasRead, HasWritten, ReadsOne, WritesRecord, WritesRecords};
-ghost use Rattle.mst_commands.specs.Malformed.{EndsFor, IsFailure, IsImportRefused, IsParseRefused, SaysNoChange, SaysNone, StopsReading};
+ghost use Rattle.store_table.specs.Values.{IsValueOf};
+ghost use Rattle.mst_commands.specs.Records.{header, field_or_empty, pair_text, pairs_text, SaysPair, SaysChange, SaysEntry, SaysValue, SpellsNumber};
+ghost use Rattle.mst_commands.specs.Records.{HasEntries, HasRead, HasWritten, ReadsOne, WritesRecord, WritesRecords};
+ghost use Rattle.mst_commands.specs.Malformed.{EndsFor, IsFailure, IsImportRefused, IsNoName, IsParseRefused, SaysNoChange, SaysNone};
 ghost use Rattle.mst_commands.specs.Quotes.{is_quoted};
 
-use crate::fault::{Fault, input_fault, read_fault, write_fault};
+use crate::fault::{Fault, csv_fault, input_fault};
 use crate::quotes::expect_quotes;
-use csv::{Reader, ReaderBuilder, StringRecord, Writer};
+use csv::{ByteRecord, Reader, ReaderBuilder, Writer};
 use std::alloc::Global;
 use std::io::{Read, Write};
 use store_table::table::Entries;
-use store_table::{Register, StoreFault};
+use store_table::{Register, StoreFault, Value};
 
 /// How many bytes a key or a value has at most: 1 MiB.
 pub const MOST: usize = 1_048_576;
@@ -27,42 +29,62 @@ pub const HEADER: &str = "key,value";
 /// The first line of a log.
 pub const LOG_HEADER: &str = "key,time,writer,change,value";
 
-/// A field of a record, or an empty text.
-fn field(row: &StringRecord, at: usize) -> &str
+/// A field of a record, or an empty one.
+fn field(row: &ByteRecord, at: usize) -> &[u8]
     ensures { result.now ≡ field_or_empty (fields_of row.now) at }
 {
     match row.get(at) {
-        Some(text) => text,
-        None => "",
+        Some(field) => field,
+        None => "".as_bytes(),
     }
 }
 
 /// The line that a record begins at.
-fn line_of(row: &StringRecord) -> u64 {
+fn line_of(row: &ByteRecord) -> u64 {
     match row.position() {
         Some(position) => position.line,
         None => 0,
     }
 }
 
-/// A key or a value of a record, in memory of its own.
-fn text_of(alloc: Global, row: &StringRecord, at: usize) -> Result<String, Fault>
-    ensures text { IfOk result (λ text. string_bytes text ≡ field_or_empty (fields_of row.now) at) }
+/// A field of a record that has 1 MiB at most.
+fn short_field(row: &ByteRecord, at: usize) -> Result<&[u8], Fault>
+    ensures same { IfOk result (λ field. field.now ≡ field_or_empty (fields_of row.now) at) }
     ensures long { IfErr result (EndsFor ⊥ (MOST < length (field_or_empty (fields_of row.now) at))) }
 {
-    let text = field(row, at);
-    if text.len() > MOST {
+    let bytes = field(row, at);
+    if bytes.len() > MOST {
         return Err(Fault::BadLine(line_of(row), "a key or a value is longer than 1 MiB"));
     }
-    Ok(String::from_str(alloc, text)?)
+    Ok(bytes)
+}
+
+/// A key or a writer of a record, in memory of its own.
+fn name_of(alloc: Global, row: &ByteRecord, at: usize) -> Result<String, Fault>
+    ensures text { IfOk result (λ text. string_bytes text ≡ field_or_empty (fields_of row.now) at) }
+    ensures none { IfErr result (EndsFor ⊥ (IsNoName (field_or_empty (fields_of row.now) at))) }
+{
+    match str::from_utf8(short_field(row, at)?) {
+        Ok(text) => Ok(String::from_str(alloc, text)?),
+        Err(_) => Err(Fault::BadLine(line_of(row), "a key or a writer isn't valid UTF-8")),
+    }
+}
+
+/// A value of a record, in memory of its own.
+fn value_of(alloc: Global, row: &ByteRecord, at: usize) -> Result<Value, Fault>
+    ensures value { IfOk result (λ value. IsValueOf (field_or_empty (fields_of row.now) at) value) }
+    ensures long { IfErr result (EndsFor ⊥ (MOST < length (field_or_empty (fields_of row.now) at))) }
+{
+    let bytes = Vec::from_slice(alloc, short_field(row, at)?)?;
+    Ok(Value::of(bytes))
 }
 
 /// Refuses a first record whose field at this place has another name.
-fn expect_name(row: &StringRecord, at: usize, name: &str, names: &'static str) -> Result<(), Fault>
+fn expect_name(row: &ByteRecord, at: usize, name: &str, names: &'static str) -> Result<(), Fault>
     ensures same { OnOk result (field_or_empty (fields_of row.now) at ≡ name.now) }
     ensures other { IfErr result (EndsFor (field_or_empty (fields_of row.now) at ≢ name.now) ⊥) }
 {
-    if field(row, at) == name {
+    if field(row, at) == name.as_bytes() {
         Ok(())
     } else {
         Err(Fault::NoHeader(names))
@@ -70,7 +92,7 @@ fn expect_name(row: &StringRecord, at: usize, name: &str, names: &'static str) -
 }
 
 /// Refuses a first record that is not the header of keys and values.
-fn expect_pair_header(row: &StringRecord) -> Result<(), Fault>
+fn expect_pair_header(row: &ByteRecord) -> Result<(), Fault>
     ensures same { OnOk result (fields_of row.now ≡ header false) }
     ensures other { IfErr result (EndsFor (fields_of row.now ≢ header false) ⊥) }
 {
@@ -83,7 +105,7 @@ fn expect_pair_header(row: &StringRecord) -> Result<(), Fault>
 }
 
 /// Refuses a first record that is not the header of a log.
-fn expect_log_header(row: &StringRecord) -> Result<(), Fault>
+fn expect_log_header(row: &ByteRecord) -> Result<(), Fault>
     ensures same { OnOk result (fields_of row.now ≡ header true) }
     ensures other { IfErr result (EndsFor (fields_of row.now ≢ header true) ⊥) }
 {
@@ -104,7 +126,7 @@ fn header_of(is_log: bool) -> &'static str {
 }
 
 /// Refuses a first record that is no header.
-fn expect_header(row: &StringRecord, is_log: bool) -> Result<(), Fault>
+fn expect_header(row: &ByteRecord, is_log: bool) -> Result<(), Fault>
     ensures same { OnOk result (fields_of row.now ≡ header is_log) }
     ensures other { IfErr result (EndsFor (fields_of row.now ≢ header is_log) ⊥) }
 {
@@ -116,60 +138,72 @@ fn expect_header(row: &StringRecord, is_log: bool) -> Result<(), Fault>
 }
 
 /// The entry of a record of keys and values, with the number of the record as its time.
-fn entry_of(alloc: Global, row: &StringRecord, number: u64) -> Result<(String, Register), Fault>
+fn entry_of(alloc: Global, row: &ByteRecord, number: u64) -> Result<(String, Register), Fault>
     ensures says { IfOk result (λ entry. SaysPair number (fields_of row.now) entry) }
     ensures none { IfErr result (EndsFor ⊥ (SaysNone false (fields_of row.now))) }
 {
     if row.len() != 2 {
         return Err(Fault::BadLine(line_of(row), "it doesn't have two fields"));
     }
-    let key = text_of(alloc, row, 0)?;
-    let text = text_of(alloc, row, 1)?;
+    let key = name_of(alloc, row, 0)?;
+    let value = value_of(alloc, row, 1)?;
     let writer = String::new(alloc);
     Ok((
         key,
         Register {
             time: number,
             writer,
-            value: Some(text),
+            value: Some(value),
         },
     ))
 }
 
 /// The value that a record of a log says, or that it is a removal.
-fn change_of(alloc: Global, row: &StringRecord) -> Result<Option<String>, Fault>
-    ensures says { IfOk result (λ value. SaysValue (fields_of row.now) value) }
+fn change_of(alloc: Global, row: &ByteRecord) -> Result<Option<Value>, Fault>
+    ensures says { IfOk result (λ said. SaysValue (fields_of row.now) said) }
     ensures none { IfErr result (EndsFor ⊥ (SaysNoChange (fields_of row.now))) }
 {
-    match field(row, 3) {
-        "put" => Ok(Some(text_of(alloc, row, 4)?)),
-        "del" => {
-            if field(row, 4).is_empty() {
-                Ok(None)
-            } else {
-                Err(Fault::BadLine(line_of(row), "a removal can't have a value"))
-            }
-        }
-        _ => Err(Fault::BadLine(line_of(row), "the change is neither put nor del")),
+    let change = field(row, 3);
+    if change == "put".as_bytes() {
+        return Ok(Some(value_of(alloc, row, 4)?));
     }
+    if change != "del".as_bytes() {
+        return Err(Fault::BadLine(line_of(row), "the change is neither put nor del"));
+    }
+    if !field(row, 4).is_empty() {
+        return Err(Fault::BadLine(line_of(row), "a removal can't have a value"));
+    }
+    Ok(None)
+}
+
+/// The time of a record of a log.
+fn time_of(row: &ByteRecord) -> Result<u64, Fault>
+    ensures time { IfOk result (λ time. SpellsNumber (field_or_empty (fields_of row.now) 1) time) }
+    ensures none { IfErr result (EndsFor ⊥ (SaysNone true (fields_of row.now))) }
+{
+    let Ok(digits) = str::from_utf8(field(row, 1)) else {
+        return Err(Fault::BadLine(line_of(row), "the time isn't a number"));
+    };
+    let Ok(time) = digits.parse::<u64>() else {
+        return Err(Fault::BadLine(line_of(row), "the time isn't a number"));
+    };
+    if time > LAST_TIME {
+        return Err(Fault::BadLine(line_of(row), "the time is 2^63 or more"));
+    }
+    Ok(time)
 }
 
 /// The entry of a record of a log.
-fn log_entry_of(alloc: Global, row: &StringRecord) -> Result<(String, Register), Fault>
+fn log_entry_of(alloc: Global, row: &ByteRecord) -> Result<(String, Register), Fault>
     ensures says { IfOk result (λ entry. SaysChange (fields_of row.now) entry) }
     ensures none { IfErr result (EndsFor ⊥ (SaysNone true (fields_of row.now))) }
 {
     if row.len() != 5 {
         return Err(Fault::BadLine(line_of(row), "it doesn't have five fields"));
     }
-    let Ok(time) = field(row, 1).parse::<u64>() else {
-        return Err(Fault::BadLine(line_of(row), "the time isn't a number"));
-    };
-    if time > LAST_TIME {
-        return Err(Fault::BadLine(line_of(row), "the time is 2^63 or more"));
-    }
-    let key = text_of(alloc, row, 0)?;
-    let writer = text_of(alloc, row, 2)?;
+    let time = time_of(row)?;
+    let key = name_of(alloc, row, 0)?;
+    let writer = name_of(alloc, row, 2)?;
     let value = change_of(alloc, row)?;
     Ok((
         key,
@@ -184,7 +218,7 @@ fn log_entry_of(alloc: Global, row: &StringRecord) -> Result<(String, Register),
 /// The entry of a record after the header.
 fn read_entry(
     alloc: Global,
-    row: &StringRecord,
+    row: &ByteRecord,
     number: u64,
     is_log: bool,
 ) -> Result<(String, Register), Fault>
@@ -209,13 +243,13 @@ fn reader_of<R: Read>(alloc: Global, from: R) -> Reader<R>
 }
 
 /// Reads the next record, and returns whether there was one.
-fn read_next<R: Read>(reader: &mut Reader<R>, row: &mut StringRecord) -> Result<bool, Fault>
+fn read_next<R: Read>(reader: &mut Reader<R>, row: &mut ByteRecord) -> Result<bool, Fault>
     ensures read { IfOk result (λ found. ReadsOne R.remaining reader.old reader.new found (fields_of row.new)) }
-    ensures no_text { IfErr result (StopsReading R.remaining reader.old) }
+    ensures faults { IfErr result IsFailure }
 {
-    match reader.read_record(row) {
+    match reader.read_byte_record(row) {
         Ok(found) => Ok(found),
-        Err(error) => Err(read_fault(&error)),
+        Err(error) => Err(csv_fault(&error)),
     }
 }
 
@@ -226,7 +260,7 @@ fn parse_entries<R: Read + Drop>(alloc: Global, from: R, is_log: bool) -> Result
 {
     let mut entries = Vec::new(alloc);
     let mut reader = reader_of(alloc, from);
-    let mut record = StringRecord::new(alloc);
+    let mut record = ByteRecord::new(alloc);
     if !read_next(&mut reader, &mut record)? {
         return Err(Fault::NoHeader(header_of(is_log)));
     }
@@ -270,18 +304,18 @@ pub fn read_entries<R: Read + Drop>(alloc: Global, from: R, is_log: bool) -> Res
     parse_entries(alloc, text.as_slice(), is_log)
 }
 
-/// Writes a record of a key and a text.
+/// Writes a record of a key and the bytes of a value.
 fn write_pair<'a, W: Write + Drop>(
     writer: &mut Writer<W>,
     key: &'a str,
-    text: &'a str,
+    value: &'a [u8],
 ) -> Result<(), Fault>
-    ensures written { OnOk result (WritesRecord W.contents writer.old writer.new (pair_fields (key.now, text.now))) }
+    ensures written { OnOk result (WritesRecord W.contents writer.old writer.new (key.now ∷ value.now ∷ [])) }
     ensures faults { IfErr result IsFailure }
 {
-    match writer.write_fields(&[key.as_bytes(), text.as_bytes()]) {
+    match writer.write_fields(&[key.as_bytes(), value]) {
         Ok(()) => Ok(()),
-        Err(error) => Err(write_fault(&error)),
+        Err(error) => Err(csv_fault(&error)),
     }
 }
 
@@ -294,7 +328,7 @@ pub fn write_row<W: Write + Drop>(
     ensures faults { IfErr result IsFailure }
 {
     match &row.1.value {
-        Some(text) => write_pair(writer, row.0.as_str(), text.as_str()),
+        Some(value) => write_pair(writer, row.0.as_str(), value.as_bytes()),
         None => Ok(()),
     }
 }
@@ -306,7 +340,7 @@ pub fn finish<W: Write + Drop>(writer: Writer<W>) -> Result<W, Fault>
 {
     match writer.into_inner() {
         Ok(out) => Ok(out),
-        Err(error) => Err(write_fault(&error.into_error())),
+        Err(error) => Err(csv_fault(&error.into_error())),
     }
 }
 
@@ -316,6 +350,6 @@ pub fn begin_pairs<W: Write + Drop>(out: W) -> Result<Writer<W>, Fault>
     ensures faults { IfErr result IsFailure }
 {
     let mut writer = Writer::from_writer(out);
-    write_pair(&mut writer, "key", "value")?;
+    write_pair(&mut writer, "key", "value".as_bytes())?;
     Ok(writer)
 }

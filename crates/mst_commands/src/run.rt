@@ -11,7 +11,7 @@ use crate::fault::Fault;
 use crate::history::history;
 use crate::input::{Input, entries_in, value_of};
 use crate::reading::{count, export, export_log, get, list, status};
-use crate::writing::{del, import, put_if, put_text};
+use crate::writing::{del, import, put_if, put_value};
 use mst_words::{Given, Verb};
 use sqlite_trees::store::Store;
 use std::io::{self, BufWriter, ErrorKind, Write};
@@ -30,11 +30,11 @@ fn put_given<S: Store>(
     ensures crash { Leaves S.Store log.old log.new (Puts writer.now given.now input) }
 {
     let alloc = rt.alloc();
-    let text = value_of(alloc, given, input)?;
+    let value = value_of(alloc, given, input)?;
     let Some(wanted) = given.wanted else {
-        return put_text(alloc, log, writer, now(rt)?, given.key, text);
+        return put_value(alloc, log, writer, now(rt)?, given.key, value);
     };
-    put_if(alloc, log, writer, now(rt)?, given.key, text, wanted)
+    put_if(alloc, log, writer, now(rt)?, given.key, value, wanted)
 }
 
 /// Prints the value of a key.

@@ -1,11 +1,12 @@
 //! The commands that write.
-ghost use Rattle.std.specs.Prelude.{◌≡◌, ◌≢◌, ◌≤◌, ◌<◌, ◌⊎◌, length, string_len, filter, All, IfOk, IfErr, OnOk, true, false};
+ghost use Rattle.std.specs.Prelude.{◌≡◌, ◌≢◌, ◌≤◌, ◌<◌, ◌⊎◌, length, filter, All, IfOk, IfErr, OnOk, true, false};
 ghost use Rattle.key_order.specs.Text.{text_order};
 ghost use Rattle.key_order.specs.Map.{IsMap};
 ghost use Rattle.store_table.specs.Latest.{IsThere};
 ghost use Rattle.store_table.specs.Logs.{IsSteady, trees_of, Finds, Makes, Shows, Refuses, StaysInOk, StaysInErr, LeavesNoMore, Leaves};
+ghost use Rattle.store_table.specs.Values.{bytes_of};
 ghost use Rattle.mst_commands.specs.Faults.{IsAhead, IsTooLong};
-ghost use Rattle.mst_commands.specs.Writes.{is_met as says_it, IsMet, WritesBy, WritesIf};
+ghost use Rattle.mst_commands.specs.Writes.{is_met as says_it, is_text as is_same_text, IsMet, WritesBy, WritesIf};
 ghost use Rattle.mst_commands.specs.Malformed.{IsFailure};
 ghost use Rattle.mst_commands.specs.Imports.{IsDated, AreDated, HaveFutureTime, is_newer, AddsOf, Imports};
 
@@ -16,35 +17,35 @@ use mst_words::Wanted;
 use sqlite_trees::store::Store;
 use std::alloc::{AllocError, Global};
 use std::io::Read;
-use store_table::latest::{find, put, remove, text_of};
+use store_table::latest::{find, put, remove, value_of};
 use store_table::log::Log;
 use store_table::rows::{latest_rows, read_latest, register_in};
 use store_table::table::{Entries, add_all};
-use store_table::{Register, StoreFault};
+use store_table::{Register, StoreFault, Value};
 
 /// Refuses a key or a value of more than 1 MiB.
 ///
 /// # Errors
 ///
 /// [`Fault::TooLong`] with the word for what it is.
-pub fn within(text: &str, what: &'static str) -> Result<(), Fault>
-    ensures fits { OnOk result (length text.now ≤ MOST) }
-    ensures long { IfErr result (λ why. IsTooLong why × MOST < length text.now) }
+pub fn within(bytes: &[u8], what: &'static str) -> Result<(), Fault>
+    ensures fits { OnOk result (length bytes.now ≤ MOST) }
+    ensures long { IfErr result (λ why. IsTooLong why × MOST < length bytes.now) }
 {
-    if text.len() > MOST {
+    if bytes.len() > MOST {
         return Err(Fault::TooLong(what));
     }
     Ok(())
 }
 
-/// The text that an input has to its end.
+/// The bytes that an input has to its end, which are to be a value.
 ///
 /// # Errors
 ///
-/// [`Fault::NotText`], [`Fault::Device`], and [`Fault::Store`] when out of memory.
-pub fn read_text<R: Read + Drop>(alloc: Global, from: R) -> Result<String, Fault>
-    ensures fits { IfOk result (λ text. string_len text ≤ MOST) }
-    ensures faults { IfErr result (λ why. why ≢ Fault.NotText → ¬ IsTooLong why → IsFailure why) }
+/// [`Fault::TooLong`], [`Fault::Device`], and [`Fault::Store`] when out of memory.
+pub fn read_bytes<R: Read + Drop>(alloc: Global, from: R) -> Result<Vec<u8>, Fault>
+    ensures fits { IfOk result (λ bytes. length bytes.items ≤ MOST) }
+    ensures faults { IfErr result (λ why. ¬ IsTooLong why → IsFailure why) }
 {
     let mut bytes = Vec::new(alloc);
     let mut from = from.take(1_048_577);
@@ -54,10 +55,7 @@ pub fn read_text<R: Read + Drop>(alloc: Global, from: R) -> Result<String, Fault
     if bytes.len() > MOST {
         return Err(Fault::TooLong("the value"));
     }
-    match String::from_utf8(bytes) {
-        Ok(text) => Ok(text),
-        Err(_) => Err(Fault::NotText),
-    }
+    Ok(bytes)
 }
 
 /// Writes a value under a key.
@@ -65,40 +63,50 @@ pub fn read_text<R: Read + Drop>(alloc: Global, from: R) -> Result<String, Fault
 /// # Errors
 ///
 /// [`Fault::TooLong`], and [`Fault::Store`] where the store or memory fails. The file is then as it was.
-pub fn put_text<S: Store>(
+pub fn put_value<S: Store>(
     alloc: Global,
     log: &mut Log<S>,
     writer: &str,
     now: u64,
     key: &str,
-    text: String,
+    value: Value,
 ) -> Result<(), Fault>
-    ensures written { Makes S.Store log.old log.new result (WritesBy key.now writer.now now (Some text)) }
+    ensures written { Makes S.Store log.old log.new result (WritesBy key.now writer.now now (Some value)) }
     // A key or a value that is too long is refused, and nothing is written.
-    ensures fits { OnOk result (length key.now ≤ MOST × string_len text ≤ MOST) }
-    ensures long { IfErr result (λ why. IsTooLong why → MOST < length key.now ⊎ MOST < string_len text) }
+    ensures fits { OnOk result (length key.now ≤ MOST × length (bytes_of value) ≤ MOST) }
+    ensures long { IfErr result (λ why. IsTooLong why → MOST < length key.now ⊎ MOST < length (bytes_of value)) }
     ensures untouched { IfErr result (λ why. IsTooLong why → log.new ≡ log.old) }
     ensures refused { StaysInErr S.Store log.old log.new result }
     ensures steady { IsSteady S.Store log.old log.new }
     ensures faults { IfErr result (λ why. ¬ IsTooLong why → IsFailure why) }
     // A crash leaves what it could leave before, or trees with the write.
-    ensures crash { Leaves S.Store log.old log.new (WritesBy key.now writer.now now (Some text)) }
+    ensures crash { Leaves S.Store log.old log.new (WritesBy key.now writer.now now (Some value)) }
 {
-    within(key, "the key")?;
-    within(text.as_str(), "the value")?;
+    within(key.as_bytes(), "the key")?;
+    within(value.as_bytes(), "the value")?;
     let writer = String::from_str(alloc, writer)?;
-    put(alloc, log, writer, now, key, text)?;
+    put(alloc, log, writer, now, key, value)?;
     Ok(())
 }
 
+/// Whether a value is this text.
+fn is_text(value: &Value, text: &str) -> bool
+    ensures { result ≡ is_same_text text.now value.now }
+{
+    match value {
+        Value::Text(own) => own.as_str() == text,
+        Value::Bytes(_) => false,
+    }
+}
+
 /// Whether a key that says this is as a write wants it.
-fn is_met(wanted: Wanted<'_>, said: &Option<String>) -> bool
+fn is_met(wanted: Wanted<'_>, said: &Option<Value>) -> bool
     ensures { result ≡ says_it wanted.entry said.now }
 {
     match wanted {
         Wanted::Absence => said.is_none(),
         Wanted::Text(text) => match said {
-            Some(own) => own.as_str() == text,
+            Some(own) => is_text(own, text),
             None => false,
         },
     }
@@ -119,7 +127,7 @@ fn expect<S: Store>(
     ensures steady { IsSteady S.Store log.old log.new }
     ensures crash { LeavesNoMore S.Store log.old log.new }
 {
-    let said = text_of(find(alloc, log, key)?);
+    let said = value_of(find(alloc, log, key)?);
     if is_met(wanted, &said) {
         Ok(())
     } else {
@@ -127,29 +135,29 @@ fn expect<S: Store>(
     }
 }
 
-/// Writes a value under a key that is as wanted: not there, or with that text. It takes one look into the table more than [`put_text`].
+/// Writes a value under a key that is as wanted: not there, or with that text. It takes one look into the table more than [`put_value`].
 ///
 /// # Errors
 ///
-/// [`Fault::Unmet`] where the key isn't so, and those of [`put_text`]. The file is then as it was.
+/// [`Fault::Unmet`] where the key isn't so, and those of [`put_value`]. The file is then as it was.
 pub fn put_if<S: Store>(
     alloc: Global,
     log: &mut Log<S>,
     writer: &str,
     now: u64,
     key: &str,
-    text: String,
+    value: Value,
     wanted: Wanted<'_>,
 ) -> Result<(), Fault>
-    ensures written { Makes S.Store log.old log.new result (WritesIf wanted.entry key.now writer.now now (Some text)) }
+    ensures written { Makes S.Store log.old log.new result (WritesIf wanted.entry key.now writer.now now (Some value)) }
     ensures unmet { Refuses S.Store log.old log.new result Fault.Unmet (IsMet wanted.entry key.now false) }
     ensures refused { StaysInErr S.Store log.old log.new result }
     ensures faults { IfErr result (λ why. why ≢ Fault.Unmet → ¬ IsTooLong why → IsFailure why) }
     // A crash leaves what it could leave before, or trees with the write.
-    ensures crash { Leaves S.Store log.old log.new (WritesIf wanted.entry key.now writer.now now (Some text)) }
+    ensures crash { Leaves S.Store log.old log.new (WritesIf wanted.entry key.now writer.now now (Some value)) }
 {
     expect(alloc, log, key, wanted)?;
-    put_text(alloc, log, writer, now, key, text)
+    put_value(alloc, log, writer, now, key, value)
 }
 
 /// Removes a key.

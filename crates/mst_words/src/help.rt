@@ -4,10 +4,10 @@ use crate::verb::Verb;
 const PUT_HELP: &str = "\
 usage: mst put FILE KEY VALUE [--if-absent | --if-value OLD]
 
-Writes the text VALUE under KEY. The VALUE - is read from standard input, to its end; after -- it is the text -.
+Writes VALUE under KEY. The VALUE - is read from standard input, any bytes, to its end; after -- it is the text -.
 
   --if-absent     only if the key isn't there
-  --if-value OLD  only if the key has the value OLD
+  --if-value OLD  only if the key has the text OLD
                   Otherwise nothing is written, and the status is 1. Only this copy is asked: another one may have a later write
 ";
 
@@ -15,7 +15,8 @@ const LIST_HELP: &str = "\
 usage: mst list FILE [--from KEY] [--to KEY] [--prefix TEXT] [--limit N] [--json]
 
 Prints a line for each key, sorted by the bytes of the keys: KEY, tab, VALUE. A tab, a newline, a carriage return and a backslash are
-printed as \\t, \\n, \\r and \\\\. With --json each line is an object with the names key and value.
+printed as \\t, \\n, \\r and \\\\, and a value that isn't UTF-8 as \\base64: and its base64. With --json each line is an object with
+the names key and value, or value_base64 for a value that isn't UTF-8.
 
   --from KEY     from this key on
   --to KEY       up to this key, and including it
@@ -26,7 +27,8 @@ printed as \\t, \\n, \\r and \\\\. With --json each line is an object with the n
 const IMPORT_HELP: &str = "\
 usage: mst import FILE [--log [--allow-ahead]]
 
-Writes the records of the CSV on standard input, all or none. Its first line is key,value. The last record of a key counts.
+Writes the records of the CSV on standard input, all or none. Its first line is key,value. The last record of a key counts. Keys are
+UTF-8, values any bytes.
 With --log it takes the entries of an export with --log, each at its own time and by its own writer.
 
   --allow-ahead  with --log: also takes entries more than a day ahead of this clock
@@ -66,7 +68,8 @@ usage: mst diff FILE [--json] [--allow-ahead] [--max-entries N] [--max-bytes N]
 Prints on standard error the keys that a pull would bring, one a line, as list prints keys. It speaks with the peer over standard input
 and standard output, and brings nothing. mst-sync --diff prints the keys on standard output.
 
-  --json           each line is an object with the names key, time, writer and value, which is null for a removal
+  --json           each line is an object with the names key, time, writer and value or value_base64; value is null for
+                   a removal
   --allow-ahead    also takes entries more than a day ahead of this clock; without it they make mst diff fail
   --max-entries N  fails if the peer sends more than N entries; by default any number is taken
   --max-bytes N    fails if the peer sends more than N bytes, 64 GiB by default
@@ -113,9 +116,9 @@ const HISTORY_HELP: &str = "\
 usage: mst history FILE KEY [--json]
 
 Prints a line for each row of the key, the oldest first: TIME, tab, WRITER, tab, put, tab, VALUE; or TIME, tab, WRITER, tab, del.
-TIME is in milliseconds since 1970. Texts are printed as list prints them. compact leaves the last row alone.
+TIME is in milliseconds since 1970. Values are printed as list prints them. compact leaves the last row alone.
 
-  --json  each line is an object with the names time, writer and value, which is null for a removal
+  --json  each line is an object with the names time, writer and value or value_base64; value is null for a removal
 ";
 
 const STATUS_HELP: &str = "\

@@ -5,6 +5,7 @@ pub mod Compacting
 pub mod Grouping
 pub mod Inserting
 pub mod LastRow
+pub mod Marked
 pub mod OrderOfEntries
 pub mod Outcomes
 pub mod Reading

@@ -10,31 +10,40 @@ use Rattle.std.proofs.lemmas.Cmp.{on_total}
 use Rattle.std.proofs.lemmas.Bool.Decides.{nat_tests}
 use Rattle.key_order.specs.Map.{IsMap}
 use Rattle.key_order.specs.Text.{Text as Key, text_order}
-use Rattle.sqlite_value.specs.declared.value.Value.TheVariants.{Int, Text as Words}
+use Rattle.sqlite_value.specs.declared.value.Value.TheVariants.{Int, Text as Words, Blob}
 use Rattle.sqlite_value.specs.Order.{Row, value_cmp}
 use Rattle.sqlite_value.specs.Keys.{plain, entry_cmp}
 use Rattle.sqlite_value.proofs.KeyLemmas.{entry_cmp-plain, entry_cmp_total}
-use Rattle.sqlite_value.proofs.OrderLemmas.{value_cmp-Int, value_cmp-Text, value_cmp-apart, then-Equal}
+use Rattle.sqlite_value.proofs.OrderLemmas.{value_cmp-Int, value_cmp-Text, value_cmp-Blob, value_cmp-apart, then-Equal}
 use Rattle.sqlite_trees.specs.Tree.{IsAscending, IsIndex, insert_entry}
 use Rattle.sqlite_trees.proofs.ListLemmas.{all_weaker, ascending_weaker, ascending-map, ascending_from_map}
 use Rattle.store_table.specs.Entries.{value_of, entry_row, entry_order, with_rows}
+use Rattle.store_table.specs.Values.{value_order}
 use Rattle.store_table.specs.declared.register.Register.{Register}
+use Rattle.store_table.specs.declared.value.Value.{Value}
+use Rattle.store_table.specs.declared.value.Value.TheVariants.{Text, Bytes}
 use Rattle.store_table.proofs.Ascending.{ascending-middle}
 
 time_order : (m n : ℕ) → int_cmp (pos m) (pos n) ≡ nat_cmp m n
 time_order m n = grind (arith, nat_tests)
 
-value_order : (a b : Option Key) → value_cmp (value_of a) (value_of b) ≡ option_cmp text_order a b
-value_order None None = value_cmp-Int (pos 0) (pos 0)
-value_order None (Some t) = value_cmp-apart (Int (pos 0)) (Words (string_bytes t)) (λ same. omega (arith, same))
-value_order (Some s) None = value_cmp-apart (Words (string_bytes s)) (Int (pos 0)) (λ same. omega (arith, same))
-value_order (Some s) (Some t) = value_cmp-Text (string_bytes s) (string_bytes t)
+-- the cells of what is said are ordered as SQLite orders them
+cell_order : (a b : Option Value) → value_cmp (value_of a) (value_of b) ≡ option_cmp value_order a b
+cell_order None None = value_cmp-Int (pos 0) (pos 0)
+cell_order None (Some (Text t)) = value_cmp-apart (Int (pos 0)) (Words (string_bytes t)) (λ same. omega (arith, same))
+cell_order None (Some (Bytes t)) = value_cmp-apart (Int (pos 0)) (Blob t.items) (λ same. omega (arith, same))
+cell_order (Some (Text s)) None = value_cmp-apart (Words (string_bytes s)) (Int (pos 0)) (λ same. omega (arith, same))
+cell_order (Some (Bytes s)) None = value_cmp-apart (Blob s.items) (Int (pos 0)) (λ same. omega (arith, same))
+cell_order (Some (Text s)) (Some (Text t)) = value_cmp-Text (string_bytes s) (string_bytes t)
+cell_order (Some (Text s)) (Some (Bytes t)) = value_cmp-apart (Words (string_bytes s)) (Blob t.items) (λ same. omega (arith, same))
+cell_order (Some (Bytes s)) (Some (Text t)) = value_cmp-apart (Blob s.items) (Words (string_bytes t)) (λ same. omega (arith, same))
+cell_order (Some (Bytes s)) (Some (Bytes t)) = value_cmp-Blob s.items t.items
 
 -- the rows of two entries are ordered as the entries are
 pub row_order : (a b : Key × Register) → entry_cmp plain (entry_row a) (entry_row b) ≡ entry_order a b
 row_order a b = entry_cmp-plain (entry_row a) (entry_row b) ∙ ap₂ ordering_then (value_cmp-Text _ _)
     (ap₂ ordering_then (value_cmp-Int (pos a.1.time) (pos b.1.time) ∙ time_order a.1.time b.1.time)
-    (ap₂ ordering_then (value_cmp-Text _ _) (then-Equal _ ∙ value_order a.1.value b.1.value)))
+    (ap₂ ordering_then (value_cmp-Text _ _) (then-Equal _ ∙ cell_order a.1.value b.1.value)))
 
 -- the order of entries is total
 pub entry_order_total : IsTotalOrder entry_order

@@ -1,5 +1,5 @@
 -- Rows that are read one after the other, as entries or as none.
-use Rattle.std.proofs.Common.{◌≡◌, ◌⊎◌, ◌+◌, ℕ, List, [], ◌∷◌, ◌++◌, Option, Some, None, inl, inr, refl, sym, ap, ap₂, ◌∙◌, map, length, filter, filter_map, is_none, append-nil, arith}
+use Rattle.std.proofs.Common.{◌≡◌, ◌+◌, ℕ, List, [], ◌∷◌, ◌++◌, Option, Some, None, inl, inr, refl, sym, ap, ap₂, ◌∙◌, map, length, filter, filter_map, is_none, append-nil, arith}
 use Rattle.std.proofs.lemmas.List.{length-append}
 use Rattle.std.proofs.lemmas.List.Elements.{filter-append, filter_map-append}
 use Rattle.key_order.specs.Text.{Text as Key}
@@ -45,7 +45,7 @@ entries_of_all : (rows : List Row) (readings : List (Option (Key × Register))) 
 entries_of_all [] [] h none = refl
 entries_of_all [] (x ∷ xs) h none = absurd h
 entries_of_all (r ∷ rs) [] h none = absurd h
-entries_of_all (r ∷ rs) (Some e ∷ xs) h none = ap₂ (λ (row : Row) (rest : List Row). row ∷ rest) h.0 (entries_of_all rs xs h.1 none)
+entries_of_all (r ∷ rs) (Some e ∷ xs) h none = ap₂ (λ (row : Row) (rest : List Row). row ∷ rest) h.0.0 (entries_of_all rs xs h.1 none)
 entries_of_all (r ∷ rs) (None ∷ xs) h none = absurd (omega (arith, none))
 
 -- where no row is none, all rows are those of the entries

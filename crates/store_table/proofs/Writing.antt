@@ -3,11 +3,12 @@ use Rattle.std.proofs.Common.{◌≡◌, ◌⊎◌, inl, inr, ℕ, List, Option,
 use Rattle.key_order.specs.Text.{Text as Key}
 use Rattle.sqlite_trees.specs.declared.store.Store.{Ghosts}
 use Rattle.store_table.specs.declared.register.Register.{Register}
+use Rattle.store_table.specs.declared.value.Value.{Value}
 use Rattle.store_table.specs.Latest.{IsLatestAt, HasWriteOver, WritesOver}
 use Rattle.store_table.specs.Logs.{IsClean, IsSteady, Leaves, LeavesNoMore, trees_of}
 
 -- a crash in a write over what was found leaves the write over the latest register
-pub leaves_over : {S : Type 0} (g : Ghosts S) (old mid new : S) (key : List ℕ) (found : Option Register) (writer : Key) (now : ℕ) (value : Option Key)
+pub leaves_over : {S : Type 0} (g : Ghosts S) (old mid new : S) (key : List ℕ) (found : Option Register) (writer : Key) (now : ℕ) (value : Option Value)
     → (IsClean g mid → IsLatestAt (trees_of g old) key found) → (IsClean g mid → trees_of g mid ≡ trees_of g old)
     → IsSteady g old mid → LeavesNoMore g old mid → Leaves g mid new (HasWriteOver key found writer now value) → Leaves g old new (WritesOver key writer now value)
 leaves_over g old mid new key found writer now value latest same steady no_more leaves trees left = by (leaves trees left)

@@ -4,18 +4,21 @@ use Rattle.std.specs.declared.cmp.Ordering.{Ordering}
 use Rattle.std.specs.declared.cmp.Ordering.TheVariants.{Less}
 use Rattle.std.specs.Ordering.{ordering_then}
 use Rattle.key_order.specs.Text.{Text as Key, text_order}
-use Rattle.sqlite_value.specs.declared.value.Value.{Value}
+use Rattle.sqlite_value.specs.declared.value.Value.{Value as Cell}
 use Rattle.sqlite_value.specs.declared.value.Value.TheVariants.{Null, Int, Text as Words, Blob}
 use Rattle.sqlite_value.specs.Keys.{plain}
 use Rattle.sqlite_value.specs.Order.{Row, column}
 use Rattle.sqlite_trees.specs.Tree.{Trees, IsAscending, insert_entry}
 use Rattle.store_table.specs.Registers.{register_order}
 use Rattle.store_table.specs.declared.register.Register.{Register}
+use Rattle.store_table.specs.declared.value.Value.{Value}
+use Rattle.store_table.specs.declared.value.Value.TheVariants.{Text, Bytes}
 
--- a text, or 0 where the key was removed
-abbrev pub value_of : Option Key → Value
+-- a text, other bytes as a BLOB, or 0 where the key was removed
+abbrev pub value_of : Option Value → Cell
 value_of None = Int (pos 0)
-value_of (Some text) = Words (string_bytes text)
+value_of (Some (Text text)) = Words (string_bytes text)
+value_of (Some (Bytes bytes)) = Blob bytes.items
 
 -- an entry as a row: the bytes of the key, the time, the writer and the value
 abbrev pub entry_row_of : List ℕ → Register → Row

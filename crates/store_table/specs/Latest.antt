@@ -10,6 +10,7 @@ use Rattle.store_table.specs.Changes.{HasMore}
 use Rattle.store_table.specs.Entries.{entry_row_of}
 use Rattle.store_table.specs.Registers.{time_after}
 use Rattle.store_table.specs.declared.register.Register.{Register}
+use Rattle.store_table.specs.declared.value.Value.{Value}
 
 -- the rows of a key, which is the first column
 abbrev pub rows_of : List ℕ → List Row → List Row
@@ -23,28 +24,28 @@ IsLastRow trees key row found = last_or None (rows_of key (trees 0)) ≡ (if fou
 abbrev pub IsLatestAt : Trees → List ℕ → Option Register → Type 0
 IsLatestAt trees key found = last_or None (rows_of key (trees 0)) ≡ option_map (entry_row_of key) found
 
--- what a register says: a text, or none where there is no register or a removal
-abbrev pub text_of : Option Register → Option Key
-text_of found = option_and_then (λ r. r.value) found
+-- what a register says: a value, or none where there is no register or a removal
+abbrev pub said_by : Option Register → Option Value
+said_by found = option_and_then (λ r. r.value) found
 
--- whether the latest register of the key says a text
+-- whether the latest register of the key says a value
 abbrev pub IsThere : Trees → List ℕ → Bool → Type 0
-IsThere trees key there = (found : Option Register) × IsLatestAt trees key found × (there ≡ is_some (text_of found))
+IsThere trees key there = (found : Option Register) × IsLatestAt trees key found × (there ≡ is_some (said_by found))
 
 -- a write over the latest register of the key, at this time of the clock, has a time that the database can't hold
 abbrev pub IsWrittenLate : Trees → List ℕ → ℕ → Type 0
 IsWrittenLate trees key now = (found : Option Register) × IsLatestAt trees key found × (2 ^ 63 ≤ time_after found now)
 
 -- the row that a write over `found` adds: at the clock's time, or one above that of the register that was found
-abbrev pub written_row : List ℕ → Option Register → Key → ℕ → Option Key → Row
+abbrev pub written_row : List ℕ → Option Register → Key → ℕ → Option Value → Row
 written_row key found writer now value = entry_row_of key (record { time = time_after found now; writer = writer; value = value })
 
 -- the table has the row of a write over `found` too, and nothing else has changed
-abbrev pub HasWriteOver : List ℕ → Option Register → Key → ℕ → Option Key → Trees → Trees → Type 0
+abbrev pub HasWriteOver : List ℕ → Option Register → Key → ℕ → Option Value → Trees → Trees → Type 0
 HasWriteOver key found writer now value = HasMore (written_row key found writer now value ∷ [])
 
 -- one row is added to the table, and nothing else changes: a write of the value over the latest register of the key
-abbrev pub WritesOver : List ℕ → Key → ℕ → Option Key → Trees → Trees → Type 0
+abbrev pub WritesOver : List ℕ → Key → ℕ → Option Value → Trees → Trees → Type 0
 WritesOver key writer now value old new = (found : Option Register) × IsLatestAt old key found × HasWriteOver key found writer now value old new
 
 -- where the key was there, a removal is written over its latest register

@@ -11,5 +11,6 @@ pub mod Registers
 pub mod Rows
 pub mod Sifting
 pub mod Transactions
+pub mod Values
 pub mod Walks
 pub mod WireRegisters

@@ -1,10 +1,11 @@
 -- Registers that keep what was written last.
-use Rattle.std.specs.Prelude.{ℕ, ◌+◌, ◌^◌, ◌≤◌, max, IsSomeAnd, Any, List, string_bytes, Option, Some, None, option_map, option_and_then, Bool, true}
+use Rattle.std.specs.Prelude.{ℕ, ◌+◌, ◌^◌, ◌≤◌, max, IsSomeAnd, Any, List, Option, Some, None, option_map, option_and_then, Bool, true}
 use Rattle.std.specs.declared.cmp.Ordering.{Ordering}
 use Rattle.std.specs.Option.{option_cmp}
 use Rattle.std.specs.Ordering.{is_lt, nat_cmp, ordering_then}
 use Rattle.key_order.specs.Text.{Text, text_order}
 use Rattle.key_order.specs.Map.{get}
+use Rattle.store_table.specs.Values.{bytes_of, value_order}
 use Rattle.store_table.specs.declared.register.Register.{Register}
 
 -- the time of a write over a register: the clock's, or one more than the register's, whichever is later
@@ -24,13 +25,13 @@ HasLastTimeAt rows key = HasLastTime (get text_order rows key)
 abbrev pub HaveLateTime : List (Text × Register) → Type 0
 HaveLateTime entries = Any (λ entry. 2 ^ 63 ≤ entry.1.time) entries
 
--- the text of a key, where it is there and not removed
-abbrev pub text_at : List (Text × Register) → Text → Option (List ℕ)
-text_at rows key = option_and_then (λ r. option_map (λ t. string_bytes t) r.value) (get text_order rows key)
+-- the bytes of a key's value, where it is there and not removed
+abbrev pub bytes_at : List (Text × Register) → Text → Option (List ℕ)
+bytes_at rows key = option_and_then (λ r. option_map bytes_of r.value) (get text_order rows key)
 
 -- by the time, then by the writer, then by the value, of which a removal is the least
 abbrev pub register_order : Register → Register → Ordering
-register_order a b = ordering_then (nat_cmp a.time b.time) (ordering_then (text_order a.writer b.writer) (option_cmp text_order a.value b.value))
+register_order a b = ordering_then (nat_cmp a.time b.time) (ordering_then (text_order a.writer b.writer) (option_cmp value_order a.value b.value))
 
 -- whether a register is later than what the key has
 abbrev pub is_later : Option Register → Register → Bool

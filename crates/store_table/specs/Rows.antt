@@ -29,9 +29,9 @@ HasLateRow trees = (rows : List (Key × Register)) × HasLatestRows trees rows �
 abbrev pub same_key : Key × Register → Key × Register → Bool
 same_key a b = pointwise nat_eq (string_bytes a.0) (string_bytes b.0)
 
--- whether a row says a text
-abbrev pub says_text : Key × Register → Bool
-says_text row = is_some row.1.value
+-- whether a row says a value
+abbrev pub says_value : Key × Register → Bool
+says_value row = is_some row.1.value
 
 -- whether a row is a removal
 abbrev pub is_removal : Key × Register → Bool
@@ -41,7 +41,7 @@ is_removal row = is_none row.1.value
 abbrev pub last_time : List (Key × Register) → ℕ
 last_time rows = fold (λ last (row : Key × Register). max last row.1.time) 0 rows
 
--- whether a row stays in a compaction: it says a text, or is a removal that is no older than this time
+-- whether a row stays in a compaction: it says a value, or is a removal that is no older than this time
 abbrev pub stays : ℕ → Key × Register → Bool
 stays before row = is_some row.1.value || nat_le before row.1.time
 

@@ -2,24 +2,30 @@
 use Rattle.std.specs.Prelude.{◌≡◌, ◌≢◌, ◌⊎◌, ◌+◌, ⊤, ℕ, List, [], ◌∷◌, ◌++◌, Option, Some, None, IfSome, IsUtf8, filter, filter_map, is_none, length, string_bytes}
 use Rattle.key_order.specs.Text.{Text as Key}
 use Rattle.sqlite_value.specs.Order.{Row}
-use Rattle.sqlite_value.specs.declared.value.Value.{Value}
-use Rattle.sqlite_value.specs.declared.value.Value.TheVariants.{Int, Text as Words}
+use Rattle.sqlite_value.specs.declared.value.Value.{Value as Cell}
+use Rattle.sqlite_value.specs.declared.value.Value.TheVariants.{Text as Words}
 use Rattle.store_table.specs.Entries.{entry_row, value_of}
+use Rattle.store_table.specs.Values.{IsFormed}
 use Rattle.store_table.specs.declared.register.Register.{Register}
+use Rattle.store_table.specs.declared.value.Value.{Value}
 
--- the key, the writer and the value of an entry are texts
+-- the key and the writer of an entry are texts, and its value has its one form
 pub record HasTexts (entry : Key × Register) : Type 0 where
   pub key : IsUtf8 (string_bytes entry.0)
   pub writer : IsUtf8 (string_bytes entry.1.writer)
-  pub value : IfSome entry.1.value (λ text. IsUtf8 (string_bytes text))
+  pub value : IfSome entry.1.value IsFormed
 
 -- a row is that of no entry
 abbrev pub IsNoEntry : Row → Type 0
 IsNoEntry row = (entry : Key × Register) → HasTexts entry → row ≢ entry_row entry
 
+-- this entry, whose value has its one form, is that of a row
+abbrev pub IsEntryOf : Row → Key × Register → Type 0
+IsEntryOf row entry = (row ≡ entry_row entry) × IfSome entry.1.value IsFormed
+
 -- a row is read as its entry, or as none
 abbrev pub IsReadAs : Row → Option (Key × Register) → Type 0
-IsReadAs row (Some entry) = row ≡ entry_row entry
+IsReadAs row (Some entry) = IsEntryOf row entry
 IsReadAs row None = IsNoEntry row
 
 -- each of the rows is read so
@@ -39,12 +45,12 @@ pub record AreSifted (rows : List Row) (entries : List (Key × Register)) (bad :
 -- a row more is an entry more, or is no entry
 abbrev pub TakesIn : Row → List (Key × Register) → ℕ → List (Key × Register) → ℕ → Type 0
 TakesIn row entries bad more others =
-    ((entry : Key × Register) × (row ≡ entry_row entry) × (more ≡ entries ++ entry ∷ []) × (others ≡ bad)) ⊎ (IsNoEntry row × (more ≡ entries) × (others ≡ bad + 1))
+    ((entry : Key × Register) × IsEntryOf row entry × (more ≡ entries ++ entry ∷ []) × (others ≡ bad)) ⊎ (IsNoEntry row × (more ≡ entries) × (others ≡ bad + 1))
 
--- a value is no text
-abbrev pub IsNoText : Value → Type 0
-IsNoText value = (text : List ℕ) → IsUtf8 text → value ≢ Words text
+-- a cell is no text
+abbrev pub IsNoText : Cell → Type 0
+IsNoText cell = (text : List ℕ) → IsUtf8 text → cell ≢ Words text
 
--- a value is neither a text nor what stands for a removal
-abbrev pub IsNoValue : Value → Type 0
-IsNoValue value = (said : Option Key) → IfSome said (λ text. IsUtf8 (string_bytes text)) → value ≢ value_of said
+-- a cell is neither that of a value in its one form nor what stands for a removal
+abbrev pub IsNoValue : Cell → Type 0
+IsNoValue cell = (said : Option Value) → IfSome said IsFormed → cell ≢ value_of said

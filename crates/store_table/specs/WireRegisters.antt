@@ -1,13 +1,17 @@
 -- Registers as bytes that go over a wire: the bytes of the triple of time, writer and value.
-use Rattle.std.specs.Prelude.{◌≡◌, ℕ, ◌<◌, ◌≤◌, ◌^◌, Bool, true, ◌&&◌, nat_eq, List, ◌++◌, length, string_bytes}
+use Rattle.std.specs.Prelude.{◌≡◌, ℕ, ◌<◌, ◌≤◌, ◌^◌, Bool, true, ◌&&◌, nat_eq, List, [], ◌∷◌, ◌++◌, length, string_bytes, Option, Some, None, IfSome}
 use Rattle.std.specs.Option.{option_eq}
 use Rattle.std.specs.Cmp.Lexicographic.{pointwise}
+use Rattle.std.proofs.Common.{refl, sym, ap₂, arith}
+use Rattle.std.proofs.lemmas.Bool.{eq-eqb}
 use Rattle.key_order.specs.Text.{Text}
 use Rattle.merkle_bytes.specs.Counts.{count_bytes, count_some}
 use Rattle.merkle_bytes.specs.Encodings.{string_encoding}
-use Rattle.merkle_bytes.specs.Options.{option_bytes, IsOption, option_told}
 use Rattle.merkle_bytes.specs.Telling.{text_told, number_told, pair_some, pair_told}
+use Rattle.store_table.specs.Values.{bytes_of, mark_of, value_eq, IsFormed}
 use Rattle.store_table.specs.declared.register.Register.{Register}
+use Rattle.store_table.specs.declared.value.Value.{Value}
+use Rattle.store_table.specs.declared.value.Value.TheVariants as form
 
 abbrev text_bytes : Text → List ℕ
 text_bytes text = string_encoding (string_bytes text)
@@ -15,17 +19,30 @@ text_bytes text = string_encoding (string_bytes text)
 abbrev text_eq : Text → Text → Bool
 text_eq a b = pointwise nat_eq (string_bytes a) (string_bytes b)
 
--- the writer, and a byte 0, or a byte 1 and the text
-abbrev said_bytes : Register → List ℕ
-said_bytes r = text_bytes r.writer ++ option_bytes text_bytes r.value
+-- a byte 0 of a removal, or the mark of the value's kind and its bytes, as many as there are
+abbrev pub said_encoding : Option Value → List ℕ
+said_encoding None = 0 ∷ []
+said_encoding (Some value) = mark_of value ∷ string_encoding (bytes_of value)
 
--- the time, and what is said
+-- a removal, or a value in its one form
+abbrev pub IsSaid : Option Value → Type 0
+IsSaid said = IfSome said IsFormed
+
+-- the writer, and what is said
+abbrev said_bytes : Register → List ℕ
+said_bytes r = text_bytes r.writer ++ said_encoding r.value
+
+-- the time, the writer and what is said
 abbrev pub register_encoding : Register → List ℕ
 register_encoding r = count_bytes r.time ++ said_bytes r
 
--- its time is a number of 64 bits, and its texts are texts that a wire can bring
+-- its time is a number of 64 bits, its writer is a text that a wire can bring, and its value has its one form
 abbrev pub IsRegister : (Text → Type 0) → Register → Type 0
-IsRegister is_text r = (r.time < 2 ^ 64) × (is_text r.writer × IsOption is_text r.value)
+IsRegister is_text r = (r.time < 2 ^ 64) × (is_text r.writer × IsSaid r.value)
+
+pub said_some : (said : Option Value) → 1 ≤ length (said_encoding said)
+said_some None = omega arith
+said_some (Some value) = omega arith
 
 pub register_some : (r : Register) → 1 ≤ length (register_encoding r)
 register_some r = pair_some (count_bytes r.time) (said_bytes r) (count_some r.time)
@@ -33,14 +50,35 @@ register_some r = pair_some (count_bytes r.time) (said_bytes r) (count_some r.ti
 one_text_told : (a b : Text) (r s : List ℕ) → text_bytes a ++ r ≡ text_bytes b ++ s → (text_eq a b ≡ true) × (r ≡ s)
 one_text_told a b r s e = text_told (string_bytes a) (string_bytes b) r s e
 
+-- a mark is no 0
+no_mark : (value : Value) (xs ys : List ℕ) → 0 ∷ xs ≡ mark_of value ∷ ys → ⊥
+no_mark (form.Text text) xs ys e = let k = e in cc
+no_mark (form.Bytes bytes) xs ys e = let k = e in cc
+
+value_told : (a b : Value) (r s : List ℕ) → mark_of a ∷ (string_encoding (bytes_of a) ++ r) ≡ mark_of b ∷ (string_encoding (bytes_of b) ++ s) → (value_eq a b ≡ true) × (r ≡ s)
+value_told a b r s e =
+    let kind : mark_of a ≡ mark_of b = cc in
+    let rest : string_encoding (bytes_of a) ++ r ≡ string_encoding (bytes_of b) ++ s = cc in
+    let told = text_told (bytes_of a) (bytes_of b) r s rest in
+    (ap₂ (λ x y. x && y) (eq-eqb (mark_of a) (mark_of b) kind) told.0, told.1)
+
+-- bytes that begin with those of what is said tell it, and where it ends
+pub said_told : (a b : Option Value) (r s : List ℕ) → said_encoding a ++ r ≡ said_encoding b ++ s → (option_eq value_eq a b ≡ true) × (r ≡ s)
+said_told None None r s e =
+    let flat : 0 ∷ r ≡ 0 ∷ s = e in
+    (refl, cc)
+said_told None (Some b) r s e = absurd (no_mark b r (string_encoding (bytes_of b) ++ s) e)
+said_told (Some a) None r s e = absurd (no_mark a s (string_encoding (bytes_of a) ++ r) (sym e))
+said_told (Some a) (Some b) r s e = value_told a b r s e
+
 -- bytes that begin with those of a register tell it, and where it ends
 pub register_told : (a b : Register) (r s : List ℕ) → register_encoding a ++ r ≡ register_encoding b ++ s
-    → (nat_eq a.time b.time && (text_eq a.writer b.writer && option_eq text_eq a.value b.value) ≡ true) × (r ≡ s)
+    → (nat_eq a.time b.time && (text_eq a.writer b.writer && option_eq value_eq a.value b.value) ≡ true) × (r ≡ s)
 register_told a b r s =
-    let value_a = option_bytes text_bytes a.value in
-    let value_b = option_bytes text_bytes b.value in
-    pair_told (count_bytes a.time) (said_bytes a) (count_bytes b.time) (said_bytes b) r s (nat_eq a.time b.time) (text_eq a.writer b.writer && option_eq text_eq a.value b.value)
+    let value_a = said_encoding a.value in
+    let value_b = said_encoding b.value in
+    pair_told (count_bytes a.time) (said_bytes a) (count_bytes b.time) (said_bytes b) r s (nat_eq a.time b.time) (text_eq a.writer b.writer && option_eq value_eq a.value b.value)
     (number_told a.time b.time (said_bytes a ++ r) (said_bytes b ++ s))
-    (pair_told (text_bytes a.writer) value_a (text_bytes b.writer) value_b r s (text_eq a.writer b.writer) (option_eq text_eq a.value b.value)
+    (pair_told (text_bytes a.writer) value_a (text_bytes b.writer) value_b r s (text_eq a.writer b.writer) (option_eq value_eq a.value b.value)
     (one_text_told a.writer b.writer (value_a ++ r) (value_b ++ s))
-    (option_told text_bytes text_eq one_text_told a.value b.value r s))
+    (said_told a.value b.value r s))

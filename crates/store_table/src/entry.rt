@@ -1,13 +1,15 @@
 //! Entries as rows of the table.
-ghost use Rattle.std.specs.Prelude.{◌≡◌, ◌≢◌, ◌≤◌, ◌^◌, ◌++◌, ◌∷◌, [], ℕ, pos, string_bytes, IfOk, IfErr, OnOk, IsErrOf};
+ghost use Rattle.std.specs.Prelude.{◌≡◌, ◌≢◌, ◌≤◌, ◌^◌, ◌++◌, ◌∷◌, [], ℕ, pos, string_bytes, IfOk, IfErr, IfSome, OnOk, IsErrOf, IsUtf8};
 ghost use Rattle.sqlite_value.specs.Value.{owned};
 ghost use Rattle.sqlite_value.specs.declared.value.Value.TheVariants.{Int, Text};
 ghost use Rattle.store_table.specs.Entries.{entry_row, entry_row_of, value_of};
 ghost use Rattle.store_table.specs.Faults.{IsFailure, IsUnwritten};
 ghost use Rattle.store_table.specs.Sifting.{IsNoEntry, IsNoText, IsNoValue};
+ghost use Rattle.store_table.specs.Values.{IsFormed};
 
 use crate::fault::StoreFault;
 use crate::register::Register;
+use crate::value::Value;
 use sqlite_value::row::Row;
 use sqlite_value::value::ValueRef;
 use std::alloc::Global;
@@ -26,12 +28,13 @@ fn stored_time(register: &Register) -> Result<i64, StoreFault>
     }
 }
 
-/// The text, or 0 for a removal.
-fn stored_value(value: &Option<String>) -> ValueRef<'_>
+/// A text, other bytes as a BLOB, or 0 for a removal.
+fn stored_value(value: &Option<Value>) -> ValueRef<'_>
     ensures { owned result ≡ value_of value.now }
 {
     match value {
-        Some(text) => ValueRef::Text(text.as_bytes()),
+        Some(Value::Text(text)) => ValueRef::Text(text.as_bytes()),
+        Some(Value::Bytes(bytes)) => ValueRef::Blob(bytes.as_slice()),
         None => ValueRef::Int(0),
     }
 }
@@ -81,21 +84,38 @@ fn time_in(value: ValueRef<'_>) -> Result<u64, StoreFault>
     }
 }
 
-/// A text, or that the key was removed.
-fn value_in(alloc: Global, value: ValueRef<'_>) -> Result<Option<String>, StoreFault>
+/// Bytes that aren't UTF-8, in memory of their own.
+fn bytes_in(alloc: Global, bytes: &[u8]) -> Result<Vec<u8>, StoreFault>
+    ensures bytes { IfOk result (λ own. own.items ≡ bytes.now) }
+    ensures other { OnOk result (¬ (IsUtf8 bytes.now)) }
+    ensures text { IsErrOf result StoreFault.Malformed → IsUtf8 bytes.now }
+    ensures failed { IfErr result IsFailure }
+{
+    match str::from_utf8(bytes) {
+        Ok(_) => Err(StoreFault::Malformed),
+        Err(_) => Ok(Vec::from_slice(alloc, bytes)?),
+    }
+}
+
+/// A value, or that the key was removed. A BLOB in UTF-8 is neither: as a value it would be a text.
+fn value_in(alloc: Global, value: ValueRef<'_>) -> Result<Option<Value>, StoreFault>
     ensures value { IfOk result (λ said. owned value.entry ≡ value_of said) }
+    ensures formed { IfOk result (λ said. IfSome said IsFormed) }
     ensures none { IsErrOf result StoreFault.Malformed → IsNoValue (owned value.entry) }
     ensures failed { IfErr result IsFailure }
 {
     match value {
         ValueRef::Int(0) => Ok(None),
-        other => Ok(Some(text_in(alloc, other)?)),
+        ValueRef::Text(_) => Ok(Some(Value::Text(text_in(alloc, value)?))),
+        ValueRef::Blob(bytes) => Ok(Some(Value::Bytes(bytes_in(alloc, bytes)?))),
+        _ => Err(StoreFault::Malformed),
     }
 }
 
 /// The entry of a row, in memory of its own.
 pub(crate) fn entry_of(alloc: Global, row: &Row) -> Result<(String, Register), StoreFault>
     ensures entry { IfOk result (λ entry. row.now ≡ entry_row entry) }
+    ensures formed { IfOk result (λ entry. IfSome entry.1.value IsFormed) }
     ensures none { IsErrOf result StoreFault.Malformed → IsNoEntry row.now }
     ensures failed { IfErr result IsFailure }
 {

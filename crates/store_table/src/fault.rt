@@ -5,7 +5,7 @@ use sqlite_trees::error::StoreError;
 use std::alloc::AllocError;
 use std::fmt;
 
-/// Why a call on a store failed. But for [`Behind`](StoreFault::Behind), the store is then as it was.
+/// Why a call on a store failed. The store is then as it was.
 #[derive(Debug, Drop)]
 pub enum StoreFault {
     /// The database failed.
@@ -20,10 +20,6 @@ pub enum StoreFault {
     Format(i64),
     /// No later time is left for the key.
     Time,
-    /// A peer sent an entry whose time is too far ahead of the clock: nothing was joined.
-    Future,
-    /// The file has the change, and memory ran out for the rows in memory: the store is to be opened again.
-    Behind,
 }
 
 impl From<StoreError> for StoreFault {
@@ -65,10 +61,6 @@ impl fmt::Display for StoreFault {
             StoreFault::Time => f.write_str(
                 "the key has the last possible time: it can't be overwritten or removed",
             ),
-            StoreFault::Future => f.write_str(
-                "the peer sent an entry more than a day ahead of the clock: nothing was joined",
-            ),
-            StoreFault::Behind => f.write_str("the change is in the file, but memory ran out"),
         }
     }
 }

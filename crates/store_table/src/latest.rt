@@ -4,7 +4,7 @@ ghost use Rattle.std.specs.Ordering.{is_eq};
 ghost use Rattle.sqlite_value.specs.Order.{column, value_cmp};
 ghost use Rattle.sqlite_value.specs.declared.value.Value.TheVariants.{Text as Words};
 ghost use Rattle.store_table.specs.Faults.{IsFailure, IsUnwritten};
-ghost use Rattle.store_table.specs.Latest.{text_of as said_by, IsLastRow, IsLatestAt, IsThere, IsWrittenLate, HasWriteOver, WritesOver, Removes};
+ghost use Rattle.store_table.specs.Latest.{said_by, IsLastRow, IsLatestAt, IsThere, IsWrittenLate, HasWriteOver, WritesOver, Removes};
 ghost use Rattle.store_table.specs.Logs.{IsLog, IsSteady, Finds, Makes, MakesAndFinds, Refuses, StaysInOk, StaysInErr, Leaves, LeavesNoMore};
 ghost use Rattle.store_table.specs.Registers.{time_after, HasLastTime};
 ghost use Rattle.store_table.specs.Transactions.{CommitsNothing};
@@ -15,6 +15,7 @@ use crate::fault::StoreFault;
 use crate::log::{Log, settled};
 use crate::register::Register;
 use crate::table;
+use crate::value::Value;
 use crate::walk::look;
 use sqlite_trees::store::{Direction, Store};
 use sqlite_value::order::compare;
@@ -75,7 +76,7 @@ fn last_register<S: Store>(
 ///
 /// ```rust crates/mst_commands/src/reading.rt
 /// let found = latest::find(alloc, log, key)?;
-/// Ok(latest::text_of(found))
+/// Ok(latest::value_of(found))
 /// ```
 ///
 /// # Errors
@@ -97,8 +98,8 @@ pub fn find<S: Store>(
     settled(&mut log.trees, found)
 }
 
-/// What a register says: a text, or none where there is no register or a removal.
-pub fn text_of(found: Option<Register>) -> Option<String>
+/// What a register says: a value, or none where there is no register or a removal.
+pub fn value_of(found: Option<Register>) -> Option<Value>
     ensures { result ≡ said_by found }
 {
     match found {
@@ -125,7 +126,7 @@ pub fn later_time(found: &Option<Register>, now: u64) -> Result<u64, StoreFault>
     }
 }
 
-/// Writes a text under a key, or that the key is removed, over what `found` says of the key.
+/// Writes a value under a key, or that the key is removed, over what `found` says of the key.
 fn write_over<S: Store>(
     alloc: Global,
     log: &mut Log<S>,
@@ -133,7 +134,7 @@ fn write_over<S: Store>(
     now: u64,
     key: &str,
     found: &Option<Register>,
-    value: Option<String>,
+    value: Option<Value>,
 ) -> Result<(), StoreFault>
     ensures written { Makes S.Store log.old log.new result (HasWriteOver key.now found.now writer now value) }
     ensures late { IsErrOf result StoreFault.Time → 2 ^ 63 ≤ time_after found.now now }
@@ -151,11 +152,11 @@ fn write_over<S: Store>(
     table::add(alloc, log, key, &register)
 }
 
-/// Writes a text under a key, at the clock's time, or one above the time of what is there.
+/// Writes a value under a key, at the clock's time, or one above the time of what is there.
 ///
 /// ```rust crates/mst_commands/src/writing.rt
 /// let writer = String::from_str(alloc, writer)?;
-/// put(alloc, log, writer, now, key, text)?;
+/// put(alloc, log, writer, now, key, value)?;
 /// ```
 ///
 /// # Errors
@@ -168,22 +169,22 @@ pub fn put<S: Store>(
     writer: String,
     now: u64,
     key: &str,
-    text: String,
+    value: Value,
 ) -> Result<(), StoreFault>
-    ensures written { Makes S.Store log.old log.new result (WritesOver key.now writer now (Some text)) }
+    ensures written { Makes S.Store log.old log.new result (WritesOver key.now writer now (Some value)) }
     ensures late { Refuses S.Store log.old log.new result StoreFault.Time (λ trees. IsWrittenLate trees key.now now) }
     ensures faults { IfErr result IsUnwritten }
     ensures refused { StaysInErr S.Store log.old log.new result }
     ensures steady { IsSteady S.Store log.old log.new }
     // A crash leaves what it could leave before, or trees with the write.
-    ensures crash { Leaves S.Store log.old log.new (WritesOver key.now writer now (Some text)) }
+    ensures crash { Leaves S.Store log.old log.new (WritesOver key.now writer now (Some value)) }
 {
     let found = find(alloc, log, key)?;
-    write_over(alloc, log, writer, now, key, &found, Some(text))
+    write_over(alloc, log, writer, now, key, &found, Some(value))
 }
 
-/// Whether a register says a text.
-fn has_text(found: &Option<Register>) -> bool
+/// Whether a register says a value.
+fn has_value(found: &Option<Register>) -> bool
     ensures { result ≡ is_some (said_by found.now) }
 {
     match found {
@@ -221,7 +222,7 @@ pub fn remove<S: Store>(
     ensures was { Finds S.Store log.old log.new result (λ trees was. IsThere trees key.now was) }
 {
     let found = find(alloc, log, key)?;
-    if !has_text(&found) {
+    if !has_value(&found) {
         return Ok(false);
     }
     write_over(alloc, log, writer, now, key, &found, None)?;

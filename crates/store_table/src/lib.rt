@@ -12,7 +12,9 @@ mod registers;
 pub mod rows;
 pub mod sifting;
 pub mod table;
+pub mod value;
 mod walk;
 
 pub use fault::StoreFault;
 pub use register::Register;
+pub use value::Value;

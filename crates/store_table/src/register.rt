@@ -1,9 +1,10 @@
 //! Registers of which the last writer wins, with removals that reach the peers too.
 ghost use Rattle.std.specs.Prelude.{◌≡◌, IfOk, true};
 
+use crate::value::Value;
 use std::alloc::AllocError;
 
-/// What was written last under a key: at this time, by this writer, this text, or `None` where the key was removed. Of two registers the
+/// What was written last under a key: at this time, by this writer, this value, or `None` where the key was removed. Of two registers the
 /// one with the greater time is the later; at one time that of the greater writer, and of one writer the greater value, where a removal
 /// is the least. So copies never disagree on which is the later.
 #[derive(Clone, Debug, PartialEq, Eq, PartialOrd, Ord, Drop)]
@@ -12,8 +13,8 @@ pub struct Register {
     pub time: u64,
     /// The name of the copy that wrote it.
     pub writer: String,
-    /// The text, or `None` where the key was removed.
-    pub value: Option<String>,
+    /// The value, or `None` where the key was removed.
+    pub value: Option<Value>,
 }
 
 impl Register {

@@ -6,6 +6,6 @@ use Rattle.mst_commands.proofs.reading.count.Goals as goal
 pub returns-clause-written : goal.returns-clause-written
 returns-clause-written g c clean =
     let (rows, latest, numbers) = c.in_ok-summary.ensures.numbers clean in
-    let text = c.as_str.ensures.value ∙ c.in_ok-text.ensures.ok ∙ ap decimal numbers.keys in
-    on_ok c.write_text.result _ _ (λ wrote. (rows, latest, subst (λ bytes. Appends (g.W.Write.contents c.args.out.now) (g.W.Write.contents c.write_text.new.out) (bytes ++ 10 ∷ [])) text wrote))
-    c.write_text.ensures.bytes
+    let text = c.as_bytes.ensures.value ∙ c.in_ok-text.ensures.ok ∙ ap decimal numbers.keys in
+    on_ok c.write_ended.result _ _ (λ wrote. (rows, latest, subst (λ bytes. Appends (g.W.Write.contents c.args.out.now) (g.W.Write.contents c.write_ended.new.out) (bytes ++ 10 ∷ [])) text wrote))
+    c.write_ended.ensures.bytes

@@ -1,13 +1,17 @@
 use Rattle.std.proofs.Common.{string_bytes, refl, sym, arith}
 use Rattle.std.proofs.lemmas.Result.{err_from_is_err_and}
 use Rattle.csv.specs.Records.{fields_of}
+use Rattle.store_table.specs.Values.{bytes_of}
 use Rattle.mst_commands.proofs.CsvLemmas.{two_fields}
-use Rattle.mst_commands.proofs.MalformedLemmas.{ends-for, long-key, long-text}
+use Rattle.mst_commands.proofs.MalformedLemmas.{ends-for, no-key, long-text}
 use Rattle.mst_commands.proofs.records.entry_of.Goals as goal
 
 pub returns-clause-says : goal.returns-clause-says
 returns-clause-says c = record {
-  fields = two_fields (fields_of c.args.row.now) (string_bytes c.in_ok-key.key) (string_bytes c.in_ok-text.text) (omega arith) (sym c.in_ok-key.ensures.text) (sym c.in_ok-text.ensures.text);
+  fields = (
+    two_fields (fields_of c.args.row.now) (string_bytes c.in_ok-key.key) (bytes_of c.in_ok-value.value) (omega arith) (sym c.in_ok-key.ensures.text) (sym c.in_ok-value.ensures.value.same),
+    c.in_ok-value.ensures.value.formed,
+  );
   time = refl;
   writer = c.new-writer.ensures.bytes;
 }
@@ -15,9 +19,9 @@ returns-clause-says c = record {
 pub returns-in_err-key-clause-none : goal.returns-in_err-key-clause-none
 returns-in_err-key-clause-none c =
     let p = err_from_is_err_and c.from_residual.result c.from_residual.ensures.1 in
-    rw (p.1, p.2) (ends-for c.in_err-key.field-0.0 (λ no. no) (long-key (fields_of c.args.row.now)) c.in_err-key.ensures.long)
+    rw (p.1, p.2) (ends-for c.in_err-key.field-0.0 (λ no. no) (no-key (fields_of c.args.row.now)) c.in_err-key.ensures.none)
 
-pub returns-in_err-text-clause-none : goal.returns-in_err-text-clause-none
-returns-in_err-text-clause-none c =
-    let p = err_from_is_err_and c.from_residual-in_err-text.result c.from_residual-in_err-text.ensures.1 in
-    rw (p.1, p.2) (ends-for c.in_err-text.field-0.0 (λ no. no) (long-text (fields_of c.args.row.now)) c.in_err-text.ensures.long)
+pub returns-in_err-value-clause-none : goal.returns-in_err-value-clause-none
+returns-in_err-value-clause-none c =
+    let p = err_from_is_err_and c.from_residual-in_err-value.result c.from_residual-in_err-value.ensures.1 in
+    rw (p.1, p.2) (ends-for c.in_err-value.field-0.0 (λ no. no) (long-text (fields_of c.args.row.now)) c.in_err-value.ensures.long)

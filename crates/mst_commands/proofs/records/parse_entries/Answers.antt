@@ -58,10 +58,8 @@ returns-then-not-branch-2-clause-read g c =
 
 pub returns-in_err-read_next-clause-refused : goal.returns-in_err-read_next-clause-refused
 returns-in_err-read_next-clause-refused g c =
-    let text = g.R.Read.remaining c.args.from in
     let p = err_from_is_err_and c.from_residual.result c.from_residual.ensures.1 in
-    rw (p.1, p.2) (ends-for c.in_err-read_next.field-0.0 (λ no. absurd no) (if-known text (λ bytes no. ([], inl no)))
-    (c.in_err-read_next.ensures.no_text text [] c.reader_of-reader.ensures))
+    rw (p.1, p.2) (ends-for c.in_err-read_next.field-0.0 (λ no. absurd no) (λ no. absurd no) c.in_err-read_next.ensures.faults)
 
 pub returns-in_err-expect_header-clause-refused : goal.returns-in_err-expect_header-clause-refused
 returns-in_err-expect_header-clause-refused g c =
@@ -74,11 +72,8 @@ returns-in_err-expect_header-clause-refused g c =
 
 pub returns-in_err-read_next-2-clause-refused : goal.returns-in_err-read_next-2-clause-refused
 returns-in_err-read_next-2-clause-refused g c =
-    let (records, had, said, count) = c.records.invariant in
-    let text = g.R.Read.remaining c.args.from in
-    let all = header c.args.is_log ∷ records in
     let p = err_from_is_err_and c.from_residual-in_err-read_next-2.result c.from_residual-in_err-read_next-2.ensures.1 in
-    rw (p.1, p.2) (ends-for c.in_err-read_next-2.field-0.0 (λ no. absurd no) (if-known text (λ bytes no. (all, inl no))) (c.in_err-read_next-2.ensures.no_text text all had))
+    rw (p.1, p.2) (ends-for c.in_err-read_next-2.field-0.0 (λ no. absurd no) (λ no. absurd no) c.in_err-read_next-2.ensures.faults)
 
 pub returns-in_err-entry-clause-refused : goal.returns-in_err-entry-clause-refused
 returns-in_err-entry-clause-refused g c =
@@ -89,4 +84,4 @@ returns-in_err-entry-clause-refused g c =
     let p = err_from_is_err_and c.from_residual-in_err-entry.result c.from_residual-in_err-entry.ensures.1 in
     let one = found_one c.in_ok-read_next-2.field-0 _ _ c.if-not-branch-2.false (c.in_ok-read_next-2.ensures.read text all had) in
     rw (p.1, p.2) (ends-for c.in_err-entry.field-0.0 (λ no. absurd no)
-    (λ none. if-known text (λ bytes begun. (records, inr (fields, begun, none))) (begins g.R.Read.remaining text (all ++ fields ∷ []) c.read_next-in-records.new.reader one)) c.in_err-entry.ensures.none)
+    (λ none. if-known text (λ bytes begun. (records, (fields, begun, none))) (begins g.R.Read.remaining text (all ++ fields ∷ []) c.read_next-in-records.new.reader one)) c.in_err-entry.ensures.none)

@@ -8,5 +8,5 @@ returns-in-Ok-clause-written g c before =
     let plain : (writer_setup c.args.writer.now).style ≢ style.NonNumeric = rw before.setup (λ e. cc e) in
     let wrote = c.in-Ok.ensures.bytes before.fields before.wrote plain in (
       record { setup = c.in-Ok.ensures.setup ∙ before.setup; fields = c.in-Ok.ensures.ended; wrote = c.in-Ok.ensures.clean },
-      rw (before.setup, c.as_bytes.ensures.value, c.as_bytes-2.ensures.value) at wrote,
+      rw (before.setup, c.as_bytes.ensures.value) at wrote,
     )

@@ -1,9 +1,9 @@
-use Rattle.std.proofs.Common.{◌≡◌, ℕ, Option, ap, sym, ◌∙◌}
+use Rattle.std.proofs.Common.{sym}
 use Rattle.store_table.specs.Rows.{IsCompacted}
 use Rattle.mst_commands.proofs.CarryLemmas.{leaves_as}
 use Rattle.mst_commands.proofs.run.compact_given.Goals as goal
 use Rattle.mst_commands.proofs.run.compact_given.Goals.{in-Some+in_ok-now-in-Some, in-None}
-use Rattle.mst_commands.specs.Carries.{Compacts, forgets_below}
+use Rattle.mst_commands.specs.Carries.{Compacts}
 
 pub returns-in_err-compact-clause-crash : goal.returns-in_err-compact-clause-crash
 returns-in_err-compact-clause-crash g c =

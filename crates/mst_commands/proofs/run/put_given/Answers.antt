@@ -8,25 +8,25 @@ use Rattle.mst_commands.specs.Writes.{WritesBy, WritesIf}
 -- without a condition
 pub returns-in_default-clause-carried : goal.returns-in_default-clause-carried
 returns-in_default-clause-carried g c clean =
-    on_ok c.put_text.result _ _ (λ written. record { wanted = rw c.in_default.is tt; now = c.in_ok-now.field-0; text = c.in_ok-text.text; value = c.in_ok-text.ensures; written = written })
-    (c.put_text.ensures.written clean)
+    on_ok c.put_value.result _ _ (λ written. record { wanted = rw c.in_default.is tt; now = c.in_ok-now.field-0; value = c.in_ok-value.value; bytes = c.in_ok-value.ensures; written = written })
+    (c.put_value.ensures.written clean)
 
 pub returns-in_default-clause-crash : goal.returns-in_default-clause-crash
 returns-in_default-clause-crash g c =
-    leaves_as g.S.Store c.args.log.now c.put_text.new.log (WritesBy c.args.given.now.key.now c.args.writer.now c.in_ok-now.field-0 (Some c.in_ok-text.text))
+    leaves_as g.S.Store c.args.log.now c.put_value.new.log (WritesBy c.args.given.now.key.now c.args.writer.now c.in_ok-now.field-0 (Some c.in_ok-value.value))
     (Puts c.args.writer.now c.args.given.now c.args.input)
-    (λ before after written. record { wanted = rw c.in_default.is tt; now = c.in_ok-now.field-0; text = c.in_ok-text.text; value = c.in_ok-text.ensures; written = written })
-    c.put_text.ensures.crash
+    (λ before after written. record { wanted = rw c.in_default.is tt; now = c.in_ok-now.field-0; value = c.in_ok-value.value; bytes = c.in_ok-value.ensures; written = written })
+    c.put_value.ensures.crash
 
 -- with one
 pub returns-clause-carried : goal.returns-clause-carried
 returns-clause-carried g c clean =
-    on_ok c.put_if.result _ _ (λ both. record { wanted = rw c.in-Some.is both.0; now = c.in_ok-now-2.field-0; text = c.in_ok-text.text; value = c.in_ok-text.ensures; written = both.1 })
+    on_ok c.put_if.result _ _ (λ both. record { wanted = rw c.in-Some.is both.0; now = c.in_ok-now-2.field-0; value = c.in_ok-value.value; bytes = c.in_ok-value.ensures; written = both.1 })
     (c.put_if.ensures.written clean)
 
 pub returns-clause-crash : goal.returns-clause-crash
 returns-clause-crash g c =
-    leaves_as g.S.Store c.args.log.now c.put_if.new.log (WritesIf c.in-Some.wanted c.args.given.now.key.now c.args.writer.now c.in_ok-now-2.field-0 (Some c.in_ok-text.text))
+    leaves_as g.S.Store c.args.log.now c.put_if.new.log (WritesIf c.in-Some.wanted c.args.given.now.key.now c.args.writer.now c.in_ok-now-2.field-0 (Some c.in_ok-value.value))
     (Puts c.args.writer.now c.args.given.now c.args.input)
-    (λ before after both. record { wanted = rw c.in-Some.is both.0; now = c.in_ok-now-2.field-0; text = c.in_ok-text.text; value = c.in_ok-text.ensures; written = both.1 })
+    (λ before after both. record { wanted = rw c.in-Some.is both.0; now = c.in_ok-now-2.field-0; value = c.in_ok-value.value; bytes = c.in_ok-value.ensures; written = both.1 })
     c.put_if.ensures.crash

@@ -1,4 +1,4 @@
-use Rattle.std.proofs.Common.{◌≡◌, [], ap, arith, length, map, subst, sym, false}
+use Rattle.std.proofs.Common.{◌≡◌, [], ap, arith, length, subst, sym, false}
 use Rattle.sqlite_value.specs.Keys.{plain}
 use Rattle.sqlite_trees.specs.Tree.{IsIndex}
 use Rattle.sqlite_trees.specs.View.{IsShaped}

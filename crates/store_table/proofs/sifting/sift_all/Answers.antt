@@ -1,9 +1,8 @@
-use Rattle.std.proofs.Common.{[], ◌∷◌, ◌++◌, ap, arith, length, refl, rules, subst, sym}
+use Rattle.std.proofs.Common.{[], ◌∷◌, ◌++◌, ap, arith, refl, rules}
 use Rattle.sqlite_trees.specs.Tree.{order_of}
 use Rattle.store_table.specs.Logs.{IsClean, trees_of}
-use Rattle.store_table.specs.Sifting.{AreSifted}
 use Rattle.store_table.proofs.SiftLemmas.{none_sifted, sifted_more}
-use Rattle.store_table.proofs.Walking.{uncommitted_then, stays_then, stays_kept, sought_all, given_more, given_last}
+use Rattle.store_table.proofs.Walking.{uncommitted_then, stays_then, stays_kept, sought_all, given_more}
 use Rattle.store_table.proofs.sifting.sift_all.Goals as goal
 
 pub rows-init : goal.rows-init

@@ -1,4 +1,4 @@
-use Rattle.std.proofs.Common.{◌≡◌, ◌++◌, List, false, length, Some, IsSome}
+use Rattle.std.proofs.Common.{◌≡◌, List, false, length, IsSome}
 use Rattle.sqlite_value.specs.Order.{Row}
 use Rattle.store_table.specs.Logs.{IsClean, trees_of}
 use Rattle.store_table.specs.Sifting.{AreSifted}
