@@ -6,6 +6,8 @@ mod chunks;
 #[cfg(test)]
 mod costs;
 #[cfg(test)]
+mod limits;
+#[cfg(test)]
 mod memory;
 #[cfg(test)]
 mod others;

@@ -48,7 +48,7 @@ fn rows_of_plain_peer(alloc: Global, sides: &mut Sides) -> Result<(usize, usize)
 #[test]
 fn a_peer_without_deltas_is_asked_plainly(rt: HostRuntime) -> Result<(), Fail> {
     let mut sides = two_sides(rt.alloc())?;
-    assert!(rt; rows_of_plain_peer(rt.alloc(), &mut sides)? == (3, 7));
+    assert!(rt; rows_of_plain_peer(rt.alloc(), &mut sides)? == (3, 5));
     Ok(())
 }
 

@@ -20,7 +20,7 @@ use crate::patch::{PatchError, patch};
 use merkle_bytes::{Decode, Reader};
 use merkle_digest::{Hasher, Key};
 use merkle_replica::{Join, Replica, RowHasher};
-use merkle_wire::{AnswerError, SessionError};
+use merkle_wire::{AnswerError, Limits, SessionError};
 use std::alloc::{AllocError, Global};
 use std::marker::Model;
 
@@ -50,8 +50,18 @@ pub struct CatchingUp<K, V> {
     alloc: Global,
     session: merkle_wire::CatchingUp<K, V>,
     told: Option<Told>,
-    /// Whether the last delta and the checksums for it had fewer bytes than the plain reply.
-    pays: bool,
+    deltas: Deltas,
+}
+
+/// What a peer's deltas are worth.
+#[derive(Clone, Copy, PartialEq, Eq, Drop)]
+enum Deltas {
+    /// The last one and the checksums for it had fewer bytes than the plain reply, or none came yet.
+    Pay,
+    /// They had more.
+    Cost,
+    /// The peer replied by none: it doesn't know them, or chunks had equal checksums. No more checksums are told.
+    Fail,
 }
 
 // Written out, so that a caller doesn't prove again how each part is dropped.
@@ -61,7 +71,7 @@ impl<K: Drop, V: Drop> Drop for CatchingUp<K, V> {
             alloc: _,
             session: _,
             told: _,
-            pays: _,
+            deltas: _,
         } = self;
     }
 }
@@ -130,9 +140,32 @@ impl<K: Key + Decode, V: Join + Decode> CatchingUp<K, V> {
             alloc,
             session,
             told: None,
-            pays: true,
+            deltas: Deltas::Pay,
         };
         Ok((begun, message))
+    }
+
+    /// The same catch-up under these limits, which count from here on: replies, rows, and bytes of plain replies.
+    ///
+    /// ```rust crates/delta_tests/src/limits.rt
+    /// let (session, mut message) = CatchingUp::begin(alloc, local)?;
+    /// let mut session = session.within(limits);
+    /// ```
+    pub fn within(self, limits: Limits) -> Self
+        ensures { result ≡ record self { session = record self.session { left = limits } } }
+    {
+        let CatchingUp {
+            alloc,
+            session,
+            told,
+            deltas,
+        } = self;
+        CatchingUp {
+            alloc,
+            session: session.within(limits),
+            told,
+            deltas,
+        }
     }
 
     /// How many rounds of outlines were asked for, 256 at most, in constant time.
@@ -164,8 +197,8 @@ impl<K: Key + Decode, V: Join + Decode> CatchingUp<K, V> {
     }
 
     /// Takes a reply, as [`merkle_wire::CatchingUp::take`] does, which it tells plainly or as a delta. Where it is the delta of no reply, which comes of
-    /// chunks with equal checksums, or of a peer that doesn't know such messages, the question is asked again, plainly. The replica keeps its rows;
-    /// pages that lack a digest get it.
+    /// chunks with equal checksums, or of a peer that doesn't know such messages, the question is asked again, plainly, and so is each later one. The
+    /// replica keeps its rows; pages that lack a digest get it.
     ///
     /// Besides what the plain call takes it makes this side's own reply to the next question, and takes time linear in it.
     ///
@@ -188,18 +221,18 @@ impl<K: Key + Decode, V: Join + Decode> CatchingUp<K, V> {
             alloc,
             session,
             told,
-            pays,
+            deltas,
         } = self;
         let Some(told) = told else {
             let next = session.take(replica, reply)?;
-            let after = go_on(alloc, replica, next, pays)?;
+            let after = go_on(alloc, replica, next, deltas)?;
             return Ok(after);
         };
         match plain_reply(alloc, &told.own, reply) {
             Ok(plain) => {
                 let next = session.take(replica, &plain)?;
-                let pays = is_shorter(&told, reply, &plain);
-                let after = go_on(alloc, replica, next, pays)?;
+                let deltas = worth_of(&told, reply, &plain);
+                let after = go_on(alloc, replica, next, deltas)?;
                 Ok(after)
             }
             Err(PatchError::Memory) => Err(SessionError::Memory),
@@ -208,7 +241,7 @@ impl<K: Key + Decode, V: Join + Decode> CatchingUp<K, V> {
                     alloc,
                     session,
                     told: None,
-                    pays,
+                    deltas: Deltas::Fail,
                 };
                 Ok(Next::Ask(plainly, told.question))
             }
@@ -237,8 +270,12 @@ fn plain_reply(alloc: Global, own: &Chunks, reply: &[u8]) -> Result<Vec<u8>, Pat
 }
 
 /// Whether a delta and the checksums that were told for it had fewer bytes than the plain reply.
-fn is_shorter(told: &Told, delta: &[u8], plain: &[u8]) -> bool {
-    delta.len().saturating_add(told.own.len().saturating_mul(4)) < plain.len()
+fn worth_of(told: &Told, delta: &[u8], plain: &[u8]) -> Deltas {
+    if delta.len().saturating_add(told.own.len().saturating_mul(4)) < plain.len() {
+        Deltas::Pay
+    } else {
+        Deltas::Cost
+    }
 }
 
 /// Goes on as the plain catch-up does.
@@ -246,7 +283,7 @@ fn go_on<K: Key + Decode, V: Join + Decode, H: Hasher<N, K> + Hasher<N, V>, cons
     alloc: Global,
     replica: &mut Replica<K, V, H, N>,
     next: merkle_wire::Next<K, V>,
-    pays: bool,
+    deltas: Deltas,
 ) -> Result<Next<K, V>, SessionError>
     requires { AsksFew next }
     ensures goes_on { IfOk result (GoesOnAs next) }
@@ -258,12 +295,12 @@ fn go_on<K: Key + Decode, V: Join + Decode, H: Hasher<N, K> + Hasher<N, V>, cons
         merkle_wire::Next::Came(rows) => return Ok(Next::Came(rows)),
         merkle_wire::Next::Ask(session, question) => (session, question),
     };
-    let Some(own) = own_chunks(alloc, replica, &question, pays)? else {
+    let Some(own) = own_chunks(alloc, replica, &question, deltas)? else {
         let plainly = CatchingUp {
             alloc,
             session,
             told: None,
-            pays,
+            deltas,
         };
         return Ok(Next::Ask(plainly, question));
     };
@@ -272,7 +309,7 @@ fn go_on<K: Key + Decode, V: Join + Decode, H: Hasher<N, K> + Hasher<N, V>, cons
         alloc,
         session,
         told: Some(Told { question, own }),
-        pays,
+        deltas,
     };
     Ok(Next::Ask(waiting, message))
 }
@@ -282,13 +319,13 @@ fn own_chunks<K: Key + Decode, V: Join + Decode, H: Hasher<N, K> + Hasher<N, V>,
     alloc: Global,
     replica: &mut Replica<K, V, H, N>,
     question: &[u8],
-    pays: bool,
+    deltas: Deltas,
 ) -> Result<Option<Chunks>, SessionError>
     ensures memory { IfErr result (λ error. error ≡ Memory) }
     ensures rows { replica.new.rows ≡ replica.old.rows }
     ensures settings { SameSettings replica.old.tree replica.new.tree }
 {
-    if !is_shared(question, pays) {
+    if !is_shared(question, deltas) {
         return Ok(None);
     }
     let own = match merkle_wire::answer(alloc, replica, question) {
@@ -302,12 +339,15 @@ fn own_chunks<K: Key + Decode, V: Join + Decode, H: Hasher<N, K> + Hasher<N, V>,
     Ok(Some(Chunks::cut(alloc, own)?))
 }
 
-/// Whether much of the reply to a question may be this side's own: not of values at keys, which it lacks or has with others, and of all rows in gaps where
-/// the last delta paid.
-fn is_shared(question: &[u8], pays: bool) -> bool {
+/// Whether much of the reply to a question may be this side's own, and a delta of it come: not of values at keys, which it lacks or has with others, of
+/// all rows in gaps where the last delta paid, and of nothing once none came.
+fn is_shared(question: &[u8], deltas: Deltas) -> bool {
+    if deltas == Deltas::Fail {
+        return false;
+    }
     match question.get(1) {
         Some(kind) if *kind == VALUES => false,
-        Some(kind) if *kind == ROWS => pays,
+        Some(kind) if *kind == ROWS => deltas == Deltas::Pay,
         _ => true,
     }
 }
