@@ -1,21 +1,18 @@
 -- Of two registers the later stays.
-use Rattle.std.proofs.Common.{◌≡◌, ℕ, ◌<◌, Bool, true, false, cond, List, [], ◌∷◌, Option, Some, None, ◌⊎◌, inl, inr, string_bytes, refl, sym, ap, subst, ◌∙◌, arith}
+use Rattle.std.proofs.Common.{◌≡◌, Bool, true, false, cond, List, [], ◌∷◌, Option, Some, None, ◌⊎◌, inl, inr, refl, sym, subst, ◌∙◌}
 use Rattle.std.specs.List.{filter}
-use Rattle.std.specs.Cmp.{IsTotalOrder, IsEquivalence, tied_itself, nat_cmp_is}
-use Rattle.std.specs.Option.{option_cmp}
-use Rattle.std.specs.Ordering.{ord_max, is_eq, is_lt, is_gt, eq_by_cmp, ordering_then, nat_cmp}
-use Rattle.std.specs.declared.cmp.Ordering.TheVariants.{Less, Equal}
+use Rattle.std.specs.Cmp.{IsTotalOrder, IsEquivalence}
+use Rattle.std.specs.Ordering.{ord_max, is_eq, is_lt}
 use Rattle.key_order.specs.Map.{get}
-use Rattle.key_order.specs.Join.{joined, IsJoin, IsJoining}
+use Rattle.key_order.specs.Join.{joined, IsJoining}
 use Rattle.key_order.specs.Order.{Below, Upto}
 use Rattle.key_order.specs.Text.{Text as Key, text_order}
-use Rattle.key_order.proofs.Clones.{string_clone}
 use Rattle.key_order.proofs.Bools.{which, is_equal}
 use Rattle.key_order.proofs.Maps.{get_same}
 use Rattle.key_order.proofs.Orders.{either, not_both}
 use Rattle.key_order.proofs.Values.{Eq, on, back, assoc, cong, same, to_none}
 use Rattle.merkle_replica.specs.Puts.{join_of_values}
-use Rattle.store_table.specs.Registers.{is_later, register_order, time_after}
+use Rattle.store_table.specs.Registers.{is_later, register_order}
 use Rattle.merkle_store.specs.Kept.{JoinTheSame}
 use Rattle.merkle_store.proofs.Adding.{swap}
 use Rattle.store_table.specs.declared.register.Register.{Register}
@@ -80,39 +77,3 @@ module _ (o : IsTotalOrder register_order) (eq : Register → Register → Bool)
             rw n (on eq e (ord_max register_order) j (J A (J R G)) (J R (J A G)) (J A (J R G')) (swap eq e (ord_max register_order) j A R G)
             (on eq e (ord_max register_order) j (J R (J A G)) (J R (J A G')) (J A (J R G')) (cong eq e (ord_max register_order) j R R (J A G) (J A G') (same eq e (ord_max register_order) j R) h)
             (swap eq e (ord_max register_order) j R A G')))
-
-  -- the time comes first
-  earlier : (a b : Register) → a.time < b.time → Upto register_order a b
-  earlier a b h = subst (λ x. is_gt (ordering_then x (ordering_then (text_order a.writer b.writer) (option_cmp text_order a.value b.value))) ≡ false) (nat_cmp_is a.time b.time Less h) refl
-
-  -- registers whose parts are equal
-  alike : (that reg : Register) → that.time ≡ reg.time → text_order that.writer reg.writer ≡ Equal → that.value ≡ reg.value → register_order that reg ≡ Equal
-  alike that reg t w v =
-      subst (λ n. ordering_then (nat_cmp that.time n) (ordering_then (text_order that.writer reg.writer) (option_cmp text_order that.value reg.value)) ≡ Equal) t
-      (subst (λ x. ordering_then (nat_cmp that.time that.time) (ordering_then (text_order that.writer reg.writer) (option_cmp text_order that.value x)) ≡ Equal) v
-      (subst (λ y. ordering_then (nat_cmp that.time that.time) (ordering_then y (option_cmp text_order that.value that.value)) ≡ Equal) (sym w)
-      (subst (λ y. ordering_then (nat_cmp that.time that.time) (ordering_then y (option_cmp text_order that.value that.value)) ≡ Equal) (tied_itself total that.writer) (tied_itself o that))))
-
-  -- a write over what the key had is what it has then
-  pub write_stays : ((a b : Register) → eq a b ≡ eq_by_cmp register_order a b) → (rows now : List (Key × Register)) (key : Key) (reg that : Register) (clock : ℕ) → IsJoin text_order eq (ord_max register_order) rows ((key, reg) ∷ []) now
-      → that.time ≡ time_after (get text_order rows key) clock → that.time ≡ reg.time → string_bytes reg.writer ≡ string_bytes that.writer → that.value ≡ reg.value
-      → Eq eq e (ord_max register_order) j (get text_order now key) (Some that)
-  write_stays ties rows now key reg that clock joins time t w v =
-      on eq e (ord_max register_order) j (get text_order now key) (joined (ord_max register_order) (get text_order rows key) (Some reg)) (Some that)
-      (subst (λ x. Eq eq e (ord_max register_order) j (get text_order now key) (joined (ord_max register_order) (get text_order rows key) (cond (is_eq x) (Some reg) None))) (tied_itself total key) (joins.values key))
-      (by (get text_order rows key) time)
-    where
-      is : eq reg that ≡ true
-      is = e.symm reg that ∙ (ties that reg ∙ ap is_eq (alike that reg t (string_clone that.writer reg.writer w) v))
-
-      by : (x : Option Register) → that.time ≡ time_after x clock → Eq eq e (ord_max register_order) j (joined (ord_max register_order) x (Some reg)) (Some that)
-      by None u = is
-      by (Some r) u = subst (λ y. eq y that ≡ true) (sym (second r reg (earlier r reg (omega (arith, t, u))))) is
-
-  -- and each other key has what it had
-  pub others_stay : (rows now : List (Key × Register)) (key other : Key) (reg : Register) → IsJoin text_order eq (ord_max register_order) rows ((key, reg) ∷ []) now → is_eq (text_order key other) ≡ false
-      → Eq eq e (ord_max register_order) j (get text_order now other) (get text_order rows other)
-  others_stay rows now key other reg joins apart =
-      on eq e (ord_max register_order) j (get text_order now other) (joined (ord_max register_order) (get text_order rows other) None) (get text_order rows other)
-      (subst (λ b. Eq eq e (ord_max register_order) j (get text_order now other) (joined (ord_max register_order) (get text_order rows other) (cond b (Some reg) None))) apart (joins.values other))
-      (to_none eq e (ord_max register_order) j (get text_order rows other))

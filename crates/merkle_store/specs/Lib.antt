@@ -1,5 +1,5 @@
 pub mod Kept
+pub mod News
 pub mod Framing
 pub mod Sessions
-pub mod Pulls
-pub mod Writes
+pub mod Fetches

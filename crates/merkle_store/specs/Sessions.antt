@@ -1,5 +1,5 @@
 -- A catch-up of a replica of entries with a peer, over two streams, and what a peer answers over them.
-use Rattle.std.specs.Prelude.{◌≡◌, ℕ, ◌≤◌, List, length, string_bytes}
+use Rattle.std.specs.Prelude.{◌≡◌, ℕ, ◌≤◌, Bool, true, false, List, [], length, Option, string_bytes}
 use Rattle.std.specs.Global.{Vec}
 use Rattle.std.specs.Io.KnownBytes.{Appends, Consumes}
 use Rattle.std.specs.List.{AllByRecursion, flat_map}
@@ -18,7 +18,8 @@ use Rattle.merkle_delta.specs.declared.catching_up.Next.TheVariants.{Ask}
 use Rattle.store_table.specs.RegisterBytes.{register_bytes}
 use Rattle.store_table.specs.WireRegisters.{register_encoding}
 use Rattle.store_table.specs.declared.register.Register.{Register}
-use Rattle.merkle_store.specs.Framing.{Streams, frame_of}
+use Rattle.merkle_store.specs.Framing.{HasEnded, Streams, frame_of}
+use Rattle.merkle_store.specs.declared.serving.Served.{Served}
 use Rattle.merkle_store.specs.Kept.{same_register, later_register}
 
 -- a replica of entries under SipHash, whose hasher is seen as its key
@@ -69,6 +70,17 @@ pub record IsServed (replica : EntryContents) (most : ℕ) (before after : Strea
 -- it does so to all messages that are read
 abbrev pub HasServed : EntryContents → ℕ → Streams → Streams → Type 0
 HasServed replica most before after = (exchanges : Exchanges) × IsServed replica most before after exchanges
+
+-- a message of no bytes was read, which gives the turn to this side; or nothing is left
+abbrev pub EndsBy : Bool → Option (List ℕ) → Option (List ℕ) → Type 0
+EndsBy true before after = Consumes before after (frame_of [])
+EndsBy false before after = HasEnded before after
+
+-- behind them a message of no bytes was read where that gives the turn to this side, and else nothing is left
+pub record HasServedTo (replica : EntryContents) (most : ℕ) (before after : Streams) (served : Served) : Type 0 where
+  pub read : Option (List ℕ)
+  pub answered : HasServed replica most before (after.0, read)
+  pub ended : EndsBy served.is_turn read after.1
 
 -- a catch-up over two streams, to each of whose messages a peer replied over its own, brings what is missing, while no digest of its replies collides
 abbrev pub ServedBring : Type 0

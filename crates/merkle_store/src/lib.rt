@@ -1,15 +1,13 @@
-//! A replicated key-value store in one SQLite file.
+//! The rows of a store's file as a replica in memory, by which copies of the file sync over any pair of streams.
 #![tactic(auto)]
 
+pub mod fetch_fault;
+pub mod fetching;
 pub mod framing;
 pub mod laws;
-pub mod lookup;
 mod news;
-pub mod pulling;
 pub mod reopening;
-pub mod store;
+pub mod serving;
+pub mod traffic;
 pub mod upkeep;
 pub mod wire;
-
-pub use store::Store;
-pub use store_table::{Register, StoreFault, fault, format, table};

@@ -1,20 +1,20 @@
 //! Which entries are later than what their keys have.
 ghost use Rattle.std.specs.Prelude.{◌≡◌};
 ghost use Rattle.key_order.specs.Text.{text_order};
-ghost use Rattle.key_order.specs.Map.{IsMap, get};
+ghost use Rattle.key_order.specs.Map.{get};
 ghost use Rattle.store_table.specs.Registers.{is_later};
-ghost use Rattle.merkle_store.specs.Writes.{later_entries};
+ghost use Rattle.merkle_store.specs.News.{later_entries};
 
-use crate::lookup::register_at;
 use crate::upkeep::EntryReplica;
 use store_table::Register;
+use store_table::rows::register_in;
 use store_table::table::Entries;
 
 /// Whether an entry is later than what its key has.
 fn is_news(replica: &EntryReplica, entry: &(String, Register)) -> bool
     ensures { result ≡ is_later (get text_order replica.now.rows entry.now.0) entry.now.1 }
 {
-    match register_at(replica.rows(), &entry.0) {
+    match register_in(replica.rows(), &entry.0) {
         Some(own) => *own < entry.1,
         None => true,
     }
@@ -22,10 +22,8 @@ fn is_news(replica: &EntryReplica, entry: &(String, Register)) -> bool
 
 /// The entries that are later than what their keys have.
 pub fn news_of(replica: &EntryReplica, entries: Entries) -> Entries
-    ensures ascending { IsMap text_order replica.now.rows }
-    ensures news { result.items ≡ later_entries replica.now.rows entries.items }
+    ensures { result.items ≡ later_entries replica.now.rows entries.items }
 {
-    let _rows = replica.rows();
     let mut news = entries;
     news.retain(
         |entry: &(String, Register)| -> bool

@@ -1,24 +1,20 @@
-//! A store whose file is closed and opened again.
+//! A log whose file is closed and opened again.
 ghost use Rattle.std.specs.Prelude.{IfSome};
 ghost use Rattle.merkle_store.specs.Kept.{Reopens};
 
-use crate::store::{Store, open};
 use sqlite_disk::Disk;
 use sqlite_store::FileStore;
 use sqlite_trees::store::Store as Trees;
+use std::alloc::Global;
 use store_table::log::Log;
 
-/// The store, once its file is closed and opened again by `close_files` and `open` of `store_file`, as `mst` does from one command to the
-/// next: each key has what it had. There is none where the file can't be closed or opened, or memory runs out.
-pub fn reopen<D: Disk + Drop>(store: Store<FileStore<D>>, now: u64) -> Option<Store<FileStore<D>>>
-    ensures { IfSome result (λ again. Reopens ⟦<FileStore<D> as Trees>⟧ store again) }
+/// The log, once its file is closed and opened again by `close_files` and `open` of `store_file`, as `mst` does from one command to the next: its
+/// tables have the rows that they had. There is none where the file can't be closed or opened, or memory runs out.
+pub fn reopen<D: Disk + Drop>(alloc: Global, log: Log<FileStore<D>>) -> Option<Log<FileStore<D>>>
+    ensures { IfSome result (Reopens ⟦<FileStore<D> as Trees>⟧ log) }
 {
-    let alloc = store.alloc();
-    let Ok(trees) = store_file::reopen(alloc, store.into_log().into_trees()) else {
-        return None;
-    };
-    match open(alloc, Log::over(trees), now) {
-        Ok(again) => Some(again),
+    match store_file::reopen(alloc, log.into_trees()) {
+        Ok(trees) => Some(Log::over(trees)),
         Err(_) => None,
     }
 }

@@ -1,5 +1,5 @@
 //! Why the program ends early.
-use merkle_store::pulling::PullFault;
+use merkle_store::fetch_fault::FetchFault;
 use merkle_store::wire::WireFault;
 use mst_commands::Fault;
 use mst_commands::fault::Named;
@@ -22,14 +22,18 @@ pub enum Failure {
     File(OpenFault),
     /// The file is a store in a mode that isn't read here.
     Mode(&'static str),
-    /// A pull failed.
-    Pull(PullFault),
+    /// Nothing was fetched.
+    Fetch(FetchFault),
     /// A peer sent an entry whose time is too far ahead of the clock.
     Ahead(Named),
     /// A peer sent an entry whose key, writer or value is too long.
     TooLong(Named),
     /// A peer sent more bytes than it may.
     TooMany,
+    /// The file was replaced by another store while a peer was asked.
+    Replaced,
+    /// A peer didn't ask, though it had the turn.
+    OneWay,
     /// Commands of a shell failed, each with its line on standard error.
     Lines(u64),
 }
@@ -79,15 +83,9 @@ impl From<io::Error> for Failure {
     }
 }
 
-impl From<PullFault> for Failure {
-    fn from(fault: PullFault) -> Self {
-        Failure::Pull(fault)
-    }
-}
-
 impl From<WireFault> for Failure {
     fn from(fault: WireFault) -> Self {
-        Failure::Pull(PullFault::Wire(fault))
+        Failure::Fetch(FetchFault::Wire(fault))
     }
 }
 
@@ -100,7 +98,7 @@ impl fmt::Display for Failure {
             Failure::Path(error) => write!(f, "{error}"),
             Failure::File(fault) => write!(f, "{fault}"),
             Failure::Mode(what) => f.write_str(what),
-            Failure::Pull(fault) => write!(f, "{fault}"),
+            Failure::Fetch(fault) => write!(f, "{fault}"),
             Failure::Ahead(entry) => write!(
                 f,
                 "the peer sent an entry more than a day ahead of the clock (--allow-ahead takes it): {entry}: nothing was joined"
@@ -110,6 +108,12 @@ impl fmt::Display for Failure {
                 "the peer sent an entry whose key, writer or value is longer than 1 MiB: {entry}: nothing was joined"
             ),
             Failure::TooMany => f.write_str("the peer sent more bytes than --max-bytes allows"),
+            Failure::Replaced => f.write_str(
+                "the file is another store than before the peer was asked: nothing was joined",
+            ),
+            Failure::OneWay => f.write_str(
+                "the peer didn't fetch what this copy has: mst serve needs --both for that",
+            ),
             Failure::Lines(1) => f.write_str("1 command failed"),
             Failure::Lines(count) => write!(f, "{count} commands failed"),
         }

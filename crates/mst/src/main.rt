@@ -7,6 +7,7 @@ mod fault;
 mod files;
 mod look;
 mod peers;
+mod sessions;
 mod shell;
 mod status;
 mod tasks;

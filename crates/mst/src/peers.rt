@@ -1,17 +1,19 @@
-//! The commands that speak with a peer.
+//! The commands that speak with a peer, over rows in memory: no file is open meanwhile.
 use crate::fault::Failure;
-use merkle_store::Store;
-use merkle_store::framing::{MOST_BYTES, Unwatched, Watch};
-use merkle_store::pulling::{self, Brought, PullFault, Traffic, Untaken};
-use mst_commands::clock::now;
+use merkle_store::fetch_fault::{FetchFault, Untaken};
+use merkle_store::fetching::{Fetched, Terms, fetch};
+use merkle_store::framing::{MOST_BYTES, Unwatched, Watch, send};
+use merkle_store::serving::{Served, serve};
+use merkle_store::traffic::Traffic;
+use merkle_store::upkeep::EntryReplica;
+use mst_commands::clock::{latest, now};
 use mst_commands::escape::{cut, escape};
 use mst_commands::fault::Named;
 use mst_commands::news::write_news;
 use mst_words::Given;
-use sqlite_trees::store::Store as Trees;
 use std::alloc::{AllocError, Global};
 use std::env;
-use std::io::{IsTerminal, Read, Write};
+use std::io::{IsTerminal, Read, Take, Write};
 use store_table::table::Entries;
 
 /// How many bytes come between two lines on standard error.
@@ -51,17 +53,17 @@ fn words_for(count: usize, one: &'static str, more: &'static str) -> &'static st
     if count == 1 { one } else { more }
 }
 
-/// Says on standard error what a pull brought.
-pub fn tell(rt: &HostRuntime, brought: &Brought) -> Result<(), Failure> {
+/// Says on standard error what was fetched and joined.
+pub fn tell(rt: &HostRuntime, fetched: &Fetched) -> Result<(), Failure> {
     eprintln!(rt;
         "mst: pulled {} {}, {} of them new, in {} {}; {} bytes sent, {} received",
-        brought.entries,
-        words_for(brought.entries, "entry", "entries"),
-        brought.news,
-        brought.traffic.messages,
-        words_for(brought.traffic.messages, "round", "rounds"),
-        brought.traffic.sent,
-        brought.traffic.came
+        fetched.came,
+        words_for(fetched.came, "entry", "entries"),
+        fetched.news.len(),
+        fetched.traffic.messages,
+        words_for(fetched.traffic.messages, "round", "rounds"),
+        fetched.traffic.sent,
+        fetched.traffic.came
     )?;
     Ok(())
 }
@@ -78,7 +80,7 @@ fn peer_of(rt: &HostRuntime) -> Result<String, AllocError> {
 }
 
 /// Says on standard error whom this side served since then, in milliseconds since 1970, and what that took.
-fn tell_served(rt: &HostRuntime, traffic: &Traffic, begun: u64) -> Result<(), Failure> {
+pub fn tell_served(rt: &HostRuntime, traffic: &Traffic, begun: u64) -> Result<(), Failure> {
     let millis = now(rt)?.saturating_sub(begun);
     let peer = peer_of(rt)?;
     eprintln!(rt;
@@ -94,34 +96,29 @@ fn tell_served(rt: &HostRuntime, traffic: &Traffic, begun: u64) -> Result<(), Fa
 /// How many bytes a peer may send, unless another number is given: 64 GiB.
 const MOST_OF_SESSION: u64 = 68_719_476_736;
 
-/// How many bytes a peer may send.
-fn most_of(given: &Given<'_>) -> u64 {
-    given.max_bytes.unwrap_or(MOST_OF_SESSION)
+/// How many bytes of a peer are read: one more than it may send, so that the end of these isn't that of its messages.
+pub fn bytes_read(given: &Given<'_>) -> u64 {
+    given.max_bytes.unwrap_or(MOST_OF_SESSION).saturating_add(1)
 }
 
-/// Answers a peer, and says what that took.
-pub fn serve<S: Trees + Drop>(
+/// Answers a peer until it is this side's turn to ask, or the peer's messages end.
+pub fn answer<R: Read>(
     rt: &HostRuntime,
-    store: &mut Store<S>,
-    given: &Given<'_>,
-) -> Result<(), Failure> {
-    let begun = now(rt)?;
-    // (one byte more than the peer may send, so that the end of these isn't that of its messages)
-    let mut from = rt.stdin().take(most_of(given).saturating_add(1));
-    let served = pulling::serve(
-        store,
-        &mut from,
-        &mut rt.stdout(),
+    replica: &mut EntryReplica,
+    from: &mut Take<R>,
+) -> Result<Served, Failure> {
+    let served = serve(
+        rt.alloc(),
+        replica,
         MOST_BYTES,
+        from,
+        &mut rt.stdout(),
         &mut Unwatched,
     );
     if from.limit() == 0 {
         return Err(Failure::TooMany);
     }
-    let traffic = served?;
-    // (the peer was served, though nobody may read what that took)
-    let _ = tell_served(rt, &traffic, begun);
-    Ok(())
+    Ok(served?)
 }
 
 /// What is said of an entry of a peer that isn't taken.
@@ -133,64 +130,60 @@ fn told(alloc: Global, entry: &Untaken) -> Result<Named, AllocError> {
     })
 }
 
-/// Why a pull failed, with the names of an entry in one line each.
-fn failure_of(alloc: Global, fault: PullFault) -> Failure {
+/// Why nothing was fetched, with the names of an entry in one line each.
+fn failure_of(alloc: Global, fault: FetchFault) -> Failure {
     match fault {
-        PullFault::Ahead(entry) => match told(alloc, &entry) {
+        FetchFault::Ahead(entry) => match told(alloc, &entry) {
             Ok(entry) => Failure::Ahead(entry),
             Err(error) => Failure::from(error),
         },
-        PullFault::TooLong(entry) => match told(alloc, &entry) {
+        FetchFault::TooLong(entry) => match told(alloc, &entry) {
             Ok(entry) => Failure::TooLong(entry),
             Err(error) => Failure::from(error),
         },
-        other => Failure::Pull(other),
+        other => Failure::Fetch(other),
     }
 }
 
-/// Brings what a peer has.
-pub fn pull<S: Trees + Drop>(
+/// What is taken of a peer, at this time of the clock.
+fn terms_of(rt: &HostRuntime, given: &Given<'_>) -> Result<Terms, Failure> {
+    Ok(Terms {
+        most_bytes: MOST_BYTES,
+        most_entries: given.max_entries,
+        latest: latest(now(rt)?, given.ahead),
+    })
+}
+
+/// What a peer has that is later.
+pub fn ask<R: Read>(
     rt: &HostRuntime,
-    store: &mut Store<S>,
+    replica: &mut EntryReplica,
     given: &Given<'_>,
-) -> Result<Brought, Failure> {
+    from: &mut Take<R>,
+) -> Result<Fetched, Failure> {
+    let terms = terms_of(rt, given)?;
     let mut lines = lines_of(rt);
-    let mut from = rt.stdin().take(most_of(given));
-    let pulled = pulling::pull(
-        store,
-        &mut from,
+    let fetched = fetch(
+        rt.alloc(),
+        replica,
+        &terms,
+        from,
         &mut rt.stdout(),
-        MOST_BYTES,
-        given.max_entries,
         &mut lines,
     );
-    match pulled {
-        Ok(brought) => Ok(brought),
-        Err(_) if from.limit() == 0 => Err(Failure::TooMany),
+    if from.limit() == 0 {
+        return Err(Failure::TooMany);
+    }
+    match fetched {
+        Ok(fetched) => Ok(fetched),
         Err(fault) => Err(failure_of(rt.alloc(), fault)),
     }
 }
 
-/// The entries that a pull would bring.
-pub fn look<S: Trees + Drop>(
-    rt: &HostRuntime,
-    store: &mut Store<S>,
-    given: &Given<'_>,
-) -> Result<Entries, Failure> {
-    let mut from = rt.stdin().take(most_of(given));
-    let looked = pulling::look(
-        store,
-        &mut from,
-        &mut rt.stdout(),
-        MOST_BYTES,
-        given.max_entries,
-        &mut Unwatched,
-    );
-    match looked {
-        Ok(news) => Ok(news),
-        Err(_) if from.limit() == 0 => Err(Failure::TooMany),
-        Err(fault) => Err(failure_of(rt.alloc(), fault)),
-    }
+/// Gives the turn to ask to the peer, by a message of no bytes.
+pub fn pass_turn(rt: &HostRuntime) -> Result<(), Failure> {
+    send(rt.alloc(), &mut rt.stdout(), &[])?;
+    Ok(())
 }
 
 /// Tells on standard error what a pull would bring, a line for each entry, once memory was found for all lines.

@@ -1,6 +1,6 @@
 //! With which status the program ends.
 use crate::fault::Failure;
-use merkle_store::pulling::PullFault;
+use merkle_store::fetch_fault::FetchFault;
 use merkle_store::wire::WireFault;
 use merkle_wire::{AnswerError, SessionError};
 use mst_commands::Fault;
@@ -44,8 +44,7 @@ fn of_store(fault: &StoreFault) -> u8 {
         StoreFault::Database(error) => of_database(error),
         StoreFault::Malformed => DAMAGED,
         StoreFault::Foreign | StoreFault::Format(_) => FOREIGN,
-        StoreFault::Future => AHEAD,
-        StoreFault::Memory | StoreFault::Time | StoreFault::Behind => OTHER,
+        StoreFault::Memory | StoreFault::Time => OTHER,
     }
 }
 
@@ -101,13 +100,12 @@ fn of_wire(fault: &WireFault) -> u8 {
     }
 }
 
-/// The status where a pull failed.
-fn of_pull(fault: &PullFault) -> u8 {
+/// The status where nothing was fetched.
+fn of_fetch(fault: &FetchFault) -> u8 {
     match fault {
-        PullFault::Wire(fault) => of_wire(fault),
-        PullFault::Store(fault) => of_store(fault),
-        PullFault::Ahead(_) => AHEAD,
-        PullFault::TooLong(_) | PullFault::TooMany(_) => PEER,
+        FetchFault::Wire(fault) => of_wire(fault),
+        FetchFault::Ahead(_) => AHEAD,
+        FetchFault::TooLong(_) | FetchFault::TooMany => PEER,
     }
 }
 
@@ -117,10 +115,10 @@ pub fn status_of(failure: &Failure) -> u8 {
         Failure::Command(fault) => of_command(fault),
         Failure::Path(error) => of_path(error),
         Failure::File(fault) => of_file(*fault),
-        Failure::Mode(_) => FOREIGN,
-        Failure::Pull(fault) => of_pull(fault),
+        Failure::Mode(_) | Failure::Replaced => FOREIGN,
+        Failure::Fetch(fault) => of_fetch(fault),
         Failure::Ahead(_) => AHEAD,
-        Failure::TooLong(_) | Failure::TooMany => PEER,
+        Failure::TooLong(_) | Failure::TooMany | Failure::OneWay => PEER,
         Failure::Lines(_) => OTHER,
     }
 }

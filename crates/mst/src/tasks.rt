@@ -6,11 +6,9 @@ ghost use Rattle.store_table.specs.Logs.{Finds, IsSteady, Leaves, LeavesNoMore, 
 
 use crate::fault::Failure;
 use crate::files::{Closing, close_behind, expect_file, make_store, open_file, open_whole};
-use crate::{peers, shell};
+use crate::{sessions, shell};
 use merkle_digest::RootHash;
-use merkle_store::Store;
 use merkle_store::upkeep::read_replica;
-use mst_commands::clock::now;
 use mst_commands::input::read_input;
 use mst_commands::{Input, run};
 use mst_words::hash_key::number_of;
@@ -106,69 +104,6 @@ fn run_lent<S: Trees>(
     run_open(rt, log, &note, verb, given, input)
 }
 
-/// The time that a store is opened at: entries of a peer of up to a day after it are taken.
-fn time_of(rt: &HostRuntime, given: &Given<'_>) -> Result<u64, Failure> {
-    if given.ahead {
-        Ok(u64::MAX)
-    } else {
-        Ok(now(rt)?)
-    }
-}
-
-/// Runs a command of a peer on a file that is opened at this time.
-fn run_peer<S: Trees + Drop>(
-    rt: &HostRuntime,
-    log: Log<S>,
-    verb: Verb,
-    given: &Given<'_>,
-    latest: u64,
-) -> Result<(), Failure>
-where
-    Log<S>: Closing,
-{
-    let mut store = merkle_store::store::open(rt.alloc(), log, latest)?;
-    if verb == Verb::Pull {
-        return run_pull(rt, store, given);
-    }
-    if verb == Verb::Diff {
-        return run_diff(rt, store, given);
-    }
-    let served = peers::serve(rt, &mut store, given);
-    close_behind(store.into_log(), served)
-}
-
-/// Brings what a peer has, and says what that was once the file is closed.
-fn run_pull<S: Trees + Drop>(
-    rt: &HostRuntime,
-    store: Store<S>,
-    given: &Given<'_>,
-) -> Result<(), Failure>
-where
-    Log<S>: Closing,
-{
-    let mut store = store;
-    let pulled = peers::pull(rt, &mut store, given);
-    let brought = close_behind(store.into_log(), pulled)?;
-    // (what came is in the file, though nobody may read how much it was)
-    let _ = peers::tell(rt, &brought);
-    Ok(())
-}
-
-/// Looks at what a pull would bring, and tells it once the file is closed.
-fn run_diff<S: Trees + Drop>(
-    rt: &HostRuntime,
-    store: Store<S>,
-    given: &Given<'_>,
-) -> Result<(), Failure>
-where
-    Log<S>: Closing,
-{
-    let mut store = store;
-    let looked = peers::look(rt, &mut store, given);
-    let news = close_behind(store.into_log(), looked)?;
-    peers::tell_news(rt, &news, given.json)
-}
-
 /// What a store notes of itself, and all its entries.
 fn whole_of<S: Trees>(rt: &HostRuntime, log: &mut Log<S>) -> Result<(Note, Entries), Failure>
     ensures entries { Finds S.Store log.old log.new result (λ trees whole. HoldsEntries trees whole.1.items) }
@@ -207,9 +142,6 @@ where
     Log<S>: Closing,
 {
     let mut log = log;
-    if let Verb::Serve | Verb::Pull | Verb::Diff = verb {
-        return run_peer(rt, log, verb, given, time_of(rt, given)?);
-    }
     let done = run_lent(rt, &mut log, verb, given, input);
     close_behind(log, done)
 }
@@ -237,6 +169,9 @@ pub fn run(rt: &HostRuntime, verb: Verb, path: &str, given: &Given<'_>) -> Resul
     }
     // (a file that isn't there is told before anything is typed)
     expect_file(rt, path)?;
+    if let Verb::Serve | Verb::Pull | Verb::Diff = verb {
+        return sessions::run(rt, verb, path, given);
+    }
     let input = read_input(rt, verb, given)?;
     let seconds = patience(given);
     if verb == Verb::Check {

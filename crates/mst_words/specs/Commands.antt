@@ -12,7 +12,7 @@ use Rattle.mst_words.specs.Spans.{IsSpan}
 use Rattle.mst_words.specs.declared.verb.Place.{Place}
 use Rattle.mst_words.specs.declared.verb.Place.TheVariants.{Key, Value, Writer, Target}
 use Rattle.mst_words.specs.declared.verb.Setting.{Setting}
-use Rattle.mst_words.specs.declared.verb.Setting.TheVariants.{From, To, Prefix, Limit, Json, Log, Forget, Ahead, Wait, HashKey as ForHashKey, Absent, Old, Answers, MaxBytes, MaxEntries}
+use Rattle.mst_words.specs.declared.verb.Setting.TheVariants.{From, To, Prefix, Limit, Json, Log, Forget, Ahead, Wait, HashKey as ForHashKey, Absent, Old, Answers, MaxBytes, MaxEntries, Both}
 use Rattle.mst_words.specs.declared.verb.Verb.{Verb}
 
 -- the word is the decimal digits of this number of 64 bits, which may stand after a plus
@@ -47,6 +47,7 @@ Sets Ahead word said result = result ≡ Ok (record said { ahead = true })
 Sets Absent word said result = result ≡ Ok (record said { wanted = Some None })
 Sets Old word said result = result ≡ Ok (record said { wanted = Some (Some word) })
 Sets Answers word said result = result ≡ Ok (record said { answers = true })
+Sets Both word said result = result ≡ Ok (record said { both = true })
 Sets MaxBytes word said result = Reads IsNumber word (λ number. record said { max_bytes = Some number }) (NoNumber word) result
 Sets MaxEntries word said result = Reads IsNumber word (λ number. record said { max_entries = Some number }) (NoNumber word) result
 

@@ -3,7 +3,7 @@ use Rattle.std.specs.Prelude.{ℕ, Bool, true, false, List, [], ◌∷◌, codes
 use Rattle.mst_words.specs.declared.verb.Place.{Place}
 use Rattle.mst_words.specs.declared.verb.Place.TheVariants.{Key, Value, Writer, Target}
 use Rattle.mst_words.specs.declared.verb.Setting.{Setting}
-use Rattle.mst_words.specs.declared.verb.Setting.TheVariants.{From, To, Prefix, Limit, Json, Log, Forget, Ahead, Wait, HashKey as ForHashKey, Absent, Old, Answers, MaxBytes, MaxEntries}
+use Rattle.mst_words.specs.declared.verb.Setting.TheVariants.{From, To, Prefix, Limit, Json, Log, Forget, Ahead, Wait, HashKey as ForHashKey, Absent, Old, Answers, MaxBytes, MaxEntries, Both}
 use Rattle.mst_words.specs.declared.verb.Verb.{Verb}
 use Rattle.mst_words.specs.declared.verb.Verb.TheVariants.{Init, Put, Get, Del, List as ListOf, Import, Export, Compact, Shell, Serve, Pull, Diff, Backup, History, Status, Check}
 
@@ -62,7 +62,11 @@ takes History Json = true
 takes Status Json = true
 takes Check Json = true
 takes Diff Json = true
+takes Serve Ahead = true
+takes Serve Both = true
 takes Serve MaxBytes = true
+takes Serve MaxEntries = true
+takes Pull Both = true
 takes Pull MaxBytes = true
 takes Pull MaxEntries = true
 takes Diff MaxBytes = true

@@ -3,7 +3,7 @@ use Rattle.std.specs.Prelude.{◌≡◌, ◌≢◌, ℕ, List, Bool, true, false
 use Rattle.mst_words.specs.declared.verb.Verb.{Verb}
 use Rattle.mst_words.specs.declared.verb.Verb.TheVariants.{Init, Put, Get, Del, List as ListOf, Count, Root, HashKey, Status, Import, Export, Compact, Shell, Serve, Pull, Diff, Backup, History, Check}
 use Rattle.mst_words.specs.declared.verb.Setting.{Setting}
-use Rattle.mst_words.specs.declared.verb.Setting.TheVariants.{From, To, Prefix, Limit, Json, Log, Forget, Ahead, Wait, HashKey as ForHashKey, Absent, Old, Answers, MaxBytes, MaxEntries}
+use Rattle.mst_words.specs.declared.verb.Setting.TheVariants.{From, To, Prefix, Limit, Json, Log, Forget, Ahead, Wait, HashKey as ForHashKey, Absent, Old, Answers, MaxBytes, MaxEntries, Both}
 
 -- the name of a command
 abbrev pub verb_name : Verb → List ℕ
@@ -44,6 +44,7 @@ setting_name Old = codes "--if-value"
 setting_name Answers = codes "--answers"
 setting_name MaxBytes = codes "--max-bytes"
 setting_name MaxEntries = codes "--max-entries"
+setting_name Both = codes "--both"
 
 -- the command of this name, or none where no command has it
 abbrev pub IsVerbOf : List ℕ → Option Verb → Type 0
@@ -58,6 +59,7 @@ abbrev pub takes_value : Setting → Bool
 takes_value Json = false
 takes_value Log = false
 takes_value Ahead = false
+takes_value Both = false
 takes_value Absent = false
 takes_value Answers = false
 takes_value _ = true

@@ -40,6 +40,7 @@ pub record Said : Type 0 where
   pub answers : Bool
   pub max_bytes : Option ℕ
   pub max_entries : Option ℕ
+  pub both : Bool
 
 -- what no words give
 abbrev pub nothing_said : Said
@@ -63,6 +64,7 @@ nothing_said = record {
   answers = false;
   max_bytes = None;
   max_entries = None;
+  both = false;
 }
 
 -- how far the words of a command have been read: what they give, the file, how many stood at places after it, the setting whose value is to
@@ -127,6 +129,7 @@ said_by given = record {
   answers = given.answers;
   max_bytes = given.max_bytes;
   max_entries = given.max_entries;
+  both = given.both;
 }
 
 -- how far words were taken, as bytes

@@ -41,6 +41,8 @@ pub struct Given<'a> {
     pub max_bytes: Option<u64>,
     /// How many entries a peer may send.
     pub max_entries: Option<u64>,
+    /// Whether both sides of a session get what the other has.
+    pub both: bool,
 }
 
 /// What a command line asks for.

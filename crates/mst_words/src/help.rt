@@ -52,10 +52,12 @@ Leaves one row in the file for each key. It changes no key and no value.
 ";
 
 const PULL_HELP: &str = "\
-usage: mst pull FILE [--allow-ahead] [--max-entries N] [--max-bytes N]
+usage: mst pull FILE [--both] [--allow-ahead] [--max-entries N] [--max-bytes N]
 
-Fetches what a peer that runs mst serve has later, over standard input and standard output, all or nothing.
+Fetches what a peer that runs mst serve has later, over standard input and standard output, all or nothing. While it waits for
+the peer, other commands can have the file.
 
+  --both           then answers the peer, which runs mst serve --both and fetches what this copy has
   --allow-ahead    also takes entries more than a day ahead of this clock: a later write of their keys gets a time
                    after theirs
   --max-entries N  fails if the peer sends more than N entries, and writes nothing; by default any number is taken
@@ -153,11 +155,15 @@ What is put and removed between the lines begin and commit is written by commit,
 ";
 
 const SERVE_HELP: &str = "\
-usage: mst serve FILE [--max-bytes N]
+usage: mst serve FILE [--both [--allow-ahead] [--max-entries N]] [--max-bytes N]
 
-Answers a peer that pulls, on standard input and standard output.
+Answers a peer that pulls, on standard input and standard output, by the rows that the file had when it began. While it waits for
+the peer, other commands can have the file.
 
-  --max-bytes N  fails if the peer sends more than N bytes, 64 GiB by default
+  --both           then fetches what the peer has later, if that runs mst pull --both
+  --allow-ahead    with --both: also takes entries more than a day ahead of this clock
+  --max-entries N  with --both: fetches nothing if the peer sends more than N entries
+  --max-bytes N    fails if the peer sends more than N bytes, 64 GiB by default
 ";
 
 /// The help of a command.

@@ -54,6 +54,7 @@ fn nothing<'a>(file: Option<&'a str>) -> Taken<'a>
             answers: false,
             max_bytes: None,
             max_entries: None,
+            both: false,
         },
         file,
         places: 0,
@@ -137,6 +138,7 @@ fn with_value<'a>(given: Given<'a>, setting: Setting, word: &'a str) -> Result<G
         Setting::Absent => given.wanted = Some(Wanted::Absence),
         Setting::Old => given.wanted = Some(Wanted::Text(word)),
         Setting::Answers => given.answers = true,
+        Setting::Both => given.both = true,
         Setting::MaxBytes => given.max_bytes = Some(number_of(word)?),
         Setting::MaxEntries => given.max_entries = Some(number_of(word)?),
     }

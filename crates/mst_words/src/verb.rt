@@ -57,6 +57,7 @@ pub enum Setting {
     Answers,
     MaxBytes,
     MaxEntries,
+    Both,
 }
 
 /// How the words of a command are given.
@@ -118,6 +119,7 @@ pub fn setting_of(name: &str) -> Option<Setting>
         "--answers" => Some(Setting::Answers),
         "--max-bytes" => Some(Setting::MaxBytes),
         "--max-entries" => Some(Setting::MaxEntries),
+        "--both" => Some(Setting::Both),
         _ => None,
     }
 }
@@ -127,7 +129,12 @@ pub fn has_value(setting: Setting) -> bool
     ensures { result ≡ takes_value setting }
 {
     match setting {
-        Setting::Json | Setting::Log | Setting::Ahead | Setting::Absent | Setting::Answers => false,
+        Setting::Json
+        | Setting::Log
+        | Setting::Ahead
+        | Setting::Absent
+        | Setting::Answers
+        | Setting::Both => false,
         _ => true,
     }
 }
@@ -167,12 +174,14 @@ pub fn takes_setting(verb: Verb, setting: Setting) -> bool
         }
         Setting::Json => is_shown_as_json(verb),
         Setting::Log => matches!(verb, Verb::Import | Verb::Export),
-        Setting::Ahead => matches!(verb, Verb::Import | Verb::Pull | Verb::Diff),
+        Setting::Ahead => matches!(verb, Verb::Import | Verb::Serve | Verb::Pull | Verb::Diff),
         Setting::Forget => matches!(verb, Verb::Compact),
         Setting::Absent | Setting::Old => matches!(verb, Verb::Put),
         Setting::Answers => matches!(verb, Verb::Shell),
-        Setting::MaxBytes => matches!(verb, Verb::Serve | Verb::Pull | Verb::Diff),
-        Setting::MaxEntries => matches!(verb, Verb::Pull | Verb::Diff),
+        Setting::MaxBytes | Setting::MaxEntries => {
+            matches!(verb, Verb::Serve | Verb::Pull | Verb::Diff)
+        }
+        Setting::Both => matches!(verb, Verb::Serve | Verb::Pull),
     }
 }
 

@@ -5,6 +5,6 @@ use Rattle.key_order.specs.Map.{get}
 use Rattle.store_table.specs.Registers.{is_later}
 use Rattle.merkle_store.proofs.news.news_of.Goals as goal
 
-pub returns-clause-news : goal.returns-clause-news
-returns-clause-news c =
+pub returns : goal.returns
+returns c =
     filter_same _ (λ entry. is_later (get text_order c.args.replica.now.rows entry.0) entry.1) _ (λ x b f' called. search rules) _ _ c.retain.ensures.filtered

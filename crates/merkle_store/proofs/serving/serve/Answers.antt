@@ -1,0 +1,47 @@
+use Rattle.std.proofs.Common.{◌≡◌, rules, refl, subst, ◌∙◌}
+use Rattle.std.specs.Io.KnownBytes.{Appends}
+use Rattle.key_order.specs.Text.{text_order}
+use Rattle.merkle_delta.specs.Exchanges.{IsReplyBy}
+use Rattle.merkle_delta.specs.Messages.{IsAnswered}
+use Rattle.merkle_digest.specs.Level.{level_of}
+use Rattle.merkle_digest.specs.SipDigests.{text_digest}
+use Rattle.merkle_replica.proofs.SideLaws.{same_side}
+use Rattle.merkle_replica.specs.Contents.{tree_map}
+use Rattle.merkle_tree_theory.specs.Canonical.{IsCanonicalRoot, IsTreeOf}
+use Rattle.merkle_tree_theory.specs.State.{SameSettings}
+use Rattle.store_table.specs.WireRegisters.{register_encoding}
+use Rattle.merkle_store.specs.Framing.{HasCome, frame_of}
+use Rattle.merkle_store.specs.Sessions.{entry_laws, key_encoding}
+use Rattle.merkle_store.proofs.Exchanged.{has_served_more}
+use Rattle.merkle_store.proofs.serving.serve.Goals as goal
+
+pub messages-preserved : goal.messages-preserved
+messages-preserved g c =
+    let inv = c.messages.invariant in
+    let new = c.answer_within.ensures in
+    let replica = c.args.replica.now in
+    let before = c.messages.replica in
+    let after = c.answer_within.new.replica in
+    let message = c.in-Some.message.items in
+    let reply = c.in-Ok.reply.items in
+    let rows : after.rows ≡ replica.rows = new.rows ∙ inv.rows in
+    let settings : SameSettings replica.tree after.tree = (new.settings.0 ∙ inv.settings.0, new.settings.1 ∙ inv.settings.1, new.settings.2 ∙ inv.settings.2) in
+    let canonical = subst (λ t. IsCanonicalRoot (λ k. level_of (text_digest t.hasher k) t.base) t.root) c.tree.ensures.tree c.every_tree_is_sound.ensures.sound.canonical in
+    let replies : IsReplyBy entry_laws 16 key_encoding register_encoding replica message reply = record {
+      before = before;
+      after = after;
+      bytes = c.in-Ok.reply;
+      rows = (inv.rows, rows);
+      settings = (inv.settings, settings);
+      of_rows = subst (λ s. IsTreeOf text_order (text_digest s.hasher) s.base after.tree.root (tree_map entry_laws s)) (same_side replica after rows settings) (canonical, c.tree.ensures.digests);
+      reply_bytes = refl;
+      answered = subst (λ m. IsAnswered entry_laws 16 key_encoding register_encoding before after m c.in-Ok.reply) c.deref.ensures.value c.in-Ok.ensures.answered;
+    } in
+    record {
+      served = has_served_more replica c.args.most (g.W.Write.contents c.args.to.now, g.R.Read.remaining c.args.from.now) (g.W.Write.contents c.messages.to, g.R.Read.remaining c.messages.from)
+          (g.W.Write.contents c.send.new.out, g.R.Read.remaining c.receive.new.from) message reply inv.served replies (search rules)
+          (subst (HasCome (g.R.Read.remaining c.messages.from) (g.R.Read.remaining c.receive.new.from)) c.in-Some.is c.in_ok-message.ensures.came)
+          (subst (λ m. Appends (g.W.Write.contents c.messages.to) (g.W.Write.contents c.send.new.out) (frame_of m)) c.deref-in-Ok.ensures.value c.in_ok-send-in-Ok.ensures.sent);
+      rows = rows;
+      settings = settings;
+    }
