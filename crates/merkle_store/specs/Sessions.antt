@@ -71,16 +71,16 @@ pub record IsServed (replica : EntryContents) (most : ℕ) (before after : Strea
 abbrev pub HasServed : EntryContents → ℕ → Streams → Streams → Type 0
 HasServed replica most before after = (exchanges : Exchanges) × IsServed replica most before after exchanges
 
--- a message of no bytes was read, which gives the turn to this side; or nothing is left
-abbrev pub EndsBy : Bool → Option (List ℕ) → Option (List ℕ) → Type 0
-EndsBy true before after = Consumes before after (frame_of [])
-EndsBy false before after = HasEnded before after
+-- the peer asks no more: a message of no bytes was read, which gives the turn to this side; or nothing is left
+abbrev pub AsksNoMore : Bool → Option (List ℕ) → Option (List ℕ) → Type 0
+AsksNoMore true before after = Consumes before after (frame_of [])
+AsksNoMore false before after = HasEnded before after
 
 -- behind them a message of no bytes was read where that gives the turn to this side, and else nothing is left
 pub record HasServedTo (replica : EntryContents) (most : ℕ) (before after : Streams) (served : Served) : Type 0 where
   pub read : Option (List ℕ)
   pub answered : HasServed replica most before (after.0, read)
-  pub ended : EndsBy served.is_turn read after.1
+  pub ended : AsksNoMore served.is_turn read after.1
 
 -- a catch-up over two streams, to each of whose messages a peer replied over its own, brings what is missing, while no digest of its replies collides
 abbrev pub ServedBring : Type 0

@@ -171,7 +171,8 @@ fn expect_fit(alloc: Global, entries: &[(String, Register)], latest: u64) -> Res
 }
 
 /// What a peer has that is later than the rows, all or none: the rows stay, and so does every file. If a reply has more bytes than the terms say, or
-/// more entries come, or one that isn't taken, it fails.
+/// more entries come, or one that isn't taken, it fails. Besides the catch-up it takes time linear in the entries that came, each of which is looked up
+/// among the rows by halving.
 ///
 /// ```rust crates/mst/src/peers.rt
 /// let terms = terms_of(rt, given)?;

@@ -23,7 +23,8 @@ pub struct Served {
 }
 
 /// Answers a peer until it sends a message of no bytes, or its messages end. Each has at most `most` bytes; an answer ends with the entry by which it has
-/// [`ANSWER_BYTES`], and the peer asks for the rest. The rows stay, and so does every file.
+/// [`ANSWER_BYTES`], and the peer asks for the rest. The rows stay, and so does every file. An answer takes the time and the memory of
+/// [`answer_within`]; nothing is kept between messages.
 ///
 /// ```rust crates/mst/src/peers.rt
 /// let served = serve(
