@@ -25,7 +25,7 @@ impl<K: Key + Drop, V: Join + Drop, H: Hasher<N, K> + Hasher<N, V>, const N: usi
     /// of them is made first, and own rows from the first of them on are moved out of the way and back. A put of each moves the rows
     /// after it instead, so this is for many rows.
     ///
-    /// ```rust crates/merkle_store/src/upkeep.rt
+    /// ```rust crates/merkle_store/src/rows.rt
     /// match replica.put_all(entries) {
     ///     Ok(()) => Ok(replica),
     ///     Err(_) => Err(StoreFault::Memory),

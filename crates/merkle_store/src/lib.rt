@@ -7,7 +7,7 @@ pub mod framing;
 pub mod laws;
 mod news;
 pub mod reopening;
+pub mod rows;
 pub mod serving;
 pub mod traffic;
-pub mod upkeep;
 pub mod wire;

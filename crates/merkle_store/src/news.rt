@@ -5,7 +5,7 @@ ghost use Rattle.key_order.specs.Map.{get};
 ghost use Rattle.store_table.specs.Registers.{is_later};
 ghost use Rattle.merkle_store.specs.News.{later_entries};
 
-use crate::upkeep::EntryReplica;
+use crate::rows::EntryReplica;
 use store_table::Register;
 use store_table::rows::register_in;
 use store_table::table::Entries;

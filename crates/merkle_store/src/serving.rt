@@ -4,8 +4,8 @@ ghost use Rattle.merkle_tree_theory.specs.State.{SameSettings};
 ghost use Rattle.merkle_store.specs.Sessions.{HasServedTo};
 
 use crate::framing::{ANSWER_BYTES, Watch, receive, send};
+use crate::rows::EntryReplica;
 use crate::traffic::Traffic;
-use crate::upkeep::EntryReplica;
 use crate::wire::WireFault;
 use merkle_delta::answer_within;
 use merkle_search_tree::laws::every_tree_is_sound;

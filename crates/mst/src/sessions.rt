@@ -10,7 +10,7 @@ use crate::peers;
 use crate::tasks::patience;
 use merkle_store::fetch_fault::FetchFault;
 use merkle_store::fetching::Fetched;
-use merkle_store::upkeep::{EntryReplica, read_replica};
+use merkle_store::rows::{EntryReplica, read_replica};
 use mst_commands::clock::now;
 use mst_words::{Given, Verb};
 use sqlite_trees::store::Store;

@@ -8,7 +8,7 @@ use crate::fault::Failure;
 use crate::files::{Closing, close_behind, expect_file, make_store, open_file, open_whole};
 use crate::{sessions, shell};
 use merkle_digest::RootHash;
-use merkle_store::upkeep::read_replica;
+use merkle_store::rows::read_replica;
 use mst_commands::input::read_input;
 use mst_commands::{Input, run};
 use mst_words::hash_key::number_of;
