@@ -1,6 +1,6 @@
 //! Sessions that end at a limit.
+use crate::playing::{Session, Step, answer};
 use crate::rows::{Rows, Way, keys, replica};
-use merkle_delta::{CatchingUp, Next, answer};
 use merkle_wire::{Limit, Limits, SessionError};
 use std::alloc::Global;
 use std::test::Fail;
@@ -12,16 +12,16 @@ fn session_within(
     peer: &mut Rows,
     limits: Limits,
 ) -> Result<Result<usize, Limit>, Fail> {
-    let (session, mut message) = CatchingUp::begin(alloc, local)?;
+    let (session, mut message) = Session::begin(alloc, local)?;
     let mut session = session.within(limits);
     for _ in 0..100 {
         let reply = answer(alloc, peer, &message)?;
-        match session.take(local, &reply) {
-            Ok(Next::Ask(next, question)) => {
+        match session.hear(alloc, local, reply) {
+            Ok(Step::Ask(next, question)) => {
                 session = next;
                 message = question;
             }
-            Ok(Next::Came(rows)) => return Ok(Ok(rows.len())),
+            Ok(Step::Came(rows)) => return Ok(Ok(rows.len())),
             Err(SessionError::Limit(limit)) => return Ok(Err(limit)),
             Err(_) => return Err(Fail::new("another error")),
         }

@@ -1,7 +1,7 @@
 //! A session by deltas for which memory is refused ends for that, or brings the rows that are missing. Under `tests/refusals` each request for memory of
 //! the test is refused.
+use crate::playing::{Session, Step, answer};
 use crate::rows::{Random, Rows};
-use merkle_delta::{CatchingUp, Next, answer};
 use merkle_search_tree::builder::Builder;
 use merkle_wire::{AnswerError, SessionError};
 use std::alloc::{AllocError, Global};
@@ -28,16 +28,16 @@ fn replica(alloc: Global, value: u64) -> Result<Rows, AllocError> {
 fn brings_or_wants_memory(alloc: Global) -> Result<bool, AllocError> {
     let mut local = replica(alloc, 1)?;
     let mut peer = replica(alloc, 2)?;
-    let (mut session, mut message) = CatchingUp::begin(alloc, &local)?;
+    let (mut session, mut message) = Session::begin(alloc, &local)?;
     for _message in 0..20 {
         let reply = match answer(alloc, &mut peer, &message) {
             Ok(reply) => reply,
             Err(error) => return Ok(error == AnswerError::Memory),
         };
-        match session.take(&mut local, &reply) {
-            Ok(Next::Came(rows)) => return Ok(rows.len() == DIFFERING),
+        match session.hear(alloc, &mut local, reply) {
+            Ok(Step::Came(rows)) => return Ok(rows.len() == DIFFERING),
             Err(error) => return Ok(error == SessionError::Memory),
-            Ok(Next::Ask(next, question)) => {
+            Ok(Step::Ask(next, question)) => {
                 session = next;
                 message = question;
             }

@@ -1,6 +1,6 @@
 //! Replies that are the delta of nothing: of a peer that doesn't know deltas, and altered ones. The question is asked again, plainly.
+use crate::playing::{Session, Step, answer};
 use crate::rows::{Rows, Way, keys, replica};
-use merkle_delta::{CatchingUp, Next, answer};
 use merkle_wire::{AnswerError, refusal};
 use std::alloc::Global;
 use std::test::Fail;
@@ -31,15 +31,15 @@ fn plain_answer(alloc: Global, peer: &mut Rows, message: &[u8]) -> Result<Vec<u8
 
 /// How many rows a session brings from such a peer, and in how many messages.
 fn rows_of_plain_peer(alloc: Global, sides: &mut Sides) -> Result<(usize, usize), Fail> {
-    let (mut session, mut message) = CatchingUp::begin(alloc, &sides.local)?;
+    let (mut session, mut message) = Session::begin(alloc, &sides.local)?;
     for messages in 1..100 {
         let reply = plain_answer(alloc, &mut sides.peer, &message)?;
-        match session.take(&mut sides.local, &reply)? {
-            Next::Ask(next, question) => {
+        match session.hear(alloc, &mut sides.local, reply)? {
+            Step::Ask(next, question) => {
                 session = next;
                 message = question;
             }
-            Next::Came(rows) => return Ok((rows.len(), messages)),
+            Step::Came(rows) => return Ok((rows.len(), messages)),
         }
     }
     Err(Fail::new("no end"))
@@ -53,12 +53,12 @@ fn a_peer_without_deltas_is_asked_plainly(rt: HostRuntime) -> Result<(), Fail> {
 }
 
 /// A session that waits for the reply to its second message, and the message.
-fn second(alloc: Global, sides: &mut Sides) -> Result<(CatchingUp<String, u64>, Vec<u8>), Fail> {
-    let (session, message) = CatchingUp::begin(alloc, &sides.local)?;
+fn second(alloc: Global, sides: &mut Sides) -> Result<(Session, Vec<u8>), Fail> {
+    let (session, message) = Session::begin(alloc, &sides.local)?;
     let reply = answer(alloc, &mut sides.peer, &message)?;
-    match session.take(&mut sides.local, &reply)? {
-        Next::Ask(session, message) => Ok((session, message)),
-        Next::Came(_) => Err(Fail::new("rows")),
+    match session.hear(alloc, &mut sides.local, reply)? {
+        Step::Ask(session, message) => Ok((session, message)),
+        Step::Came(_) => Err(Fail::new("rows")),
     }
 }
 
@@ -69,23 +69,23 @@ fn delta(alloc: Global, sides: &mut Sides) -> Result<Vec<u8>, Fail> {
 }
 
 /// Whether the second question is asked again, plainly, after a reply.
-fn is_asked_again(alloc: Global, sides: &mut Sides, reply: &[u8]) -> Result<bool, Fail> {
+fn is_asked_again(alloc: Global, sides: &mut Sides, reply: Vec<u8>) -> Result<bool, Fail> {
     let (session, _) = second(alloc, sides)?;
-    match session.take(&mut sides.local, reply)? {
-        Next::Ask(_, message) => Ok(message.as_slice() == [1, 2, 16, 1, 0, 0].as_slice()),
-        Next::Came(_) => Ok(false),
+    match session.hear(alloc, &mut sides.local, reply)? {
+        Step::Ask(_, message) => Ok(message.as_slice() == [1, 2, 16, 1, 0, 0].as_slice()),
+        Step::Came(_) => Ok(false),
     }
 }
 
 /// The first place at which a delta can have another byte and is taken.
 fn first_taken(alloc: Global, sides: &mut Sides) -> Result<Option<usize>, Fail> {
-    let mut reply = delta(alloc, sides)?;
+    let reply = delta(alloc, sides)?;
     for place in 0..reply.len() {
-        reply[place] = reply[place].wrapping_add(1);
-        if !is_asked_again(alloc, sides, &reply)? {
+        let mut altered = Vec::from_slice(alloc, &reply)?;
+        altered[place] = altered[place].wrapping_add(1);
+        if !is_asked_again(alloc, sides, altered)? {
             return Ok(Some(place));
         }
-        reply[place] = reply[place].wrapping_sub(1);
     }
     Ok(None)
 }

@@ -1,7 +1,8 @@
 //! Sessions between two replicas in memory, by deltas and plainly.
 use crate::rows::Rows;
-use merkle_delta::{CatchingUp, Next, answer_in_full, answer_within};
-use std::alloc::Global;
+use merkle_delta::{Deltas, Heard, read_message, tell};
+use merkle_wire::{AnswerError, CatchingUp, Limits, Next, SessionError, answer_within};
+use std::alloc::{AllocError, Global};
 use std::test::Fail;
 
 /// How many messages a session has here at most.
@@ -29,8 +30,150 @@ impl Cost {
     }
 }
 
+/// A catch-up by deltas that waits for a reply.
+#[derive(Drop)]
+pub(crate) struct Session {
+    session: CatchingUp<String, u64>,
+    pub(crate) deltas: Deltas,
+}
+
+/// What comes after a reply: the next message, or the rows.
+#[derive(Drop)]
+pub(crate) enum Step {
+    Ask(Session, Vec<u8>),
+    Came(Vec<(String, u64)>),
+}
+
+impl Session {
+    /// The session of a side that begins, and its first message.
+    pub(crate) fn begin(alloc: Global, local: &Rows) -> Result<(Self, Vec<u8>), AllocError> {
+        let (session, message) = CatchingUp::begin(alloc, local)?;
+        let deltas = Deltas::new();
+        Ok((Session { session, deltas }, message))
+    }
+
+    /// The same under these limits.
+    pub(crate) fn within(self, limits: Limits) -> Self {
+        let Session { session, deltas } = self;
+        Session {
+            session: session.within(limits),
+            deltas,
+        }
+    }
+
+    /// What comes after a reply.
+    pub(crate) fn hear(
+        self,
+        alloc: Global,
+        local: &mut Rows,
+        reply: Vec<u8>,
+    ) -> Result<Step, SessionError> {
+        let Session {
+            session,
+            mut deltas,
+        } = self;
+        let plain = match deltas.hear(alloc, reply)? {
+            Heard::Again(question) => return Ok(Step::Ask(Session { session, deltas }, question)),
+            Heard::Reply(plain) => plain,
+        };
+        match session.take(local, &plain)? {
+            Next::Ask(session, question) => {
+                let message = message_for(alloc, local, &session, &mut deltas, question)?;
+                Ok(Step::Ask(Session { session, deltas }, message))
+            }
+            Next::Came(rows) => Ok(Step::Came(rows)),
+        }
+    }
+}
+
+/// The message for a question.
+fn message_for(
+    alloc: Global,
+    local: &mut Rows,
+    session: &CatchingUp<String, u64>,
+    deltas: &mut Deltas,
+    question: Vec<u8>,
+) -> Result<Vec<u8>, AllocError> {
+    let mut own = None;
+    if deltas.are_known() {
+        own = session.own_reply(local, deltas.pay())?;
+    }
+    deltas.ask(alloc, own, question)
+}
+
+/// The peer's plain reply to a message, and what is sent of it.
+pub(crate) fn answer_in_full(
+    alloc: Global,
+    peer: &mut Rows,
+    message: &[u8],
+    most_bytes: usize,
+) -> Result<(Vec<u8>, Vec<u8>), AnswerError> {
+    let (checksums, question) = read_message(alloc, message)?;
+    let plain = answer_within(alloc, peer, question, most_bytes)?;
+    let copy = Vec::from_slice(alloc, &plain)?;
+    Ok((plain, tell(alloc, checksums, copy)?))
+}
+
+/// The peer's reply to a message.
+pub(crate) fn answer(
+    alloc: Global,
+    peer: &mut Rows,
+    message: &[u8],
+) -> Result<Vec<u8>, AnswerError> {
+    let (checksums, question) = read_message(alloc, message)?;
+    let plain = merkle_wire::answer(alloc, peer, question)?;
+    Ok(tell(alloc, checksums, plain)?)
+}
+
 /// The rows that a session by deltas brings from a peer whose plain replies end at this many bytes, and what it took.
 pub(crate) fn by_deltas(
+    alloc: Global,
+    local: &mut Rows,
+    peer: &mut Rows,
+    most_bytes: usize,
+) -> Result<(Vec<(String, u64)>, Cost), Fail> {
+    let mut cost = Cost::default();
+    let (mut session, mut message) = Session::begin(alloc, local)?;
+    for _message in 0..MOST_MESSAGES {
+        let (_, reply) = answer_in_full(alloc, peer, &message, most_bytes)?;
+        cost.add(&message, &reply);
+        match session.hear(alloc, local, reply)? {
+            Step::Ask(next, question) => {
+                session = next;
+                message = question;
+            }
+            Step::Came(rows) => return Ok((rows, cost)),
+        }
+    }
+    Err(Fail::new("no end"))
+}
+
+/// Whether each reply of a session by deltas tells nothing else than the plain reply that it was made of.
+pub(crate) fn tells_safely(
+    alloc: Global,
+    local: &mut Rows,
+    peer: &mut Rows,
+    most_bytes: usize,
+) -> Result<bool, Fail> {
+    let (mut session, mut message) = Session::begin(alloc, local)?;
+    for _message in 0..MOST_MESSAGES {
+        let (plain, reply) = answer_in_full(alloc, peer, &message, most_bytes)?;
+        if !session.deltas.tells_only(alloc, &reply, &plain)? {
+            return Ok(false);
+        }
+        match session.hear(alloc, local, reply)? {
+            Step::Ask(next, question) => {
+                session = next;
+                message = question;
+            }
+            Step::Came(_) => return Ok(true),
+        }
+    }
+    Err(Fail::new("no end"))
+}
+
+/// The rows that a session without deltas brings, and what it took.
+pub(crate) fn plainly(
     alloc: Global,
     local: &mut Rows,
     peer: &mut Rows,
@@ -47,54 +190,6 @@ pub(crate) fn by_deltas(
                 message = question;
             }
             Next::Came(rows) => return Ok((rows, cost)),
-        }
-    }
-    Err(Fail::new("no end"))
-}
-
-/// Whether each reply of a session by deltas tells nothing else than what the peer told in full.
-pub(crate) fn tells_safely(
-    alloc: Global,
-    local: &mut Rows,
-    peer: &mut Rows,
-    most_bytes: usize,
-) -> Result<bool, Fail> {
-    let (mut session, mut message) = CatchingUp::begin(alloc, local)?;
-    for _message in 0..MOST_MESSAGES {
-        let (reply, plain) = answer_in_full(alloc, peer, &message, most_bytes)?;
-        let whole = plain.as_ref().unwrap_or(&reply);
-        if !session.tells_only(&reply, whole)? {
-            return Ok(false);
-        }
-        match session.take(local, &reply)? {
-            Next::Ask(next, question) => {
-                session = next;
-                message = question;
-            }
-            Next::Came(_) => return Ok(true),
-        }
-    }
-    Err(Fail::new("no end"))
-}
-
-/// The rows that a session without deltas brings, and what it took.
-pub(crate) fn plainly(
-    alloc: Global,
-    local: &mut Rows,
-    peer: &mut Rows,
-    most_bytes: usize,
-) -> Result<(Vec<(String, u64)>, Cost), Fail> {
-    let mut cost = Cost::default();
-    let (mut session, mut message) = merkle_wire::CatchingUp::begin(alloc, local)?;
-    for _message in 0..MOST_MESSAGES {
-        let reply = merkle_wire::answer_within(alloc, peer, &message, most_bytes)?;
-        cost.add(&message, &reply);
-        match session.take(local, &reply)? {
-            merkle_wire::Next::Ask(next, question) => {
-                session = next;
-                message = question;
-            }
-            merkle_wire::Next::Came(rows) => return Ok((rows, cost)),
         }
     }
     Err(Fail::new("no end"))

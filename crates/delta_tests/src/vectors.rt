@@ -1,6 +1,6 @@
 //! The session by deltas of docs/WIRE.md, byte by byte. tests/wire_reader reads the same bytes in the document.
+use crate::playing::{Session, Step, answer};
 use crate::rows::Rows;
-use merkle_delta::{CatchingUp, Next, answer};
 use merkle_search_tree::builder::Builder;
 use std::alloc::{AllocError, Global};
 use std::test::Fail;
@@ -46,7 +46,7 @@ fn animals(alloc: Global, value: u64) -> Result<Rows, AllocError> {
 }
 
 /// The session with its message and the peer's reply to that.
-type Exchange = (CatchingUp<String, u64>, Vec<u8>, Vec<u8>);
+type Exchange = (Session, Vec<u8>, Vec<u8>);
 
 /// The exchange after a message and its reply.
 fn next_exchange(
@@ -56,7 +56,7 @@ fn next_exchange(
     peer: &mut Rows,
 ) -> Result<Exchange, Fail> {
     let (session, _, reply) = exchange;
-    let Next::Ask(session, message) = session.take(local, &reply)? else {
+    let Step::Ask(session, message) = session.hear(alloc, local, reply)? else {
         return Err(Fail::new("rows"));
     };
     let reply = answer(alloc, peer, &message)?;
@@ -65,7 +65,7 @@ fn next_exchange(
 
 /// The first exchange.
 fn first_exchange(alloc: Global, local: &Rows, peer: &mut Rows) -> Result<Exchange, Fail> {
-    let (session, message) = CatchingUp::begin(alloc, local)?;
+    let (session, message) = Session::begin(alloc, local)?;
     let reply = answer(alloc, peer, &message)?;
     Ok((session, message, reply))
 }

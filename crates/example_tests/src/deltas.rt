@@ -1,86 +1,56 @@
-use crate::rows::{are_rows, opened};
-use examples::deltas::{audited_exchange, exchange};
-use examples::store::Store;
-use merkle_delta::{CatchingUp, Next};
-use std::alloc::Global;
+use examples::deltas::{carried, most_told};
+use merkle_delta::{Chunks, Deltas, Heard};
+use std::alloc::{AllocError, Global};
 use std::test::Fail;
 
-/// Rows of numbers by name.
-type Rows = &'static [(&'static str, u64)];
+/// The second message of a session: it asks for the outline of everything.
+const QUESTION: [u8; 6] = [1, 2, 16, 1, 0, 0];
 
-/// The rows of a replica, those of a peer, and those that come.
-const CASES: [(Rows, Rows, Rows); 4] = [
-    (&[], &[], &[]),
-    (&[("a", 1)], &[("a", 1)], &[]),
-    (&[], &[("a", 1), ("b", 7)], &[("a", 1), ("b", 7)]),
-    (
-        &[("a", 1), ("b", 7), ("d", 2), ("e", 5), ("f", 3)],
-        &[("a", 1), ("b", 8), ("c", 4), ("d", 2), ("e", 5)],
-        &[("b", 8), ("c", 4)],
-    ),
-];
+/// How many bytes replies have here.
+const BYTES: usize = 400;
 
-/// The rows that come in exchanges of messages.
-fn rows_by_exchanges(
-    alloc: Global,
-    local: &mut Store<u64>,
-    peer: &mut Store<u64>,
-) -> Result<Vec<(String, u64)>, Fail> {
-    let (mut session, mut message) = CatchingUp::begin(alloc, local)?;
-    for _exchange in 0..20 {
-        match exchange(alloc, local, peer, session, message) {
-            Ok(Next::Came(rows)) => return Ok(rows),
-            Ok(Next::Ask(next, question)) => {
-                session = next;
-                message = question;
-            }
-            Err(_) => return Err(Fail::new("an end")),
-        }
+/// A reply whose bytes follow no rule that a reader sees, but for one at this place.
+fn reply(alloc: Global, changed: usize) -> Result<Vec<u8>, AllocError> {
+    let mut bytes = Vec::new(alloc);
+    let mut state: u32 = 12_345;
+    for place in 0..BYTES {
+        state = state.wrapping_mul(1_103_515_245).wrapping_add(12_345);
+        let byte = (state >> 16) as u8;
+        bytes.push(if place == changed { byte ^ 1 } else { byte })?;
     }
-    Err(Fail::new("no end"))
+    Ok(bytes)
 }
 
-/// Whether these rows come to a replica with those, from a peer with others.
-fn come(alloc: Global, rows: Rows, peer_rows: Rows, expected: Rows) -> Result<bool, Fail> {
-    let mut local = opened(alloc, rows)?;
-    let mut peer = opened(alloc, peer_rows)?;
-    let came = rows_by_exchanges(alloc, &mut local, &mut peer)?;
-    Ok(are_rows(&came, expected))
+/// Whether a plain reply is heard as it was told, and passes the audit, with this own one.
+fn is_heard(alloc: Global, own: Option<Vec<u8>>, changed: usize) -> Result<bool, Fail> {
+    let question = Vec::from_slice(alloc, &QUESTION)?;
+    let plain = reply(alloc, changed)?;
+    match carried(alloc, &mut Deltas::new(), own, question, plain)? {
+        (Heard::Reply(heard), is_sure) => Ok(is_sure && heard == reply(alloc, changed)?),
+        (Heard::Again(_), _) => Ok(false),
+    }
 }
+
+/// Places at which a reply differs from the own one; none in the last case.
+const PLACES: [usize; 4] = [0, 150, 399, 400];
 
 #[test]
-fn exchanges_bring_what_is_lacked(rt: HostRuntime) -> Result<(), Fail> {
-    for (rows, peer_rows, expected) in &CASES {
+fn a_reply_is_heard_as_it_was_told(rt: HostRuntime) -> Result<(), Fail> {
+    let alloc = rt.alloc();
+    for place in PLACES {
+        assert!(rt; is_heard(alloc, None, place)?, "{place}");
+        assert!(rt; is_heard(alloc, Some(Vec::new(alloc)), place)?, "{place}");
         assert!(rt;
-            come(rt.alloc(), rows, peer_rows, expected)?,
-            "{expected:?}"
+            is_heard(alloc, Some(reply(alloc, BYTES)?), place)?,
+            "{place}"
         );
     }
     Ok(())
 }
 
-/// Whether each exchange of a catch-up passes its audit.
-fn are_audited(alloc: Global, rows: Rows, peer_rows: Rows) -> Result<bool, Fail> {
-    let mut local = opened(alloc, rows)?;
-    let mut peer = opened(alloc, peer_rows)?;
-    let (mut session, mut message) = CatchingUp::begin(alloc, &local)?;
-    for _exchange in 0..20 {
-        match audited_exchange(alloc, &mut local, &mut peer, session, message) {
-            Ok((Next::Came(_), is_sure)) => return Ok(is_sure),
-            Ok((Next::Ask(next, question), true)) => {
-                session = next;
-                message = question;
-            }
-            _ => return Ok(false),
-        }
-    }
-    Err(Fail::new("no end"))
-}
-
 #[test]
-fn audits_are_passed(rt: HostRuntime) -> Result<(), Fail> {
-    for (rows, peer_rows, expected) in &CASES {
-        assert!(rt; are_audited(rt.alloc(), rows, peer_rows)?, "{expected:?}");
-    }
+fn a_reply_tells_no_more_than_the_own_one_and_itself(rt: HostRuntime) -> Result<(), Fail> {
+    let own = Chunks::cut(rt.alloc(), reply(rt.alloc(), 0)?)?;
+    assert!(rt; most_told(&own, &QUESTION) == 406);
     Ok(())
 }

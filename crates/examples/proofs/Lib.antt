@@ -1,5 +1,4 @@
 pub mod EqualSets
-pub mod Exchanged
 pub mod GossipSessions
 pub mod Outcomes
 pub mod RemovedKeys

@@ -3,12 +3,16 @@ use Rattle.std.proofs.Common.{◌≡◌, ◌≢◌, ℕ, ◌<◌, ◌≤◌, Lis
 use Rattle.std.specs.List.{flat_map}
 use Rattle.std.proofs.lemmas.List.{append_assoc, append-nil, length-append, flat_map_more}
 use Rattle.key_order.proofs.ListParts.{join_tells}
-use Rattle.merkle_digest.specs.SipHash.{zero_key}
-use Rattle.merkle_tree_theory.proofs.StreamParts.{hash_length}
+use Rattle.merkle_digest.specs.SipHash.{siphash128, output}
 use Rattle.merkle_delta.specs.Chunks.{digest_of}
 use Rattle.merkle_delta.specs.Deltas.{IsDeltaOver, Step, step_bytes, given_by, left_by, left_behind, bytes_from_steps, IsStepOver, AreStepsOver}
 use Rattle.merkle_delta.specs.Steps.{IsStepTaken, BeginNoStep, AreGiven, AreNoSteps}
 use Rattle.merkle_delta.proofs.Stepping.{over-more, patched-more, left-more, step-some, step_told, steps_told}
+
+-- a digest has 16 bytes
+pub digest_length : (bytes : List ℕ) → length (digest_of bytes) ≡ 16
+unfolding siphash128 output
+digest_length bytes = refl
 
 -- no bytes are none
 pub no_bytes : (bytes : List ℕ) → length bytes ≡ 0 → bytes ≡ []
@@ -87,13 +91,13 @@ fewer_left chunks behind left left' given given' (step, is, now, put, goes) = om
 module _ (own : List (List ℕ)) (whole bytes : List ℕ) where
   -- a delta has as many bytes as its digest
   pub delta_long : IsDeltaOver own whole bytes → 16 ≤ length whole
-  delta_long (steps, over, gives, is) = omega (arith, ap length is, length-append (digest_of bytes) (flat_map step_bytes steps), hash_length zero_key bytes)
+  delta_long (steps, over, gives, is) = omega (arith, ap length is, length-append (digest_of bytes) (flat_map step_bytes steps), digest_length bytes)
 
   -- after the digest stand its steps
   pub delta_parts : (digest left : List ℕ) → whole ≡ digest ++ left → length digest ≡ 16 → IsDeltaOver own whole bytes
       → (digest ≡ digest_of bytes) × ((steps : List Step) × AreStepsOver own steps × (bytes ≡ bytes_from_steps own steps) × (left ≡ flat_map step_bytes steps))
   delta_parts digest left read long (steps, over, gives, is) =
-      let told = join_tells digest (digest_of bytes) left (flat_map step_bytes steps) (long ∙ sym (hash_length zero_key bytes)) (sym read ∙ is) in
+      let told = join_tells digest (digest_of bytes) left (flat_map step_bytes steps) (long ∙ sym (digest_length bytes)) (sym read ∙ is) in
       (told.0, (steps, over, gives, told.1))
 
   -- where no steps do, it is none
@@ -109,5 +113,5 @@ module _ (own : List (List ℕ)) (whole bytes : List ℕ) where
 -- over the same chunks a delta is that of one byte string
 pub delta_alone : (own : List (List ℕ)) (whole a b : List ℕ) → IsDeltaOver own whole a → IsDeltaOver own whole b → a ≡ b
 delta_alone own whole a b (steps, over, gives, is) (others, are, gave, was) =
-    let told = join_tells (digest_of a) (digest_of b) (flat_map step_bytes steps) (flat_map step_bytes others) (hash_length zero_key a ∙ sym (hash_length zero_key b)) (sym is ∙ was) in
+    let told = join_tells (digest_of a) (digest_of b) (flat_map step_bytes steps) (flat_map step_bytes others) (digest_length a ∙ sym (digest_length b)) (sym is ∙ was) in
     gives ∙ ap (bytes_from_steps own) (steps_told own steps others over are told.1) ∙ sym gave

@@ -1,10 +1,6 @@
 pub mod Cutting
 pub mod Stepping
-pub mod Telling
+pub mod ToldChunks
 pub mod Following
 pub mod Asking
-pub mod Answered
-pub mod Plain
-pub mod Taking
-pub mod Exchanging
-pub mod Alone
+pub mod HeardReplies

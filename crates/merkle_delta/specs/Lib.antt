@@ -3,7 +3,4 @@ pub mod Deltas
 pub mod Steps
 pub mod Faults
 pub mod Messages
-pub mod CatchUps
-pub mod Sessions
-pub mod Underway
-pub mod Exchanges
+pub mod Hearing

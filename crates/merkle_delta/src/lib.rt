@@ -1,18 +1,18 @@
-//! Catch-ups by [`merkle_wire`] whose replies are told as what they differ by from this side's own, by the checksums of chunks: as rsync does with files
-//! (Tridgell and Mackerras, "The rsync algorithm"), with chunks that end where their bytes say so (Muthitacharoen, Chen and Mazières, "A
-//! low-bandwidth network file system").
+//! Replies that are told as what they differ by from bytes that the other side has, by the checksums of chunks: as rsync does with files (Tridgell and
+//! Mackerras, "The rsync algorithm"), with chunks that end where their bytes say so (Muthitacharoen, Chen and Mazières, "A low-bandwidth network file
+//! system"). What the questions and replies are, this crate doesn't know: they are bytes.
 #![tactic(auto)]
 
-mod answering;
-mod catching_up;
 mod checksum;
 mod chunks;
 mod delta;
+mod hearing;
 pub mod laws;
 mod message;
 mod patch;
 mod table;
+mod telling;
 
-pub use answering::{answer, answer_in_full, answer_within};
-pub use catching_up::{CatchingUp, Next};
 pub use chunks::Chunks;
+pub use hearing::{Deltas, Heard};
+pub use telling::{read_message, tell};

@@ -1,5 +1,5 @@
 -- Rows that have grown since they were compared with what a peer sent.
-use Rattle.std.proofs.Common.{◌≡◌, Bool, true, List, Option}
+use Rattle.std.proofs.Common.{Bool, List, Option}
 use Rattle.std.specs.Cmp.{IsEquivalence}
 use Rattle.key_order.specs.Map.{get}
 use Rattle.key_order.specs.Join.{joined, IsJoining}

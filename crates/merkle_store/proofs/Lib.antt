@@ -6,3 +6,4 @@ pub mod Growing
 pub mod Found
 pub mod Messages
 pub mod Exchanged
+pub mod Bringing

@@ -1,5 +1,5 @@
 -- A catch-up of a replica of entries with a peer, over two streams, and what a peer answers over them.
-use Rattle.std.specs.Prelude.{◌≡◌, ℕ, ◌≤◌, Bool, true, false, List, [], length, Option, string_bytes}
+use Rattle.std.specs.Prelude.{ℕ, ◌≤◌, Bool, true, false, List, [], length, Option, string_bytes}
 use Rattle.std.specs.Global.{Vec}
 use Rattle.std.specs.Io.KnownBytes.{Appends, Consumes}
 use Rattle.std.specs.List.{AllByRecursion, flat_map}
@@ -12,12 +12,11 @@ use Rattle.merkle_replica.specs.Contents.{Contents, side}
 use Rattle.merkle_replica.specs.Faithful.{HasSmallMap}
 use Rattle.merkle_replica.specs.Laws.{Laws}
 use Rattle.merkle_wire.specs.Sessions.{AreBrought}
-use Rattle.merkle_delta.specs.Exchanges.{AreRepliesBy, Begins, Exchanges, LeadTo, NoneCollides}
-use Rattle.merkle_delta.specs.Underway.{Underway}
-use Rattle.merkle_delta.specs.declared.catching_up.Next.TheVariants.{Ask}
+use Rattle.merkle_wire.specs.Underway.{Underway}
 use Rattle.store_table.specs.RegisterBytes.{register_bytes}
 use Rattle.store_table.specs.WireRegisters.{register_encoding}
 use Rattle.store_table.specs.declared.register.Register.{Register}
+use Rattle.merkle_store.specs.Exchanges.{AreRepliesBy, Begins, Exchange, IsAnswered, LeadTo, NoneCollides, Wire, on_wire}
 use Rattle.merkle_store.specs.Framing.{HasEnded, Streams, frame_of}
 use Rattle.merkle_store.specs.declared.serving.Served.{Served}
 use Rattle.merkle_store.specs.Kept.{same_register, later_register}
@@ -41,35 +40,39 @@ entry_laws = record {
 abbrev pub key_encoding : Text → List ℕ
 key_encoding key = string_encoding (string_bytes key)
 
--- all messages of the asking side, each after its length, and all replies likewise
-abbrev pub all_asked : Exchanges → List ℕ
-all_asked exchanges = flat_map (λ e. frame_of e.0) exchanges
+-- a replica answers a message
+abbrev pub IsAnswer : EntryContents → EntryContents → List ℕ → Vec ℕ → Type 0
+IsAnswer old new message reply = IsAnswered entry_laws 16 key_encoding register_encoding old new message reply.items
 
-abbrev pub all_told : Exchanges → List ℕ
-all_told exchanges = flat_map (λ e. frame_of e.1) exchanges
+-- all messages of the asking side, each after its length, and all replies likewise
+abbrev pub all_asked : Wire → List ℕ
+all_asked wire = flat_map (λ e. frame_of e.0) wire
+
+abbrev pub all_told : Wire → List ℕ
+all_told wire = flat_map (λ e. frame_of e.1) wire
 
 -- the replica catches up with whoever reads one stream and writes the other: its messages are written, their replies read, of this many bytes at most each,
 -- and these entries come
 pub record CatchesUp (replica : EntryContents) (most : ℕ) (before after : Streams) (entries : List (Text × Register)) : Type 0 where
-  pub underway : Underway Text Register
-  pub message : Vec ℕ
-  pub begins : Begins entry_laws 16 key_encoding replica underway message.items
-  pub exchanges : Exchanges
-  pub leads : LeadTo entry_laws 16 key_encoding register_encoding (side replica) entries exchanges (Ask underway message)
-  pub fits : AllByRecursion (λ e. length e.1 ≤ most) exchanges
-  pub asked : Appends before.0 after.0 (all_asked exchanges)
-  pub told : Consumes before.1 after.1 (all_told exchanges)
+  pub session : Underway Text Register
+  pub question : Vec ℕ
+  pub begins : Begins entry_laws 16 key_encoding replica session question.items
+  pub exchanges : List Exchange
+  pub leads : LeadTo entry_laws 16 key_encoding register_encoding (side replica) entries exchanges session question.items
+  pub fits : AllByRecursion (λ e. length e.1 ≤ most) (on_wire exchanges)
+  pub asked : Appends before.0 after.0 (all_asked (on_wire exchanges))
+  pub told : Consumes before.1 after.1 (all_told (on_wire exchanges))
 
 -- the replica replies to these messages, read from one stream, of this many bytes at most each, on the other
-pub record IsServed (replica : EntryContents) (most : ℕ) (before after : Streams) (exchanges : Exchanges) : Type 0 where
-  pub replies : AreRepliesBy entry_laws 16 key_encoding register_encoding replica exchanges
-  pub fits : AllByRecursion (λ e. length e.0 ≤ most) exchanges
-  pub asked : Consumes before.1 after.1 (all_asked exchanges)
-  pub told : Appends before.0 after.0 (all_told exchanges)
+pub record IsServed (replica : EntryContents) (most : ℕ) (before after : Streams) (wire : Wire) : Type 0 where
+  pub replies : AreRepliesBy entry_laws 16 key_encoding register_encoding replica wire
+  pub fits : AllByRecursion (λ e. length e.0 ≤ most) wire
+  pub asked : Consumes before.1 after.1 (all_asked wire)
+  pub told : Appends before.0 after.0 (all_told wire)
 
 -- it does so to all messages that are read
 abbrev pub HasServed : EntryContents → ℕ → Streams → Streams → Type 0
-HasServed replica most before after = (exchanges : Exchanges) × IsServed replica most before after exchanges
+HasServed replica most before after = (wire : Wire) × IsServed replica most before after wire
 
 -- the peer asks no more: a message of no bytes was read, which gives the turn to this side; or nothing is left
 abbrev pub AsksNoMore : Bool → Option (List ℕ) → Option (List ℕ) → Type 0
@@ -85,8 +88,6 @@ pub record HasServedTo (replica : EntryContents) (most : ℕ) (before after : St
 -- a catch-up over two streams, to each of whose messages a peer replied over its own, brings what is missing, while no digest of its replies collides
 abbrev pub ServedBring : Type 0
 ServedBring = (local peer : EntryContents) (most its_most : ℕ) (before after its_before its_after : Streams) (entries : List (Text × Register))
-    (caught_up : CatchesUp local most before after entries) (served : IsServed peer its_most its_before its_after caught_up.exchanges)
+    (caught_up : CatchesUp local most before after entries) (served : IsServed peer its_most its_before its_after (on_wire caught_up.exchanges))
     → IsMap text_order local.rows → IsMap text_order peer.rows → HasSmallMap entry_laws 16 (side peer)
-    → NoneCollides entry_laws 16 key_encoding register_encoding (side local) peer entries caught_up.exchanges (Ask caught_up.underway caught_up.message)
-    caught_up.leads served.replies
-    → AreBrought entry_laws (side local) (side peer) entries
+    → NoneCollides entry_laws 16 key_encoding register_encoding peer caught_up.exchanges served.replies → AreBrought entry_laws (side local) (side peer) entries

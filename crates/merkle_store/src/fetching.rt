@@ -1,6 +1,7 @@
 //! The asking side of a sync: what a peer has that is later, over a pair of pipes or a socket.
 ghost use Rattle.std.specs.Prelude.{◌≤◌, ◌≡◌, ◌↔◌, length, All, IsTrue, IfOk, OnOk};
 ghost use Rattle.std.specs.Io.KnownBytes.{Appends, Consumes};
+ghost use Rattle.merkle_delta.specs.Hearing.{IsSentFor};
 ghost use Rattle.merkle_tree_theory.specs.State.{SameSettings};
 ghost use Rattle.merkle_store.specs.Fetches.{HasEntries, HasFetched, IsShort, IsWithin};
 ghost use Rattle.merkle_store.specs.Framing.{frame_of};
@@ -12,8 +13,8 @@ use crate::news::news_of;
 use crate::rows::EntryReplica;
 use crate::traffic::Traffic;
 use crate::wire::WireFault;
-use merkle_delta::{CatchingUp, Next};
-use merkle_wire::{Limit, Limits, SessionError};
+use merkle_delta::{Deltas, Heard};
+use merkle_wire::{CatchingUp, Limit, Limits, Next, SessionError};
 use std::alloc::{AllocError, Global};
 use std::io::{Read, Write};
 use store_table::Register;
@@ -93,6 +94,25 @@ fn limits_of(terms: &Terms) -> Limits {
     limits
 }
 
+/// The message for the next question of a catch-up: after the checksums of what the replica itself would reply, while the peer replies by deltas.
+fn message_for(
+    alloc: Global,
+    replica: &mut EntryReplica,
+    session: &CatchingUp<String, Register>,
+    deltas: &mut Deltas,
+    question: Vec<u8>,
+) -> Result<Vec<u8>, AllocError>
+    ensures sent { IfOk result (λ message. IsSentFor question.items deltas.new message.items) }
+    ensures rows { replica.new.rows ≡ replica.old.rows }
+    ensures settings { SameSettings replica.old.tree replica.new.tree }
+{
+    if !deltas.are_known() {
+        return deltas.ask(alloc, None, question);
+    }
+    let own = session.own_reply(replica, deltas.pay())?;
+    deltas.ask(alloc, own, question)
+}
+
 /// The entries of a peer that a replica lacks, and what went over the wire.
 fn entries_of_peer<R: Read, W: Write, P: Watch>(
     alloc: Global,
@@ -109,16 +129,20 @@ fn entries_of_peer<R: Read, W: Write, P: Watch>(
     let (session, message) = CatchingUp::begin(alloc, replica)?;
     let mut session = session.within(limits_of(terms));
     let mut message = message;
+    let mut deltas = Deltas::new();
     let mut traffic = Traffic::none();
     'messages: for _ in 0..MOST_MESSAGES {
         let reply = ask(alloc, from, to, terms.most_bytes, watch, &message)?;
         traffic = counted(&traffic, message.len(), reply.len())?;
-        match session.take(replica, &reply)? {
-            Next::Ask(next, question) => {
-                session = next;
-                message = question;
-            }
-            Next::Came(entries) => return Ok((entries, traffic)),
+        match deltas.hear(alloc, reply)? {
+            Heard::Again(question) => message = question,
+            Heard::Reply(plain) => match session.take(replica, &plain)? {
+                Next::Ask(next, question) => {
+                    message = message_for(alloc, replica, &next, &mut deltas, question)?;
+                    session = next;
+                }
+                Next::Came(entries) => return Ok((entries, traffic)),
+            },
         }
     }
     Err(WireFault::Endless)

@@ -3,8 +3,9 @@ ghost use Rattle.merkle_store.specs.Kept.{AddedAreJoined, InStepTellFound};
 ghost use Rattle.merkle_store.specs.News.{NewsBringAll};
 ghost use Rattle.merkle_store.specs.Sessions.{ServedBring};
 
-use merkle_delta::laws::replies_bring_what_is_lacked;
+use merkle_delta::laws::what_is_told_is_heard;
 use merkle_digest::SipHasher;
+use merkle_wire::laws::a_session_is_a_catch_up;
 use store_table::Register;
 
 /// What [`find`](store_table::latest::find) returns for a key is what the rows in memory have for it, up to equality.
@@ -18,7 +19,8 @@ pub fn what_is_found_is_kept()
 pub fn a_served_catch_up_brings_what_is_lacked()
     ensures { ServedBring }
 {
-    replies_bring_what_is_lacked::<String, Register, SipHasher, 16>();
+    what_is_told_is_heard();
+    a_session_is_a_catch_up::<String, Register, SipHasher, 16>();
 }
 
 /// Where [`add_all`](store_table::table::add_all) has added entries, the rows of the file are the join of those before with these entries.

@@ -1,15 +1,15 @@
 //! The answering side of a sync.
 ghost use Rattle.std.specs.Prelude.{◌≡◌, IfOk};
 ghost use Rattle.merkle_tree_theory.specs.State.{SameSettings};
-ghost use Rattle.merkle_store.specs.Sessions.{HasServedTo};
+ghost use Rattle.merkle_store.specs.Sessions.{HasServedTo, IsAnswer};
 
 use crate::framing::{ANSWER_BYTES, Watch, receive, send};
 use crate::rows::EntryReplica;
 use crate::traffic::Traffic;
 use crate::wire::WireFault;
-use merkle_delta::answer_within;
+use merkle_delta::{read_message, tell};
 use merkle_search_tree::laws::every_tree_is_sound;
-use merkle_wire::refusal;
+use merkle_wire::{AnswerError, answer_within, refusal};
 use std::alloc::Global;
 use std::io::{Read, Write};
 
@@ -22,9 +22,21 @@ pub struct Served {
     pub is_turn: bool,
 }
 
+/// The reply to a message: the plain one, or as its delta where the message tells checksums. It ends with the entry by which the plain one has
+/// [`ANSWER_BYTES`].
+fn answer(alloc: Global, replica: &mut EntryReplica, message: &[u8]) -> Result<Vec<u8>, AnswerError>
+    ensures answered { IfOk result (IsAnswer replica.old replica.new message.now) }
+    ensures rows { replica.new.rows ≡ replica.old.rows }
+    ensures settings { SameSettings replica.old.tree replica.new.tree }
+{
+    let (checksums, question) = read_message(alloc, message)?;
+    let plain = answer_within(alloc, replica, question, ANSWER_BYTES)?;
+    Ok(tell(alloc, checksums, plain)?)
+}
+
 /// Answers a peer until it sends a message of no bytes, or its messages end. Each has at most `most` bytes; an answer ends with the entry by which it has
 /// [`ANSWER_BYTES`], and the peer asks for the rest. The rows stay, and so does every file. An answer takes the time and the memory of
-/// [`answer_within`]; nothing is kept between messages.
+/// [`answer_within`], and of [`tell`] for a message with checksums; nothing is kept between messages.
 ///
 /// ```rust crates/mst/src/peers.rt
 /// let served = serve(
@@ -66,7 +78,7 @@ pub fn serve<R: Read, W: Write, P: Watch>(
                 is_turn: true,
             });
         }
-        match answer_within(alloc, replica, &message, ANSWER_BYTES) {
+        match answer(alloc, replica, &message) {
             Ok(reply) => {
                 every_tree_is_sound(replica.tree());
                 send(alloc, to, &reply)?;

@@ -1,5 +1,5 @@
 //! The answering side: a reply to a message, with nothing kept between messages.
-ghost use Rattle.std.specs.Prelude.{◌≡◌, false, IsSome, IsTrue, IfOk, IfErr, Some};
+ghost use Rattle.std.specs.Prelude.{◌≡◌, false, IsSome, IsTrue, IfOk, IfErr, IfSome, Some};
 ghost use Rattle.std.specs.Option.{option_map};
 ghost use Rattle.merkle_tree_theory.specs.State.{SameSettings, map_of};
 ghost use Rattle.merkle_wire.specs.Faults.{IsUnread, OfMessage, answer_error_text};
@@ -184,6 +184,29 @@ pub fn answer_by<
     match decode_question::<K>(alloc, message) {
         Ok(question) => reply_to(alloc, tree, rows, &question, most_bytes),
         Err(error) => Err(KeptError::Answer(AnswerError::from(error))),
+    }
+}
+
+/// The reply of a replica to a question of its own; none to one with settings of another.
+pub(crate) fn own_reply<
+    K: Key + Decode,
+    V: Join + Encode + Drop,
+    H: RowHasher<N, K, V>,
+    const N: usize,
+>(
+    alloc: Global,
+    replica: &mut Replica<K, V, H, N>,
+    question: &Question<K>,
+) -> Result<Option<Vec<u8>>, AllocError>
+    ensures own { IfOk result (λ own. IfSome own (IsReplyBy H.laws N K.encoding V.encoding replica.old.rows replica.new.tree question.now)) }
+    ensures rows { replica.new.rows ≡ replica.old.rows }
+    ensures settings { SameSettings replica.old.tree replica.new.tree }
+{
+    replica.hash();
+    match reply_to(alloc, replica.tree(), replica, question, MOST_BYTES) {
+        Ok(reply) => Ok(Some(reply)),
+        Err(KeptError::Answer(_)) => Ok(None),
+        Err(KeptError::Rows(error)) => Err(error),
     }
 }
 

@@ -1,5 +1,5 @@
 //! The asking side: what to ask next, and the rows that came in the end.
-ghost use Rattle.std.specs.Prelude.{◌≡◌, ◌≤◌, IsSome, IfOk, IfErr, OnOk, length};
+ghost use Rattle.std.specs.Prelude.{◌≡◌, ◌≤◌, IsSome, IfOk, IfErr, IfSome, length};
 ghost use Rattle.merkle_replica.specs.Contents.{side};
 ghost use Rattle.merkle_tree_theory.specs.State.{SameSettings, map_of};
 ghost use Rattle.merkle_wire.specs.Asking.{AsksForOutlines};
@@ -8,16 +8,14 @@ ghost use Rattle.merkle_wire.specs.ItsRows.{ForItsRows};
 ghost use Rattle.merkle_wire.specs.Limits.{Allows};
 ghost use Rattle.merkle_wire.specs.Next.{AsksFew, GoesOn, HasLeft, IsAsked, IsCame, IsEnded, IsNext, IsStopped, IsTwice, OnlyAskedFor, StaysWithin, Takes, rounds_with};
 ghost use Rattle.merkle_wire.specs.Questions.{AsksForOwnRoot, AsksForRoot, IsQuestion, question_bytes};
+ghost use Rattle.merkle_wire.specs.Replies.{IsReplyBy};
 ghost use Rattle.merkle_wire.specs.Steady.{IsKeyOf};
-ghost use Rattle.merkle_wire.specs.Steps.{RefusesReply};
-ghost use Rattle.merkle_wire.specs.Underway.{HasTaken};
 ghost use Rattle.merkle_wire.specs.declared.session_error.SessionError.TheVariants.{Memory, TooManyRounds};
 
+use crate::answering::own_reply;
 use crate::limits::Limits;
-use crate::message::Kind;
 use crate::question::{Question, encode_question};
-use crate::replies::{take_outlines, take_parts, take_values};
-use crate::root::take_root;
+use crate::replies::take_reply;
 use crate::session_error::SessionError;
 use crate::settings::{Settings, settings_of, settings_of_tree};
 use crate::within::rows_ascend;
@@ -150,6 +148,28 @@ impl<K: Key + Decode, V: Join + Decode> CatchingUp<K, V> {
         self.rounds
     }
 
+    /// What this side itself would reply to the question that is asked. Much of it may be what the peer replies, which can then be told as what it differs
+    /// by from this (the crate `merkle_delta`). There is none if the question is about the root or for values at keys, and if it is for all rows in gaps
+    /// only if `with_rows` is true. The replica keeps its rows; pages that lack a digest get one. It takes time linear in the reply.
+    ///
+    /// # Errors
+    ///
+    /// Out of memory.
+    pub fn own_reply<H: RowHasher<N, K, V>, const N: usize>(
+        &self,
+        replica: &mut Replica<K, V, H, N>,
+        with_rows: bool,
+    ) -> Result<Option<Vec<u8>>, AllocError>
+        ensures own { IfOk result (λ own. IfSome own (IsReplyBy H.laws N K.encoding V.encoding replica.old.rows replica.new.tree self.now.asked)) }
+        ensures rows { replica.new.rows ≡ replica.old.rows }
+        ensures settings { SameSettings replica.old.tree replica.new.tree }
+    {
+        if !self.asked.is_shared(with_rows) {
+            return Ok(None);
+        }
+        own_reply(self.alloc, replica, &self.asked)
+    }
+
     /// Takes a reply. It records whatever this side lacks, and returns the next question, or the rows once nothing is left to ask. The replica keeps
     /// its rows; pages that lack a digest get one.
     ///
@@ -266,56 +286,6 @@ fn begin<K: Key + Decode, V: Join + Decode>(
         left: Limits::default(),
     };
     Ok((session, message))
-}
-
-/// Takes a reply to a question, and returns what of it is to be asked again.
-fn take_reply<K: Key + Decode, V: Join + Decode, H: RowHasher<N, K, V>, const N: usize>(
-    alloc: Global,
-    tree: &MerkleSearchTree<K, V, H, N>,
-    count: u64,
-    asked: Question<K>,
-    reply: &[u8],
-    work: &mut Work<K, V>,
-) -> Result<Option<Question<K>>, SessionError>
-    requires { IsSome tree.now.root_hash }
-    ensures taken { IfOk result (λ again. ForItsRows H.laws tree.now (λ local. HasTaken H.laws N K.encoding V.encoding local asked
-        reply.now work.old work.new again)) }
-    ensures refused { IfErr result (RefusesReply K.cmp K.is_value V.is_value K.encoding V.encoding N asked reply.now) }
-{
-    match asked {
-        Question::Root(_) => {
-            take_root(alloc, tree, count, reply, work)?;
-            Ok(None)
-        }
-        Question::Outlines(most, gaps) => {
-            let left = take_outlines(alloc, tree, Kind::Outlines, true, gaps, reply, work)?;
-            if left.is_empty() {
-                return Ok(None);
-            }
-            Ok(Some(Question::Outlines(most, left)))
-        }
-        Question::Nodes(most, gaps) => {
-            let left = take_outlines(alloc, tree, Kind::Nodes, false, gaps, reply, work)?;
-            if left.is_empty() {
-                return Ok(None);
-            }
-            Ok(Some(Question::Nodes(most, left)))
-        }
-        Question::RowsAt(keys) => {
-            let left = take_values(alloc, tree, keys, reply, work)?;
-            if left.is_empty() {
-                return Ok(None);
-            }
-            Ok(Some(Question::RowsAt(left)))
-        }
-        Question::RowsIn(gaps) => {
-            let left = take_parts(alloc, tree, gaps, reply, work)?;
-            if left.is_empty() {
-                return Ok(None);
-            }
-            Ok(Some(Question::RowsIn(left)))
-        }
-    }
 }
 
 /// Goes on where all that was asked for came: asks for what is found, or hands out the rows where there is nothing.

@@ -32,6 +32,20 @@ pub enum Question<K> {
     RowsIn(Vec<OwnedGap<K>>),
 }
 
+impl<K> Question<K> {
+    /// Whether much of the peer's reply may be this side's own: not of what is said of the root, nor of values at keys, which this side lacks or has
+    /// with others; of all rows in gaps if `with_rows` is true.
+    pub(crate) fn is_shared(&self, with_rows: bool) -> bool {
+        match self {
+            Question::Root(_) => false,
+            Question::Outlines(_, _) => true,
+            Question::Nodes(_, _) => true,
+            Question::RowsAt(_) => false,
+            Question::RowsIn(_) => with_rows,
+        }
+    }
+}
+
 /// The message that asks.
 ///
 /// # Errors

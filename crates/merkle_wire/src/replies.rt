@@ -2,13 +2,17 @@
 ghost use Rattle.std.specs.Prelude.{◌≡◌, ◌≢◌, ◌++◌, [], length, IsSome, IfOk, IfErr, OnOk};
 ghost use Rattle.merkle_bytes.specs.Reading.{Reads};
 ghost use Rattle.merkle_wire.specs.Faults.{IsRefusedFor};
+ghost use Rattle.merkle_wire.specs.ItsRows.{ForItsRows};
 ghost use Rattle.merkle_wire.specs.Messages.{front};
-ghost use Rattle.merkle_wire.specs.Steps.{RefusesOutlines, RefusesOutlinesOf, RefusesParts, RefusesPartsOf, RefusesValues};
+ghost use Rattle.merkle_wire.specs.Steps.{RefusesOutlines, RefusesOutlinesOf, RefusesParts, RefusesPartsOf, RefusesReply, RefusesValues};
 ghost use Rattle.merkle_wire.specs.Steps.{TakesOutlinesOf, TakesPartsOf, TakesOutlines, TakesParts, TakesValues};
+ghost use Rattle.merkle_wire.specs.Underway.{HasTaken};
 ghost use Rattle.merkle_wire.specs.Unfit.{NoEntry, NoFront};
 
 use crate::gaps::OwnedGap;
 use crate::message::{Kind, decode_kind};
+use crate::question::Question;
+use crate::root::take_root;
 use crate::session_error::SessionError;
 use crate::taking::{take_outline, take_part, take_value};
 use crate::wanted::Wanted;
@@ -168,4 +172,54 @@ fn take_first_parts<K: Key + Decode, V: Join + Decode, H: RowHasher<N, K, V>, co
         count += 1;
     }
     Ok(count)
+}
+
+/// Takes a reply to a question, and returns what of it is to be asked again.
+pub(crate) fn take_reply<K: Key + Decode, V: Join + Decode, H: RowHasher<N, K, V>, const N: usize>(
+    alloc: Global,
+    tree: &MerkleSearchTree<K, V, H, N>,
+    count: u64,
+    asked: Question<K>,
+    reply: &[u8],
+    work: &mut Work<K, V>,
+) -> Result<Option<Question<K>>, SessionError>
+    requires { IsSome tree.now.root_hash }
+    ensures taken { IfOk result (λ again. ForItsRows H.laws tree.now (λ local. HasTaken H.laws N K.encoding V.encoding local asked
+        reply.now work.old work.new again)) }
+    ensures refused { IfErr result (RefusesReply K.cmp K.is_value V.is_value K.encoding V.encoding N asked reply.now) }
+{
+    match asked {
+        Question::Root(_) => {
+            take_root(alloc, tree, count, reply, work)?;
+            Ok(None)
+        }
+        Question::Outlines(most, gaps) => {
+            let left = take_outlines(alloc, tree, Kind::Outlines, true, gaps, reply, work)?;
+            if left.is_empty() {
+                return Ok(None);
+            }
+            Ok(Some(Question::Outlines(most, left)))
+        }
+        Question::Nodes(most, gaps) => {
+            let left = take_outlines(alloc, tree, Kind::Nodes, false, gaps, reply, work)?;
+            if left.is_empty() {
+                return Ok(None);
+            }
+            Ok(Some(Question::Nodes(most, left)))
+        }
+        Question::RowsAt(keys) => {
+            let left = take_values(alloc, tree, keys, reply, work)?;
+            if left.is_empty() {
+                return Ok(None);
+            }
+            Ok(Some(Question::RowsAt(left)))
+        }
+        Question::RowsIn(gaps) => {
+            let left = take_parts(alloc, tree, gaps, reply, work)?;
+            if left.is_empty() {
+                return Ok(None);
+            }
+            Ok(Some(Question::RowsIn(left)))
+        }
+    }
 }

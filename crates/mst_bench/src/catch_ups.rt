@@ -3,7 +3,7 @@
 use crate::clock::{Best, Each, now};
 use crate::fault::Fault;
 use crate::keys::{LOCAL_SEED, keys};
-use crate::sessions::{Cost, Numbers, Session, cost_of};
+use crate::sessions::{ByDeltas, Cost, Numbers, Session, cost_of};
 use merkle_replica::Replica;
 use merkle_search_tree::builder::Builder;
 use std::alloc::Global;
@@ -12,9 +12,6 @@ use std::rt::Clock;
 
 /// A session of messages alone.
 type Plain = merkle_wire::CatchingUp<String, u64>;
-
-/// A session by deltas.
-type ByDeltas = merkle_delta::CatchingUp<String, u64>;
 
 /// The bytes of a key of 17 bytes after its length, of a value below 128, and of a digest after its length.
 const KEY: usize = 18;

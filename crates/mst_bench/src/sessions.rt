@@ -1,8 +1,10 @@
 //! What sessions take over a wire: plain ones, and those by deltas.
 
 use crate::fault::Fault;
+use merkle_delta::{Deltas, Heard, read_message, tell};
 use merkle_digest::SipHasher;
 use merkle_replica::Replica;
+use merkle_wire::{CatchingUp, Next, answer};
 use std::alloc::Global;
 
 /// A replica of the default settings.
@@ -27,28 +29,33 @@ pub(crate) trait Session: Sized + Drop {
     fn reply_to(alloc: Global, peer: &mut Numbers, message: &[u8]) -> Result<Vec<u8>, Fault>;
 
     /// What comes after a reply.
-    fn next(self, local: &mut Numbers, reply: &[u8]) -> Result<Step<Self>, Fault>;
+    fn next(self, alloc: Global, local: &mut Numbers, reply: Vec<u8>) -> Result<Step<Self>, Fault>;
 
     /// How many rounds of outlines were asked for.
     fn outlined(&self) -> u32;
 }
 
-impl Session for merkle_wire::CatchingUp<String, u64> {
+impl Session for CatchingUp<String, u64> {
     fn begun(alloc: Global, local: &Numbers) -> Result<(Self, Vec<u8>), Fault> {
-        Ok(merkle_wire::CatchingUp::begin(alloc, local)?)
+        Ok(CatchingUp::begin(alloc, local)?)
     }
 
     fn reply_to(alloc: Global, peer: &mut Numbers, message: &[u8]) -> Result<Vec<u8>, Fault> {
-        match merkle_wire::answer(alloc, peer, message) {
+        match answer(alloc, peer, message) {
             Ok(reply) => Ok(reply),
             Err(_) => Err(Fault::Memory),
         }
     }
 
-    fn next(self, local: &mut Numbers, reply: &[u8]) -> Result<Step<Self>, Fault> {
-        match self.take(local, reply) {
-            Ok(merkle_wire::Next::Ask(session, message)) => Ok(Step::Ask(session, message)),
-            Ok(merkle_wire::Next::Came(rows)) => Ok(Step::Came(rows.len())),
+    fn next(
+        self,
+        _alloc: Global,
+        local: &mut Numbers,
+        reply: Vec<u8>,
+    ) -> Result<Step<Self>, Fault> {
+        match self.take(local, &reply) {
+            Ok(Next::Ask(session, message)) => Ok(Step::Ask(session, message)),
+            Ok(Next::Came(rows)) => Ok(Step::Came(rows.len())),
             Err(_) => Err(Fault::Memory),
         }
     }
@@ -58,28 +65,68 @@ impl Session for merkle_wire::CatchingUp<String, u64> {
     }
 }
 
-impl Session for merkle_delta::CatchingUp<String, u64> {
+/// A session by deltas that waits for a reply.
+#[derive(Drop)]
+pub(crate) struct ByDeltas {
+    session: CatchingUp<String, u64>,
+    deltas: Deltas,
+}
+
+impl ByDeltas {
+    /// The message for the next question.
+    fn message_for(
+        &mut self,
+        alloc: Global,
+        local: &mut Numbers,
+        question: Vec<u8>,
+    ) -> Result<Vec<u8>, Fault> {
+        let mut own = None;
+        if self.deltas.are_known() {
+            own = self.session.own_reply(local, self.deltas.pay())?;
+        }
+        Ok(self.deltas.ask(alloc, own, question)?)
+    }
+}
+
+impl Session for ByDeltas {
     fn begun(alloc: Global, local: &Numbers) -> Result<(Self, Vec<u8>), Fault> {
-        Ok(merkle_delta::CatchingUp::begin(alloc, local)?)
+        let (session, message) = CatchingUp::begin(alloc, local)?;
+        let deltas = Deltas::new();
+        Ok((ByDeltas { session, deltas }, message))
     }
 
     fn reply_to(alloc: Global, peer: &mut Numbers, message: &[u8]) -> Result<Vec<u8>, Fault> {
-        match merkle_delta::answer(alloc, peer, message) {
-            Ok(reply) => Ok(reply),
+        let Ok((checksums, question)) = read_message(alloc, message) else {
+            return Err(Fault::Memory);
+        };
+        match answer(alloc, peer, question) {
+            Ok(plain) => Ok(tell(alloc, checksums, plain)?),
             Err(_) => Err(Fault::Memory),
         }
     }
 
-    fn next(self, local: &mut Numbers, reply: &[u8]) -> Result<Step<Self>, Fault> {
-        match self.take(local, reply) {
-            Ok(merkle_delta::Next::Ask(session, message)) => Ok(Step::Ask(session, message)),
-            Ok(merkle_delta::Next::Came(rows)) => Ok(Step::Came(rows.len())),
+    fn next(self, alloc: Global, local: &mut Numbers, reply: Vec<u8>) -> Result<Step<Self>, Fault> {
+        let ByDeltas {
+            session,
+            mut deltas,
+        } = self;
+        let plain = match deltas.hear(alloc, reply)? {
+            Heard::Again(question) => return Ok(Step::Ask(ByDeltas { session, deltas }, question)),
+            Heard::Reply(plain) => plain,
+        };
+        match session.take(local, &plain) {
+            Ok(Next::Ask(session, question)) => {
+                let mut next = ByDeltas { session, deltas };
+                let message = next.message_for(alloc, local, question)?;
+                Ok(Step::Ask(next, message))
+            }
+            Ok(Next::Came(rows)) => Ok(Step::Came(rows.len())),
             Err(_) => Err(Fault::Memory),
         }
     }
 
     fn outlined(&self) -> u32 {
-        self.rounds()
+        self.session.rounds()
     }
 }
 
@@ -113,7 +160,7 @@ pub(crate) fn cost_of<S: Session>(
         sent = sent.saturating_add(message.len());
         came = came.saturating_add(reply.len());
         let rounds = session.outlined();
-        match session.next(local, &reply)? {
+        match session.next(alloc, local, reply)? {
             Step::Ask(next, question) => {
                 session = next;
                 message = question;

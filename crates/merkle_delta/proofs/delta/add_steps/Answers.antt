@@ -1,6 +1,6 @@
 use Rattle.std.proofs.Common.{◌<◌, ◌≤◌, ◌++◌, length, ap, ◌∙◌, arith}
 use Rattle.merkle_delta.specs.Deltas.{bytes_step}
-use Rattle.merkle_delta.proofs.Telling.{bytes_told, run_told}
+use Rattle.merkle_delta.proofs.ToldChunks.{bytes_told, run_told}
 use Rattle.merkle_delta.proofs.delta.add_steps.Goals as goal
 
 pub chunks-preserved-then-run-eq0 : goal.chunks-preserved-then-run-eq0

@@ -1,5 +1,5 @@
 use Rattle.std.proofs.Common.{◌-◌, length}
-use Rattle.merkle_delta.proofs.Telling.{AreTold}
+use Rattle.merkle_delta.proofs.ToldChunks.{AreTold}
 use Rattle.merkle_delta.proofs.delta.add_steps.Given as goal
 
 -- the first chunks are told

@@ -1,4 +1,4 @@
-use Rattle.merkle_delta.proofs.Telling.{one_more_same}
+use Rattle.merkle_delta.proofs.ToldChunks.{one_more_same}
 use Rattle.merkle_delta.proofs.delta.run_len.Goals as goal
 
 pub same-preserved : goal.same-preserved

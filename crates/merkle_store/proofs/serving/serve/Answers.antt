@@ -1,8 +1,6 @@
-use Rattle.std.proofs.Common.{◌≡◌, rules, refl, subst, ◌∙◌}
+use Rattle.std.proofs.Common.{◌≡◌, rules, subst, ◌∙◌}
 use Rattle.std.specs.Io.KnownBytes.{Appends}
 use Rattle.key_order.specs.Text.{text_order}
-use Rattle.merkle_delta.specs.Exchanges.{IsReplyBy}
-use Rattle.merkle_delta.specs.Messages.{IsAnswered}
 use Rattle.merkle_digest.specs.Level.{level_of}
 use Rattle.merkle_digest.specs.SipDigests.{text_digest}
 use Rattle.merkle_replica.proofs.SideLaws.{same_side}
@@ -10,6 +8,7 @@ use Rattle.merkle_replica.specs.Contents.{tree_map}
 use Rattle.merkle_tree_theory.specs.Canonical.{IsCanonicalRoot, IsTreeOf}
 use Rattle.merkle_tree_theory.specs.State.{SameSettings}
 use Rattle.store_table.specs.WireRegisters.{register_encoding}
+use Rattle.merkle_store.specs.Exchanges.{IsAnswered, IsReplyBy}
 use Rattle.merkle_store.specs.Framing.{HasCome, frame_of}
 use Rattle.merkle_store.specs.Sessions.{entry_laws, key_encoding}
 use Rattle.merkle_store.proofs.Exchanged.{has_served_more}
@@ -18,10 +17,10 @@ use Rattle.merkle_store.proofs.serving.serve.Goals as goal
 pub messages-preserved : goal.messages-preserved
 messages-preserved g c =
     let inv = c.messages.invariant in
-    let new = c.answer_within.ensures in
+    let new = c.answer.ensures in
     let replica = c.args.replica.now in
     let before = c.messages.replica in
-    let after = c.answer_within.new.replica in
+    let after = c.answer.new.replica in
     let message = c.in-Some.message.items in
     let reply = c.in-Ok.reply.items in
     let rows : after.rows ≡ replica.rows = new.rows ∙ inv.rows in
@@ -30,12 +29,10 @@ messages-preserved g c =
     let replies : IsReplyBy entry_laws 16 key_encoding register_encoding replica message reply = record {
       before = before;
       after = after;
-      bytes = c.in-Ok.reply;
       rows = (inv.rows, rows);
       settings = (inv.settings, settings);
       of_rows = subst (λ s. IsTreeOf text_order (text_digest s.hasher) s.base after.tree.root (tree_map entry_laws s)) (same_side replica after rows settings) (canonical, c.tree.ensures.digests);
-      reply_bytes = refl;
-      answered = subst (λ m. IsAnswered entry_laws 16 key_encoding register_encoding before after m c.in-Ok.reply) c.deref.ensures.value c.in-Ok.ensures.answered;
+      answer = subst (λ m. IsAnswered entry_laws 16 key_encoding register_encoding before after m reply) c.deref.ensures.value c.in-Ok.ensures.answered;
     } in
     record {
       served = has_served_more replica c.args.most (g.W.Write.contents c.args.to.now, g.R.Read.remaining c.args.from.now) (g.W.Write.contents c.messages.to, g.R.Read.remaining c.messages.from)

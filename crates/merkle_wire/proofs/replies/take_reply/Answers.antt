@@ -6,7 +6,7 @@ use Rattle.merkle_wire.specs.Underway.{HasTaken}
 use Rattle.merkle_wire.specs.declared.question.Question.TheVariants.{Outlines, Nodes, RowsAt, RowsIn}
 use Rattle.merkle_wire.proofs.Fronts.{refused_for}
 use Rattle.merkle_wire.proofs.LeftToAsk.{asks_none, asks_some}
-use Rattle.merkle_wire.proofs.catching_up.take_reply.Goals as goal
+use Rattle.merkle_wire.proofs.replies.take_reply.Goals as goal
 
 pub returns-then-is_empty-clause-taken : goal.returns-then-is_empty-clause-taken
 returns-then-is_empty-clause-taken g c = λ rows of.

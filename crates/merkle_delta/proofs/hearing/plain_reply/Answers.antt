@@ -2,7 +2,7 @@ use Rattle.std.proofs.Common.{subst, sym, ◌∙◌}
 use Rattle.std.proofs.lemmas.Result.{err_from_is_err_and}
 use Rattle.merkle_delta.specs.Deltas.{IsDeltaOver}
 use Rattle.merkle_delta.proofs.Asking.{told_alone}
-use Rattle.merkle_delta.proofs.catching_up.plain_reply.Goals as goal
+use Rattle.merkle_delta.proofs.hearing.plain_reply.Goals as goal
 
 pub returns-in_err-plain-clause-unlike : goal.returns-in_err-plain-clause-unlike
 returns-in_err-plain-clause-unlike c =
