@@ -3,25 +3,16 @@ use merkle_store::fetch_fault::FetchFault;
 use merkle_store::wire::WireFault;
 use mst_commands::Fault;
 use mst_commands::fault::Named;
-use sqlite_std_file::OpenError;
-use sqlite_trees::error::StoreError;
+use mst_files::fault::FileFault;
 use std::alloc::AllocError;
-use std::io::ErrorKind;
 use std::{fmt, io};
-use store_file::OpenFault;
 use store_table::StoreFault;
 
 /// Why the program ends early.
 #[derive(Debug, Drop)]
 pub enum Failure {
-    /// A command on the file failed.
-    Command(Fault),
-    /// The operating system didn't open the file.
-    Path(OpenError),
-    /// The file wasn't opened or made.
-    File(OpenFault),
-    /// The file is a store in a mode that isn't read here.
-    Mode(&'static str),
+    /// A command on the file failed, or the file wasn't opened, closed or made.
+    File(FileFault),
     /// Nothing was fetched.
     Fetch(FetchFault),
     /// A peer sent an entry whose time is too far ahead of the clock.
@@ -38,48 +29,33 @@ pub enum Failure {
     Lines(u64),
 }
 
+impl From<FileFault> for Failure {
+    fn from(fault: FileFault) -> Self {
+        Failure::File(fault)
+    }
+}
+
 impl From<Fault> for Failure {
     fn from(fault: Fault) -> Self {
-        Failure::Command(fault)
+        Failure::File(FileFault::Command(fault))
     }
 }
 
 impl From<StoreFault> for Failure {
     fn from(fault: StoreFault) -> Self {
-        Failure::Command(Fault::Store(fault))
-    }
-}
-
-impl From<StoreError> for Failure {
-    fn from(error: StoreError) -> Self {
-        Failure::Command(Fault::Store(StoreFault::from(error)))
-    }
-}
-
-impl From<OpenError> for Failure {
-    fn from(error: OpenError) -> Self {
-        match error {
-            OpenError::Busy => Failure::Command(Fault::InUse),
-            other => Failure::Path(other),
-        }
-    }
-}
-
-impl From<OpenFault> for Failure {
-    fn from(fault: OpenFault) -> Self {
-        Failure::File(fault)
+        Failure::from(Fault::Store(fault))
     }
 }
 
 impl From<AllocError> for Failure {
     fn from(_error: AllocError) -> Self {
-        Failure::Command(Fault::Store(StoreFault::Memory))
+        Failure::from(StoreFault::Memory)
     }
 }
 
 impl From<io::Error> for Failure {
     fn from(error: io::Error) -> Self {
-        Failure::Command(Fault::Device(error))
+        Failure::from(Fault::Device(error))
     }
 }
 
@@ -92,12 +68,7 @@ impl From<WireFault> for Failure {
 impl fmt::Display for Failure {
     fn fmt<W: fmt::Write>(&self, f: &mut fmt::Formatter<W>) -> fmt::Result {
         match self {
-            Failure::Command(fault) => write!(f, "{fault}"),
-            Failure::Path(OpenError::Io(error)) if error.kind() == ErrorKind::Unsupported =>
-                f.write_str("the file, or its log beside it, isn't a regular file with one name"),
-            Failure::Path(error) => write!(f, "{error}"),
             Failure::File(fault) => write!(f, "{fault}"),
-            Failure::Mode(what) => f.write_str(what),
             Failure::Fetch(fault) => write!(f, "{fault}"),
             Failure::Ahead(entry) => write!(
                 f,

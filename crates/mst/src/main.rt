@@ -4,8 +4,6 @@
 #![tactic(auto)]
 
 mod fault;
-mod files;
-mod look;
 mod peers;
 mod sessions;
 mod shell;
@@ -13,8 +11,8 @@ mod status;
 mod tasks;
 
 use fault::Failure;
-use files::make_backup;
 use mst_commands::escape::escape;
+use mst_files::making::make_backup;
 use mst_words::help::HELP;
 use mst_words::verb::{VERSION, form_of};
 use mst_words::{Asked, Given, Verb, Wrong, read_words};
@@ -61,7 +59,7 @@ fn back_up(rt: &HostRuntime, file: &str, given: &Given<'_>) -> ExitCode {
     };
     match make_backup(rt, given.target, &note.hash_key, &entries) {
         Ok(()) => ExitCode::SUCCESS,
-        Err(failure) => failed_on(rt, given.target, &failure),
+        Err(fault) => failed_on(rt, given.target, &Failure::from(fault)),
     }
 }
 

@@ -5,13 +5,14 @@ ghost use Rattle.store_table.specs.Logs.{Finds, Leaves, LeavesNoMore, Makes, Sta
 ghost use Rattle.merkle_store.specs.Kept.{AreRowsOf};
 
 use crate::fault::Failure;
-use crate::files::{Closing, close_behind, open_file};
 use crate::peers;
 use crate::tasks::patience;
 use merkle_store::fetch_fault::FetchFault;
 use merkle_store::fetching::Fetched;
 use merkle_store::rows::{EntryReplica, read_replica};
 use mst_commands::clock::now;
+use mst_files::closing::{Closing, close_behind};
+use mst_files::opening::open_file;
 use mst_words::{Given, Verb};
 use sqlite_trees::store::Store;
 use std::io::{Read, Take};

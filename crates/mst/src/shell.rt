@@ -204,7 +204,7 @@ fn run_line<S: Store>(
 ) -> Result<bool, Failure> {
     let words = match words_of(rt.alloc(), line) {
         Ok(words) => words,
-        Err(NoWords::Memory) => return Err(Failure::Command(Fault::Store(StoreFault::Memory))),
+        Err(NoWords::Memory) => return Err(Failure::from(StoreFault::Memory)),
         Err(NoWords::Wrong) => {
             return at.refuse(
                 rt,

@@ -4,6 +4,7 @@ use merkle_store::fetch_fault::FetchFault;
 use merkle_store::wire::WireFault;
 use merkle_wire::{AnswerError, SessionError};
 use mst_commands::Fault;
+use mst_files::fault::FileFault;
 use sqlite_std_file::OpenError;
 use sqlite_trees::error::StoreError;
 use std::io::ErrorKind;
@@ -80,13 +81,23 @@ fn of_path(error: &OpenError) -> u8 {
     }
 }
 
-/// The status where the file wasn't opened or made.
-fn of_file(fault: OpenFault) -> u8 {
+/// The status where the file wasn't opened or made as that of a store.
+fn of_opening(fault: OpenFault) -> u8 {
     match fault {
         OpenFault::Corrupt => DAMAGED,
         OpenFault::Foreign | OpenFault::Format => FOREIGN,
         OpenFault::Full => FULL,
         OpenFault::Io | OpenFault::Memory | OpenFault::Exists => OTHER,
+    }
+}
+
+/// The status where a command on the file failed, or the file wasn't opened, closed or made.
+fn of_file(fault: &FileFault) -> u8 {
+    match fault {
+        FileFault::Command(fault) => of_command(fault),
+        FileFault::Path(error) => of_path(error),
+        FileFault::Store(fault) => of_opening(*fault),
+        FileFault::Mode(_) => FOREIGN,
     }
 }
 
@@ -112,10 +123,8 @@ fn of_fetch(fault: &FetchFault) -> u8 {
 /// The status with which the program ends early.
 pub fn status_of(failure: &Failure) -> u8 {
     match failure {
-        Failure::Command(fault) => of_command(fault),
-        Failure::Path(error) => of_path(error),
-        Failure::File(fault) => of_file(*fault),
-        Failure::Mode(_) | Failure::Replaced => FOREIGN,
+        Failure::File(fault) => of_file(fault),
+        Failure::Replaced => FOREIGN,
         Failure::Fetch(fault) => of_fetch(fault),
         Failure::Ahead(_) => AHEAD,
         Failure::TooLong(_) | Failure::TooMany | Failure::OneWay => PEER,

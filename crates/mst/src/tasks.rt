@@ -5,12 +5,15 @@ ghost use Rattle.mst_commands.specs.Carries.{Carries};
 ghost use Rattle.store_table.specs.Logs.{Finds, IsSteady, Leaves, LeavesNoMore, Makes, StaysInOk};
 
 use crate::fault::Failure;
-use crate::files::{Closing, close_behind, expect_file, make_store, open_file, open_whole};
 use crate::{sessions, shell};
 use merkle_digest::RootHash;
 use merkle_store::rows::read_replica;
 use mst_commands::input::read_input;
 use mst_commands::{Input, run};
+use mst_files::closing::{Closing, close_behind};
+use mst_files::fault::FileFault;
+use mst_files::making::make_store;
+use mst_files::opening::{expect_file, open_file, open_whole};
 use mst_words::hash_key::number_of;
 use mst_words::{Given, Verb};
 use sqlite_std_file::OpenError;
@@ -150,7 +153,7 @@ where
 fn size_of(rt: &HostRuntime, path: &str) -> Result<u64, Failure> {
     match fs::metadata(rt, path) {
         Ok(found) => Ok(found.len()),
-        Err(error) => Err(Failure::Path(OpenError::Io(error))),
+        Err(error) => Err(Failure::File(FileFault::Path(OpenError::Io(error)))),
     }
 }
 
@@ -165,7 +168,8 @@ pub fn patience(given: &Given<'_>) -> u64 {
 /// Runs a command on a file, which is opened once standard input was read to its end where the command takes something from there.
 pub fn run(rt: &HostRuntime, verb: Verb, path: &str, given: &Given<'_>) -> Result<(), Failure> {
     if verb == Verb::Init {
-        return make_store(rt, path, given.writer, given.hash_key);
+        make_store(rt, path, given.writer, given.hash_key)?;
+        return Ok(());
     }
     // (a file that isn't there is told before anything is typed)
     expect_file(rt, path)?;

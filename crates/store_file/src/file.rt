@@ -148,7 +148,7 @@ pub fn open_trusted<D: Disk + Drop>(
 
 /// Opens the file of a store as [`open`] does, and reads all its pages first. It takes the time of that, and asks nothing of the files.
 ///
-/// ```rust crates/mst/src/files.rt
+/// ```rust crates/mst_files/src/opening.rt
 /// Ok(Log::over(store_file::open_whole(rt.alloc(), files)?))
 /// ```
 ///

@@ -2,7 +2,7 @@ use Rattle.std.proofs.Common.{IfOk, IsTrue}
 use Rattle.sqlite_disk.specs.contracts.start.UnknownStart.TheImpl.{ghosts}
 use Rattle.sqlite_std_file.specs.File.{file_is_usable}
 use Rattle.store_file.specs.Unsure.{disk_below}
-use Rattle.mst.proofs.files.wait_for.Given as goal
+use Rattle.mst_files.proofs.opening.wait_for.Given as goal
 
 abbrev pub invariant-tries : goal.invariant-tries
 invariant-tries l = record {

@@ -1,6 +1,6 @@
 use Rattle.std.proofs.Common.{refl}
 use Rattle.store_file.proofs.StoreLemmas.{never_clean}
-use Rattle.mst.proofs.files.fill_file.Goals as goal
+use Rattle.mst_files.proofs.making.fill_file.Goals as goal
 
 pub over-log-requires : goal.over-log-requires
 over-log-requires c = record {

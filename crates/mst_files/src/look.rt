@@ -1,7 +1,7 @@
 //! What a file is, told by reading alone: so that a file of others stays as it is, and gets no log beside it.
 ghost use Rattle.std.specs.Prelude.{◌<◌};
 
-use crate::fault::Failure;
+use crate::fault::FileFault;
 use sqlite_std_file::OpenError;
 use std::alloc::Global;
 use std::fs::{self, File};
@@ -20,6 +20,9 @@ const HEADER: usize = 100;
 const LOG_HEADER: usize = 32;
 
 const FRAME_HEADER: usize = 24;
+
+/// How many bytes a log has at least that may have pages: its header and that of a page.
+pub(crate) const LOG_WITH_PAGES: u64 = 56;
 
 /// How many pages of a log are looked at.
 const MOST_FRAMES: u64 = 16_777_216;
@@ -160,7 +163,7 @@ fn log_has_store(alloc: Global, log: &File) -> io::Result<bool> {
 }
 
 /// Whether there is a log beside a file, with a first page of a store.
-fn has_store_in_log(rt: &HostRuntime, path: &str) -> Result<bool, Failure> {
+fn has_store_in_log(rt: &HostRuntime, path: &str) -> Result<bool, FileFault> {
     let name = format!(in rt.alloc(); "{path}-wal")?;
     if !is_plain(rt, name.as_str())? {
         return Ok(false);
@@ -170,12 +173,12 @@ fn has_store_in_log(rt: &HostRuntime, path: &str) -> Result<bool, Failure> {
 }
 
 /// What a failure of the system at a path means.
-fn failure_of(error: io::Error) -> Failure {
-    Failure::Path(OpenError::Io(error))
+fn failure_of(error: io::Error) -> FileFault {
+    FileFault::Path(OpenError::Io(error))
 }
 
 /// Whether a plain file has this name.
-fn is_plain(rt: &HostRuntime, path: &str) -> Result<bool, Failure> {
+fn is_plain(rt: &HostRuntime, path: &str) -> Result<bool, FileFault> {
     match fs::metadata(rt, path) {
         Ok(found) => Ok(found.is_file()),
         Err(error) if error.kind() == io::ErrorKind::NotFound => Ok(false),
@@ -184,14 +187,14 @@ fn is_plain(rt: &HostRuntime, path: &str) -> Result<bool, Failure> {
 }
 
 /// Refuses the file of a store in a mode that isn't read here.
-fn expect_mode(page: &[u8]) -> Result<(), Failure> {
+fn expect_mode(page: &[u8]) -> Result<(), FileFault> {
     if number_at(page, 52) != 0 {
-        return Err(Failure::Mode(
+        return Err(FileFault::Mode(
             "the file is a store with auto_vacuum on, which this program can't read: turn it off by sqlite3 FILE 'PRAGMA auto_vacuum = 0; VACUUM'",
         ));
     }
     if byte_at(page, 20) != 0 {
-        return Err(Failure::Mode(
+        return Err(FileFault::Mode(
             "the file is a store with reserved bytes in its pages, which this program can't read",
         ));
     }
@@ -200,7 +203,7 @@ fn expect_mode(page: &[u8]) -> Result<(), Failure> {
 
 /// Refuses a file that is no store, or one in a mode that isn't read here. It reads the first page, and those of a log where that isn't one of a
 /// store, and writes nothing. What is no plain file is left to the call that opens it.
-pub fn expect_store(rt: &HostRuntime, path: &str) -> Result<(), Failure> {
+pub(crate) fn expect_store(rt: &HostRuntime, path: &str) -> Result<(), FileFault> {
     if !is_plain(rt, path)? {
         return Ok(());
     }
@@ -213,7 +216,7 @@ pub fn expect_store(rt: &HostRuntime, path: &str) -> Result<(), Failure> {
     if has_store_in_log(rt, path)? {
         return Ok(());
     }
-    Err(Failure::File(match first {
+    Err(FileFault::Store(match first {
         First::Former => OpenFault::Format,
         First::Cut => OpenFault::Corrupt,
         _ => OpenFault::Foreign,

@@ -1,0 +1,49 @@
+//! Closes the file of a store.
+use crate::fault::FileFault;
+use sqlite_std_file::File;
+use sqlite_store::FileStore;
+use sqlite_trees::error::StoreError;
+use store_file::Unsure;
+use store_table::log::Log;
+
+/// The trees of a store's file.
+pub type FileTrees = FileStore<Unsure<File>>;
+
+/// A log whose file can be closed. What runs over any such one has no file to drop, whose many parts make a function slow to prove.
+pub trait Closing: Sized + Drop {
+    /// Closes the file, into which its log is copied.
+    fn close_copied(self) -> Result<(), FileFault>;
+
+    /// Closes the file. Where there is no room or no memory to copy what its log holds, the log keeps that, and what was committed is read
+    /// from there.
+    fn close_all(self) -> Result<(), FileFault>;
+}
+
+impl Closing for Log<FileTrees> {
+    fn close_copied(self) -> Result<(), FileFault> {
+        store_file::close(self.into_trees())?;
+        Ok(())
+    }
+
+    fn close_all(self) -> Result<(), FileFault> {
+        match store_file::close(self.into_trees()) {
+            Ok(()) | Err(StoreError::Full | StoreError::OutOfMemory) => Ok(()),
+            Err(error) => Err(FileFault::from(error)),
+        }
+    }
+}
+
+/// Closes the file of a log after what was done on it. Where both failed, the reason is that of the first.
+///
+/// # Errors
+///
+/// What was done failed, or a [`FileFault`].
+pub fn close_behind<L: Closing, T: Drop, E: From<FileFault> + Drop>(
+    log: L,
+    done: Result<T, E>,
+) -> Result<T, E> {
+    let closed = log.close_all();
+    let done = done?;
+    closed?;
+    Ok(done)
+}

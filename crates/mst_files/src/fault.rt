@@ -1,0 +1,80 @@
+//! Why the file of a store isn't opened, closed or made.
+use mst_commands::Fault;
+use sqlite_std_file::OpenError;
+use sqlite_trees::error::StoreError;
+use std::alloc::AllocError;
+use std::io::ErrorKind;
+use std::{fmt, io};
+use store_file::OpenFault;
+use store_table::StoreFault;
+
+/// Why the file of a store isn't opened, closed or made, or why a command on it failed.
+#[derive(Debug, Drop)]
+pub enum FileFault {
+    /// A command on the file failed.
+    Command(Fault),
+    /// The operating system didn't open the file.
+    Path(OpenError),
+    /// The file wasn't opened or made.
+    Store(OpenFault),
+    /// The file is a store in a mode that isn't read here.
+    Mode(&'static str),
+}
+
+impl From<Fault> for FileFault {
+    fn from(fault: Fault) -> Self {
+        FileFault::Command(fault)
+    }
+}
+
+impl From<StoreFault> for FileFault {
+    fn from(fault: StoreFault) -> Self {
+        FileFault::Command(Fault::Store(fault))
+    }
+}
+
+impl From<StoreError> for FileFault {
+    fn from(error: StoreError) -> Self {
+        FileFault::Command(Fault::Store(StoreFault::from(error)))
+    }
+}
+
+impl From<OpenError> for FileFault {
+    fn from(error: OpenError) -> Self {
+        match error {
+            OpenError::Busy => FileFault::Command(Fault::InUse),
+            other => FileFault::Path(other),
+        }
+    }
+}
+
+impl From<OpenFault> for FileFault {
+    fn from(fault: OpenFault) -> Self {
+        FileFault::Store(fault)
+    }
+}
+
+impl From<AllocError> for FileFault {
+    fn from(_error: AllocError) -> Self {
+        FileFault::Command(Fault::Store(StoreFault::Memory))
+    }
+}
+
+impl From<io::Error> for FileFault {
+    fn from(error: io::Error) -> Self {
+        FileFault::Command(Fault::Device(error))
+    }
+}
+
+impl fmt::Display for FileFault {
+    fn fmt<W: fmt::Write>(&self, f: &mut fmt::Formatter<W>) -> fmt::Result {
+        match self {
+            FileFault::Command(fault) => write!(f, "{fault}"),
+            FileFault::Path(OpenError::Io(error)) if error.kind() == ErrorKind::Unsupported =>
+                f.write_str("the file, or its log beside it, isn't a regular file with one name"),
+            FileFault::Path(error) => write!(f, "{error}"),
+            FileFault::Store(fault) => write!(f, "{fault}"),
+            FileFault::Mode(what) => f.write_str(what),
+        }
+    }
+}

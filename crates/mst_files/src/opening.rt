@@ -1,0 +1,128 @@
+//! Opens the file of a store.
+ghost use Rattle.std.specs.Prelude.{IfOk, IsTrue};
+
+use crate::closing::FileTrees;
+use crate::fault::FileFault;
+use crate::look::{LOG_WITH_PAGES, expect_store};
+use mst_commands::Fault;
+use sqlite_disk::{Disk, Files};
+use sqlite_std_file::{File, OpenError, Unknown};
+use std::fs;
+use std::thread::sleep;
+use std::time::Duration;
+use store_file::Unsure;
+use store_table::log::Log;
+
+/// Whether there is such a file.
+fn is_there(rt: &HostRuntime, path: &str) -> Result<bool, OpenError> {
+    Ok(fs::exists(rt, path)?)
+}
+
+/// How many times a second a file is tried that another process has.
+const TRIES: u64 = 20;
+
+/// What the system says of this process's limits.
+const LIMITS: &str = "/proc/self/limits";
+
+/// The limit on the length of files in a line of that, if it is the line that has it. A limit that is none has no number.
+fn limit_in(line: &str) -> Option<u64> {
+    let Some(rest) = line.strip_prefix("Max file size") else {
+        return None;
+    };
+    let Some(word) = rest.split_ascii_whitespace().next() else {
+        return None;
+    };
+    match word.parse::<u64>() {
+        Ok(bytes) => Some(bytes),
+        Err(_) => None,
+    }
+}
+
+/// How many bytes a file may have. A write past that would end the process, so that no such is tried.
+fn longest_file(rt: &HostRuntime) -> u64 {
+    let Ok(limits) = fs::read_to_string(rt, LIMITS) else {
+        return u64::MAX;
+    };
+    for line in limits.lines() {
+        if let Some(bytes) = limit_in(line) {
+            return bytes;
+        }
+    }
+    u64::MAX
+}
+
+/// The file of a store and its log, as files of which nothing is known.
+pub(crate) fn files_at(rt: &HostRuntime, path: &str) -> Result<Files<Unsure<File>>, OpenError>
+    ensures log { IfOk result (λ files. IsTrue (⟦<Unsure<File> as Disk>⟧.is_usable files.log)) }
+    ensures db { IfOk result (λ files. IsTrue (⟦<Unsure<File> as Disk>⟧.is_usable files.db)) }
+{
+    let most = longest_file(rt);
+    let files = sqlite_std_file::open(rt, path, Unknown)?;
+    Ok(Files {
+        log: Unsure::within(files.log, most),
+        db: Unsure::within(files.db, most),
+    })
+}
+
+/// Whether a file wasn't opened since another process has it.
+fn is_in_use(opened: &Result<Files<Unsure<File>>, OpenError>) -> bool {
+    matches!(opened, Err(OpenError::Busy))
+}
+
+/// The files, once no other process has them. They are tried again for this many seconds.
+fn wait_for(rt: &HostRuntime, path: &str, seconds: u64) -> Result<Files<Unsure<File>>, OpenError>
+    ensures log { IfOk result (λ files. IsTrue (⟦<Unsure<File> as Disk>⟧.is_usable files.log)) }
+    ensures db { IfOk result (λ files. IsTrue (⟦<Unsure<File> as Disk>⟧.is_usable files.db)) }
+{
+    let mut opened = files_at(rt, path);
+    'tries: for _ in 0..seconds.saturating_mul(TRIES) {
+        if !is_in_use(&opened) {
+            break;
+        }
+        sleep(rt, Duration::from_millis(1_000 / TRIES));
+        opened = files_at(rt, path);
+    }
+    opened
+}
+
+/// Refuses a name of no file.
+pub fn expect_file(rt: &HostRuntime, path: &str) -> Result<(), FileFault> {
+    if is_there(rt, path)? {
+        Ok(())
+    } else {
+        Err(FileFault::Command(Fault::NoStore))
+    }
+}
+
+/// Whether the log beside a file has no page, so that the first page of the file has said which tables there are.
+fn has_no_log(rt: &HostRuntime, path: &str) -> Result<bool, FileFault> {
+    let log = format!(in rt.alloc(); "{path}-wal")?;
+    match fs::metadata(rt, log.as_str()) {
+        Ok(found) => Ok(found.len() < LOG_WITH_PAGES),
+        Err(_) => Ok(false),
+    }
+}
+
+/// Opens a file that is there. Where another process has it, it is tried again for this many seconds.
+pub fn open_file(rt: &HostRuntime, path: &str, seconds: u64) -> Result<Log<FileTrees>, FileFault> {
+    expect_file(rt, path)?;
+    expect_store(rt, path)?;
+    let files = wait_for(rt, path, seconds)?;
+    let opened = if has_no_log(rt, path)? {
+        store_file::open_trusted(rt.alloc(), files)
+    } else {
+        store_file::open(rt.alloc(), files)
+    };
+    match opened {
+        Ok(trees) => Ok(Log::over(trees)),
+        Err(fault) => Err(FileFault::Store(fault)),
+    }
+}
+
+/// The same, once all its pages were read and found to be where they belong.
+pub fn open_whole(rt: &HostRuntime, path: &str, seconds: u64) -> Result<Log<FileTrees>, FileFault> {
+    expect_file(rt, path)?;
+    expect_store(rt, path)?;
+    let files = wait_for(rt, path, seconds)?;
+    Ok(Log::over(store_file::open_whole(rt.alloc(), files)?))
+}
