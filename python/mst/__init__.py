@@ -10,13 +10,10 @@
 from ._library import MalformedError, version
 from ._ranges import KeyRange, KeyRanges, PageRange, PageRanges, diff, unshared
 from ._replica import HeldReplica
-from ._store import Store
-from ._sync import LIMIT, Replica, Synced, sync, sync_steps, sync_streams
-from ._sync_tree import KeptRows, SyncTree
+from ._sync_tree import Rows, SyncTree
 from ._tree import Page, Tree
-from ._wire import MESSAGES, REFUSAL, RefusedError
+from ._wire import LIMIT, MESSAGES, REFUSAL, RefusedError
 
 __version__ = version()
-__all__ = ["HeldReplica", "KeptRows", "LIMIT", "KeyRange", "KeyRanges", "MESSAGES", "MalformedError", "Page", "PageRange", "PageRanges",
-           "REFUSAL", "RefusedError", "Replica", "Store", "SyncTree", "Synced", "Tree", "diff", "sync", "sync_steps", "sync_streams", "unshared",
-           "version"]
+__all__ = ["HeldReplica", "KeyRange", "KeyRanges", "LIMIT", "MESSAGES", "MalformedError", "Page", "PageRange", "PageRanges", "REFUSAL",
+           "RefusedError", "Rows", "SyncTree", "Tree", "diff", "unshared", "version"]

@@ -27,7 +27,6 @@ _CALLS = {
     "mst_tree_pages": [_HANDLE, _OUT, _SIZE, _OUT],
     "mst_diff": [_BYTES, _SIZE, _BYTES, _SIZE, _OUT, _SIZE, _OUT],
     "mst_ranges_next": [_BYTES, _SIZE, _OUT, _OUT],
-    "mst_rows_next": [_BYTES, _SIZE, _OUT, _OUT],
     "mst_version": [],
     "mst_replica_new_with": [_HANDLE, _BYTES, ctypes.c_uint8, ctypes.c_uint8],
     "mst_replica_free": [_HANDLE],
@@ -65,11 +64,6 @@ class _Range(ctypes.Structure):
     """`struct mst_range`."""
     _fields_ = [("first", ctypes.c_void_p), ("first_len", ctypes.c_size_t), ("last", ctypes.c_void_p), ("last_len", ctypes.c_size_t),
                 ("digest", ctypes.c_void_p)]
-
-
-class _Row(ctypes.Structure):
-    """`struct mst_row`."""
-    _fields_ = [("key", ctypes.c_void_p), ("key_len", ctypes.c_size_t), ("value", ctypes.c_void_p), ("value_len", ctypes.c_size_t)]
 
 
 def _find() -> str:
@@ -151,12 +145,6 @@ def difference(local: bytes, peer: bytes) -> bytes:
 def is_list(data: bytes) -> bool:
     """Whether the bytes are a list of page ranges or of key ranges, whatever the order of their keys."""
     status = library.mst_ranges_next(data, len(data), ctypes.byref(ctypes.c_size_t()), ctypes.byref(_Range()))
-    return status in (DONE, ABSENT)
-
-
-def are_rows(data: bytes) -> bool:
-    """Whether the bytes are a list of rows or of digests, whatever the order of their keys."""
-    status = library.mst_rows_next(data, len(data), ctypes.byref(ctypes.c_size_t()), ctypes.byref(_Row()))
     return status in (DONE, ABSENT)
 
 

@@ -139,7 +139,7 @@ def diff(local: PageRanges, peer: PageRanges) -> KeyRanges:
 
 
 def unshared(local: PageRanges, peer: PageRanges) -> KeyRanges:
-    """The ranges of the peer's keys outside of the pages that both trees have, as `sync` asks for them.
+    """The ranges of the peer's keys outside of the pages that both trees have.
 
     A page that both have has the same rows on both sides, while digests don't collide. So the peer has no row elsewhere that is new, and one
     pull of these ranges brings all: one each way leaves both sides with the same rows. Of a page that differs they hold the keys on it and

@@ -9,9 +9,8 @@ from typing import Dict, Generator, ItemsView, Iterator, KeysView, Mapping, NoRe
 
 from . import _wire
 from ._library import ABSENT, MALFORMED, OTHER_SETTINGS, TOO_SHORT, MalformedError, library, written
-from ._sync import LIMIT
-from ._tree import Rows
-from ._wire import MESSAGES, Read, Write
+from ._tree import AnyRows
+from ._wire import LIMIT, MESSAGES, Read, Write
 from ._wire import check as _check
 
 _number = struct.Struct("<Q").unpack_from
@@ -51,7 +50,7 @@ class HeldReplica(Mapping[bytes, bytes]):
 
     __slots__ = ("_handle", "_address", "_guess", "_lock", "_under_way", "__weakref__")
 
-    def __init__(self, rows: Rows = (), *, key: bytes = bytes(16), level_base: int = 16, page_format: int = 1) -> None:
+    def __init__(self, rows: AnyRows = (), *, key: bytes = bytes(16), level_base: int = 16, page_format: int = 1) -> None:
         """The replica of these rows; of values under one key the greatest stays. The settings are those of `Tree`. Replicas that catch up with
         each other have all three in common, and refuse others; but one without rows tells no key, and is served under any."""
         if len(key) != 16:
@@ -170,9 +169,10 @@ class HeldReplica(Mapping[bytes, bytes]):
 
     def catch_up(self, read: Read, write: Write, *, limit: int = LIMIT, messages: int = MESSAGES) -> int:
         """Brings the rows of a peer that runs `serve` over a connection, and returns how many came. At the end the peer is told so: then it may
-        catch up, and this side serve, over the same connection. `read` and `write` are those of `sync`. A message goes after how many bytes
-        it has, in eight bytes, the lowest first; a reply of more than `limit` bytes is refused, and the peer is asked that many questions at
-        most. The keys that a message spells may have 64 times its bytes together.
+        catch up, and this side serve, over the same connection. `read` returns at most that many bytes, at least one, and none at the end, as
+        `recv` of a socket and `read` of a file do; `write` sends all that it is given, as `sendall` does, and flushes it where it is buffered.
+        A message goes after how many bytes it has, in eight bytes, the lowest first; a reply of more than `limit` bytes is refused, and the
+        peer is asked that many questions at most. The keys that a message spells may have 64 times its bytes together.
 
         EOFError where the peer ends before; what `catch_up_steps`, `read` and `write` raise. The rows are then as before, but for a
         MemoryError, and where it is the end that can't be told."""

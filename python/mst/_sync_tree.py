@@ -1,4 +1,4 @@
-"""Trees of the digests of rows that are kept elsewhere, as in a database, and catch-ups of such rows by messages, whose cost is what differs.
+"""Trees of the digests of rows that are elsewhere, as in a database, and catch-ups of such rows by messages, whose cost is what differs.
 
 The calls are those of mst_sync.h. The messages are those of docs/WIRE.md, where keys and values are byte strings.
 """
@@ -8,14 +8,14 @@ import ctypes
 import functools
 import itertools
 import os.path
+import struct
 import threading
 from typing import Any, Callable, Dict, Generator, Iterable, Iterator, List, NoReturn, Optional, Protocol, Set, Tuple
 
 from . import _wire
 from ._library import ABSENT, MALFORMED, NEEDS_ROWS, OTHER_SETTINGS, MalformedError, library, written
 from ._ranges import _entries
-from ._sync import LIMIT, _list
-from ._wire import MESSAGES, Read, Write, check
+from ._wire import LIMIT, MESSAGES, Read, Write, check
 
 # How many bytes of rows are looked up for one reply; the peer asks for the rest.
 _MOST = 1 << 22
@@ -23,13 +23,14 @@ _MOST = 1 << 22
 _ROW = 16
 
 _set = library.mst_sync_set
+_pack = struct.Struct("<Q").pack
 
 Row = Tuple[bytes, bytes]
 Steps = Generator[bytes, bytes, List[Row]]
 
 
-class KeptRows(Protocol):
-    """What a catch-up needs of rows that are kept elsewhere, as in a table of a database: three methods. If threads write, catch up or serve
+class Rows(Protocol):
+    """What a catch-up needs of rows that are elsewhere, as in a table of a database: three methods. If threads write, catch up or serve
     at the same time, they call them at the same time."""
 
     def get(self, key: bytes) -> "Optional[bytes]":
@@ -46,10 +47,10 @@ class KeptRows(Protocol):
 
 
 class SyncTree:
-    """The digests of rows that are kept elsewhere, as in a database, in a Merkle search tree in memory; and catch-ups of these rows with those
+    """The digests of rows that are elsewhere, as in a database, in a Merkle search tree in memory; and catch-ups of these rows with those
     of peers: other such trees, `HeldReplica`, and replicas in C and Rust.
 
-    >>> class Rows:
+    >>> class InDict:
     ...     def __init__(self):
     ...         self.table = {}
     ...     def get(self, key):
@@ -60,7 +61,7 @@ class SyncTree:
     ...         self.table.update((key, max(value, self.table.get(key, b""))) for key, value in came)
     ...         return [(key, self.table[key]) for key, _ in came]
     >>> from mst import HeldReplica
-    >>> office, laptop = Rows(), HeldReplica({b"kiwi": b"1207 two", b"melon": b"1208 six"})
+    >>> office, laptop = InDict(), HeldReplica({b"kiwi": b"1207 two", b"melon": b"1208 six"})
     >>> tree = SyncTree(office)
     >>> tree.join(office, [(b"apple", b"1131 ten"), (b"kiwi", b"1130 one")])
     >>> steps = tree.catch_up_steps()
@@ -86,7 +87,7 @@ class SyncTree:
 
     __slots__ = ("_handle", "_address", "_settings", "_lock", "_writing", "_under_way", "_unsure", "__weakref__")
 
-    def __init__(self, rows: "Optional[KeptRows]" = None, *, key: bytes = bytes(16), level_base: int = 16, page_format: int = 1) -> None:
+    def __init__(self, rows: "Optional[Rows]" = None, *, key: bytes = bytes(16), level_base: int = 16, page_format: int = 1) -> None:
         """The tree of these rows, by `load`. The settings are those of `HeldReplica`, and peers that catch up with each other have all three in
         common, and refuse others; but a tree without keys tells no key of SipHash, and is served under any."""
         if len(key) != 16:
@@ -109,7 +110,7 @@ class SyncTree:
         if rows is not None:
             self.load(rows)
 
-    def load(self, rows: KeptRows) -> None:
+    def load(self, rows: Rows) -> None:
         """Makes the tree that of all rows, by one scan: when the program starts, and when it can't be sure that it told the tree of each write,
         as after a restore of the database. `join` and `refresh` wait meanwhile; write by no other means. A catch-up that is under way ends
         with ValueError. If the scan fails, or its keys don't ascend (ValueError), the tree is as before. It takes a few microseconds a row,
@@ -128,8 +129,8 @@ class SyncTree:
                 self._under_way = None
             self._unsure = set()
 
-    def join(self, rows: KeptRows, came: "Iterable[Row]") -> None:
-        """Joins rows with those that are kept, by their own `join`, and sets the tree to what they then are: so `catch_up` does with what came,
+    def join(self, rows: Rows, came: "Iterable[Row]") -> None:
+        """Joins rows with those that are there, by their own `join`, and sets the tree to what they then are: so `catch_up` does with what came,
         and so a program writes. Each key comes once (ValueError). Another `join` or `refresh` waits meanwhile.
 
         If it raises, the rows say what was written. The tree is brought to it before it is next given rows, except by `join`."""
@@ -148,7 +149,7 @@ class SyncTree:
                 self._unsure = self._unsure.union(key for key, _ in joining)
                 raise
 
-    def refresh(self, rows: KeptRows, keys: "Iterable[bytes]" = ()) -> None:
+    def refresh(self, rows: Rows, keys: "Iterable[bytes]" = ()) -> None:
         """Looks up keys, and sets the tree to their rows as they are, or takes keys out: call it after the commit of each write that isn't by
         `join`, and after writes of another program. Keys that weren't looked up because it raised are looked up the next time, as are those
         of a `join` that raised."""
@@ -232,7 +233,7 @@ class SyncTree:
             check(library.mst_sync_root_hash(self._address, root))
         return root.raw
 
-    def answer(self, rows: KeptRows, question: bytes) -> bytes:
+    def answer(self, rows: Rows, question: bytes) -> bytes:
         """The reply to a question of a peer that catches up. Any bytes may be given. If they are no question, or the peer has other settings,
         the reply is `REFUSAL`, which is to be sent too. It looks up the rows that the reply has, up to some 4 MiB and one row more, and keeps
         nothing between questions. What `get` and `scan` raise; ValueError if what `scan` returns isn't in the order of its keys."""
@@ -257,12 +258,10 @@ class SyncTree:
         finally:
             self._leave(mine)
 
-    def catch_up(self, rows: KeptRows, read: Read, write: Write, *, limit: int = LIMIT, messages: int = MESSAGES) -> int:
+    def catch_up(self, rows: Rows, read: Read, write: Write, *, limit: int = LIMIT, messages: int = MESSAGES) -> int:
         """Brings the rows of a peer that runs `serve` over a connection, joins them, and returns how many came. At the end the peer is told so:
-        then it may catch up, and this side serve, over the same connection. `read` and `write` are those of `sync`. A message goes after how
-        many bytes it has, in eight bytes, the lowest first; a reply of more than `limit` bytes is refused, and the peer is asked that many
-        questions at most. The keys that a message spells may have 64 times its bytes together. All rows that come are held until they are
-        joined, once all came.
+        then it may catch up, and this side serve, over the same connection. `read` and `write` are those of `HeldReplica.catch_up`, and so are
+        `limit` and `messages`. All rows that come are held until they are joined, once all came.
 
         EOFError if the peer ends before; what `catch_up_steps`, `read` and `write` raise: rows and tree are then as before, unless it is the
         end that can't be told. What `join` raises."""
@@ -272,7 +271,7 @@ class SyncTree:
         _wire.send(write, b"")
         return len(came)
 
-    def serve(self, rows: KeptRows, read: Read, write: Write, *, limit: int = LIMIT, messages: int = MESSAGES) -> int:
+    def serve(self, rows: Rows, read: Read, write: Write, *, limit: int = LIMIT, messages: int = MESSAGES) -> int:
         """Answers a peer that runs `catch_up`, until it says that it is done or ends, and returns how many questions it was answered. The
         rest is as for `catch_up`, from the other side.
 
@@ -281,7 +280,7 @@ class SyncTree:
         `answer`, `read` and `write` raise."""
         return _wire.answer(functools.partial(self._answer, rows), read, write, limit, messages)
 
-    async def catch_up_streams(self, rows: KeptRows, reader: asyncio.StreamReader, writer: asyncio.StreamWriter, *, limit: int = LIMIT,
+    async def catch_up_streams(self, rows: Rows, reader: asyncio.StreamReader, writer: asyncio.StreamWriter, *, limit: int = LIMIT,
                                messages: int = MESSAGES) -> int:
         """The same as `catch_up`, over the streams of asyncio. The rows are called in threads of the loop's executor, so that the loop waits
         neither for the peer nor for the database. A `join` that has begun goes on in its thread if the task is cancelled."""
@@ -291,7 +290,7 @@ class SyncTree:
         await _wire.send_stream(writer, b"")
         return len(came)
 
-    async def serve_streams(self, rows: KeptRows, reader: asyncio.StreamReader, writer: asyncio.StreamWriter, *, limit: int = LIMIT,
+    async def serve_streams(self, rows: Rows, reader: asyncio.StreamReader, writer: asyncio.StreamWriter, *, limit: int = LIMIT,
                             messages: int = MESSAGES) -> int:
         """The same as `serve`, over the streams of asyncio, with the rows called as in `catch_up_streams`."""
         return await _wire.answer_streams(functools.partial(_in_thread, self._answer, rows), reader, writer, limit, messages)
@@ -301,12 +300,12 @@ class SyncTree:
         with self._lock:
             library.mst_sync_free(self._address)
 
-    def _settle(self, rows: KeptRows) -> None:
+    def _settle(self, rows: Rows) -> None:
         """Looks up the keys of writes of which it isn't known how they ended."""
         if self._unsure:
             self.refresh(rows)
 
-    def _answer(self, rows: KeptRows, question: bytes) -> "Tuple[int, bytes]":
+    def _answer(self, rows: Rows, question: bytes) -> "Tuple[int, bytes]":
         """The status of an answer, and the message that is to be sent."""
         self._settle(rows)
         size, needs_size = ctypes.c_size_t(), ctypes.c_size_t()
@@ -388,7 +387,7 @@ class SyncTree:
 _Found = Tuple[Dict[bytes, bytes], bool, int]
 
 
-def _look_up(rows: KeptRows, needs: bytes, most: int) -> _Found:
+def _look_up(rows: Rows, needs: bytes, most: int) -> _Found:
     """Looks up the rows that a list of needs of mst_sync.h names, in the order of the list, until they have `most` bytes."""
     needed = ((first, end) for first, end, _ in _entries(needs, 0))
     entry = next(needed, None)
@@ -402,7 +401,7 @@ def _look_up(rows: KeptRows, needs: bytes, most: int) -> _Found:
 # take in a reply at the least. Rows of the first keys, or ranges, are handed in as such; if a key isn't there, or ranges don't ascend, they
 # can't be: then they are handed in as all rows, which for a reply that ends by `least` bytes they are.
 
-def _look_up_keys(rows: KeptRows, needed: "Iterator[Tuple[bytes, bytes]]", most: int) -> _Found:
+def _look_up_keys(rows: Rows, needed: "Iterator[Tuple[bytes, bytes]]", most: int) -> _Found:
     """Of each key a reply has a byte, and if it is there at least one for how long the value is, and the value."""
     found: "Dict[bytes, bytes]" = {}
     size = least = 0
@@ -422,7 +421,7 @@ def _look_up_keys(rows: KeptRows, needed: "Iterator[Tuple[bytes, bytes]]", most:
     return found, True, most
 
 
-def _look_up_ranges(rows: KeptRows, needed: "Iterator[Tuple[bytes, bytes]]", most: int) -> _Found:
+def _look_up_ranges(rows: Rows, needed: "Iterator[Tuple[bytes, bytes]]", most: int) -> _Found:
     """Of each range a reply has at least two bytes, and of each row in it two, the value, and what the key doesn't share with the one before.
     One row more is looked up than the reply has, by which it says that its last range goes on, or the range before has ended."""
     found: "Dict[bytes, bytes]" = {}
@@ -449,7 +448,15 @@ def _look_up_ranges(rows: KeptRows, needed: "Iterator[Tuple[bytes, bytes]]", mos
     return found, True, most
 
 
-def _scanned(rows: KeptRows, first: bytes, end: "Optional[bytes]") -> "Generator[Row, None, None]":
+def _list(rows: "List[Row]") -> bytes:
+    """A list of rows, as mst.h has it."""
+    parts = [b"MSTr", _pack(len(rows))]
+    for key, value in rows:
+        parts += (_pack(len(key)), key, _pack(len(value)), value)
+    return b"".join(parts)
+
+
+def _scanned(rows: Rows, first: bytes, end: "Optional[bytes]") -> "Generator[Row, None, None]":
     """The rows of a range. ValueError if they aren't in it or don't ascend, as those of a table whose order isn't that of bytes."""
     if end is not None and end <= first:
         return

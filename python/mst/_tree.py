@@ -6,7 +6,7 @@ from typing import Dict, Iterable, List, Mapping, NamedTuple, NoReturn, Optional
 from ._library import ABSENT, check, library, written
 from ._ranges import PageRanges
 
-Rows = Union[Mapping[bytes, bytes], Iterable[Tuple[bytes, bytes]]]
+AnyRows = Union[Mapping[bytes, bytes], Iterable[Tuple[bytes, bytes]]]
 
 _pack = struct.Struct("<Q").pack
 _number = struct.Struct("<Q").unpack_from
@@ -72,7 +72,7 @@ class Tree:
 
     __slots__ = ("_handle", "_address", "_guess", "__weakref__")
 
-    def __init__(self, rows: Rows = (), *, key: bytes = bytes(16), level_base: int = 16, page_format: int = 1,
+    def __init__(self, rows: AnyRows = (), *, key: bytes = bytes(16), level_base: int = 16, page_format: int = 1,
                  key_feed: str = "bytes") -> None:
         """The tree of these rows, of which the last stays where a key comes twice.
 
@@ -127,7 +127,7 @@ class Tree:
         check(status)
         return True
 
-    def update(self, rows: Rows) -> None:
+    def update(self, rows: AnyRows) -> None:
         """Sets each key of the rows to the digest of its value, in any order; of rows with one key the last stays. They go over a thousand at a
         time. If a row isn't bytes, or memory runs out, some of those in front are set, and none after it.
 
@@ -172,7 +172,7 @@ class Tree:
         data = b"".join([b"MSTr", _pack(count), *parts])
         check(library.mst_tree_load(self._address, data, len(data)))
 
-    def load_digests(self, rows: Rows) -> None:
+    def load_digests(self, rows: AnyRows) -> None:
         """The same of keys with the digests of their values, as `digests` answers them: so a tree is kept between runs.
 
         >>> tree, again = Tree({b"kiwi": b"1", b"melon": b"2"}), Tree()

@@ -7,6 +7,9 @@ from typing import Awaitable, Callable, Generator, Optional, Tuple, TypeVar
 from ._library import DONE, MALFORMED, OTHER_SETTINGS, REFUSED, MalformedError
 from ._library import check as check_of_tree
 
+LIMIT = 1 << 28
+"""How many bytes a message of the peer may have, where no other limit is given."""
+
 MESSAGES = 1 << 16
 """How many questions one catch-up asks or is answered, where no other number is given. A peer that keeps to the messages needs far fewer
 than a thousand, and one for each further 64 MiB."""

@@ -6,6 +6,7 @@ import unittest
 
 from mst import KeyRanges, MalformedError, PageRanges, Tree, diff, unshared
 
+from .common import joined
 from .test_trees import TABLES, squares
 
 number = struct.Struct("<Q").pack
@@ -42,7 +43,6 @@ class Differences(unittest.TestCase):
             self.assertEqual(numbers(asked), answer.split())
             self.assertEqual(KeyRanges(bytes(asked)), asked)
 
-
     def test_what_lies_outside_of_pages_that_both_have(self):
         for local, peer, answer in [
             ("", "", ""),
@@ -57,6 +57,20 @@ class Differences(unittest.TestCase):
             ("1-3:2 2-9:3", "1-9:9 1-3:2 2-9:3", "3-9"),
         ]:
             self.assertEqual(numbers(unshared(page_ranges(local), page_ranges(peer))), answer.split())
+
+
+    def test_one_pull_each_way_outside_of_shared_pages_brings_all(self):
+        def rows(skipped, changed):
+            return {b"key%04d" % i: b"%d" % (i % changed == 2) for i in range(2000) if i % skipped != 1}
+
+        def pulled(ours, theirs):
+            asked = unshared(Tree(ours).page_ranges(), PageRanges(bytes(Tree(theirs).page_ranges())))
+            return joined(ours, {key: value for key, value in theirs.items() if any(span.holds(key) for span in asked)})
+
+        for left, right in [(2, 3), (3, 2), (7, 100), (100, 7), (1000, 999), (2000, 2000), (2000, 1)]:
+            left, right = rows(left, right), rows(right, left)
+            self.assertEqual([pulled(left, right), pulled(right, left)], [joined(left, right)] * 2)
+        self.assertEqual((pulled({}, rows(7, 7)), pulled(rows(7, 7), {})), (rows(7, 7), rows(7, 7)))
 
 
 class Lists(unittest.TestCase):

@@ -44,16 +44,12 @@ class Package(unittest.TestCase):
             self.assertEqual(mst.__version__, file.read().strip())
 
     def test_examples(self):
-        self.assertEqual(python(os.path.join(HERE, "..", "examples", "two_stores.py")), "{'apple': '1', 'kiwi': '1', 'melon': '3'}\n")
-        self.assertEqual(python(os.path.join(HERE, "..", "examples", "sqlite_store.py")), "{'apple': 'red', 'melon': 'ripe'}\n")
-        written = python(os.path.join(HERE, "..", "examples", "asyncio_peers.py")).splitlines()
-        self.assertEqual([line.split(",")[0] for line in written], ["agreed: True", "agreed: True", "1010 1010 True"])
         written = python(os.path.join(HERE, "..", "examples", "asyncio_replicas.py")).splitlines()
         self.assertEqual(written, ["0 rows came", "1000 rows came", "20 rows came", "1010 1010 True"])
         written = python(os.path.join(HERE, "..", "examples", "sqlite_rows.py"))
         self.assertEqual(written, "2 rows came\n{'apple': '1132 red', 'kiwi': '1207 brown', 'melon': '1131 ripe'}\n")
-        # redis_store.py, redis_rows.py and postgres_rows.py are run by tests/databases
-        self.assertEqual(len(glob.glob(os.path.join(HERE, "..", "examples", "*.py"))), 8)
+        # redis_rows.py and postgres_rows.py are run by tests/databases, replica_over_pipes.py and sync_over_pipes.py by tests/packages
+        self.assertEqual(len(glob.glob(os.path.join(HERE, "..", "examples", "*.py"))), 6)
 
     def test_the_wheel_has_no_link_out_of_it(self):
         with tempfile.TemporaryDirectory() as folder:
@@ -63,7 +59,7 @@ class Package(unittest.TestCase):
             with zipfile.ZipFile(os.path.join(folder, wheel)) as files:
                 metadata = [files.read(name).decode() for name in files.namelist() if name.endswith("METADATA")]
         self.assertEqual(len(metadata), 1)
-        self.assertIn("examples/sqlite_store.py has one in thirty lines", metadata[0])
+        self.assertIn("This one is for SQLite (the whole example):", metadata[0])
         self.assertNotIn("](", metadata[0])
 
     def test_an_interpreter_without_a_lock(self):
@@ -71,7 +67,7 @@ class Package(unittest.TestCase):
 
 
 def load_tests(_loader, tests, _pattern):
-    for name in ["mst", "mst._tree", "mst._ranges", "mst._store", "mst._sync", "mst._replica", "mst._sync_tree"]:
+    for name in ["mst", "mst._tree", "mst._ranges", "mst._replica", "mst._sync_tree"]:
         tests.addTests(doctest.DocTestSuite(importlib.import_module(name)))
     tests.addTests(doctest.DocFileSuite(os.path.join(HERE, "..", "README.md"), module_relative=False))
     return tests

@@ -1,4 +1,4 @@
-"""Trees of the digests of rows that are kept elsewhere: catch-ups of rows in a dict and in SQLite with one another and with replicas, by steps,
+"""Trees of the digests of rows that are elsewhere: catch-ups of rows in a dict and in SQLite with one another and with replicas, by steps,
 over sockets and over asyncio; rows that fail; and peers that don't keep to the messages."""
 import asyncio
 import bisect
@@ -21,10 +21,9 @@ from unittest import mock
 
 from mst import REFUSAL, HeldReplica, MalformedError, RefusedError, SyncTree, Tree
 from mst._library import ABSENT, library
-from mst._sync import _list
-from mst._sync_tree import _look_up
+from mst._sync_tree import _list, _look_up
 
-from .test_replica import both_ways, by_steps, drawn, in_threads, joined, lacked, number, said_by
+from .common import both_ways, by_steps, drawn, in_threads, joined, lacked, number, said_by
 
 EXAMPLES = os.path.join(os.path.dirname(os.path.abspath(__file__)), "..", "examples")
 

@@ -5,7 +5,6 @@ pub mod builder;
 pub mod bytes;
 pub mod diff;
 pub mod digest;
-pub mod kept;
 mod list;
 mod node;
 pub mod replica;

@@ -82,7 +82,7 @@ pub enum Fault {
     Refused,
     /// No catch-up is under way, or another began in the place of this one.
     NotAsking,
-    /// The rows that were found aren't those that the question needs ([`SyncTree::answer_with`](crate::kept::SyncTree::answer_with)).
+    /// The rows that were found aren't those that the question needs ([`SyncTree::answer_with`](crate::sync::SyncTree::answer_with)).
     OtherRows,
     /// Out of memory, when this many of the rows that came were joined, the first in the order of their keys.
     OutOfMemory {
@@ -462,7 +462,7 @@ impl fmt::Debug for Replica {
     }
 }
 
-/// The rows that a replica had at one time, or that came in a catch-up ([`Came`](crate::kept::Came)), in the order of their keys.
+/// The rows that a replica had at one time, or that came in a catch-up ([`Came`](crate::sync::Came)), in the order of their keys.
 pub struct Rows {
     list: Vec<u8>,
 }

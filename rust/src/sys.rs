@@ -2,8 +2,8 @@
 #![allow(unsafe_code)]
 
 use crate::{
-    kept::Next,
     replica::{Rows, Step},
+    sync::Next,
     OutOfMemory,
 };
 use std::{
@@ -39,15 +39,6 @@ struct Range {
     digest: *const u8,
 }
 
-/// `struct mst_row`.
-#[repr(C)]
-struct Row {
-    key: *const u8,
-    key_len: usize,
-    value: *const u8,
-    value_len: usize,
-}
-
 #[rustfmt::skip]
 extern "C" {
     fn mst_version() -> *const c_char;
@@ -67,7 +58,6 @@ extern "C" {
     fn mst_diff(local: *const u8, local_len: usize, peer: *const u8, peer_len: usize, out: *mut u8, out_len: usize,
                 needed: *mut usize) -> c_int;
     fn mst_ranges_next(list: *const u8, list_len: usize, at: *mut usize, out: *mut Range) -> c_int;
-    fn mst_rows_next(list: *const u8, list_len: usize, at: *mut usize, out: *mut Row) -> c_int;
     fn mst_replica_new_with(out: *mut Handle, key: *const u8, level_base: u8, page_format: u8) -> c_int;
     fn mst_replica_free(replica: *mut Handle);
     fn mst_replica_put(replica: *mut Handle, key: *const u8, key_len: usize, value: *const u8, value_len: usize) -> c_int;
@@ -531,24 +521,6 @@ pub(crate) fn next_range<'a>(list: &'a [u8], at: &mut usize) -> Result<Option<En
             slice::from_raw_parts(found.last, found.last_len),
             found.digest.cast::<[u8; 16]>().as_ref(),
         )
-    }))
-}
-
-/// A row of a list: its key and its value.
-type Pair<'a> = (&'a [u8], &'a [u8]);
-
-/// The row of a list of rows or of digests that is at `at`, which goes to the next; `None` after the last.
-pub(crate) fn next_row<'a>(list: &'a [u8], at: &mut usize) -> Result<Option<Pair<'a>>, Refused> {
-    let mut found = Row { key: ptr::null(), key_len: 0, value: ptr::null(), value_len: 0 };
-    // SAFETY: the list is a slice, which lives for as long as what is answered. A place beyond its end would be MST_BAD_ARGUMENT.
-    match done(unsafe { mst_rows_next(list.as_ptr(), list.len(), at, &mut found) }) {
-        Ok(()) => {}
-        Err(Refused::Absent) => return Ok(None),
-        Err(refused) => return Err(refused),
-    }
-    // SAFETY: what a call that is done writes points to bytes of the list, as many as it says.
-    Ok(Some(unsafe {
-        (slice::from_raw_parts(found.key, found.key_len), slice::from_raw_parts(found.value, found.value_len))
     }))
 }
 

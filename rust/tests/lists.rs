@@ -4,6 +4,7 @@ use merkle_search_tree::{
     digest::PageDigest,
     Malformed, MerkleSearchTree,
 };
+use std::collections::BTreeMap;
 
 type Key = [u8; 8];
 
@@ -43,6 +44,39 @@ fn differences_are_those_of_the_crate() {
         lines += 1;
     }
     assert_eq!(lines, 117);
+}
+
+type Rows = BTreeMap<String, u64>;
+
+/// The join of two sides' rows: of two values the greater stays.
+fn joined<'a>(ours: &Rows, came: impl IntoIterator<Item = (&'a String, &'a u64)>) -> Rows {
+    let mut rows = ours.clone();
+    for (key, value) in came {
+        let held = rows.entry(key.clone()).or_default();
+        *held = *value.max(held);
+    }
+    rows
+}
+
+/// What a side has once the other sent its rows outside of the pages that both have.
+fn pulled(ours: &Rows, theirs: &Rows) -> Rows {
+    let [local, peer] = [ours, theirs].map(|rows| MerkleSearchTree::from_iter(rows.clone()).page_ranges());
+    let asked = unshared(&local, &peer);
+    joined(ours, asked.iter().flat_map(|range| theirs.range::<str, _>(range.bounds())))
+}
+
+#[test]
+fn one_pull_each_way_outside_of_shared_pages_brings_all() {
+    let rows = |skipped: u64, changed: u64| -> Rows {
+        (0..2000).filter(|i| i % skipped != 1).map(|i| (format!("key{i:04}"), u64::from(i % changed == 2))).collect()
+    };
+    for (left, right) in [(2, 3), (3, 2), (7, 100), (100, 7), (1000, 999), (2000, 2000), (2000, 1)] {
+        let (left, right) = (rows(left, right), rows(right, left));
+        let wanted = joined(&left, &right);
+        assert_eq!((pulled(&left, &right), pulled(&right, &left)), (wanted.clone(), wanted));
+    }
+    assert_eq!(pulled(&Rows::new(), &rows(7, 7)), rows(7, 7));
+    assert_eq!(pulled(&rows(7, 7), &Rows::new()), rows(7, 7));
 }
 
 #[test]

@@ -1,4 +1,7 @@
 //! Replicas that hold their rows: what stays, catch-ups over sockets, and peers that don't keep to the messages.
+mod common;
+
+use common::{drawn, draws, every, join, joined, lacked, model, other_settings, Begun, Model, Peer};
 use merkle_search_tree::{
     builder::{Builder, PageFormat},
     digest::siphash::SipHasher,
@@ -6,53 +9,15 @@ use merkle_search_tree::{
     MerkleSearchTree,
 };
 use std::{
-    collections::{BTreeMap, BTreeSet},
+    collections::BTreeSet,
     error::Error,
-    io::{self, Cursor, ErrorKind, Read, Write},
+    io::{self, Cursor, ErrorKind, Write},
     num::NonZeroU8,
     os::unix::net::UnixStream,
     sync::{Barrier, Mutex},
     thread,
     time::{Duration, Instant},
 };
-
-type Model = BTreeMap<Vec<u8>, Vec<u8>>;
-
-fn draws(mut state: u64) -> impl FnMut(u64) -> u64 {
-    move |below| {
-        state ^= state << 13;
-        state ^= state >> 7;
-        state ^= state << 17;
-        (state >> 16) % below
-    }
-}
-
-/// At most so many rows.
-fn drawn(draw: &mut impl FnMut(u64) -> u64, most: u64) -> Model {
-    let rows = draw(most + 1);
-    (0..rows).map(|_| (format!("key{}", draw(400)).into_bytes(), draw(30).to_string().into_bytes())).collect()
-}
-
-fn join(model: &mut Model, key: &[u8], value: &[u8]) {
-    let held = model.entry(key.to_vec()).or_default();
-    *held = value.max(held).to_vec();
-}
-
-/// The rows that both come to hold, by maps alone.
-fn joined(left: &Model, right: &Model) -> Model {
-    let mut rows = left.clone();
-    right.iter().for_each(|(key, value)| join(&mut rows, key, value));
-    rows
-}
-
-/// How many rows of the second the first hasn't.
-fn lacked(left: &Model, right: &Model) -> usize {
-    right.iter().filter(|(key, value)| left.get(*key) != Some(value)).count()
-}
-
-fn model(replica: &Replica) -> Model {
-    replica.rows().iter().map(|(key, value)| (key.to_vec(), value.to_vec())).collect()
-}
 
 /// A catch-up without a connection: how many rows came, and how many bytes went both ways.
 fn by_steps(
@@ -84,7 +49,7 @@ fn both_ways(left: &mut Replica, right: &mut Replica) -> (io::Result<usize>, io:
 }
 
 fn of(step: usize) -> Replica {
-    (0..300).step_by(step).map(|i| (format!("{i}"), "1")).collect()
+    Replica::from_iter(every(step))
 }
 
 #[test]
@@ -161,13 +126,8 @@ fn both_come_to_hold_the_join() {
 
 #[test]
 fn under_other_settings_that_both_have() {
-    let (mut draw, sixteen) = (draws(9), NonZeroU8::new(16).unwrap());
-    for (hasher, base, format) in [
-        (SipHasher::new(b"a key of SipHash"), sixteen, PageFormat::V1),
-        (SipHasher::default(), NonZeroU8::MIN, PageFormat::V1),
-        (SipHasher::default(), NonZeroU8::MAX, PageFormat::V1),
-        (SipHasher::default(), sixteen, PageFormat::V2),
-    ] {
+    let (mut draw, greatest) = (draws(9), (SipHasher::default(), NonZeroU8::MAX, PageFormat::V1));
+    for (hasher, base, format) in other_settings().into_iter().chain([greatest]) {
         let (left, right) = (drawn(&mut draw, 200), drawn(&mut draw, 200));
         let [mut ours, mut theirs] = [&left, &right].map(|rows| {
             let mut replica = Replica::with_settings(&hasher, base, format);
@@ -211,12 +171,7 @@ fn what_is_put_in_between_stays_and_a_replica_answers_while_it_asks() {
 
 #[test]
 fn other_settings_are_refused() {
-    let sixteen = NonZeroU8::new(16).unwrap();
-    for (hasher, base, format) in [
-        (SipHasher::new(b"a key of SipHash"), sixteen, PageFormat::V1),
-        (SipHasher::default(), NonZeroU8::MIN, PageFormat::V1),
-        (SipHasher::default(), sixteen, PageFormat::V2),
-    ] {
+    for (hasher, base, format) in other_settings() {
         let (mut ours, mut theirs) = (of(2), Replica::with_settings(&hasher, base, format));
         theirs.put("a", "1");
         let question = ours.ask().unwrap();
@@ -229,7 +184,7 @@ fn other_settings_are_refused() {
             *error.get_ref().unwrap().downcast_ref::<Fault>().unwrap()
         });
         assert_eq!(faults, [Fault::Refused, Fault::OtherSettings]);
-        assert_eq!((model(&ours), theirs.len()), (model(&of(2)), 1));
+        assert_eq!((model(&ours), theirs.len()), (every(2), 1));
     }
 }
 
@@ -241,39 +196,6 @@ fn one_without_rows_tells_no_key() {
     assert_eq!(by_steps(&mut ours, |question| theirs.answer(question)).unwrap().0, 100);
     assert_eq!(model(&ours), model(&theirs));
     assert_eq!(by_steps(&mut ours, |question| theirs.answer(question)), Err(Fault::Refused));
-}
-
-/// A peer that sends these bytes and keeps what it is sent.
-struct Peer {
-    says: Cursor<Vec<u8>>,
-    heard: Vec<u8>,
-}
-
-impl Peer {
-    fn saying(messages: &[&[u8]]) -> Self {
-        let says = messages.iter().flat_map(|message| [&(message.len() as u64).to_le_bytes(), *message].concat());
-        Self { says: Cursor::new(says.collect()), heard: Vec::new() }
-    }
-
-    fn was_refused(&self) -> bool {
-        self.heard.ends_with(&[2, 0, 0, 0, 0, 0, 0, 0, REFUSAL[0], REFUSAL[1]])
-    }
-}
-
-impl Read for Peer {
-    fn read(&mut self, out: &mut [u8]) -> io::Result<usize> {
-        self.says.read(out)
-    }
-}
-
-impl Write for Peer {
-    fn write(&mut self, bytes: &[u8]) -> io::Result<usize> {
-        self.heard.write(bytes)
-    }
-
-    fn flush(&mut self) -> io::Result<()> {
-        Ok(())
-    }
 }
 
 /// What a peer says in a catch-up.
@@ -296,7 +218,7 @@ fn peers_that_break_off() {
     for end in 0..bytes.len() {
         let (mut ours, mut peer) = (of(2), Peer { says: Cursor::new(bytes[..end].to_vec()), heard: Vec::new() });
         assert_eq!(ours.catch_up(&mut peer).unwrap_err().kind(), ErrorKind::UnexpectedEof, "{end}");
-        assert_eq!(model(&ours), model(&of(2)));
+        assert_eq!(model(&ours), every(2));
     }
     assert!(of(2).catch_up(&mut Peer::saying(&whole)).unwrap() > 0);
     assert_eq!(of(2).serve(&mut Peer::saying(&[])).unwrap(), 0);
@@ -326,7 +248,7 @@ fn what_is_no_message() {
     for (at, messages) in cases.into_iter().enumerate() {
         let (mut ours, limits) = (of(2), Limits { bytes: 1000, ..Limits::default() });
         let refused = ours.catch_up_within(limits, &mut Peer::saying(messages)).unwrap_err();
-        assert_eq!((refused.kind(), model(&ours)), (ErrorKind::InvalidData, model(&of(2))), "{at}");
+        assert_eq!((refused.kind(), model(&ours)), (ErrorKind::InvalidData, every(2)), "{at}");
         assert_eq!(ours.take(first), Err(Fault::NotAsking), "{at}");
     }
     let question = of(2).ask().unwrap();
@@ -336,7 +258,7 @@ fn what_is_no_message() {
         let (mut ours, mut peer) = (of(2), Peer::saying(&[message]));
         assert_eq!(ours.answer(message), Err(Fault::Malformed), "{at}");
         assert_eq!(ours.serve(&mut peer).unwrap_err().kind(), ErrorKind::InvalidData, "{at}");
-        assert!(peer.was_refused() && model(&ours) == model(&of(2)), "{at}");
+        assert!(peer.was_refused() && model(&ours) == every(2), "{at}");
     }
     assert_eq!(of(2).answer(b""), Err(Fault::Malformed));
     let within = |bytes: usize| Limits { bytes: bytes as u64, ..Limits::default() };
@@ -367,7 +289,7 @@ fn peers_that_go_on() {
 #[test]
 fn messages_that_are_altered() {
     let mut said = said(&mut of(2), &mut of(3));
-    let (mut draw, mut ends, before) = (draws(11), BTreeSet::new(), model(&of(2)));
+    let (mut draw, mut ends, before) = (draws(11), BTreeSet::new(), every(2));
     let limits = Limits { bytes: 1 << 20, messages: 50 };
     for _ in 0..3000 {
         let message = draw(said.len() as u64) as usize;
@@ -400,7 +322,7 @@ fn messages_that_are_altered() {
 fn threads_share_a_replica() {
     let hub = Mutex::new(of(7));
     let mut peers = [2, 3, 5].map(of);
-    let wanted = peers.iter().map(model).fold(model(&of(7)), |rows, more| joined(&rows, &more));
+    let wanted = peers.iter().map(model).fold(every(7), |rows, more| joined(&rows, &more));
     thread::scope(|scope| {
         for peer in &mut peers {
             let (mut ours, mut theirs) = UnixStream::pair().unwrap();
@@ -413,30 +335,10 @@ fn threads_share_a_replica() {
     });
     let mut hub = hub.into_inner().unwrap();
     for (peer, step) in peers.iter_mut().zip([2, 3, 5]) {
-        assert_eq!(model(peer), joined(&model(&of(step)), &model(&of(7))));
+        assert_eq!(model(peer), joined(&every(step), &every(7)));
         by_steps(&mut hub, |question| peer.answer(question)).unwrap();
     }
     assert_eq!(model(&hub), wanted);
-}
-
-/// A connection that waits for another catch-up to have begun before its first bytes go.
-struct Begun<'a>(UnixStream, Option<&'a Barrier>);
-
-impl Read for Begun<'_> {
-    fn read(&mut self, out: &mut [u8]) -> io::Result<usize> {
-        self.0.read(out)
-    }
-}
-
-impl Write for Begun<'_> {
-    fn write(&mut self, bytes: &[u8]) -> io::Result<usize> {
-        self.1.take().map(Barrier::wait);
-        self.0.write(bytes)
-    }
-
-    fn flush(&mut self) -> io::Result<()> {
-        self.0.flush()
-    }
 }
 
 /// One catch-up of a hub with another that is served by a thread of its own.
@@ -469,7 +371,7 @@ fn hubs_catch_up_with_each_other_at_the_same_time() {
                 });
             }
         });
-        let wanted = joined(&model(&of(steps[0])), &model(&of(steps[1])));
+        let wanted = joined(&every(steps[0]), &every(steps[1]));
         assert_eq!(hubs.map(|hub| model(&hub.into_inner().unwrap())), [wanted.clone(), wanted]);
     }
 }
@@ -494,7 +396,7 @@ fn another_catch_up_takes_the_place_of_one() {
     while let Step::Ask(next) = hub.take(&theirs.answer(&question).unwrap()).unwrap() {
         question = next;
     }
-    assert_eq!(model(&hub), joined(&model(&of(2)), &model(&of(3))));
+    assert_eq!(model(&hub), joined(&every(2), &every(3)));
 }
 
 #[test]

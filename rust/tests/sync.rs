@@ -1,247 +1,961 @@
-//! Syncs over sockets, and with peers that don't keep to the messages.
+//! Rows that are elsewhere: the tree of their digests, catch-ups with each other and with replicas, rows that fail, and peers that don't keep to the
+//! messages.
+mod common;
+
+use common::{drawn, draws, every, joined, lacked, model, other_settings, Begun, Model, Peer};
 use merkle_search_tree::{
     builder::{Builder, PageFormat},
-    diff::DiffRange,
-    sync::{sync, sync_within, Give, Replica, Synced},
+    digest::siphash::SipHasher,
+    replica::{Fault, Limits, Replica, Step, REFUSAL},
+    sync::{
+        answer, catch_up, catch_up_by, catch_up_within, serve, serve_by, serve_within, take, Answer, Came, Failed,
+        Give, Next, Range, Row, Rows, SyncTree,
+    },
     MerkleSearchTree,
 };
 use std::{
-    collections::BTreeMap,
-    io::{self, Cursor, ErrorKind, Read, Write},
+    collections::BTreeSet,
+    convert::Infallible,
+    error::Error,
+    io::{self, Cursor, ErrorKind},
+    num::NonZeroU8,
     os::unix::net::UnixStream,
+    sync::{Barrier, Mutex},
     thread,
+    time::Duration,
 };
 
-type Row = (String, Vec<u8>);
+/// Rows in a map, and their tree.
+type Store = (SyncTree, Model);
 
-/// Rows of which the greater value stays, and the tree over them.
-#[derive(Default, Clone)]
-struct Store {
-    rows: BTreeMap<String, Vec<u8>>,
-    tree: MerkleSearchTree<String, Vec<u8>>,
+fn store(rows: &Model) -> Store {
+    let (mut tree, mut rows) = (SyncTree::default(), rows.clone());
+    tree.load(&mut rows).unwrap();
+    (tree, rows)
 }
 
-impl Store {
-    fn of(rows: impl IntoIterator<Item = Row>) -> Self {
-        let mut store = Self::default();
-        rows.into_iter().for_each(|(key, value)| store.join(&key, &value).unwrap());
-        store
-    }
+/// Whether the tree is that of the rows.
+fn is_in_step((tree, rows): &mut Store) -> bool {
+    tree.root_hash() == Replica::from_iter(&*rows).root_hash()
 }
 
-impl Replica for Store {
-    type Key = String;
-    type Value = Vec<u8>;
+fn of(step: usize) -> Store {
+    store(&every(step))
+}
 
-    fn tree(&mut self) -> &mut MerkleSearchTree<String, Vec<u8>> {
-        &mut self.tree
-    }
-
-    fn rows_in(&mut self, range: DiffRange<'_, String>, give: &mut Give<'_>) -> io::Result<()> {
-        self.rows.range::<str, _>(range.bounds()).try_for_each(|(key, value)| give(key.as_bytes(), value))
-    }
-
-    fn join(&mut self, key: &str, value: &[u8]) -> io::Result<()> {
-        let held = self.rows.entry(key.to_owned()).or_default();
-        *held = value.max(&held[..]).to_vec();
-        self.tree.upsert(key.to_owned(), held);
-        Ok(())
+/// A catch-up without a connection: how many rows came, and how many bytes went both ways.
+fn by_steps(
+    (tree, rows): &mut Store,
+    mut answer: impl FnMut(&[u8]) -> Option<Vec<u8>>,
+) -> Result<(usize, usize), Failed<Infallible>> {
+    let (mut question, mut size) = (tree.ask()?, 0);
+    loop {
+        let reply = answer(&question).unwrap_or_else(|| REFUSAL.to_vec());
+        size += question.len() + reply.len();
+        match take(tree, rows, &reply)? {
+            Step::Ask(next) => question = next,
+            Step::Joined(came) => return Ok((came, size)),
+        }
     }
 }
 
-/// A sync of two stores, each on a thread of its own.
-fn run(left: &mut Store, right: &mut Store) -> (Synced, Synced) {
+/// A store whose rows are elsewhere, or a replica.
+enum Side {
+    Store(Store),
+    Replica(Replica),
+}
+
+impl Side {
+    fn of(rows: &Model, is_store: bool) -> Self {
+        if is_store {
+            Self::Store(store(rows))
+        } else {
+            Self::Replica(Replica::from_iter(rows))
+        }
+    }
+
+    fn catch_up(&mut self, connection: &mut UnixStream) -> io::Result<usize> {
+        match self {
+            Self::Store((tree, rows)) => Ok(catch_up(tree, rows, connection)?),
+            Self::Replica(replica) => replica.catch_up(connection),
+        }
+    }
+
+    fn serve(&mut self, connection: &mut UnixStream) -> io::Result<usize> {
+        match self {
+            Self::Store((tree, rows)) => Ok(serve(tree, rows, connection)?),
+            Self::Replica(replica) => replica.serve(connection),
+        }
+    }
+
+    /// The rows, of which the tree is in step.
+    fn rows(&mut self) -> Model {
+        match self {
+            Self::Store(store) => {
+                assert!(is_in_step(store));
+                store.1.clone()
+            }
+            Self::Replica(replica) => model(replica),
+        }
+    }
+}
+
+/// A catch-up each way over one connection: how many rows came to each side.
+fn both_ways(left: &mut Side, right: &mut Side) -> (io::Result<usize>, io::Result<usize>) {
     let (mut ours, mut theirs) = UnixStream::pair().unwrap();
     thread::scope(|scope| {
-        let peer = scope.spawn(move || sync(right, &mut theirs, false).unwrap());
-        (sync(left, &mut ours, true).unwrap(), peer.join().unwrap())
+        let peer = scope.spawn(move || {
+            right.serve(&mut theirs)?;
+            right.catch_up(&mut theirs)
+        });
+        let came = left.catch_up(&mut ours).and_then(|came| left.serve(&mut ours).map(|_| came));
+        drop(ours);
+        (came, peer.join().unwrap())
     })
 }
 
-fn draws(mut state: u64) -> impl FnMut(u64) -> u64 {
-    move |below| {
-        state ^= state << 13;
-        state ^= state >> 7;
-        state ^= state << 17;
-        (state >> 16) % below
+#[test]
+fn the_tree_is_that_of_the_rows() {
+    let (mut draw, mut rows, mut tree) = (draws(3), Model::new(), SyncTree::default());
+    assert!(tree.is_empty());
+    for _ in 0..3000 {
+        let [key, value] =
+            [5, 4].map(|below| (0..draw(below)).map(|_| b"\0a\xff"[draw(3) as usize]).collect::<Vec<u8>>());
+        if draw(3) == 0 {
+            assert_eq!(tree.remove(&key), rows.remove(&key).is_some());
+        } else {
+            tree.set(&key, &value);
+            rows.insert(key.clone(), value);
+        }
+        assert_eq!((tree.len(), tree.contains_key(&key)), (rows.len(), rows.contains_key(&key)));
     }
+    let mut whole = MerkleSearchTree::default();
+    whole.extend(rows.clone());
+    assert_eq!(tree.root_hash(), *whole.root_hash());
+    assert!(rows.keys().all(|key| tree.digest(key) == whole.value_hash(key)));
+    assert_eq!(tree.digest("b"), None);
+    assert_eq!(SyncTree::default().root_hash(), *MerkleSearchTree::<&str, ()>::default().root_hash());
+}
+
+#[test]
+fn under_other_settings() {
+    let mut draw = draws(5);
+    for base in [1, 2, 16, 255].map(|base| NonZeroU8::new(base).unwrap()) {
+        for format in [PageFormat::V1, PageFormat::V2] {
+            let (hasher, mut rows) = (SipHasher::new(b"a key of SipHash"), drawn(&mut draw, 300));
+            let mut tree = SyncTree::with_settings(&hasher, base, format);
+            tree.load(&mut rows).unwrap();
+            let builder = Builder::default().with_hasher(hasher.clone()).with_level_base(base).with_page_format(format);
+            let mut whole: MerkleSearchTree<Vec<u8>, Vec<u8>> = builder.build();
+            whole.extend(rows.clone());
+            assert_eq!(tree.root_hash(), *whole.root_hash());
+            let theirs = drawn(&mut draw, 300);
+            let mut peer = Replica::with_settings(&hasher, base, format);
+            peer.extend(&theirs);
+            let wanted = joined(&rows, &theirs);
+            let mut ours = (tree, rows);
+            by_steps(&mut ours, |question| peer.answer(question).ok()).unwrap();
+            assert_eq!(ours.1, wanted);
+        }
+    }
+}
+
+#[test]
+fn a_load_takes_the_place_of_the_tree() {
+    let (mut tree, mut rows) = of(2);
+    tree.set("another", "1");
+    let question = tree.ask().unwrap();
+    tree.load(&mut rows).unwrap();
+    assert_eq!((tree.root_hash(), tree.len()), (Replica::from_iter(&rows).root_hash(), 150));
+    assert!(matches!(tree.take(&question), Err(Fault::NotAsking)));
+    let before = tree.root_hash();
+    assert_eq!(tree.load(&mut Failing { rows: every(3), well: 0, commits: false }), Err("no database"));
+    assert_eq!(tree.root_hash(), before);
+    tree.load(&mut Failing { rows: every(3), well: 1, commits: false }).unwrap();
+    assert_eq!(tree.root_hash(), of(3).0.root_hash());
 }
 
 #[test]
 fn both_come_to_hold_the_join() {
     let mut draw = draws(7);
-    for size in [1, 2, 6, 60, 600].repeat(6) {
-        let [mut left, mut right] = [(); 2].map(|()| {
-            let rows = draw(size);
-            Store::of((0..rows).map(|_| (format!("key{}", draw(400)), vec![draw(3) as u8])))
-        });
-        let joined = Store::of(left.rows.clone().into_iter().chain(right.rows.clone()));
-        let (ours, theirs) = run(&mut left, &mut right);
-        assert_eq!((&left.rows, &right.rows), (&joined.rows, &joined.rows));
-        assert_eq!(left.tree.root_hash(), right.tree.root_hash());
-        assert!(ours.agreed && theirs.agreed);
-        assert_eq!((ours.came, ours.went), (theirs.went, theirs.came));
-    }
-}
-
-#[test]
-fn few_rows_go_where_few_differ_and_none_where_none_do() {
-    let mut left = Store::of((0..20_000).map(|i| (format!("{i:06}"), Vec::new())));
-    let mut right = left.clone();
-    assert_eq!(
-        run(&mut left, &mut right),
-        (Synced { agreed: true, came: 0, went: 0 }, Synced { agreed: true, came: 0, went: 0 })
-    );
-    left.join("012345", b"new").unwrap();
-    let (ours, _) = run(&mut left, &mut right);
-    assert_eq!(right.rows["012345"], b"new");
-    assert!(ours.came + ours.went < 500);
-}
-
-#[test]
-fn rows_that_are_long_and_many() {
-    let mut left = Store::of((0..200).map(|i| (format!("{i:03}"), vec![7; 1000 * i])));
-    let mut right = Store::default();
-    run(&mut left, &mut right);
-    assert_eq!(left.rows, right.rows);
-}
-
-#[test]
-fn stores_whose_settings_differ_dont_agree() {
-    let mut left = Store::of([("a".to_owned(), vec![1])]);
-    let mut right = Store { tree: Builder::default().with_page_format(PageFormat::V2).build(), ..Store::default() };
-    right.join("b", &[2]).unwrap();
-    let (ours, theirs) = run(&mut left, &mut right);
-    assert!(!ours.agreed && !theirs.agreed);
-    assert_eq!(left.rows, right.rows);
-}
-
-/// A peer that sends these bytes, whatever it is sent.
-struct Peer(Cursor<Vec<u8>>);
-
-impl Read for Peer {
-    fn read(&mut self, out: &mut [u8]) -> io::Result<usize> {
-        self.0.read(out)
-    }
-}
-
-impl Write for Peer {
-    fn write(&mut self, bytes: &[u8]) -> io::Result<usize> {
-        Ok(bytes.len())
-    }
-
-    fn flush(&mut self) -> io::Result<()> {
-        Ok(())
-    }
-}
-
-/// What a sync with such a peer is refused for, and the store after it.
-fn after(messages: &[&[u8]], first: bool) -> (ErrorKind, Store) {
-    let bytes =
-        messages.iter().flat_map(|message| [&(message.len() as u64).to_le_bytes(), *message].concat()).collect();
-    let mut store = Store::default();
-    let refused = sync_within(1 << 20, &mut store, &mut Peer(Cursor::new(bytes)), first).unwrap_err();
-    (refused.kind(), store)
-}
-
-fn rows(keys: &[&str]) -> Vec<u8> {
-    let mut list = [&b"MSTr"[..], &(keys.len() as u64).to_le_bytes()].concat();
-    for key in keys {
-        for string in [key.as_bytes(), b"v"] {
-            list.extend_from_slice(&(string.len() as u64).to_le_bytes());
-            list.extend_from_slice(string);
+    for size in [0, 1, 5, 60, 400].repeat(8) {
+        for kinds in [[true, true], [true, false], [false, true]] {
+            let (left, right) = (drawn(&mut draw, size), drawn(&mut draw, size));
+            let wanted = joined(&left, &right);
+            let [mut ours, mut theirs] =
+                [(&left, kinds[0]), (&right, kinds[1])].map(|(rows, kind)| Side::of(rows, kind));
+            let came = both_ways(&mut ours, &mut theirs);
+            assert_eq!((came.0.unwrap(), came.1.unwrap()), (lacked(&left, &right), lacked(&right, &wanted)));
+            assert_eq!((ours.rows(), theirs.rows()), (wanted.clone(), wanted));
         }
     }
-    list
 }
 
 #[test]
-fn peers_that_end() {
-    let pages = Store::of(["b", "d"].map(|key| (key.to_owned(), Vec::new()))).tree().page_ranges().into_bytes();
-    let cases: [&[&[u8]]; 3] = [&[], &[&pages], &[&pages, &rows(&["c"])]];
-    for messages in cases {
-        assert_eq!(after(messages, true).0, ErrorKind::UnexpectedEof);
+fn rows_that_are_changed_missing_or_more() {
+    let all: Model = (0..2000)
+        .map(|i| (format!("key{i:04}").into_bytes(), format!("{i} and a value as long as that").into_bytes()))
+        .collect();
+    for at in [0, 1, 777, 1998, 1999] {
+        let key = format!("key{at:04}").into_bytes();
+        let (mut greater, mut less, mut fewer) = (all.clone(), all.clone(), all.clone());
+        greater.insert(key.clone(), b"z".to_vec());
+        less.insert(key.clone(), b"".to_vec());
+        fewer.remove(&key);
+        for (theirs, ours, came) in [(&greater, &all, 1), (&less, &all, 1), (&all, &fewer, 1), (&fewer, &all, 0)] {
+            for is_store in [true, false] {
+                let (mut ours, mut peer, wanted) = (store(ours), Side::of(theirs, is_store), joined(ours, theirs));
+                let (brought, size) = by_steps(&mut ours, |question| match &mut peer {
+                    Side::Store((tree, rows)) => answer(tree, rows, question).ok(),
+                    Side::Replica(replica) => replica.answer(question).ok(),
+                })
+                .unwrap();
+                assert_eq!((brought, &ours.1), (came, &wanted));
+                assert!(is_in_step(&mut ours) && size < 4000, "{size}");
+            }
+        }
     }
-    assert_eq!(after(&[], false).0, ErrorKind::UnexpectedEof);
-    assert_eq!(after(&[&pages, &rows(&["c"])], true).1.rows.len(), 1);
 }
 
 #[test]
-fn what_is_no_message_or_not_asked_for() {
-    let pages = Store::of(["b", "d"].map(|key| (key.to_owned(), Vec::new()))).tree().page_ranges().into_bytes();
-    let (c, number) = (rows(&["c"]), 1_u64.to_le_bytes());
-    let cases: [&[&[u8]]; 14] = [
+fn what_it_costs_is_what_differs() {
+    let rows: Model = (0..20_000).map(|i| (format!("key{i:06}").into_bytes(), Vec::new())).collect();
+    let [mut ours, mut theirs] = [(); 2].map(|()| store(&rows));
+    theirs.1.insert(b"key012345".to_vec(), b"new".to_vec());
+    theirs.0.set("key012345", "new");
+    let (came, size) = by_steps(&mut ours, |question| answer(&mut theirs.0, &mut theirs.1, question).ok()).unwrap();
+    assert_eq!((came, &ours.1), (1, &theirs.1));
+    assert!(size < 2500, "{size}");
+    let (came, size) = by_steps(&mut ours, |question| answer(&mut theirs.0, &mut theirs.1, question).ok()).unwrap();
+    assert!(came == 0 && size < 100, "{size}");
+}
+
+/// Rows that count how many of them are read.
+struct Counting {
+    rows: Model,
+    read: usize,
+}
+
+impl Rows for Counting {
+    type Error = Infallible;
+
+    fn value(&mut self, key: &[u8]) -> Result<Option<Vec<u8>>, Infallible> {
+        self.read += 1;
+        self.rows.value(key)
+    }
+
+    fn rows_in(&mut self, range: Range<'_>, give: &mut Give<'_>) -> Result<(), Infallible> {
+        let read = &mut self.read;
+        self.rows.rows_in(range, &mut |key, value| {
+            *read += 1;
+            give(key, value)
+        })
+    }
+
+    fn join(&mut self, came: &Came) -> Result<Vec<Row>, Infallible> {
+        self.rows.join(came)
+    }
+}
+
+#[test]
+fn replies_end_and_no_more_rows_are_read_than_they_take() {
+    let all: Model = (0..400_u32).map(|i| (i.to_be_bytes().to_vec(), vec![7; 100_000])).collect();
+    let half: Model = all.iter().step_by(2).map(|(key, _)| (key.clone(), vec![3; 50_000])).collect();
+    let others: Model = all.iter().skip(1).step_by(2).map(|(key, value)| (key.clone(), value.clone())).collect();
+    // All rows are asked for in one range, and then those of 200 keys, whose values are 20 MB.
+    for (ours, replies) in [(Model::new(), 4), (joined(&half, &others), 4)] {
+        let mut rows = Counting { rows: all.clone(), read: 0 };
+        let mut tree = SyncTree::from_iter(&all);
+        let mut replica = Replica::from_iter(&ours);
+        let (mut here, mut there) = UnixStream::pair().unwrap();
+        let served = &mut rows;
+        let (asked, came) = thread::scope(|scope| {
+            let peer = scope.spawn(move || serve(&mut tree, served, &mut there).unwrap());
+            let came = replica.catch_up(&mut here).unwrap();
+            (peer.join().unwrap(), came)
+        });
+        assert_eq!((came, model(&replica)), (lacked(&ours, &all), all.clone()));
+        assert!(
+            asked >= replies && rows.read <= came + 2 * asked,
+            "{asked} questions, {} rows read, {came} came",
+            rows.read
+        );
+    }
+}
+
+/// A number of a message, and a key after the one before it in a run (docs/WIRE.md).
+fn count(number: usize) -> Vec<u8> {
+    let (low, rest) = (number as u8 & 127, number >> 7);
+    if rest == 0 {
+        vec![low]
+    } else {
+        [vec![low | 128], count(rest)].concat()
+    }
+}
+
+fn key_behind(last: &mut Vec<u8>, key: &[u8]) -> Vec<u8> {
+    let whole = [&count(key.len())[..], key].concat();
+    let kept = last.iter().zip(&whole).take_while(|(one, other)| one == other).count();
+    let more = whole.len() - kept;
+    *last = whole[..whole.len().min(255)].to_vec();
+    let front = match (kept, more) {
+        (0..15, 0..16) => vec![(16 * kept + more) as u8],
+        _ => [vec![240], count(kept), count(more)].concat(),
+    };
+    [&front[..], &whole[kept..]].concat()
+}
+
+type Gap = [Option<Vec<u8>>; 2];
+
+fn asks_for_keys(keys: &[Vec<u8>]) -> Vec<u8> {
+    let mut last = Vec::new();
+    let keys_behind = keys.iter().flat_map(|key| key_behind(&mut last, key)).collect();
+    [vec![1, 4], count(keys.len()), keys_behind].concat()
+}
+
+fn asks_for_gaps(gaps: &[Gap]) -> Vec<u8> {
+    let mut last = Vec::new();
+    let mut bound = |key: &Option<Vec<u8>>| match key {
+        Some(key) => [vec![1], key_behind(&mut last, key)].concat(),
+        None => vec![0],
+    };
+    let bounds = gaps.iter().flatten().flat_map(&mut bound).collect();
+    [vec![1, 5], count(gaps.len()), bounds].concat()
+}
+
+fn cut<'a>(bytes: &mut &'a [u8], len: usize) -> &'a [u8] {
+    let (front, rest) = bytes.split_at(len);
+    *bytes = rest;
+    front
+}
+
+fn read_count(bytes: &mut &[u8]) -> usize {
+    let byte = cut(bytes, 1)[0] as usize;
+    if byte < 128 {
+        byte
+    } else {
+        byte - 128 + (read_count(bytes) << 7)
+    }
+}
+
+fn read_string(bytes: &mut &[u8]) -> Vec<u8> {
+    let len = read_count(bytes);
+    cut(bytes, len).to_vec()
+}
+
+fn read_key(last: &mut Vec<u8>, bytes: &mut &[u8]) -> Vec<u8> {
+    let (kept, more) = match cut(bytes, 1)[0] as usize {
+        240 => (read_count(bytes), read_count(bytes)),
+        front => (front / 16, front % 16),
+    };
+    let whole = [&last[..kept], cut(bytes, more)].concat();
+    *last = whole[..whole.len().min(255)].to_vec();
+    read_string(&mut &whole[..])
+}
+
+fn is_in(gap: &Gap, key: &[u8]) -> bool {
+    gap[0].as_ref().is_none_or(|after| &after[..] < key) && gap[1].as_ref().is_none_or(|before| key < &before[..])
+}
+
+/// Checks the values of a reply, which are those of the first keys, and says of how many.
+fn check_values(mut reply: &[u8], keys: &[Vec<u8>], rows: &Model) -> usize {
+    assert_eq!(cut(&mut reply, 2), [1, 132]);
+    let mut told = 0;
+    while !reply.is_empty() {
+        let value = (cut(&mut reply, 1)[0] == 1).then(|| read_string(&mut reply));
+        assert_eq!(value.as_ref(), rows.get(&keys[told]));
+        told += 1;
+    }
+    told
+}
+
+/// Checks the parts of a reply, which are those of the first gaps, and says of how many. Of the last gap it may have the first rows alone.
+fn check_parts(mut reply: &[u8], gaps: &[Gap], rows: &Model) -> usize {
+    assert_eq!(cut(&mut reply, 2), [1, 133]);
+    let mut told = 0;
+    while !reply.is_empty() {
+        let gap = &gaps[told];
+        let mut last = gap[0].as_ref().map_or_else(Vec::new, |after| [&count(after.len())[..], after].concat());
+        last.truncate(255);
+        let part: Vec<_> =
+            (0..read_count(&mut reply)).map(|_| (read_key(&mut last, &mut reply), read_string(&mut reply))).collect();
+        let wanted: Vec<_> =
+            rows.iter().filter(|(key, _)| is_in(gap, key)).map(|(key, value)| (key.clone(), value.clone())).collect();
+        if cut(&mut reply, 1) == [1] {
+            assert_eq!(part, wanted);
+        } else {
+            assert!(!part.is_empty() && part.len() < wanted.len() && wanted.starts_with(&part) && reply.is_empty());
+        }
+        told += 1;
+    }
+    told
+}
+
+/// Rows whose keys share much, little or nothing, are short and long, and have short and long values.
+fn shared_rows(draw: &mut impl FnMut(u64) -> u64) -> Model {
+    let front = vec![b'f'; [0, 1, 30, 130, 300][draw(5) as usize]];
+    let longest = [1, 3, 200][draw(3) as usize];
+    (0..draw(60))
+        .map(|_| {
+            let own = (0..draw(4)).map(|_| b"\0abz"[draw(4) as usize]).collect::<Vec<_>>();
+            ([&front[..], &own].concat(), vec![b'v'; draw(longest) as usize])
+        })
+        .collect()
+}
+
+/// A key that is there or near one that is.
+fn near(rows: &Model, draw: &mut impl FnMut(u64) -> u64) -> Vec<u8> {
+    let at = draw(rows.len() as u64 + 1) as usize;
+    let mut key = rows.keys().nth(at).cloned().unwrap_or_default();
+    match draw(4) {
+        0 => key.push(draw(256) as u8),
+        1 => key.truncate(key.len().saturating_sub(1)),
+        _ => {}
+    }
+    key
+}
+
+#[test]
+fn questions_in_any_order_and_replies_that_are_cut() {
+    let (mut draw, mut cut_short) = (draws(13), [0; 2]);
+    for _ in 0..2000 {
+        let rows = shared_rows(&mut draw);
+        let ((mut tree, mut table), mut replica) = (store(&rows), Replica::from_iter(&rows));
+        let keys: Vec<_> = (0..draw(8)).map(|_| near(&rows, &mut draw)).collect();
+        let gaps: Vec<_> =
+            (0..draw(6)).map(|_| [(); 2].map(|()| (draw(4) > 0).then(|| near(&rows, &mut draw)))).collect();
+        let (for_keys, for_gaps) = (asks_for_keys(&keys), asks_for_gaps(&gaps));
+        for question in [&for_keys, &for_gaps] {
+            let reply = answer(&mut tree, &mut table, question).unwrap();
+            assert_eq!(reply, replica.answer(question).unwrap(), "{question:?}");
+        }
+        for bytes in [0, 1, 20, 100, 1000].map(|most| draw(most + 1) as usize) {
+            let told = check_values(&by_hand(&mut tree, &table, &for_keys, bytes), &keys, &rows);
+            assert!(told > 0 || keys.is_empty());
+            cut_short[0] += usize::from(told < keys.len());
+            let told = check_parts(&by_hand(&mut tree, &table, &for_gaps, bytes), &gaps, &rows);
+            assert!(told > 0 || gaps.is_empty());
+            cut_short[1] += usize::from(told < gaps.len());
+        }
+    }
+    assert!(cut_short.iter().all(|replies| *replies > 500), "{cut_short:?}");
+}
+
+/// The reply to a question, by about so many bytes of rows.
+fn by_hand(tree: &mut SyncTree, rows: &Model, question: &[u8], bytes: usize) -> Vec<u8> {
+    let found = match tree.answer(question).unwrap() {
+        Answer::Reply(reply) => return reply,
+        Answer::NeedsKeys(keys) => {
+            let mut found = keys.found_within(bytes);
+            keys.iter().all(|key| found.value(key, rows.get(key).map(Vec::as_slice)));
+            found
+        }
+        Answer::NeedsRanges(ranges) => {
+            let mut found = ranges.found_within(bytes);
+            ranges.iter().all(|range| rows.range::<[u8], _>(range).all(|(key, value)| found.row(range, key, value)));
+            found
+        }
+    };
+    tree.answer_with(question, found).unwrap()
+}
+
+#[test]
+fn steps_without_rows_at_hand() {
+    let mut draw = draws(17);
+    for size in [0, 1, 5, 60, 400].repeat(10) {
+        let (ours, theirs) = (drawn(&mut draw, size), drawn(&mut draw, size));
+        let (mut tree, mut peer, bytes) =
+            (SyncTree::from_iter(&ours), SyncTree::from_iter(&theirs), draw(500) as usize);
+        let mut question = tree.ask().unwrap();
+        let came = loop {
+            let before = tree.root_hash();
+            match tree.take(&by_hand(&mut peer, &theirs, &question, bytes)).unwrap() {
+                Next::Ask(next) => question = next,
+                Next::Came(came) => {
+                    assert_eq!(tree.root_hash(), before);
+                    break came;
+                }
+            }
+        };
+        let wanted = theirs.iter().filter(|(key, value)| ours.get(*key) != Some(value));
+        assert!(came.iter().eq(wanted.map(|(key, value)| (&key[..], &value[..]))));
+        assert!(matches!(tree.take(&[]), Err(Fault::NotAsking)));
+    }
+}
+
+#[test]
+fn rows_that_were_found_for_another_question() {
+    let (mut tree, rows) = of(2);
+    let (for_all, question) = (asks_for_gaps(&[[None, None]]), of(3).0.ask().unwrap());
+    assert!(matches!(tree.answer(&question), Ok(Answer::Reply(_))));
+    let mut found = |bytes: usize| {
+        let Answer::NeedsRanges(ranges) = tree.answer(&for_all).unwrap() else { panic!() };
+        let (mut found, range) = (ranges.found_within(bytes), ranges.iter().next().unwrap());
+        rows.iter().all(|(key, value)| found.row(range, key, value));
+        found
+    };
+    let [none_needed, all, few, no_question] = [1, 1 << 20, 1, 1].map(&mut found);
+    assert_eq!(tree.answer_with(&question, none_needed), Err(Fault::OtherRows));
+    assert_eq!(tree.answer_with(b"no question", no_question), Err(Fault::Malformed));
+    let for_few = asks_for_gaps(&[[Some(b"5".to_vec()), None]]);
+    assert_eq!(tree.answer_with(&for_few, few), Err(Fault::OtherRows));
+    assert_eq!(check_parts(&tree.answer_with(&for_few, all).unwrap(), &[[Some(b"5".to_vec()), None]], &rows), 1);
+}
+
+/// Rows of which a call fails, once so many were well. A join may fail after its commit.
+struct Failing {
+    rows: Model,
+    well: usize,
+    commits: bool,
+}
+
+impl Failing {
+    fn call<T>(&mut self, made: Result<T, Infallible>) -> Result<T, &'static str> {
+        self.well = self.well.checked_sub(1).ok_or("no database")?;
+        Ok(made.unwrap())
+    }
+}
+
+impl Rows for Failing {
+    type Error = &'static str;
+
+    fn value(&mut self, key: &[u8]) -> Result<Option<Vec<u8>>, &'static str> {
+        let value = self.rows.value(key);
+        self.call(value)
+    }
+
+    fn rows_in(&mut self, range: Range<'_>, give: &mut Give<'_>) -> Result<(), &'static str> {
+        let given = self.rows.rows_in(range, give);
+        self.call(given)
+    }
+
+    fn join(&mut self, came: &Came) -> Result<Vec<Row>, &'static str> {
+        let mut rows = self.rows.clone();
+        let joined = rows.join(came);
+        if self.commits || self.well > 0 {
+            self.rows = rows;
+        }
+        self.call(joined)
+    }
+}
+
+#[test]
+fn a_join_that_fails() {
+    for commits in [false, true] {
+        let (mut tree, rows) = of(2);
+        let (before, mut peer) = (tree.root_hash(), of(3));
+        let mut rows = Failing { rows, well: 0, commits };
+        let mut caught_up = |tree: &mut SyncTree, rows: &mut Failing| {
+            let ((mut ours, mut theirs), peer) = (UnixStream::pair().unwrap(), &mut peer);
+            thread::scope(|scope| {
+                scope.spawn(move || serve(&mut peer.0, &mut peer.1, &mut theirs).unwrap());
+                let caught_up = catch_up(tree, rows, &mut ours);
+                drop(ours);
+                caught_up
+            })
+        };
+        assert!(matches!(caught_up(&mut tree, &mut rows), Err(Failed::Rows("no database"))));
+        assert!(matches!(tree.take(&[]), Err(Fault::NotAsking)));
+        assert_eq!(tree.root_hash(), before);
+        let wanted = joined(&every(2), &every(3));
+        if commits {
+            // It isn't known that the commit was done: the tree is loaded anew, and has the rows.
+            assert_eq!(rows.rows, wanted);
+            rows.well = 1;
+            tree.load(&mut rows).unwrap();
+        } else {
+            assert_eq!(rows.rows, every(2));
+        }
+        rows.well = 1;
+        assert_eq!(caught_up(&mut tree, &mut rows).unwrap(), if commits { 0 } else { 50 });
+        assert_eq!((&rows.rows, tree.root_hash()), (&wanted, Replica::from_iter(&wanted).root_hash()));
+    }
+}
+
+#[test]
+fn look_ups_that_fail() {
+    let (long, mut ends) = (|rows: Model| -> Model { rows.into_keys().map(|key| (key, vec![1; 40])).collect() }, 0);
+    for well in 0.. {
+        let mut rows = Failing { rows: long(every(2)), well, commits: false };
+        let (mut tree, mut replica) = (SyncTree::from_iter(&rows.rows), Replica::from_iter(&long(every(7))));
+        let (mut ours, mut theirs) = UnixStream::pair().unwrap();
+        let (came, (served, in_step)) = thread::scope(|scope| {
+            let peer = scope.spawn(move || {
+                let served = serve(&mut tree, &mut rows, &mut theirs);
+                drop(theirs);
+                (served, is_in_step(&mut (tree, rows.rows)))
+            });
+            (replica.catch_up(&mut ours), peer.join().unwrap())
+        });
+        assert!(in_step);
+        match served {
+            Ok(_) => {
+                assert!(came.unwrap() > 0 && ends > 0);
+                return;
+            }
+            Err(failed) => {
+                assert!(matches!(failed, Failed::Rows("no database")));
+                assert_eq!(came.unwrap_err().kind(), ErrorKind::UnexpectedEof);
+                assert_eq!(model(&replica), long(every(7)));
+                ends += 1;
+            }
+        }
+    }
+}
+
+/// Rows whose ranges come in another order, or with a row of another range.
+struct Disordered(Model, bool);
+
+impl Rows for Disordered {
+    type Error = Infallible;
+
+    fn value(&mut self, key: &[u8]) -> Result<Option<Vec<u8>>, Infallible> {
+        self.0.value(key)
+    }
+
+    fn rows_in(&mut self, range: Range<'_>, give: &mut Give<'_>) -> Result<(), Infallible> {
+        let rows = self.0.range::<[u8], _>(range);
+        if self.1 {
+            for (key, value) in rows.rev() {
+                give(key, value);
+            }
+        } else {
+            for (key, value) in rows {
+                give(key, value);
+            }
+            give(b"\xff", b"another");
+        }
+        Ok(())
+    }
+
+    fn join(&mut self, came: &Came) -> Result<Vec<Row>, Infallible> {
+        self.0.join(came)
+    }
+}
+
+#[test]
+fn rows_that_dont_ascend_or_lie_elsewhere() {
+    let question = asks_for_gaps(&[[None, Some(b"2".to_vec())]]);
+    for is_reversed in [true, false] {
+        let mut rows = Disordered(every(2), is_reversed);
+        let mut tree = SyncTree::from_iter(&rows.0);
+        let failed = answer(&mut tree, &mut rows, &question).unwrap_err();
+        assert!(matches!(failed, Failed::NotAscending));
+        let mut peer = Peer::saying(&[&question]);
+        assert!(matches!(serve(&mut tree, &mut rows, &mut peer), Err(Failed::NotAscending)));
+        assert!(peer.heard.is_empty());
+    }
+}
+
+#[test]
+fn other_settings_are_refused() {
+    for (hasher, base, format) in other_settings() {
+        let (mut ours, mut theirs) = (of(2), SyncTree::with_settings(&hasher, base, format));
+        theirs.set("a", "1");
+        let question = ours.0.ask().unwrap();
+        assert!(matches!(theirs.answer(&question), Err(Fault::OtherSettings)));
+        assert!(matches!(ours.0.take(&REFUSAL), Err(Fault::Refused)));
+        let [mut left, mut right] =
+            [Side::Store(of(2)), Side::Store((theirs, Model::from([(b"a".to_vec(), b"1".to_vec())])))];
+        let (ours_end, theirs_end) = both_ways(&mut left, &mut right);
+        let faults = [ours_end, theirs_end].map(|end| {
+            let error = end.unwrap_err();
+            assert_eq!(error.kind(), ErrorKind::InvalidData);
+            *error.get_ref().unwrap().downcast_ref::<Fault>().unwrap()
+        });
+        assert_eq!(faults, [Fault::Refused, Fault::OtherSettings]);
+        assert_eq!(left.rows(), every(2));
+    }
+}
+
+#[test]
+fn one_without_keys_tells_no_key_of_siphash() {
+    let sixteen = NonZeroU8::new(16).unwrap();
+    let other = SyncTree::with_settings(&SipHasher::new(b"a key of SipHash"), sixteen, PageFormat::V1);
+    let (mut ours, mut theirs) = ((other, Model::new()), of(3));
+    let mut answered = |question: &[u8]| answer(&mut theirs.0, &mut theirs.1, question).ok();
+    assert_eq!(by_steps(&mut ours, &mut answered).unwrap().0, 100);
+    assert_eq!(ours.1, every(3));
+    let refused = by_steps(&mut ours, answered).unwrap_err();
+    assert!(matches!(refused, Failed::Io(error) if error.kind() == ErrorKind::InvalidData));
+}
+
+/// What a peer says in a catch-up.
+fn said(asking: &mut Store, peer: &mut Store) -> Vec<Vec<u8>> {
+    let mut said = Vec::new();
+    by_steps(asking, |question| {
+        said.push(answer(&mut peer.0, &mut peer.1, question).unwrap());
+        said.last().cloned()
+    })
+    .unwrap();
+    said
+}
+
+/// Why a catch-up or a session of answers ended.
+fn kind<T: std::fmt::Debug>(ended: Result<T, Failed<Infallible>>) -> ErrorKind {
+    match ended.unwrap_err() {
+        Failed::Io(error) => error.kind(),
+        other => panic!("{other:?}"),
+    }
+}
+
+#[test]
+fn peers_that_break_off() {
+    let said = said(&mut of(2), &mut of(3));
+    let whole: Vec<&[u8]> = said.iter().map(Vec::as_slice).collect();
+    let bytes = Peer::saying(&whole).says.into_inner();
+    let mut ours = of(2);
+    for end in 0..bytes.len() {
+        let mut peer = Peer { says: Cursor::new(bytes[..end].to_vec()), heard: Vec::new() };
+        assert_eq!(kind(catch_up(&mut ours.0, &mut ours.1, &mut peer)), ErrorKind::UnexpectedEof, "{end}");
+        assert_eq!(ours.1, every(2));
+        assert!(is_in_step(&mut ours) && matches!(ours.0.take(&[]), Err(Fault::NotAsking)));
+    }
+    assert_eq!(catch_up(&mut ours.0, &mut ours.1, &mut Peer::saying(&whole)).unwrap(), 50);
+    assert!(is_in_step(&mut ours) && ours.1 == joined(&every(2), &every(3)));
+    assert_eq!(serve(&mut ours.0, &mut ours.1, &mut Peer::saying(&[])).unwrap(), 0);
+    for end in [1, 7, 8, 9] {
+        let mut peer = Peer::saying(&[&[1, 2, 16, 1, 0, 0]]);
+        peer.says.get_mut().truncate(end);
+        assert_eq!(kind(serve(&mut ours.0, &mut ours.1, &mut peer)), ErrorKind::UnexpectedEof);
+        assert!(peer.heard.is_empty());
+    }
+}
+
+#[test]
+fn what_is_no_message() {
+    let said = said(&mut of(2), &mut of(3));
+    let first = &said[0][..];
+    let longer = [first, &[0]].concat();
+    let cases: [&[&[u8]]; 8] = [
         &[b""],
-        &[b"MST"],
-        &[b"MST!"],
-        &[&pages[..pages.len() - 1]],
-        &[&pages, &pages],
-        &[&pages, &rows(&["a"])],
-        &[&pages, &rows(&["e"])],
-        &[&pages, &rows(&["c", "b"])],
-        &[&pages, &c, &c],
-        &[&pages, &c[..c.len() - 1]],
-        &[&pages, &[&c[..], b"\0"].concat()],
-        &[&pages, b"MSTr"],
-        &[&pages, &[&b"MSTr"[..], &number].concat()],
-        &[&[0; 2 << 20]],
+        &[b"\x01"],
+        &[&first[..first.len() - 1]],
+        &[&longer],
+        &[first, first],
+        &[first, b"no reply"],
+        &[&said[1]],
+        &[&[0; 2000]],
     ];
     for (at, messages) in cases.into_iter().enumerate() {
-        assert_eq!(after(messages, true).0, ErrorKind::InvalidData, "{at}");
+        let ((mut tree, mut rows), limits) = (of(2), Limits { bytes: 1000, ..Limits::default() });
+        let refused = catch_up_within(limits, &mut tree, &mut rows, &mut Peer::saying(messages));
+        assert_eq!((kind(refused), &rows), (ErrorKind::InvalidData, &every(2)), "{at}");
+        assert!(matches!(tree.take(first), Err(Fault::NotAsking)), "{at}");
+        assert!(is_in_step(&mut (tree, rows)));
     }
-    let asks: [&[&[u8]]; 5] = [
-        &[b"MSTh"],
-        &[&[&b"MSTh"[..], &[0; 17]].concat()],
-        &[b"MST="],
-        &[&[&b"MSTh"[..], &[0; 16]].concat(), &pages],
-        &[&[&b"MSTh"[..], &[0; 16]].concat(), &[&b"MSTk"[..], &number].concat()],
-    ];
-    for (at, messages) in asks.into_iter().enumerate() {
-        assert_eq!(after(messages, false).0, ErrorKind::InvalidData, "{at}");
-    }
-}
-
-/// A connection that keeps what came over it.
-struct Heard<'a>(&'a mut UnixStream, Vec<u8>);
-
-impl Read for Heard<'_> {
-    fn read(&mut self, out: &mut [u8]) -> io::Result<usize> {
-        let len = self.0.read(out)?;
-        self.1.extend_from_slice(&out[..len]);
-        Ok(len)
+    let question = of(2).0.ask().unwrap();
+    let longer = [&question[..], &[0]].concat();
+    let cases: [&[u8]; 6] = [b"", b"\x01", &question[..question.len() - 1], &longer, &REFUSAL, first];
+    for (at, message) in cases.into_iter().enumerate() {
+        let ((mut tree, mut rows), mut peer) = (of(2), Peer::saying(&[message]));
+        assert!(matches!(tree.answer(message), Err(Fault::Malformed)), "{at}");
+        if !message.is_empty() {
+            assert_eq!(kind(serve(&mut tree, &mut rows, &mut peer)), ErrorKind::InvalidData, "{at}");
+            assert!(peer.was_refused() && rows == every(2), "{at}");
+        }
     }
 }
 
-impl Write for Heard<'_> {
-    fn write(&mut self, bytes: &[u8]) -> io::Result<usize> {
-        self.0.write(bytes)
-    }
+#[test]
+fn limits() {
+    let (mut tree, mut rows) = of(3);
+    let question = of(2).0.ask().unwrap();
+    let within = |bytes: usize| Limits { bytes: bytes as u64, ..Limits::default() };
+    let mut peer = Peer::saying(&[&question]);
+    assert_eq!(kind(serve_within(within(question.len() - 1), &mut tree, &mut rows, &mut peer)), ErrorKind::InvalidData);
+    assert!(peer.was_refused());
+    assert_eq!(serve_within(within(question.len()), &mut tree, &mut rows, &mut Peer::saying(&[&question])).unwrap(), 1);
+    let two = Limits { messages: 2, ..Limits::default() };
+    let mut peer = Peer::saying(&[&question, &question, &question]);
+    assert_eq!(kind(serve_within(two, &mut tree, &mut rows, &mut peer)), ErrorKind::InvalidData);
+    assert!(peer.was_refused());
+    assert_eq!(serve_within(two, &mut tree, &mut rows, &mut Peer::saying(&[&question, &question])).unwrap(), 2);
+    assert_eq!(serve_within(two, &mut tree, &mut rows, &mut Peer::saying(&[&question, b"", &question])).unwrap(), 1);
 
-    fn flush(&mut self) -> io::Result<()> {
-        self.0.flush()
+    let said = said(&mut store(&Model::new()), &mut of(3));
+    let (whole, longest) =
+        (said.iter().map(Vec::as_slice).collect::<Vec<_>>(), said.iter().map(Vec::len).max().unwrap());
+    for limits in [Limits { messages: 1, ..Limits::default() }, within(longest - 1)] {
+        let (mut tree, mut rows) = store(&Model::new());
+        assert_eq!(
+            kind(catch_up_within(limits, &mut tree, &mut rows, &mut Peer::saying(&whole))),
+            ErrorKind::InvalidData
+        );
+        assert!(rows.is_empty() && tree.is_empty() && matches!(tree.take(&[]), Err(Fault::NotAsking)));
     }
+    let (mut tree, mut rows) = store(&Model::new());
+    let limits = Limits { messages: 2, ..within(longest) };
+    assert_eq!(catch_up_within(limits, &mut tree, &mut rows, &mut Peer::saying(&whole)).unwrap(), 100);
 }
 
 #[test]
 fn messages_that_are_altered() {
-    let [mut peer, store] = [2, 3].map(|step| Store::of((0..300).step_by(step).map(|i| (format!("{i}"), vec![1]))));
-    let (mut ours, mut theirs) = UnixStream::pair().unwrap();
-    let said = thread::scope(|scope| {
-        scope.spawn(|| sync(&mut peer, &mut theirs, false).unwrap());
-        let mut heard = Heard(&mut ours, Vec::new());
-        sync(&mut store.clone(), &mut heard, true).unwrap();
-        heard.1
-    });
-    let (mut draw, mut ends) = (draws(11), BTreeMap::new());
-    for round in 0..5000 {
-        let mut altered = said.clone();
-        for _ in 0..1 + round % 3 {
-            let below = if draw(2) == 0 { 20 } else { altered.len() as u64 };
-            altered[draw(below) as usize] = draw(256) as u8;
+    let mut said = said(&mut of(2), &mut of(3));
+    let (mut draw, mut ends, before) = (draws(11), BTreeSet::new(), every(2));
+    let limits = Limits { bytes: 1 << 20, messages: 50 };
+    let (mut other, mut ours) = (of(3), of(2));
+    for _ in 0..3000 {
+        let message = draw(said.len() as u64) as usize;
+        let whole_one = said[message].clone();
+        for _ in 0..1 + draw(2) {
+            let below = if draw(2) == 0 { 8.min(whole_one.len()) } else { whole_one.len() };
+            said[message][draw(below as u64) as usize] = draw(256) as u8;
         }
-        let end = sync(&mut store.clone(), &mut Peer(Cursor::new(altered)), true);
-        *ends.entry(end.map(|synced| synced.agreed).map_err(|error| format!("{:?}", error.kind()))).or_insert(0) += 1;
+        let whole: Vec<&[u8]> = said.iter().map(Vec::as_slice).collect();
+        let end = catch_up_within(limits, &mut ours.0, &mut ours.1, &mut Peer::saying(&whole));
+        assert!(is_in_step(&mut ours));
+        if end.is_ok() {
+            assert!(before.iter().all(|(key, value)| ours.1[key] >= *value));
+            ours = of(2);
+        } else {
+            assert_eq!(ours.1, before);
+        }
+        ends.insert(end.map(|_| ErrorKind::Other).map_err(|failed| kind(Err::<(), _>(failed))));
+        let _ = answer(&mut other.0, &mut other.1, &said[message]);
+        said[message] = whole_one;
     }
-    let kinds: Vec<_> = ends.into_keys().collect();
-    assert_eq!(kinds, [Ok(true), Err("InvalidData".to_owned()), Err("UnexpectedEof".to_owned())]);
+    let questions = [
+        of(2).0.ask().unwrap(),
+        asks_for_keys(&[b"3".to_vec(), b"150".to_vec()]),
+        asks_for_gaps(&[[None, Some(b"20".to_vec())]]),
+    ];
+    for at in 0..9000 {
+        let mut question = questions[at % 3].clone();
+        let byte = draw(question.len() as u64) as usize;
+        question[byte] = draw(256) as u8;
+        if let Ok(reply) = answer(&mut other.0, &mut other.1, &question) {
+            // What rows it has is what a replica says.
+            if [4, 5].contains(&question[1]) {
+                assert_eq!(reply, Replica::from_iter(&every(3)).answer(&question).unwrap());
+            }
+        }
+    }
+    assert!(is_in_step(&mut other) && other.1 == every(3));
+    assert!(ends.contains(&Ok(ErrorKind::Other)) && ends.contains(&Err(ErrorKind::InvalidData)), "{ends:?}");
+}
+
+#[test]
+fn threads_share_a_tree_and_its_rows() {
+    let hub = Mutex::new(of(7));
+    let mut peers = [2, 3, 5].map(|step| Replica::from_iter(&every(step)));
+    thread::scope(|scope| {
+        for peer in &mut peers {
+            let (mut ours, mut theirs) = UnixStream::pair().unwrap();
+            let hub = &hub;
+            scope.spawn(move || serve_by(Limits::default(), &mut ours, || hub.lock().unwrap()).unwrap());
+            scope.spawn(move || assert!(peer.catch_up(&mut theirs).unwrap() > 0));
+        }
+    });
+    let mut hub = hub.into_inner().unwrap();
+    for (peer, step) in peers.iter_mut().zip([2, 3, 5]) {
+        assert_eq!(model(peer), joined(&every(step), &every(7)));
+        by_steps(&mut hub, |question| peer.answer(question).ok()).unwrap();
+    }
+    assert_eq!(hub.1, [2, 3, 5].map(every).iter().fold(every(7), |rows, more| joined(&rows, more)));
+    assert!(is_in_step(&mut hub));
+}
+
+/// One catch-up of a hub with another that is served by a thread of its own.
+fn with_a_hub(
+    asks: &Mutex<Store>,
+    answers: &Mutex<Store>,
+    begun: Option<&Barrier>,
+) -> Result<usize, Failed<Infallible>> {
+    let (ours, mut theirs) = UnixStream::pair()?;
+    ours.set_read_timeout(Some(Duration::from_secs(20)))?;
+    thread::scope(|scope| {
+        scope.spawn(move || serve_by(Limits::default(), &mut theirs, || answers.lock().unwrap()).unwrap());
+        catch_up_by(Limits::default(), &mut Begun(ours, begun), || asks.lock().unwrap())
+    })
+}
+
+#[test]
+fn hubs_catch_up_with_each_other_at_the_same_time() {
+    for steps in [[2, 3], [3, 7], [1, 300]] {
+        let hubs = steps.map(|step| Mutex::new(of(step)));
+        let begun = Barrier::new(2);
+        thread::scope(|scope| {
+            for [asks, answers] in [[&hubs[0], &hubs[1]], [&hubs[1], &hubs[0]]] {
+                let begun = &begun;
+                scope.spawn(move || {
+                    let mut ended = with_a_hub(asks, answers, Some(begun));
+                    // The rows that came to the other may have been joined between two replies.
+                    while matches!(&ended, Err(Failed::Io(error)) if error.kind() == ErrorKind::InvalidData) {
+                        ended = with_a_hub(asks, answers, None);
+                    }
+                    ended.unwrap()
+                });
+            }
+        });
+        let wanted = joined(&every(steps[0]), &every(steps[1]));
+        for hub in hubs {
+            let mut hub = hub.into_inner().unwrap();
+            assert!(is_in_step(&mut hub) && hub.1 == wanted);
+        }
+    }
+}
+
+#[test]
+fn another_catch_up_takes_the_place_of_one() {
+    let (hub, mut theirs) = (Mutex::new(of(2)), of(3));
+    let said = said(&mut of(2), &mut of(3));
+    let whole: Vec<&[u8]> = said.iter().map(Vec::as_slice).collect();
+    let (mut locked, mut question) = (0, Vec::new());
+    let ended = catch_up_by(Limits::default(), &mut Peer::saying(&whole), || {
+        locked += 1;
+        let mut hub = hub.lock().unwrap();
+        if locked == 2 {
+            question = hub.0.ask().unwrap();
+        }
+        hub
+    });
+    let ended = io::Error::from(ended.unwrap_err());
+    assert_eq!(ended.get_ref().unwrap().downcast_ref(), Some(&Fault::NotAsking));
+    let (mut tree, mut rows) = hub.into_inner().unwrap();
+    while let Step::Ask(next) =
+        take(&mut tree, &mut rows, &answer(&mut theirs.0, &mut theirs.1, &question).unwrap()).unwrap()
+    {
+        question = next;
+    }
+    assert_eq!(rows, joined(&every(2), &every(3)));
+    assert!(is_in_step(&mut (tree, rows)));
+}
+
+#[test]
+fn what_is_written_in_between_stays_and_a_tree_answers_while_it_asks() {
+    let (mut ours, mut theirs, mut third) = (of(2), of(3), of(5));
+    let mut question = ours.0.ask().unwrap();
+    loop {
+        ours.1.insert(b"own".to_vec(), b"1".to_vec());
+        ours.0.set("own", "1");
+        by_steps(&mut third, |question| answer(&mut ours.0, &mut ours.1, question).ok()).unwrap();
+        let reply = answer(&mut theirs.0, &mut theirs.1, &question).unwrap();
+        match take(&mut ours.0, &mut ours.1, &reply).unwrap() {
+            Step::Ask(next) => question = next,
+            Step::Joined(_) => break,
+        }
+    }
+    let own = Model::from([(b"own".to_vec(), b"1".to_vec())]);
+    assert_eq!(ours.1, joined(&joined(&every(2), &every(3)), &own));
+    assert_eq!(third.1, joined(&joined(&every(2), &every(5)), &own));
+    assert!(is_in_step(&mut ours) && is_in_step(&mut third));
+}
+
+#[test]
+fn failures_are_errors() {
+    let failed: Failed<&str> = Fault::Malformed.into();
+    assert_eq!(failed.to_string(), Fault::Malformed.to_string());
+    assert_eq!(io::Error::from(failed).kind(), ErrorKind::InvalidData);
+    let failed: Failed<&str> = io::Error::from(ErrorKind::BrokenPipe).into();
+    assert_eq!(io::Error::from(failed).kind(), ErrorKind::BrokenPipe);
+    let failed = Failed::Rows("no database");
+    assert_eq!(failed.to_string(), "no database");
+    assert_eq!(io::Error::from(failed).to_string(), "no database");
+    let failed = Failed::<io::Error>::NotAscending;
+    let text = failed.to_string();
+    assert!(failed.source().is_none() && !text.is_empty());
+    assert_eq!(io::Error::from(failed).to_string(), text);
+    let failed: Box<dyn Error + Send + Sync> = Box::new(Failed::Rows(io::Error::other("no disk")));
+    assert_eq!(failed.to_string(), "no disk");
 }

@@ -106,7 +106,7 @@ export function listOfRows(rows) {
     return whole;
 }
 
-// A message of docs/SYNC.md: its mark, and what hexadecimal digits say.
+// A message that is no list: its mark, and what hexadecimal digits say.
 export function bytesOf(mark, digits) {
     return Uint8Array.of(...encoder.encode(mark), ...(digits.match(/../g) ?? []).map((two) => parseInt(two, 16)));
 }

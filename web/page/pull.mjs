@@ -1,4 +1,4 @@
-// A pull by page ranges, as docs/SYNC.md has it with the ranges of mst_diff: one store comes to hold what the other has in them.
+// A pull by page ranges, by the lists of mst.h and the ranges of mst_diff: one store comes to hold what the other has in them.
 
 import { lies } from "./keys.mjs";
 import { bytesOf, rangesOf, rowsOf } from "./lists.mjs";

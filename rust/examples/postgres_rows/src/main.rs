@@ -4,8 +4,8 @@
 //! Of two values of a key the greater stays, so a value begins with its time. The tree holds digests of committed rows alone, and is never
 //! written to the database: it is loaded by a scan when the service starts, and again after any doubt.
 use merkle_search_tree::{
-    kept::{catch_up_by, serve_by, Came, Give, Range, Row, Rows, SyncTree},
     replica::Limits,
+    sync::{catch_up_by, serve_by, Came, Give, Range, Row, Rows, SyncTree},
 };
 use std::{
     env,
