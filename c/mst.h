@@ -25,7 +25,7 @@ extern "C" {
 #endif
 
 /* The version of this header. */
-#define MST_VERSION "0.1.0"
+#define MST_VERSION "0.2.0"
 
 /* The version of the library that the program runs with, a text as MST_VERSION, which stays. */
 const char *mst_version(void);

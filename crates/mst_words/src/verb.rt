@@ -201,4 +201,4 @@ pub fn form_of(verb: Verb) -> Form
 }
 
 /// The name and the version of the program.
-pub const VERSION: &str = "mst 0.1.0\n";
+pub const VERSION: &str = "mst 0.2.0\n";
