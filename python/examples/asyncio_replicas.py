@@ -1,7 +1,7 @@
 """A server whose replica many clients catch up with, and which catches up with each, by asyncio: two clients here, one after the other."""
 import asyncio
 
-from mst import LIMIT, HeldReplica
+from mst import LIMIT, Replica
 
 
 async def send(writer: asyncio.StreamWriter, message: bytes) -> None:
@@ -16,7 +16,7 @@ async def receive(reader: asyncio.StreamReader) -> bytes:
     return await reader.readexactly(size)
 
 
-async def catch_up(replica: HeldReplica, reader: asyncio.StreamReader, writer: asyncio.StreamWriter) -> int:
+async def catch_up(replica: Replica, reader: asyncio.StreamReader, writer: asyncio.StreamWriter) -> int:
     steps = replica.catch_up_steps()
     question = next(steps)
     while True:
@@ -30,12 +30,12 @@ async def catch_up(replica: HeldReplica, reader: asyncio.StreamReader, writer: a
             return came
 
 
-async def serve(replica: HeldReplica, reader: asyncio.StreamReader, writer: asyncio.StreamWriter) -> None:
+async def serve(replica: Replica, reader: asyncio.StreamReader, writer: asyncio.StreamWriter) -> None:
     while question := await receive(reader):
         await send(writer, replica.answer(question))
 
 
-async def client(replica: HeldReplica, path: str) -> None:
+async def client(replica: Replica, path: str) -> None:
     reader, writer = await asyncio.open_unix_connection(path)
     print(await catch_up(replica, reader, writer), "rows came")
     await serve(replica, reader, writer)
@@ -44,7 +44,7 @@ async def client(replica: HeldReplica, path: str) -> None:
 
 
 async def main(path: str) -> None:
-    hub, turn = HeldReplica(), asyncio.Lock()
+    hub, turn = Replica(), asyncio.Lock()
 
     async def answer(reader: asyncio.StreamReader, writer: asyncio.StreamWriter) -> None:
         try:
@@ -55,8 +55,8 @@ async def main(path: str) -> None:
             writer.close()
 
     async with await asyncio.start_unix_server(answer, path):
-        first = HeldReplica((b"key%04d" % number, b"1") for number in range(1000))
-        second = HeldReplica((b"key%04d" % number, b"2") for number in range(990, 1010))
+        first = Replica((b"key%04d" % number, b"1") for number in range(1000))
+        second = Replica((b"key%04d" % number, b"2") for number in range(990, 1010))
         await client(first, path)
         await client(second, path)
         await client(first, path)

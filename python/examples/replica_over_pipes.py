@@ -4,7 +4,7 @@ import os
 import sys
 from typing import List
 
-from mst import HeldReplica
+from mst import Replica
 
 
 def read(size: int) -> bytes:
@@ -17,7 +17,7 @@ def write(piece: bytes) -> None:
 
 
 def main(first: str, rows: "List[str]") -> None:
-    replica = HeldReplica()
+    replica = Replica()
     for key, _, value in (row.encode().partition(b"=") for row in rows):
         replica.put(key, value)
     if first == "asks":

@@ -18,14 +18,14 @@ _number = struct.Struct("<Q").unpack_from
 Steps = Generator[bytes, bytes, int]
 
 
-class HeldReplica(Mapping[bytes, bytes]):
+class Replica(Mapping[bytes, bytes]):
     """Rows in memory with the tree over them, which catch up with those of other replicas. It is read as a dict whose keys are in their order.
 
     Of two values under one key the greater stays, as Python orders bytes: so replicas that have caught up with each other hold the same rows,
     whatever the order. This is why nothing is set and nothing deleted: `put` joins a value with the one that is there. Begin each value by
     what is to decide, such as eight bytes of time, the highest first, and the last writer wins; for a removal put a value that says so.
 
-    >>> office, laptop = HeldReplica({b"kiwi": b"1130 one"}), HeldReplica({b"kiwi": b"1207 two", b"melon": b"1208 six"})
+    >>> office, laptop = Replica({b"kiwi": b"1130 one"}), Replica({b"kiwi": b"1207 two", b"melon": b"1208 six"})
     >>> office.put(b"apple", b"1131 ten")
     >>> office.put(b"apple", b"1055 two")
     >>> office[b"apple"], office.get(b"melon"), b"kiwi" in office, len(office), list(office)
@@ -71,7 +71,7 @@ class HeldReplica(Mapping[bytes, bytes]):
 
     def put(self, key: bytes, value: bytes) -> None:
         """Joins a value at a key: where there is one, the greater of both stays. A new key takes time in proportion to the rows after it, at a
-        few nanoseconds each: put many rows in the order of their keys, as `HeldReplica(rows)` does."""
+        few nanoseconds each: put many rows in the order of their keys, as `Replica(rows)` does."""
         try:
             status = library.mst_replica_put(self._address, key, len(key), value, len(value))
         except ctypes.ArgumentError:
@@ -142,7 +142,7 @@ class HeldReplica(Mapping[bytes, bytes]):
         was. The rows are as before, and nothing is kept between questions.
 
         >>> from mst import REFUSAL
-        >>> HeldReplica().answer(b"no question") == REFUSAL
+        >>> Replica().answer(b"no question") == REFUSAL
         True
         """
         return self._answer(question)[1]
@@ -239,7 +239,7 @@ class HeldReplica(Mapping[bytes, bytes]):
     def __reduce__(self) -> "NoReturn":
         raise TypeError("a replica isn't copied or pickled; it is made anew of its rows")
 
-    def __enter__(self) -> "HeldReplica":
+    def __enter__(self) -> "Replica":
         return self
 
     def __exit__(self, *_error: object) -> None:
@@ -250,4 +250,4 @@ class HeldReplica(Mapping[bytes, bytes]):
             library.mst_replica_free(self._address)
 
     def __repr__(self) -> str:
-        return f"<HeldReplica at {self._handle.value:#x}>" if self._handle.value else "<HeldReplica, closed>"
+        return f"<Replica at {self._handle.value:#x}>" if self._handle.value else "<Replica, closed>"

@@ -42,13 +42,13 @@ class Rows(Protocol):
 
     def join(self, came: "List[Row]") -> "Iterable[Row]":
         """Joins rows, whose keys ascend, in one transaction, and returns the rows at their keys as they are after it. Of a value that came and
-        one that is there a rule makes one, whatever their order: in a `HeldReplica` the greater stays. A row that isn't taken is returned
+        one that is there a rule makes one, whatever their order: in a `Replica` the greater stays. A row that isn't taken is returned
         as it was, or not at all."""
 
 
 class SyncTree:
     """The digests of rows that are elsewhere, as in a database, in a Merkle search tree in memory; and catch-ups of these rows with those
-    of peers: other such trees, `HeldReplica`, and replicas in C and Rust.
+    of peers: other such trees, `Replica`, and replicas in C and Rust.
 
     >>> class InDict:
     ...     def __init__(self):
@@ -60,8 +60,8 @@ class SyncTree:
     ...     def join(self, came):
     ...         self.table.update((key, max(value, self.table.get(key, b""))) for key, value in came)
     ...         return [(key, self.table[key]) for key, _ in came]
-    >>> from mst import HeldReplica
-    >>> office, laptop = InDict(), HeldReplica({b"kiwi": b"1207 two", b"melon": b"1208 six"})
+    >>> from mst import Replica
+    >>> office, laptop = InDict(), Replica({b"kiwi": b"1207 two", b"melon": b"1208 six"})
     >>> tree = SyncTree(office)
     >>> tree.join(office, [(b"apple", b"1131 ten"), (b"kiwi", b"1130 one")])
     >>> steps = tree.catch_up_steps()
@@ -88,7 +88,7 @@ class SyncTree:
     __slots__ = ("_handle", "_address", "_settings", "_lock", "_writing", "_under_way", "_unsure", "__weakref__")
 
     def __init__(self, rows: "Optional[Rows]" = None, *, key: bytes = bytes(16), level_base: int = 16, page_format: int = 1) -> None:
-        """The tree of these rows, by `load`. The settings are those of `HeldReplica`, and peers that catch up with each other have all three in
+        """The tree of these rows, by `load`. The settings are those of `Replica`, and peers that catch up with each other have all three in
         common, and refuse others; but a tree without keys tells no key of SipHash, and is served under any."""
         if len(key) != 16:
             raise ValueError("the key of SipHash is of 16 bytes")
@@ -227,7 +227,7 @@ class SyncTree:
         return True
 
     def root_hash(self) -> bytes:
-        """The root hash, 16 bytes: that of a `HeldReplica` with these rows and settings. It hashes the pages that changed since the last call."""
+        """The root hash, 16 bytes: that of a `Replica` with these rows and settings. It hashes the pages that changed since the last call."""
         root = ctypes.create_string_buffer(16)
         with self._lock:
             check(library.mst_sync_root_hash(self._address, root))
@@ -260,7 +260,7 @@ class SyncTree:
 
     def catch_up(self, rows: Rows, read: Read, write: Write, *, limit: int = LIMIT, messages: int = MESSAGES) -> int:
         """Brings the rows of a peer that runs `serve` over a connection, joins them, and returns how many came. At the end the peer is told so:
-        then it may catch up, and this side serve, over the same connection. `read` and `write` are those of `HeldReplica.catch_up`, and so are
+        then it may catch up, and this side serve, over the same connection. `read` and `write` are those of `Replica.catch_up`, and so are
         `limit` and `messages`. All rows that come are held until they are joined, once all came.
 
         EOFError if the peer ends before; what `catch_up_steps`, `read` and `write` raise: rows and tree are then as before, unless it is the

@@ -17,10 +17,10 @@ TOP = os.path.join(HERE, "..", "..")
 WITHOUT_A_LOCK = """
 import sys, threading
 sys._is_gil_enabled = lambda: False
-from mst import HeldReplica, SyncTree, Tree
+from mst import Replica, SyncTree, Tree
 from mst._library import library
 assert hasattr(library.mst_tree_upsert, "__wrapped__") and hasattr(library.mst_replica_put, "__wrapped__")
-tree, replica, digests = Tree(), HeldReplica(), SyncTree()
+tree, replica, digests = Tree(), Replica(), SyncTree()
 threads = [threading.Thread(target=tree.update, args=([(b"%d" % i, b"") for i in range(5000)],)) for _ in range(4)]
 threads += [threading.Thread(target=lambda: [replica.put(b"%d" % i, b"") for i in range(2000)]) for _ in range(4)]
 threads += [threading.Thread(target=lambda: [digests.__setitem__(b"%d" % i, b"") for i in range(2000)]) for _ in range(4)]

@@ -7,7 +7,7 @@ import socket
 import sys
 import unittest
 
-from mst import REFUSAL, HeldReplica, MalformedError, RefusedError, Tree
+from mst import REFUSAL, MalformedError, RefusedError, Replica, Tree
 from mst._library import ABSENT, library
 
 from .common import both_ways, by_steps, drawn, in_threads, joined, lacked, number, said_by
@@ -15,7 +15,7 @@ from .common import both_ways, by_steps, drawn, in_threads, joined, lacked, numb
 
 class Rows(unittest.TestCase):
     def test_as_a_dict_whose_greater_values_stay(self):
-        draw, held, replica = random.Random(1), {}, HeldReplica()
+        draw, held, replica = random.Random(1), {}, Replica()
         for _ in range(3000):
             key, value = bytes(draw.choices(b"\0a\xff", k=draw.randint(0, 4))), bytes(draw.choices(b"\0a\xff", k=draw.randint(0, 3)))
             replica.put(key, value)
@@ -24,7 +24,7 @@ class Rows(unittest.TestCase):
         self.assertEqual(list(replica), sorted(held))
         self.assertEqual((list(replica.items()), list(replica.keys()), list(replica.values())),
                          (sorted(held.items()), sorted(held), [held[key] for key in sorted(held)]))
-        self.assertEqual((dict(replica), replica), (held, HeldReplica(held)))
+        self.assertEqual((dict(replica), replica), (held, Replica(held)))
         self.assertTrue(all(key in replica for key in held))
         self.assertEqual((b"b" in replica, replica.get(b"b"), replica.get(b"b", b"?")), (False, None, b"?"))
         self.assertRaises(KeyError, replica.__getitem__, b"b")
@@ -32,15 +32,15 @@ class Rows(unittest.TestCase):
 
     def test_rows_that_are_long(self):
         rows = {b"long": b"x" * 300000, b"k" * 70000: b"", b"": b"short"}
-        replica = HeldReplica(rows)
+        replica = Replica(rows)
         self.assertEqual((dict(replica), replica[b"long"], replica[b"k" * 70000]), (rows, rows[b"long"], b""))
         self.assertTrue(b"k" * 70000 in replica)
 
     def test_rows_of_which_some_have_one_key(self):
-        self.assertEqual(dict(HeldReplica([(b"b", b"1"), (b"a", b"3"), (b"b", b"0"), (b"a", b"20")])), {b"a": b"3", b"b": b"1"})
+        self.assertEqual(dict(Replica([(b"b", b"1"), (b"a", b"3"), (b"b", b"0"), (b"a", b"20")])), {b"a": b"3", b"b": b"1"})
 
     def test_what_is_iterated_is_what_was_there(self):
-        replica = HeldReplica({b"a": b"1"})
+        replica = Replica({b"a": b"1"})
         keys, rows = iter(replica), replica.items()
         replica.put(b"b", b"2")
         self.assertEqual((list(keys), list(rows)), ([b"a"], [(b"a", b"1")]))
@@ -49,32 +49,32 @@ class Rows(unittest.TestCase):
         draw = random.Random(3)
         for base, page_format in [(base, page_format) for base in (1, 2, 16, 255) for page_format in (1, 2)]:
             rows, settings = drawn(draw, 300), {"key": bytes(range(16)), "level_base": base, "page_format": page_format}
-            replica = HeldReplica(rows, **settings)
+            replica = Replica(rows, **settings)
             self.assertEqual(replica.root_hash(), Tree(rows, **settings).root_hash())
             replica.put(b"more", b"1")
             self.assertEqual(replica.root_hash(), Tree({**rows, b"more": b"1"}, **settings).root_hash())
-        self.assertEqual(HeldReplica().root_hash(), Tree().root_hash())
+        self.assertEqual(Replica().root_hash(), Tree().root_hash())
 
     def test_one_that_is_closed(self):
-        with HeldReplica({b"a": b"1"}) as replica:
+        with Replica({b"a": b"1"}) as replica:
             self.assertEqual(len(replica), 1)
         for call in [replica.root_hash, replica.items, lambda: len(replica), lambda: list(replica), lambda: replica.put(b"a", b"2"),
                      lambda: replica[b"a"], lambda: b"a" in replica, lambda: replica.answer(b""), lambda: next(replica.catch_up_steps())]:
             self.assertRaises(ValueError, call)
         replica.close()
-        self.assertEqual(repr(replica), "<HeldReplica, closed>")
+        self.assertEqual(repr(replica), "<Replica, closed>")
 
     def test_one_that_is_closed_within_a_catch_up(self):
-        replica = HeldReplica({b"a": b"1"})
+        replica = Replica({b"a": b"1"})
         steps = replica.catch_up_steps()
         question = next(steps)
         replica.close()
-        self.assertRaises(ValueError, steps.send, HeldReplica({b"b": b"1"}).answer(question))
+        self.assertRaises(ValueError, steps.send, Replica({b"b": b"1"}).answer(question))
 
     def test_settings_and_words_that_are_none(self):
         for settings in [{"key": b"short"}, {"level_base": 0}, {"level_base": 256}, {"page_format": 3}]:
-            self.assertRaises(ValueError, HeldReplica, **settings)
-        replica = HeldReplica({b"a": b"1"})
+            self.assertRaises(ValueError, Replica, **settings)
+        replica = Replica({b"a": b"1"})
         for key, value in [("text", b""), (b"", "text"), (None, b""), (b"", 3), (bytearray(b"a"), b"")]:
             self.assertRaises(TypeError, replica.put, key, value)
         for word in ["text", None, 3]:
@@ -95,7 +95,7 @@ class CatchUps(unittest.TestCase):
         for size in [0, 1, 5, 60, 400] * 8:
             left, right = drawn(draw, size), drawn(draw, draw.choice([0, size]))
             wanted = joined(left, right)
-            ours, theirs = HeldReplica(left), HeldReplica(right)
+            ours, theirs = Replica(left), Replica(right)
             self.assertEqual(by_steps(ours, theirs.answer)[0], lacked(left, right))
             self.assertEqual((dict(ours), dict(theirs)), (wanted, right))
             self.assertEqual(by_steps(theirs, ours.answer)[0], lacked(right, wanted))
@@ -107,7 +107,7 @@ class CatchUps(unittest.TestCase):
         for size in [0, 1, 60, 400] * 3:
             left, right = drawn(draw, size), drawn(draw, size)
             wanted = joined(left, right)
-            ours, theirs = HeldReplica(left), HeldReplica(right)
+            ours, theirs = Replica(left), Replica(right)
             (came, answered), (answered_to_ours, came_to_theirs) = both_ways(ours, theirs)
             self.assertEqual((came, came_to_theirs), (lacked(left, right), lacked(right, wanted)))
             self.assertTrue(answered >= 1 and answered_to_ours >= 1)
@@ -117,13 +117,13 @@ class CatchUps(unittest.TestCase):
         draw = random.Random(7)
         for settings in [{"key": b"a key of SipHash"}, {"level_base": 2}, {"level_base": 255}, {"page_format": 2}]:
             left, right = drawn(draw, 200), drawn(draw, 200)
-            ours, theirs = HeldReplica(left, **settings), HeldReplica(right, **settings)
+            ours, theirs = Replica(left, **settings), Replica(right, **settings)
             both_ways(ours, theirs)
             self.assertEqual((dict(ours), dict(theirs)), (joined(left, right),) * 2)
 
     def test_what_it_costs_is_what_differs(self):
         rows = {b"key%06d" % i: b"" for i in range(20000)}
-        ours, theirs = HeldReplica(rows), HeldReplica({**rows, b"key012345": b"new"})
+        ours, theirs = Replica(rows), Replica({**rows, b"key012345": b"new"})
         came, size = by_steps(ours, theirs.answer)
         self.assertEqual((came, ours[b"key012345"]), (1, b"new"))
         self.assertLess(size, 2500)
@@ -132,7 +132,7 @@ class CatchUps(unittest.TestCase):
         self.assertLess(size, 100)
 
     def test_what_is_put_in_between_stays(self):
-        ours, theirs = HeldReplica({b"a": b"1"}), HeldReplica({b"%d" % i: b"1" for i in range(500)})
+        ours, theirs = Replica({b"a": b"1"}), Replica({b"%d" % i: b"1" for i in range(500)})
 
         def answer(question):
             ours.put(b"7", b"2")
@@ -144,7 +144,7 @@ class CatchUps(unittest.TestCase):
 
     def test_a_replica_answers_while_it_asks(self):
         left, right, third = [{b"%d" % i: b"%d" % step for i in range(0, 600, step)} for step in (2, 3, 5)]
-        ours, theirs, others = HeldReplica(left), HeldReplica(right), HeldReplica(third)
+        ours, theirs, others = Replica(left), Replica(right), Replica(third)
 
         def answer(question):
             by_steps(others, ours.answer)
@@ -154,7 +154,7 @@ class CatchUps(unittest.TestCase):
         self.assertEqual((dict(ours), dict(others)), (joined(left, right), joined(left, third)))
 
     def test_another_catch_up_takes_the_place_of_one(self):
-        ours, theirs = HeldReplica({b"a": b"1"}), HeldReplica({b"b": b"2"})
+        ours, theirs = Replica({b"a": b"1"}), Replica({b"b": b"2"})
         first = ours.catch_up_steps()
         reply = theirs.answer(next(first))
         second = ours.catch_up_steps()
@@ -166,14 +166,14 @@ class CatchUps(unittest.TestCase):
         self.assertEqual((end.exception.value, dict(ours)), (1, {b"a": b"1", b"b": b"2"}))
 
     def test_one_that_is_left_is_let_go(self):
-        ours = HeldReplica({b"a": b"1"})
+        ours = Replica({b"a": b"1"})
         left = ours.catch_up_steps()
         next(left)
         left.close()
         size, joined = ctypes.c_size_t(), ctypes.c_size_t()
         status = library.mst_replica_take(ours._address, b"", 0, ctypes.byref(size), ctypes.byref(joined))
         self.assertEqual(status, ABSENT)
-        self.assertEqual(by_steps(ours, HeldReplica({b"b": b"2"}).answer)[0], 1)
+        self.assertEqual(by_steps(ours, Replica({b"b": b"2"}).answer)[0], 1)
 
 
 class Peers(unittest.TestCase):
@@ -181,7 +181,7 @@ class Peers(unittest.TestCase):
 
     def test_other_settings_are_refused(self):
         for settings in [{"key": bytes(range(16))}, {"level_base": 4}, {"page_format": 2}]:
-            ours, theirs = HeldReplica({b"a": b"1"}), HeldReplica({b"b": b"2"}, **settings)
+            ours, theirs = Replica({b"a": b"1"}), Replica({b"b": b"2"}, **settings)
             self.assertRaises(RefusedError, by_steps, ours, theirs.answer)
             self.assertEqual(theirs.answer(next(ours.catch_up_steps())), REFUSAL)
             ends = both_ways(ours, theirs)
@@ -189,16 +189,16 @@ class Peers(unittest.TestCase):
             self.assertEqual((dict(ours), dict(theirs)), ({b"a": b"1"}, {b"b": b"2"}))
 
     def test_one_without_rows_tells_no_key(self):
-        ours, theirs = HeldReplica(key=bytes(range(16))), HeldReplica({b"a": b"1", b"b": b"2"})
+        ours, theirs = Replica(key=bytes(range(16))), Replica({b"a": b"1", b"b": b"2"})
         self.assertEqual((by_steps(ours, theirs.answer)[0], dict(ours)), (2, dict(theirs)))
         self.assertRaises(RefusedError, by_steps, ours, theirs.answer)
 
     def test_what_is_no_reply(self):
-        theirs = HeldReplica((b"%d" % i, b"1") for i in range(300))
+        theirs = Replica((b"%d" % i, b"1") for i in range(300))
         for cut in range(6):
             for altered in [lambda reply: reply[:-1], lambda reply: reply + b"\0", lambda reply: b"", lambda reply: b"\2" + reply[1:],
                             lambda reply: bytes([reply[0], reply[1] ^ 1]) + reply[2:]]:
-                ours, asked = HeldReplica({b"a": b"1"}), 0
+                ours, asked = Replica({b"a": b"1"}), 0
 
                 def answer(question):
                     nonlocal asked
@@ -214,8 +214,8 @@ class Peers(unittest.TestCase):
                     self.assertEqual(len(ours), 301)
 
     def test_what_is_no_question(self):
-        replica, draw = HeldReplica({b"a": b"1"}), random.Random(9)
-        question = next(HeldReplica({b"b": b"2"}).catch_up_steps())
+        replica, draw = Replica({b"a": b"1"}), random.Random(9)
+        question = next(Replica({b"b": b"2"}).catch_up_steps())
         self.assertNotEqual(replica.answer(question), REFUSAL)
         for message in [b"", b"\1", question[:-1], question + b"\0", b"\2" + question[1:], REFUSAL, replica.answer(question)]:
             self.assertEqual(replica.answer(message), REFUSAL)
@@ -227,10 +227,10 @@ class Peers(unittest.TestCase):
         self.assertEqual((dict(replica), replica.root_hash()), ({b"a": b"1"}, Tree({b"a": b"1"}).root_hash()))
 
     def test_replies_that_are_altered(self):
-        theirs = HeldReplica((b"%d" % i, b"1") for i in range(0, 300, 3))
+        theirs = Replica((b"%d" % i, b"1") for i in range(0, 300, 3))
         draw, ends = random.Random(11), set()
         for _ in range(300):
-            ours = HeldReplica((b"%d" % i, b"1") for i in range(0, 300, 2))
+            ours = Replica((b"%d" % i, b"1") for i in range(0, 300, 2))
             before, at = dict(ours), draw.randrange(3)
 
             def answer(question):
@@ -253,21 +253,21 @@ class Peers(unittest.TestCase):
         self.assertLessEqual({"done", MalformedError}, ends)
 
     def test_a_peer_that_goes_on(self):
-        ours, theirs = HeldReplica(), HeldReplica((b"%d" % i, b"1") for i in range(300))
+        ours, theirs = Replica(), Replica((b"%d" % i, b"1") for i in range(300))
         self.assertRaises(MalformedError, by_steps, ours, theirs.answer, messages=1)
         self.assertEqual((dict(ours), by_steps(ours, theirs.answer, messages=2)[0]), ({}, 300))
-        question, written = next(HeldReplica().catch_up_steps()), []
+        question, written = next(Replica().catch_up_steps()), []
         self.assertRaises(MalformedError, theirs.serve, said_by(question, question, question), written.append, messages=2)
         self.assertEqual((len(written), written[-1]), (3, number(2) + REFUSAL))
         self.assertEqual(theirs.serve(said_by(question, question), written.append, messages=2), 2)
 
     def test_a_peer_that_breaks_off(self):
-        theirs = HeldReplica((b"%d" % i, b"1") for i in range(300))
+        theirs = Replica((b"%d" % i, b"1") for i in range(300))
         said = []
-        by_steps(HeldReplica(), lambda question: said.append(theirs.answer(question)) or said[-1])
+        by_steps(Replica(), lambda question: said.append(theirs.answer(question)) or said[-1])
         whole = b"".join(number(len(reply)) + reply for reply in said)
         for end in {0, 1, 7, 8, 9, len(said[0]) + 7, len(said[0]) + 8, len(said[0]) + 9, len(whole) - 1}:
-            ours, came = HeldReplica(), bytearray(whole[:end])
+            ours, came = Replica(), bytearray(whole[:end])
 
             def read(size):
                 piece, came[:size] = bytes(came[:size]), b""
@@ -286,31 +286,31 @@ class Peers(unittest.TestCase):
         def breaks(_):
             raise OSError("broken")
 
-        replica = HeldReplica({b"a": b"1"})
+        replica = Replica({b"a": b"1"})
         for read, write in [(breaks, lambda message: None), (lambda size: b"", breaks)]:
             self.assertRaises(OSError, replica.catch_up, read, write)
         self.assertRaises(OSError, replica.serve, breaks, lambda message: None)
-        self.assertRaises(OSError, replica.serve, said_by(next(HeldReplica().catch_up_steps())), breaks)
-        self.assertEqual(by_steps(replica, HeldReplica({b"b": b"2"}).answer)[0], 1)
+        self.assertRaises(OSError, replica.serve, said_by(next(Replica().catch_up_steps())), breaks)
+        self.assertEqual(by_steps(replica, Replica({b"b": b"2"}).answer)[0], 1)
 
     def test_a_peer_that_is_gone_is_told_by_what_it_sent(self):
-        other = next(HeldReplica({b"b": b"2"}, key=bytes(range(16))).catch_up_steps())
+        other = next(Replica({b"b": b"2"}, key=bytes(range(16))).catch_up_steps())
         for message, error in [(b"no question", MalformedError), (other, RefusedError), (bytes(2000), MalformedError)]:
-            replica, (ours, theirs) = HeldReplica({b"a": b"1"}), socket.socketpair()
+            replica, (ours, theirs) = Replica({b"a": b"1"}), socket.socketpair()
             with ours:
                 theirs.sendall(number(len(message)) + message)
                 theirs.close()
                 self.assertRaises(error, replica.serve, ours.recv, ours.sendall, limit=1000)
         ours, theirs = socket.socketpair()
         with ours:
-            question = next(HeldReplica({b"b": b"2"}).catch_up_steps())
+            question = next(Replica({b"b": b"2"}).catch_up_steps())
             theirs.sendall(number(len(question)) + question)
             theirs.close()
-            self.assertRaises(BrokenPipeError, HeldReplica({b"a": b"1"}).serve, ours.recv, ours.sendall)
+            self.assertRaises(BrokenPipeError, Replica({b"a": b"1"}).serve, ours.recv, ours.sendall)
 
     def test_lengths_above_the_limit(self):
-        replica, written, taken = HeldReplica({b"a": b"1"}), [], []
-        question = next(HeldReplica({b"b": b"2"}).catch_up_steps())
+        replica, written, taken = Replica({b"a": b"1"}), [], []
+        question = next(Replica({b"b": b"2"}).catch_up_steps())
         reply = replica.answer(question)
         self.assertRaisesRegex(MalformedError, "the limit is", replica.catch_up, said_by(reply), written.append, limit=len(reply) - 1)
         self.assertRaisesRegex(MalformedError, "the limit is", replica.serve, said_by(question), written.append, limit=len(question) - 1)
@@ -334,7 +334,7 @@ class Threads(unittest.TestCase):
         sys.setswitchinterval(1e-6)
 
     def test_threads_on_one_replica(self):
-        replica, peers = HeldReplica(), [HeldReplica((b"%d" % i, b"%d" % seed) for i in range(seed, 3000, 7)) for seed in range(4)]
+        replica, peers = Replica(), [Replica((b"%d" % i, b"%d" % seed) for i in range(seed, 3000, 7)) for seed in range(4)]
         wanted = {}
         for rows in [*map(dict, peers), {b"%d" % i: b"9" for i in range(0, 3000, 11)}]:
             wanted = joined(wanted, rows)
@@ -371,7 +371,7 @@ class Threads(unittest.TestCase):
             self.assertEqual(dict(peer), wanted)
 
     def test_one_serves_many_connections(self):
-        hub, peers = HeldReplica((b"%d" % i, b"1") for i in range(500)), [HeldReplica({b"own%d" % at: b"1"}) for at in range(4)]
+        hub, peers = Replica((b"%d" % i, b"1") for i in range(500)), [Replica({b"own%d" % at: b"1"}) for at in range(4)]
         pairs = [socket.socketpair() for _ in peers]
         ends = in_threads(*[lambda at=at: hub.serve(pairs[at][0].recv, pairs[at][0].sendall) for at in range(4)],
                           *[lambda at=at: peers[at].catch_up(pairs[at][1].recv, pairs[at][1].sendall) for at in range(4)])

@@ -19,7 +19,7 @@ import threading
 import unittest
 from unittest import mock
 
-from mst import REFUSAL, HeldReplica, MalformedError, RefusedError, SyncTree, Tree
+from mst import REFUSAL, MalformedError, RefusedError, Replica, SyncTree, Tree
 from mst._library import ABSENT, library
 from mst._sync_tree import _list, _look_up
 
@@ -74,7 +74,7 @@ class Rows:
 
 
 class Side:
-    """A tree with its rows, called as a `HeldReplica` is."""
+    """A tree with its rows, called as a `Replica` is."""
 
     def __init__(self, table=(), rows=None, **settings):
         self.rows = Rows(table) if rows is None else rows
@@ -111,10 +111,10 @@ def in_sqlite(table=(), **settings):
 
 
 def rows_of(side):
-    return dict(side) if isinstance(side, HeldReplica) else dict(side.rows.scan(b"", None))
+    return dict(side) if isinstance(side, Replica) else dict(side.rows.scan(b"", None))
 
 
-KINDS = {"dict": Side, "sqlite": in_sqlite, "replica": HeldReplica}
+KINDS = {"dict": Side, "sqlite": in_sqlite, "replica": Replica}
 PAIRS = [("dict", "dict"), ("dict", "replica"), ("replica", "dict"), ("sqlite", "sqlite"), ("sqlite", "replica"), ("replica", "sqlite")]
 
 
@@ -255,7 +255,7 @@ class Trees(unittest.TestCase):
                     held.pop(key, None)
                 self.assertEqual((tree.get_digest(key), key in tree), (other.get_digest(key), key in held))
             self.assertEqual((len(tree), tree.root_hash()), (len(held), other.root_hash()))
-            self.assertEqual(tree.root_hash(), HeldReplica(held, **settings).root_hash())
+            self.assertEqual(tree.root_hash(), Replica(held, **settings).root_hash())
             del tree[next(iter(held))]
             self.assertEqual(len(tree), len(held) - 1)
         self.assertRaises(KeyError, tree.__delitem__, b"none such")
@@ -471,7 +471,7 @@ class Parts(unittest.TestCase):
             side, keys = Side(table), [self.drawn_key(draw) for _ in range(draw.randint(1, 30))]
             keys += draw.sample(sorted(table), min(len(table), draw.randint(0, 30)))
             draw.shuffle(keys)
-            self.assertEqual(side.answer(asks_at(keys)), HeldReplica(table).answer(asks_at(keys)))
+            self.assertEqual(side.answer(asks_at(keys)), Replica(table).answer(asks_at(keys)))
             with mock.patch("mst._sync_tree._MOST", draw.choice([1, 17, 100, 500])):
                 self.assertEqual(values_at(side, keys)[0], [table.get(key) for key in keys])
 
@@ -480,7 +480,7 @@ class Parts(unittest.TestCase):
         for _ in range(300):
             table = {self.drawn_key(draw): bytes(draw.randrange(20)) for _ in range(draw.randint(0, 60))}
             side, gaps = Side(table), self.drawn_gaps(draw, 8)
-            self.assertEqual(side.answer(asks_in(gaps)), HeldReplica(table).answer(asks_in(gaps)))
+            self.assertEqual(side.answer(asks_in(gaps)), Replica(table).answer(asks_in(gaps)))
             with mock.patch("mst._sync_tree._MOST", draw.choice([1, 17, 100, 500, 2000])):
                 told = rows_in(side, gaps)[0]
             self.assertEqual(told, [sorted(row for row in table.items() if is_within(row[0], gap)) for gap in gaps])
@@ -662,7 +662,7 @@ class Faults(unittest.TestCase):
             done = subprocess.run([sys.executable, "-B", "-c", killed, path], timeout=60, check=False,
                                   env={**os.environ, "PYTHONPATH": os.pathsep.join([EXAMPLES, *sys.path])})
             self.assertEqual(done.returncode, -signal.SIGKILL)
-            ours, theirs = Side(rows=SqliteRows(path)), HeldReplica()
+            ours, theirs = Side(rows=SqliteRows(path)), Replica()
             both_ways(theirs, ours)
             self.assertEqual(dict(theirs), {b"kiwi": b"1", b"melon": b"2", b"plum": b"3"})
             self.in_step(ours)
@@ -685,7 +685,7 @@ class Peers(unittest.TestCase):
         self.assertRaises(RefusedError, by_steps, ours, theirs.answer)
 
     def test_what_is_no_reply(self):
-        theirs = HeldReplica((b"%d" % i, b"1") for i in range(300))
+        theirs = Replica((b"%d" % i, b"1") for i in range(300))
         for altered in [lambda reply: reply[:-1], lambda reply: reply + b"\0", lambda reply: b"", lambda reply: b"\2" + reply[1:],
                         lambda reply: bytes([reply[0], reply[1] ^ 1]) + reply[2:]]:
             ours = Side({b"a": b"1"})
@@ -694,11 +694,11 @@ class Peers(unittest.TestCase):
 
     def test_what_is_no_question(self):
         side, draw = Side({b"a": b"1", b"b": b"2"}), random.Random(9)
-        question = next(HeldReplica({b"b": b"2"}).catch_up_steps())
+        question = next(Replica({b"b": b"2"}).catch_up_steps())
         questions = [question, b"\1\2\x10\1\0\0", b"\1\3\x10\1\0\0", asks_at([b"a", b"zz", b"a"]), asks_in([(b"a", None), (None, b"b")]), bytes(20)]
         for message in [b"", b"\1", question[:-1], question + b"\0", b"\2" + question[1:], REFUSAL, side.answer(question)]:
             self.assertEqual(side.answer(message), REFUSAL)
-        replica = HeldReplica(side.rows.table)
+        replica = Replica(side.rows.table)
         for _ in range(5000):
             message = bytearray(draw.choice(questions))
             for _ in range(draw.randint(1, 3)):
@@ -751,7 +751,7 @@ class Peers(unittest.TestCase):
         ours, theirs = Side(), Side((b"%d" % i, b"1") for i in range(300))
         self.assertRaises(MalformedError, by_steps, ours, theirs.answer, messages=1)
         self.assertEqual((rows_of(ours), by_steps(ours, theirs.answer, messages=2)[0]), ({}, 300))
-        question, written = next(HeldReplica().catch_up_steps()), []
+        question, written = next(Replica().catch_up_steps()), []
         self.assertRaises(MalformedError, theirs.serve, said_by(question, question, question), written.append, messages=2)
         self.assertEqual((len(written), written[-1]), (3, number(2) + REFUSAL))
         self.assertEqual(theirs.serve(said_by(question, question), written.append, messages=2), 2)
@@ -788,12 +788,12 @@ class Peers(unittest.TestCase):
         for read, write in [(breaks, lambda message: None), (lambda size: b"", breaks)]:
             self.assertRaises(OSError, side.catch_up, read, write)
         self.assertRaises(OSError, side.serve, breaks, lambda message: None)
-        self.assertRaises(OSError, side.serve, said_by(next(HeldReplica().catch_up_steps())), breaks)
-        self.assertEqual(by_steps(side, HeldReplica({b"b": b"2"}).answer)[0], 1)
+        self.assertRaises(OSError, side.serve, said_by(next(Replica().catch_up_steps())), breaks)
+        self.assertEqual(by_steps(side, Replica({b"b": b"2"}).answer)[0], 1)
 
     def test_lengths_above_the_limit(self):
         side, written, taken = Side({b"a": b"1"}), [], []
-        question = next(HeldReplica({b"b": b"2"}).catch_up_steps())
+        question = next(Replica({b"b": b"2"}).catch_up_steps())
         reply = side.answer(question)
         self.assertRaisesRegex(MalformedError, "the limit is", side.catch_up, said_by(reply), written.append, limit=len(reply) - 1)
         self.assertRaisesRegex(MalformedError, "the limit is", side.serve, said_by(question), written.append, limit=len(question) - 1)
@@ -816,7 +816,7 @@ class Peers(unittest.TestCase):
             ours.settimeout(0.05)
             self.assertRaises(socket.timeout, side.catch_up, ours.recv, ours.sendall)
             self.assertRaises(socket.timeout, side.serve, ours.recv, ours.sendall)
-        self.assertEqual(by_steps(side, HeldReplica({b"b": b"2"}).answer)[0], 1)
+        self.assertEqual(by_steps(side, Replica({b"b": b"2"}).answer)[0], 1)
 
 
 async def over_streams(connection, *calls):
@@ -852,7 +852,7 @@ class Streams(unittest.TestCase):
 
     def test_with_a_replica_over_a_socket(self):
         left, right = [{b"%d" % i: b"%d" % step for i in range(0, 600, step)} for step in (2, 3)]
-        ours, theirs = in_sqlite(left), HeldReplica(right)
+        ours, theirs = in_sqlite(left), Replica(right)
         here, there = socket.socketpair()
 
         def peer():
@@ -906,7 +906,7 @@ class Streams(unittest.TestCase):
 
     def test_a_peer_that_breaks_off_or_sends_other_bytes(self):
         side = Side({b"a": b"1"})
-        question = next(HeldReplica({b"b": b"2"}).catch_up_steps())
+        question = next(Replica({b"b": b"2"}).catch_up_steps())
         asked = number(len(question)) + question
         for call, said, error in [("catch_up", b"", EOFError), ("catch_up", number(9) + b"1234", EOFError), ("catch_up", number(3) + b"abc", MalformedError),
                                   ("serve", asked[:4], EOFError), ("serve", asked[:-1], EOFError), ("serve", number(3) + b"abc", MalformedError),
@@ -919,7 +919,7 @@ class Streams(unittest.TestCase):
                     self.assertRaises(error, asyncio.run, over_streams(here, *self.streams(side, call)))
                 else:
                     self.assertEqual(asyncio.run(over_streams(here, *self.streams(side, call))), [1 if said else 0])
-        self.assertEqual((rows_of(side), by_steps(side, HeldReplica({b"b": b"2"}).answer)[0]), ({b"a": b"1"}, 1))
+        self.assertEqual((rows_of(side), by_steps(side, Replica({b"b": b"2"}).answer)[0]), ({b"a": b"1"}, 1))
 
     def test_a_task_that_is_cancelled(self):
         ours, theirs = Side({b"a": b"1"}), Side({b"b": b"2"})
@@ -940,7 +940,7 @@ class Threads(unittest.TestCase):
         sys.setswitchinterval(1e-6)
 
     def test_threads_on_one_tree(self):
-        hub, peers = in_sqlite(), [HeldReplica((b"%d" % i, b"%d" % seed) for i in range(seed, 2000, 7)) for seed in range(4)]
+        hub, peers = in_sqlite(), [Replica((b"%d" % i, b"%d" % seed) for i in range(seed, 2000, 7)) for seed in range(4)]
         wanted = {}
         for rows in [*map(dict, peers), {b"%d" % i: b"9" for i in range(0, 2000, 11)}]:
             wanted = joined(wanted, rows)
@@ -1016,7 +1016,7 @@ class Threads(unittest.TestCase):
         self.assertEqual(side.root_hash(), Tree({b"key": b"2"}).root_hash())
 
     def test_one_serves_many_connections(self):
-        hub, peers = in_sqlite((b"%d" % i, b"1") for i in range(500)), [HeldReplica({b"own%d" % at: b"1"}) for at in range(4)]
+        hub, peers = in_sqlite((b"%d" % i, b"1") for i in range(500)), [Replica({b"own%d" % at: b"1"}) for at in range(4)]
         pairs = [socket.socketpair() for _ in peers]
         ends = in_threads(*[lambda at=at: hub.serve(pairs[at][0].recv, pairs[at][0].sendall) for at in range(4)],
                           *[lambda at=at: peers[at].catch_up(pairs[at][1].recv, pairs[at][1].sendall) for at in range(4)])
