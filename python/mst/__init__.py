@@ -9,11 +9,13 @@
 """
 from ._library import MalformedError, version
 from ._ranges import KeyRange, KeyRanges, PageRange, PageRanges, diff, unshared
+from ._register import Register
+from ._register_tree import MOST_TEXT, RegisterRows, RegisterTree, UntakenError
 from ._replica import Replica
 from ._sync_tree import Rows, SyncTree
 from ._tree import Page, Tree
 from ._wire import LIMIT, MESSAGES, REFUSAL, RefusedError
 
 __version__ = version()
-__all__ = ["KeyRange", "KeyRanges", "LIMIT", "MESSAGES", "MalformedError", "Page", "PageRange", "PageRanges", "REFUSAL", "RefusedError", "Replica",
-           "Rows", "SyncTree", "Tree", "diff", "unshared", "version"]
+__all__ = ["KeyRange", "KeyRanges", "LIMIT", "MESSAGES", "MOST_TEXT", "MalformedError", "Page", "PageRange", "PageRanges", "REFUSAL", "RefusedError",
+           "Register", "RegisterRows", "RegisterTree", "Replica", "Rows", "SyncTree", "Tree", "UntakenError", "diff", "unshared", "version"]

@@ -48,8 +48,9 @@ class Package(unittest.TestCase):
         self.assertEqual(written, ["0 rows came", "1000 rows came", "20 rows came", "1010 1010 True"])
         written = python(os.path.join(HERE, "..", "examples", "sqlite_rows.py"))
         self.assertEqual(written, "2 rows came\n{'apple': '1132 red', 'kiwi': '1207 brown', 'melon': '1131 ripe'}\n")
-        # redis_rows.py and postgres_rows.py are run by tests/databases, replica_over_pipes.py and sync_over_pipes.py by tests/packages
-        self.assertEqual(len(glob.glob(os.path.join(HERE, "..", "examples", "*.py"))), 6)
+        # redis_rows.py and postgres_rows.py are run by tests/databases, replica_over_pipes.py and sync_over_pipes.py by tests/packages, and store_peer.py
+        # by tests/store_peers
+        self.assertEqual(len(glob.glob(os.path.join(HERE, "..", "examples", "*.py"))), 7)
 
     def test_the_wheel_has_no_link_out_of_it(self):
         with tempfile.TemporaryDirectory() as folder:
@@ -67,7 +68,7 @@ class Package(unittest.TestCase):
 
 
 def load_tests(_loader, tests, _pattern):
-    for name in ["mst", "mst._tree", "mst._ranges", "mst._replica", "mst._sync_tree"]:
+    for name in ["mst", "mst._tree", "mst._ranges", "mst._replica", "mst._sync_tree", "mst._register", "mst._register_tree"]:
         tests.addTests(doctest.DocTestSuite(importlib.import_module(name)))
     tests.addTests(doctest.DocFileSuite(os.path.join(HERE, "..", "README.md"), module_relative=False))
     return tests

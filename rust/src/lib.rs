@@ -7,6 +7,7 @@ pub mod diff;
 pub mod digest;
 mod list;
 mod node;
+pub mod register;
 pub mod replica;
 pub mod sync;
 mod sys;

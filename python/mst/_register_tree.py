@@ -1,0 +1,244 @@
+"""Peers of the store `mst`: rows of registers that are kept elsewhere, as in a database, in step with `mst serve` and `mst pull`.
+
+The messages are those of docs/WIRE.md. A `SyncTree` reads and writes them with values that are byte strings. A register is hashed by other bytes than
+it has in a message, so here the tree has byte strings of those that are hashed, and each reply is written anew with the other form of its values.
+"""
+import asyncio
+import contextlib
+import functools
+from typing import Generator, Iterable, Iterator, List, Optional, Protocol, Tuple
+
+from . import _wire
+from ._library import DONE, MALFORMED, MalformedError
+from ._register import Register, milliseconds, of_hashed_bytes, with_byte_strings, with_registers
+from ._sync import LIMIT
+from ._sync_tree import SyncTree, _in_thread
+from ._wire import MESSAGES, REFUSAL, Read, Write
+
+MOST_TEXT = 1 << 20
+"""How many bytes a key, a writer's name and a value have at most, each: `mst` takes nothing from a peer that sends a longer one."""
+
+_DAY = 86_400_000
+# The last time that a store can hold.
+_LAST = (1 << 63) - 1
+# The front of a question that asks for a delta.
+_BY_DELTA = b"\1\6"
+
+Entry = Tuple[str, Register]
+Steps = Generator[bytes, bytes, List[Entry]]
+_ByteRow = Tuple[bytes, bytes]
+
+
+class UntakenError(ValueError):
+    """An entry isn't taken: it is too long, or its time is too late. Nothing of what comes with it is joined."""
+
+
+class RegisterRows(Protocol):
+    """What a `RegisterTree` needs of rows that are kept elsewhere: the methods of `KeptRows`, with texts as keys and registers as values."""
+
+    def get(self, key: str) -> "Optional[Register]":
+        """The register at a key, or None if the key was never written."""
+
+    def scan(self, first: str, end: "Optional[str]") -> "Iterable[Entry]":
+        """The rows with first <= key < end, or all with first <= key if the end is None, in the order of the bytes of their keys. No more are
+        taken than a reply needs. What it returns is closed then, if it has a method `close`."""
+
+    def join(self, came: "List[Entry]") -> "Iterable[Entry]":
+        """Joins rows, whose keys ascend, in one transaction, and returns the rows at their keys as they are after it: of a register that came
+        and one that is there the later stays."""
+
+
+class RegisterTree:
+    """The digests of rows of registers that are kept elsewhere, in a tree as `mst` has one; and catch-ups of these rows with stores of `mst` and with
+    other such trees. It is used as a `SyncTree`, whose documentation says more of the calls.
+
+    >>> class Rows:
+    ...     def __init__(self):
+    ...         self.table = {}
+    ...     def get(self, key):
+    ...         return self.table.get(key)
+    ...     def scan(self, first, end):
+    ...         return ((key, self.table[key]) for key in sorted(self.table) if first <= key and (end is None or key < end))
+    ...     def join(self, came):
+    ...         self.table.update((key, max(register, self.table.get(key, register))) for key, register in came)
+    ...         return [(key, self.table[key]) for key, _ in came]
+    >>> rows = Rows()
+    >>> tree = RegisterTree(rows, hash_key=bytes(range(16)))
+    >>> tree.join(rows, [(key, Register(1764400000000, "alice", b"1")) for key in ("ant", "cow", "crow", "elk", "k213", "owl")])
+    >>> tree.root_hash().hex()
+    '00c2b0c77643ea94a13092ca6ec14e92'
+    """
+
+    __slots__ = ("_tree", "__weakref__")
+
+    def __init__(self, rows: "Optional[RegisterRows]" = None, *, hash_key: bytes) -> None:
+        """The tree of these rows, by `load`. All peers have one hash key, of 16 bytes: `bytes.fromhex` of what `mst hash-key FILE` prints. A tree
+        without keys is served under any, once."""
+        self._tree = SyncTree(key=hash_key, page_format=2)
+        if rows is not None:
+            self.load(rows)
+
+    def load(self, rows: RegisterRows) -> None:
+        """Makes the tree that of all rows, by one scan: when the program starts, and when it can't be sure that it told the tree of each write."""
+        self._tree.load(_ByteRows(rows))
+
+    def join(self, rows: RegisterRows, came: "Iterable[Entry]") -> None:
+        """Joins rows with those that are kept, by their own `join`, and sets the tree to what they then are: so `catch_up` does with what came, and so
+        a program writes. Each key comes once. ValueError if `mst` wouldn't take a row: its key, writer or value has more than `MOST_TEXT` bytes, or
+        its time more than 63 bits."""
+        joining = list(came)
+        for key, register in joining:
+            _expect_taken(key, register, _LAST)
+        self._tree.join(_ByteRows(rows), map(_byte_row, joining))
+
+    def refresh(self, rows: RegisterRows, keys: "Iterable[str]" = ()) -> None:
+        """Looks up keys, and sets the tree to their rows as they are, or takes keys out: call it after the commit of each write that isn't by `join`."""
+        self._tree.refresh(_ByteRows(rows), [key.encode() for key in keys])
+
+    def get_digest(self, key: str) -> "Optional[bytes]":
+        """The digest of the register at a key; None if the key isn't there."""
+        return self._tree.get_digest(key.encode())
+
+    def __len__(self) -> int:
+        """How many keys there are, removed ones too. It counts them."""
+        return len(self._tree)
+
+    def __bool__(self) -> bool:
+        """A tree is true, as it is without a key."""
+        return True
+
+    def root_hash(self) -> bytes:
+        """The root hash, 16 bytes: that of a store of `mst` with these rows and this hash key. `mst root` prints it in base64."""
+        return self._tree.root_hash()
+
+    def answer(self, rows: RegisterRows, question: bytes) -> bytes:
+        """The reply to a question of a peer that catches up. Any bytes may be given. If they are no question, or the peer has other settings, or asks
+        for a delta, the reply is `REFUSAL`, which is to be sent too: after the refusal of a delta `mst` asks without one."""
+        return self._answer(rows, question)[1]
+
+    def catch_up_steps(self, *, messages: int = MESSAGES, latest: "Optional[int]" = None) -> Steps:
+        """A catch-up step by step, for a transport of one's own: it yields each question, whole, is sent the reply to it, and returns the rows that
+        came, in the order of their keys. Then give them to `join`: until then nothing changes.
+
+        It raises what `SyncTree.catch_up_steps` does; MalformedError also if a key or a register that came is none. UntakenError if a key, a writer
+        or a value has more than `MOST_TEXT` bytes, or a time is after `latest`, which is a day ahead of the clock if none is given."""
+        steps = self._tree.catch_up_steps(messages=messages)
+        with contextlib.closing(steps):
+            question = next(steps)
+            while True:
+                reply = yield question
+                try:
+                    question = steps.send(with_byte_strings(reply))
+                except StopIteration as end:
+                    came: "List[_ByteRow]" = end.value
+                    break
+        return _taken(came, milliseconds() + _DAY if latest is None else latest)
+
+    def catch_up(self, rows: RegisterRows, read: Read, write: Write, *, limit: int = LIMIT, messages: int = MESSAGES,
+                 latest: "Optional[int]" = None) -> int:
+        """Brings the rows of a peer that runs `serve` or `mst serve` over a connection, joins them, and returns how many came. At the end the peer is
+        told so: then it may catch up, and this side serve, over the same connection, as with `mst serve --both`. The rest is as for a `SyncTree`,
+        with the errors of `catch_up_steps`."""
+        self.refresh(rows)
+        came = _wire.ask(self.catch_up_steps(messages=messages, latest=latest), read, write, limit)
+        self.join(rows, came)
+        _wire.send(write, b"")
+        return len(came)
+
+    def serve(self, rows: RegisterRows, read: Read, write: Write, *, limit: int = LIMIT, messages: int = MESSAGES) -> int:
+        """Answers a peer that runs `catch_up` or `mst pull`, until it says that it is done or ends, and returns how many questions it was answered;
+        those that asked for a delta count too. After `mst pull --both` call `catch_up`. The rest is as for a `SyncTree`."""
+        return _wire.answer(functools.partial(self._answer, rows), read, write, limit, messages)
+
+    async def catch_up_streams(self, rows: RegisterRows, reader: asyncio.StreamReader, writer: asyncio.StreamWriter, *, limit: int = LIMIT,
+                               messages: int = MESSAGES, latest: "Optional[int]" = None) -> int:
+        """The same as `catch_up`, over the streams of asyncio. The rows are called in threads, as by a `SyncTree`."""
+        await _in_thread(self.refresh, rows)
+        came = await _wire.ask_streams(self.catch_up_steps(messages=messages, latest=latest), reader, writer, limit)
+        await _in_thread(self.join, rows, came)
+        await _wire.send_stream(writer, b"")
+        return len(came)
+
+    async def serve_streams(self, rows: RegisterRows, reader: asyncio.StreamReader, writer: asyncio.StreamWriter, *, limit: int = LIMIT,
+                            messages: int = MESSAGES) -> int:
+        """The same as `serve`, over the streams of asyncio, with the rows called as in `catch_up_streams`."""
+        return await _wire.answer_streams(functools.partial(_in_thread, self._answer, rows), reader, writer, limit, messages)
+
+    def close(self) -> None:
+        """Gives the memory back. To close a tree twice does no harm."""
+        self._tree.close()
+
+    def _answer(self, rows: RegisterRows, question: bytes) -> "Tuple[int, bytes]":
+        """The status of an answer, and the message that is to be sent."""
+        if question[:2] == _BY_DELTA:
+            return DONE, REFUSAL
+        try:
+            status, reply = self._tree._answer(_ByteRows(rows), question)
+        except _NoTextError:
+            return MALFORMED, REFUSAL
+        return status, with_registers(reply) if status == DONE else reply
+
+    def __enter__(self) -> "RegisterTree":
+        return self
+
+    def __exit__(self, *_error: object) -> None:
+        self.close()
+
+
+class _NoTextError(Exception):
+    """A peer asks for a key that isn't in UTF-8."""
+
+
+class _ByteRows:
+    """Rows of registers as a `SyncTree` takes them: each key in UTF-8, and of each register the bytes that are hashed."""
+
+    def __init__(self, rows: RegisterRows) -> None:
+        self._rows = rows
+
+    def get(self, key: bytes) -> "Optional[bytes]":
+        register = self._rows.get(_asked(key))
+        return None if register is None else register.hashed_bytes()
+
+    def scan(self, first: bytes, end: "Optional[bytes]") -> "Iterator[_ByteRow]":
+        found = self._rows.scan(_asked(first), None if end is None else _asked(end))
+        try:
+            yield from map(_byte_row, found)
+        finally:
+            close = getattr(found, "close", None)
+            if close is not None:
+                close()
+
+    def join(self, came: "List[_ByteRow]") -> "Iterable[_ByteRow]":
+        return map(_byte_row, self._rows.join([(key.decode(), of_hashed_bytes(value)) for key, value in came]))
+
+
+def _asked(key: bytes) -> str:
+    try:
+        return key.decode()
+    except UnicodeDecodeError:
+        raise _NoTextError from None
+
+
+def _byte_row(entry: Entry) -> _ByteRow:
+    key, register = entry
+    return key.encode(), register.hashed_bytes()
+
+
+def _expect_taken(key: str, register: Register, latest: int) -> None:
+    """UntakenError if a side that takes times up to the latest one doesn't take an entry."""
+    if any(len(part) > MOST_TEXT for part in (key.encode(), register.writer.encode(), register.value or b"")):
+        raise UntakenError(f"an entry is too long: {key[:40]!r}")
+    if register.time > latest:
+        raise UntakenError(f"an entry has a time that is too late: {key[:40]!r}, {register.time}")
+
+
+def _taken(came: "List[_ByteRow]", latest: int) -> "List[Entry]":
+    """The entries that came, if all are taken."""
+    entries = []
+    for key, value in came:
+        try:
+            entries.append((key.decode(), of_hashed_bytes(value)))
+        except UnicodeDecodeError:
+            raise MalformedError("the peer sent a key that isn't in UTF-8") from None
+        _expect_taken(*entries[-1], min(latest, _LAST))
+    return entries
