@@ -6,7 +6,7 @@ import dataclasses
 import functools
 import struct
 import time
-from typing import Callable, Iterator, Optional, Tuple
+from typing import Callable, Iterator, List, Optional, Tuple
 
 from ._library import MalformedError
 from ._sync_tree import SyncTree
@@ -203,7 +203,8 @@ def _byte_string(register: Register) -> bytes:
 
 def _rewritten(reply: bytes, read: "Callable[[_Reader], Register]", write: "Callable[[Register], bytes]") -> bytes:
     """A reply with its values in another form."""
-    reader, pieces, copied = _Reader(reply), [], 0
+    reader, copied = _Reader(reply), 0
+    pieces: "List[bytes]" = []
     for _ in _to_values(reader):
         pieces.append(reply[copied:reader.at])
         pieces.append(write(read(reader)))

@@ -11,9 +11,8 @@ from typing import Generator, Iterable, Iterator, List, Optional, Protocol, Tupl
 from . import _wire
 from ._library import DONE, MALFORMED, MalformedError
 from ._register import Register, milliseconds, of_hashed_bytes, with_byte_strings, with_registers
-from ._sync import LIMIT
 from ._sync_tree import SyncTree, _in_thread
-from ._wire import MESSAGES, REFUSAL, Read, Write
+from ._wire import LIMIT, MESSAGES, REFUSAL, Read, Write
 
 MOST_TEXT = 1 << 20
 """How many bytes a key, a writer's name and a value have at most, each: `mst` takes nothing from a peer that sends a longer one."""
@@ -34,7 +33,7 @@ class UntakenError(ValueError):
 
 
 class RegisterRows(Protocol):
-    """What a `RegisterTree` needs of rows that are kept elsewhere: the methods of `KeptRows`, with texts as keys and registers as values."""
+    """What a `RegisterTree` needs of rows that are kept elsewhere: the methods of `Rows`, with texts as keys and registers as values."""
 
     def get(self, key: str) -> "Optional[Register]":
         """The register at a key, or None if the key was never written."""

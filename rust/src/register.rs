@@ -36,7 +36,7 @@
 //! ```
 //!
 //! Write a row by [`Register::over`], commit it, and then [`RegisterTree::set`] its key. What follows if a step fails is as of a
-//! [`SyncTree`](crate::kept#if-a-step-fails). [`take`] and [`answer`] do one step, for any other transport, and the calls of a [`RegisterTree`] read and
+//! [`SyncTree`](crate::sync#if-a-step-fails). [`take`] and [`answer`] do one step, for any other transport, and the calls of a [`RegisterTree`] read and
 //! write neither a connection nor a row.
 //!
 //! The messages are those of docs/WIRE.md. A [`SyncTree`] reads and writes them with values that are byte strings. A register is hashed by other
@@ -46,8 +46,8 @@ use crate::{
     builder::PageFormat,
     bytes::HashBytes,
     digest::{siphash::SipHasher, RootHash, ValueDigest},
-    kept::{self, Answer, Came, Failed, Found, Next, Row, Rows, SyncTree},
     replica::{answering, asking, Fault, Limits, Step, REFUSAL},
+    sync::{self, Answer, Came, Failed, Found, Next, Row, Rows, SyncTree},
     Malformed,
 };
 use std::{
@@ -455,7 +455,7 @@ impl<R: Registers + ?Sized> Rows for ByteRows<'_, R> {
         Ok(register.map(|register| register.hashed_bytes()))
     }
 
-    fn rows_in(&mut self, range: kept::Range<'_>, give: &mut kept::Give<'_>) -> Result<(), Self::Error> {
+    fn rows_in(&mut self, range: sync::Range<'_>, give: &mut sync::Give<'_>) -> Result<(), Self::Error> {
         let range = Range { first: text(range.first)?, end: range.end.map(text).transpose()? };
         let mut give = |key: &str, register: &Register| give(key.as_bytes(), &register.hashed_bytes());
         self.rows.registers_in(range, &mut give).map_err(Failed::Rows)
@@ -509,7 +509,7 @@ pub fn answer<R: Registers + ?Sized>(
         return Ok(REFUSAL.to_vec());
     }
     let mut rows = ByteRows { rows, latest: 0 };
-    let reply = kept::answer(&mut tree.tree, &mut rows, question).map_err(failed_of)?;
+    let reply = sync::answer(&mut tree.tree, &mut rows, question).map_err(failed_of)?;
     Ok(replies::with_registers(&reply)?)
 }
 
@@ -523,13 +523,13 @@ pub fn take<R: Registers + ?Sized>(
 ) -> Result<Step, Failed<R::Error>> {
     let mut rows = ByteRows { rows, latest };
     let reply = replies::with_byte_strings(reply).unwrap_or_default();
-    kept::take(&mut tree.tree, &mut rows, &reply).map_err(failed_of)
+    sync::take(&mut tree.tree, &mut rows, &reply).map_err(failed_of)
 }
 
 /// Brings the rows of a peer that serves over a connection, such as `mst serve`, and returns how many came; those of which this side has a later
 /// register count too. At the end the peer is told so: then it may catch up, and this side [`serve`], over the same connection.
 ///
-/// The errors are those of [`kept::catch_up`]. [`Failed::Io`] with an [`Untaken`] also if an entry is too long, or its time is more than a day ahead
+/// The errors are those of [`sync::catch_up`]. [`Failed::Io`] with an [`Untaken`] also if an entry is too long, or its time is more than a day ahead
 /// of the clock. Rows and tree are then as before.
 pub fn catch_up<R: Registers + ?Sized>(
     tree: &mut RegisterTree,
@@ -557,7 +557,7 @@ pub fn catch_up_within<R: Registers + ?Sized>(
 }
 
 /// Answers a peer that catches up, such as `mst pull`, until it says that it is done or ends, and returns how many questions it was answered; those
-/// that asked for a delta count too. The errors are those of [`kept::serve`].
+/// that asked for a delta count too. The errors are those of [`sync::serve`].
 pub fn serve<R: Registers + ?Sized>(
     tree: &mut RegisterTree,
     rows: &mut R,

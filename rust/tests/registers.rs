@@ -3,12 +3,12 @@
 use merkle_search_tree::{
     builder::{Builder, PageFormat},
     digest::siphash::SipHasher,
-    kept::{Answer, Next},
     register::{
         answer, catch_up, catch_up_by, catch_up_within, entries_of, hasher_of, latest, now, serve, serve_by, take,
         Entry, Give, Range, Register, RegisterTree, Registers, Untaken, MOST_TEXT,
     },
     replica::{Fault, Limits, Step, REFUSAL},
+    sync::{Answer, Next},
     Malformed, MerkleSearchTree,
 };
 use std::{
@@ -250,7 +250,7 @@ fn the_session_of_two_stores() {
 #[test]
 fn random_rows_both_ways() {
     for seed in 1..60 {
-        let mut draw = draws(seed * 0x9e37_79b9_7f4a_7c15);
+        let mut draw = draws(seed);
         let tables = [drawn(&mut draw), drawn(&mut draw)];
         let [mut left, mut right] = [0, 1].map(|at| side(&tables[at]));
         let differing = tables[1].iter().filter(|(key, register)| tables[0].get(*key) != Some(register)).count();
@@ -297,7 +297,7 @@ fn reply_by_hand((tree, rows): &mut Side, question: &[u8]) -> Result<Vec<u8>, Fa
 #[test]
 fn catch_ups_by_calls_that_read_no_rows() {
     for seed in 1..20 {
-        let mut draw = draws(seed * 0x9e37_79b9_7f4a_7c15);
+        let mut draw = draws(seed);
         let tables = [drawn(&mut draw), drawn(&mut draw)];
         let [mut left, mut right] = [0, 1].map(|at| side(&tables[at]));
         let mut question = left.0.ask().unwrap();
@@ -480,18 +480,18 @@ fn entries_that_are_not_taken() {
 fn entries_that_are_ahead_of_the_clock() {
     for (ahead, is_taken) in [(86_340_000, true), (86_460_000, false)] {
         let dog = register(now() + ahead, "bob", None);
-        let replies = |table: &Table| {
-            let mut peer = side(table);
-            [hex(ASKED[0]), hex("01 05 01 00 00")].map(|question| reply_of(&mut peer, &question))
-        };
-        let [root, all] = replies(&BTreeMap::from([("dog".into(), dog.clone())]));
+        let mut table = Table::from_iter((0..9).map(|at| (format!("k{at}"), register(at, "bob", None))));
+        table.insert("dog".into(), dog.clone());
+        let mut peer = side(&table);
+        // The root, and all rows.
+        let [root, all] = [hex(ASKED[0]), hex("01 05 01 00 00")].map(|question| reply_of(&mut peer, &question));
+        let said = || Said::new(&[&root, &all]);
         let (mut tree, mut rows) = side(&Table::new());
-        let caught_up = catch_up(&mut tree, &mut rows, &mut Said::new(&[&root, &all]));
-        assert_eq!((caught_up.is_ok(), rows.len()), (is_taken, usize::from(is_taken)));
+        assert_eq!(catch_up(&mut tree, &mut rows, &mut said()).is_ok(), is_taken);
+        assert_eq!(rows, if is_taken { table } else { Table::new() });
         for (latest, is_taken) in [(dog.time - 1, false), (dog.time, true)] {
             let (mut tree, mut rows) = side(&Table::new());
-            let mut peer = Said::new(&[&root, &all]);
-            assert_eq!(catch_up_within(Limits::default(), latest, &mut tree, &mut rows, &mut peer).is_ok(), is_taken);
+            assert_eq!(catch_up_within(Limits::default(), latest, &mut tree, &mut rows, &mut said()).is_ok(), is_taken);
         }
     }
 }
