@@ -14,8 +14,9 @@ from ._register_tree import MOST_TEXT, RegisterRows, RegisterTree, UntakenError
 from ._replica import Replica
 from ._sync_tree import Rows, SyncTree
 from ._tree import Page, Tree
-from ._wire import LIMIT, MESSAGES, REFUSAL, RefusedError
+from ._wire import LIMIT, MESSAGES, REFUSAL, SESSION_BYTES, SESSION_ROWS, RefusedError
 
 __version__ = version()
 __all__ = ["KeyRange", "KeyRanges", "LIMIT", "MESSAGES", "MOST_TEXT", "MalformedError", "Page", "PageRange", "PageRanges", "REFUSAL", "RefusedError",
-           "Register", "RegisterRows", "RegisterTree", "Replica", "Rows", "SyncTree", "Tree", "UntakenError", "diff", "unshared", "version"]
+           "Register", "RegisterRows", "RegisterTree", "Replica", "Rows", "SESSION_BYTES", "SESSION_ROWS", "SyncTree", "Tree", "UntakenError", "diff",
+           "unshared", "version"]

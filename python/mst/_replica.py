@@ -9,8 +9,9 @@ from typing import Dict, Generator, ItemsView, Iterator, KeysView, Mapping, NoRe
 
 from . import _wire
 from ._library import ABSENT, MALFORMED, OTHER_SETTINGS, TOO_SHORT, MalformedError, library, written
+from ._sync_tree import first_question
 from ._tree import AnyRows
-from ._wire import LIMIT, MESSAGES, Read, Write
+from ._wire import LIMIT, MESSAGES, SESSION_BYTES, Read, Write
 from ._wire import check as _check
 
 _number = struct.Struct("<Q").unpack_from
@@ -48,17 +49,18 @@ class Replica(Mapping[bytes, bytes]):
     bytes.
     """
 
-    __slots__ = ("_handle", "_address", "_guess", "_lock", "_under_way", "__weakref__")
+    __slots__ = ("_handle", "_address", "_settings", "_guess", "_lock", "_under_way", "__weakref__")
 
     def __init__(self, rows: AnyRows = (), *, key: bytes = bytes(16), level_base: int = 16, page_format: int = 1) -> None:
         """The replica of these rows; of values under one key the greatest stays. The settings are those of `Tree`. Replicas that catch up with
-        each other have all three in common, and refuse others; but one without rows tells no key, and is served under any."""
+        each other have all three in common, and refuse others."""
         if len(key) != 16:
             raise ValueError("the key of SipHash is of 16 bytes")
         if not 1 <= level_base <= 255:
             raise ValueError("the level base is from 1 to 255")
         if page_format not in (1, 2):
             raise ValueError("the page format is 1 or 2")
+        self._settings = key, level_base, page_format
         self._handle = ctypes.c_void_p()
         self._address = ctypes.addressof(self._handle)
         self._guess = 1024
@@ -147,19 +149,20 @@ class Replica(Mapping[bytes, bytes]):
         """
         return self._answer(question)[1]
 
-    def catch_up_steps(self, *, messages: int = MESSAGES) -> Steps:
+    def catch_up_steps(self, *, messages: int = MESSAGES, session_bytes: int = SESSION_BYTES) -> Steps:
         """A catch-up step by step, for a transport of one's own and for asyncio: it yields each question, whole, is sent the reply to it, and
         returns how many rows came. These are joined at the end, all at once; those of which this side has the greater value count too.
-        It asks that many questions at most.
+        It asks that many questions at most, which have no more than `session_bytes` together with the replies.
 
         MalformedError where a reply is none to what was asked, or the peer goes on for too long, and RefusedError where it refuses: the rows
         are as before. MalformedError comes too where rows were put into the peer's in between, so that a key came twice: then begin again.
         MemoryError where memory is refused: it says how many of the rows that came are joined."""
-        mine = object()
+        mine, spent = object(), _wire.Spent(session_bytes)
         question = self._ask(mine)
         try:
             for _ in range(messages):
                 reply = yield question
+                spent.add(question, reply)
                 question, joined = self._take(mine, reply)
                 if not question:
                     return joined
@@ -167,27 +170,27 @@ class Replica(Mapping[bytes, bytes]):
         finally:
             self._leave(mine)
 
-    def catch_up(self, read: Read, write: Write, *, limit: int = LIMIT, messages: int = MESSAGES) -> int:
+    def catch_up(self, read: Read, write: Write, *, limit: int = LIMIT, messages: int = MESSAGES, session_bytes: int = SESSION_BYTES) -> int:
         """Brings the rows of a peer that runs `serve` over a connection, and returns how many came. At the end the peer is told so: then it may
         catch up, and this side serve, over the same connection. `read` returns at most that many bytes, at least one, and none at the end, as
         `recv` of a socket and `read` of a file do; `write` sends all that it is given, as `sendall` does, and flushes it where it is buffered.
-        A message goes after how many bytes it has, in eight bytes, the lowest first; a reply of more than `limit` bytes is refused, and the
-        peer is asked that many questions at most. The keys that a message spells may have 64 times its bytes together.
+        A message goes after how many bytes it has, in eight bytes, the lowest first; a reply of more than `limit` bytes is refused. The other
+        bounds are those of `catch_up_steps`. The keys that a message spells may have 64 times its bytes together.
 
         EOFError where the peer ends before; what `catch_up_steps`, `read` and `write` raise. The rows are then as before, but for a
         MemoryError, and where it is the end that can't be told."""
-        came = _wire.ask(self.catch_up_steps(messages=messages), read, write, limit)
+        came = _wire.ask(self.catch_up_steps(messages=messages, session_bytes=session_bytes), read, write, limit)
         _wire.send(write, b"")
         return came
 
-    def serve(self, read: Read, write: Write, *, limit: int = LIMIT, messages: int = MESSAGES) -> int:
+    def serve(self, read: Read, write: Write, *, limit: int = LIMIT, messages: int = MESSAGES, session_bytes: int = SESSION_BYTES) -> int:
         """Answers a peer that runs `catch_up`, until it says that it is done or ends, and returns how many questions it was answered. The
         rest is as for `catch_up`, from the other side.
 
         RefusedError where the peer has other settings, and MalformedError where it sends what is no question, one of more bytes than the
-        limit or more questions than `messages`: it is sent the refusal first, if it is still there. EOFError where it ends within a message;
-        what `read` and `write` raise."""
-        return _wire.answer(self._answer, read, write, limit, messages)
+        limit, more questions than `messages`, or where all messages have more bytes than `session_bytes`: it is sent the refusal first, if it
+        is still there. EOFError where it ends within a message; what `read` and `write` raise."""
+        return _wire.answer(self._answer, read, write, limit, messages, _wire.Spent(session_bytes))
 
     def close(self) -> None:
         """Gives the memory back. To close a replica twice does no harm."""
@@ -206,12 +209,13 @@ class Replica(Mapping[bytes, bytes]):
             return status, self._message(size.value)
 
     def _ask(self, mine: object) -> bytes:
-        """Begins a catch-up, and returns its first question."""
+        """Begins a catch-up, and returns its first question, which tells the settings, as that of a `SyncTree` does."""
         size = ctypes.c_size_t()
         with self._lock:
             _check(library.mst_replica_ask(self._address, ctypes.byref(size)))
             self._under_way = mine
-            return self._message(size.value)
+            question = self._message(size.value)
+        return question if len(question) > _wire.WITHOUT_KEY else first_question(*self._settings)
 
     def _take(self, mine: object, reply: bytes) -> "Tuple[bytes, int]":
         """Takes a reply, and returns the next question, or none and how many rows came."""

@@ -15,7 +15,7 @@ from typing import Any, Callable, Dict, Generator, Iterable, Iterator, List, NoR
 from . import _wire
 from ._library import ABSENT, MALFORMED, NEEDS_ROWS, OTHER_SETTINGS, MalformedError, library, written
 from ._ranges import _entries
-from ._wire import LIMIT, MESSAGES, Read, Write, check
+from ._wire import LIMIT, MESSAGES, SESSION_BYTES, SESSION_ROWS, Read, Write, check
 
 # How many bytes of rows are looked up for one reply; the peer asks for the rest.
 _MOST = 1 << 22
@@ -89,7 +89,7 @@ class SyncTree:
 
     def __init__(self, rows: "Optional[Rows]" = None, *, key: bytes = bytes(16), level_base: int = 16, page_format: int = 1) -> None:
         """The tree of these rows, by `load`. The settings are those of `Replica`, and peers that catch up with each other have all three in
-        common, and refuse others; but a tree without keys tells no key of SipHash, and is served under any."""
+        common, and refuse others."""
         if len(key) != 16:
             raise ValueError("the key of SipHash is of 16 bytes")
         if not 1 <= level_base <= 255:
@@ -239,61 +239,72 @@ class SyncTree:
         nothing between questions. What `get` and `scan` raise; ValueError if what `scan` returns isn't in the order of its keys."""
         return self._answer(rows, question)[1]
 
-    def catch_up_steps(self, *, messages: int = MESSAGES) -> Steps:
+    def catch_up_steps(self, *, messages: int = MESSAGES, session_bytes: int = SESSION_BYTES, session_rows: int = SESSION_ROWS) -> Steps:
         """A catch-up step by step, for a transport of one's own: it yields each question, whole, is sent the reply to it, and returns the rows
         that came, in the order of their keys, each of which the tree lacks or has with another digest. Then give them to `join`: until then
-        nothing changes. It asks that many questions at most.
+        nothing changes. It asks that many questions at most, which have no more than `session_bytes` together with the replies, and no more than
+        `session_rows` rows come.
 
         MalformedError if a reply isn't one to what was asked, or the peer goes on for too long, and RefusedError if it refuses.
         MalformedError comes too if rows were written at the peer in between, so that a key came twice: then begin again."""
-        mine = object()
+        mine, spent = object(), _wire.Spent(session_bytes)
         question = self._ask(mine)
         try:
             for _ in range(messages):
                 reply = yield question
+                spent.add(question, reply)
                 question, came = self._take(mine, reply)
+                if len(came) > session_rows:
+                    raise MalformedError(f"{len(came)} rows came, and the limit is {session_rows}")
                 if not question:
                     return came
             raise MalformedError(f"the peer isn't done after {messages} questions")
         finally:
             self._leave(mine)
 
-    def catch_up(self, rows: Rows, read: Read, write: Write, *, limit: int = LIMIT, messages: int = MESSAGES) -> int:
+    def catch_up(self, rows: Rows, read: Read, write: Write, *, limit: int = LIMIT, messages: int = MESSAGES,
+                 session_bytes: int = SESSION_BYTES, session_rows: int = SESSION_ROWS) -> int:
         """Brings the rows of a peer that runs `serve` over a connection, joins them, and returns how many came. At the end the peer is told so:
-        then it may catch up, and this side serve, over the same connection. `read` and `write` are those of `Replica.catch_up`, and so are
-        `limit` and `messages`. All rows that come are held until they are joined, once all came.
+        then it may catch up, and this side serve, over the same connection. `read` and `write` are those of `Replica.catch_up`. A message goes after how
+        many bytes it has, in eight bytes, the lowest first; a reply of more than `limit` bytes is refused. The other bounds are those of
+        `catch_up_steps`. The keys that a message spells may have 64 times its bytes together. All rows that come are held until they are
+        joined, once all came.
 
         EOFError if the peer ends before; what `catch_up_steps`, `read` and `write` raise: rows and tree are then as before, unless it is the
         end that can't be told. What `join` raises."""
         self._settle(rows)
-        came = _wire.ask(self.catch_up_steps(messages=messages), read, write, limit)
+        steps = self.catch_up_steps(messages=messages, session_bytes=session_bytes, session_rows=session_rows)
+        came = _wire.ask(steps, read, write, limit)
         self.join(rows, came)
         _wire.send(write, b"")
         return len(came)
 
-    def serve(self, rows: Rows, read: Read, write: Write, *, limit: int = LIMIT, messages: int = MESSAGES) -> int:
+    def serve(self, rows: Rows, read: Read, write: Write, *, limit: int = LIMIT, messages: int = MESSAGES,
+              session_bytes: int = SESSION_BYTES) -> int:
         """Answers a peer that runs `catch_up`, until it says that it is done or ends, and returns how many questions it was answered. The
         rest is as for `catch_up`, from the other side.
 
-        RefusedError if the peer has other settings, and MalformedError if it sends what is no question, one of more bytes than the limit or
-        more questions than `messages`: it is sent the refusal first, if it is still there. EOFError if it ends within a message; what
-        `answer`, `read` and `write` raise."""
-        return _wire.answer(functools.partial(self._answer, rows), read, write, limit, messages)
+        RefusedError if the peer has other settings, and MalformedError if it sends what is no question, one of more bytes than the limit,
+        more questions than `messages`, or if all messages have more bytes than `session_bytes`: it is sent the refusal first, if it is still
+        there. EOFError if it ends within a message; what `answer`, `read` and `write` raise."""
+        return _wire.answer(functools.partial(self._answer, rows), read, write, limit, messages, _wire.Spent(session_bytes))
 
     async def catch_up_streams(self, rows: Rows, reader: asyncio.StreamReader, writer: asyncio.StreamWriter, *, limit: int = LIMIT,
-                               messages: int = MESSAGES) -> int:
+                               messages: int = MESSAGES, session_bytes: int = SESSION_BYTES, session_rows: int = SESSION_ROWS) -> int:
         """The same as `catch_up`, over the streams of asyncio. The rows are called in threads of the loop's executor, so that the loop waits
         neither for the peer nor for the database. A `join` that has begun goes on in its thread if the task is cancelled."""
         await _in_thread(self._settle, rows)
-        came = await _wire.ask_streams(self.catch_up_steps(messages=messages), reader, writer, limit)
+        steps = self.catch_up_steps(messages=messages, session_bytes=session_bytes, session_rows=session_rows)
+        came = await _wire.ask_streams(steps, reader, writer, limit)
         await _in_thread(self.join, rows, came)
         await _wire.send_stream(writer, b"")
         return len(came)
 
     async def serve_streams(self, rows: Rows, reader: asyncio.StreamReader, writer: asyncio.StreamWriter, *, limit: int = LIMIT,
-                            messages: int = MESSAGES) -> int:
+                            messages: int = MESSAGES, session_bytes: int = SESSION_BYTES) -> int:
         """The same as `serve`, over the streams of asyncio, with the rows called as in `catch_up_streams`."""
-        return await _wire.answer_streams(functools.partial(_in_thread, self._answer, rows), reader, writer, limit, messages)
+        answers = functools.partial(_in_thread, self._answer, rows)
+        return await _wire.answer_streams(answers, reader, writer, limit, messages, _wire.Spent(session_bytes))
 
     def close(self) -> None:
         """Gives the memory back. To close a tree twice does no harm."""
@@ -331,12 +342,14 @@ class SyncTree:
         return status, self._kept(library.mst_sync_message, size)
 
     def _ask(self, mine: object) -> bytes:
-        """Begins a catch-up, and returns its first question."""
+        """Begins a catch-up, and returns its first question, which tells the settings: the key of SipHash by the digest of a key. A tree without
+        keys takes the empty one, as a tree does that has it alone."""
         size = ctypes.c_size_t()
         with self._lock:
             check(library.mst_sync_ask(self._address, ctypes.byref(size)))
             self._under_way = mine
-            return self._kept(library.mst_sync_message, size.value)
+            question = self._kept(library.mst_sync_message, size.value)
+        return question if len(question) > _wire.WITHOUT_KEY else first_question(*self._settings)
 
     def _take(self, mine: object, reply: bytes) -> "Tuple[bytes, List[Row]]":
         """Takes a reply, and returns the next question, or none and the rows that came."""
@@ -380,6 +393,13 @@ class SyncTree:
 
     def __repr__(self) -> str:
         return f"<SyncTree at {self._handle.value:#x}>" if self._handle.value else "<SyncTree, closed>"
+
+
+def first_question(key: bytes, level_base: int, page_format: int) -> bytes:
+    """The first question of a tree with these settings that has the empty key alone."""
+    with SyncTree(key=key, level_base=level_base, page_format=page_format) as tree:
+        tree[b""] = b""
+        return tree._ask(None)
 
 
 # The rows that were looked up for a reply; whether they are all that it needs, and else they are the first of these; and by how many bytes it

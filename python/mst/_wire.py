@@ -2,7 +2,7 @@
 import asyncio
 import contextlib
 import struct
-from typing import Awaitable, Callable, Generator, Optional, Tuple, TypeVar
+from typing import Awaitable, Callable, Generator, Tuple, TypeVar
 
 from ._library import DONE, MALFORMED, OTHER_SETTINGS, REFUSED, MalformedError
 from ._library import check as check_of_tree
@@ -14,9 +14,17 @@ MESSAGES = 1 << 16
 """How many questions one catch-up asks or is answered, where no other number is given. A peer that keeps to the messages needs far fewer
 than a thousand, and one for each further 64 MiB."""
 
+SESSION_BYTES = 1 << 32
+"""How many bytes the messages of one catch-up have together, those that are sent and those that come, where no other number is given."""
+
+SESSION_ROWS = 1 << 26
+"""How many rows one catch-up of a `SyncTree` brings at most, where no other number is given."""
+
 REFUSAL = b"\x01\xff"
 """The message that says that a question was refused."""
 
+# How many bytes the first question of a catch-up has that tells the digest of no key.
+WITHOUT_KEY = 6
 _PIECE = 1 << 16
 _pack = struct.Struct("<Q").pack
 _number = struct.Struct("<Q").unpack_from
@@ -31,6 +39,19 @@ AnswerLater = Callable[[bytes], Awaitable[Tuple[int, bytes]]]
 
 class RefusedError(ValueError):
     """A catch-up was refused by the side that was asked: mostly since the other side has another key of SipHash, level base or page format."""
+
+
+class Spent:
+    """How many bytes the messages of a catch-up had so far, of those that they may have."""
+
+    def __init__(self, most: int) -> None:
+        self._most, self._bytes = most, 0
+
+    def add(self, *messages: bytes) -> None:
+        """Counts messages; MalformedError if all have too many bytes."""
+        self._bytes += sum(map(len, messages))
+        if self._bytes > self._most:
+            raise MalformedError(f"the messages have {self._bytes} bytes together, and the limit is {self._most}")
 
 
 def check(status: int, joined: int = 0) -> None:
@@ -75,45 +96,41 @@ async def ask_streams(steps: "Generator[bytes, bytes, _Came]", reader: asyncio.S
                 return came
 
 
-def answer(answers: Answer, read: Read, write: Write, limit: int, messages: int) -> int:
+def answer(answers: Answer, read: Read, write: Write, limit: int, messages: int, spent: Spent) -> int:
     """Answers a peer until it says that it is done or ends, and returns how many questions it was answered."""
     count = 0
     while True:
         try:
             question = receive(read, limit, may_end=True)
             _check_count(question, count, messages)
-        except MalformedError:
+            if not question:
+                return count
+            status, reply = answers(question)
+            _check_answer(status)
+            spent.add(question, reply)
+        except (MalformedError, RefusedError):
             _refuse(write)
             raise
-        if not question:
-            return count
-        status, reply = answers(question)
-        error = _fault(status)
-        if error:
-            _refuse(write)
-            raise error
         send(write, reply)
         count += 1
 
 
-async def answer_streams(answers: AnswerLater, reader: asyncio.StreamReader, writer: asyncio.StreamWriter, limit: int,
-                         messages: int) -> int:
+async def answer_streams(answers: AnswerLater, reader: asyncio.StreamReader, writer: asyncio.StreamWriter, limit: int, messages: int,
+                         spent: Spent) -> int:
     """The same over the streams of asyncio."""
     count = 0
     while True:
         try:
             question = await receive_stream(reader, limit, may_end=True)
             _check_count(question, count, messages)
-        except MalformedError:
+            if not question:
+                return count
+            status, reply = await answers(question)
+            _check_answer(status)
+            spent.add(question, reply)
+        except (MalformedError, RefusedError):
             await _refuse_stream(writer)
             raise
-        if not question:
-            return count
-        status, reply = await answers(question)
-        error = _fault(status)
-        if error:
-            await _refuse_stream(writer)
-            raise error
         await send_stream(writer, reply)
         count += 1
 
@@ -176,13 +193,12 @@ def _check_count(question: bytes, count: int, messages: int) -> None:
         raise MalformedError(f"the peer isn't done after {messages} questions")
 
 
-def _fault(status: int) -> "Optional[ValueError]":
-    """What is wrong with a question, if the status of the answer says so."""
+def _check_answer(status: int) -> None:
+    """Raises what is wrong with a question, if the status of the answer says so."""
     if status == OTHER_SETTINGS:
-        return RefusedError("the peer has other settings")
+        raise RefusedError("the peer has other settings")
     if status == MALFORMED:
-        return MalformedError("the peer sent what is no question")
-    return None
+        raise MalformedError("the peer sent what is no question")
 
 
 def _refuse(write: Write) -> None:

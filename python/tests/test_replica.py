@@ -188,11 +188,6 @@ class Peers(unittest.TestCase):
             self.assertEqual([type(end) for end in ends], [RefusedError, RefusedError])
             self.assertEqual((dict(ours), dict(theirs)), ({b"a": b"1"}, {b"b": b"2"}))
 
-    def test_one_without_rows_tells_no_key(self):
-        ours, theirs = Replica(key=bytes(range(16))), Replica({b"a": b"1", b"b": b"2"})
-        self.assertEqual((by_steps(ours, theirs.answer)[0], dict(ours)), (2, dict(theirs)))
-        self.assertRaises(RefusedError, by_steps, ours, theirs.answer)
-
     def test_what_is_no_reply(self):
         theirs = Replica((b"%d" % i, b"1") for i in range(300))
         for cut in range(6):

@@ -679,11 +679,6 @@ class Peers(unittest.TestCase):
                 self.assertEqual([type(end) for end in both_ways(ours, theirs)], [RefusedError, RefusedError])
                 self.assertEqual((rows_of(ours), rows_of(theirs)), ({b"a": b"1"}, {b"b": b"2"}))
 
-    def test_one_without_rows_tells_no_key(self):
-        ours, theirs = Side(key=bytes(range(16))), Side({b"a": b"1", b"b": b"2"})
-        self.assertEqual((by_steps(ours, theirs.answer)[0], rows_of(ours)), (2, rows_of(theirs)))
-        self.assertRaises(RefusedError, by_steps, ours, theirs.answer)
-
     def test_what_is_no_reply(self):
         theirs = Replica((b"%d" % i, b"1") for i in range(300))
         for altered in [lambda reply: reply[:-1], lambda reply: reply + b"\0", lambda reply: b"", lambda reply: b"\2" + reply[1:],

@@ -9,6 +9,7 @@ mod list;
 mod node;
 pub mod register;
 pub mod replica;
+mod settings;
 pub mod sync;
 mod sys;
 mod tree;

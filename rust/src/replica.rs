@@ -34,6 +34,7 @@ use crate::{
     builder::PageFormat,
     digest::{siphash::SipHasher, PageDigest, RootHash},
     granted, list,
+    settings::Settings,
     sys::{self, Refused},
     wire::{self, unexpected},
     OutOfMemory,
@@ -60,12 +61,17 @@ pub struct Limits {
     /// How many questions one catch-up asks, or is answered, at most. A peer that keeps to the messages needs far fewer than a thousand, and
     /// one for each further 64 MiB.
     pub messages: usize,
+    /// How many bytes the messages of one catch-up have together at most, those that are sent and those that come.
+    pub session_bytes: u64,
+    /// How many rows one catch-up brings at most: if more come, none is joined. This bounds a [`SyncTree`](crate::kept::SyncTree) alone: a
+    /// [`Replica`] joins what comes within the other bounds.
+    pub session_rows: usize,
 }
 
 impl Default for Limits {
-    /// 2^28 bytes, and 2^16 messages.
+    /// 2^28 bytes, 2^16 messages, and for all of a catch-up 2^32 bytes (4 GiB) and 2^26 rows.
     fn default() -> Self {
-        Self { bytes: 1 << 28, messages: 1 << 16 }
+        Self { bytes: 1 << 28, messages: 1 << 16, session_bytes: 1 << 32, session_rows: 1 << 26 }
     }
 }
 
@@ -185,6 +191,7 @@ pub enum Step {
 /// ```
 pub struct Replica {
     replica: sys::Replica,
+    settings: Settings,
     /// A little more than the bytes of the last list of rows.
     guess: Cell<usize>,
     /// How many catch-ups began.
@@ -201,7 +208,7 @@ impl Default for Replica {
 
 impl Replica {
     /// A replica without rows, with these settings, which are those of a tree ([`Builder`](crate::builder::Builder)). Replicas that catch up
-    /// with each other have all three in common, and refuse others; but one without rows tells no key, and is served under any.
+    /// with each other have all three in common, and refuse others.
     pub fn with_settings(hasher: &SipHasher, level_base: NonZeroU8, page_format: PageFormat) -> Self {
         granted(Self::try_with_settings(hasher, level_base, page_format))
     }
@@ -213,7 +220,8 @@ impl Replica {
         page_format: PageFormat,
     ) -> Result<Self, OutOfMemory> {
         let replica = sys::Replica::new(hasher.key(), level_base.get(), page_format.number())?;
-        Ok(Self { replica, guess: Cell::new(1024), begun: 0 })
+        let settings = Settings { hasher: hasher.clone(), level_base, page_format };
+        Ok(Self { replica, settings, guess: Cell::new(1024), begun: 0 })
     }
 
     /// Joins a value at a key: where there is one, the greater of both stays. A new key takes time in proportion to the rows after it, at a
@@ -276,7 +284,7 @@ impl Replica {
     pub fn ask(&mut self) -> Result<Vec<u8>, Fault> {
         let question = self.replica.ask()?;
         self.begun += 1;
-        Ok(question)
+        Ok(self.settings.told(question)?)
     }
 
     /// Takes the reply to the question that was asked last: any bytes may be given. The rows that come are joined at the end, all at once;
@@ -370,9 +378,13 @@ pub(crate) fn asking<E: From<io::Error>>(
     mut question: Vec<u8>,
     mut take: impl FnMut(&[u8]) -> Result<Step, E>,
 ) -> Result<usize, E> {
+    let mut left = limits.session_bytes;
     for _ in 0..limits.messages {
         wire::send(connection, &question)?;
-        match take(&wire::take(connection, limits.bytes)?)? {
+        left = less(left, question.len())?;
+        let reply = wire::take(connection, limits.bytes.min(left))?;
+        left = less(left, reply.len())?;
+        match take(&reply)? {
             Step::Ask(next) => question = next,
             Step::Joined(came) => {
                 wire::send(connection, &[])?;
@@ -414,13 +426,16 @@ pub(crate) fn answering<E: From<io::Error>>(
     mut answer: impl FnMut(&[u8]) -> Result<Vec<u8>, E>,
     is_refused: impl Fn(&E) -> bool,
 ) -> Result<usize, E> {
-    let mut answered = 0;
+    let (mut answered, mut left) = (0, limits.session_bytes);
     loop {
-        let reply = match wire::take_or_end(connection, limits.bytes) {
+        let reply = match wire::take_or_end(connection, limits.bytes.min(left)) {
             Ok(None) => return Ok(answered),
             Ok(Some(question)) if question.is_empty() => return Ok(answered),
             Ok(Some(_)) if answered == limits.messages => Err(unexpected(TOO_MANY).into()),
-            Ok(Some(question)) => answer(&question),
+            Ok(Some(question)) => answer(&question).and_then(|reply| {
+                left = less(left, question.len() + reply.len())?;
+                Ok(reply)
+            }),
             Err(error) => Err(error.into()),
         };
         match reply {
@@ -437,7 +452,14 @@ pub(crate) fn answering<E: From<io::Error>>(
     }
 }
 
+/// What is left of the bytes of a session after a message.
+fn less(left: u64, bytes: usize) -> io::Result<u64> {
+    left.checked_sub(bytes as u64).ok_or_else(|| unexpected(TOO_LONG))
+}
+
 const TOO_MANY: &str = "the peer isn't done after as many questions as the limit allows";
+const TOO_LONG: &str = "the messages have more bytes together than the limit allows";
+pub(crate) const TOO_MANY_ROWS: &str = "more rows came than the limit allows";
 
 /// All rows are taken first, and put in the order of their keys, which is the fast one.
 impl<K: AsRef<[u8]>, V: AsRef<[u8]>> Extend<(K, V)> for Replica {

@@ -122,8 +122,10 @@ use crate::{
     builder::PageFormat,
     digest::{siphash::SipHasher, Digest, PageDigest, RootHash, ValueDigest},
     granted, list,
-    replica::{self, answering, asking, Fault, Limits, Step},
+    replica::{self, answering, asking, Fault, Limits, Step, TOO_MANY_ROWS},
+    settings::Settings,
     sys::{self, Answered, Refused},
+    wire::unexpected,
     NotAscending, OutOfMemory,
 };
 use std::{
@@ -432,19 +434,6 @@ pub struct SyncTree {
     begun: u64,
 }
 
-struct Settings {
-    hasher: SipHasher,
-    level_base: NonZeroU8,
-    page_format: PageFormat,
-}
-
-impl Settings {
-    /// A side without keys.
-    fn side(&self) -> Result<sys::Side, OutOfMemory> {
-        sys::Side::new(self.hasher.key(), self.level_base.get(), self.page_format.number())
-    }
-}
-
 impl Default for SyncTree {
     /// A tree without keys, under the zero key of SipHash, with level base 16 and page format 1.
     fn default() -> Self {
@@ -455,7 +444,7 @@ impl Default for SyncTree {
 
 impl SyncTree {
     /// A tree without keys, with these settings. Peers have all three in common, as [replicas](crate::replica::Replica::with_settings) do, and
-    /// refuse others; but a tree without keys tells no key of SipHash, and is served under any.
+    /// refuse others.
     pub fn with_settings(hasher: &SipHasher, level_base: NonZeroU8, page_format: PageFormat) -> Self {
         granted(Self::try_with_settings(hasher, level_base, page_format))
     }
@@ -533,11 +522,12 @@ impl SyncTree {
         RootHash::new(PageDigest::new(self.side.root_hash()))
     }
 
-    /// Begins a catch-up, in place of one that is under way, and returns its first question. It counts the keys.
+    /// Begins a catch-up, in place of one that is under way, and returns its first question, by which the peer sees the settings. It counts the
+    /// keys.
     pub fn ask(&mut self) -> Result<Vec<u8>, Fault> {
         let question = self.side.ask()?;
         self.begun += 1;
-        Ok(question)
+        Ok(self.settings.told(question)?)
     }
 
     /// Takes the reply to the question that was asked last: any bytes may be given. The tree stays as it is, also at the end: set it to what
@@ -688,8 +678,19 @@ fn find_in<R: Rows + ?Sized>(range: Range<'_>, rows: &mut R, found: &mut Found) 
 /// Takes the reply to the question that was asked last by [`SyncTree::ask`] or by this call. At the end it joins the rows that came, and sets the
 /// tree to them.
 pub fn take<R: Rows + ?Sized>(tree: &mut SyncTree, rows: &mut R, reply: &[u8]) -> Result<Step, Failed<R::Error>> {
+    take_within(usize::MAX, tree, rows, reply)
+}
+
+/// The same if no more rows than this came; else none is joined.
+fn take_within<R: Rows + ?Sized>(
+    most: usize,
+    tree: &mut SyncTree,
+    rows: &mut R,
+    reply: &[u8],
+) -> Result<Step, Failed<R::Error>> {
     match tree.take(reply)? {
         Next::Ask(question) => Ok(Step::Ask(question)),
+        Next::Came(came) if came.len() > most => Err(unexpected(TOO_MANY_ROWS).into()),
         Next::Came(came) => {
             if !came.is_empty() {
                 tree.extend(rows.join(&came).map_err(Failed::Rows)?);
@@ -722,7 +723,7 @@ pub fn catch_up_within<R: Rows + ?Sized>(
     connection: &mut (impl Read + Write),
 ) -> Result<usize, Failed<R::Error>> {
     let question = tree.ask()?;
-    let caught_up = asking(limits, connection, question, |reply| take(tree, rows, reply));
+    let caught_up = asking(limits, connection, question, |reply| take_within(limits.session_rows, tree, rows, reply));
     if caught_up.is_err() {
         // No bytes are a reply to no question: what came of a catch-up that is still under way is let go.
         let _ = tree.take(&[]);
@@ -799,7 +800,7 @@ pub fn catch_up_by<R: Rows, L: DerefMut<Target = (SyncTree, R)>>(
         let mut both = lock();
         let (tree, rows) = &mut *both;
         if tree.begun == mine {
-            take(tree, rows, reply)
+            take_within(limits.session_rows, tree, rows, reply)
         } else {
             Err(Fault::NotAsking.into())
         }

@@ -188,16 +188,6 @@ fn other_settings_are_refused() {
     }
 }
 
-#[test]
-fn one_without_rows_tells_no_key() {
-    let sixteen = NonZeroU8::new(16).unwrap();
-    let (mut ours, mut theirs) =
-        (Replica::with_settings(&SipHasher::new(b"a key of SipHash"), sixteen, PageFormat::V1), of(3));
-    assert_eq!(by_steps(&mut ours, |question| theirs.answer(question)).unwrap().0, 100);
-    assert_eq!(model(&ours), model(&theirs));
-    assert_eq!(by_steps(&mut ours, |question| theirs.answer(question)), Err(Fault::Refused));
-}
-
 /// What a peer says in a catch-up.
 fn said(asking: &mut Replica, peer: &mut Replica) -> Vec<Vec<u8>> {
     let mut said = Vec::new();
@@ -290,7 +280,7 @@ fn peers_that_go_on() {
 fn messages_that_are_altered() {
     let mut said = said(&mut of(2), &mut of(3));
     let (mut draw, mut ends, before) = (draws(11), BTreeSet::new(), every(2));
-    let limits = Limits { bytes: 1 << 20, messages: 50 };
+    let limits = Limits { bytes: 1 << 20, messages: 50, ..Limits::default() };
     for _ in 0..3000 {
         let message = draw(said.len() as u64) as usize;
         let kept = said[message].clone();

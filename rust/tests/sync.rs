@@ -668,18 +668,6 @@ fn other_settings_are_refused() {
     }
 }
 
-#[test]
-fn one_without_keys_tells_no_key_of_siphash() {
-    let sixteen = NonZeroU8::new(16).unwrap();
-    let other = SyncTree::with_settings(&SipHasher::new(b"a key of SipHash"), sixteen, PageFormat::V1);
-    let (mut ours, mut theirs) = ((other, Model::new()), of(3));
-    let mut answered = |question: &[u8]| answer(&mut theirs.0, &mut theirs.1, question).ok();
-    assert_eq!(by_steps(&mut ours, &mut answered).unwrap().0, 100);
-    assert_eq!(ours.1, every(3));
-    let refused = by_steps(&mut ours, answered).unwrap_err();
-    assert!(matches!(refused, Failed::Io(error) if error.kind() == ErrorKind::InvalidData));
-}
-
 /// What a peer says in a catch-up.
 fn said(asking: &mut Store, peer: &mut Store) -> Vec<Vec<u8>> {
     let mut said = Vec::new();
@@ -793,7 +781,7 @@ fn limits() {
 fn messages_that_are_altered() {
     let mut said = said(&mut of(2), &mut of(3));
     let (mut draw, mut ends, before) = (draws(11), BTreeSet::new(), every(2));
-    let limits = Limits { bytes: 1 << 20, messages: 50 };
+    let limits = Limits { bytes: 1 << 20, messages: 50, ..Limits::default() };
     let (mut other, mut ours) = (of(3), of(2));
     for _ in 0..3000 {
         let message = draw(said.len() as u64) as usize;
