@@ -6,6 +6,7 @@ import asyncio
 import contextlib
 import ctypes
 import functools
+import heapq
 import itertools
 import os.path
 import struct
@@ -13,6 +14,7 @@ import threading
 from typing import Any, Callable, Dict, Generator, Iterable, Iterator, List, NoReturn, Optional, Protocol, Set, Tuple
 
 from . import _wire
+from ._keys import keys_in
 from ._library import ABSENT, MALFORMED, NEEDS_ROWS, OTHER_SETTINGS, MalformedError, library, written
 from ._ranges import _entries
 from ._wire import LIMIT, MESSAGES, SESSION_BYTES, SESSION_ROWS, Read, Write, check
@@ -115,12 +117,8 @@ class SyncTree:
         as after a restore of the database. `join` and `refresh` wait meanwhile; write by no other means. A catch-up that is under way ends
         with ValueError. If the scan fails, or its keys don't ascend (ValueError), the tree is as before. It takes a few microseconds a row,
         and never holds more than one row."""
-        sip_key, level_base, page_format = self._settings
         with self._writing:
-            fresh = SyncTree(key=sip_key, level_base=level_base, page_format=page_format)
-            with contextlib.closing(_scanned(rows, b"", None)) as found:
-                for key, value in found:
-                    fresh[key] = value
+            fresh = self._loaded(rows)
             with self._lock:
                 if not self._handle.value:
                     raise ValueError("the tree is closed")
@@ -129,8 +127,45 @@ class SyncTree:
                 self._under_way = None
             self._unsure = set()
 
+    def _loaded(self, rows: Rows) -> "SyncTree":
+        """Another tree, of all rows and with these settings."""
+        sip_key, level_base, page_format = self._settings
+        fresh = SyncTree(key=sip_key, level_base=level_base, page_format=page_format)
+        with contextlib.closing(_scanned(rows, b"", None)) as found:
+            for key, value in found:
+                fresh[key] = value
+        return fresh
+
+    def verify(self, rows: Rows) -> "List[bytes]":
+        """The keys at which the tree isn't that of the rows, in their order; none if it is in step. They are those of rows that the tree lacks or
+        has with another digest, and those of the tree that have no row: `refresh` them, or `load` the tree anew. `join` and `refresh` wait
+        meanwhile; write by no other means.
+
+        It makes another tree by one scan, and compares root hashes. Only if these differ does it go over the keys of both. What `load`
+        raises."""
+        with self._writing, self._loaded(rows) as fresh:
+            if fresh.root_hash() == self.root_hash():
+                return []
+            keys = heapq.merge(keys_in(fresh._told, b"", None), keys_in(self._told, b"", None))
+            return [key for key, _ in itertools.groupby(keys) if fresh.get_digest(key) != self.get_digest(key)]
+
+    def rescan(self, rows: Rows, first: bytes = b"", end: "Optional[bytes]" = None) -> None:
+        """Sets the tree to the rows with first <= key < end, or all with first <= key if the end is None, as they are, by one scan of them, and
+        takes out the keys there that have no row: after another program wrote or deleted some of them. `join` and `refresh` wait meanwhile; write
+        there by no other means. If it raises, the tree has some of these rows as they are and the others as they were: call it again."""
+        if not (isinstance(first, bytes) and isinstance(end, (bytes, type(None)))):
+            raise TypeError("keys are bytes")
+        with self._writing:
+            gone = set(keys_in(self._told, first, end))
+            with contextlib.closing(_scanned(rows, first, end)) as found:
+                for key, value in found:
+                    self[key] = value
+                    gone.discard(key)
+            for key in gone:
+                self.discard(key)
+
     def join(self, rows: Rows, came: "Iterable[Row]") -> None:
-        """Joins rows with those that are there, by their own `join`, and sets the tree to what they then are: so `catch_up` does with what came,
+        """Joins rows with those that are kept, by their own `join`, and sets the tree to what they then are: so `catch_up` does with what came,
         and so a program writes. Each key comes once (ValueError). Another `join` or `refresh` waits meanwhile.
 
         If it raises, the rows say what was written. The tree is brought to it before it is next given rows, except by `join`."""
@@ -335,6 +370,13 @@ class SyncTree:
             if status == NEEDS_ROWS:
                 raise RuntimeError("a reply needs more rows than were looked up for it")
             return self._kept_reply(status, size.value)
+
+    def _told(self, question: bytes) -> bytes:
+        """The reply to a question that needs no rows."""
+        size = ctypes.c_size_t()
+        with self._lock:
+            check(library.mst_sync_answer(self._address, question, len(question), ctypes.byref(size), ctypes.byref(ctypes.c_size_t())))
+            return self._kept(library.mst_sync_message, size.value)
 
     def _kept_reply(self, status: int, size: int) -> "Tuple[int, bytes]":
         if status not in (MALFORMED, OTHER_SETTINGS):

@@ -5,6 +5,7 @@ pub mod builder;
 pub mod bytes;
 pub mod diff;
 pub mod digest;
+mod keys;
 mod list;
 mod node;
 pub mod register;

@@ -55,7 +55,7 @@
 //! | The program ends between the commit and the tree | The next start loads the tree from the rows |
 //! | The connection is lost after the commit | An error, since the peer can't be told of the end. The rows are joined and the tree is set |
 //! | [`Rows::value`] or [`Rows::rows_in`] fails | [`Failed::Rows`]. The peer gets no reply; rows and tree are as before |
-//! | Another program writes rows | Neither the tree nor peers know of them until [`SyncTree::load`], or [`SyncTree::set`] of their keys |
+//! | Another program writes or deletes rows | Neither the tree nor peers know of it until [`SyncTree::rescan`] of a range or [`SyncTree::load`]. [`SyncTree::verify`] names the keys |
 //!
 //! # Without a connection, and under tokio
 //!
@@ -121,7 +121,9 @@
 use crate::{
     builder::PageFormat,
     digest::{siphash::SipHasher, Digest, PageDigest, RootHash, ValueDigest},
-    granted, list,
+    granted,
+    keys::keys_in,
+    list,
     replica::{self, answering, asking, Fault, Limits, Step, TOO_MANY_ROWS},
     settings::Settings,
     sys::{self, Answered, Refused},
@@ -129,7 +131,7 @@ use crate::{
     NotAscending, OutOfMemory,
 };
 use std::{
-    collections::BTreeMap,
+    collections::{BTreeMap, BTreeSet},
     convert::Infallible,
     error::Error,
     fmt,
@@ -207,6 +209,11 @@ pub struct Range<'a> {
     pub first: &'a [u8],
     /// The key below which the others are, if there is one; it is above `first`.
     pub end: Option<&'a [u8]>,
+}
+
+impl Range<'_> {
+    /// The range of all keys.
+    pub const ALL: Self = Self { first: &[], end: None };
 }
 
 impl RangeBounds<[u8]> for Range<'_> {
@@ -465,12 +472,47 @@ impl SyncTree {
     /// for each, on a new tree.
     pub fn load<R: Rows + ?Sized>(&mut self, rows: &mut R) -> Result<(), R::Error> {
         let mut side = granted(self.settings.side());
-        rows.rows_in(Range { first: &[], end: None }, &mut |key, value| {
+        rows.rows_in(Range::ALL, &mut |key, value| {
             granted(side.set(key, value));
             true
         })?;
         self.side = side;
         Ok(())
+    }
+
+    /// Sets the tree to the rows in a range as they are, by one scan of them, and takes out the keys there that have no row: after another program
+    /// wrote or deleted some of them. If it fails, the tree has some of these rows as they are and the others as they were: call it again.
+    pub fn rescan<R: Rows + ?Sized>(&mut self, rows: &mut R, range: Range<'_>) -> Result<(), R::Error> {
+        let mut gone: BTreeSet<Vec<u8>> = granted(keys_in(&mut self.side, range)).into_iter().collect();
+        let side = &mut self.side;
+        rows.rows_in(range, &mut |key, value| {
+            granted(side.set(key, value));
+            gone.remove(key);
+            true
+        })?;
+        for key in gone {
+            self.remove(key);
+        }
+        Ok(())
+    }
+
+    /// The keys at which the tree isn't that of the rows, in their order; none if it is in step. They are those of rows that the tree lacks or has
+    /// with another digest, and those of the tree that have no row: set or remove each, or [`SyncTree::load`] the tree anew.
+    ///
+    /// It makes another tree by one scan, and compares root hashes. Only if these differ does it go over the keys of both.
+    pub fn verify<R: Rows + ?Sized>(&mut self, rows: &mut R) -> Result<Vec<Vec<u8>>, R::Error> {
+        let Settings { hasher, level_base, page_format } = &self.settings;
+        let mut fresh = Self::with_settings(hasher, *level_base, *page_format);
+        fresh.load(rows)?;
+        if fresh.root_hash() == self.root_hash() {
+            return Ok(Vec::new());
+        }
+        let mut keys = granted(keys_in(&mut fresh.side, Range::ALL));
+        keys.extend(granted(keys_in(&mut self.side, Range::ALL)));
+        keys.sort_unstable();
+        keys.dedup();
+        keys.retain(|key| fresh.digest(key) != self.digest(key));
+        Ok(keys)
     }
 
     /// Sets a key to the digest of a value, which isn't kept: after each commit, to the value that the row now has.
