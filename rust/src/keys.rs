@@ -1,7 +1,7 @@
 //! The keys that a tree of digests has in a range, from its own replies to the questions of docs/WIRE.md by which a peer goes down it: `mst_sync.h`
 //! has no call that lists them.
 use crate::{
-    kept::Range,
+    sync::Range,
     sys::{Answered, Refused, Side},
     OutOfMemory,
 };

@@ -63,7 +63,7 @@ pub struct Limits {
     pub messages: usize,
     /// How many bytes the messages of one catch-up have together at most, those that are sent and those that come.
     pub session_bytes: u64,
-    /// How many rows one catch-up brings at most: if more come, none is joined. This bounds a [`SyncTree`](crate::kept::SyncTree) alone: a
+    /// How many rows one catch-up brings at most: if more come, none is joined. This bounds a [`SyncTree`](crate::sync::SyncTree) alone: a
     /// [`Replica`] joins what comes within the other bounds.
     pub session_rows: usize,
 }

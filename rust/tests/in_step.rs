@@ -2,8 +2,8 @@
 use merkle_search_tree::{
     builder::PageFormat,
     digest::siphash::SipHasher,
-    kept::{answer, Came, Give, Next, Range, Row, Rows, SyncTree},
     replica::Replica,
+    sync::{answer, Came, Give, Next, Range, Row, Rows, SyncTree},
 };
 use std::{collections::BTreeMap, num::NonZeroU8};
 

@@ -3,8 +3,8 @@
 use merkle_search_tree::{
     builder::PageFormat,
     digest::siphash::SipHasher,
-    sync::{answer, catch_up, catch_up_within, serve, serve_within, take, Failed, SyncTree},
     replica::{Fault, Limits, Replica, Step, REFUSAL},
+    sync::{answer, catch_up, catch_up_within, serve, serve_within, take, Failed, SyncTree},
 };
 use std::{
     collections::BTreeMap,
