@@ -71,8 +71,7 @@ class RegisterTree:
     __slots__ = ("_tree", "__weakref__")
 
     def __init__(self, rows: "Optional[RegisterRows]" = None, *, hash_key: bytes) -> None:
-        """The tree of these rows, by `load`. All peers have one hash key, of 16 bytes: `bytes.fromhex` of what `mst hash-key FILE` prints. A tree
-        without keys is served under any, once."""
+        """The tree of these rows, by `load`. All peers have one hash key, of 16 bytes: `bytes.fromhex` of what `mst hash-key FILE` prints."""
         self._tree = SyncTree(key=hash_key, page_format=2)
         if rows is not None:
             self.load(rows)

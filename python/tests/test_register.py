@@ -8,8 +8,8 @@ import socket
 import time
 import unittest
 
-from mst import MOST_TEXT, REFUSAL, MalformedError, RefusedError, Register, RegisterTree, SyncTree, UntakenError
-from mst._register import with_byte_strings, with_registers
+from mst import MOST_TEXT, REFUSAL, HeldReplica, MalformedError, RefusedError, Register, RegisterTree, SyncTree, UntakenError
+from mst._register import of_hashed_bytes, with_byte_strings, with_registers
 
 from .test_replica import by_steps, in_threads, said_by
 
@@ -162,6 +162,24 @@ class CatchUps(unittest.TestCase):
             self.assertEqual(left.tree.root_hash(), right.tree.root_hash())
             self.assertEqual(left.tree.root_hash(), Side(left.rows.table).tree.root_hash())
 
+    def test_a_peer_whose_rows_are_at_hand(self):
+        """As a store has them: it replies with rows, and with pages over others. A replica of the bytes that are hashed is such a peer."""
+        for seed in range(20):
+            draw = random.Random(seed)
+            size, differing = draw.choice([(40, 9), (3000, 30), (3000, 3000)])
+            common = {"key%04d" % number: drawn_register(draw, draw.choice([3, 40])) for number in range(size)}
+            changed = {"key%04d" % draw.randrange(size): drawn_register(draw) for _ in range(differing)}
+            ours, theirs = Side(common), HeldReplica(key=KEY, page_format=2)
+            for key, register in {**common, **changed}.items():
+                theirs.put(key.encode(), register.hashed_bytes())
+            self.assertEqual(by_steps(ours, lambda question: with_registers(theirs.answer(question)))[0],
+                             sum(common[key] != register for key, register in changed.items()))
+            self.assertEqual(ours.rows.table, joined(common, changed))
+            asking = HeldReplica(key=KEY, page_format=2)
+            by_steps(asking, lambda question: with_byte_strings(ours.answer(question)))
+            self.assertEqual({key.decode(): of_hashed_bytes(value) for key, value in asking.items()}, ours.rows.table)
+            self.assertEqual(asking.root_hash(), ours.tree.root_hash())
+
     def test_over_a_connection(self):
         left, right = Side(OURS), Side(THEIRS)
         ours, theirs = socket.socketpair()
@@ -223,6 +241,7 @@ class Peers(unittest.TestCase):
                 ends = in_threads(lambda: ours.catch_up(pair[0].recv, pair[0].sendall), lambda: theirs.serve(pair[1].recv, pair[1].sendall))
             self.assertEqual([type(end) for end in ends], [RefusedError, RefusedError])
             self.assertEqual((ours.rows.table, theirs.rows.table), (OURS, THEIRS))
+        self.assertRaises(RefusedError, by_steps, Side({}, bytes(16)), Side(THEIRS).answer)
 
     def test_a_peer_that_asks_for_a_delta(self):
         side = Side(THEIRS)

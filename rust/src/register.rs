@@ -354,7 +354,7 @@ fn tree_of(hasher: &SipHasher) -> SyncTree {
 }
 
 impl RegisterTree {
-    /// A tree without keys. Peers have one hash key, and refuse others; but a tree without keys tells none, and is served under any, once.
+    /// A tree without keys. Peers have one hash key, and refuse others, also of a tree without keys.
     pub fn new(hasher: &SipHasher) -> Self {
         Self { tree: tree_of(hasher), hasher: hasher.clone(), begun: 0 }
     }

@@ -407,6 +407,9 @@ fn another_hash_key() {
         assert_eq!(fault_of(&error), Some(&Fault::Refused));
         assert_eq!(fault_of(&peer.join().unwrap().unwrap_err()), Some(&Fault::OtherSettings));
         assert_eq!(rows, ours());
+        let (mut empty, mut peer) = (side_under(keys[0], &Table::new()), side_under(keys[1], &theirs()));
+        let question = empty.0.ask().unwrap();
+        assert!(answer(&mut peer.0, &mut peer.1, &question).is_err());
     }
 }
 
