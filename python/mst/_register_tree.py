@@ -12,7 +12,7 @@ from . import _wire
 from ._library import DONE, MALFORMED, MalformedError
 from ._register import Register, milliseconds, of_hashed_bytes, with_byte_strings, with_registers
 from ._sync_tree import SyncTree, _in_thread
-from ._wire import LIMIT, MESSAGES, REFUSAL, Read, Write
+from ._wire import LIMIT, MESSAGES, REFUSAL, SESSION_BYTES, SESSION_ROWS, Read, Write
 
 MOST_TEXT = 1 << 20
 """How many bytes a key, a writer's name and a value have at most, each: `mst` takes nothing from a peer that sends a longer one."""
@@ -114,13 +114,14 @@ class RegisterTree:
         for a delta, the reply is `REFUSAL`, which is to be sent too: after the refusal of a delta `mst` asks without one."""
         return self._answer(rows, question)[1]
 
-    def catch_up_steps(self, *, messages: int = MESSAGES, latest: "Optional[int]" = None) -> Steps:
+    def catch_up_steps(self, *, messages: int = MESSAGES, session_bytes: int = SESSION_BYTES, session_rows: int = SESSION_ROWS,
+                       latest: "Optional[int]" = None) -> Steps:
         """A catch-up step by step, for a transport of one's own: it yields each question, whole, is sent the reply to it, and returns the rows that
         came, in the order of their keys. Then give them to `join`: until then nothing changes.
 
         It raises what `SyncTree.catch_up_steps` does; MalformedError also if a key or a register that came is none. UntakenError if a key, a writer
         or a value has more than `MOST_TEXT` bytes, or a time is after `latest`, which is a day ahead of the clock if none is given."""
-        steps = self._tree.catch_up_steps(messages=messages)
+        steps = self._tree.catch_up_steps(messages=messages, session_bytes=session_bytes, session_rows=session_rows)
         with contextlib.closing(steps):
             question = next(steps)
             while True:
@@ -133,34 +134,39 @@ class RegisterTree:
         return _taken(came, milliseconds() + _DAY if latest is None else latest)
 
     def catch_up(self, rows: RegisterRows, read: Read, write: Write, *, limit: int = LIMIT, messages: int = MESSAGES,
-                 latest: "Optional[int]" = None) -> int:
+                 session_bytes: int = SESSION_BYTES, session_rows: int = SESSION_ROWS, latest: "Optional[int]" = None) -> int:
         """Brings the rows of a peer that runs `serve` or `mst serve` over a connection, joins them, and returns how many came. At the end the peer is
         told so: then it may catch up, and this side serve, over the same connection, as with `mst serve --both`. The rest is as for a `SyncTree`,
         with the errors of `catch_up_steps`."""
         self.refresh(rows)
-        came = _wire.ask(self.catch_up_steps(messages=messages, latest=latest), read, write, limit)
+        steps = self.catch_up_steps(messages=messages, session_bytes=session_bytes, session_rows=session_rows, latest=latest)
+        came = _wire.ask(steps, read, write, limit)
         self.join(rows, came)
         _wire.send(write, b"")
         return len(came)
 
-    def serve(self, rows: RegisterRows, read: Read, write: Write, *, limit: int = LIMIT, messages: int = MESSAGES) -> int:
+    def serve(self, rows: RegisterRows, read: Read, write: Write, *, limit: int = LIMIT, messages: int = MESSAGES,
+              session_bytes: int = SESSION_BYTES) -> int:
         """Answers a peer that runs `catch_up` or `mst pull`, until it says that it is done or ends, and returns how many questions it was answered;
         those that asked for a delta count too. After `mst pull --both` call `catch_up`. The rest is as for a `SyncTree`."""
-        return _wire.answer(functools.partial(self._answer, rows), read, write, limit, messages)
+        return _wire.answer(functools.partial(self._answer, rows), read, write, limit, messages, _wire.Spent(session_bytes))
 
     async def catch_up_streams(self, rows: RegisterRows, reader: asyncio.StreamReader, writer: asyncio.StreamWriter, *, limit: int = LIMIT,
-                               messages: int = MESSAGES, latest: "Optional[int]" = None) -> int:
+                               messages: int = MESSAGES, session_bytes: int = SESSION_BYTES, session_rows: int = SESSION_ROWS,
+                               latest: "Optional[int]" = None) -> int:
         """The same as `catch_up`, over the streams of asyncio. The rows are called in threads, as by a `SyncTree`."""
         await _in_thread(self.refresh, rows)
-        came = await _wire.ask_streams(self.catch_up_steps(messages=messages, latest=latest), reader, writer, limit)
+        steps = self.catch_up_steps(messages=messages, session_bytes=session_bytes, session_rows=session_rows, latest=latest)
+        came = await _wire.ask_streams(steps, reader, writer, limit)
         await _in_thread(self.join, rows, came)
         await _wire.send_stream(writer, b"")
         return len(came)
 
     async def serve_streams(self, rows: RegisterRows, reader: asyncio.StreamReader, writer: asyncio.StreamWriter, *, limit: int = LIMIT,
-                            messages: int = MESSAGES) -> int:
+                            messages: int = MESSAGES, session_bytes: int = SESSION_BYTES) -> int:
         """The same as `serve`, over the streams of asyncio, with the rows called as in `catch_up_streams`."""
-        return await _wire.answer_streams(functools.partial(_in_thread, self._answer, rows), reader, writer, limit, messages)
+        answer = functools.partial(_in_thread, self._answer, rows)
+        return await _wire.answer_streams(answer, reader, writer, limit, messages, _wire.Spent(session_bytes))
 
     def close(self) -> None:
         """Gives the memory back. To close a tree twice does no harm."""

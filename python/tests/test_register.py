@@ -8,7 +8,7 @@ import socket
 import time
 import unittest
 
-from mst import MOST_TEXT, REFUSAL, HeldReplica, MalformedError, RefusedError, Register, RegisterTree, SyncTree, UntakenError
+from mst import MOST_TEXT, REFUSAL, Replica, MalformedError, RefusedError, Register, RegisterTree, SyncTree, UntakenError
 from mst._register import of_hashed_bytes, with_byte_strings, with_registers
 
 from .test_replica import by_steps, in_threads, said_by
@@ -169,13 +169,13 @@ class CatchUps(unittest.TestCase):
             size, differing = draw.choice([(40, 9), (3000, 30), (3000, 3000)])
             common = {"key%04d" % number: drawn_register(draw, draw.choice([3, 40])) for number in range(size)}
             changed = {"key%04d" % draw.randrange(size): drawn_register(draw) for _ in range(differing)}
-            ours, theirs = Side(common), HeldReplica(key=KEY, page_format=2)
+            ours, theirs = Side(common), Replica(key=KEY, page_format=2)
             for key, register in {**common, **changed}.items():
                 theirs.put(key.encode(), register.hashed_bytes())
             self.assertEqual(by_steps(ours, lambda question: with_registers(theirs.answer(question)))[0],
                              sum(common[key] != register for key, register in changed.items()))
             self.assertEqual(ours.rows.table, joined(common, changed))
-            asking = HeldReplica(key=KEY, page_format=2)
+            asking = Replica(key=KEY, page_format=2)
             by_steps(asking, lambda question: with_byte_strings(ours.answer(question)))
             self.assertEqual({key.decode(): of_hashed_bytes(value) for key, value in asking.items()}, ours.rows.table)
             self.assertEqual(asking.root_hash(), ours.tree.root_hash())
