@@ -15,7 +15,7 @@ fn reply(alloc: Global, changed: usize) -> Result<Vec<u8>, AllocError> {
     let mut state: u32 = 12_345;
     for place in 0..BYTES {
         state = state.wrapping_mul(1_103_515_245).wrapping_add(12_345);
-        let byte = (state >> 16) as u8;
+        let [_, _, byte, _] = state.to_le_bytes();
         bytes.push(if place == changed { byte ^ 1 } else { byte })?;
     }
     Ok(bytes)
@@ -25,9 +25,10 @@ fn reply(alloc: Global, changed: usize) -> Result<Vec<u8>, AllocError> {
 fn is_heard(alloc: Global, own: Option<Vec<u8>>, changed: usize) -> Result<bool, Fail> {
     let question = Vec::from_slice(alloc, &QUESTION)?;
     let plain = reply(alloc, changed)?;
-    match carried(alloc, &mut Deltas::new(), own, question, plain)? {
-        (Heard::Reply(heard), is_sure) => Ok(is_sure && heard == reply(alloc, changed)?),
-        (Heard::Again(_), _) => Ok(false),
+    let (heard, is_sure) = carried(alloc, &mut Deltas::new(), own, question, plain)?;
+    match heard {
+        Heard::Reply(heard) => Ok(is_sure && heard == reply(alloc, changed)?),
+        Heard::Again(_) => Ok(false),
     }
 }
 
