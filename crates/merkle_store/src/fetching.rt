@@ -199,7 +199,7 @@ fn expect_fit(alloc: Global, entries: &[(String, Register)], latest: u64) -> Res
 /// among the rows by halving.
 ///
 /// ```rust crates/mst/src/peers.rt
-/// let terms = terms_of(rt, given)?;
+/// let terms = terms_of(rt, limits)?;
 /// let mut lines = lines_of(rt);
 /// let fetched = fetch(
 ///     rt.alloc(),

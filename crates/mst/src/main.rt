@@ -12,10 +12,10 @@ mod tasks;
 
 use fault::Failure;
 use mst_commands::escape::escape;
-use mst_files::making::make_backup;
+use mst_files::making::{make_backup, make_store};
 use mst_words::help::HELP;
 use mst_words::verb::{VERSION, form_of};
-use mst_words::{Asked, Given, Verb, Wrong, read_words};
+use mst_words::{Asked, Command, Task, Wrong, read_words};
 use status::{USAGE, status_of};
 use std::alloc::AllocError;
 use std::env;
@@ -52,14 +52,37 @@ fn show(rt: &HostRuntime, text: &str) -> ExitCode {
 }
 
 /// Makes a backup of a file. What fails names the file that it is about.
-fn back_up(rt: &HostRuntime, file: &str, given: &Given<'_>) -> ExitCode {
-    let (note, entries) = match tasks::read_whole(rt, file, tasks::patience(given)) {
+fn back_up(rt: &HostRuntime, path: &str, seconds: u64, target: &str) -> ExitCode {
+    let (note, entries) = match tasks::read_whole(rt, path, seconds) {
         Ok(whole) => whole,
-        Err(failure) => return failed_on(rt, file, &failure),
+        Err(failure) => return failed_on(rt, path, &failure),
     };
-    match make_backup(rt, given.target, &note.hash_key, &entries) {
+    match make_backup(rt, target, &note.hash_key, &entries) {
         Ok(()) => ExitCode::SUCCESS,
-        Err(fault) => failed_on(rt, given.target, &Failure::from(fault)),
+        Err(fault) => failed_on(rt, target, &Failure::from(fault)),
+    }
+}
+
+/// How many seconds a command waits for a file that another process has, unless it says otherwise.
+const PATIENCE: u64 = 5;
+
+/// Runs a command on its file.
+fn run_task(rt: &HostRuntime, task: &Task<'_>) -> ExitCode {
+    let (path, seconds) = (task.file, task.wait.unwrap_or(PATIENCE));
+    let done = match task.command {
+        Command::Init { writer, hash_key } => {
+            make_store(rt, path, writer, hash_key).map_err(Failure::File)
+        }
+        Command::Store(command) => tasks::run(rt, path, seconds, command),
+        Command::Shell { answers } => shell::run(rt, path, seconds, answers),
+        Command::Serve { limits, both } => sessions::serve(rt, path, seconds, &limits, both),
+        Command::Pull { limits, both } => sessions::pull(rt, path, seconds, &limits, both),
+        Command::Diff { limits, json } => sessions::look(rt, path, seconds, &limits, json),
+        Command::Backup { target } => return back_up(rt, path, seconds, target),
+    };
+    match done {
+        Ok(()) => ExitCode::SUCCESS,
+        Err(failure) => failed_on(rt, path, &failure),
     }
 }
 
@@ -69,11 +92,7 @@ fn run(rt: &HostRuntime, words: &[String]) -> ExitCode {
         Ok(Asked::Help) => show(rt, HELP),
         Ok(Asked::HelpOf(verb)) => show(rt, form_of(verb).help),
         Ok(Asked::Version) => show(rt, VERSION),
-        Ok(Asked::Run(Verb::Backup, file, given)) => back_up(rt, file, &given),
-        Ok(Asked::Run(verb, file, given)) => match tasks::run(rt, verb, file, &given) {
-            Ok(()) => ExitCode::SUCCESS,
-            Err(failure) => failed_on(rt, file, &failure),
-        },
+        Ok(Asked::Run(task)) => run_task(rt, &task),
         Err(wrong) => refused(rt, &wrong),
     }
 }

@@ -10,7 +10,7 @@ use mst_commands::clock::{latest, now};
 use mst_commands::escape::{cut, escape};
 use mst_commands::fault::Named;
 use mst_commands::news::write_news;
-use mst_words::Given;
+use mst_words::Limits;
 use std::alloc::{AllocError, Global};
 use std::env;
 use std::io::{IsTerminal, Read, Take, Write};
@@ -97,8 +97,11 @@ pub fn tell_served(rt: &HostRuntime, traffic: &Traffic, begun: u64) -> Result<()
 const MOST_OF_SESSION: u64 = 68_719_476_736;
 
 /// How many bytes of a peer are read: one more than it may send, so that the end of these isn't that of its messages.
-pub fn bytes_read(given: &Given<'_>) -> u64 {
-    given.max_bytes.unwrap_or(MOST_OF_SESSION).saturating_add(1)
+pub fn bytes_read(limits: &Limits) -> u64 {
+    limits
+        .max_bytes
+        .unwrap_or(MOST_OF_SESSION)
+        .saturating_add(1)
 }
 
 /// Answers a peer until it is this side's turn to ask, or the peer's messages end.
@@ -146,11 +149,11 @@ fn failure_of(alloc: Global, fault: FetchFault) -> Failure {
 }
 
 /// What is taken of a peer, at this time of the clock.
-fn terms_of(rt: &HostRuntime, given: &Given<'_>) -> Result<Terms, Failure> {
+fn terms_of(rt: &HostRuntime, limits: &Limits) -> Result<Terms, Failure> {
     Ok(Terms {
         most_bytes: MOST_BYTES,
-        most_entries: given.max_entries,
-        latest: latest(now(rt)?, given.ahead),
+        most_entries: limits.max_entries,
+        latest: latest(now(rt)?, limits.ahead),
     })
 }
 
@@ -158,10 +161,10 @@ fn terms_of(rt: &HostRuntime, given: &Given<'_>) -> Result<Terms, Failure> {
 pub fn ask<R: Read>(
     rt: &HostRuntime,
     replica: &mut EntryReplica,
-    given: &Given<'_>,
+    limits: &Limits,
     from: &mut Take<R>,
 ) -> Result<Fetched, Failure> {
-    let terms = terms_of(rt, given)?;
+    let terms = terms_of(rt, limits)?;
     let mut lines = lines_of(rt);
     let fetched = fetch(
         rt.alloc(),

@@ -6,14 +6,13 @@ ghost use Rattle.merkle_store.specs.Kept.{AreRowsOf};
 
 use crate::fault::Failure;
 use crate::peers;
-use crate::tasks::patience;
 use merkle_store::fetch_fault::FetchFault;
 use merkle_store::fetching::Fetched;
 use merkle_store::rows::{EntryReplica, read_replica};
 use mst_commands::clock::now;
 use mst_files::closing::{Closing, close_behind};
 use mst_files::opening::open_file;
-use mst_words::{Given, Verb};
+use mst_words::Limits;
 use sqlite_trees::store::Store;
 use std::io::{Read, Take};
 use store_table::format::{HASH_KEY_LEN, Note, recognise};
@@ -79,15 +78,16 @@ where
 fn join(
     rt: &HostRuntime,
     path: &str,
-    given: &Given<'_>,
+    seconds: u64,
+    both: bool,
     hash_key: &[u8; HASH_KEY_LEN],
     fetched: &Fetched,
 ) -> Result<(), Failure> {
     if !fetched.news.is_empty() {
-        let log = open_file(rt, path, patience(given))?;
+        let log = open_file(rt, path, seconds)?;
         add_news_on(rt, log, hash_key, &fetched.news)?;
     }
-    if !given.both || fetched.came > 0 || fetched.traffic.messages > 1 {
+    if !both || fetched.came > 0 || fetched.traffic.messages > 1 {
         // (what came is in the file, though nobody may read how much it was)
         let _ = peers::tell(rt, fetched);
     }
@@ -119,7 +119,7 @@ fn answer_in_turn<R: Read>(
 fn join_and_answer<R: Read>(
     rt: &HostRuntime,
     path: &str,
-    given: &Given<'_>,
+    seconds: u64,
     side: (Note, EntryReplica),
     fetched: Result<Fetched, Failure>,
     from: &mut Take<R>,
@@ -128,7 +128,7 @@ fn join_and_answer<R: Read>(
     let mut replica = replica;
     let joined = match fetched {
         Ok(fetched) => {
-            let joined = join(rt, path, given, &note.hash_key, &fetched);
+            let joined = join(rt, path, seconds, true, &note.hash_key, &fetched);
             // (without what came, where memory ran out, the peer asks longer)
             let _ = replica.put_all(fetched.news);
             joined
@@ -142,49 +142,58 @@ fn join_and_answer<R: Read>(
 }
 
 /// Fetches what the peer has, and with `--both` answers it then.
-fn pull(rt: &HostRuntime, path: &str, given: &Given<'_>) -> Result<(), Failure> {
-    let (note, replica) = rows_on(rt, open_file(rt, path, patience(given))?)?;
+pub fn pull(
+    rt: &HostRuntime,
+    path: &str,
+    seconds: u64,
+    limits: &Limits,
+    both: bool,
+) -> Result<(), Failure> {
+    let (note, replica) = rows_on(rt, open_file(rt, path, seconds)?)?;
     let mut replica = replica;
-    let mut from = rt.stdin().take(peers::bytes_read(given));
-    let fetched = peers::ask(rt, &mut replica, given, &mut from);
-    if given.both {
-        return join_and_answer(rt, path, given, (note, replica), fetched, &mut from);
+    let mut from = rt.stdin().take(peers::bytes_read(limits));
+    let fetched = peers::ask(rt, &mut replica, limits, &mut from);
+    if both {
+        return join_and_answer(rt, path, seconds, (note, replica), fetched, &mut from);
     }
-    join(rt, path, given, &note.hash_key, &fetched?)
+    join(rt, path, seconds, both, &note.hash_key, &fetched?)
 }
 
 /// Answers the peer, and with `--both` fetches then what it has, if it gives the turn.
-fn serve(rt: &HostRuntime, path: &str, given: &Given<'_>) -> Result<(), Failure> {
+pub fn serve(
+    rt: &HostRuntime,
+    path: &str,
+    seconds: u64,
+    limits: &Limits,
+    both: bool,
+) -> Result<(), Failure> {
     let begun = now(rt)?;
-    let (note, replica) = rows_on(rt, open_file(rt, path, patience(given))?)?;
+    let (note, replica) = rows_on(rt, open_file(rt, path, seconds)?)?;
     let mut replica = replica;
-    let mut from = rt.stdin().take(peers::bytes_read(given));
+    let mut from = rt.stdin().take(peers::bytes_read(limits));
     let served = peers::answer(rt, &mut replica, &mut from)?;
     // (the peer was served, though nobody may read what that took)
     let _ = peers::tell_served(rt, &served.traffic, begun);
-    if !(served.is_turn && given.both) {
+    if !(served.is_turn && both) {
         return Ok(());
     }
-    let fetched = peers::ask(rt, &mut replica, given, &mut from);
+    let fetched = peers::ask(rt, &mut replica, limits, &mut from);
     // (what was fetched is added though the peer may have gone)
     let _ = peers::pass_turn(rt);
-    join(rt, path, given, &note.hash_key, &fetched?)
+    join(rt, path, seconds, both, &note.hash_key, &fetched?)
 }
 
 /// Looks at what a pull would bring, and tells it.
-fn look(rt: &HostRuntime, path: &str, given: &Given<'_>) -> Result<(), Failure> {
-    let (_, replica) = rows_on(rt, open_file(rt, path, patience(given))?)?;
+pub fn look(
+    rt: &HostRuntime,
+    path: &str,
+    seconds: u64,
+    limits: &Limits,
+    json: bool,
+) -> Result<(), Failure> {
+    let (_, replica) = rows_on(rt, open_file(rt, path, seconds)?)?;
     let mut replica = replica;
-    let mut from = rt.stdin().take(peers::bytes_read(given));
-    let fetched = peers::ask(rt, &mut replica, given, &mut from)?;
-    peers::tell_news(rt, &fetched.news, given.json)
-}
-
-/// Runs a command that speaks with a peer.
-pub fn run(rt: &HostRuntime, verb: Verb, path: &str, given: &Given<'_>) -> Result<(), Failure> {
-    match verb {
-        Verb::Pull => pull(rt, path, given),
-        Verb::Diff => look(rt, path, given),
-        _ => serve(rt, path, given),
-    }
+    let mut from = rt.stdin().take(peers::bytes_read(limits));
+    let fetched = peers::ask(rt, &mut replica, limits, &mut from)?;
+    peers::tell_news(rt, &fetched.news, json)
 }

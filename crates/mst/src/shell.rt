@@ -1,22 +1,28 @@
 //! Commands on one file, a line each.
 use crate::fault::Failure;
 use crate::tasks::{print_end, run_open};
+use mst_commands::Input;
 use mst_commands::change::Change;
 use mst_commands::clock::now;
-use mst_commands::{Fault, Input};
+use mst_files::closing::{Closing, close_behind};
+use mst_files::opening::open_file;
 use mst_words::help::HELP;
 use mst_words::verb::{form_of, verb_of};
-use mst_words::{Asked, Given, NoWords, Verb, given_of, help_of, words_of};
+use mst_words::{
+    Asked, Command, NoWords, StoreCommand, TableCommand, Task, Verb, help_of, task_of, words_of,
+};
 use sqlite_trees::store::Store;
-use std::alloc::Global;
 use std::fmt::Display;
 use std::io::{self, ErrorKind};
 use store_table::StoreFault;
-use store_table::format::Note;
+use store_table::format::{Note, recognise};
 use store_table::log::Log;
 
 /// What is said of a `commit` or an `abort` that no `begin` stands before.
 const NO_CHANGE: &str = "no change has begun";
+
+/// What is said of a command that a line can't have.
+const NO_COMMAND: &str = "the shell has no such command";
 
 /// A line of the shell.
 #[derive(Clone, Copy)]
@@ -45,64 +51,57 @@ impl At {
     }
 }
 
-/// Why a command has no place in the shell, if it has none.
-fn refusal_of(verb: Verb, given: &Given<'_>) -> Option<&'static str> {
-    if given.is_input {
-        return Some("put can't read standard input in the shell");
+/// The command of a line, or why it has no place in the shell.
+fn in_shell<'a>(task: &Task<'a>) -> Result<StoreCommand<'a>, &'static str> {
+    if task.wait.is_some() {
+        return Err("the shell has the file already, so --wait has no effect");
     }
-    if given.wait.is_some() {
-        return Some("the shell has the file already, so --wait has no effect");
-    }
-    match verb {
-        Verb::Init
-        | Verb::Shell
-        | Verb::Serve
-        | Verb::Pull
-        | Verb::Diff
-        | Verb::Import
-        | Verb::Backup
-        | Verb::Check => Some("the shell has no such command"),
-        _ => None,
+    let Command::Store(command) = task.command else {
+        return Err(NO_COMMAND);
+    };
+    match command {
+        StoreCommand::Table(TableCommand::Put { is_input: true, .. }) => {
+            Err("put can't read standard input in the shell")
+        }
+        StoreCommand::Table(TableCommand::Import { .. } | TableCommand::Check { .. }) => {
+            Err(NO_COMMAND)
+        }
+        _ => Ok(command),
     }
 }
 
-/// Adds a write to those that wait.
-fn add<S: Store>(
-    alloc: Global,
-    log: &mut Log<S>,
-    change: &mut Change,
-    verb: Verb,
-    given: &Given<'_>,
-) -> Result<(), Fault> {
-    if verb == Verb::Del {
-        change.del(alloc, log, given.key)
-    } else {
-        change.put(alloc, given.key, given.value)
-    }
-}
-
-/// Runs a command between `begin` and `commit`, and returns whether it succeeded.
+/// Adds what a command between `begin` and `commit` writes to what waits, and returns whether it succeeded.
 fn run_waiting<S: Store>(
     rt: &HostRuntime,
     log: &mut Log<S>,
     change: &mut Change,
     at: At,
-    verb: Verb,
-    given: &Given<'_>,
+    command: StoreCommand<'_>,
 ) -> Result<bool, Failure> {
-    if given.wanted.is_some() || !matches!(verb, Verb::Put | Verb::Del) {
-        return at.refuse(
-            rt,
-            &"between begin and commit stand only put and del, without conditions",
-        );
-    }
-    match add(rt.alloc(), log, change, verb, given) {
+    let added = match command {
+        StoreCommand::Table(
+            TableCommand::Put {
+                key,
+                value,
+                wanted: None,
+                ..
+            },
+        ) => change.put(rt.alloc(), key, value),
+        StoreCommand::Table(TableCommand::Del { key }) => change.del(rt.alloc(), log, key),
+        _ => {
+            return at.refuse(
+                rt,
+                &"between begin and commit stand only put and del, without conditions",
+            );
+        }
+    };
+    match added {
         Ok(()) => Ok(true),
         Err(fault) => at.refuse(rt, &fault),
     }
 }
 
-/// Runs a command, and returns whether it succeeded.
+/// Runs the command of this name with what its words give, and returns whether it succeeded.
 fn run_verb<S: Store>(
     rt: &HostRuntime,
     log: &mut Log<S>,
@@ -112,19 +111,20 @@ fn run_verb<S: Store>(
     verb: Verb,
     words: &[String],
 ) -> Result<bool, Failure> {
-    let given = match given_of(verb, Some(""), words) {
-        Ok((_file, given)) => given,
+    let task = match task_of(verb, Some(""), words) {
+        Ok(task) => task,
         Err(wrong) => return at.refuse(rt, &wrong),
     };
-    if let Some(why) = refusal_of(verb, &given) {
-        return at.refuse(rt, &why);
-    }
+    let command = match in_shell(&task) {
+        Ok(command) => command,
+        Err(why) => return at.refuse(rt, &why),
+    };
     if let Some(change) = change {
-        return run_waiting(rt, log, change, at, verb, &given);
+        return run_waiting(rt, log, change, at, command);
     }
-    match run_open(rt, log, note, verb, &given, Input::Nothing) {
+    match run_open(rt, log, note, command, Input::Nothing) {
         Ok(()) => {
-            print_end(rt, verb, given.json, None)?;
+            print_end(rt, command, None)?;
             Ok(true)
         }
         Err(failure) => at.refuse(rt, &failure),
@@ -225,7 +225,7 @@ fn run_line<S: Store>(
     }
     match verb_of(name.as_str()) {
         Some(verb) => run_verb(rt, log, note, change, at, verb, rest),
-        None => at.refuse(rt, &"the shell has no such command"),
+        None => at.refuse(rt, &NO_COMMAND),
     }
 }
 
@@ -259,7 +259,7 @@ fn note_failure(change: &mut Option<Change>) {
 /// # Errors
 ///
 /// [`Failure::Lines`] where commands failed: each said why on standard error, with the number of its line, and the others were carried out.
-pub fn run_lines<S: Store>(
+fn run_lines<S: Store>(
     rt: &HostRuntime,
     log: &mut Log<S>,
     note: &Note,
@@ -289,4 +289,29 @@ pub fn run_lines<S: Store>(
         return Err(Failure::Lines(failed));
     }
     Ok(())
+}
+
+/// The same by a log that is lent.
+fn run_lent<S: Store>(
+    rt: &HostRuntime,
+    log: &mut Log<S>,
+    is_answered: bool,
+) -> Result<(), Failure> {
+    let note = recognise(rt.alloc(), log)?;
+    run_lines(rt, log, &note, is_answered)
+}
+
+/// The same of a log that is open, and closes its file.
+fn run_on<S: Store + Drop>(rt: &HostRuntime, log: Log<S>, is_answered: bool) -> Result<(), Failure>
+where
+    Log<S>: Closing,
+{
+    let mut log = log;
+    let done = run_lent(rt, &mut log, is_answered);
+    close_behind(log, done)
+}
+
+/// Runs the lines of standard input on a file, and answers each of them where that is asked for.
+pub fn run(rt: &HostRuntime, path: &str, seconds: u64, is_answered: bool) -> Result<(), Failure> {
+    run_on(rt, open_file(rt, path, seconds)?, is_answered)
 }

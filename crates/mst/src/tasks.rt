@@ -1,21 +1,20 @@
-//! What each command does.
+//! A command on the file of a store.
 ghost use Rattle.std.specs.Prelude.{string_bytes};
 ghost use Rattle.store_table.specs.Entries.{HoldsEntries};
 ghost use Rattle.mst_commands.specs.Carries.{Carries};
+ghost use Rattle.mst_words.specs.declared.command.StoreCommand.TheVariants.{Table};
 ghost use Rattle.store_table.specs.Logs.{Finds, IsSteady, Leaves, LeavesNoMore, Makes, StaysInOk};
 
 use crate::fault::Failure;
-use crate::{sessions, shell};
 use merkle_digest::RootHash;
 use merkle_store::rows::read_replica;
 use mst_commands::input::read_input;
 use mst_commands::{Input, run};
 use mst_files::closing::{Closing, close_behind};
 use mst_files::fault::FileFault;
-use mst_files::making::make_store;
 use mst_files::opening::{expect_file, open_file, open_whole};
 use mst_words::hash_key::number_of;
-use mst_words::{Given, Verb};
+use mst_words::{StoreCommand, TableCommand};
 use sqlite_std_file::OpenError;
 use sqlite_trees::store::Store as Trees;
 use std::fs;
@@ -46,13 +45,13 @@ fn print_root(rt: &HostRuntime, root: &RootHash, json: bool) -> Result<(), Failu
 /// Prints what ends a status: how many bytes the file has, where that is told, and the end of an object of JSON.
 pub fn print_end(
     rt: &HostRuntime,
-    verb: Verb,
-    json: bool,
+    command: StoreCommand<'_>,
     bytes: Option<u64>,
 ) -> Result<(), Failure> {
-    if !matches!(verb, Verb::Status | Verb::Check) {
-        return Ok(());
-    }
+    let json = match command {
+        StoreCommand::Table(TableCommand::Status { json } | TableCommand::Check { json }) => json,
+        _ => return Ok(()),
+    };
     match bytes {
         Some(bytes) if json => print!(rt; ",\"bytes\":{bytes}")?,
         Some(bytes) => println!(rt; "bytes {bytes}")?,
@@ -64,47 +63,42 @@ pub fn print_end(
     Ok(())
 }
 
+/// Runs a command on the table of an open store. A status gets the root hash too.
+fn run_on_table<S: Trees>(
+    rt: &HostRuntime,
+    log: &mut Log<S>,
+    note: &Note,
+    command: TableCommand<'_>,
+    input: Input,
+) -> Result<(), Failure>
+    ensures carried { Makes S.Store log.old log.new result (Carries (Table command.entry) (string_bytes note.now.writer) input) }
+    ensures crash { Leaves S.Store log.old log.new (Carries (Table command.entry) (string_bytes note.now.writer) input) }
+{
+    run::run(rt, log, note.writer.as_str(), command, input)?;
+    if let TableCommand::Status { json } | TableCommand::Check { json } = command {
+        print_root(rt, &root_of(rt, log, note)?, json)?;
+    }
+    Ok(())
+}
+
 /// Runs a command on an open log of a store that notes this of itself, with what was read from standard input before. What ends a status isn't
 /// printed yet (`print_end`).
 pub fn run_open<S: Trees>(
     rt: &HostRuntime,
     log: &mut Log<S>,
     note: &Note,
-    verb: Verb,
-    given: &Given<'_>,
+    command: StoreCommand<'_>,
     input: Input,
 ) -> Result<(), Failure>
-    ensures carried { Makes S.Store log.old log.new result (Carries verb (string_bytes note.now.writer) given.now input) }
-    ensures crash { Leaves S.Store log.old log.new (Carries verb (string_bytes note.now.writer) given.now input) }
+    ensures carried { Makes S.Store log.old log.new result (Carries command.entry (string_bytes note.now.writer) input) }
+    ensures crash { Leaves S.Store log.old log.new (Carries command.entry (string_bytes note.now.writer) input) }
 {
-    if verb == Verb::HashKey {
-        println!(rt; "{:032x}", number_of(&note.hash_key))?;
-        return Ok(());
-    }
-    if verb == Verb::Root {
-        println!(rt; "{}", root_of(rt, log, note)?)?;
-        return Ok(());
-    }
-    run::run(rt, log, note.writer.as_str(), verb, given, input)?;
-    if let Verb::Status | Verb::Check = verb {
-        print_root(rt, &root_of(rt, log, note)?, given.json)?;
+    match command {
+        StoreCommand::Table(command) => run_on_table(rt, log, note, command, input)?,
+        StoreCommand::Root => println!(rt; "{}", root_of(rt, log, note)?)?,
+        StoreCommand::HashKey => println!(rt; "{:032x}", number_of(&note.hash_key))?,
     }
     Ok(())
-}
-
-/// Runs a command that takes the file by a log that is lent.
-fn run_lent<S: Trees>(
-    rt: &HostRuntime,
-    log: &mut Log<S>,
-    verb: Verb,
-    given: &Given<'_>,
-    input: Input,
-) -> Result<(), Failure> {
-    let note = recognise(rt.alloc(), log)?;
-    if verb == Verb::Shell {
-        return shell::run_lines(rt, log, &note, given.answers);
-    }
-    run_open(rt, log, &note, verb, given, input)
 }
 
 /// What a store notes of itself, and all its entries.
@@ -133,19 +127,29 @@ pub fn read_whole(rt: &HostRuntime, path: &str, seconds: u64) -> Result<(Note, E
     whole_on(rt, open_file(rt, path, seconds)?)
 }
 
-/// Runs a command on a log that is open, and closes its file.
+/// Runs a command by a log that is lent.
+fn run_lent<S: Trees>(
+    rt: &HostRuntime,
+    log: &mut Log<S>,
+    command: StoreCommand<'_>,
+    input: Input,
+) -> Result<(), Failure> {
+    let note = recognise(rt.alloc(), log)?;
+    run_open(rt, log, &note, command, input)
+}
+
+/// The same of a log that is open, and closes its file.
 fn run_on<S: Trees + Drop>(
     rt: &HostRuntime,
     log: Log<S>,
-    verb: Verb,
-    given: &Given<'_>,
+    command: StoreCommand<'_>,
     input: Input,
 ) -> Result<(), Failure>
 where
     Log<S>: Closing,
 {
     let mut log = log;
-    let done = run_lent(rt, &mut log, verb, given, input);
+    let done = run_lent(rt, &mut log, command, input);
     close_behind(log, done)
 }
 
@@ -157,31 +161,20 @@ fn size_of(rt: &HostRuntime, path: &str) -> Result<u64, Failure> {
     }
 }
 
-/// How many seconds a command waits for a file that another process has, unless it says otherwise.
-const PATIENCE: u64 = 5;
-
-/// How many seconds a command waits for such a file.
-pub fn patience(given: &Given<'_>) -> u64 {
-    given.wait.unwrap_or(PATIENCE)
-}
-
 /// Runs a command on a file, which is opened once standard input was read to its end where the command takes something from there.
-pub fn run(rt: &HostRuntime, verb: Verb, path: &str, given: &Given<'_>) -> Result<(), Failure> {
-    if verb == Verb::Init {
-        make_store(rt, path, given.writer, given.hash_key)?;
-        return Ok(());
-    }
+pub fn run(
+    rt: &HostRuntime,
+    path: &str,
+    seconds: u64,
+    command: StoreCommand<'_>,
+) -> Result<(), Failure> {
     // (a file that isn't there is told before anything is typed)
     expect_file(rt, path)?;
-    if let Verb::Serve | Verb::Pull | Verb::Diff = verb {
-        return sessions::run(rt, verb, path, given);
-    }
-    let input = read_input(rt, verb, given)?;
-    let seconds = patience(given);
-    if verb == Verb::Check {
-        run_on(rt, open_whole(rt, path, seconds)?, verb, given, input)?;
+    let input = read_input(rt, command)?;
+    if let StoreCommand::Table(TableCommand::Check { .. }) = command {
+        run_on(rt, open_whole(rt, path, seconds)?, command, input)?;
     } else {
-        run_on(rt, open_file(rt, path, seconds)?, verb, given, input)?;
+        run_on(rt, open_file(rt, path, seconds)?, command, input)?;
     }
-    print_end(rt, verb, given.json, Some(size_of(rt, path)?))
+    print_end(rt, command, Some(size_of(rt, path)?))
 }

@@ -7,8 +7,8 @@ use Rattle.sqlite_trees.specs.Tree.{Trees}
 use Rattle.store_table.specs.Latest.{WritesOver}
 use Rattle.store_table.specs.declared.value.Value.{Value}
 use Rattle.store_table.specs.declared.value.Value.TheVariants as form
-use Rattle.mst_words.specs.declared.asked.Wanted.{Wanted}
-use Rattle.mst_words.specs.declared.asked.Wanted.TheVariants as wanted
+use Rattle.mst_words.specs.declared.command.Wanted.{Wanted}
+use Rattle.mst_words.specs.declared.command.Wanted.TheVariants as wanted
 use Rattle.mst_commands.specs.Reads.{IsValueAt}
 
 -- one row is added, and nothing else changes: a write of the value by this name, over the latest register of the key

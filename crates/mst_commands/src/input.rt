@@ -6,7 +6,7 @@ ghost use Rattle.mst_commands.specs.Carries.{IsInputOf, entries_of, value_of as 
 use crate::fault::Fault;
 use crate::records::read_entries;
 use crate::writing::read_bytes;
-use mst_words::{Given, Verb};
+use mst_words::{StoreCommand, TableCommand};
 use std::alloc::{AllocError, Global};
 use store_table::Value;
 use store_table::table::Entries;
@@ -27,26 +27,28 @@ pub enum Input {
 /// # Errors
 ///
 /// As those of [`read_bytes`] and [`read_entries`].
-pub fn read_input(rt: &HostRuntime, verb: Verb, given: &Given<'_>) -> Result<Input, Fault>
-    ensures { IfOk result (IsInputOf verb given.now) }
+pub fn read_input(rt: &HostRuntime, command: StoreCommand<'_>) -> Result<Input, Fault>
+    ensures { IfOk result (IsInputOf command.entry) }
 {
-    match verb {
-        Verb::Put if given.is_input => Ok(Input::Bytes(read_bytes(rt.alloc(), rt.stdin())?)),
-        Verb::Import => {
-            let entries = read_entries(rt.alloc(), rt.stdin(), given.log)?;
+    match command {
+        StoreCommand::Table(TableCommand::Put { is_input: true, .. }) => {
+            Ok(Input::Bytes(read_bytes(rt.alloc(), rt.stdin())?))
+        }
+        StoreCommand::Table(TableCommand::Import { is_log, .. }) => {
+            let entries = read_entries(rt.alloc(), rt.stdin(), is_log)?;
             Ok(Input::Records(entries))
         }
         _ => Ok(Input::Nothing),
     }
 }
 
-/// The value of a put: that of the input, or else the one that is given.
-pub(crate) fn value_of(alloc: Global, given: &Given<'_>, input: Input) -> Result<Value, AllocError>
-    ensures { IfOk result (λ value. IsValueOf (value_from input given.now) value) }
+/// The value of a put: that of the input, or else the text that is given.
+pub(crate) fn value_of(alloc: Global, text: &str, input: Input) -> Result<Value, AllocError>
+    ensures { IfOk result (λ value. IsValueOf (value_from input text.now) value) }
 {
     match input {
         Input::Bytes(bytes) => Ok(Value::of(bytes)),
-        _ => Ok(Value::Text(String::from_str(alloc, given.value)?)),
+        _ => Ok(Value::Text(String::from_str(alloc, text)?)),
     }
 }
 

@@ -1,8 +1,9 @@
 //! A command on an open store.
 ghost use Rattle.std.specs.Prelude.{◌≡◌, IfErr, OnOk};
 ghost use Rattle.store_table.specs.Logs.{IsSteady, Makes, Leaves, LeavesNoMore, StaysInOk};
-ghost use Rattle.mst_commands.specs.Carries.{Carries, Compacts, ImportsGiven, Puts};
+ghost use Rattle.mst_commands.specs.Carries.{Carries, Compacts, ImportsInput, Puts, value_of as value_from};
 ghost use Rattle.mst_commands.specs.Faults.{IsDevice, StaysAtDevice};
+ghost use Rattle.mst_words.specs.declared.command.StoreCommand.TheVariants.{Table};
 
 use crate::bounds::{Bounds, Listing};
 use crate::clock::{latest, now};
@@ -12,29 +13,31 @@ use crate::history::history;
 use crate::input::{Input, entries_in, value_of};
 use crate::reading::{count, export, export_log, get, list, status};
 use crate::writing::{del, import, put_if, put_value};
-use mst_words::{Given, Verb};
+use mst_words::{Selection, TableCommand, Wanted};
 use sqlite_trees::store::Store;
 use std::io::{self, BufWriter, ErrorKind, Write};
 use store_table::log::Log;
 use store_table::rows::compact;
 
-/// Writes the value that is given, or that of standard input, if the key is as it is wanted.
+/// Writes the text that is given, or the value of standard input, if the key is as it is wanted.
 fn put_given<S: Store>(
     rt: &HostRuntime,
     log: &mut Log<S>,
     writer: &str,
-    given: &Given<'_>,
+    key: &str,
+    text: &str,
+    wanted: Option<Wanted<'_>>,
     input: Input,
 ) -> Result<(), Fault>
-    ensures carried { Makes S.Store log.old log.new result (Puts writer.now given.now input) }
-    ensures crash { Leaves S.Store log.old log.new (Puts writer.now given.now input) }
+    ensures carried { Makes S.Store log.old log.new result (Puts writer.now key.now (value_from input text.now) wanted.entry) }
+    ensures crash { Leaves S.Store log.old log.new (Puts writer.now key.now (value_from input text.now) wanted.entry) }
 {
     let alloc = rt.alloc();
-    let value = value_of(alloc, given, input)?;
-    let Some(wanted) = given.wanted else {
-        return put_value(alloc, log, writer, now(rt)?, given.key, value);
+    let value = value_of(alloc, text, input)?;
+    let Some(wanted) = wanted else {
+        return put_value(alloc, log, writer, now(rt)?, key, value);
     };
-    put_if(alloc, log, writer, now(rt)?, given.key, value, wanted)
+    put_if(alloc, log, writer, now(rt)?, key, value, wanted)
 }
 
 /// Prints the value of a key.
@@ -50,7 +53,12 @@ fn print_value<S: Store>(rt: &HostRuntime, log: &mut Log<S>, key: &str) -> Resul
 }
 
 /// Prints the keys with their values.
-fn print_list<S: Store>(rt: &HostRuntime, log: &mut Log<S>, given: &Given<'_>) -> Result<(), Fault>
+fn print_list<S: Store>(
+    rt: &HostRuntime,
+    log: &mut Log<S>,
+    selection: Selection<'_>,
+    json: bool,
+) -> Result<(), Fault>
     ensures unchanged { StaysInOk S.Store log.old log.new result }
     ensures device { StaysAtDevice S.Store log.old log.new result }
     ensures crash { LeavesNoMore S.Store log.old log.new }
@@ -58,12 +66,12 @@ fn print_list<S: Store>(rt: &HostRuntime, log: &mut Log<S>, given: &Given<'_>) -
     let mut out = BufWriter::new(rt.alloc(), io::writer(rt))?;
     let listing = Listing {
         bounds: Bounds {
-            first: given.from,
-            last: given.to,
-            prefix: given.prefix,
+            first: selection.from,
+            last: selection.to,
+            prefix: selection.prefix,
         },
-        limit: given.limit.unwrap_or(u64::MAX),
-        json: given.json,
+        limit: selection.limit.unwrap_or(u64::MAX),
+        json,
     };
     list(rt.alloc(), log, &mut out, &listing)?;
     out.flush()?;
@@ -74,14 +82,15 @@ fn print_list<S: Store>(rt: &HostRuntime, log: &mut Log<S>, given: &Given<'_>) -
 fn print_history<S: Store>(
     rt: &HostRuntime,
     log: &mut Log<S>,
-    given: &Given<'_>,
+    key: &str,
+    json: bool,
 ) -> Result<(), Fault>
     ensures unchanged { StaysInOk S.Store log.old log.new result }
     ensures device { StaysAtDevice S.Store log.old log.new result }
     ensures crash { LeavesNoMore S.Store log.old log.new }
 {
     let mut out = BufWriter::new(rt.alloc(), io::writer(rt))?;
-    history(rt.alloc(), log, &mut out, given.key, given.json)?;
+    history(rt.alloc(), log, &mut out, key, json)?;
     out.flush()?;
     Ok(())
 }
@@ -165,19 +174,20 @@ fn print_csv<S: Store>(rt: &HostRuntime, log: &mut Log<S>, is_log: bool) -> Resu
 }
 
 /// Writes the entries of standard input.
-fn import_given<S: Store>(
+fn import_input<S: Store>(
     rt: &HostRuntime,
     log: &mut Log<S>,
     writer: &str,
-    given: &Given<'_>,
+    is_log: bool,
+    ahead: bool,
     input: Input,
 ) -> Result<(), Fault>
-    ensures carried { Makes S.Store log.old log.new result (ImportsGiven writer.now given.now input) }
-    ensures crash { Leaves S.Store log.old log.new (ImportsGiven writer.now given.now input) }
+    ensures carried { Makes S.Store log.old log.new result (ImportsInput writer.now is_log ahead input) }
+    ensures crash { Leaves S.Store log.old log.new (ImportsInput writer.now is_log ahead input) }
 {
     let time = now(rt)?;
-    let limit = if given.log {
-        Some(latest(time, given.ahead))
+    let limit = if is_log {
+        Some(latest(time, ahead))
     } else {
         None
     };
@@ -186,15 +196,15 @@ fn import_given<S: Store>(
 }
 
 /// Leaves one row for each key, and drops removals that are older than this many milliseconds.
-fn compact_given<S: Store>(
+fn compact_older<S: Store>(
     rt: &HostRuntime,
     log: &mut Log<S>,
-    given: &Given<'_>,
+    forget: Option<u64>,
 ) -> Result<(), Fault>
-    ensures carried { Makes S.Store log.old log.new result (Compacts given.now) }
-    ensures crash { Leaves S.Store log.old log.new (Compacts given.now) }
+    ensures carried { Makes S.Store log.old log.new result (Compacts forget) }
+    ensures crash { Leaves S.Store log.old log.new (Compacts forget) }
 {
-    let before = match given.forget {
+    let before = match forget {
         Some(span) => now(rt)?.saturating_sub(span),
         None => 0,
     };
@@ -202,32 +212,38 @@ fn compact_given<S: Store>(
     Ok(())
 }
 
-/// Runs a command that needs no tree on the log of a store that writes by this name, with what it read from standard input before.
+/// Runs a command on the log of a store that writes by this name, with what it read from standard input before.
 pub fn run<S: Store>(
     rt: &HostRuntime,
     log: &mut Log<S>,
     writer: &str,
-    verb: Verb,
-    given: &Given<'_>,
+    command: TableCommand<'_>,
     input: Input,
 ) -> Result<(), Fault>
-    ensures carried { Makes S.Store log.old log.new result (Carries verb writer.now given.now input) }
+    ensures carried { Makes S.Store log.old log.new result (Carries (Table command.entry) writer.now input) }
     // A crash leaves what it could leave before, or trees with what the command writes.
-    ensures crash { Leaves S.Store log.old log.new (Carries verb writer.now given.now input) }
+    ensures crash { Leaves S.Store log.old log.new (Carries (Table command.entry) writer.now input) }
 {
-    let alloc = rt.alloc();
-    match verb {
-        Verb::Put => put_given(rt, log, writer, given, input),
-        Verb::Get => unless_gone(print_value(rt, log, given.key)),
-        Verb::Del => del(alloc, log, writer, now(rt)?, given.key),
-        Verb::List => unless_gone(print_list(rt, log, given)),
-        Verb::History => unless_gone(print_history(rt, log, given)),
-        Verb::Count => print_count(rt, log),
-        Verb::Status => print_status(rt, log, writer, given.json),
-        Verb::Check => print_check(rt, log, writer, given.json),
-        Verb::Import => import_given(rt, log, writer, given, input),
-        Verb::Export => unless_gone(print_csv(rt, log, given.log)),
-        Verb::Compact => compact_given(rt, log, given),
-        _ => Ok(()),
+    match command {
+        TableCommand::Put {
+            key,
+            value,
+            wanted,
+            ..
+        } => put_given(rt, log, writer, key, value, wanted, input),
+        TableCommand::Get { key } => unless_gone(print_value(rt, log, key)),
+        TableCommand::Del { key } => del(rt.alloc(), log, writer, now(rt)?, key),
+        TableCommand::List { selection, json } => {
+            unless_gone(print_list(rt, log, selection, json))
+        }
+        TableCommand::Count => print_count(rt, log),
+        TableCommand::History { key, json } => unless_gone(print_history(rt, log, key, json)),
+        TableCommand::Status { json } => print_status(rt, log, writer, json),
+        TableCommand::Check { json } => print_check(rt, log, writer, json),
+        TableCommand::Import { is_log, ahead } => {
+            import_input(rt, log, writer, is_log, ahead, input)
+        }
+        TableCommand::Export { is_log } => unless_gone(print_csv(rt, log, is_log)),
+        TableCommand::Compact { forget } => compact_older(rt, log, forget),
     }
 }

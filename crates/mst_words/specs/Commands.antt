@@ -7,8 +7,12 @@ use Rattle.std.specs.Str.Parse.{IsNumeral, digits_value, without_leading_plus}
 use Rattle.mst_words.specs.Forms.{places_of, least_of, place_name, takes}
 use Rattle.mst_words.specs.HashKeys.{IsHashKey}
 use Rattle.mst_words.specs.Names.{IsVerbOf, IsSettingOf, takes_value}
-use Rattle.mst_words.specs.Said.{Word, Said, Reading, Request, Help, HelpOf, Version, Run, Mistake, NoCommand, NoSuchCommand, NoSuchOption, NoValue, HasValue, NoNumber, NoSpan, NoHashKey, LeftOver, Missing, NoLog, begun}
+use Rattle.mst_words.specs.Said.{Word, Said, Reading, Mistake, NoCommand, NoSuchCommand, NoSuchOption, NoValue, HasValue, NoNumber, NoSpan, NoHashKey, LeftOver, Missing, NoLog, begun}
 use Rattle.mst_words.specs.Spans.{IsSpan}
+use Rattle.mst_words.specs.Tasks.{IsTask}
+use Rattle.mst_words.specs.declared.command.Asked.{Asked}
+use Rattle.mst_words.specs.declared.command.Asked.TheVariants.{Help, HelpOf, Version, Run}
+use Rattle.mst_words.specs.declared.command.Task.{Task}
 use Rattle.mst_words.specs.declared.verb.Place.{Place}
 use Rattle.mst_words.specs.declared.verb.Place.TheVariants.{Key, Value, Writer, Target}
 use Rattle.mst_words.specs.declared.verb.Setting.{Setting}
@@ -144,9 +148,10 @@ ReadsOn verb reading (word ∷ words) result =
     (next : Result Reading Mistake) × Takes verb reading.pending word reading next
     × GoesOn next (λ (to : Reading). ReadsOn verb to words result) (λ why. result ≡ Err why)
 
--- the words of a command, whose file is known or their first word at a place, give the file and this
-abbrev pub Gives : Verb → Option Word → List Word → Result (Word × Said) Mistake → Type 0
-Gives verb file words result = ReadsOn verb (begun file) words result
+-- the words of a command, whose file is known or their first word at a place, give this command on a file
+abbrev pub Gives : Verb → Option Word → List Word → Result Task Mistake → Type 0
+Gives verb file words (Ok task) = (at : Word) × (said : Said) × ReadsOn verb (begun file) words (Ok (at, said)) × IsTask task verb at said
+Gives verb file words (Err why) = ReadsOn verb (begun file) words (Err why)
 
 -- whether a value stands after a word, which is an option of the command
 abbrev pub IsBeforeValue : Verb → Word → Bool → Type 0
@@ -170,29 +175,29 @@ AsksHelp verb true (word ∷ words) result = AsksHelp verb false words result
 AsksHelp verb false (word ∷ words) result = AsksFrom verb word (λ is_before. AsksHelp verb is_before words result) result
 
 -- what the words after the name of a command ask for: its help, or else that it is run with what they give
-abbrev pub AsksOf : Verb → List Word → Result Request Mistake → Type 0
+abbrev pub AsksOf : Verb → List Word → Result Asked Mistake → Type 0
 AsksOf verb words (Ok (HelpOf other)) = (other ≡ verb) × AsksHelp verb false words true
-AsksOf verb words (Ok (Run other file said)) = (other ≡ verb) × AsksHelp verb false words false × Gives verb None words (Ok (file, said))
+AsksOf verb words (Ok (Run task)) = AsksHelp verb false words false × Gives verb None words (Ok task)
 AsksOf verb words (Err why) = AsksHelp verb false words false × Gives verb None words (Err why)
 AsksOf verb words (Ok Help) = ⊥
 AsksOf verb words (Ok Version) = ⊥
 
 -- the command of the first word, or no command
-abbrev pub AsksBy : Option Verb → Word → List Word → Result Request Mistake → Type 0
+abbrev pub AsksBy : Option Verb → Word → List Word → Result Asked Mistake → Type 0
 AsksBy None name words result = result ≡ Err (NoSuchCommand name)
 AsksBy (Some verb) name words result = AsksOf verb words result
 
 -- what a word that names a command and the words after it ask for
-abbrev pub AsksNamed : Word → List Word → Result Request Mistake → Type 0
+abbrev pub AsksNamed : Word → List Word → Result Asked Mistake → Type 0
 AsksNamed name words result = (found : Option Verb) × IsVerbOf name found × AsksBy found name words result
 
 -- the help of the command of a name, or no command
-abbrev pub AsksHelpBy : Option Verb → Word → Result Request Mistake → Type 0
+abbrev pub AsksHelpBy : Option Verb → Word → Result Asked Mistake → Type 0
 AsksHelpBy None name result = result ≡ Err (NoSuchCommand name)
 AsksHelpBy (Some verb) name result = result ≡ Ok (HelpOf verb)
 
 -- what the words after `help` ask for: the help of the program, or of the command that the first of them names
-abbrev pub AsksHelpOf : List Word → Result Request Mistake → Type 0
+abbrev pub AsksHelpOf : List Word → Result Asked Mistake → Type 0
 AsksHelpOf [] result = result ≡ Ok Help
 AsksHelpOf (name ∷ words) result = (found : Option Verb) × IsVerbOf name found × AsksHelpBy found name result
 
@@ -201,7 +206,7 @@ abbrev pub is_version_word : Word → Bool
 is_version_word word = bytes_eq word (codes "--version") || bytes_eq word (codes "-V")
 
 -- what the words of a command line ask for, without the name of the program
-abbrev pub Asks : List Word → Result Request Mistake → Type 0
+abbrev pub Asks : List Word → Result Asked Mistake → Type 0
 Asks [] result = result ≡ Err NoCommand
 Asks (name ∷ words) result =
     MatchBool (is_help name) (result ≡ Ok Help)

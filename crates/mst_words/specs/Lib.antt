@@ -5,4 +5,5 @@ pub mod Lines
 pub mod Names
 pub mod Said
 pub mod Spans
+pub mod Tasks
 pub mod Texts

@@ -2,14 +2,11 @@
 use Rattle.std.specs.Prelude.{ℕ, Bool, false, List, [], Option, Some, None, option_map, Result}
 use Rattle.std.specs.Option.{option_copied}
 use Rattle.std.specs.Result.{result_map_both}
-use Rattle.mst_words.specs.declared.asked.Asked.{Asked}
-use Rattle.mst_words.specs.declared.asked.Asked.TheVariants as asked
-use Rattle.mst_words.specs.declared.asked.Given.{Given}
+use Rattle.mst_words.specs.declared.command.Wanted.{Wanted}
+use Rattle.mst_words.specs.declared.command.Wanted.TheVariants as wanted
+use Rattle.mst_words.specs.declared.given.Given.{Given}
 use Rattle.mst_words.specs.declared.parse.Taken.{Taken}
-use Rattle.mst_words.specs.declared.asked.Wanted.{Wanted}
-use Rattle.mst_words.specs.declared.asked.Wanted.TheVariants as wanted
 use Rattle.mst_words.specs.declared.verb.Setting.{Setting}
-use Rattle.mst_words.specs.declared.verb.Verb.{Verb}
 use Rattle.mst_words.specs.declared.wrong.Wrong.{Wrong}
 use Rattle.mst_words.specs.declared.wrong.Wrong.TheVariants as wrong
 use Rattle.std.specs.Borrow.{Bor}
@@ -80,13 +77,6 @@ pub record Reading : Type 0 where
 abbrev pub begun : Option Word → Reading
 begun file = record { said = nothing_said; file = file; places = 0; pending = None; is_behind = false }
 
--- what a command line asks for
-pub data Request : Type 0 where
-  Help : Request
-  HelpOf : Verb → Request
-  Version : Request
-  Run : Verb → Word → Said → Request
-
 -- what is wrong in a command line
 pub data Mistake : Type 0 where
   NoCommand : Mistake
@@ -142,13 +132,6 @@ reading_of taken = record {
   is_behind = taken.is_behind;
 }
 
--- what is asked for, as bytes
-abbrev pub request_of : Asked → Request
-request_of asked.Help = Help
-request_of (asked.HelpOf verb) = HelpOf verb
-request_of asked.Version = Version
-request_of (asked.Run verb file given) = Run verb file.now (said_by given)
-
 -- what is wrong, as bytes
 abbrev pub mistake_of : Wrong → Mistake
 mistake_of wrong.NoCommand = NoCommand
@@ -168,6 +151,10 @@ mistake_of wrong.NotText = NotText
 abbrev pub told : {A B : Type 0} → (A → B) → Result A Wrong → Result B Mistake
 told view result = result_map_both view mistake_of result
 
+-- a result whose error is as bytes
+abbrev pub with_mistake : {A : Type 0} → Result A Wrong → Result A Mistake
+with_mistake result = told (λ it. it) result
+
 -- the file and what is given, as bytes
-abbrev pub command_of : Bor (List ℕ) × Given → Word × Said
-command_of command = (command.0.now, said_by command.1)
+abbrev pub with_file : Bor (List ℕ) × Given → Word × Said
+with_file given = (given.0.now, said_by given.1)

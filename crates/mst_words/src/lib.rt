@@ -1,7 +1,8 @@
 //! The command lines of `mst`, and the lines of its shell, as what they ask for.
 #![tactic(auto)]
 
-pub mod asked;
+pub mod command;
+mod given;
 pub mod hash_key;
 pub mod help;
 pub mod line;
@@ -10,8 +11,8 @@ pub mod span;
 pub mod verb;
 pub mod wrong;
 
-pub use asked::{Asked, Given, Wanted};
+pub use command::{Asked, Command, Limits, Selection, StoreCommand, TableCommand, Task, Wanted};
 pub use line::{NoWords, words_of};
-pub use parse::{given_of, help_of, read_words};
+pub use parse::{help_of, read_words, task_of};
 pub use verb::Verb;
 pub use wrong::Wrong;

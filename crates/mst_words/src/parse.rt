@@ -5,9 +5,10 @@ ghost use Rattle.mst_words.specs.Commands.{Asks, AsksHelp, AsksHelpOf, AsksNamed
 ghost use Rattle.mst_words.specs.Commands.{finished, is_alone as said_alone, is_help as names_help, is_option as begins_option, placed as says_at, stands};
 ghost use Rattle.mst_words.specs.Forms.{least_of, place_name, places_of};
 ghost use Rattle.mst_words.specs.Names.{takes_value};
-ghost use Rattle.mst_words.specs.Said.{NoNumber, begun, command_of, reading_of, request_of, said_by, told};
+ghost use Rattle.mst_words.specs.Said.{NoNumber, begun, reading_of, said_by, told, with_file, with_mistake};
 
-use crate::asked::{Asked, Given, Wanted};
+use crate::command::{Asked, Task, Wanted};
+use crate::given::{Given, on_file};
 use crate::hash_key::hash_key_of;
 use crate::span::milliseconds_of;
 use crate::verb::{
@@ -105,7 +106,7 @@ fn at_place<'a>(
 
 /// The number that a word is.
 fn number_of(word: &str) -> Result<u64, Wrong<'_>>
-    ensures { Reads IsNumber word.now (λ number. number) (NoNumber word.now) (told (λ number. number) result) }
+    ensures { Reads IsNumber word.now (λ number. number) (NoNumber word.now) (with_mistake result) }
 {
     match word.parse() {
         Ok(number) => Ok(number),
@@ -247,7 +248,7 @@ fn is_alone(given: &Given<'_>, verb: Verb) -> bool
 fn finish<'a>(taken: Taken<'a>, verb: Verb, form: &Form) -> Result<(&'a str, Given<'a>), Wrong<'a>>
     requires places { form.now.places.now ≡ places_of verb }
     requires least { form.now.least ≡ least_of verb }
-    ensures { told command_of result ≡ finished verb taken.entry.pending (option_copied taken.entry.file) (reading_of taken.entry) }
+    ensures { told with_file result ≡ finished verb taken.entry.pending (option_copied taken.entry.file) (reading_of taken.entry) }
 {
     if taken.pending.is_some() {
         return Err(Wrong::NoValue("the last option"));
@@ -264,24 +265,25 @@ fn finish<'a>(taken: Taken<'a>, verb: Verb, form: &Form) -> Result<(&'a str, Giv
     Ok((file, taken.given))
 }
 
-/// The file and what the words of a command give. The file is the first word at a place, unless it is known.
+/// What the words of a command ask for: that it is run on a file, which is the first word at a place, unless it is known.
 ///
 /// # Errors
 ///
 /// [`Wrong`] says the first word that is wrong, or what is missing.
-pub fn given_of<'a>(
+pub fn task_of<'a>(
     verb: Verb,
     file: Option<&'a str>,
     words: &'a [String],
-) -> Result<(&'a str, Given<'a>), Wrong<'a>>
-    ensures { Gives verb (option_copied file.entry) (map string_bytes words.now) (told command_of result) }
+) -> Result<Task<'a>, Wrong<'a>>
+    ensures { Gives verb (option_copied file.entry) (map string_bytes words.now) (with_mistake result) }
 {
     let form = form_of(verb);
     let mut taken = nothing(file);
     'words: for word in words {
         taken = take(taken, verb, &form, word.as_str())?;
     }
-    finish(taken, verb, &form)
+    let (file, given) = finish(taken, verb, &form)?;
+    Ok(on_file(verb, file, &given))
 }
 
 /// Whether the word after this one is the value of an option that the command takes.
@@ -324,7 +326,7 @@ fn asks_help(verb: Verb, words: &[String]) -> bool
 
 /// What the words after a command ask for.
 fn of_command<'a>(name: &'a str, words: &'a [String]) -> Result<Asked<'a>, Wrong<'a>>
-    ensures { AsksNamed name.now (map string_bytes words.now) (told request_of result) }
+    ensures { AsksNamed name.now (map string_bytes words.now) (with_mistake result) }
 {
     let Some(verb) = verb_of(name) else {
         return Err(Wrong::NoSuchCommand(name));
@@ -332,8 +334,7 @@ fn of_command<'a>(name: &'a str, words: &'a [String]) -> Result<Asked<'a>, Wrong
     if asks_help(verb, words) {
         return Ok(Asked::HelpOf(verb));
     }
-    let (file, given) = given_of(verb, None, words)?;
-    Ok(Asked::Run(verb, file, given))
+    Ok(Asked::Run(task_of(verb, None, words)?))
 }
 
 /// What the words after `help` ask for: the help of the program, or of the command that the first of them names.
@@ -342,7 +343,7 @@ fn of_command<'a>(name: &'a str, words: &'a [String]) -> Result<Asked<'a>, Wrong
 ///
 /// [`Wrong::NoSuchCommand`]
 pub fn help_of<'a>(words: &'a [String]) -> Result<Asked<'a>, Wrong<'a>>
-    ensures { AsksHelpOf (map string_bytes words.now) (told request_of result) }
+    ensures { AsksHelpOf (map string_bytes words.now) (with_mistake result) }
 {
     let Some((name, _)) = words.split_first() else {
         return Ok(Asked::Help);
@@ -359,7 +360,7 @@ pub fn help_of<'a>(words: &'a [String]) -> Result<Asked<'a>, Wrong<'a>>
 ///
 /// [`Wrong`] says the first word that is wrong, or what is missing.
 pub fn read_words<'a>(words: &'a [String]) -> Result<Asked<'a>, Wrong<'a>>
-    ensures { Asks (map string_bytes words.now) (told request_of result) }
+    ensures { Asks (map string_bytes words.now) (with_mistake result) }
 {
     let Some((first, rest)) = words.split_first() else {
         return Err(Wrong::NoCommand);

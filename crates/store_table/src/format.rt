@@ -150,9 +150,8 @@ fn in_format(note: Note) -> Result<Note, StoreFault>
 ///
 /// ```rust crates/mst/src/tasks.rt
 /// let note = recognise(rt.alloc(), log)?;
-/// if verb == Verb::Shell {
-///     return shell::run_lines(rt, log, &note, given.answers);
-/// }
+/// let entries = read_log(rt.alloc(), log)?;
+/// Ok((note, entries))
 /// ```
 ///
 /// # Errors
