@@ -2,6 +2,9 @@
 use crate::{digest::siphash::SipHasher, granted, MerkleSearchTree, OutOfMemory};
 use std::num::NonZeroU8;
 
+/// The level base if no other is given: 16.
+pub(crate) const LEVEL_BASE: NonZeroU8 = NonZeroU8::MIN.saturating_add(15);
+
 /// What the digest of a page is made of.
 #[derive(Debug, Clone, Copy, PartialEq, Eq, Default)]
 pub enum PageFormat {
@@ -54,10 +57,9 @@ pub struct Builder {
 impl Default for Builder {
     /// [`SipHasher`] under the zero key, level base 16 and page format 1, the settings of the crate, and keys that feed their bytes alone.
     fn default() -> Self {
-        const SIXTEEN: NonZeroU8 = NonZeroU8::MIN.saturating_add(15);
         Self {
             hasher: SipHasher::default(),
-            level_base: SIXTEEN,
+            level_base: LEVEL_BASE,
             page_format: PageFormat::V1,
             key_feed: KeyFeed::Bytes,
         }

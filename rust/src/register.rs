@@ -43,11 +43,11 @@
 //! bytes than it has in a message, so the tree has byte strings of those that are hashed, and each reply is written anew with the other form of
 //! its values.
 use crate::{
-    builder::PageFormat,
+    builder::{PageFormat, LEVEL_BASE},
     bytes::HashBytes,
     digest::{siphash::SipHasher, RootHash, ValueDigest},
-    replica::{answering, asking, Fault, Limits, Step, REFUSAL},
-    sync::{self, Answer, Came, Failed, Found, Next, Row, Rows, SyncTree},
+    replica::{answering, asking, expect_same, Fault, Limits, Step, REFUSAL},
+    sync::{self, is_of_the_peer, Answer, Came, Failed, Found, Next, Row, Rows, SyncTree},
     Malformed,
 };
 use std::{
@@ -57,7 +57,6 @@ use std::{
     error::Error,
     fmt,
     io::{self, ErrorKind, Read, Write},
-    num::NonZeroU8,
     ops::{Bound, DerefMut, RangeBounds},
     str,
     time::{SystemTime, UNIX_EPOCH},
@@ -342,33 +341,28 @@ impl<R, W: Write> Write for Pipes<R, W> {
 /// `mst`. It is `Send`, and not `Sync`: a `Mutex` shares it, with the rows, and [`serve_by`] and [`catch_up_by`] lock it for one message at a time.
 pub struct RegisterTree {
     tree: SyncTree,
-    hasher: SipHasher,
-    /// How many catch-ups began.
-    begun: u64,
 }
 
 /// A tree without keys, with the settings of a store.
 fn tree_of(hasher: &SipHasher) -> SyncTree {
-    const SIXTEEN: NonZeroU8 = NonZeroU8::MIN.saturating_add(15);
-    SyncTree::with_settings(hasher, SIXTEEN, PageFormat::V2)
+    SyncTree::with_settings(hasher, LEVEL_BASE, PageFormat::V2)
 }
 
 impl RegisterTree {
     /// A tree without keys. Peers have one hash key, and refuse others, also of a tree without keys.
     pub fn new(hasher: &SipHasher) -> Self {
-        Self { tree: tree_of(hasher), hasher: hasher.clone(), begun: 0 }
+        Self { tree: tree_of(hasher) }
     }
 
     /// Makes the tree that of these rows, by one scan of them: at the start, and whenever it may not have what the rows are. If it fails, the tree
-    /// is as before.
+    /// is as before. A catch-up that is under way ends.
     pub fn load<R: Registers + ?Sized>(&mut self, rows: &mut R) -> Result<(), R::Error> {
-        let mut tree = tree_of(&self.hasher);
-        rows.registers_in(Range { first: "", end: None }, &mut |key, register| {
-            tree.set(key, register.hashed_bytes());
-            true
-        })?;
-        self.tree = tree;
-        Ok(())
+        self.tree.load_by(|set| {
+            rows.registers_in(Range { first: "", end: None }, &mut |key, register| {
+                set(key.as_bytes(), &register.hashed_bytes());
+                true
+            })
+        })
     }
 
     /// Sets a key to the digest of a register: after each commit, to the one that the row now has.
@@ -403,16 +397,13 @@ impl RegisterTree {
 
     /// Begins a catch-up, in place of one that is under way, and returns its first question. It counts the keys.
     pub fn ask(&mut self) -> Result<Vec<u8>, Fault> {
-        let question = self.tree.ask()?;
-        self.begun += 1;
-        Ok(question)
+        self.tree.ask()
     }
 
     /// Takes the reply to the question that was asked last, as [`SyncTree::take`]: any bytes may be given. At the end [`entries_of`] what came is to be
     /// joined, and the tree set to it.
     pub fn take(&mut self, reply: &[u8]) -> Result<Next, Fault> {
-        // No bytes are no reply, as those are none that can't be rewritten: the tree then ends the catch-up.
-        self.tree.take(&replies::with_byte_strings(reply).unwrap_or_default())
+        self.tree.take(&for_the_tree(reply))
     }
 
     /// The reply to a question of a peer, or what it needs of the rows, as [`SyncTree::answer`]: any bytes may be given. If the question asks for a
@@ -432,6 +423,11 @@ impl RegisterTree {
     pub fn answer_with(&mut self, question: &[u8], found: Found) -> Result<Vec<u8>, Fault> {
         replies::with_registers(&self.tree.answer_with(question, found)?)
     }
+}
+
+/// A reply with byte strings in place of registers, or no bytes if it can't be rewritten: these are no reply either, so the tree ends the catch-up.
+fn for_the_tree(reply: &[u8]) -> Vec<u8> {
+    replies::with_byte_strings(reply).unwrap_or_default()
 }
 
 impl fmt::Debug for RegisterTree {
@@ -505,12 +501,9 @@ pub fn answer<R: Registers + ?Sized>(
     rows: &mut R,
     question: &[u8],
 ) -> Result<Vec<u8>, Failed<R::Error>> {
-    if question.starts_with(&BY_DELTA) {
-        return Ok(REFUSAL.to_vec());
-    }
     let mut rows = ByteRows { rows, latest: 0 };
-    let reply = sync::answer(&mut tree.tree, &mut rows, question).map_err(failed_of)?;
-    Ok(replies::with_registers(&reply)?)
+    let answer = tree.answer(question)?;
+    sync::reply_of(answer, &mut rows, |found| tree.answer_with(question, found)).map_err(failed_of)
 }
 
 /// Takes the reply to the question that was asked last by [`RegisterTree::ask`] or by this call. At the end it joins the rows that came, none of
@@ -522,8 +515,7 @@ pub fn take<R: Registers + ?Sized>(
     reply: &[u8],
 ) -> Result<Step, Failed<R::Error>> {
     let mut rows = ByteRows { rows, latest };
-    let reply = replies::with_byte_strings(reply).unwrap_or_default();
-    sync::take(&mut tree.tree, &mut rows, &reply).map_err(failed_of)
+    sync::take(&mut tree.tree, &mut rows, &for_the_tree(reply)).map_err(failed_of)
 }
 
 /// Brings the rows of a peer that serves over a connection, such as `mst serve`, and returns how many came; those of which this side has a later
@@ -548,12 +540,7 @@ pub fn catch_up_within<R: Registers + ?Sized>(
     connection: &mut (impl Read + Write),
 ) -> Result<usize, Failed<R::Error>> {
     let question = tree.ask()?;
-    let caught_up = asking(limits, connection, question, |reply| take(tree, rows, latest, reply));
-    if caught_up.is_err() {
-        // No bytes are a reply to no question: what came of a catch-up that is still under way is let go.
-        let _ = tree.tree.take(&[]);
-    }
-    caught_up
+    asking(limits, connection, question, |reply| take(tree, rows, latest, reply))
 }
 
 /// Answers a peer that catches up, such as `mst pull`, until it says that it is done or ends, and returns how many questions it was answered; those
@@ -576,11 +563,6 @@ pub fn serve_within<R: Registers + ?Sized>(
     answering(limits, connection, |question| answer(tree, rows, question), is_of_the_peer)
 }
 
-/// Whether the peer is to be told that it is refused.
-fn is_of_the_peer<E>(failed: &Failed<E>) -> bool {
-    matches!(failed, Failed::Io(error) if error.kind() == ErrorKind::InvalidData)
-}
-
 /// Brings the rows of a peer into rows that others use meanwhile: [`catch_up_within`] with a tree and rows behind a `Mutex`, which `lock` locks for
 /// each question and for each reply, and not while the peer is waited for. A tree is in one catch-up at a time: if another begins, this one ends
 /// with [`Fault::NotAsking`].
@@ -592,22 +574,13 @@ pub fn catch_up_by<R: Registers, L: DerefMut<Target = (RegisterTree, R)>>(
 ) -> Result<usize, Failed<R::Error>> {
     let (question, mine) = {
         let tree = &mut lock().0;
-        (tree.ask()?, tree.begun)
+        (tree.ask()?, tree.tree.begun)
     };
-    let mut take_mine = |reply: &[u8]| {
+    asking(limits, connection, question, |reply| {
         let (tree, rows) = &mut *lock();
-        if tree.begun == mine {
-            take(tree, rows, latest, reply)
-        } else {
-            Err(Fault::NotAsking.into())
-        }
-    };
-    let caught_up = asking(limits, connection, question, &mut take_mine);
-    if caught_up.is_err() {
-        // No bytes are a reply to no question: what came of a catch-up that is still under way is let go.
-        let _ = take_mine(&[]);
-    }
-    caught_up
+        expect_same(mine, tree.tree.begun)?;
+        take(tree, rows, latest, reply)
+    })
 }
 
 /// Serves a peer by a tree and rows behind a `Mutex`, which `lock` locks for one question at a time: [`serve_within`] in a thread of its own.

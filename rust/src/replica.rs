@@ -31,7 +31,7 @@
 //!
 //! Any other transport carries the messages of [`Replica::ask`], [`Replica::answer`] and [`Replica::take`].
 use crate::{
-    builder::PageFormat,
+    builder::{PageFormat, LEVEL_BASE},
     digest::{siphash::SipHasher, PageDigest, RootHash},
     granted, list,
     settings::Settings,
@@ -201,8 +201,7 @@ pub struct Replica {
 impl Default for Replica {
     /// A replica without rows, under the zero key of SipHash, with level base 16 and page format 1.
     fn default() -> Self {
-        const SIXTEEN: NonZeroU8 = NonZeroU8::MIN.saturating_add(15);
-        Self::with_settings(&SipHasher::default(), SIXTEEN, PageFormat::V1)
+        Self::with_settings(&SipHasher::default(), LEVEL_BASE, PageFormat::V1)
     }
 }
 
@@ -355,15 +354,30 @@ pub fn catch_up_by<L: DerefMut<Target = Replica>>(
         let mut replica = lock();
         (replica.ask()?, replica.begun)
     };
-    let mut take = |reply: &[u8]| {
+    asking(limits, connection, question, |reply| {
         let mut replica = lock();
-        if replica.begun == mine {
-            replica.take(reply)
-        } else {
-            Err(Fault::NotAsking)
-        }
-    };
-    let caught_up = asking(limits, connection, question, |reply| take(reply).map_err(io::Error::from));
+        expect_same(mine, replica.begun)?;
+        Ok(replica.take(reply)?)
+    })
+}
+
+/// [`Fault::NotAsking`] if another catch-up began in the place of one: they have other numbers.
+pub(crate) fn expect_same(mine: u64, begun: u64) -> Result<(), Fault> {
+    if mine == begun {
+        Ok(())
+    } else {
+        Err(Fault::NotAsking)
+    }
+}
+
+/// The asking side over a connection, by a call that takes each reply.
+pub(crate) fn asking<E: From<io::Error>>(
+    limits: Limits,
+    connection: &mut (impl Read + Write),
+    question: Vec<u8>,
+    mut take: impl FnMut(&[u8]) -> Result<Step, E>,
+) -> Result<usize, E> {
+    let caught_up = ask_all(limits, connection, question, &mut take);
     if caught_up.is_err() {
         // No bytes are a reply to no question: what came of a catch-up that is still under way is let go.
         let _ = take(&[]);
@@ -371,8 +385,8 @@ pub fn catch_up_by<L: DerefMut<Target = Replica>>(
     caught_up
 }
 
-/// The asking side over a connection.
-pub(crate) fn asking<E: From<io::Error>>(
+/// Asks until all came.
+fn ask_all<E: From<io::Error>>(
     limits: Limits,
     connection: &mut (impl Read + Write),
     mut question: Vec<u8>,

@@ -119,12 +119,12 @@
 //! # }
 //! ```
 use crate::{
-    builder::PageFormat,
+    builder::{PageFormat, LEVEL_BASE},
     digest::{siphash::SipHasher, Digest, PageDigest, RootHash, ValueDigest},
     granted,
     keys::keys_in,
     list,
-    replica::{self, answering, asking, Fault, Limits, Step, TOO_MANY_ROWS},
+    replica::{self, answering, asking, expect_same, Fault, Limits, Step, TOO_MANY_ROWS},
     settings::Settings,
     sys::{self, Answered, Refused},
     wire::unexpected,
@@ -438,14 +438,13 @@ pub struct SyncTree {
     side: sys::Side,
     settings: Settings,
     /// How many catch-ups began.
-    begun: u64,
+    pub(crate) begun: u64,
 }
 
 impl Default for SyncTree {
     /// A tree without keys, under the zero key of SipHash, with level base 16 and page format 1.
     fn default() -> Self {
-        const SIXTEEN: NonZeroU8 = NonZeroU8::MIN.saturating_add(15);
-        Self::with_settings(&SipHasher::default(), SIXTEEN, PageFormat::V1)
+        Self::with_settings(&SipHasher::default(), LEVEL_BASE, PageFormat::V1)
     }
 }
 
@@ -471,11 +470,21 @@ impl SyncTree {
     /// Call it at the start, and whenever the tree may not have what the rows are. For rows that are read otherwise, call [`SyncTree::set`]
     /// for each, on a new tree.
     pub fn load<R: Rows + ?Sized>(&mut self, rows: &mut R) -> Result<(), R::Error> {
+        self.load_by(|set| {
+            rows.rows_in(Range::ALL, &mut |key, value| {
+                set(key, value);
+                true
+            })
+        })
+    }
+
+    /// The same for rows that a scan sets one by one.
+    pub(crate) fn load_by<E>(
+        &mut self,
+        scan: impl FnOnce(&mut dyn FnMut(&[u8], &[u8])) -> Result<(), E>,
+    ) -> Result<(), E> {
         let mut side = granted(self.settings.side());
-        rows.rows_in(Range::ALL, &mut |key, value| {
-            granted(side.set(key, value));
-            true
-        })?;
+        scan(&mut |key, value| granted(side.set(key, value)))?;
         self.side = side;
         Ok(())
     }
@@ -674,32 +683,52 @@ pub fn answer<R: Rows + ?Sized>(
     rows: &mut R,
     question: &[u8],
 ) -> Result<Vec<u8>, Failed<R::Error>> {
-    match tree.answer(question)? {
-        Answer::Reply(reply) => Ok(reply),
-        Answer::NeedsKeys(keys) => {
-            let mut found = keys.found();
-            for key in keys.iter() {
-                let value = rows.value(key).map_err(Failed::Rows)?;
-                if !found.value(key, value.as_deref()) {
-                    break;
-                }
-            }
-            Ok(tree.answer_with(question, found)?)
-        }
-        Answer::NeedsRanges(ranges) => {
-            let mut found = ranges.found();
-            for range in ranges.iter() {
-                if !find_in(range, rows, &mut found)? {
-                    break;
-                }
-            }
-            Ok(tree.answer_with(question, found)?)
-        }
-    }
+    reply_of(tree.answer(question)?, rows, |found| tree.answer_with(question, found))
 }
 
-/// Looks up the rows of a range, and answers whether others are needed.
-fn find_in<R: Rows + ?Sized>(range: Range<'_>, rows: &mut R, found: &mut Found) -> Result<bool, Failed<R::Error>> {
+/// The reply that an answer comes to, of the rows that it needs.
+pub(crate) fn reply_of<R: Rows + ?Sized>(
+    answer: Answer,
+    rows: &mut R,
+    reply_with: impl FnOnce(Found) -> Result<Vec<u8>, Fault>,
+) -> Result<Vec<u8>, Failed<R::Error>> {
+    let found = match answer {
+        Answer::Reply(reply) => return Ok(reply),
+        Answer::NeedsKeys(keys) => look_up_keys(&keys, rows)?,
+        Answer::NeedsRanges(ranges) => look_up_ranges(&ranges, rows)?,
+    };
+    Ok(reply_with(found)?)
+}
+
+/// Looks up the rows at keys, until they are enough.
+fn look_up_keys<R: Rows + ?Sized>(keys: &Keys, rows: &mut R) -> Result<Found, Failed<R::Error>> {
+    let mut found = keys.found();
+    for key in keys.iter() {
+        let value = rows.value(key).map_err(Failed::Rows)?;
+        if !found.value(key, value.as_deref()) {
+            break;
+        }
+    }
+    Ok(found)
+}
+
+/// Looks up the rows in ranges, until they are enough.
+fn look_up_ranges<R: Rows + ?Sized>(ranges: &Ranges, rows: &mut R) -> Result<Found, Failed<R::Error>> {
+    let mut found = ranges.found();
+    for range in ranges.iter() {
+        if !look_up_range(range, rows, &mut found)? {
+            break;
+        }
+    }
+    Ok(found)
+}
+
+/// Looks up the rows in a range, and says whether others are needed.
+fn look_up_range<R: Rows + ?Sized>(
+    range: Range<'_>,
+    rows: &mut R,
+    found: &mut Found,
+) -> Result<bool, Failed<R::Error>> {
     let (mut goes_on, mut is_first, mut in_order) = (true, true, true);
     let mut give = |key: &[u8], value: &[u8]| {
         if goes_on {
@@ -724,7 +753,7 @@ pub fn take<R: Rows + ?Sized>(tree: &mut SyncTree, rows: &mut R, reply: &[u8]) -
 }
 
 /// The same if no more rows than this came; else none is joined.
-fn take_within<R: Rows + ?Sized>(
+pub(crate) fn take_within<R: Rows + ?Sized>(
     most: usize,
     tree: &mut SyncTree,
     rows: &mut R,
@@ -765,12 +794,7 @@ pub fn catch_up_within<R: Rows + ?Sized>(
     connection: &mut (impl Read + Write),
 ) -> Result<usize, Failed<R::Error>> {
     let question = tree.ask()?;
-    let caught_up = asking(limits, connection, question, |reply| take_within(limits.session_rows, tree, rows, reply));
-    if caught_up.is_err() {
-        // No bytes are a reply to no question: what came of a catch-up that is still under way is let go.
-        let _ = tree.take(&[]);
-    }
-    caught_up
+    asking(limits, connection, question, |reply| take_within(limits.session_rows, tree, rows, reply))
 }
 
 /// Answers a peer that catches up, until it says that it is done or ends, and returns how many questions it was answered. A reply has some 16 MiB
@@ -798,7 +822,7 @@ pub fn serve_within<R: Rows + ?Sized>(
 }
 
 /// Whether the peer is to be told that it is refused.
-fn is_of_the_peer<E>(failed: &Failed<E>) -> bool {
+pub(crate) fn is_of_the_peer<E>(failed: &Failed<E>) -> bool {
     matches!(failed, Failed::Io(error) if error.kind() == ErrorKind::InvalidData)
 }
 
@@ -838,21 +862,11 @@ pub fn catch_up_by<R: Rows, L: DerefMut<Target = (SyncTree, R)>>(
         let tree = &mut lock().0;
         (tree.ask()?, tree.begun)
     };
-    let mut take = |reply: &[u8]| {
-        let mut both = lock();
-        let (tree, rows) = &mut *both;
-        if tree.begun == mine {
-            take_within(limits.session_rows, tree, rows, reply)
-        } else {
-            Err(Fault::NotAsking.into())
-        }
-    };
-    let caught_up = asking(limits, connection, question, &mut take);
-    if caught_up.is_err() {
-        // No bytes are a reply to no question: what came of a catch-up that is still under way is let go.
-        let _ = take(&[]);
-    }
-    caught_up
+    asking(limits, connection, question, |reply| {
+        let (tree, rows) = &mut *lock();
+        expect_same(mine, tree.begun)?;
+        take_within(limits.session_rows, tree, rows, reply)
+    })
 }
 
 /// Serves a peer by a tree and rows behind a `Mutex`, which `lock` locks for one question at a time: [`serve_within`] in a thread of its own.
@@ -861,10 +875,9 @@ pub fn serve_by<R: Rows, L: DerefMut<Target = (SyncTree, R)>>(
     connection: &mut (impl Read + Write),
     mut lock: impl FnMut() -> L,
 ) -> Result<usize, Failed<R::Error>> {
-    let answer = |question: &[u8]| {
-        let mut both = lock();
-        let (tree, rows) = &mut *both;
+    let answer_locked = |question: &[u8]| {
+        let (tree, rows) = &mut *lock();
         answer(tree, rows, question)
     };
-    answering(limits, connection, answer, is_of_the_peer)
+    answering(limits, connection, answer_locked, is_of_the_peer)
 }
