@@ -1,22 +1,14 @@
 //! A tree and rows that others write: what a tree says of them, and how it is brought into step.
+mod common;
+
+use common::{draws, Model, Settings};
 use merkle_search_tree::{
     builder::PageFormat,
     digest::siphash::SipHasher,
     replica::Replica,
     sync::{answer, Came, Give, Next, Range, Row, Rows, SyncTree},
 };
-use std::{collections::BTreeMap, num::NonZeroU8};
-
-type Model = BTreeMap<Vec<u8>, Vec<u8>>;
-
-fn draws(mut state: u64) -> impl FnMut(u64) -> u64 {
-    move |below| {
-        state ^= state << 13;
-        state ^= state >> 7;
-        state ^= state << 17;
-        (state >> 16) % below
-    }
-}
+use std::num::NonZeroU8;
 
 /// A key that shares much, little or nothing with others.
 fn key(draw: &mut impl FnMut(u64) -> u64) -> Vec<u8> {
@@ -43,7 +35,7 @@ fn differing(one: &Model, other: &Model) -> Vec<Vec<u8>> {
     both.into_keys().filter(|key| one.get(key) != other.get(key)).collect()
 }
 
-fn settings() -> impl Iterator<Item = (SipHasher, NonZeroU8, PageFormat)> {
+fn settings() -> impl Iterator<Item = Settings> {
     let base = |base| NonZeroU8::new(base).unwrap();
     [
         (SipHasher::default(), base(16), PageFormat::V1),
@@ -54,7 +46,7 @@ fn settings() -> impl Iterator<Item = (SipHasher, NonZeroU8, PageFormat)> {
     .into_iter()
 }
 
-fn tree_of(rows: &Model, (hasher, base, format): &(SipHasher, NonZeroU8, PageFormat)) -> SyncTree {
+fn tree_of(rows: &Model, (hasher, base, format): &Settings) -> SyncTree {
     let mut tree = SyncTree::with_settings(hasher, *base, *format);
     tree.extend(rows);
     tree

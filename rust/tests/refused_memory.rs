@@ -3,6 +3,9 @@
 //!
 //! The functions below take the place of those of C's library in this program. They refuse what the proved library asks for, and nothing that Rust's
 //! own collections do.
+mod common;
+
+use common::{joined, Model};
 use merkle_search_tree::{
     replica::{Fault, Replica, Step},
     sync::{answer, catch_up, serve, take, Answer, Failed, SyncTree},
@@ -11,7 +14,6 @@ use merkle_search_tree::{
 use std::{
     alloc::{GlobalAlloc, Layout, System},
     cell::{Cell, RefCell},
-    collections::BTreeMap,
     ffi::c_void,
     io::ErrorKind,
     os::unix::net::UnixStream,
@@ -107,18 +109,8 @@ fn with_each_refused<T>(mut call: impl FnMut() -> T, mut refused: impl FnMut(T),
     unreachable!("a call makes less than 2^63 requests")
 }
 
-type Model = BTreeMap<Vec<u8>, Vec<u8>>;
-
 fn every(step: usize) -> Model {
     (0..300).step_by(step).map(|i| (format!("{i}").into_bytes(), vec![b'0' + step as u8; 20])).collect()
-}
-
-fn joined(left: &Model, right: &Model) -> Model {
-    left.iter().chain(right).fold(Model::new(), |mut rows, (key, value)| {
-        let held = rows.entry(key.clone()).or_default();
-        *held = value.max(held).clone();
-        rows
-    })
 }
 
 fn is_in_step(tree: &mut SyncTree, rows: &Model) -> bool {

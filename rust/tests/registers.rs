@@ -1,5 +1,8 @@
 //! Registers and trees of them: bytes, order and digests, catch-ups of such rows, rows that fail, and peers that don't keep to the messages.
 //! tests/store_peers has the store `mst` as the peer.
+mod common;
+
+use common::{draws, framed, Peer};
 use merkle_search_tree::{
     builder::{Builder, PageFormat},
     digest::siphash::SipHasher,
@@ -14,7 +17,7 @@ use merkle_search_tree::{
 use std::{
     collections::BTreeMap,
     convert::Infallible,
-    io::{self, Cursor, ErrorKind, Read, Write},
+    io::{self, ErrorKind},
     ops::RangeBounds,
     os::unix::net::UnixStream,
     str,
@@ -128,15 +131,6 @@ fn joined(left: &Table, right: &Table) -> Table {
         *held = held.clone().max(register.clone());
     }
     rows
-}
-
-fn draws(mut state: u64) -> impl FnMut(u64) -> u64 {
-    move |below| {
-        state ^= state << 13;
-        state ^= state >> 7;
-        state ^= state << 17;
-        (state >> 16) % below
-    }
 }
 
 /// Random registers: texts, other bytes and removals, at equal times and by equal writers, too.
@@ -366,19 +360,23 @@ fn threads_that_share_a_side() {
 
 #[test]
 fn a_catch_up_in_the_place_of_another() {
-    let hub = Mutex::new(side(&ours()));
-    let mut peer = Said::new(&[&hex(REPLIES[0]), &hex(REPLIES[1])]);
-    let mut locked = 0;
-    let caught_up = catch_up_by(Limits::default(), latest(), &mut peer, || {
-        let mut side = hub.lock().unwrap();
-        locked += 1;
-        if locked == 3 {
-            side.0.ask().unwrap();
-        }
-        side
-    });
-    assert_eq!(fault_of(&io::Error::from(caught_up.unwrap_err())), Some(&Fault::NotAsking));
-    assert_eq!(hub.lock().unwrap().1, ours());
+    for is_loaded in [false, true] {
+        let (hub, mut locked) = (Mutex::new(side(&ours())), 0);
+        let caught_up = catch_up_by(Limits::default(), latest(), &mut Peer::saying(&REPLIES.map(hex)), || {
+            let mut side = hub.lock().unwrap();
+            locked += 1;
+            if locked == 3 {
+                let (tree, rows) = &mut *side;
+                if is_loaded {
+                    let Ok(()) = tree.load(rows);
+                }
+                tree.ask().unwrap();
+            }
+            side
+        });
+        assert_eq!(fault_of(&io::Error::from(caught_up.unwrap_err())), Some(&Fault::NotAsking));
+        assert_eq!(hub.lock().unwrap().1, ours());
+    }
 }
 
 #[test]
@@ -421,42 +419,16 @@ fn untaken_of(error: &io::Error) -> Option<&Untaken> {
     error.get_ref().and_then(|inner| inner.downcast_ref())
 }
 
-/// A peer that says what it is given, and keeps what it is told.
-struct Said(Cursor<Vec<u8>>, Vec<u8>);
-
-impl Said {
-    fn new(messages: &[&[u8]]) -> Self {
-        let framed = messages.iter().flat_map(|message| [&(message.len() as u64).to_le_bytes()[..], message].concat());
-        Self(Cursor::new(framed.collect()), Vec::new())
-    }
-}
-
-impl Read for Said {
-    fn read(&mut self, out: &mut [u8]) -> io::Result<usize> {
-        self.0.read(out)
-    }
-}
-
-impl Write for Said {
-    fn write(&mut self, bytes: &[u8]) -> io::Result<usize> {
-        self.1.write(bytes)
-    }
-
-    fn flush(&mut self) -> io::Result<()> {
-        Ok(())
-    }
-}
-
 #[test]
 fn a_peer_that_asks_for_a_delta() {
     let (mut tree, mut rows) = side(&theirs());
     let [root, plain] = ASKED.map(hex);
     let by_delta = [&hex("01 06 01 e4cfb95f")[..], &plain].concat();
     assert_eq!(answer(&mut tree, &mut rows, &by_delta).unwrap(), REFUSAL);
-    let mut peer = Said::new(&[&root, &by_delta, &plain, &[]]);
+    let mut peer = Peer::saying(&[&root[..], &by_delta, &plain, &[]]);
     assert_eq!(serve(&mut tree, &mut rows, &mut peer).unwrap(), 3);
     let last = answer(&mut tree, &mut rows, &plain).unwrap();
-    assert_eq!(peer.1, Said::new(&[&hex(REPLIES[0]), &REFUSAL, &last]).0.into_inner());
+    assert_eq!(peer.heard, framed(&[&hex(REPLIES[0])[..], &REFUSAL, &last]));
 }
 
 #[test]
@@ -488,7 +460,7 @@ fn entries_that_are_ahead_of_the_clock() {
         let mut peer = side(&table);
         // The root, and all rows.
         let [root, all] = [hex(ASKED[0]), hex("01 05 01 00 00")].map(|question| reply_of(&mut peer, &question));
-        let said = || Said::new(&[&root, &all]);
+        let said = || Peer::saying(&[&root, &all]);
         let (mut tree, mut rows) = side(&Table::new());
         assert_eq!(catch_up(&mut tree, &mut rows, &mut said()).is_ok(), is_taken);
         assert_eq!(rows, if is_taken { table } else { Table::new() });
@@ -503,10 +475,10 @@ fn entries_that_are_ahead_of_the_clock() {
 fn keys_that_are_no_texts() {
     for asked in ["01 04 01 02 01ff", "01 05 01 01 02 01ff 00", "01 05 01 00 01 02 01ff"] {
         let (mut tree, mut rows) = side(&theirs());
-        let mut peer = Said::new(&[&hex(asked)]);
+        let mut peer = Peer::saying(&[hex(asked)]);
         let error = io::Error::from(serve(&mut tree, &mut rows, &mut peer).unwrap_err());
         assert_eq!(fault_of(&error), Some(&Fault::Malformed));
-        assert_eq!(peer.1, Said::new(&[&REFUSAL]).0.into_inner());
+        assert_eq!(peer.heard, framed(&[REFUSAL]));
     }
     let replies = ["01 81  01 01 bbefd75681059d8a56c3b0cdc2b67183", "01 85  01 02 01ff 00 00 00  01"].map(hex);
     let mut ours = side(&Table::new());
@@ -547,10 +519,10 @@ fn replies_that_are_cut_or_altered() {
 
 #[test]
 fn a_peer_that_breaks_off() {
-    let whole = Said::new(&[&hex(REPLIES[0]), &hex(REPLIES[1])]).0.into_inner();
+    let whole = framed(&REPLIES.map(hex));
     for len in 0..whole.len() {
         let (mut tree, mut rows) = side(&ours());
-        let mut peer = Said(Cursor::new(whole[..len].to_vec()), Vec::new());
+        let mut peer = Peer::sending(&whole[..len]);
         let error = io::Error::from(catch_up(&mut tree, &mut rows, &mut peer).unwrap_err());
         assert_eq!((error.kind(), rows), (ErrorKind::UnexpectedEof, ours()));
     }
@@ -582,11 +554,11 @@ impl Registers for ReadOnly {
 fn rows_that_fail() {
     let (mut tree, rows) = side(&ours());
     let mut rows = ReadOnly(rows);
-    let mut peer = Said::new(&[&hex(REPLIES[0]), &hex(REPLIES[1])]);
+    let mut peer = Peer::saying(&REPLIES.map(hex));
     assert_eq!(catch_up(&mut tree, &mut rows, &mut peer).unwrap_err().to_string(), "read-only");
     assert_eq!(tree.root_hash(), side(&ours()).0.root_hash());
     let asks_bee = hex("01 04 01 04 03626565");
-    let mut peer = Said::new(&[&asks_bee]);
+    let mut peer = Peer::saying(&[asks_bee]);
     assert_eq!(serve(&mut tree, &mut rows, &mut peer).unwrap_err().to_string(), "no bee");
-    assert!(peer.1.is_empty());
+    assert!(peer.heard.is_empty());
 }

@@ -1,70 +1,34 @@
 //! Sessions that end early or have bounds: connections that are cut or silent, messages and rows above the limits, and settings that differ, also
 //! where a side has no row.
+#[macro_use]
+mod common;
+
+use common::{
+    assert_has, both_ways, both_ways_over, by_steps, fault, joined, kind, other_settings, Model, Side, Store,
+};
 use merkle_search_tree::{
-    builder::PageFormat,
-    digest::siphash::SipHasher,
-    replica::{Fault, Limits, Replica, Step, REFUSAL},
-    sync::{answer, catch_up, catch_up_within, serve, serve_within, take, Failed, SyncTree},
+    replica::{Fault, Limits, Replica, REFUSAL},
+    sync::SyncTree,
 };
 use std::{
-    collections::BTreeMap,
-    convert::Infallible,
-    fmt,
     io::{self, ErrorKind, Read, Write},
     net::{Shutdown, TcpListener, TcpStream},
-    num::NonZeroU8,
     os::unix::net::UnixStream,
     thread,
     time::{Duration, Instant},
 };
 
-type Model = BTreeMap<Vec<u8>, Vec<u8>>;
-type Kept = (SyncTree, Model);
-type Ended<T = usize> = Result<T, Failed<Infallible>>;
+of_each_kind!(
+    connections_that_are_cut_after_each_byte,
+    a_peer_that_is_silent,
+    a_peer_that_takes_nothing,
+    a_peer_that_sends_a_byte_now_and_then_until_another_thread_shuts_the_connection,
+    settings_that_differ_are_an_error_in_one_round_without_rows_too,
+    sides_without_rows_that_have_the_same_settings,
+);
 
 fn every(step: usize, most: usize) -> Model {
     (0..most).step_by(step).map(|i| (format!("{i}").into_bytes(), vec![b'0' + step as u8; 20])).collect()
-}
-
-fn kept(rows: &Model) -> Kept {
-    (SyncTree::from_iter(rows), rows.clone())
-}
-
-/// The rows that both come to hold, by maps alone.
-fn joined(left: &Model, right: &Model) -> Model {
-    let mut rows = left.clone();
-    for (key, value) in right {
-        let held = rows.entry(key.clone()).or_default();
-        *held = value.max(held).clone();
-    }
-    rows
-}
-
-fn is_in_step((tree, rows): &mut Kept) -> bool {
-    tree.root_hash() == Replica::from_iter(&*rows).root_hash()
-}
-
-fn kind<T: fmt::Debug>(ended: Ended<T>) -> ErrorKind {
-    match ended.unwrap_err() {
-        Failed::Io(error) => error.kind(),
-        other => panic!("{other:?}"),
-    }
-}
-
-/// A catch-up each way over a connection that the side that begins has the end of.
-fn both_ways(left: &mut Kept, right: &mut Kept, mut ours: impl Read + Write, theirs: UnixStream) -> [Ended<()>; 2] {
-    thread::scope(|scope| {
-        let peer = scope.spawn(move || {
-            let mut theirs = theirs;
-            serve(&mut right.0, &mut right.1, &mut theirs)?;
-            catch_up(&mut right.0, &mut right.1, &mut theirs).map(drop)
-        });
-        let first = catch_up(&mut left.0, &mut left.1, &mut ours)
-            .and_then(|_| serve(&mut left.0, &mut left.1, &mut ours))
-            .map(drop);
-        drop(ours);
-        [first, peer.join().unwrap()]
-    })
 }
 
 /// A connection that is lost once so many bytes went over it, both ways together.
@@ -104,30 +68,28 @@ impl Write for Cut {
     }
 }
 
-#[test]
-fn connections_that_are_cut_after_each_byte() {
+fn connections_that_are_cut_after_each_byte<S: Side>() {
     let (left, right) = (every(2, 24), every(3, 24));
     let (wanted, mut lengths) = (joined(&left, &right), Vec::new());
     for left_over in 0.. {
-        let (mut ours, mut theirs) = (kept(&left), kept(&right));
+        let (mut ours, mut theirs) = (S::new(&left), S::new(&right));
         let (connection, their_end) = UnixStream::pair().unwrap();
-        let ends = both_ways(&mut ours, &mut theirs, Cut { connection, left: left_over }, their_end);
-        assert!(is_in_step(&mut ours) && is_in_step(&mut theirs));
-        assert!([&left, &wanted].contains(&&ours.1) && [&right, &wanted].contains(&&theirs.1));
+        let ends = both_ways_over(&mut ours, &mut theirs, Cut { connection, left: left_over }, their_end);
+        let has_all = [&ours, &theirs].map(|side| side.held() == wanted);
+        assert_has(&mut ours, if has_all[0] { &wanted } else { &left });
+        assert_has(&mut theirs, if has_all[1] { &wanted } else { &right });
         if ends.iter().all(Result::is_ok) {
-            assert_eq!((&ours.1, &theirs.1), (&wanted, &wanted));
+            assert_eq!(has_all, [true; 2]);
             assert!(lengths.starts_with(&[[false; 2], [true, false]]) && left_over > 500, "{lengths:?} {left_over}");
             return;
         }
         // How many bytes it takes until one side has all, and then the other.
-        let has_all = [&ours, &theirs].map(|side| side.1 == wanted);
         if lengths.last() != Some(&has_all) {
             lengths.push(has_all);
         }
-        let (connection, their_end) = UnixStream::pair().unwrap();
-        assert!(both_ways(&mut ours, &mut theirs, connection, their_end).iter().all(Result::is_ok));
-        assert_eq!((&ours.1, &theirs.1), (&wanted, &wanted));
-        assert!(is_in_step(&mut ours) && is_in_step(&mut theirs));
+        assert!(both_ways(&mut ours, &mut theirs).iter().all(Result::is_ok));
+        assert_has(&mut ours, &wanted);
+        assert_has(&mut theirs, &wanted);
     }
 }
 
@@ -138,9 +100,14 @@ fn tcp() -> (TcpStream, TcpStream) {
     (ours, listener.accept().unwrap().0)
 }
 
-#[test]
-fn a_peer_that_is_silent() {
-    let (mut ours, before) = (kept(&every(2, 24)), every(2, 24));
+/// Whether a session ended since the peer was waited for too long.
+fn timed_out(ended: io::Result<usize>) -> bool {
+    matches!(kind(ended), ErrorKind::WouldBlock | ErrorKind::TimedOut)
+}
+
+fn a_peer_that_is_silent<S: Side>() {
+    let (left, right) = (every(2, 24), every(3, 24));
+    let mut ours = S::new(&left);
     // Before any byte, within a length, and within a message.
     for said in [&[][..], &[9, 0], &[9, 0, 0, 0, 0, 0, 0, 0, 1, 129]] {
         for asks in [true, false] {
@@ -148,38 +115,31 @@ fn a_peer_that_is_silent() {
             connection.set_read_timeout(Some(Duration::from_millis(50))).unwrap();
             peer.write_all(said).unwrap();
             let begun = Instant::now();
-            let ended = match asks {
-                true => catch_up(&mut ours.0, &mut ours.1, &mut connection),
-                false => serve(&mut ours.0, &mut ours.1, &mut connection),
-            };
-            assert!(matches!(kind(ended), ErrorKind::WouldBlock | ErrorKind::TimedOut));
-            assert!(begun.elapsed() < Duration::from_secs(10) && is_in_step(&mut ours) && ours.1 == before);
+            assert!(timed_out(if asks { ours.catch_up(&mut connection) } else { ours.serve(&mut connection) }));
+            assert!(begun.elapsed() < Duration::from_secs(10));
+            assert_has(&mut ours, &left);
         }
     }
-    let mut theirs = kept(&every(3, 24));
-    let (connection, their_end) = UnixStream::pair().unwrap();
-    assert!(both_ways(&mut ours, &mut theirs, connection, their_end).iter().all(Result::is_ok));
-    assert_eq!((&ours.1, &theirs.1), (&joined(&before, &every(3, 24)), &ours.1));
+    let mut theirs = S::new(&right);
+    assert!(both_ways(&mut ours, &mut theirs).iter().all(Result::is_ok));
+    assert_has(&mut ours, &joined(&left, &right));
+    assert_has(&mut theirs, &joined(&left, &right));
 }
 
-#[test]
-fn a_peer_that_takes_nothing() {
-    let row = (b"key".to_vec(), vec![1; 1 << 25]);
-    let mut ours = kept(&Model::from([row]));
+fn a_peer_that_takes_nothing<S: Side>() {
+    let rows = Model::from([(b"key".to_vec(), vec![1; 1 << 25])]);
+    let mut ours = S::new(&rows);
     let (mut connection, mut peer) = tcp();
     connection.set_write_timeout(Some(Duration::from_millis(50))).unwrap();
     let question = [1, 5, 1, 0, 0];
     peer.write_all(&[&5_u64.to_le_bytes(), &question[..]].concat()).unwrap();
-    assert!(matches!(
-        kind(serve(&mut ours.0, &mut ours.1, &mut connection)),
-        ErrorKind::WouldBlock | ErrorKind::TimedOut
-    ));
-    assert!(is_in_step(&mut ours));
+    assert!(timed_out(ours.serve(&mut connection)));
+    assert_has(&mut ours, &rows);
 }
 
-#[test]
-fn a_peer_that_sends_a_byte_now_and_then_until_another_thread_shuts_the_connection() {
-    let (mut ours, before) = (kept(&every(2, 24)), every(2, 24));
+fn a_peer_that_sends_a_byte_now_and_then_until_another_thread_shuts_the_connection<S: Side>() {
+    let before = every(2, 24);
+    let mut ours = S::new(&before);
     let (mut connection, mut peer) = tcp();
     connection.set_read_timeout(Some(Duration::from_millis(500))).unwrap();
     let other = connection.try_clone().unwrap();
@@ -194,32 +154,18 @@ fn a_peer_that_sends_a_byte_now_and_then_until_another_thread_shuts_the_connecti
             thread::sleep(Duration::from_millis(200));
             other.shutdown(Shutdown::Both)
         });
-        assert_eq!(kind(catch_up(&mut ours.0, &mut ours.1, &mut connection)), ErrorKind::UnexpectedEof);
+        assert_eq!(kind(ours.catch_up(&mut connection)), ErrorKind::UnexpectedEof);
         drop(connection);
     });
-    assert!(is_in_step(&mut ours) && ours.1 == before);
-}
-
-/// How many rows come in a catch-up, and how many bytes its messages have.
-fn cost(left: &Model, right: &Model) -> (usize, u64) {
-    let (mut ours, mut theirs, mut bytes) = (kept(left), kept(right), 0);
-    let mut question = ours.0.ask().unwrap();
-    loop {
-        let reply = answer(&mut theirs.0, &mut theirs.1, &question).unwrap();
-        bytes += (question.len() + reply.len()) as u64;
-        match take(&mut ours.0, &mut ours.1, &reply).unwrap() {
-            Step::Ask(next) => question = next,
-            Step::Joined(came) => return (came, bytes),
-        }
-    }
+    assert_has(&mut ours, &before);
 }
 
 /// A catch-up with limits for both sides.
-fn within(asks: Limits, answers: Limits, ours: &mut Kept, theirs: &mut Kept) -> Ended {
+fn within(asks: Limits, answers: Limits, ours: &mut impl Side, theirs: &mut impl Side) -> io::Result<usize> {
     let (mut connection, mut their_end) = UnixStream::pair().unwrap();
     thread::scope(|scope| {
-        scope.spawn(move || serve_within(answers, &mut theirs.0, &mut theirs.1, &mut their_end));
-        let came = catch_up_within(asks, &mut ours.0, &mut ours.1, &mut connection);
+        scope.spawn(move || theirs.serve_within(answers, &mut their_end));
+        let came = ours.catch_up_within(asks, &mut connection);
         drop(connection);
         came
     })
@@ -229,9 +175,10 @@ fn within(asks: Limits, answers: Limits, ours: &mut Kept, theirs: &mut Kept) -> 
 fn bounds_on_the_bytes_and_the_rows_of_a_session() {
     let (left, right) = (every(2, 300), every(3, 300));
     let all = Limits::default();
-    let (came, bytes) = cost(&left, &right);
+    let mut answering = Store::new(&right);
+    let (came, bytes) = by_steps(&mut Store::new(&left), |question| answering.answer(question)).unwrap();
     assert!(came == 100 && bytes > 2000, "{came} {bytes}");
-    let bytes_of = |session_bytes| Limits { session_bytes, ..all };
+    let bytes_of = |bytes: usize| Limits { session_bytes: bytes as u64, ..all };
     let rows_of = |session_rows| Limits { session_rows, ..all };
     for (asks, answers, well) in [
         (bytes_of(bytes), all, true),
@@ -244,58 +191,43 @@ fn bounds_on_the_bytes_and_the_rows_of_a_session() {
         (rows_of(came - 1), all, false),
         (all, rows_of(0), true),
     ] {
-        let (mut ours, mut theirs) = (kept(&left), kept(&right));
+        let (mut ours, mut theirs) = (Store::new(&left), Store::new(&right));
         let ended = within(asks, answers, &mut ours, &mut theirs);
-        assert!(is_in_step(&mut ours) && theirs.1 == right);
+        assert_has(&mut theirs, &right);
         if well {
-            assert_eq!((ended.unwrap(), ours.1), (came, joined(&left, &right)));
+            assert_eq!(ended.unwrap(), came);
+            assert_has(&mut ours, &joined(&left, &right));
         } else {
-            assert_eq!((kind(ended), &ours.1), (ErrorKind::InvalidData, &left));
+            assert_eq!(kind(ended), ErrorKind::InvalidData);
+            assert_has(&mut ours, &left);
             assert_eq!(within(all, all, &mut ours, &mut theirs).unwrap(), came);
         }
     }
     let (mut ours, mut theirs) = (Replica::from_iter(&left), Replica::from_iter(&right));
-    let (mut connection, mut their_end) = UnixStream::pair().unwrap();
-    let ended = thread::scope(|scope| {
-        scope.spawn(move || theirs.serve(&mut their_end));
-        let ended = ours.catch_up_within(bytes_of(1000), &mut connection);
-        drop(connection);
-        ended
-    });
-    assert_eq!((ended.unwrap_err().kind(), ours.len()), (ErrorKind::InvalidData, left.len()));
+    assert_eq!(kind(within(bytes_of(1000), all, &mut ours, &mut theirs)), ErrorKind::InvalidData);
+    assert_has(&mut ours, &left);
 }
 
-#[test]
-fn settings_that_differ_are_an_error_in_one_round_without_rows_too() {
-    let (sixteen, none) = (NonZeroU8::new(16).unwrap(), Model::new());
-    for (hasher, base, format) in [
-        (SipHasher::new(b"a key of SipHash"), sixteen, PageFormat::V1),
-        (SipHasher::default(), NonZeroU8::MAX, PageFormat::V1),
-        (SipHasher::default(), sixteen, PageFormat::V2),
-    ] {
+fn settings_that_differ_are_an_error_in_one_round_without_rows_too<S: Side>() {
+    let none = Model::new();
+    for settings in other_settings() {
         for (left, right) in [(&none, &every(3, 24)), (&every(2, 24), &none), (&none, &none)] {
-            let (mut ours, mut theirs) = ((SyncTree::with_settings(&hasher, base, format), left.clone()), kept(right));
-            ours.0.extend(left);
-            let mut held = Replica::with_settings(&hasher, base, format);
-            held.extend(left);
-            for question in [ours.0.ask().unwrap(), held.ask().unwrap()] {
-                assert!(matches!(theirs.0.answer(&question), Err(Fault::OtherSettings)));
-                assert_eq!(Replica::from_iter(right).answer(&question), Err(Fault::OtherSettings));
-            }
-            assert!(matches!(ours.0.take(&REFUSAL), Err(Fault::Refused)));
-            assert_eq!(held.take(&REFUSAL), Err(Fault::Refused));
+            let mut ours = S::with(left, &settings);
+            let question = ours.ask().unwrap();
+            assert_eq!(Replica::from_iter(right).answer(&question), Err(Fault::OtherSettings));
+            assert!(matches!(SyncTree::from_iter(right).answer(&question), Err(Fault::OtherSettings)));
+            assert_eq!(fault(ours.take(&REFUSAL)), Fault::Refused);
         }
     }
 }
 
-#[test]
-fn sides_without_rows_that_have_the_same_settings() {
-    let hasher = SipHasher::new(b"a key of SipHash");
-    let tree = || SyncTree::with_settings(&hasher, NonZeroU8::MIN, PageFormat::V2);
-    let (mut ours, mut theirs) = ((tree(), Model::new()), (tree(), Model::new()));
-    assert_eq!(within(Limits::default(), Limits::default(), &mut ours, &mut theirs).unwrap(), 0);
-    theirs.1 = Model::from([(Vec::new(), b"of the empty key".to_vec()), (b"kiwi".to_vec(), Vec::new())]);
-    theirs.0.extend(&theirs.1);
-    assert_eq!(within(Limits::default(), Limits::default(), &mut ours, &mut theirs).unwrap(), 2);
-    assert_eq!((&ours.1, ours.0.root_hash()), (&theirs.1, theirs.0.root_hash()));
+fn sides_without_rows_that_have_the_same_settings<S: Side>() {
+    for settings in other_settings() {
+        let [mut ours, mut theirs] = [(); 2].map(|()| S::with(&Model::new(), &settings));
+        assert_eq!(both_ways(&mut ours, &mut theirs).map(Result::unwrap), [0, 0]);
+        let rows = Model::from([(Vec::new(), b"of the empty key".to_vec()), (b"kiwi".to_vec(), Vec::new())]);
+        let mut theirs = S::with(&rows, &settings);
+        assert_eq!(both_ways(&mut ours, &mut theirs).map(Result::unwrap), [2, 0]);
+        assert_eq!((ours.held(), ours.root_hash()), (rows, theirs.root_hash()));
+    }
 }

@@ -1,118 +1,22 @@
-//! Rows that are elsewhere: the tree of their digests, catch-ups with each other and with replicas, rows that fail, and peers that don't keep to the
-//! messages.
+//! Rows that are elsewhere: the tree of their digests, questions about rows, steps without rows at hand, and rows that fail.
 mod common;
 
-use common::{drawn, draws, every, joined, lacked, model, other_settings, Begun, Model, Peer};
+use common::{assert_has, by_steps, drawn, draws, every, joined, lacked, model, of, Model, Peer, Side, Store};
 use merkle_search_tree::{
     builder::{Builder, PageFormat},
     digest::siphash::SipHasher,
-    replica::{Fault, Limits, Replica, Step, REFUSAL},
-    sync::{
-        answer, catch_up, catch_up_by, catch_up_within, serve, serve_by, serve_within, take, Answer, Came, Failed,
-        Give, Next, Range, Row, Rows, SyncTree,
-    },
+    replica::{Fault, Replica},
+    sync::{answer, catch_up, serve, Answer, Came, Failed, Give, Next, Range, Row, Rows, SyncTree},
     MerkleSearchTree,
 };
 use std::{
-    collections::BTreeSet,
     convert::Infallible,
     error::Error,
-    io::{self, Cursor, ErrorKind},
+    io::{self, ErrorKind},
     num::NonZeroU8,
     os::unix::net::UnixStream,
-    sync::{Barrier, Mutex},
     thread,
-    time::Duration,
 };
-
-/// Rows in a map, and their tree.
-type Store = (SyncTree, Model);
-
-fn store(rows: &Model) -> Store {
-    let (mut tree, mut rows) = (SyncTree::default(), rows.clone());
-    tree.load(&mut rows).unwrap();
-    (tree, rows)
-}
-
-/// Whether the tree is that of the rows.
-fn is_in_step((tree, rows): &mut Store) -> bool {
-    tree.root_hash() == Replica::from_iter(&*rows).root_hash()
-}
-
-fn of(step: usize) -> Store {
-    store(&every(step))
-}
-
-/// A catch-up without a connection: how many rows came, and how many bytes went both ways.
-fn by_steps(
-    (tree, rows): &mut Store,
-    mut answer: impl FnMut(&[u8]) -> Option<Vec<u8>>,
-) -> Result<(usize, usize), Failed<Infallible>> {
-    let (mut question, mut size) = (tree.ask()?, 0);
-    loop {
-        let reply = answer(&question).unwrap_or_else(|| REFUSAL.to_vec());
-        size += question.len() + reply.len();
-        match take(tree, rows, &reply)? {
-            Step::Ask(next) => question = next,
-            Step::Joined(came) => return Ok((came, size)),
-        }
-    }
-}
-
-/// A store whose rows are elsewhere, or a replica.
-enum Side {
-    Store(Store),
-    Replica(Replica),
-}
-
-impl Side {
-    fn of(rows: &Model, is_store: bool) -> Self {
-        if is_store {
-            Self::Store(store(rows))
-        } else {
-            Self::Replica(Replica::from_iter(rows))
-        }
-    }
-
-    fn catch_up(&mut self, connection: &mut UnixStream) -> io::Result<usize> {
-        match self {
-            Self::Store((tree, rows)) => Ok(catch_up(tree, rows, connection)?),
-            Self::Replica(replica) => replica.catch_up(connection),
-        }
-    }
-
-    fn serve(&mut self, connection: &mut UnixStream) -> io::Result<usize> {
-        match self {
-            Self::Store((tree, rows)) => Ok(serve(tree, rows, connection)?),
-            Self::Replica(replica) => replica.serve(connection),
-        }
-    }
-
-    /// The rows, of which the tree is in step.
-    fn rows(&mut self) -> Model {
-        match self {
-            Self::Store(store) => {
-                assert!(is_in_step(store));
-                store.1.clone()
-            }
-            Self::Replica(replica) => model(replica),
-        }
-    }
-}
-
-/// A catch-up each way over one connection: how many rows came to each side.
-fn both_ways(left: &mut Side, right: &mut Side) -> (io::Result<usize>, io::Result<usize>) {
-    let (mut ours, mut theirs) = UnixStream::pair().unwrap();
-    thread::scope(|scope| {
-        let peer = scope.spawn(move || {
-            right.serve(&mut theirs)?;
-            right.catch_up(&mut theirs)
-        });
-        let came = left.catch_up(&mut ours).and_then(|came| left.serve(&mut ours).map(|_| came));
-        drop(ours);
-        (came, peer.join().unwrap())
-    })
-}
 
 #[test]
 fn the_tree_is_that_of_the_rows() {
@@ -154,7 +58,7 @@ fn under_other_settings() {
             peer.extend(&theirs);
             let wanted = joined(&rows, &theirs);
             let mut ours = (tree, rows);
-            by_steps(&mut ours, |question| peer.answer(question).ok()).unwrap();
+            by_steps(&mut ours, |question| Side::answer(&mut peer, question)).unwrap();
             assert_eq!(ours.1, wanted);
         }
     }
@@ -162,7 +66,7 @@ fn under_other_settings() {
 
 #[test]
 fn a_load_takes_the_place_of_the_tree() {
-    let (mut tree, mut rows) = of(2);
+    let (mut tree, mut rows) = of::<Store>(2);
     tree.set("another", "1");
     let question = tree.ask().unwrap();
     tree.load(&mut rows).unwrap();
@@ -172,62 +76,7 @@ fn a_load_takes_the_place_of_the_tree() {
     assert_eq!(tree.load(&mut Failing { rows: every(3), well: 0, commits: false }), Err("no database"));
     assert_eq!(tree.root_hash(), before);
     tree.load(&mut Failing { rows: every(3), well: 1, commits: false }).unwrap();
-    assert_eq!(tree.root_hash(), of(3).0.root_hash());
-}
-
-#[test]
-fn both_come_to_hold_the_join() {
-    let mut draw = draws(7);
-    for size in [0, 1, 5, 60, 400].repeat(8) {
-        for kinds in [[true, true], [true, false], [false, true]] {
-            let (left, right) = (drawn(&mut draw, size), drawn(&mut draw, size));
-            let wanted = joined(&left, &right);
-            let [mut ours, mut theirs] =
-                [(&left, kinds[0]), (&right, kinds[1])].map(|(rows, kind)| Side::of(rows, kind));
-            let came = both_ways(&mut ours, &mut theirs);
-            assert_eq!((came.0.unwrap(), came.1.unwrap()), (lacked(&left, &right), lacked(&right, &wanted)));
-            assert_eq!((ours.rows(), theirs.rows()), (wanted.clone(), wanted));
-        }
-    }
-}
-
-#[test]
-fn rows_that_are_changed_missing_or_more() {
-    let all: Model = (0..2000)
-        .map(|i| (format!("key{i:04}").into_bytes(), format!("{i} and a value as long as that").into_bytes()))
-        .collect();
-    for at in [0, 1, 777, 1998, 1999] {
-        let key = format!("key{at:04}").into_bytes();
-        let (mut greater, mut less, mut fewer) = (all.clone(), all.clone(), all.clone());
-        greater.insert(key.clone(), b"z".to_vec());
-        less.insert(key.clone(), b"".to_vec());
-        fewer.remove(&key);
-        for (theirs, ours, came) in [(&greater, &all, 1), (&less, &all, 1), (&all, &fewer, 1), (&fewer, &all, 0)] {
-            for is_store in [true, false] {
-                let (mut ours, mut peer, wanted) = (store(ours), Side::of(theirs, is_store), joined(ours, theirs));
-                let (brought, size) = by_steps(&mut ours, |question| match &mut peer {
-                    Side::Store((tree, rows)) => answer(tree, rows, question).ok(),
-                    Side::Replica(replica) => replica.answer(question).ok(),
-                })
-                .unwrap();
-                assert_eq!((brought, &ours.1), (came, &wanted));
-                assert!(is_in_step(&mut ours) && size < 4000, "{size}");
-            }
-        }
-    }
-}
-
-#[test]
-fn what_it_costs_is_what_differs() {
-    let rows: Model = (0..20_000).map(|i| (format!("key{i:06}").into_bytes(), Vec::new())).collect();
-    let [mut ours, mut theirs] = [(); 2].map(|()| store(&rows));
-    theirs.1.insert(b"key012345".to_vec(), b"new".to_vec());
-    theirs.0.set("key012345", "new");
-    let (came, size) = by_steps(&mut ours, |question| answer(&mut theirs.0, &mut theirs.1, question).ok()).unwrap();
-    assert_eq!((came, &ours.1), (1, &theirs.1));
-    assert!(size < 2500, "{size}");
-    let (came, size) = by_steps(&mut ours, |question| answer(&mut theirs.0, &mut theirs.1, question).ok()).unwrap();
-    assert!(came == 0 && size < 100, "{size}");
+    assert_eq!(tree.root_hash(), Replica::from_iter(&every(3)).root_hash());
 }
 
 /// Rows that count how many of them are read.
@@ -420,7 +269,7 @@ fn questions_in_any_order_and_replies_that_are_cut() {
     let (mut draw, mut cut_short) = (draws(13), [0; 2]);
     for _ in 0..2000 {
         let rows = shared_rows(&mut draw);
-        let ((mut tree, mut table), mut replica) = (store(&rows), Replica::from_iter(&rows));
+        let ((mut tree, mut table), mut replica) = (Store::new(&rows), Replica::from_iter(&rows));
         let keys: Vec<_> = (0..draw(8)).map(|_| near(&rows, &mut draw)).collect();
         let gaps: Vec<_> =
             (0..draw(6)).map(|_| [(); 2].map(|()| (draw(4) > 0).then(|| near(&rows, &mut draw)))).collect();
@@ -485,8 +334,8 @@ fn steps_without_rows_at_hand() {
 
 #[test]
 fn rows_that_were_found_for_another_question() {
-    let (mut tree, rows) = of(2);
-    let (for_all, question) = (asks_for_gaps(&[[None, None]]), of(3).0.ask().unwrap());
+    let (mut tree, rows) = of::<Store>(2);
+    let (for_all, question) = (asks_for_gaps(&[[None, None]]), of::<Store>(3).ask().unwrap());
     assert!(matches!(tree.answer(&question), Ok(Answer::Reply(_))));
     let mut found = |bytes: usize| {
         let Answer::NeedsRanges(ranges) = tree.answer(&for_all).unwrap() else { panic!() };
@@ -542,13 +391,13 @@ impl Rows for Failing {
 #[test]
 fn a_join_that_fails() {
     for commits in [false, true] {
-        let (mut tree, rows) = of(2);
-        let (before, mut peer) = (tree.root_hash(), of(3));
+        let (mut tree, rows) = of::<Store>(2);
+        let (before, mut peer) = (tree.root_hash(), of::<Store>(3));
         let mut rows = Failing { rows, well: 0, commits };
         let mut caught_up = |tree: &mut SyncTree, rows: &mut Failing| {
             let ((mut ours, mut theirs), peer) = (UnixStream::pair().unwrap(), &mut peer);
             thread::scope(|scope| {
-                scope.spawn(move || serve(&mut peer.0, &mut peer.1, &mut theirs).unwrap());
+                scope.spawn(move || peer.serve(&mut theirs).unwrap());
                 let caught_up = catch_up(tree, rows, &mut ours);
                 drop(ours);
                 caught_up
@@ -579,15 +428,15 @@ fn look_ups_that_fail() {
         let mut rows = Failing { rows: long(every(2)), well, commits: false };
         let (mut tree, mut replica) = (SyncTree::from_iter(&rows.rows), Replica::from_iter(&long(every(7))));
         let (mut ours, mut theirs) = UnixStream::pair().unwrap();
-        let (came, (served, in_step)) = thread::scope(|scope| {
+        let (came, (served, mut side)) = thread::scope(|scope| {
             let peer = scope.spawn(move || {
                 let served = serve(&mut tree, &mut rows, &mut theirs);
                 drop(theirs);
-                (served, is_in_step(&mut (tree, rows.rows)))
+                (served, (tree, rows.rows))
             });
             (replica.catch_up(&mut ours), peer.join().unwrap())
         });
-        assert!(in_step);
+        assert_has(&mut side, &long(every(2)));
         match served {
             Ok(_) => {
                 assert!(came.unwrap() > 0 && ends > 0);
@@ -648,286 +497,19 @@ fn rows_that_dont_ascend_or_lie_elsewhere() {
 }
 
 #[test]
-fn other_settings_are_refused() {
-    for (hasher, base, format) in other_settings() {
-        let (mut ours, mut theirs) = (of(2), SyncTree::with_settings(&hasher, base, format));
-        theirs.set("a", "1");
-        let question = ours.0.ask().unwrap();
-        assert!(matches!(theirs.answer(&question), Err(Fault::OtherSettings)));
-        assert!(matches!(ours.0.take(&REFUSAL), Err(Fault::Refused)));
-        let [mut left, mut right] =
-            [Side::Store(of(2)), Side::Store((theirs, Model::from([(b"a".to_vec(), b"1".to_vec())])))];
-        let (ours_end, theirs_end) = both_ways(&mut left, &mut right);
-        let faults = [ours_end, theirs_end].map(|end| {
-            let error = end.unwrap_err();
-            assert_eq!(error.kind(), ErrorKind::InvalidData);
-            *error.get_ref().unwrap().downcast_ref::<Fault>().unwrap()
-        });
-        assert_eq!(faults, [Fault::Refused, Fault::OtherSettings]);
-        assert_eq!(left.rows(), every(2));
-    }
-}
-
-/// What a peer says in a catch-up.
-fn said(asking: &mut Store, peer: &mut Store) -> Vec<Vec<u8>> {
-    let mut said = Vec::new();
-    by_steps(asking, |question| {
-        said.push(answer(&mut peer.0, &mut peer.1, question).unwrap());
-        said.last().cloned()
-    })
-    .unwrap();
-    said
-}
-
-/// Why a catch-up or a session of answers ended.
-fn kind<T: std::fmt::Debug>(ended: Result<T, Failed<Infallible>>) -> ErrorKind {
-    match ended.unwrap_err() {
-        Failed::Io(error) => error.kind(),
-        other => panic!("{other:?}"),
-    }
-}
-
-#[test]
-fn peers_that_break_off() {
-    let said = said(&mut of(2), &mut of(3));
-    let whole: Vec<&[u8]> = said.iter().map(Vec::as_slice).collect();
-    let bytes = Peer::saying(&whole).says.into_inner();
-    let mut ours = of(2);
-    for end in 0..bytes.len() {
-        let mut peer = Peer { says: Cursor::new(bytes[..end].to_vec()), heard: Vec::new() };
-        assert_eq!(kind(catch_up(&mut ours.0, &mut ours.1, &mut peer)), ErrorKind::UnexpectedEof, "{end}");
-        assert_eq!(ours.1, every(2));
-        assert!(is_in_step(&mut ours) && matches!(ours.0.take(&[]), Err(Fault::NotAsking)));
-    }
-    assert_eq!(catch_up(&mut ours.0, &mut ours.1, &mut Peer::saying(&whole)).unwrap(), 50);
-    assert!(is_in_step(&mut ours) && ours.1 == joined(&every(2), &every(3)));
-    assert_eq!(serve(&mut ours.0, &mut ours.1, &mut Peer::saying(&[])).unwrap(), 0);
-    for end in [1, 7, 8, 9] {
-        let mut peer = Peer::saying(&[&[1, 2, 16, 1, 0, 0]]);
-        peer.says.get_mut().truncate(end);
-        assert_eq!(kind(serve(&mut ours.0, &mut ours.1, &mut peer)), ErrorKind::UnexpectedEof);
-        assert!(peer.heard.is_empty());
-    }
-}
-
-#[test]
-fn what_is_no_message() {
-    let said = said(&mut of(2), &mut of(3));
-    let first = &said[0][..];
-    let longer = [first, &[0]].concat();
-    let cases: [&[&[u8]]; 8] = [
-        &[b""],
-        &[b"\x01"],
-        &[&first[..first.len() - 1]],
-        &[&longer],
-        &[first, first],
-        &[first, b"no reply"],
-        &[&said[1]],
-        &[&[0; 2000]],
-    ];
-    for (at, messages) in cases.into_iter().enumerate() {
-        let ((mut tree, mut rows), limits) = (of(2), Limits { bytes: 1000, ..Limits::default() });
-        let refused = catch_up_within(limits, &mut tree, &mut rows, &mut Peer::saying(messages));
-        assert_eq!((kind(refused), &rows), (ErrorKind::InvalidData, &every(2)), "{at}");
-        assert!(matches!(tree.take(first), Err(Fault::NotAsking)), "{at}");
-        assert!(is_in_step(&mut (tree, rows)));
-    }
-    let question = of(2).0.ask().unwrap();
-    let longer = [&question[..], &[0]].concat();
-    let cases: [&[u8]; 6] = [b"", b"\x01", &question[..question.len() - 1], &longer, &REFUSAL, first];
-    for (at, message) in cases.into_iter().enumerate() {
-        let ((mut tree, mut rows), mut peer) = (of(2), Peer::saying(&[message]));
-        assert!(matches!(tree.answer(message), Err(Fault::Malformed)), "{at}");
-        if !message.is_empty() {
-            assert_eq!(kind(serve(&mut tree, &mut rows, &mut peer)), ErrorKind::InvalidData, "{at}");
-            assert!(peer.was_refused() && rows == every(2), "{at}");
-        }
-    }
-}
-
-#[test]
-fn limits() {
-    let (mut tree, mut rows) = of(3);
-    let question = of(2).0.ask().unwrap();
-    let within = |bytes: usize| Limits { bytes: bytes as u64, ..Limits::default() };
-    let mut peer = Peer::saying(&[&question]);
-    assert_eq!(kind(serve_within(within(question.len() - 1), &mut tree, &mut rows, &mut peer)), ErrorKind::InvalidData);
-    assert!(peer.was_refused());
-    assert_eq!(serve_within(within(question.len()), &mut tree, &mut rows, &mut Peer::saying(&[&question])).unwrap(), 1);
-    let two = Limits { messages: 2, ..Limits::default() };
-    let mut peer = Peer::saying(&[&question, &question, &question]);
-    assert_eq!(kind(serve_within(two, &mut tree, &mut rows, &mut peer)), ErrorKind::InvalidData);
-    assert!(peer.was_refused());
-    assert_eq!(serve_within(two, &mut tree, &mut rows, &mut Peer::saying(&[&question, &question])).unwrap(), 2);
-    assert_eq!(serve_within(two, &mut tree, &mut rows, &mut Peer::saying(&[&question, b"", &question])).unwrap(), 1);
-
-    let said = said(&mut store(&Model::new()), &mut of(3));
-    let (whole, longest) =
-        (said.iter().map(Vec::as_slice).collect::<Vec<_>>(), said.iter().map(Vec::len).max().unwrap());
-    for limits in [Limits { messages: 1, ..Limits::default() }, within(longest - 1)] {
-        let (mut tree, mut rows) = store(&Model::new());
-        assert_eq!(
-            kind(catch_up_within(limits, &mut tree, &mut rows, &mut Peer::saying(&whole))),
-            ErrorKind::InvalidData
-        );
-        assert!(rows.is_empty() && tree.is_empty() && matches!(tree.take(&[]), Err(Fault::NotAsking)));
-    }
-    let (mut tree, mut rows) = store(&Model::new());
-    let limits = Limits { messages: 2, ..within(longest) };
-    assert_eq!(catch_up_within(limits, &mut tree, &mut rows, &mut Peer::saying(&whole)).unwrap(), 100);
-}
-
-#[test]
-fn messages_that_are_altered() {
-    let mut said = said(&mut of(2), &mut of(3));
-    let (mut draw, mut ends, before) = (draws(11), BTreeSet::new(), every(2));
-    let limits = Limits { bytes: 1 << 20, messages: 50, ..Limits::default() };
-    let (mut other, mut ours) = (of(3), of(2));
-    for _ in 0..3000 {
-        let message = draw(said.len() as u64) as usize;
-        let whole_one = said[message].clone();
-        for _ in 0..1 + draw(2) {
-            let below = if draw(2) == 0 { 8.min(whole_one.len()) } else { whole_one.len() };
-            said[message][draw(below as u64) as usize] = draw(256) as u8;
-        }
-        let whole: Vec<&[u8]> = said.iter().map(Vec::as_slice).collect();
-        let end = catch_up_within(limits, &mut ours.0, &mut ours.1, &mut Peer::saying(&whole));
-        assert!(is_in_step(&mut ours));
-        if end.is_ok() {
-            assert!(before.iter().all(|(key, value)| ours.1[key] >= *value));
-            ours = of(2);
-        } else {
-            assert_eq!(ours.1, before);
-        }
-        ends.insert(end.map(|_| ErrorKind::Other).map_err(|failed| kind(Err::<(), _>(failed))));
-        let _ = answer(&mut other.0, &mut other.1, &said[message]);
-        said[message] = whole_one;
-    }
-    let questions = [
-        of(2).0.ask().unwrap(),
-        asks_for_keys(&[b"3".to_vec(), b"150".to_vec()]),
-        asks_for_gaps(&[[None, Some(b"20".to_vec())]]),
-    ];
-    for at in 0..9000 {
-        let mut question = questions[at % 3].clone();
+fn questions_that_are_altered() {
+    let (mut draw, mut side) = (draws(11), of::<Store>(3));
+    let questions = [asks_for_keys(&[b"3".to_vec(), b"150".to_vec()]), asks_for_gaps(&[[None, Some(b"20".to_vec())]])];
+    for at in 0..6000 {
+        let mut question = questions[at % 2].clone();
         let byte = draw(question.len() as u64) as usize;
         question[byte] = draw(256) as u8;
-        if let Ok(reply) = answer(&mut other.0, &mut other.1, &question) {
-            // What rows it has is what a replica says.
-            if [4, 5].contains(&question[1]) {
-                assert_eq!(reply, Replica::from_iter(&every(3)).answer(&question).unwrap());
-            }
+        // What rows it has is what a replica says.
+        if let (Ok(reply), [4 | 5, ..]) = (side.answer(&question), &question[1..]) {
+            assert_eq!(reply, Replica::from_iter(&every(3)).answer(&question).unwrap());
         }
     }
-    assert!(is_in_step(&mut other) && other.1 == every(3));
-    assert!(ends.contains(&Ok(ErrorKind::Other)) && ends.contains(&Err(ErrorKind::InvalidData)), "{ends:?}");
-}
-
-#[test]
-fn threads_share_a_tree_and_its_rows() {
-    let hub = Mutex::new(of(7));
-    let mut peers = [2, 3, 5].map(|step| Replica::from_iter(&every(step)));
-    thread::scope(|scope| {
-        for peer in &mut peers {
-            let (mut ours, mut theirs) = UnixStream::pair().unwrap();
-            let hub = &hub;
-            scope.spawn(move || serve_by(Limits::default(), &mut ours, || hub.lock().unwrap()).unwrap());
-            scope.spawn(move || assert!(peer.catch_up(&mut theirs).unwrap() > 0));
-        }
-    });
-    let mut hub = hub.into_inner().unwrap();
-    for (peer, step) in peers.iter_mut().zip([2, 3, 5]) {
-        assert_eq!(model(peer), joined(&every(step), &every(7)));
-        by_steps(&mut hub, |question| peer.answer(question).ok()).unwrap();
-    }
-    assert_eq!(hub.1, [2, 3, 5].map(every).iter().fold(every(7), |rows, more| joined(&rows, more)));
-    assert!(is_in_step(&mut hub));
-}
-
-/// One catch-up of a hub with another that is served by a thread of its own.
-fn with_a_hub(
-    asks: &Mutex<Store>,
-    answers: &Mutex<Store>,
-    begun: Option<&Barrier>,
-) -> Result<usize, Failed<Infallible>> {
-    let (ours, mut theirs) = UnixStream::pair()?;
-    ours.set_read_timeout(Some(Duration::from_secs(20)))?;
-    thread::scope(|scope| {
-        scope.spawn(move || serve_by(Limits::default(), &mut theirs, || answers.lock().unwrap()).unwrap());
-        catch_up_by(Limits::default(), &mut Begun(ours, begun), || asks.lock().unwrap())
-    })
-}
-
-#[test]
-fn hubs_catch_up_with_each_other_at_the_same_time() {
-    for steps in [[2, 3], [3, 7], [1, 300]] {
-        let hubs = steps.map(|step| Mutex::new(of(step)));
-        let begun = Barrier::new(2);
-        thread::scope(|scope| {
-            for [asks, answers] in [[&hubs[0], &hubs[1]], [&hubs[1], &hubs[0]]] {
-                let begun = &begun;
-                scope.spawn(move || {
-                    let mut ended = with_a_hub(asks, answers, Some(begun));
-                    // The rows that came to the other may have been joined between two replies.
-                    while matches!(&ended, Err(Failed::Io(error)) if error.kind() == ErrorKind::InvalidData) {
-                        ended = with_a_hub(asks, answers, None);
-                    }
-                    ended.unwrap()
-                });
-            }
-        });
-        let wanted = joined(&every(steps[0]), &every(steps[1]));
-        for hub in hubs {
-            let mut hub = hub.into_inner().unwrap();
-            assert!(is_in_step(&mut hub) && hub.1 == wanted);
-        }
-    }
-}
-
-#[test]
-fn another_catch_up_takes_the_place_of_one() {
-    let (hub, mut theirs) = (Mutex::new(of(2)), of(3));
-    let said = said(&mut of(2), &mut of(3));
-    let whole: Vec<&[u8]> = said.iter().map(Vec::as_slice).collect();
-    let (mut locked, mut question) = (0, Vec::new());
-    let ended = catch_up_by(Limits::default(), &mut Peer::saying(&whole), || {
-        locked += 1;
-        let mut hub = hub.lock().unwrap();
-        if locked == 2 {
-            question = hub.0.ask().unwrap();
-        }
-        hub
-    });
-    let ended = io::Error::from(ended.unwrap_err());
-    assert_eq!(ended.get_ref().unwrap().downcast_ref(), Some(&Fault::NotAsking));
-    let (mut tree, mut rows) = hub.into_inner().unwrap();
-    while let Step::Ask(next) =
-        take(&mut tree, &mut rows, &answer(&mut theirs.0, &mut theirs.1, &question).unwrap()).unwrap()
-    {
-        question = next;
-    }
-    assert_eq!(rows, joined(&every(2), &every(3)));
-    assert!(is_in_step(&mut (tree, rows)));
-}
-
-#[test]
-fn what_is_written_in_between_stays_and_a_tree_answers_while_it_asks() {
-    let (mut ours, mut theirs, mut third) = (of(2), of(3), of(5));
-    let mut question = ours.0.ask().unwrap();
-    loop {
-        ours.1.insert(b"own".to_vec(), b"1".to_vec());
-        ours.0.set("own", "1");
-        by_steps(&mut third, |question| answer(&mut ours.0, &mut ours.1, question).ok()).unwrap();
-        let reply = answer(&mut theirs.0, &mut theirs.1, &question).unwrap();
-        match take(&mut ours.0, &mut ours.1, &reply).unwrap() {
-            Step::Ask(next) => question = next,
-            Step::Joined(_) => break,
-        }
-    }
-    let own = Model::from([(b"own".to_vec(), b"1".to_vec())]);
-    assert_eq!(ours.1, joined(&joined(&every(2), &every(3)), &own));
-    assert_eq!(third.1, joined(&joined(&every(2), &every(5)), &own));
-    assert!(is_in_step(&mut ours) && is_in_step(&mut third));
+    assert_has(&mut side, &every(3));
 }
 
 #[test]
