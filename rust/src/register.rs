@@ -514,8 +514,19 @@ pub fn take<R: Registers + ?Sized>(
     latest: u64,
     reply: &[u8],
 ) -> Result<Step, Failed<R::Error>> {
+    take_within(usize::MAX, latest, tree, rows, reply)
+}
+
+/// The same if no more rows than this came; else none is joined.
+fn take_within<R: Registers + ?Sized>(
+    most: usize,
+    latest: u64,
+    tree: &mut RegisterTree,
+    rows: &mut R,
+    reply: &[u8],
+) -> Result<Step, Failed<R::Error>> {
     let mut rows = ByteRows { rows, latest };
-    sync::take(&mut tree.tree, &mut rows, &for_the_tree(reply)).map_err(failed_of)
+    sync::take_within(most, &mut tree.tree, &mut rows, &for_the_tree(reply)).map_err(failed_of)
 }
 
 /// Brings the rows of a peer that serves over a connection, such as `mst serve`, and returns how many came; those of which this side has a later
@@ -540,7 +551,7 @@ pub fn catch_up_within<R: Registers + ?Sized>(
     connection: &mut (impl Read + Write),
 ) -> Result<usize, Failed<R::Error>> {
     let question = tree.ask()?;
-    asking(limits, connection, question, |reply| take(tree, rows, latest, reply))
+    asking(limits, connection, question, |reply| take_within(limits.session_rows, latest, tree, rows, reply))
 }
 
 /// Answers a peer that catches up, such as `mst pull`, until it says that it is done or ends, and returns how many questions it was answered; those
@@ -579,7 +590,7 @@ pub fn catch_up_by<R: Registers, L: DerefMut<Target = (RegisterTree, R)>>(
     asking(limits, connection, question, |reply| {
         let (tree, rows) = &mut *lock();
         expect_same(mine, tree.tree.begun)?;
-        take(tree, rows, latest, reply)
+        take_within(limits.session_rows, latest, tree, rows, reply)
     })
 }
 

@@ -63,8 +63,8 @@ pub struct Limits {
     pub messages: usize,
     /// How many bytes the messages of one catch-up have together at most, those that are sent and those that come.
     pub session_bytes: u64,
-    /// How many rows one catch-up brings at most: if more come, none is joined. This bounds a [`SyncTree`](crate::sync::SyncTree) alone: a
-    /// [`Replica`] joins what comes within the other bounds.
+    /// How many rows one catch-up brings at most: if more come, none is joined. This bounds a [`SyncTree`](crate::sync::SyncTree) and a
+    /// [`RegisterTree`](crate::register::RegisterTree): a [`Replica`] joins what comes within the other bounds.
     pub session_rows: usize,
 }
 

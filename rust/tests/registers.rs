@@ -528,6 +528,24 @@ fn a_peer_that_breaks_off() {
     }
 }
 
+#[test]
+fn more_rows_than_the_limit() {
+    for (session_rows, is_taken) in [(2, true), (1, false)] {
+        let limits = Limits { session_rows, ..Limits::default() };
+        let said = || Peer::saying(&REPLIES.map(hex));
+        let (mut tree, mut rows) = side(&ours());
+        let caught_up = catch_up_within(limits, latest(), &mut tree, &mut rows, &mut said());
+        let shared = Mutex::new(side(&ours()));
+        let caught_up_by = catch_up_by(limits, latest(), &mut said(), || shared.lock().unwrap());
+        for (came, (mut tree, rows)) in [(caught_up, (tree, rows)), (caught_up_by, shared.into_inner().unwrap())] {
+            let wanted = if is_taken { theirs() } else { ours() };
+            let came = came.map_err(|failed| io::Error::from(failed).kind());
+            assert_eq!(came, if is_taken { Ok(2) } else { Err(ErrorKind::InvalidData) });
+            assert_eq!((tree.root_hash(), rows), (side(&wanted).0.root_hash(), wanted));
+        }
+    }
+}
+
 /// Rows that can be read, and not be written.
 struct ReadOnly(Table);
 
