@@ -4,7 +4,7 @@ import functools
 import os
 import sys
 import threading
-from typing import Any, Callable, ContextManager
+from typing import Any, Callable, ContextManager, TypeVar
 
 DONE, NO_MEMORY, MALFORMED, TOO_SHORT, BAD_ARGUMENT, ABSENT, OTHER_SETTINGS, REFUSED, NEEDS_ROWS = range(9)
 
@@ -109,6 +109,49 @@ class _Library:
 
 
 library = _Library()
+_Held = TypeVar("_Held", bound="Handle")
+
+
+class Handle:
+    """A tree or a replica, as memory outside of Python."""
+
+    __slots__ = ("_handle", "_address", "__weakref__")
+
+    def __init__(self) -> None:
+        self._handle = ctypes.c_void_p()
+        self._address = ctypes.addressof(self._handle)
+
+    def _free(self) -> None:
+        """Gives the memory back, if there is some."""
+        raise NotImplementedError
+
+    def close(self) -> None:
+        """Gives the memory back. To close it twice does no harm."""
+        self._free()
+
+    def __enter__(self: _Held) -> _Held:
+        return self
+
+    def __exit__(self, *_error: object) -> None:
+        self.close()
+
+    def __del__(self) -> None:
+        if hasattr(self, "_address"):
+            self._free()
+
+    def __repr__(self) -> str:
+        name = type(self).__name__
+        return f"<{name} at {self._handle.value:#x}>" if self._handle.value else f"<{name}, closed>"
+
+
+def check_settings(key: bytes, level_base: int, page_format: int) -> None:
+    """ValueError if one of these settings isn't one."""
+    if len(key) != 16:
+        raise ValueError("the key of SipHash is of 16 bytes")
+    if not 1 <= level_base <= 255:
+        raise ValueError("the level base is from 1 to 255")
+    if page_format not in (1, 2):
+        raise ValueError("the page format is 1 or 2")
 
 
 def check(status: int) -> None:

@@ -5,13 +5,12 @@ it has in a message, so here the tree has byte strings of those that are hashed,
 """
 import asyncio
 import contextlib
-import functools
 from typing import Generator, Iterable, Iterator, List, Optional, Protocol, Tuple
 
-from . import _wire
 from ._library import DONE, MALFORMED, MalformedError
 from ._register import Register, milliseconds, of_hashed_bytes, with_byte_strings, with_registers
-from ._sync_tree import SyncTree, _in_thread
+from ._sessions import Sessions
+from ._sync_tree import SyncTree
 from ._wire import LIMIT, MESSAGES, REFUSAL, SESSION_BYTES, SESSION_ROWS, Read, Write
 
 MOST_TEXT = 1 << 20
@@ -47,9 +46,11 @@ class RegisterRows(Protocol):
         and one that is there the later stays."""
 
 
-class RegisterTree:
+class RegisterTree(Sessions[RegisterRows, Entry]):
     """The digests of rows of registers that are kept elsewhere, in a tree as `mst` has one; and catch-ups of these rows with stores of `mst` and with
-    other such trees. It is used as a `SyncTree`, whose documentation says more of the calls.
+    other such trees. It is used as a `SyncTree`, whose documentation says more of the calls. Over a connection, after `mst serve --both` at the other end,
+    call `catch_up` and then `serve`; with `mst pull` call `serve`, and after `mst pull --both` also `catch_up`. `serve` counts questions that asked for a
+    delta, too.
 
     >>> class Rows:
     ...     def __init__(self):
@@ -101,10 +102,6 @@ class RegisterTree:
         """How many keys there are, removed ones too. It counts them."""
         return len(self._tree)
 
-    def __bool__(self) -> bool:
-        """A tree is true, as it is without a key."""
-        return True
-
     def root_hash(self) -> bytes:
         """The root hash, 16 bytes: that of a store of `mst` with these rows and this hash key. `mst root` prints it in base64."""
         return self._tree.root_hash()
@@ -138,42 +135,24 @@ class RegisterTree:
         """Brings the rows of a peer that runs `serve` or `mst serve` over a connection, joins them, and returns how many came. At the end the peer is
         told so: then it may catch up, and this side serve, over the same connection, as with `mst serve --both`. The rest is as for a `SyncTree`,
         with the errors of `catch_up_steps`."""
-        self.refresh(rows)
         steps = self.catch_up_steps(messages=messages, session_bytes=session_bytes, session_rows=session_rows, latest=latest)
-        came = _wire.ask(steps, read, write, limit)
-        self.join(rows, came)
-        _wire.send(write, b"")
-        return len(came)
-
-    def serve(self, rows: RegisterRows, read: Read, write: Write, *, limit: int = LIMIT, messages: int = MESSAGES,
-              session_bytes: int = SESSION_BYTES) -> int:
-        """Answers a peer that runs `catch_up` or `mst pull`, until it says that it is done or ends, and returns how many questions it was answered;
-        those that asked for a delta count too. After `mst pull --both` call `catch_up`. The rest is as for a `SyncTree`."""
-        return _wire.answer(functools.partial(self._answer, rows), read, write, limit, messages, _wire.Spent(session_bytes))
+        return self._catch_up(rows, steps, read, write, limit)
 
     async def catch_up_streams(self, rows: RegisterRows, reader: asyncio.StreamReader, writer: asyncio.StreamWriter, *, limit: int = LIMIT,
                                messages: int = MESSAGES, session_bytes: int = SESSION_BYTES, session_rows: int = SESSION_ROWS,
                                latest: "Optional[int]" = None) -> int:
         """The same as `catch_up`, over the streams of asyncio. The rows are called in threads, as by a `SyncTree`."""
-        await _in_thread(self.refresh, rows)
         steps = self.catch_up_steps(messages=messages, session_bytes=session_bytes, session_rows=session_rows, latest=latest)
-        came = await _wire.ask_streams(steps, reader, writer, limit)
-        await _in_thread(self.join, rows, came)
-        await _wire.send_stream(writer, b"")
-        return len(came)
-
-    async def serve_streams(self, rows: RegisterRows, reader: asyncio.StreamReader, writer: asyncio.StreamWriter, *, limit: int = LIMIT,
-                            messages: int = MESSAGES, session_bytes: int = SESSION_BYTES) -> int:
-        """The same as `serve`, over the streams of asyncio, with the rows called as in `catch_up_streams`."""
-        answer = functools.partial(_in_thread, self._answer, rows)
-        return await _wire.answer_streams(answer, reader, writer, limit, messages, _wire.Spent(session_bytes))
+        return await self._catch_up_streams(rows, steps, reader, writer, limit)
 
     def close(self) -> None:
         """Gives the memory back. To close a tree twice does no harm."""
         self._tree.close()
 
+    def _settle(self, rows: RegisterRows) -> None:
+        self._tree._settle(_ByteRows(rows))
+
     def _answer(self, rows: RegisterRows, question: bytes) -> "Tuple[int, bytes]":
-        """The status of an answer, and the message that is to be sent."""
         if question[:2] == _BY_DELTA:
             return DONE, REFUSAL
         try:

@@ -8,7 +8,7 @@ import threading
 from typing import Dict, Generator, ItemsView, Iterator, KeysView, Mapping, NoReturn, Optional, Tuple, ValuesView
 
 from . import _wire
-from ._library import ABSENT, MALFORMED, OTHER_SETTINGS, TOO_SHORT, MalformedError, library, written
+from ._library import ABSENT, MALFORMED, OTHER_SETTINGS, TOO_SHORT, Handle, MalformedError, check_settings, library, written
 from ._sync_tree import first_question
 from ._tree import AnyRows
 from ._wire import LIMIT, MESSAGES, SESSION_BYTES, Read, Write
@@ -19,7 +19,7 @@ _number = struct.Struct("<Q").unpack_from
 Steps = Generator[bytes, bytes, int]
 
 
-class Replica(Mapping[bytes, bytes]):
+class Replica(Handle, Mapping[bytes, bytes]):
     """Rows in memory with the tree over them, which catch up with those of other replicas. It is read as a dict whose keys are in their order.
 
     Of two values under one key the greater stays, as Python orders bytes: so replicas that have caught up with each other hold the same rows,
@@ -49,20 +49,14 @@ class Replica(Mapping[bytes, bytes]):
     bytes.
     """
 
-    __slots__ = ("_handle", "_address", "_settings", "_guess", "_lock", "_under_way", "__weakref__")
+    __slots__ = ("_settings", "_guess", "_lock", "_under_way")
 
     def __init__(self, rows: AnyRows = (), *, key: bytes = bytes(16), level_base: int = 16, page_format: int = 1) -> None:
         """The replica of these rows; of values under one key the greatest stays. The settings are those of `Tree`. Replicas that catch up with
         each other have all three in common, and refuse others."""
-        if len(key) != 16:
-            raise ValueError("the key of SipHash is of 16 bytes")
-        if not 1 <= level_base <= 255:
-            raise ValueError("the level base is from 1 to 255")
-        if page_format not in (1, 2):
-            raise ValueError("the page format is 1 or 2")
+        check_settings(key, level_base, page_format)
+        super().__init__()
         self._settings = key, level_base, page_format
-        self._handle = ctypes.c_void_p()
-        self._address = ctypes.addressof(self._handle)
         self._guess = 1024
         # Held from a call that keeps a message until the message is read, and from one step of a catch-up to its end.
         self._lock = threading.RLock()
@@ -192,8 +186,7 @@ class Replica(Mapping[bytes, bytes]):
         is still there. EOFError where it ends within a message; what `read` and `write` raise."""
         return _wire.answer(self._answer, read, write, limit, messages, _wire.Spent(session_bytes))
 
-    def close(self) -> None:
-        """Gives the memory back. To close a replica twice does no harm."""
+    def _free(self) -> None:
         library.mst_replica_free(self._address)
 
     def _answer(self, question: bytes) -> "Tuple[int, bytes]":
@@ -242,16 +235,3 @@ class Replica(Mapping[bytes, bytes]):
 
     def __reduce__(self) -> "NoReturn":
         raise TypeError("a replica isn't copied or pickled; it is made anew of its rows")
-
-    def __enter__(self) -> "Replica":
-        return self
-
-    def __exit__(self, *_error: object) -> None:
-        self.close()
-
-    def __del__(self) -> None:
-        if hasattr(self, "_address"):
-            library.mst_replica_free(self._address)
-
-    def __repr__(self) -> str:
-        return f"<Replica at {self._handle.value:#x}>" if self._handle.value else "<Replica, closed>"

@@ -5,18 +5,18 @@ The calls are those of mst_sync.h. The messages are those of docs/WIRE.md, where
 import asyncio
 import contextlib
 import ctypes
-import functools
 import heapq
 import itertools
 import os.path
 import struct
 import threading
-from typing import Any, Callable, Dict, Generator, Iterable, Iterator, List, NoReturn, Optional, Protocol, Set, Tuple
+from typing import Callable, Dict, Generator, Iterable, Iterator, List, NoReturn, Optional, Protocol, Set, Tuple
 
 from . import _wire
 from ._keys import keys_in
-from ._library import ABSENT, MALFORMED, NEEDS_ROWS, OTHER_SETTINGS, MalformedError, library, written
+from ._library import ABSENT, MALFORMED, NEEDS_ROWS, OTHER_SETTINGS, Handle, MalformedError, check_settings, library, written
 from ._ranges import _entries
+from ._sessions import Sessions
 from ._wire import LIMIT, MESSAGES, SESSION_BYTES, SESSION_ROWS, Read, Write, check
 
 # How many bytes of rows are looked up for one reply; the peer asks for the rest.
@@ -48,7 +48,7 @@ class Rows(Protocol):
         as it was, or not at all."""
 
 
-class SyncTree:
+class SyncTree(Sessions[Rows, Row], Handle):
     """The digests of rows that are elsewhere, as in a database, in a Merkle search tree in memory; and catch-ups of these rows with those
     of peers: other such trees, `Replica`, and replicas in C and Rust.
 
@@ -87,20 +87,14 @@ class SyncTree:
     call but `close`; MemoryError if memory is refused, and then the tree is as before; TypeError if a key, a value or a message isn't bytes.
     """
 
-    __slots__ = ("_handle", "_address", "_settings", "_lock", "_writing", "_under_way", "_unsure", "__weakref__")
+    __slots__ = ("_settings", "_lock", "_writing", "_under_way", "_unsure")
 
     def __init__(self, rows: "Optional[Rows]" = None, *, key: bytes = bytes(16), level_base: int = 16, page_format: int = 1) -> None:
         """The tree of these rows, by `load`. The settings are those of `Replica`, and peers that catch up with each other have all three in
         common, and refuse others."""
-        if len(key) != 16:
-            raise ValueError("the key of SipHash is of 16 bytes")
-        if not 1 <= level_base <= 255:
-            raise ValueError("the level base is from 1 to 255")
-        if page_format not in (1, 2):
-            raise ValueError("the page format is 1 or 2")
+        check_settings(key, level_base, page_format)
+        super().__init__()
         self._settings = key, level_base, page_format
-        self._handle = ctypes.c_void_p()
-        self._address = ctypes.addressof(self._handle)
         # Held within each call of the library and until what it keeps is read; never while rows are looked up or written.
         self._lock = threading.RLock()
         # Held while rows are written, and looked up after a write, until the tree is set to them: so the last of several settings of a key is
@@ -257,10 +251,6 @@ class SyncTree:
             check(library.mst_sync_len(self._address, ctypes.byref(count)))
         return count.value
 
-    def __bool__(self) -> bool:
-        """A tree is true, as it is without a key: to count them for a test would be slow."""
-        return True
-
     def root_hash(self) -> bytes:
         """The root hash, 16 bytes: that of a `Replica` with these rows and settings. It hashes the pages that changed since the last call."""
         root = ctypes.create_string_buffer(16)
@@ -307,52 +297,29 @@ class SyncTree:
 
         EOFError if the peer ends before; what `catch_up_steps`, `read` and `write` raise: rows and tree are then as before, unless it is the
         end that can't be told. What `join` raises."""
-        self._settle(rows)
         steps = self.catch_up_steps(messages=messages, session_bytes=session_bytes, session_rows=session_rows)
-        came = _wire.ask(steps, read, write, limit)
-        self.join(rows, came)
-        _wire.send(write, b"")
-        return len(came)
-
-    def serve(self, rows: Rows, read: Read, write: Write, *, limit: int = LIMIT, messages: int = MESSAGES,
-              session_bytes: int = SESSION_BYTES) -> int:
-        """Answers a peer that runs `catch_up`, until it says that it is done or ends, and returns how many questions it was answered. The
-        rest is as for `catch_up`, from the other side.
-
-        RefusedError if the peer has other settings, and MalformedError if it sends what is no question, one of more bytes than the limit,
-        more questions than `messages`, or if all messages have more bytes than `session_bytes`: it is sent the refusal first, if it is still
-        there. EOFError if it ends within a message; what `answer`, `read` and `write` raise."""
-        return _wire.answer(functools.partial(self._answer, rows), read, write, limit, messages, _wire.Spent(session_bytes))
+        return self._catch_up(rows, steps, read, write, limit)
 
     async def catch_up_streams(self, rows: Rows, reader: asyncio.StreamReader, writer: asyncio.StreamWriter, *, limit: int = LIMIT,
                                messages: int = MESSAGES, session_bytes: int = SESSION_BYTES, session_rows: int = SESSION_ROWS) -> int:
         """The same as `catch_up`, over the streams of asyncio. The rows are called in threads of the loop's executor, so that the loop waits
         neither for the peer nor for the database. A `join` that has begun goes on in its thread if the task is cancelled."""
-        await _in_thread(self._settle, rows)
         steps = self.catch_up_steps(messages=messages, session_bytes=session_bytes, session_rows=session_rows)
-        came = await _wire.ask_streams(steps, reader, writer, limit)
-        await _in_thread(self.join, rows, came)
-        await _wire.send_stream(writer, b"")
-        return len(came)
-
-    async def serve_streams(self, rows: Rows, reader: asyncio.StreamReader, writer: asyncio.StreamWriter, *, limit: int = LIMIT,
-                            messages: int = MESSAGES, session_bytes: int = SESSION_BYTES) -> int:
-        """The same as `serve`, over the streams of asyncio, with the rows called as in `catch_up_streams`."""
-        answers = functools.partial(_in_thread, self._answer, rows)
-        return await _wire.answer_streams(answers, reader, writer, limit, messages, _wire.Spent(session_bytes))
+        return await self._catch_up_streams(rows, steps, reader, writer, limit)
 
     def close(self) -> None:
         """Gives the memory back. To close a tree twice does no harm."""
         with self._lock:
-            library.mst_sync_free(self._address)
+            self._free()
+
+    def _free(self) -> None:
+        library.mst_sync_free(self._address)
 
     def _settle(self, rows: Rows) -> None:
-        """Looks up the keys of writes of which it isn't known how they ended."""
         if self._unsure:
             self.refresh(rows)
 
     def _answer(self, rows: Rows, question: bytes) -> "Tuple[int, bytes]":
-        """The status of an answer, and the message that is to be sent."""
         self._settle(rows)
         size, needs_size = ctypes.c_size_t(), ctypes.c_size_t()
         with self._lock:
@@ -422,19 +389,6 @@ class SyncTree:
 
     def __reduce__(self) -> "NoReturn":
         raise TypeError("a tree isn't copied or pickled; it is made anew of its rows")
-
-    def __enter__(self) -> "SyncTree":
-        return self
-
-    def __exit__(self, *_error: object) -> None:
-        self.close()
-
-    def __del__(self) -> None:
-        if hasattr(self, "_address"):
-            library.mst_sync_free(self._address)
-
-    def __repr__(self) -> str:
-        return f"<SyncTree at {self._handle.value:#x}>" if self._handle.value else "<SyncTree, closed>"
 
 
 def first_question(key: bytes, level_base: int, page_format: int) -> bytes:
@@ -534,8 +488,3 @@ def _scanned(rows: Rows, first: bytes, end: "Optional[bytes]") -> "Generator[Row
         close = getattr(found, "close", None)
         if close is not None:
             close()
-
-
-async def _in_thread(call: "Callable[..., Any]", *words: object) -> "Any":
-    """Makes a call in a thread of the loop's executor."""
-    return await asyncio.get_running_loop().run_in_executor(None, call, *words)

@@ -3,7 +3,7 @@ import ctypes
 import struct
 from typing import Dict, Iterable, List, Mapping, NamedTuple, NoReturn, Optional, Tuple, Union
 
-from ._library import ABSENT, check, library, written
+from ._library import ABSENT, Handle, check, check_settings, library, written
 from ._ranges import PageRanges
 
 AnyRows = Union[Mapping[bytes, bytes], Iterable[Tuple[bytes, bytes]]]
@@ -53,7 +53,7 @@ def _page(data: bytes, at: int) -> "Tuple[Page, int]":
     return Page(level, digest, tuple(keys), tuple(pages), high), at
 
 
-class Tree:
+class Tree(Handle):
     """A Merkle search tree: a map from byte strings to the digests of byte strings, whose root hash depends on the map and on the settings
     alone. The values aren't kept.
 
@@ -70,7 +70,7 @@ class Tree:
     tree is as before but for `update`; TypeError where a key or a value is none of bytes.
     """
 
-    __slots__ = ("_handle", "_address", "_guess", "__weakref__")
+    __slots__ = ("_guess",)
 
     def __init__(self, rows: AnyRows = (), *, key: bytes = bytes(16), level_base: int = 16, page_format: int = 1,
                  key_feed: str = "bytes") -> None:
@@ -85,16 +85,10 @@ class Tree:
         "vector", with their number in front of them. In page format 1 a tree with "text" has the root hashes of the Rust crate for keys of
         the type `String` under its own SipHasher, and one with "vector" those for `Vec<u8>`, where values are what `Hash` of Rust feeds.
         """
-        if len(key) != 16:
-            raise ValueError("the key of SipHash is of 16 bytes")
-        if not 1 <= level_base <= 255:
-            raise ValueError("the level base is from 1 to 255")
-        if page_format not in (1, 2):
-            raise ValueError("the page format is 1 or 2")
+        check_settings(key, level_base, page_format)
         if key_feed not in _FEEDS:
             raise ValueError("the key feed is bytes, text or vector")
-        self._handle = ctypes.c_void_p()
-        self._address = ctypes.addressof(self._handle)
+        super().__init__()
         self._guess = 1024
         check(library.mst_tree_new_as(self._address, key, level_base, page_format, _FEEDS.index(key_feed)))
         found = dict(rows)
@@ -243,8 +237,7 @@ class Tree:
     def copy(self) -> "Tree":
         """A copy of the tree, its settings, and the digests that its pages have."""
         copy = Tree.__new__(Tree)
-        copy._handle = ctypes.c_void_p()
-        copy._address = ctypes.addressof(copy._handle)
+        Handle.__init__(copy)
         copy._guess = self._guess
         check(library.mst_tree_clone(self._address, copy._address))
         return copy
@@ -268,19 +261,5 @@ class Tree:
         """A tree is true, as it is without a key: to count them for a test would be slow."""
         return True
 
-    def close(self) -> None:
-        """Gives the memory back. To close a tree twice does no harm."""
+    def _free(self) -> None:
         library.mst_tree_free(self._address)
-
-    def __enter__(self) -> "Tree":
-        return self
-
-    def __exit__(self, *_error: object) -> None:
-        self.close()
-
-    def __del__(self) -> None:
-        if hasattr(self, "_address"):
-            library.mst_tree_free(self._address)
-
-    def __repr__(self) -> str:
-        return f"<Tree at {self._handle.value:#x}>" if self._handle.value else "<Tree, closed>"
