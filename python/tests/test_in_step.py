@@ -4,8 +4,7 @@ import unittest
 
 from mst import SyncTree, Tree
 
-from .test_replica import by_steps
-from .test_sync_tree import Rows, Side, in_sqlite, rows_of
+from .common import Rows, Side, by_steps, in_sqlite, rows_of
 
 SETTINGS = [{}, {"key": b"a key of SipHash", "level_base": 2, "page_format": 2}, {"level_base": 1}, {"level_base": 255}]
 

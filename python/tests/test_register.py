@@ -1,7 +1,6 @@
 """Registers and trees of them: bytes, order and digests, catch-ups of such rows, and peers that don't keep to the messages. tests/store_peers has the
 store `mst` as the peer."""
 import asyncio
-import bisect
 import contextlib
 import random
 import socket
@@ -11,7 +10,7 @@ import unittest
 from mst import MOST_TEXT, REFUSAL, Replica, MalformedError, RefusedError, Register, RegisterTree, SyncTree, UntakenError
 from mst._register import of_hashed_bytes, with_byte_strings, with_registers
 
-from .test_replica import by_steps, in_threads, said_by
+from .common import Called, Rows, by_steps, in_threads, said_by
 
 KEY = bytes(range(16))
 # Each with its bytes in a message, those that are hashed, and its digest under the key above: by docs/WIRE.md, and by the SipHash of tests/wire_reader.
@@ -34,49 +33,12 @@ OURS = {"ant": VECTORS[1][0], "bee": Register(1764400000000, "alice", b"2")}
 THEIRS = {"ant": VECTORS[1][0], "bee": VECTORS[2][0], "cow": VECTORS[3][0]}
 
 
-class Rows:
-    """Rows in a dict, of which the later stays."""
-
-    def __init__(self, table=()):
-        self.table, self.closed = dict(table), 0
-
-    def get(self, key):
-        return self.table.get(key)
-
-    def scan(self, first, end):
-        keys = sorted(self.table)
-        try:
-            for key in keys[bisect.bisect_left(keys, first):len(keys) if end is None else bisect.bisect_left(keys, end)]:
-                yield key, self.table[key]
-        finally:
-            self.closed += 1
-
-    def join(self, came):
-        for key, register in came:
-            self.table[key] = max(register, self.table.get(key, register))
-        return [(key, self.table[key]) for key, _ in came]
-
-
-class Side:
+class Side(Called):
     """A tree with its rows. What was put into the rows by other means isn't checked, as that of a peer."""
 
     def __init__(self, table=(), hash_key=KEY):
-        self.rows = Rows(table)
-        self.tree = RegisterTree(self.rows, hash_key=hash_key)
-
-    def catch_up_steps(self, **words):
-        came = yield from self.tree.catch_up_steps(**words)
-        self.tree.join(self.rows, came)
-        return len(came)
-
-    def answer(self, question):
-        return self.tree.answer(self.rows, question)
-
-    def catch_up(self, read, write, **words):
-        return self.tree.catch_up(self.rows, read, write, **words)
-
-    def serve(self, read, write, **words):
-        return self.tree.serve(self.rows, read, write, **words)
+        rows = Rows(table)
+        super().__init__(rows, RegisterTree(rows, hash_key=hash_key))
 
 
 def drawn(draw, most, longest):

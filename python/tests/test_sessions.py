@@ -9,8 +9,7 @@ import unittest
 
 from mst import REFUSAL, MalformedError, RefusedError, Tree
 
-from .test_replica import both_ways, by_steps, in_threads, joined, number, said_by
-from .test_sync_tree import KINDS, PAIRS, Side, over_streams, pair, rows_of
+from .common import KINDS, PAIRS, Side, both_ways, by_steps, in_threads, joined, number, over_streams, pair, rows_of, said_by
 
 
 def every(step, most=300):

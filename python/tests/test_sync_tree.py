@@ -1,11 +1,9 @@
-"""Trees of the digests of rows that are elsewhere: catch-ups of rows in a dict and in SQLite with one another and with replicas, by steps,
-over sockets and over asyncio; rows that fail; and peers that don't keep to the messages."""
+"""Trees of the digests of rows that are elsewhere, in a dict and in SQLite: questions about rows, replies in parts, rows that fail, catch-ups over asyncio,
+and threads."""
 import asyncio
-import bisect
 import contextlib
 import copy
 import ctypes
-import importlib.util
 import os
 import pickle
 import random
@@ -19,107 +17,12 @@ import threading
 import unittest
 from unittest import mock
 
-from mst import REFUSAL, MalformedError, RefusedError, Replica, SyncTree, Tree
+from mst import MalformedError, RefusedError, Replica, SyncTree, Tree
 from mst._library import ABSENT, library
 from mst._sync_tree import _list, _look_up
 
-from .common import both_ways, by_steps, drawn, in_threads, joined, lacked, number, said_by
-
-EXAMPLES = os.path.join(os.path.dirname(os.path.abspath(__file__)), "..", "examples")
-
-
-def example(name):
-    """An example as a module."""
-    spec = importlib.util.spec_from_file_location(name, os.path.join(EXAMPLES, f"{name}.py"))
-    module = importlib.util.module_from_spec(spec)
-    spec.loader.exec_module(module)
-    return module
-
-
-SqliteRows = example("sqlite_rows").Rows
-
-
-class Rows:
-    """Rows in a dict, of which the greater value stays; how many were looked up; and what a call does before it returns."""
-
-    def __init__(self, table=()):
-        self.table, self.looked_up, self.closed, self.fault = dict(table), 0, 0, {}
-
-    def _may_fail(self, when):
-        if self.fault.get(when):
-            raise self.fault[when]
-
-    def get(self, key):
-        self._may_fail("get")
-        self.looked_up += 1
-        return self.table.get(key)
-
-    def scan(self, first, end):
-        keys = sorted(self.table)
-        try:
-            for key in keys[bisect.bisect_left(keys, first):len(keys) if end is None else bisect.bisect_left(keys, end)]:
-                self._may_fail("scan")
-                self.looked_up += 1
-                yield key, self.table[key]
-        finally:
-            self.closed += 1
-
-    def join(self, came):
-        assert came and all(row[0] < after[0] for row, after in zip(came, came[1:]))
-        self._may_fail("join")
-        for key, value in came:
-            self.table[key] = max(value, self.table.get(key, b""))
-        self._may_fail("joined")
-        return [(key, self.table[key]) for key, _ in came]
-
-
-class Side:
-    """A tree with its rows, called as a `Replica` is."""
-
-    def __init__(self, table=(), rows=None, **settings):
-        self.rows = Rows(table) if rows is None else rows
-        self.tree = SyncTree(self.rows, **settings)
-
-    def catch_up_steps(self, **words):
-        came = yield from self.tree.catch_up_steps(**words)
-        assert all(row[0] < after[0] for row, after in zip(came, came[1:]))
-        self.tree.join(self.rows, came)
-        return len(came)
-
-    def answer(self, question):
-        return self.tree.answer(self.rows, question)
-
-    def catch_up(self, read, write, **words):
-        return self.tree.catch_up(self.rows, read, write, **words)
-
-    def serve(self, read, write, **words):
-        return self.tree.serve(self.rows, read, write, **words)
-
-    def root_hash(self):
-        return self.tree.root_hash()
-
-    def put(self, key, value):
-        self.tree.join(self.rows, [(key, value)])
-
-
-def in_sqlite(table=(), **settings):
-    """A side whose rows are in SQLite."""
-    rows = SqliteRows(":memory:")
-    rows._table.executemany("INSERT INTO rows VALUES (?, ?)", dict(table).items())
-    rows._table.commit()
-    return Side(rows=rows, **settings)
-
-
-def rows_of(side):
-    return dict(side) if isinstance(side, Replica) else dict(side.rows.scan(b"", None))
-
-
-KINDS = {"dict": Side, "sqlite": in_sqlite, "replica": Replica}
-PAIRS = [("dict", "dict"), ("dict", "replica"), ("replica", "dict"), ("sqlite", "sqlite"), ("sqlite", "replica"), ("replica", "sqlite")]
-
-
-def pair(left, right, kinds, **settings):
-    return [KINDS[kind](rows, **settings) for kind, rows in zip(kinds, (left, right))]
+from .common import (EXAMPLES, PAIRS, Rows, Side, SqliteRows, both_ways, by_steps, drawn, in_sqlite, in_threads, joined, lacked, number,
+                     over_streams, pair, rows_of, said_by)
 
 
 def count(value):
@@ -326,89 +229,12 @@ class Trees(unittest.TestCase):
 
 
 class CatchUps(unittest.TestCase):
-    def test_one_side_comes_to_hold_the_join_and_then_both_do(self):
-        draw = random.Random(5)
-        for kinds in PAIRS:
-            for size in [0, 1, 5, 60, 400] * 4:
-                left, right = drawn(draw, size), drawn(draw, draw.choice([0, size]))
-                wanted = joined(left, right)
-                ours, theirs = pair(left, right, kinds)
-                self.assertEqual(by_steps(ours, theirs.answer)[0], lacked(left, right))
-                self.assertEqual((rows_of(ours), rows_of(theirs)), (wanted, right))
-                self.assertEqual(by_steps(theirs, ours.answer)[0], lacked(right, wanted))
-                self.assertEqual((rows_of(theirs), theirs.root_hash()), (wanted, ours.root_hash()))
-                self.assertEqual((by_steps(ours, theirs.answer)[0], ours.root_hash()), (0, Tree(wanted).root_hash()))
-
-    def test_over_a_connection(self):
-        draw = random.Random(6)
-        for kinds in PAIRS:
-            for size in [0, 1, 60, 400] * 2:
-                left, right = drawn(draw, size), drawn(draw, size)
-                wanted = joined(left, right)
-                ours, theirs = pair(left, right, kinds)
-                (came, answered), (answered_to_ours, came_to_theirs) = both_ways(ours, theirs)
-                self.assertEqual((came, came_to_theirs), (lacked(left, right), lacked(right, wanted)))
-                self.assertTrue(answered >= 1 and answered_to_ours >= 1)
-                self.assertEqual((rows_of(ours), rows_of(theirs), ours.root_hash()), (wanted, wanted, theirs.root_hash()))
-
-    def test_changed_missing_and_more_rows(self):
-        same = {b"same%03d" % i: b"1" for i in range(300)}
-        left = {**same, b"same007": b"2", b"only left": b"1", b"changed": b"1"}
-        right = {**same, b"same008": b"3", b"only right": b"", b"changed": b"22", b"": b"the empty key", b"k" * 300: b"x" * 300}
-        for kinds in PAIRS:
-            ours, theirs = pair(left, right, kinds)
-            self.assertEqual(both_ways(ours, theirs)[0][0], 6)
-            self.assertEqual((rows_of(ours), rows_of(theirs)), (joined(left, right),) * 2)
-
-    def test_under_other_settings_that_both_have(self):
-        draw = random.Random(7)
-        for settings in [{"key": b"a key of SipHash"}, {"level_base": 2}, {"level_base": 255}, {"page_format": 2}]:
-            for kinds in PAIRS[:3]:
-                left, right = drawn(draw, 200), drawn(draw, 200)
-                ours, theirs = pair(left, right, kinds, **settings)
-                both_ways(ours, theirs)
-                self.assertEqual((rows_of(ours), rows_of(theirs)), (joined(left, right),) * 2)
-                self.assertEqual(ours.root_hash(), Tree(rows_of(ours), **settings).root_hash())
-
-    def test_what_it_costs_is_what_differs(self):
+    def test_what_is_looked_up_is_what_differs(self):
         rows = {b"key%06d" % i: b"" for i in range(20000)}
         ours, theirs = Side(rows), Side({**rows, b"key012345": b"new"})
         theirs.rows.looked_up = ours.rows.looked_up = 0
-        came, size = by_steps(ours, theirs.answer)
-        self.assertEqual((came, ours.rows.table[b"key012345"]), (1, b"new"))
-        self.assertLess(size, 4000)
+        self.assertEqual((by_steps(ours, theirs.answer)[0], ours.rows.table[b"key012345"]), (1, b"new"))
         self.assertEqual((theirs.rows.looked_up, ours.rows.looked_up), (1, 0))
-        self.assertLess(by_steps(ours, theirs.answer)[1], 100)
-
-    def test_what_is_joined_in_between_stays(self):
-        ours, theirs = Side({b"a": b"1"}), Side({b"%d" % i: b"1" for i in range(500)})
-
-        def answer(question):
-            ours.put(b"7", b"2")
-            ours.put(b"b", b"2")
-            return theirs.answer(question)
-
-        by_steps(ours, answer)
-        self.assertEqual(rows_of(ours), {**rows_of(theirs), b"7": b"2", b"a": b"1", b"b": b"2"})
-        self.assertEqual(ours.root_hash(), Tree(rows_of(ours)).root_hash())
-
-    def test_a_side_answers_while_it_asks(self):
-        left, right, third = [{b"%d" % i: b"%d" % step for i in range(0, 600, step)} for step in (2, 3, 5)]
-        ours, theirs, others = Side(left), Side(right), Side(third)
-
-        def answer(question):
-            by_steps(others, ours.answer)
-            return theirs.answer(question)
-
-        by_steps(ours, answer)
-        self.assertEqual((rows_of(ours), rows_of(others)), (joined(left, right), joined(left, third)))
-
-    def test_another_catch_up_takes_the_place_of_one(self):
-        ours, theirs = Side({b"a": b"1"}), Side({b"b": b"2"})
-        first = ours.tree.catch_up_steps()
-        reply = theirs.answer(next(first))
-        self.assertEqual((by_steps(ours, theirs.answer)[0], rows_of(ours)), (1, {b"a": b"1", b"b": b"2"}))
-        self.assertRaises(ValueError, first.send, reply)
 
     def test_one_that_is_left_is_let_go(self):
         ours = Side({b"a": b"1"})
@@ -671,28 +497,10 @@ class Faults(unittest.TestCase):
 class Peers(unittest.TestCase):
     """What a peer may send."""
 
-    def test_other_settings_are_refused(self):
-        for settings in [{"key": bytes(range(16))}, {"level_base": 4}, {"page_format": 2}]:
-            for kinds in PAIRS[:3]:
-                ours, theirs = KINDS[kinds[0]]({b"a": b"1"}), KINDS[kinds[1]]({b"b": b"2"}, **settings)
-                self.assertRaises(RefusedError, by_steps, ours, theirs.answer)
-                self.assertEqual([type(end) for end in both_ways(ours, theirs)], [RefusedError, RefusedError])
-                self.assertEqual((rows_of(ours), rows_of(theirs)), ({b"a": b"1"}, {b"b": b"2"}))
-
-    def test_what_is_no_reply(self):
-        theirs = Replica((b"%d" % i, b"1") for i in range(300))
-        for altered in [lambda reply: reply[:-1], lambda reply: reply + b"\0", lambda reply: b"", lambda reply: b"\2" + reply[1:],
-                        lambda reply: bytes([reply[0], reply[1] ^ 1]) + reply[2:]]:
-            ours = Side({b"a": b"1"})
-            self.assertRaises(MalformedError, by_steps, ours, lambda question: altered(theirs.answer(question)))
-            self.assertEqual((rows_of(ours), len(ours.tree)), ({b"a": b"1"}, 1))
-
-    def test_what_is_no_question(self):
+    def test_replies_are_those_of_a_replica(self):
         side, draw = Side({b"a": b"1", b"b": b"2"}), random.Random(9)
         question = next(Replica({b"b": b"2"}).catch_up_steps())
         questions = [question, b"\1\2\x10\1\0\0", b"\1\3\x10\1\0\0", asks_at([b"a", b"zz", b"a"]), asks_in([(b"a", None), (None, b"b")]), bytes(20)]
-        for message in [b"", b"\1", question[:-1], question + b"\0", b"\2" + question[1:], REFUSAL, side.answer(question)]:
-            self.assertEqual(side.answer(message), REFUSAL)
         replica = Replica(side.rows.table)
         for _ in range(5000):
             message = bytearray(draw.choice(questions))
@@ -714,113 +522,6 @@ class Peers(unittest.TestCase):
                 steps.send(bytes([1, draw.choice([129, 130, 255])]) + bytes(draw.choices(range(256), k=draw.randrange(30))))
             steps.close()
         self.assertEqual((rows_of(side), side.root_hash()), ({b"a": b"1", b"b": b"2"}, Tree(side.rows.table).root_hash()))
-
-    def test_replies_that_are_altered(self):
-        for kind in ["dict", "replica"]:
-            theirs = KINDS[kind]((b"%d" % i, b"1") for i in range(0, 300, 3))
-            draw, ends = random.Random(11), set()
-            for _ in range(300):
-                ours = Side((b"%d" % i, b"1") for i in range(0, 300, 2))
-                before, at = rows_of(ours), draw.randrange(4)
-
-                def answer(question):
-                    nonlocal at
-                    reply = bytearray(theirs.answer(question))
-                    at -= 1
-                    if at == -1:
-                        for _ in range(draw.randint(1, 2)):
-                            reply[draw.randrange(min(len(reply), draw.choice([8, 1 << 20])))] = draw.randrange(256)
-                    return bytes(reply)
-
-                try:
-                    by_steps(ours, answer, messages=50)
-                    ends.add("done")
-                    self.assertTrue(all(ours.rows.table[key] >= value for key, value in before.items()))
-                except (MalformedError, RefusedError) as error:
-                    ends.add(type(error))
-                    self.assertEqual(rows_of(ours), before)
-                self.assertEqual(ours.root_hash(), Tree(rows_of(ours)).root_hash())
-            self.assertLessEqual({"done", MalformedError}, ends)
-
-    def test_a_peer_that_goes_on(self):
-        ours, theirs = Side(), Side((b"%d" % i, b"1") for i in range(300))
-        self.assertRaises(MalformedError, by_steps, ours, theirs.answer, messages=1)
-        self.assertEqual((rows_of(ours), by_steps(ours, theirs.answer, messages=2)[0]), ({}, 300))
-        question, written = next(Replica().catch_up_steps()), []
-        self.assertRaises(MalformedError, theirs.serve, said_by(question, question, question), written.append, messages=2)
-        self.assertEqual((len(written), written[-1]), (3, number(2) + REFUSAL))
-        self.assertEqual(theirs.serve(said_by(question, question), written.append, messages=2), 2)
-
-    def test_a_peer_that_breaks_off(self):
-        theirs = Side((b"%d" % i, b"1") for i in range(300))
-        said = []
-        by_steps(Side({b"a": b"1"}), lambda question: said.append(theirs.answer(question)) or said[-1])
-        whole = b"".join(number(len(reply)) + reply for reply in said)
-        for kind in ["dict", "sqlite"]:
-            for end in {0, 1, 7, 8, 9, len(said[0]) + 7, len(said[0]) + 8, len(said[0]) + 9, len(whole) - 1}:
-                ours, came = KINDS[kind]({b"a": b"1"}), bytearray(whole[:end])
-
-                def read(size):
-                    piece, came[:size] = bytes(came[:size]), b""
-                    return piece
-
-                self.assertRaises(EOFError, ours.catch_up, read, lambda message: None)
-                self.assertEqual((rows_of(ours), ours.root_hash()), ({b"a": b"1"}, Tree({b"a": b"1"}).root_hash()))
-                self.assertEqual(both_ways(ours, theirs)[0][0], 300)
-                theirs = Side((b"%d" % i, b"1") for i in range(300))
-        written = []
-        self.assertEqual(theirs.serve(lambda size: b"", written.append), 0)
-        for end in (1, 7, 8, 9):
-            came = bytearray((number(6) + b"\1\2\x10\1\0\0")[:end])
-            self.assertRaises(EOFError, theirs.serve, read, written.append)
-        self.assertEqual(written, [])
-
-    def test_what_reads_and_writes_may_raise(self):
-        def breaks(_):
-            raise OSError("broken")
-
-        side = Side({b"a": b"1"})
-        for read, write in [(breaks, lambda message: None), (lambda size: b"", breaks)]:
-            self.assertRaises(OSError, side.catch_up, read, write)
-        self.assertRaises(OSError, side.serve, breaks, lambda message: None)
-        self.assertRaises(OSError, side.serve, said_by(next(Replica().catch_up_steps())), breaks)
-        self.assertEqual(by_steps(side, Replica({b"b": b"2"}).answer)[0], 1)
-
-    def test_lengths_above_the_limit(self):
-        side, written, taken = Side({b"a": b"1"}), [], []
-        question = next(Replica({b"b": b"2"}).catch_up_steps())
-        reply = side.answer(question)
-        self.assertRaisesRegex(MalformedError, "the limit is", side.catch_up, said_by(reply), written.append, limit=len(reply) - 1)
-        self.assertRaisesRegex(MalformedError, "the limit is", side.serve, said_by(question), written.append, limit=len(question) - 1)
-        self.assertEqual(written[1:], [number(2) + REFUSAL])
-        self.assertEqual(side.serve(said_by(question), written.append, limit=len(question)), 1)
-        self.assertRaises(MalformedError, side.serve, said_by(b"no question"), written.append)
-        self.assertEqual(written[2:], [number(len(reply)) + reply, number(2) + REFUSAL])
-
-        def read(size):
-            taken.append(size)
-            return number(1 << 27) if len(taken) == 1 else b""
-
-        self.assertRaises(EOFError, side.catch_up, read, written.append)
-        self.assertLessEqual(max(taken), 1 << 16)
-
-    def test_a_socket_that_times_out(self):
-        side = Side({b"a": b"1"})
-        ours, theirs = socket.socketpair()
-        with ours, theirs:
-            ours.settimeout(0.05)
-            self.assertRaises(socket.timeout, side.catch_up, ours.recv, ours.sendall)
-            self.assertRaises(socket.timeout, side.serve, ours.recv, ours.sendall)
-        self.assertEqual(by_steps(side, Replica({b"b": b"2"}).answer)[0], 1)
-
-
-async def over_streams(connection, *calls):
-    """Makes calls over a connection, one after the other, and closes it."""
-    reader, writer = await asyncio.open_connection(sock=connection)
-    try:
-        return [await call(reader, writer) for call in calls]
-    finally:
-        writer.close()
 
 
 class Streams(unittest.TestCase):
@@ -1009,15 +710,6 @@ class Threads(unittest.TestCase):
         written, told, side = threading.Event(), threading.Event(), Side(rows=Slow())
         self.assertEqual(in_threads(lambda: side.put(b"key", b"1"), refresh), [None, None])
         self.assertEqual(side.root_hash(), Tree({b"key": b"2"}).root_hash())
-
-    def test_one_serves_many_connections(self):
-        hub, peers = in_sqlite((b"%d" % i, b"1") for i in range(500)), [Replica({b"own%d" % at: b"1"}) for at in range(4)]
-        pairs = [socket.socketpair() for _ in peers]
-        ends = in_threads(*[lambda at=at: hub.serve(pairs[at][0].recv, pairs[at][0].sendall) for at in range(4)],
-                          *[lambda at=at: peers[at].catch_up(pairs[at][1].recv, pairs[at][1].sendall) for at in range(4)])
-        for connection in [connection for pair in pairs for connection in pair]:
-            connection.close()
-        self.assertEqual((ends[4:], [len(peer) for peer in peers]), ([500] * 4, [501] * 4))
 
 
 if __name__ == "__main__":
