@@ -1,61 +1,14 @@
 //! Catch-ups of rows in two files of SQLite, which `syncs` counts and times: `syncs LEFT RIGHT DIFFERING..`. Each line ends with a figure.
 use merkle_search_tree::{
-    sync::{answer, take, Came, Give, Range, Row, Rows, SyncTree},
     replica::Step,
+    sync::{answer, take, Range, Row, Rows, SyncTree},
 };
-use rusqlite::{Connection, OptionalExtension};
 use std::{env, fs, time::Instant};
+use table::Table;
 
-const VALUE: &str = "SELECT value FROM rows WHERE key = ?1";
-const FROM: &str = "SELECT key, value FROM rows WHERE key >= ?1 ORDER BY key";
-const BETWEEN: &str = "SELECT key, value FROM rows WHERE key >= ?1 AND key < ?2 ORDER BY key";
-const JOIN: &str = "INSERT INTO rows VALUES (?1, ?2)
-    ON CONFLICT (key) DO UPDATE SET value = excluded.value WHERE excluded.value > value";
-
-type Result<T> = rusqlite::Result<T>;
-
-/// The table of rust/examples/sqlite_rows.
-struct Table(Connection);
-
-impl Table {
-    fn join_all<'a>(&mut self, rows: impl IntoIterator<Item = (&'a [u8], &'a [u8])>) -> Result<Vec<Row>> {
-        let transaction = self.0.transaction()?;
-        let mut changed = Vec::new();
-        for (key, value) in rows {
-            if transaction.prepare_cached(JOIN)?.execute([key, value])? == 1 {
-                changed.push((key.to_vec(), value.to_vec()));
-            }
-        }
-        transaction.commit()?;
-        Ok(changed)
-    }
-}
-
-impl Rows for Table {
-    type Error = rusqlite::Error;
-
-    fn value(&mut self, key: &[u8]) -> Result<Option<Vec<u8>>> {
-        self.0.prepare_cached(VALUE)?.query_row([key], |row| row.get(0)).optional()
-    }
-
-    fn rows_in(&mut self, range: Range<'_>, give: &mut Give<'_>) -> Result<()> {
-        let mut statement = self.0.prepare_cached(if range.end.is_some() { BETWEEN } else { FROM })?;
-        let mut rows = match range.end {
-            Some(end) => statement.query([range.first, end])?,
-            None => statement.query([range.first])?,
-        };
-        while let Some(row) = rows.next()? {
-            if !give(row.get_ref(0)?.as_blob()?, row.get_ref(1)?.as_blob()?) {
-                break;
-            }
-        }
-        Ok(())
-    }
-
-    fn join(&mut self, came: &Came) -> Result<Vec<Row>> {
-        self.join_all(came)
-    }
-}
+// (that of rust/examples/sqlite_rows, which `syncs` copies here)
+#[allow(dead_code)]
+mod table;
 
 /// How many bytes of memory the program has.
 fn memory() -> usize {
@@ -100,7 +53,7 @@ fn drawn(rows: usize, differing: usize, state: &mut u64) -> Vec<usize> {
 
 fn main() {
     let words: Vec<String> = env::args().skip(1).collect();
-    let [mut left, mut right] = [&words[0], &words[1]].map(|file| Table(Connection::open(file).unwrap()));
+    let [mut left, mut right] = [&words[0], &words[1]].map(|file| Table::open(file).unwrap());
     let (before, mut tree) = (memory(), SyncTree::default());
     timed("load", || tree.load(&mut left).unwrap());
     println!("load: bytes a key {}", (memory() - before) as f64 / tree.len() as f64);
@@ -123,8 +76,8 @@ fn main() {
                 (keys[at].clone(), value)
             })
             .collect();
-        let changed = theirs.1.join_all(written.iter().map(|(key, value)| (&key[..], &value[..]))).unwrap();
-        theirs.0.extend(changed);
+        let written = Vec::from_iter(written.iter().map(|(key, value)| (&key[..], &value[..])));
+        theirs.0.extend(theirs.1.join_all(&written).unwrap());
         theirs.0.root_hash();
         let begin = Instant::now();
         let (came, [questions, sent, received]) = caught_up(&mut ours, &mut theirs);

@@ -54,7 +54,7 @@ class Service:
             self.tree.join(self.rows, [(key, value)])
         elif word == "rescan":
             first, last = map(str.encode, words)
-            self.tree.refresh(self.rows, [key for key, _ in self.rows.scan(first, last + b"\0")])
+            self.tree.rescan(self.rows, first, last + b"\0")
         elif word == "reload":
             self.tree.load(self.rows)
         return "ok"

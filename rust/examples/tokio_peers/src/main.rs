@@ -4,8 +4,8 @@
 //! The calls of a `SyncTree` wait for nothing, so a task awaits the socket and the table between them. The table here is in memory; the calls of
 //! a database are awaited at the same places. Of two values of a key the greater stays, so a value begins with its time.
 use merkle_search_tree::{
-    sync::{Answer, Came, Found, Next, Range, Row, Rows, SyncTree},
     replica::{Fault, REFUSAL},
+    sync::{Answer, Came, Found, Next, Range, Row, Rows, SyncTree},
 };
 use std::{
     collections::BTreeMap,
