@@ -1,66 +1,16 @@
 /* The calls of mst_replica.h: which value stays, root hashes against mst.h, syncs of random rows and what they cost, each status, sessions
  * of which a byte is altered or that are cut, and each request for memory refused in turn. */
 #define _DEFAULT_SOURCE
-#include <stdio.h>
-#include <stdlib.h>
-#include <string.h>
-#include <sys/mman.h>
-#include <unistd.h>
-
 #include "mst_replica.h"
-
-#define WANT(test) \
-    do { if (!(test)) { fprintf(stderr, "replica_tests.c:%d: %s\n", __LINE__, #test); exit(1); } } while (0)
-
-/* ---- requests for memory, of which one can be refused (the linker puts these in place of the C library's) */
-static long made, refused_at;
-void *__real_malloc(size_t size);
-void *__real_realloc(void *old, size_t size);
-void __real_free(void *bytes);
-void *__wrap_malloc(size_t size);
-void *__wrap_realloc(void *old, size_t size);
-void __wrap_free(void *bytes);
-
-void *__wrap_malloc(size_t size) {
-    return ++made == refused_at ? NULL : __real_malloc(size);
-}
-
-void *__wrap_realloc(void *old, size_t size) {
-    return ++made == refused_at ? NULL : __real_realloc(old, size);
-}
-
-void __wrap_free(void *bytes) {
-    __real_free(bytes);
-}
+#include "testing.h"
 
 /* ---- rows, and bytes of the calls */
 static const uint8_t KEY[16] = "a key of SipHash";
-
-static uint64_t drawn = 88172645463325252u;
-
-static uint64_t draw(uint64_t below) {
-    drawn ^= drawn << 13;
-    drawn ^= drawn >> 7;
-    drawn ^= drawn << 17;
-    return drawn % below;
-}
 
 static int put(struct mst_replica *replica, unsigned key, unsigned value) {
     char name[16], text[16];
     int name_len = snprintf(name, sizeof name, "k%05u", key), text_len = snprintf(text, sizeof text, "v%u", value);
     return mst_replica_put(replica, (uint8_t *)name, (size_t)name_len, (uint8_t *)text, (size_t)text_len);
-}
-
-struct bytes {
-    uint8_t *at;
-    size_t len;
-};
-
-/* Room for bytes, which no test refuses. */
-static struct bytes room(size_t len) {
-    struct bytes bytes = {__real_malloc(len ? len : 1), len};
-    WANT(bytes.at);
-    return bytes;
 }
 
 static struct bytes rows_of(struct mst_replica *replica) {
@@ -80,10 +30,6 @@ static struct bytes message_of(struct mst_replica *replica, size_t len) {
     if (len) WANT(mst_replica_message(replica, message.at, len - 1, &needed) == MST_TOO_SHORT && needed == len);
     WANT(mst_replica_message(replica, message.at, len, &needed) == MST_DONE && needed == len);
     return message;
-}
-
-static int same(struct bytes a, struct bytes b) {
-    return a.len == b.len && !memcmp(a.at, b.at, a.len);
 }
 
 static int has_rows(struct mst_replica *replica, struct bytes rows) {
@@ -365,20 +311,6 @@ static void first_replies(void) {
 }
 
 /* ---- sessions that are altered or cut */
-/* The bytes where they end right before memory that can't be read, so that a step beyond them ends the program. */
-static const uint8_t *before_a_wall(const uint8_t *bytes, size_t len) {
-    enum { ROOM = 1 << 16 };
-    static uint8_t *wall;
-    if (!wall) {
-        wall = mmap(NULL, ROOM + (size_t)sysconf(_SC_PAGESIZE), PROT_READ | PROT_WRITE, MAP_PRIVATE | MAP_ANONYMOUS, -1, 0);
-        WANT(wall != MAP_FAILED);
-        WANT(!mprotect(wall + ROOM, (size_t)sysconf(_SC_PAGESIZE), PROT_NONE));
-    }
-    WANT(len <= ROOM);
-    if (len) memcpy(wall + ROOM - len, bytes, len);
-    return wall + ROOM - len;
-}
-
 enum { MOST = 64 };
 static struct bytes questions[MOST], replies[MOST];
 static size_t rounds;
@@ -494,9 +426,6 @@ static void hostile(void) {
 }
 
 /* ---- refusals: each call is made again until it isn't refused, and a catch-up that is over for want of memory from its start */
-#define AGAIN(call) \
-    do { int status; while ((status = (call)) == MST_NO_MEMORY) (*refused)++; WANT(status == MST_DONE); } while (0)
-
 static size_t catch_up_again(struct mst_replica *a, struct mst_replica *b, int *refused) {
     static uint8_t question[1 << 12], reply[1 << 12];
     size_t len, reply_len, joined = 0, before = 0;

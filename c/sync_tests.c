@@ -1,64 +1,10 @@
 /* The calls of mst_sync.h: root hashes against replicas, syncs of random rows with replicas and with other sides, whose rows are handed in as a whole or in
  * part, what they cost, each status, messages and lists that are altered or cut, and each request for memory refused in turn. */
 #define _DEFAULT_SOURCE
-#include <stdio.h>
-#include <stdlib.h>
-#include <string.h>
-#include <sys/mman.h>
-#include <unistd.h>
-
 #include "mst_sync.h"
-
-#define WANT(test) \
-    do { if (!(test)) { fprintf(stderr, "sync_tests.c:%d: %s\n", __LINE__, #test); exit(1); } } while (0)
-
-/* ---- requests for memory, of which one can be refused (the linker puts these in place of the C library's) */
-static long made, refused_at;
-void *__real_malloc(size_t size);
-void *__real_realloc(void *old, size_t size);
-void __real_free(void *bytes);
-void *__wrap_malloc(size_t size);
-void *__wrap_realloc(void *old, size_t size);
-void __wrap_free(void *bytes);
-
-void *__wrap_malloc(size_t size) {
-    return ++made == refused_at ? NULL : __real_malloc(size);
-}
-
-void *__wrap_realloc(void *old, size_t size) {
-    return ++made == refused_at ? NULL : __real_realloc(old, size);
-}
-
-void __wrap_free(void *bytes) {
-    __real_free(bytes);
-}
+#include "testing.h"
 
 static const uint8_t KEY[16] = "a key of SipHash";
-
-static uint64_t drawn = 88172645463325252u;
-
-static uint64_t draw(uint64_t below) {
-    drawn ^= drawn << 13;
-    drawn ^= drawn >> 7;
-    drawn ^= drawn << 17;
-    return drawn % below;
-}
-
-struct bytes {
-    uint8_t *at;
-    size_t len;
-};
-
-/* Room for bytes, which no test refuses. */
-static struct bytes room(size_t len) {
-    struct bytes bytes = {__real_malloc(len ? len : 1), len};
-    WANT(bytes.at);
-    return bytes;
-}
-
-static int same(struct bytes a, struct bytes b) {
-    return a.len == b.len && !memcmp(a.at, b.at, a.len);
-}
 
 /* ---- a side, or a replica, and the rows of either: the number at each key, or 0 where there is no row */
 enum { KEYS = 20000, FEW = 1 << 12 };
@@ -442,23 +388,6 @@ static void settings(void) {
 }
 
 /* ---- sessions that are altered or cut, and lists of rows that are */
-/* The bytes where they end right before memory that can't be read, so that a step beyond them ends the program. */
-static struct bytes before_a_wall(struct bytes bytes) {
-    enum { ROOM = 1 << 16 };
-    static uint8_t *wall;
-    struct bytes at_end;
-    if (!wall) {
-        wall = mmap(NULL, ROOM + (size_t)sysconf(_SC_PAGESIZE), PROT_READ | PROT_WRITE, MAP_PRIVATE | MAP_ANONYMOUS, -1, 0);
-        WANT(wall != MAP_FAILED);
-        WANT(!mprotect(wall + ROOM, (size_t)sysconf(_SC_PAGESIZE), PROT_NONE));
-    }
-    WANT(bytes.len <= ROOM);
-    at_end.at = wall + ROOM - bytes.len;
-    at_end.len = bytes.len;
-    if (bytes.len) memcpy(at_end.at, bytes.at, bytes.len);
-    return at_end;
-}
-
 enum { MOST = 64 };
 static struct bytes questions[MOST], replies[MOST];
 static size_t rounds;
@@ -482,15 +411,16 @@ static long refusals_seen;
 static void hostile_question(struct peer *b, struct bytes question) {
     uint8_t roots[2][16];
     size_t len = 77, list_len = 99;
-    struct bytes asked = before_a_wall(question), reply;
+    const uint8_t *asked = before_a_wall(question.at, question.len);
+    struct bytes reply;
     int status;
     root_of(b, roots[0]);
-    status = mst_sync_answer(&b->side, asked.at, asked.len, &len, &list_len);
+    status = mst_sync_answer(&b->side, asked, question.len, &len, &list_len);
     WANT(status == MST_DONE || status == MST_MALFORMED || status == MST_OTHER_SETTINGS || status == MST_NEEDS_ROWS);
     WANT((status == MST_NEEDS_ROWS) == (list_len != 99) && (status == MST_NEEDS_ROWS) == (len == 77));
     if (status == MST_NEEDS_ROWS) {
         struct bytes needs = list_of(&b->side, list_len), rows = looked_up(b, needs, (size_t)-1);
-        status = mst_sync_answer_with(&b->side, asked.at, asked.len, rows.at, rows.len, 1, 1 << 26, &len);
+        status = mst_sync_answer_with(&b->side, asked, question.len, rows.at, rows.len, 1, 1 << 26, &len);
         WANT(status == MST_DONE);
         __real_free(needs.at);
         __real_free(rows.at);
@@ -513,7 +443,7 @@ static void hostile_reply(size_t round, struct bytes reply) {
     WANT(ask(&a, &len) == MST_DONE);
     for (i = 0; i < round; i++) WANT(take(&a, replies[i], &len, &list_len) == MST_DONE && len);
     list_len = 88;
-    status = take(&a, before_a_wall(reply), &message_len, &list_len);
+    status = take(&a, (struct bytes){before_a_wall(reply.at, reply.len), reply.len}, &message_len, &list_len);
     WANT(status == MST_DONE || status == MST_MALFORMED || status == MST_REFUSED);
     if (status != MST_DONE) WANT(message_len == 99 && list_len == 88 && take(&a, reply, &message_len, &list_len) == MST_ABSENT);
     if (status == MST_DONE && !message_len) {
@@ -531,9 +461,8 @@ static void hostile_reply(size_t round, struct bytes reply) {
 
 /* A list of rows that is cut or altered is taken as what it says, or refused; whatever it says, the question is answered of it or not at all. */
 static void hostile_rows(struct peer *b, struct bytes question, struct bytes rows) {
-    struct bytes given = before_a_wall(rows);
     size_t len = 99;
-    int status = mst_sync_answer_with(&b->side, question.at, question.len, given.at, given.len, 1, 1 << 26, &len);
+    int status = mst_sync_answer_with(&b->side, question.at, question.len, before_a_wall(rows.at, rows.len), rows.len, 1, 1 << 26, &len);
     WANT(status == MST_DONE ? len != 99 : status == MST_BAD_ARGUMENT && len == 99);
     refusals_seen += status != MST_DONE;
 }
@@ -620,9 +549,6 @@ static void hostile(void) {
 }
 
 /* ---- refusals: each call is made again until it isn't refused, and a catch-up that is over because memory ran out from its start */
-#define AGAIN(call) \
-    do { int status; while ((status = (call)) == MST_NO_MEMORY) (*refused)++; WANT(status == MST_DONE); } while (0)
-
 /* The reply to a question, in `reply`; its length. */
 static size_t answer_again(struct peer *b, const uint8_t *question, size_t len, uint8_t *reply, int *refused) {
     size_t reply_len = 0, list_len = 0;

@@ -1,50 +1,8 @@
 /* The calls of mst.h: root hashes of the Rust crate and of a second program, each status, each request for memory refused in turn, the
  * room of a tree, and lists that are cut, altered or made at random. */
 #define _DEFAULT_SOURCE
-#include <malloc.h>
-#include <stdio.h>
-#include <stdlib.h>
-#include <string.h>
-#include <sys/mman.h>
-#include <unistd.h>
-
 #include "mst.h"
-
-#define WANT(test) \
-    do { if (!(test)) { fprintf(stderr, "tests.c:%d: %s\n", __LINE__, #test); exit(1); } } while (0)
-
-/* ---- requests for memory, of which one can be refused (the linker puts these in place of the C library's), the bytes that are held
- * of them, and the most that were */
-static long made, refused_at, held, most;
-void *__real_malloc(size_t size);
-void *__real_realloc(void *old, size_t size);
-void __real_free(void *bytes);
-void *__wrap_malloc(size_t size);
-void *__wrap_realloc(void *old, size_t size);
-void __wrap_free(void *bytes);
-
-static void *hold(void *bytes) {
-    held += (long)malloc_usable_size(bytes);
-    if (held > most) most = held;
-    return bytes;
-}
-
-void *__wrap_malloc(size_t size) {
-    return ++made == refused_at ? NULL : hold(__real_malloc(size));
-}
-
-void *__wrap_realloc(void *old, size_t size) {
-    long before = (long)malloc_usable_size(old);
-    void *bytes = ++made == refused_at ? NULL : __real_realloc(old, size);
-    if (!bytes) return NULL;
-    held -= before;
-    return hold(bytes);
-}
-
-void __wrap_free(void *bytes) {
-    held -= (long)malloc_usable_size(bytes);
-    __real_free(bytes);
-}
+#include "testing.h"
 
 /* ---- the trees of the tests: the key of i is its text after a k, its value the eight bytes of its square, the lowest first */
 static size_t key_of(uint8_t key[16], unsigned i) {
@@ -654,9 +612,6 @@ static void statuses(void) {
 /* The requests of the loads: a page that is done gives up the room beyond its nodes where memory is at hand for that, and else keeps it. */
 static long load_begins, load_ends;
 
-#define AGAIN(call) \
-    do { int status; while ((status = (call)) == MST_NO_MEMORY) (*refused)++; WANT(status == MST_DONE); } while (0)
-
 static void a_life(char text[33], int *refused) {
     static uint8_t rows[1 << 12], asked[1 << 12];
     struct mst_tree tree = MST_NO_TREE, copy = MST_NO_TREE;
@@ -800,15 +755,6 @@ static void rooms(void) {
 }
 
 /* ---- lists that are no lists, and what is answered where they are lists */
-static uint64_t drawn = 88172645463325252u;
-
-static uint64_t draw(void) {
-    drawn ^= drawn << 13;
-    drawn ^= drawn >> 7;
-    drawn ^= drawn << 17;
-    return drawn;
-}
-
 struct key { const uint8_t *at; size_t len; };
 struct list { struct mst_range ranges[64]; size_t count; };
 
@@ -911,21 +857,6 @@ static void is_difference(const struct list *own, const struct list *peer, const
             is_told((struct key){key, len}, peer, &agreed, asked);
         }
     }
-}
-
-/* The bytes where they end right before memory that can't be read, so that a step beyond them ends the program. They stay until the
- * next call. */
-static const uint8_t *before_a_wall(const uint8_t *bytes, size_t len) {
-    enum { ROOM = 1 << 16 };
-    static uint8_t *room;
-    if (!room) {
-        room = mmap(NULL, ROOM + (size_t)sysconf(_SC_PAGESIZE), PROT_READ | PROT_WRITE, MAP_PRIVATE | MAP_ANONYMOUS, -1, 0);
-        WANT(room != MAP_FAILED);
-        WANT(!mprotect(room + ROOM, (size_t)sysconf(_SC_PAGESIZE), PROT_NONE));
-    }
-    WANT(len <= ROOM);
-    if (len) memcpy(room + ROOM - len, bytes, len);
-    return room + ROOM - len;
 }
 
 /* Whether any bytes of a peer are answered by a difference, which is then a right one, and not by MST_MALFORMED. */
@@ -1041,24 +972,24 @@ static void hostile(void) {
     all = 8 * (long)len;
     printf("%ld lists with a bit turned, of which %ld are lists\n", all, lists);
     for (cut = 0; cut < 20000; cut++) {
-        size_t size = draw() % sizeof any, at, place = 0;
+        size_t size = draw(sizeof any), at, place = 0;
         struct mst_range range;
         struct mst_row row;
-        for (at = 0; at < size; at++) any[at] = (uint8_t)(draw() % (draw() % 2 ? 4 : 256));
+        for (at = 0; at < size; at++) any[at] = (uint8_t)draw(draw(2) ? 4 : 256);
         if (size >= 12 && cut % 5) {
             memcpy(any, MARKS[cut % 5 - 1], 4);
-            add_number(any + 4, draw() % 4);
+            add_number(any + 4, draw(4));
         }
         differs(own, own_len, any, size);
         held = before_a_wall(any, size);
         while (mst_ranges_next(held, size, &place, &range) == MST_DONE)
             WANT(range.first + range.first_len <= held + size && range.last + range.last_len <= held + size);
-        place = draw() % 300;
+        place = draw(300);
         if (mst_ranges_next(held, size, &place, &range) == MST_DONE)
             WANT(range.first + range.first_len <= held + size && range.last + range.last_len <= held + size);
         for (place = 0; mst_rows_next(held, size, &place, &row) == MST_DONE;)
             WANT(row.key + row.key_len <= held + size && row.value + row.value_len <= held + size);
-        place = draw() % 300;
+        place = draw(300);
         if (mst_rows_next(held, size, &place, &row) == MST_DONE)
             WANT(row.key + row.key_len <= held + size && row.value + row.value_len <= held + size);
         WANT(mst_tree_load(&tree, held, size) != MST_NO_MEMORY);
