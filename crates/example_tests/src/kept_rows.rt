@@ -1,9 +1,10 @@
 //! Sides that have trees alone, and whose rows are on a shelf, bring rows of one another.
+use examples::far_tree::{FarError, FarTree};
 use examples::shelf::{Shelf, ShelfError};
 use merkle_digest::SipHasher;
 use merkle_search_tree::MerkleSearchTree;
 use merkle_search_tree::builder::Builder;
-use merkle_wire::{CatchingUp, KeptError, MOST_BYTES, Next, answer_by};
+use merkle_wire::{CatchingUp, KeptError, MOST_BYTES, Next, TakeError, answer_by};
 use std::alloc::Global;
 use std::test::Fail;
 
@@ -120,5 +121,51 @@ fn a_closed_shelf_says_so(rt: HostRuntime) -> Result<(), Fail> {
     match answer_by(alloc, &mut peer, &shelf, &message, MOST_BYTES) {
         Err(KeptError::Rows(ShelfError::Closed)) => Ok(()),
         _ => Err(Fail::new("not closed")),
+    }
+}
+
+#[test]
+fn a_row_is_brought_by_a_tree_that_is_far(rt: HostRuntime) -> Result<(), Fail> {
+    let alloc = rt.alloc();
+    let all = numbers(alloc, 3, 3)?;
+    let mut peer = tree_of(alloc, &all)?;
+    let shelf = shelf_of(alloc, &all)?;
+    let mut local = FarTree::of(tree_of(alloc, &[])?);
+    let (session, message) = CatchingUp::<String, u64>::begin_by(alloc, &mut local)?;
+    let Ok(reply) = answer_by(alloc, &mut peer, &shelf, &message, MOST_BYTES) else {
+        return Err(Fail::new("no reply"));
+    };
+    let Next::Ask(session, message) = session.take_by(&mut local, 0, &reply)? else {
+        return Err(Fail::new("no question"));
+    };
+    let Ok(reply) = answer_by(alloc, &mut peer, &shelf, &message, MOST_BYTES) else {
+        return Err(Fail::new("no reply"));
+    };
+    let Next::Came(rows) = session.take_by(&mut local, 0, &reply)? else {
+        return Err(Fail::new("no rows"));
+    };
+    assert_eq!(rt; rows.len(), 3);
+    Ok(())
+}
+
+#[test]
+fn a_tree_out_of_reach_says_so(rt: HostRuntime) -> Result<(), Fail> {
+    let alloc = rt.alloc();
+    let all = numbers(alloc, 50, 50)?;
+    let mut peer = tree_of(alloc, &all)?;
+    let shelf = shelf_of(alloc, &all)?;
+    let mut local = FarTree::of(tree_of(alloc, &[])?);
+    let (session, message) = CatchingUp::<String, u64>::begin_by(alloc, &mut local)?;
+    let Ok(reply) = answer_by(alloc, &mut peer, &shelf, &message, MOST_BYTES) else {
+        return Err(Fail::new("no reply"));
+    };
+    local.move_away();
+    match session.take_by(&mut local, 0, &reply) {
+        Err(TakeError::Tree(FarError::Away)) => {}
+        _ => return Err(Fail::new("not away")),
+    }
+    match CatchingUp::<String, u64>::begin_by(alloc, &mut local) {
+        Err(FarError::Away) => Ok(()),
+        _ => Err(Fail::new("not away")),
     }
 }

@@ -1,5 +1,6 @@
 pub mod Audited
 pub mod Deltas
+pub mod Exchanging
 pub mod Gossip
 pub mod GossipMessages
 pub mod Order

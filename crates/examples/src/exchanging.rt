@@ -1,50 +1,52 @@
 //! An exchange of messages between two sides whose rows are kept elsewhere.
 ghost use Rattle.std.specs.Prelude.{◌≡◌, IfOk};
+ghost use Rattle.examples.specs.Exchanging.{IsExchangeOf};
 ghost use Rattle.merkle_tree_theory.specs.State.{SameSettings, map_of};
-ghost use Rattle.merkle_wire.specs.ItsRows.{ForItsRows, HasDigestsOf, side_with};
+ghost use Rattle.merkle_wire.specs.ItsRows.{HasDigestsOf, side_with};
 ghost use Rattle.merkle_wire.specs.Questions.{question_bytes};
-ghost use Rattle.merkle_wire.specs.Sessions.{IsExchange};
 
 use merkle_bytes::Decode;
 use merkle_digest::Key;
 use merkle_replica::{Join, RowHasher};
 use merkle_search_tree::MerkleSearchTree;
 use merkle_search_tree::laws::every_tree_is_sound;
-use merkle_wire::{CatchingUp, KeptError, KeptRows, MOST_BYTES, Next, SessionError, answer_by};
+use merkle_wire::{
+    CatchingUp, KeptError, KeptRows, KeptTree, MOST_BYTES, Next, TakeError, answer_by,
+};
 use std::alloc::Global;
 
 /// Why an exchange came to nothing.
 #[derive(Drop)]
-pub enum ExchangeError<E> {
+pub enum ExchangeError<E, F> {
     /// The peer has no reply.
     Answer(KeptError<E>),
-    /// Its reply was refused.
-    Session(SessionError),
+    /// Its reply was refused, or the tree of the other side couldn't be read.
+    Take(TakeError<F>),
 }
 
-/// The peer answers a message by its tree and its rows, and the other side takes the reply by its tree. It is an exchange of a session, as
-/// [`merkle_wire::laws`] speak of them, whatever the rows of the side that takes it.
+/// The peer answers a message by its tree and its rows, and the other side takes the reply by its tree, wherever that is kept. It is an exchange of a
+/// session, as [`merkle_wire::laws`] speak of them, whatever the rows of the side that takes it.
 pub fn exchange_by_trees<
     K: Key + Decode,
     V: Join + Decode,
     H: RowHasher<N, K, V>,
     R: KeptRows<K, V>,
+    T: KeptTree<N, K, V, H>,
     const N: usize,
 >(
     alloc: Global,
-    local: &mut MerkleSearchTree<K, V, H, N>,
+    local: &mut T,
     count: u64,
     peer: &mut MerkleSearchTree<K, V, H, N>,
     rows: &R,
     session: CatchingUp<K, V>,
     message: &[u8],
-) -> Result<Next<K, V>, ExchangeError<R::Error>>
+) -> Result<Next<K, V>, ExchangeError<R::Error, T::Error>>
     requires asks { message.now ≡ question_bytes K.encoding session.asked }
     requires digests { HasDigestsOf H.laws peer.old (R.rows rows.now) }
-    ensures exchanged { IfOk result (λ next. ForItsRows H.laws local.old
-        (λ own. IsExchange H.laws N K.encoding V.encoding own (side_with peer.old (R.rows rows.now)) session next)) }
-    ensures map { map_of local.new ≡ map_of local.old }
-    ensures settings { SameSettings local.old local.new }
+    ensures exchanged { IfOk result (IsExchangeOf H.laws N K.encoding V.encoding (T.kept local.old).digests
+        (side_with peer.old (R.rows rows.now)) session) }
+    ensures kept { T.kept local.new ≡ T.kept local.old }
     ensures peer_map { map_of peer.new ≡ map_of peer.old }
     ensures peer_settings { SameSettings peer.old peer.new }
 {
@@ -55,6 +57,6 @@ pub fn exchange_by_trees<
     every_tree_is_sound(peer);
     match session.take_by(local, count, &reply) {
         Ok(next) => Ok(next),
-        Err(error) => Err(ExchangeError::Session(error)),
+        Err(error) => Err(ExchangeError::Take(error)),
     }
 }

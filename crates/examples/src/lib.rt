@@ -6,6 +6,7 @@ pub mod asking;
 pub mod audited;
 pub mod deltas;
 pub mod exchanging;
+pub mod far_tree;
 pub mod gossip;
 pub mod hashing;
 pub mod history;

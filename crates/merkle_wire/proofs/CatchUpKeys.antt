@@ -115,14 +115,14 @@ module _ {K V H : Type 0} (laws : Laws K V H) (o : IsTotalOrder laws.cmp) (is_ke
   last_is_key row [] a = a.0
   last_is_key row (next ∷ rows) a = last_is_key next rows a.1
 
-  behind_keys : (t : OwnedGap K × Part K V) (left : List (OwnedGap K)) → HasKeyBounds is_key (owned_gap t.0) → AllByRecursion (λ r. is_key r.0) t.1.rows → IsBehind laws local (owned_gap t.0) t.1 left → AllByRecursion (λ g. HasKeyBounds is_key (owned_gap g)) left
+  behind_keys : (t : OwnedGap K × Part K V) (left : List (OwnedGap K)) → HasKeyBounds is_key (owned_gap t.0) → AllByRecursion (λ r. is_key r.0) t.1.rows → IsBehind laws.cmp (owned_gap t.0) t.1 left → AllByRecursion (λ g. HasKeyBounds is_key (owned_gap g)) left
   behind_keys t left p a (inl (all, none)) = subst (AllByRecursion (λ g. HasKeyBounds is_key (owned_gap g))) (sym none) tt
   behind_keys t left p a (inr (row, rows, own, some, are, same, is)) =
       let last = last_is_key row rows (subst (AllByRecursion (λ r. is_key r.0)) are a) in
       subst (AllByRecursion (λ g. HasKeyBounds is_key (owned_gap g))) (sym is) (gap_alike (part_behind (owned_gap t.0) (last_key row.0 rows)) (owned_gap own) same (last, p.1), tt)
 
   -- the gaps after parts of the rows in gaps
-  pub parts_keys : (ts : List (OwnedGap K × Part K V)) (left : List (OwnedGap K)) → AllByRecursion (λ g. HasKeyBounds is_key (owned_gap g)) (map (λ t. t.0) ts) → AllByRecursion (λ r. is_key r.0) (flat_map (λ t. t.1.rows) ts) → AreBehind laws local ts left
+  pub parts_keys : (ts : List (OwnedGap K × Part K V)) (left : List (OwnedGap K)) → AllByRecursion (λ g. HasKeyBounds is_key (owned_gap g)) (map (λ t. t.0) ts) → AllByRecursion (λ r. is_key r.0) (flat_map (λ t. t.1.rows) ts) → AreBehind laws.cmp ts left
       → AllByRecursion (λ g. HasKeyBounds is_key (owned_gap g)) left
   parts_keys [] left p a none = subst (AllByRecursion (λ g. HasKeyBounds is_key (owned_gap g))) (sym none) tt
   parts_keys (t ∷ ts) left p a (first, rest, one, more, e) =

@@ -1,21 +1,19 @@
 -- After an exchange of messages a catch-up still asks about, and has found, keys of the two sides alone; so its message is read by the peer.
 use Rattle.std.specs.Prelude.{⊤}
-use Rattle.std.proofs.Common.{◌≡◌, ℕ, Bool, List, [], ◌∷◌, ◌++◌, length, map, flat_map, slice_get, Option, Some, None, refl, sym, ap, subst, ◌∙◌, ◌⊎◌, inl, inr}
+use Rattle.std.proofs.Common.{◌≡◌, ℕ, Bool, List, ◌++◌, length, map, flat_map, Option, Some, None, refl, sym, ap, subst, ◌∙◌, ◌⊎◌, inl, inr}
 use Rattle.std.specs.Global.{Vec}
 use Rattle.std.specs.List.{AllByRecursion, AllZip}
 use Rattle.std.specs.Cmp.{IsTotalOrder, IsEquivalence}
 use Rattle.std.specs.Option.{option_map}
-use Rattle.std.specs.declared.cmp.Ordering.{Ordering}
 use Rattle.key_order.specs.Map.{get}
 use Rattle.key_order.specs.Order.{Same}
 use Rattle.key_order.proofs.ListParts.{each-append, each-before, each-behind, join_tells}
-use Rattle.key_order.proofs.Maps.{at_head, get_same}
+use Rattle.key_order.proofs.Maps.{get_same}
 use Rattle.merkle_bytes.specs.Options.{IsOption}
 use Rattle.merkle_diff.proofs.Each.{each-all, each-with}
 use Rattle.merkle_replica.specs.Contents.{Contents, Side, side, tree_map}
 use Rattle.merkle_replica.specs.Laws.{Laws}
 use Rattle.merkle_replica.proofs.Bounds.{get_digests}
-use Rattle.merkle_replica.proofs.Descents.{some_is}
 use Rattle.merkle_tree_theory.specs.Tree.{Tree}
 use Rattle.merkle_wire.specs.Asking.{IsTakenFrom, all_whole}
 use Rattle.merkle_wire.specs.Found.{Found, nothing}
@@ -43,11 +41,6 @@ use Rattle.merkle_wire.proofs.PageCovers.{AreSides, nodes_peers}
 use Rattle.merkle_wire.proofs.StepCovers.{parts_theirs}
 use Rattle.merkle_wire.proofs.TellingQuestions.{SameGapTold, SameQuestion}
 use Rattle.merkle_wire.proofs.TellingReplies.{outlines_tell, parts_tell}
-
--- a key equal to the first of rows is one of them
-pub first_is_key : {K V : Type 0} (cmp : K → K → Ordering) (o : IsTotalOrder cmp) (rows : List (K × V)) (row : K × V) (key : K) → Some row ≡ slice_get rows 0 → Same cmp row.0 key → IsKeyOf cmp rows key
-first_is_key cmp o [] row key first same = absurd (cc)
-first_is_key cmp o (r ∷ rs) row key first same = let is : row ≡ r = some_is row r first in (r.1, at_head cmp o r rs key (subst (λ x. Same cmp x.0 key) is same))
 
 -- a key equal to one of a side's is one of it
 module _ {K V H : Type 0} (laws : Laws K V H) (o : IsTotalOrder laws.cmp) (local peer : Side K V H) where

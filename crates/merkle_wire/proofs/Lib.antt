@@ -9,6 +9,8 @@ pub mod RowParts
 pub mod Ascending
 pub mod Reading
 pub mod TakenMore
+pub mod Takings
+pub mod HashedDigests
 pub mod NewGaps
 pub mod TakenGaps
 pub mod LastRows

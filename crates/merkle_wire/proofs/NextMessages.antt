@@ -1,9 +1,8 @@
 -- What comes after a reply that was taken.
 use Rattle.std.proofs.Common.{◌≡◌, ◌≢◌, ℕ, List, [], Option, Some, None, sym, ap, subst, ◌∙◌, inl, inr}
 use Rattle.std.specs.declared.cmp.Ordering.{Ordering}
-use Rattle.merkle_replica.specs.Contents.{Contents, Side, side}
+use Rattle.merkle_replica.specs.Contents.{Side}
 use Rattle.merkle_replica.specs.Laws.{Laws}
-use Rattle.merkle_tree_theory.specs.Hashed.{hashed_tree}
 use Rattle.merkle_wire.specs.Asking.{AsksForOutlines, IsAskedOf, IsDone}
 use Rattle.merkle_wire.specs.Faults.{IsRefusedFor}
 use Rattle.merkle_wire.specs.Fit.{IsFit}
@@ -21,10 +20,6 @@ use Rattle.merkle_wire.specs.declared.session_error.SessionError.TheVariants.{Li
 use Rattle.merkle_wire.proofs.LeftToAsk.{some_mapped}
 
 module _ {K V H : Type 0} where
-  -- a replica whose tree is hashed is the side that it was
-  pub hashed_side : (bytes_of : K → List ℕ) (old new : Contents K V H) → new.rows ≡ old.rows → new.tree ≡ hashed_tree bytes_of old.tree → side new ≡ side old
-  hashed_side bytes_of old new r t = λ i. record { hasher = (t i).hasher; base = (t i).base; format = (t i).format; rows = r i }
-
   pub is_next : (laws : Laws K V H) (n : ℕ) (encoding : K → List ℕ) (values : V → List ℕ) (local was : Side K V H) (before inside : Underway K V) (reply : List ℕ) (found : Found K V) (again answered : Option (Question K)) (next : Next K V)
       → was ≡ local → inside ≡ before → answered ≡ again → HasTaken laws n encoding values was inside.asked reply inside.found found answered → AsksOrGoesOn laws.cmp encoding again inside.rounds found next
       → IsNext laws n encoding values local before reply next

@@ -242,7 +242,7 @@ module _ {K V H : Type 0} (laws : Laws K V H) (o : IsTotalOrder laws.cmp) (eqv :
   abbrev in_gaps : List (OwnedGap K) → ℕ
   in_gaps gaps = total (λ g. rows_of (owned_gap g)) gaps + length gaps
 
-  part_less : (t : OwnedGap K × Part K V) (left : List (OwnedGap K)) → AscendIn laws.cmp (owned_gap t.0) (map (λ r. r.0) t.1.rows) → Keys (map (λ r. r.0) t.1.rows) → IsBehind laws local (owned_gap t.0) t.1 left
+  part_less : (t : OwnedGap K × Part K V) (left : List (OwnedGap K)) → AscendIn laws.cmp (owned_gap t.0) (map (λ r. r.0) t.1.rows) → Keys (map (λ r. r.0) t.1.rows) → IsBehind laws.cmp (owned_gap t.0) t.1 left
       → in_gaps left ≤ rows_of (owned_gap t.0)
   part_less t left up keys (inl (all, none)) = subst (λ gs. in_gaps gs ≤ rows_of (owned_gap t.0)) (sym none) (omega arith)
   part_less t left up keys (inr (row, rows, own, some, are, same, is)) =
@@ -256,7 +256,7 @@ module _ {K V H : Type 0} (laws : Laws K V H) (o : IsTotalOrder laws.cmp) (eqv :
       ))
 
   parts_less : (ts : List (OwnedGap K × Part K V)) (left : List (OwnedGap K)) → AllByRecursion (λ t. AscendIn laws.cmp (owned_gap t.0) (map (λ r. r.0) t.1.rows)) ts → AllByRecursion (λ r. IsKeyOf laws.cmp peer.rows r.0) (flat_map (λ t. t.1.rows) ts)
-      → AreBehind laws local ts left → in_gaps left + length ts ≤ in_gaps (map (λ t. t.0) ts)
+      → AreBehind laws.cmp ts left → in_gaps left + length ts ≤ in_gaps (map (λ t. t.0) ts)
   parts_less [] left up keys none = subst (λ gs. in_gaps gs + 0 ≤ 0) (sym none) (omega arith)
   parts_less (t ∷ ts) left up keys (first, rest, one, more, e) =
       let IsKey : K × V → Type 0 = λ r. IsKeyOf laws.cmp peer.rows r.0 in

@@ -31,7 +31,6 @@ use Rattle.merkle_wire.specs.declared.catching_up.Next.{Next}
 use Rattle.merkle_wire.specs.declared.question.Question.{Question}
 use Rattle.merkle_wire.specs.declared.question.Question.TheVariants.{Root}
 use Rattle.merkle_wire.specs.declared.session_error.SessionError.{SessionError}
-use Rattle.merkle_wire.specs.declared.session_error.SessionError.TheVariants.{Memory}
 use Rattle.merkle_wire.specs.declared.settings.Settings.{Settings}
 use Rattle.merkle_wire.proofs.CostExchanges.{exchange_pays}
 use Rattle.merkle_wire.proofs.CostKeys.{AsksLacked, PayForKeys, Wants, exchange_pays_for_keys}

@@ -21,7 +21,6 @@ use Rattle.merkle_wire.specs.Underway.{Underway}
 use Rattle.merkle_wire.specs.declared.catching_up.Next.{Next}
 use Rattle.merkle_wire.specs.declared.catching_up.Next.TheVariants.{Ask, Came}
 use Rattle.merkle_wire.specs.declared.session_error.SessionError.{SessionError}
-use Rattle.merkle_wire.specs.declared.session_error.SessionError.TheVariants.{Memory}
 use Rattle.merkle_wire.proofs.CostKeys.{AsksLacked, PayForKeys, Wants, asked_at, keys_left, left_at, lacked as lacked_keys}
 use Rattle.merkle_wire.proofs.Costs.{PayFor, nodes_by, nodes_of, pages_by, pages_of}
 use Rattle.merkle_wire.proofs.Exchanges.{Tell}

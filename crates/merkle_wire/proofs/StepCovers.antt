@@ -185,7 +185,7 @@ module _ {K V H : Type 0} (laws : Laws K V H) (o : IsTotalOrder laws.cmp) (eqv :
         low (q ∷ qs) a (inl s) = low_up laws.cmp o p.0 q.0 k a.0 (same_down laws.cmp o k q.0 s)
         low (q ∷ qs) a (inr i) = low qs a.1 i
 
-    one_part_covers : (t u : OwnedGap K × Part K V) (left : List (OwnedGap K)) (k : K) → Lacked k → SamePartOf t u → IsPart u → IsBehind laws local (owned_gap t.0) t.1 left → IsInGap laws.cmp k (owned_gap t.0)
+    one_part_covers : (t u : OwnedGap K × Part K V) (left : List (OwnedGap K)) (k : K) → Lacked k → SamePartOf t u → IsPart u → IsBehind laws.cmp (owned_gap t.0) t.1 left → IsInGap laws.cmp k (owned_gap t.0)
         → AnyByRecursion (λ r. Same laws.cmp k r.0) t.1.rows ⊎ AnyByRecursion (λ g. IsInGap laws.cmp k (owned_gap g)) left
     one_part_covers t u left k l s (more, is, whole, some) behind i =
         let (v, there) = row_at k l in
@@ -193,7 +193,7 @@ module _ {K V H : Type 0} (laws : Laws K V H) (o : IsTotalOrder laws.cmp) (eqv :
         let found = is_key laws.cmp o (pairs_within laws.cmp g peer.rows) k v (get_within laws.cmp o g peer.rows k v (in_gap-alike laws.cmp o (owned_gap t.0) g k (same_gap t.0 u.0 s.0) i) there) in
         go (any-split (λ r. Same laws.cmp k r.0) u.1.rows more (subst (AnyByRecursion (λ r. Same laws.cmp k r.0)) is found)) behind
       where
-        go : AnyByRecursion (λ r. Same laws.cmp k r.0) u.1.rows ⊎ AnyByRecursion (λ r. Same laws.cmp k r.0) more → IsBehind laws local (owned_gap t.0) t.1 left
+        go : AnyByRecursion (λ r. Same laws.cmp k r.0) u.1.rows ⊎ AnyByRecursion (λ r. Same laws.cmp k r.0) more → IsBehind laws.cmp (owned_gap t.0) t.1 left
             → AnyByRecursion (λ r. Same laws.cmp k r.0) t.1.rows ⊎ AnyByRecursion (λ g. IsInGap laws.cmp k (owned_gap g)) left
         go (inl a) b = inl (any_alike laws o eqv local peer t.1.rows u.1.rows k s.1.0 a)
         go (inr a) (inl (all, none)) = absurd (subst (AnyByRecursion (λ r. Same laws.cmp k r.0)) (whole (sym s.1.1 ∙ all)) a)
@@ -202,7 +202,7 @@ module _ {K V H : Type 0} (laws : Laws K V H) (o : IsTotalOrder laws.cmp) (eqv :
             let low = last_low row rows u.1.rows k (subst (λ xs. AllZip (SameRow laws.cmp laws.eq) xs u.1.rows) e s.1.0) (before_low u.1.rows more k ascends a) in
             inr (subst (AnyByRecursion (λ g. IsInGap laws.cmp k (owned_gap g))) (sym is_own) (inl (in_gap-alike laws.cmp o (part_behind (owned_gap t.0) (last_key row.0 rows)) (owned_gap own) k same (low, i.1))))
 
-    pub parts_cover : (ts us : List (OwnedGap K × Part K V)) (left : List (OwnedGap K)) (k : K) → Lacked k → AllZip SamePartOf ts us → AllByRecursion IsPart us → AreBehind laws local ts left
+    pub parts_cover : (ts us : List (OwnedGap K × Part K V)) (left : List (OwnedGap K)) (k : K) → Lacked k → AllZip SamePartOf ts us → AllByRecursion IsPart us → AreBehind laws.cmp ts left
         → AnyByRecursion (λ g. IsInGap laws.cmp k (owned_gap g)) (map (λ t. t.0) ts) → AnyByRecursion (λ r. Same laws.cmp k r.0) (flat_map (λ t. t.1.rows) ts) ⊎ AnyByRecursion (λ g. IsInGap laws.cmp k (owned_gap g)) left
     parts_cover [] us left k l s a behind i = absurd i
     parts_cover (t ∷ ts) [] left k l s a behind i = absurd s

@@ -1,6 +1,7 @@
 -- What was taken, one more after the others.
 use Rattle.std.proofs.Common.{◌≡◌, ℕ, List, [], ◌∷◌, ◌++◌, map, refl, ap, sym, subst, ◌∙◌, append_assoc, append-nil, not, cond, Bool, true, false}
 use Rattle.std.specs.List.{filter}
+use Rattle.std.specs.declared.cmp.Ordering.{Ordering}
 use Rattle.std.proofs.lemmas.List.Elements.{filter-append}
 use Rattle.std.proofs.lemmas.List.{map-append}
 use Rattle.merkle_replica.specs.Contents.{Side}
@@ -13,16 +14,17 @@ use Rattle.merkle_wire.specs.Replies.{Part}
 use Rattle.merkle_wire.specs.Taking.{IsTaken, AreTaken, IsBehind, AreBehind, has_digest, has_row, new_rows, new_keys}
 use Rattle.merkle_wire.specs.declared.gaps.OwnedGap.{OwnedGap}
 
+module _ {K V : Type 0} (cmp : K → K → Ordering) where
+  pub behind-more : (ts : List (OwnedGap K × Part K V)) (t : OwnedGap K × Part K V) (left more : List (OwnedGap K))
+      → AreBehind cmp ts left → IsBehind cmp (owned_gap t.0) t.1 more → AreBehind cmp (ts ++ t ∷ []) (left ++ more)
+  behind-more [] t left more e h = (more, [], h, refl, ap (λ l. l ++ more) e ∙ sym (append-nil more))
+  behind-more (s ∷ ts) t left more (first, rest, i, b, e) h = (first, rest ++ more, i, behind-more ts t rest more b h, ap (λ l. l ++ more) e ∙ append_assoc first rest more)
+
 module _ {K V H : Type 0} (laws : Laws K V H) (local : Side K V H) where
   pub taken-more : (ts : List (OwnedGap K × Outline K V)) (t : OwnedGap K × Outline K V) (before mid after : Found K V)
       → AreTaken laws local ts before mid → IsTaken laws local (owned_gap t.0) t.1 mid after → AreTaken laws local (ts ++ t ∷ []) before after
   taken-more [] t before mid after e h = (after, subst (λ f. IsTaken laws local (owned_gap t.0) t.1 f after) e h, refl)
   taken-more (s ∷ ts) t before mid after (first, i, rest) h = (first, i, taken-more ts t first mid after rest h)
-
-  pub behind-more : (ts : List (OwnedGap K × Part K V)) (t : OwnedGap K × Part K V) (left more : List (OwnedGap K))
-      → AreBehind laws local ts left → IsBehind laws local (owned_gap t.0) t.1 more → AreBehind laws local (ts ++ t ∷ []) (left ++ more)
-  behind-more [] t left more e h = (more, [], h, refl, ap (λ l. l ++ more) e ∙ sym (append-nil more))
-  behind-more (s ∷ ts) t left more (first, rest, i, b, e) h = (first, rest ++ more, i, behind-more ts t rest more b h, ap (λ l. l ++ more) e ∙ append_assoc first rest more)
 
   -- rows that are new are so among others
   pub new_rows-append : (xs ys : List (K × V)) → new_rows laws local (xs ++ ys) ≡ new_rows laws local xs ++ new_rows laws local ys

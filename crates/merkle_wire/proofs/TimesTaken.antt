@@ -129,7 +129,7 @@ module _ {K V H : Type 0} (laws : Laws K V H) (o : IsTotalOrder laws.cmp) (local
   values_times (t ∷ ts) = omega (arith, total-append at_row (value_row t) (flat_map value_row ts), value_times t, values_times ts)
 
   -- and parts of the rows in gaps
-  part_times : (t : OwnedGap K × Part K V) (behind : List (OwnedGap K)) → AscendIn laws.cmp (owned_gap t.0) (map (λ r. r.0) t.1.rows) → IsBehind laws local (owned_gap t.0) t.1 behind
+  part_times : (t : OwnedGap K × Part K V) (behind : List (OwnedGap K)) → AscendIn laws.cmp (owned_gap t.0) (map (λ r. r.0) t.1.rows) → IsBehind laws.cmp (owned_gap t.0) t.1 behind
       → total at_row t.1.rows + total (λ g. inside (owned_gap g)) behind ≤ inside (owned_gap t.0)
   part_times t behind up (inl (all, none)) =
       subst (λ gs. total at_row t.1.rows + total (λ g. inside (owned_gap g)) gs ≤ inside (owned_gap t.0)) (sym none)
@@ -140,7 +140,7 @@ module _ {K V H : Type 0} (laws : Laws K V H) (o : IsTotalOrder laws.cmp) (local
       (subst (λ rs. total at_row rs + (inside (owned_gap own) + 0) ≤ inside (owned_gap t.0)) (sym are)
       (omega (arith, total-mapped at (λ r. r.0) (row ∷ rows), ascend_and_behind laws.cmp o k (owned_gap t.0) row rows up_rows, in-alike laws.cmp o k (part_behind (owned_gap t.0) (last_key row.0 rows)) (owned_gap own) same)))
 
-  pub parts_times : (ts : List (OwnedGap K × Part K V)) (behind : List (OwnedGap K)) → AllByRecursion (λ t. AscendIn laws.cmp (owned_gap t.0) (map (λ r. r.0) t.1.rows)) ts → AreBehind laws local ts behind
+  pub parts_times : (ts : List (OwnedGap K × Part K V)) (behind : List (OwnedGap K)) → AllByRecursion (λ t. AscendIn laws.cmp (owned_gap t.0) (map (λ r. r.0) t.1.rows)) ts → AreBehind laws.cmp ts behind
       → total at_row (flat_map (λ t. t.1.rows) ts) + total (λ g. inside (owned_gap g)) behind ≤ total (λ g. inside (owned_gap g)) (map (λ t. t.0) ts)
   parts_times [] behind up none = subst (λ gs. 0 + total (λ g. inside (owned_gap g)) gs ≤ 0) (sym none) (omega arith)
   parts_times (t ∷ ts) behind up (first, rest, one, more, e) =

@@ -1,12 +1,12 @@
 -- What limits do to a catch-up.
-use Rattle.std.proofs.Common.{◌≡◌, ◌≤◌, ℕ, List, length, Option, Some, refl, sym, ap, subst, ◌∙◌, inl, inr}
+use Rattle.std.proofs.Common.{◌≡◌, ℕ, List, length, Option, Some, refl, sym, subst, ◌∙◌}
 use Rattle.std.proofs.lemmas.List.Sorted.{length_permutation}
 use Rattle.std.specs.declared.cmp.Ordering.{Ordering}
 use Rattle.merkle_replica.specs.Contents.{Side}
 use Rattle.merkle_replica.specs.Laws.{Laws}
 use Rattle.merkle_wire.specs.Asking.{IsAskedOf}
 use Rattle.merkle_wire.specs.Found.{Found}
-use Rattle.merkle_wire.specs.Limits.{Allows, IsAbove, IsLeftAfter, IsOverLimit, IsOverRows, no_limits}
+use Rattle.merkle_wire.specs.Limits.{Allows, IsAbove, IsLeftAfter, IsOverRows, no_limits}
 use Rattle.merkle_wire.specs.Next.{HasLeft, IsCame, IsStopped, IsUnlimited, StaysWithin}
 use Rattle.merkle_wire.specs.Steady.{IsMemoryOrLimit}
 use Rattle.merkle_wire.specs.Underway.{Underway, HasTaken}
@@ -37,21 +37,6 @@ module _ {K V H : Type 0} (laws : Laws K V H) (n : ℕ) (encoding : K → List �
   rows_stop found again NothingCame taken over = absurd over
   rows_stop found again NotInGap taken over = absurd over
   rows_stop found again NoNode taken over = absurd over
-
-  -- so does a reply that is over a limit itself
-  pub limit_stops : (error : SessionError) → IsOverLimit (length reply) before.left error → Stopped error
-  limit_stops (Limit limit.Rows) over = absurd over
-  limit_stops (Limit limit.Replies) over = over
-  limit_stops (Limit limit.Bytes) over = over
-  limit_stops Memory over = absurd over
-  limit_stops TooManyRounds over = absurd over
-  limit_stops Twice over = absurd over
-  limit_stops (Malformed e) over = absurd over
-  limit_stops OtherKind over = absurd over
-  limit_stops Refused over = absurd over
-  limit_stops NothingCame over = absurd over
-  limit_stops NotInGap over = absurd over
-  limit_stops NoNode over = absurd over
 
   -- without limits none of them stops it
   pub unlimited_stops : (error : SessionError) → before.left ≡ no_limits → Stopped error → IsMemoryOrLimit error → error ≡ Memory

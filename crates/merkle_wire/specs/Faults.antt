@@ -15,6 +15,8 @@ use Rattle.merkle_wire.specs.declared.session.MessagesError.{MessagesError}
 use Rattle.merkle_wire.specs.declared.session.MessagesError.TheVariants as messages
 use Rattle.merkle_wire.specs.declared.session_error.SessionError.{SessionError}
 use Rattle.merkle_wire.specs.declared.session_error.SessionError.TheVariants as session
+use Rattle.merkle_wire.specs.declared.session_error.TakeError.{TakeError}
+use Rattle.merkle_wire.specs.declared.session_error.TakeError.TheVariants.{Session, Tree}
 
 -- why a message that was not read has no reply: out of memory, or where it is no message
 abbrev pub unread_message : ReadError → AnswerError
@@ -42,6 +44,11 @@ IsOfOthers answer.OtherSettings = ⊤
 abbrev pub OfMessage : {E : Type 0} → (AnswerError → Type 0) → KeptError E → Type 0
 OfMessage Holds (Answer error) = Holds error
 OfMessage Holds (Rows error) = ⊤
+
+-- this holds of an error for which a catch-up of a replica ends; of one of the tree nothing is said
+abbrev pub OfSession : {E : Type 0} → (SessionError → Type 0) → TakeError E → Type 0
+OfSession Holds (Session error) = Holds error
+OfSession Holds (Tree error) = ⊤
 
 -- a reply is refused when out of memory, or for this reason
 abbrev pub IsRefusedFor : Type 0 → SessionError → Type 0

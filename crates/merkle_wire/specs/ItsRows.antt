@@ -1,20 +1,50 @@
 -- The rows whose digests a tree has, wherever they are kept.
-use Rattle.std.specs.Prelude.{◌≡◌, ℕ, List}
+use Rattle.std.specs.Prelude.{◌≡◌, ℕ, List, Option}
 use Rattle.key_order.specs.Map.{SameMap}
 use Rattle.merkle_replica.specs.Contents.{Side}
 use Rattle.merkle_replica.specs.Laws.{Laws}
 use Rattle.merkle_search_tree.specs.Loading.{digests}
 use Rattle.merkle_tree_theory.specs.State.{State, map_of}
+use Rattle.merkle_tree_theory.specs.declared.page_format.PageFormat.{PageFormat}
 
--- the side that has these rows, and the hasher, the level base and the page format of the tree
+-- the digests of a side: its hasher, the level base and the page format of its tree, and its keys, each with the digest of its value
+pub record Digests (K H : Type 0) : Type 0 where
+  pub hasher : H
+  pub base : ℕ
+  pub format : PageFormat
+  pub map : List (K × List ℕ)
+
+-- what a side keeps: the digests, and the rows, where it has them at hand
+pub record Kept (K V H : Type 0) : Type 0 where
+  pub digests : Digests K H
+  pub rows : Option (List (K × V))
+
+-- the digests of a tree
+abbrev pub digests_of : {K H : Type 0} → State K H → Digests K H
+digests_of tree = record { hasher = tree.hasher; base = tree.base; format = tree.format; map = map_of tree }
+
+-- the side that has these rows, and the hasher, the level base and the page format of the digests
+abbrev pub side_of : {K V H : Type 0} → Digests K H → List (K × V) → Side K V H
+side_of digests rows = record { hasher = digests.hasher; base = digests.base; format = digests.format; rows = rows }
+
+-- so it is with those of a tree
 abbrev pub side_with : {K V H : Type 0} → State K H → List (K × V) → Side K V H
-side_with tree rows = record { hasher = tree.hasher; base = tree.base; format = tree.format; rows = rows }
+side_with tree = side_of (digests_of tree)
+
+module _ {K V H : Type 0} (laws : Laws K V H) where
+  -- the digests are those of the rows
+  abbrev pub AreDigestsOf : Digests K H → List (K × V) → Type 0
+  AreDigestsOf own rows = SameMap laws.cmp (λ d e. d ≡ e) own.map (digests (laws.value_digest own.hasher) rows)
+
+  -- whatever rows the digests are those of, this holds of the side that has them
+  abbrev pub ForRowsOf : Digests K H → (Side K V H → Type 0) → Type 0
+  ForRowsOf own P = (rows : List (K × V)) → AreDigestsOf own rows → P (side_of own rows)
 
 module _ {K V H : Type 0} (laws : Laws K V H) (tree : State K H) where
   -- the tree's map is the digests of the rows
   abbrev pub HasDigestsOf : List (K × V) → Type 0
-  HasDigestsOf rows = SameMap laws.cmp (λ d e. d ≡ e) (map_of tree) (digests (laws.value_digest tree.hasher) rows)
+  HasDigestsOf = AreDigestsOf laws (digests_of tree)
 
   -- whatever rows the tree has the digests of, this holds of the side that has them
   abbrev pub ForItsRows : (Side K V H → Type 0) → Type 0
-  ForItsRows P = (rows : List (K × V)) → HasDigestsOf rows → P (side_with tree rows)
+  ForItsRows = ForRowsOf laws (digests_of tree)

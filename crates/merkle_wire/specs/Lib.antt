@@ -20,5 +20,6 @@ pub mod Steady
 pub mod Cost
 pub mod Faults
 pub mod ItsRows
-pub mod Steps
+pub mod Reads
+pub mod Takes
 pub mod Told

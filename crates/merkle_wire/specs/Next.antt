@@ -11,6 +11,7 @@ use Rattle.merkle_wire.specs.Asking.{IsAskedOf, IsDone}
 use Rattle.merkle_wire.specs.Coming.{IsAskedFor}
 use Rattle.merkle_wire.specs.Fit.{IsFit}
 use Rattle.merkle_wire.specs.Found.{Found}
+use Rattle.merkle_wire.specs.ItsRows.{Digests, ForRowsOf}
 use Rattle.merkle_wire.specs.Limits.{Allows, IsAbove, IsLeftAfter, IsOverLimit, no_limits}
 use Rattle.merkle_wire.specs.Questions.{question_bytes}
 use Rattle.merkle_wire.specs.Underway.{Underway, HasTaken}
@@ -103,6 +104,15 @@ module _ {K V H : Type 0} (laws : Laws K V H) (n : ℕ) (encoding : K → List �
       × HasTaken laws n encoding values local before.asked reply before.found found again × IsAbove (length found.rows) before.left.rows
   IsStopped is_key is_value local before reply (Limit limit) = IsOverLimit (length reply) before.left (Limit limit)
   IsStopped is_key is_value local before reply _ = ¬ IsFit laws.cmp is_key is_value encoding values n before.asked reply
+
+module _ {K V H : Type 0} (laws : Laws K V H) (n : ℕ) (encoding : K → List ℕ) (values : V → List ℕ) (own : Digests K H) where
+  -- a catch-up of a side with these digests takes the reply so, whatever rows it has
+  abbrev pub IsNextOf : Underway K V → List ℕ → Next K V → Type 0
+  IsNextOf before reply next = ForRowsOf laws own (λ local. IsNext laws n encoding values local before reply next)
+
+  -- so it is where it doesn't take it
+  abbrev pub IsStoppedOf : (K → Type 0) → (V → Type 0) → Underway K V → List ℕ → SessionError → Type 0
+  IsStoppedOf is_key is_value before reply error = ForRowsOf laws own (λ local. IsStopped laws n encoding values is_key is_value local before reply error)
 
 -- this is left of the limits, and they allow the rows that were found
 abbrev pub HasLeft : {K V : Type 0} → Limits → Next K V → Type 0

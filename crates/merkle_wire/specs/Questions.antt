@@ -10,8 +10,9 @@ use Rattle.merkle_bytes.specs.declared.reader.Reader.{Reader}
 use Rattle.merkle_replica.specs.Contents.{Contents}
 use Rattle.merkle_tree_theory.specs.State.{State}
 use Rattle.merkle_wire.specs.Gaps.{HasKeyBounds, owned_gap, gap_behind, gap_key}
+use Rattle.merkle_wire.specs.ItsRows.{Digests, digests_of}
 use Rattle.merkle_wire.specs.Messages.{front}
-use Rattle.merkle_wire.specs.Settings.{AreSettings, AreSettingsOf, settings_bytes}
+use Rattle.merkle_wire.specs.Settings.{AreSettings, AreSettingsBy, settings_bytes}
 use Rattle.merkle_wire.specs.declared.gaps.OwnedGap.{OwnedGap}
 use Rattle.merkle_wire.specs.declared.message.Kind.{Kind}
 use Rattle.merkle_wire.specs.declared.message.Kind.TheVariants.{AskRoot, AskOutlines, AskNodes, AskRowsAt, AskRowsIn}
@@ -67,9 +68,13 @@ module _ {K : Type 0} (encoding : K → List ℕ) (is_value : K → Type 0) wher
   abbrev pub AsksNothing : List ℕ → Type 0
   AsksNothing message = (question : Question K) → IsQuestion is_value question → message ≢ question_bytes encoding question
 
--- the question is for the root, with the settings of a tree whose digests have n bytes
+-- the question is for the root, with the settings of a side whose digests have n bytes
+abbrev pub AsksForRootBy : {K H : Type 0} → (K → List ℕ) → ℕ → Digests K H → Question K → Type 0
+AsksForRootBy {K} digest_of n own question = (settings : Settings K) × (question ≡ Root settings) × AreSettingsBy digest_of n own settings
+
+-- so it is with those of a tree
 abbrev pub AsksForRoot : {K H : Type 0} → (K → List ℕ) → ℕ → State K H → Question K → Type 0
-AsksForRoot {K} digest_of n tree question = (settings : Settings K) × (question ≡ Root settings) × AreSettingsOf digest_of n tree settings
+AsksForRoot digest_of n tree = AsksForRootBy digest_of n (digests_of tree)
 
 -- it is for the root, with the settings of a replica's tree by its own hasher
 abbrev pub AsksForOwnRoot : {K V H : Type 0} → (H → K → List ℕ) → ℕ → Contents K V H → Question K → Type 0

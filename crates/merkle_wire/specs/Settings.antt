@@ -7,6 +7,7 @@ use Rattle.merkle_tree_theory.specs.declared.page_format.PageFormat.TheVariants.
 use Rattle.merkle_bytes.specs.Counts.{count_bytes}
 use Rattle.merkle_bytes.specs.Encodings.{string_encoding}
 use Rattle.merkle_bytes.specs.Options.{option_bytes, IsOption}
+use Rattle.merkle_wire.specs.ItsRows.{Digests, digests_of}
 use Rattle.merkle_wire.specs.declared.settings.Settings.{Settings}
 
 -- the byte of a page format
@@ -39,9 +40,13 @@ module _ {K : Type 0} (digest_of : K → List ℕ) where
   IsDigested None = ⊤
   IsDigested (Some pair) = pair.1.items ≡ digest_of pair.0
 
-  -- these are the settings of a tree whose digests have n bytes, as far as they tell
+  -- these are the settings of a side whose digests have n bytes, as far as they tell
+  abbrev pub AreSettingsBy : {H : Type 0} → ℕ → Digests K H → Settings K → Type 0
+  AreSettingsBy n own s = (s.level_base ≡ own.base) × (s.page_format ≡ own.format) × (s.digest_bytes ≡ n) × IsDigested s.sample
+
+  -- so they are of one with this tree
   abbrev pub AreSettingsOf : {H : Type 0} → ℕ → State K H → Settings K → Type 0
-  AreSettingsOf n tree s = (s.level_base ≡ tree.base) × (s.page_format ≡ tree.format) × (s.digest_bytes ≡ n) × IsDigested s.sample
+  AreSettingsOf n tree = AreSettingsBy n (digests_of tree)
 
 -- these are the settings of a tree, whose keys have digests by its own hasher
 abbrev pub AreOwnSettings : {K H : Type 0} → (H → K → List ℕ) → ℕ → State K H → Settings K → Type 0

@@ -2,6 +2,7 @@
 use Rattle.std.specs.Prelude.{◌≡◌, ℕ, List, [], ◌∷◌, ◌++◌, map, Bool, true, false, not, nat_eq, Option, Some, None, ◌⊎◌}
 use Rattle.std.specs.List.{filter}
 use Rattle.std.specs.Cmp.Lexicographic.{pointwise}
+use Rattle.std.specs.declared.cmp.Ordering.{Ordering}
 use Rattle.key_order.specs.Map.{get, last_key}
 use Rattle.merkle_replica.specs.Contents.{Side, tree_map}
 use Rattle.merkle_replica.specs.Descent.{HasPage}
@@ -114,10 +115,11 @@ module _ {K V H : Type 0} (laws : Laws K V H) (local : Side K V H) where
   AreTaken [] before after = after ≡ before
   AreTaken (t ∷ ts) before after = (mid : Found K V) × IsTaken (owned_gap t.0) t.1 before mid × AreTaken ts mid after
 
+module _ {K V : Type 0} (cmp : K → K → Ordering) where
   -- the gap after the last of the rows, up to equal keys, where they are not all
   abbrev pub IsBehind : Gap K → Part K V → List (OwnedGap K) → Type 0
   IsBehind gap part left = (part.whole ≡ true × left ≡ []) ⊎ ((row : K × V) × (rows : List (K × V)) × (own : OwnedGap K)
-      × (part.whole ≡ false) × (part.rows ≡ row ∷ rows) × SameGap laws.cmp (part_behind gap (last_key row.0 rows)) (owned_gap own) × (left ≡ own ∷ []))
+      × (part.whole ≡ false) × (part.rows ≡ row ∷ rows) × SameGap cmp (part_behind gap (last_key row.0 rows)) (owned_gap own) × (left ≡ own ∷ []))
 
   -- the gaps after parts, one after the other
   abbrev pub AreBehind : List (OwnedGap K × Part K V) → List (OwnedGap K) → Type 0

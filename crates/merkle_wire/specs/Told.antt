@@ -1,5 +1,5 @@
 -- What the answering side writes of a reply, step by step.
-use Rattle.std.specs.Prelude.{◌≡◌, ◌≢◌, ℕ, ◌+◌, ◌<◌, List, [], ◌∷◌, ◌++◌, length, map, flat_map, take, Bool, true, false, Option, None, Some, ◌⊎◌}
+use Rattle.std.specs.Prelude.{◌≡◌, ◌≢◌, ℕ, ◌+◌, ◌<◌, List, [], ◌∷◌, ◌++◌, length, flat_map, take, Bool, true, false, Option, None, Some, ◌⊎◌}
 use denote.Ref.{Bor}
 use Rattle.std.specs.Global.{Vec}
 use Rattle.std.specs.Option.{option_map}
@@ -13,7 +13,7 @@ use Rattle.merkle_search_tree.specs.declared.outline.OutlineItemOf.{OutlineItemO
 use Rattle.merkle_tree_theory.specs.State.{State}
 use Rattle.merkle_wire.specs.Messages.{front}
 use Rattle.merkle_wire.specs.Nodes.{node_pairs}
-use Rattle.merkle_wire.specs.Outlines.{Outline, rows_told, AreNodes, IsTold, outline_bytes, keys_told, keys_among}
+use Rattle.merkle_wire.specs.Outlines.{Outline, AreNodes, IsTold, outline_bytes, keys_told, keys_among}
 use Rattle.merkle_wire.specs.Outlines.{nodes_digest, pages_beside, pages_bytes}
 use Rattle.merkle_wire.specs.Replies.{Answers, IsPartOf, Part, RowsFit, items_over, outlines_bytes, part_bytes, parts_bytes, rows_bytes, values_bytes}
 use Rattle.merkle_wire.specs.RowsAt.{AreRowsAt}

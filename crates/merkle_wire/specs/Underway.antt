@@ -49,7 +49,7 @@ module _ {K V H : Type 0} (laws : Laws K V H) (n : ℕ) (encoding : K → List �
   abbrev pub HasParts : List (OwnedGap K) → List ℕ → Found K V → Found K V → List (OwnedGap K) → Type 0
   HasParts gaps reply before after left = (told : List (OwnedGap K × Part K V)) × (behind : List (OwnedGap K)) × (rest : List (OwnedGap K))
       × (reply ≡ front rows_in_kind ++ parts_bytes encoding values told) × (told ≢ []) × (gaps ≡ map (λ t. t.0) told ++ rest)
-      × AllByRecursion (λ t. AscendIn laws.cmp (owned_gap t.0) (map (λ r. r.0) t.1.rows)) told × AreBehind laws local told behind × (left ≡ behind ++ rest)
+      × AllByRecursion (λ t. AscendIn laws.cmp (owned_gap t.0) (map (λ r. r.0) t.1.rows)) told × AreBehind laws.cmp told behind × (left ≡ behind ++ rest)
       × AddsRows laws local (flat_map (λ t. t.1.rows) told) before after
 
   -- a reply to a question was taken, after which this question is to be asked again, or none

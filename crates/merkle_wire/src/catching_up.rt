@@ -1,29 +1,33 @@
 //! The asking side: what to ask next, and the rows that came in the end.
-ghost use Rattle.std.specs.Prelude.{◌≡◌, ◌≤◌, IsSome, IfOk, IfErr, IfSome, length};
+ghost use Rattle.std.specs.Prelude.{◌≡◌, ◌≤◌, IfOk, IfErr, IfSome, length};
 ghost use Rattle.merkle_replica.specs.Contents.{side};
 ghost use Rattle.merkle_tree_theory.specs.State.{SameSettings, map_of};
 ghost use Rattle.merkle_wire.specs.Asking.{AsksForOutlines};
+ghost use Rattle.merkle_wire.specs.Faults.{OfSession};
 ghost use Rattle.merkle_wire.specs.Found.{nothing};
-ghost use Rattle.merkle_wire.specs.ItsRows.{ForItsRows};
+ghost use Rattle.merkle_wire.specs.ItsRows.{ForItsRows, ForRowsOf};
 ghost use Rattle.merkle_wire.specs.Limits.{Allows};
-ghost use Rattle.merkle_wire.specs.Next.{AsksFew, GoesOn, HasLeft, IsAsked, IsCame, IsEnded, IsNext, IsStopped, IsTwice, OnlyAskedFor, StaysWithin, Takes, rounds_with};
-ghost use Rattle.merkle_wire.specs.Questions.{AsksForOwnRoot, AsksForRoot, IsQuestion, question_bytes};
+ghost use Rattle.merkle_wire.specs.Next.{AsksFew, GoesOn, HasLeft, IsAsked, IsCame, IsEnded, IsNextOf, IsStopped, IsStoppedOf, IsTwice, OnlyAskedFor, StaysWithin, Takes, rounds_with};
+ghost use Rattle.merkle_wire.specs.Questions.{AsksForOwnRoot, AsksForRoot, AsksForRootBy, IsQuestion, question_bytes};
 ghost use Rattle.merkle_wire.specs.Replies.{IsReplyBy};
 ghost use Rattle.merkle_wire.specs.Steady.{IsKeyOf};
 ghost use Rattle.merkle_wire.specs.declared.session_error.SessionError.TheVariants.{Memory, TooManyRounds};
 
 use crate::answering::own_reply;
+use crate::kept_tree::KeptTree;
 use crate::limits::Limits;
 use crate::question::{Question, encode_question};
-use crate::replies::take_reply;
-use crate::session_error::SessionError;
-use crate::settings::{Settings, settings_of, settings_of_tree};
+use crate::replies::read_reply;
+use crate::session_error::{SessionError, TakeError};
+use crate::settings::{Settings, settings_by, settings_of};
+use crate::taking::take_reply;
 use crate::within::rows_ascend;
 use crate::work::Work;
 use merkle_bytes::Decode;
 use merkle_digest::{Hasher, Key};
 use merkle_replica::{Join, Replica, RowHasher};
 use merkle_search_tree::MerkleSearchTree;
+use merkle_search_tree::laws::every_tree_is_sound;
 use std::alloc::{AllocError, Global};
 use std::cmp::Ordering;
 use std::marker::Model;
@@ -102,11 +106,11 @@ impl<K: Key + Decode, V: Join + Decode> CatchingUp<K, V> {
         ensures keys { IfOk result (λ begun. IsQuestion (IsKeyOf K.cmp replica.now.rows) begun.0.asked) }
         ensures nothing { IfOk result (λ begun. (begun.0.found ≡ nothing) × (begun.0.rounds ≡ 0)) }
     {
-        begin(alloc, settings_of(alloc, replica)?)
+        Self::begin_of(alloc, replica.tree())
     }
 
-    /// Begins a catch-up of a side whose rows are kept anywhere. Returns it with the first message, which has the settings of the tree of their
-    /// digests.
+    /// Begins a catch-up of a side whose rows are kept anywhere, with the tree of their digests in memory. Returns it with the first message, which has
+    /// the settings of the tree.
     ///
     /// # Errors
     ///
@@ -123,7 +127,30 @@ impl<K: Key + Decode, V: Join + Decode> CatchingUp<K, V> {
 
         ensures nothing { IfOk result (λ begun. (begun.0.found ≡ nothing) × (begun.0.rounds ≡ 0)) }
     {
-        begin(alloc, settings_of_tree(alloc, tree)?)
+        begin(alloc, settings_of(alloc, tree)?)
+    }
+
+    /// Begins a catch-up of a side whose rows and whose tree are kept anywhere. Returns it with the first message, which has the settings of the tree.
+    ///
+    /// # Errors
+    ///
+    /// Out of memory, or the tree can't be read.
+    pub fn begin_by<H: RowHasher<N, K, V>, T: KeptTree<N, K, V, H>, const N: usize>(
+        alloc: Global,
+        tree: &mut T,
+    ) -> Result<(Self, Vec<u8>), T::Error>
+        ensures settings { IfOk result (λ begun. AsksForRootBy (⟦<H as Hasher<N, K>>⟧.digest_of (T.kept tree.old).digests.hasher) N
+            (T.kept tree.old).digests begun.0.asked) }
+        ensures asks { IfOk result (λ begun. begun.1.items ≡ question_bytes K.encoding begun.0.asked) }
+
+        // Whatever rows the tree has the digests of, the key that is told is one of theirs.
+        ensures keys { IfOk result (λ begun. ForRowsOf H.laws (T.kept tree.old).digests (λ local. IsQuestion (IsKeyOf K.cmp local.rows) begun.0.asked)) }
+
+        ensures nothing { IfOk result (λ begun. (begun.0.found ≡ nothing) × (begun.0.rounds ≡ 0)) }
+        ensures kept { T.kept tree.new ≡ T.kept tree.old }
+    {
+        let settings = settings_by(alloc, tree)?;
+        Ok(begin(alloc, settings)?)
     }
 
     /// The same catch-up under these limits, which count from here on.
@@ -203,51 +230,35 @@ impl<K: Key + Decode, V: Join + Decode> CatchingUp<K, V> {
         ensures rows { replica.new.rows ≡ replica.old.rows }
         ensures settings { SameSettings replica.old.tree replica.new.tree }
     {
-        replica.hash();
         let count = replica.rows().len() as u64;
-        self.take_hashed(replica.tree(), count, reply)
+        every_tree_is_sound(replica.tree());
+        match self.take_by(replica, count, reply) {
+            Ok(next) => Ok(next),
+            Err(TakeError::Session(error)) => Err(error),
+            Err(TakeError::Tree(_)) => Err(SessionError::Memory),
+        }
     }
 
-    /// Takes a reply, as [`take`](Self::take) does, for a side whose rows are kept anywhere: it looks at the tree of their digests alone. `count` is
-    /// about how many rows there are, by which all of the peer's are asked for where they are few; the answer is right whatever it is.
+    /// Takes a reply, as [`take`](Self::take) does, for a side whose rows and whose tree are kept anywhere. `count` is about how many rows there are, by
+    /// which all of the peer's are asked for where they are few; the answer is right whatever it is.
     ///
     /// # Errors
     ///
-    /// [`SessionError`]
-    pub fn take_by<H: RowHasher<N, K, V>, const N: usize>(
+    /// [`TakeError`]
+    pub fn take_by<H: RowHasher<N, K, V>, T: KeptTree<N, K, V, H>, const N: usize>(
         self,
-        tree: &mut MerkleSearchTree<K, V, H, N>,
+        tree: &mut T,
         count: u64,
         reply: &[u8],
-    ) -> Result<Next<K, V>, SessionError>
+    ) -> Result<Next<K, V>, TakeError<T::Error>>
         // Whatever rows the tree has the digests of, it is what a replica with them makes of the reply.
-        ensures next { IfOk result (λ next. ForItsRows H.laws tree.old (λ local. IsNext H.laws N K.encoding V.encoding local self reply.now next)) }
+        ensures next { IfOk result (IsNextOf H.laws N K.encoding V.encoding (T.kept tree.old).digests self reply.now) }
         ensures few { IfOk result AsksFew }
         ensures limits { IfOk result (StaysWithin self (length reply.now)) }
-        ensures asked_for { IfOk result (λ next. ForItsRows H.laws tree.old (λ local. OnlyAskedFor K.cmp self next)) }
-        ensures ended { IfErr result (λ error. ForItsRows H.laws tree.old (λ local. IsStopped H.laws N K.encoding V.encoding K.is_value V.is_value
-            local self reply.now error)) }
-        ensures map { map_of tree.new ≡ map_of tree.old }
-        ensures settings { SameSettings tree.old tree.new }
-    {
-        let _ = tree.root_hash_counted();
-        self.take_hashed(tree, count, reply)
-    }
-
-    /// Takes a reply, by a hashed tree.
-    fn take_hashed<H: RowHasher<N, K, V>, const N: usize>(
-        self,
-        tree: &MerkleSearchTree<K, V, H, N>,
-        count: u64,
-        reply: &[u8],
-    ) -> Result<Next<K, V>, SessionError>
-        requires { IsSome tree.now.root_hash }
-        ensures next { IfOk result (λ next. ForItsRows H.laws tree.now (λ local. IsNext H.laws N K.encoding V.encoding local self reply.now next)) }
-        ensures few { IfOk result AsksFew }
-        ensures limits { IfOk result (StaysWithin self (length reply.now)) }
-        ensures asked_for { IfOk result (λ next. ForItsRows H.laws tree.now (λ local. OnlyAskedFor K.cmp self next)) }
-        ensures ended { IfErr result (λ error. ForItsRows H.laws tree.now (λ local. IsStopped H.laws N K.encoding V.encoding K.is_value V.is_value
-            local self reply.now error)) }
+        ensures asked_for { IfOk result (λ next. ForRowsOf H.laws (T.kept tree.old).digests (λ local. OnlyAskedFor K.cmp self next)) }
+        ensures ended { IfErr result (OfSession (IsStoppedOf H.laws N K.encoding V.encoding (T.kept tree.old).digests K.is_value V.is_value
+            self reply.now)) }
+        ensures kept { T.kept tree.new ≡ T.kept tree.old }
     {
         let CatchingUp {
             alloc,
@@ -257,12 +268,16 @@ impl<K: Key + Decode, V: Join + Decode> CatchingUp<K, V> {
             left,
         } = self;
         let left = left.after(reply.len())?;
+        let (came, again) = read_reply(alloc, N, asked, reply)?;
         let mut work = work;
-        let again = take_reply(alloc, tree, count, asked, reply, &mut work)?;
+        match take_reply(tree, count, came, &mut work) {
+            Ok(()) => {}
+            Err(error) => return Err(TakeError::Tree(error)),
+        }
         left.check_rows(work.row_count())?;
         match again {
-            Some(question) => ask(alloc, question, work, rounds, left),
-            None => go_on(alloc, work, rounds, left, N),
+            Some(question) => Ok(ask(alloc, question, work, rounds, left)?),
+            None => Ok(go_on(alloc, work, rounds, left, N)?),
         }
     }
 }

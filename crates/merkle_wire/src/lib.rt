@@ -3,8 +3,10 @@
 
 mod answering;
 mod catching_up;
+mod coming;
 mod gaps;
 mod kept_rows;
+mod kept_tree;
 pub mod laws;
 mod limits;
 mod message;
@@ -13,7 +15,6 @@ mod outlines;
 mod pages;
 mod question;
 mod replies;
-mod root;
 mod rows_at;
 mod rows_in;
 mod session;
@@ -29,6 +30,7 @@ pub use answering::{AnswerError, KeptError, MOST_BYTES, answer, answer_by, answe
 pub use catching_up::{CatchingUp, Next};
 pub use gaps::OwnedGap;
 pub use kept_rows::KeptRows;
+pub use kept_tree::KeptTree;
 pub use limits::{Limit, Limits};
 pub use merkle_bytes as bytes;
 pub use message::{Kind, refusal};
@@ -37,7 +39,7 @@ pub use rows_in::tell_part;
 pub use session::{
     BothMessagesError, MessagesError, catch_up_both_by_messages, catch_up_by_messages,
 };
-pub use session_error::SessionError;
+pub use session_error::{SessionError, TakeError};
 pub use settings::Settings;
 pub use wanted::Wanted;
 pub use within::rows_ascend;

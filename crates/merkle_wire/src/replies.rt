@@ -1,26 +1,25 @@
-//! Replies that came, read entry by entry: each answers the first of what was asked for, or all of it.
-ghost use Rattle.std.specs.Prelude.{◌≡◌, ◌≢◌, ◌++◌, [], length, IsSome, IfOk, IfErr, OnOk};
+//! Replies that came, read: each answers the first of what was asked for, or all of it.
+ghost use Rattle.std.specs.Prelude.{◌≡◌, ◌≢◌, ◌++◌, [], length, IfOk, IfErr, OnOk};
 ghost use Rattle.merkle_bytes.specs.Reading.{Reads};
 ghost use Rattle.merkle_wire.specs.Faults.{IsRefusedFor};
-ghost use Rattle.merkle_wire.specs.ItsRows.{ForItsRows};
+ghost use Rattle.merkle_wire.specs.Fit.{SaysRoot};
 ghost use Rattle.merkle_wire.specs.Messages.{front};
-ghost use Rattle.merkle_wire.specs.Steps.{RefusesOutlines, RefusesOutlinesOf, RefusesParts, RefusesPartsOf, RefusesReply, RefusesValues};
-ghost use Rattle.merkle_wire.specs.Steps.{TakesOutlinesOf, TakesPartsOf, TakesOutlines, TakesParts, TakesValues};
-ghost use Rattle.merkle_wire.specs.Underway.{HasTaken};
-ghost use Rattle.merkle_wire.specs.Unfit.{NoEntry, NoFront};
+ghost use Rattle.merkle_wire.specs.Reads.{IsRead, ReadsOutlines, ReadsParts, ReadsPartsOf, ReadsValues, outlines_read};
+ghost use Rattle.merkle_wire.specs.Reads.{RefusesOutlines, RefusesParts, RefusesPartsOf, RefusesReply, RefusesValues};
+ghost use Rattle.merkle_wire.specs.Replies.{root_reply_bytes};
+ghost use Rattle.merkle_wire.specs.Unfit.{NoEntry, NoFront, SaysNot};
+ghost use Rattle.merkle_wire.specs.declared.message.Kind.TheVariants.{Root as root_kind};
 
+use crate::coming::{OutlineRead, read_outline, read_part, read_value};
 use crate::gaps::OwnedGap;
 use crate::message::{Kind, decode_kind};
+use crate::pages::decode_page;
 use crate::question::Question;
-use crate::root::take_root;
 use crate::session_error::SessionError;
-use crate::taking::{take_outline, take_part, take_value};
 use crate::wanted::Wanted;
-use crate::work::Work;
 use merkle_bytes::{Decode, Reader};
-use merkle_digest::Key;
-use merkle_replica::{Join, RowHasher};
-use merkle_search_tree::MerkleSearchTree;
+use merkle_digest::{Key, PageDigest};
+use merkle_replica::Join;
 use std::alloc::Global;
 
 /// Reads the front of a reply of this kind.
@@ -52,114 +51,115 @@ fn reader_of<'a>(alloc: Global, reply: &'a [u8], kind: Kind) -> Result<Reader<'a
     Ok(reader)
 }
 
-/// Takes what came of the pages over the first of the gaps, or over all of them, and returns the others.
-pub(crate) fn take_outlines<
-    K: Key + Decode,
-    V: Join + Decode,
-    H: RowHasher<N, K, V>,
-    const N: usize,
->(
+/// A gap, and what came of the page over it.
+pub(crate) type OutlineOver<'a, K, V> = (OwnedGap<K>, OutlineRead<'a, K, V>);
+
+/// What a reply tells.
+#[derive(Drop)]
+pub(crate) enum Reply<'a, K, V> {
+    /// How many rows the peer has, and the digest of its root page, where it has a row.
+    Root(u64, Option<PageDigest>),
+    /// What came of the pages over gaps.
+    Outlines(Vec<OutlineOver<'a, K, V>>),
+    /// The rows at keys or in gaps.
+    Rows(Vec<(K, V)>),
+}
+
+/// How many rows the peer has, and the digest of its root page, or none.
+fn decode_root(alloc: Global, reply: &[u8]) -> Result<(u64, Option<PageDigest>), SessionError>
+    ensures read { IfOk result (λ root. reply.now ≡ root_reply_bytes root.0 root.1) }
+    ensures refused { IfErr result (IsRefusedFor (SaysNot root_kind SaysRoot reply.now)) }
+{
+    let mut reader = Reader::new(alloc, reply);
+    expect(&mut reader, Kind::Root)?;
+    let rows = reader.count()?;
+    let digest = decode_page(&mut reader)?;
+    reader.end()?;
+    Ok((rows, digest))
+}
+
+/// Reads what came of the pages over the first of the gaps, or over all of them, and returns it with the other gaps.
+fn read_outlines<'a, K: Key + Decode, V: Join + Decode>(
     alloc: Global,
-    tree: &MerkleSearchTree<K, V, H, N>,
+    digest_bytes: usize,
     kind: Kind,
     with_pages: bool,
     gaps: Vec<OwnedGap<K>>,
-    reply: &[u8],
-    work: &mut Work<K, V>,
-) -> Result<Vec<OwnedGap<K>>, SessionError>
-    requires { IsSome tree.now.root_hash }
-    ensures taken { IfOk result (TakesOutlines H.laws N K.encoding V.encoding tree.now kind gaps
-        reply.now work.old work.new) }
-    ensures refused { IfErr result (RefusesOutlines K.cmp K.is_value V.is_value K.encoding V.encoding N with_pages kind gaps reply.now) }
+    reply: &'a [u8],
+) -> Result<(Vec<OutlineOver<'a, K, V>>, Vec<OwnedGap<K>>), SessionError>
+    ensures read { IfOk result (λ came. ReadsOutlines K.cmp K.encoding V.encoding digest_bytes kind gaps.items reply.now
+        (outlines_read came.0.items) came.1.items) }
+    ensures refused { IfErr result (RefusesOutlines K.cmp K.is_value V.is_value K.encoding V.encoding digest_bytes with_pages kind gaps reply.now) }
 {
-    let mut gaps = gaps;
     let mut reader = reader_of(alloc, reply, kind)?;
-    let count = take_first_outlines(&mut reader, tree, with_pages, &gaps, work)?;
-    reader.end()?;
-    Ok(gaps.split_off(count)?)
-}
-
-/// Takes what came of the pages over the first of the gaps, as far as bytes came, and returns how many these are.
-fn take_first_outlines<K: Key + Decode, V: Join + Decode, H: RowHasher<N, K, V>, const N: usize>(
-    reader: &mut Reader<'_>,
-    tree: &MerkleSearchTree<K, V, H, N>,
-    with_pages: bool,
-    gaps: &[OwnedGap<K>],
-    work: &mut Work<K, V>,
-) -> Result<usize, SessionError>
-    requires { IsSome tree.now.root_hash }
-    ensures taken { IfOk result (TakesOutlinesOf H.laws N K.encoding V.encoding tree.now gaps.now
-        reader.old reader.new work.old work.new) }
-    ensures all { IfOk result (λ count. reader.new.left.now ≢ [] → count ≡ length gaps.now) }
-    ensures refused { IfErr result (RefusesOutlinesOf K.cmp K.is_value V.is_value K.encoding V.encoding N with_pages gaps.now reader.old) }
-{
-    let mut count = 0;
+    let mut told = Vec::new(alloc);
+    let mut left = Vec::new(alloc);
     'gaps: for gap in gaps {
         if reader.left().is_empty() {
-            return Ok(count);
+            left.push(gap)?;
+        } else {
+            let outline = read_outline(&mut reader, digest_bytes, with_pages, &gap)?;
+            told.push((gap, outline))?;
         }
-        take_outline(reader, tree, with_pages, gap, work)?;
-        count += 1;
     }
-    Ok(count)
+    reader.end()?;
+    Ok((told, left))
 }
 
-/// Takes the values at the first of the keys, or at all of them, and returns the others.
-pub(crate) fn take_values<K: Key + Decode, V: Join + Decode, H: RowHasher<N, K, V>, const N: usize>(
+/// Reads the values at the first of the keys, or at all of them, and returns the rows that the peer has with the other keys.
+fn read_values<K: Key + Decode, V: Join + Decode>(
     alloc: Global,
-    tree: &MerkleSearchTree<K, V, H, N>,
     keys: Vec<Wanted<K>>,
     reply: &[u8],
-    work: &mut Work<K, V>,
-) -> Result<Vec<Wanted<K>>, SessionError>
-    ensures taken { IfOk result (TakesValues H.laws N K.encoding V.encoding tree.now keys reply.now work.old work.new) }
+) -> Result<(Vec<(K, V)>, Vec<Wanted<K>>), SessionError>
+    ensures read { IfOk result (λ came. ReadsValues V.encoding keys.items reply.now came.0.items came.1.items) }
     ensures refused { IfErr result (RefusesValues V.is_value V.encoding keys reply.now) }
 {
     let mut reader = reader_of(alloc, reply, Kind::RowsAt)?;
+    let mut rows = Vec::new(alloc);
     let mut left = Vec::new(alloc);
     'keys: for wanted in keys {
         if reader.left().is_empty() {
             left.push(wanted)?;
         } else {
-            take_value(&mut reader, tree, wanted, work)?;
+            read_value(&mut reader, wanted, &mut rows)?;
         }
     }
     reader.end()?;
-    Ok(left)
+    Ok((rows, left))
 }
 
-/// Takes the rows in the first of the gaps, or in all of them, and returns the others, with what is left of a gap of which not all rows came.
-pub(crate) fn take_parts<K: Key + Decode, V: Join + Decode, H: RowHasher<N, K, V>, const N: usize>(
+/// Reads the rows in the first of the gaps, or in all of them, and returns them with the other gaps, and what is left of a gap of which not all
+/// rows came.
+fn read_parts<K: Key + Decode, V: Join + Decode>(
     alloc: Global,
-    tree: &MerkleSearchTree<K, V, H, N>,
     gaps: Vec<OwnedGap<K>>,
     reply: &[u8],
-    work: &mut Work<K, V>,
-) -> Result<Vec<OwnedGap<K>>, SessionError>
-    ensures taken { IfOk result (TakesParts H.laws N K.encoding V.encoding tree.now gaps reply.now work.old work.new) }
+) -> Result<(Vec<(K, V)>, Vec<OwnedGap<K>>), SessionError>
+    ensures read { IfOk result (λ came. ReadsParts K.cmp K.encoding V.encoding gaps.items reply.now came.0.items came.1.items) }
     ensures refused { IfErr result (RefusesParts K.cmp K.is_value V.is_value K.encoding V.encoding gaps reply.now) }
 {
     let mut gaps = gaps;
+    let mut rows = Vec::new(alloc);
     let mut left = Vec::new(alloc);
     let mut reader = reader_of(alloc, reply, Kind::RowsIn)?;
-    let count = take_first_parts(&mut reader, tree, &gaps, &mut left, work)?;
+    let count = read_first_parts(&mut reader, &gaps, &mut rows, &mut left)?;
     reader.end()?;
     let mut rest = gaps.split_off(count)?;
     left.append(&mut rest)?;
-    Ok(left)
+    Ok((rows, left))
 }
 
-/// Takes the rows in the first of the gaps, as far as bytes came, adds what is left of a gap of which not all rows came, and returns how many
-/// gaps these are.
-fn take_first_parts<K: Key + Decode, V: Join + Decode, H: RowHasher<N, K, V>, const N: usize>(
+/// Reads the rows in the first of the gaps, as far as bytes came, and adds them, and what is left of a gap of which not all rows came. Returns how
+/// many gaps these are.
+fn read_first_parts<K: Key + Decode, V: Join + Decode>(
     reader: &mut Reader<'_>,
-    tree: &MerkleSearchTree<K, V, H, N>,
     gaps: &[OwnedGap<K>],
+    rows: &mut Vec<(K, V)>,
     left: &mut Vec<OwnedGap<K>>,
-    work: &mut Work<K, V>,
 ) -> Result<usize, SessionError>
-    ensures taken { IfOk result (TakesPartsOf H.laws N K.encoding V.encoding tree.now gaps.now reader.old reader.new
-        left.old left.new work.old work.new) }
+    ensures read { IfOk result (ReadsPartsOf K.cmp K.encoding V.encoding gaps.now reader.old reader.new
+        rows.old.items rows.new.items left.old.items left.new.items) }
     ensures all { IfOk result (λ count. reader.new.left.now ≢ [] → count ≡ length gaps.now) }
     ensures refused { IfErr result (RefusesPartsOf K.cmp K.is_value V.is_value K.encoding V.encoding gaps.now reader.old) }
 {
@@ -168,58 +168,61 @@ fn take_first_parts<K: Key + Decode, V: Join + Decode, H: RowHasher<N, K, V>, co
         if reader.left().is_empty() {
             return Ok(count);
         }
-        take_part(reader, tree, gap, left, work)?;
+        read_part(reader, gap, rows, left)?;
         count += 1;
     }
     Ok(count)
 }
 
-/// Takes a reply to a question, and returns what of it is to be asked again.
-pub(crate) fn take_reply<K: Key + Decode, V: Join + Decode, H: RowHasher<N, K, V>, const N: usize>(
+/// Reads a reply to a question, and returns it with what of the question is to be asked again. Digests of values have this many bytes.
+pub(crate) fn read_reply<'a, K: Key + Decode, V: Join + Decode>(
     alloc: Global,
-    tree: &MerkleSearchTree<K, V, H, N>,
-    count: u64,
+    digest_bytes: usize,
     asked: Question<K>,
-    reply: &[u8],
-    work: &mut Work<K, V>,
-) -> Result<Option<Question<K>>, SessionError>
-    requires { IsSome tree.now.root_hash }
-    ensures taken { IfOk result (λ again. ForItsRows H.laws tree.now (λ local. HasTaken H.laws N K.encoding V.encoding local asked
-        reply.now work.old work.new again)) }
-    ensures refused { IfErr result (RefusesReply K.cmp K.is_value V.is_value K.encoding V.encoding N asked reply.now) }
+    reply: &'a [u8],
+) -> Result<(Reply<'a, K, V>, Option<Question<K>>), SessionError>
+    ensures read { IfOk result (λ came. IsRead K.cmp K.encoding V.encoding digest_bytes asked reply.now came.0 came.1) }
+    ensures refused { IfErr result (RefusesReply K.cmp K.is_value V.is_value K.encoding V.encoding digest_bytes asked reply.now) }
 {
     match asked {
         Question::Root(_) => {
-            take_root(alloc, tree, count, reply, work)?;
-            Ok(None)
+            let (rows, digest) = decode_root(alloc, reply)?;
+            Ok((Reply::Root(rows, digest), None))
         }
         Question::Outlines(most, gaps) => {
-            let left = take_outlines(alloc, tree, Kind::Outlines, true, gaps, reply, work)?;
+            let (told, left) = read_outlines(
+                alloc,
+                digest_bytes,
+                Kind::Outlines,
+                true,
+                gaps,
+                reply,
+            )?;
             if left.is_empty() {
-                return Ok(None);
+                return Ok((Reply::Outlines(told), None));
             }
-            Ok(Some(Question::Outlines(most, left)))
+            Ok((Reply::Outlines(told), Some(Question::Outlines(most, left))))
         }
         Question::Nodes(most, gaps) => {
-            let left = take_outlines(alloc, tree, Kind::Nodes, false, gaps, reply, work)?;
+            let (told, left) = read_outlines(alloc, digest_bytes, Kind::Nodes, false, gaps, reply)?;
             if left.is_empty() {
-                return Ok(None);
+                return Ok((Reply::Outlines(told), None));
             }
-            Ok(Some(Question::Nodes(most, left)))
+            Ok((Reply::Outlines(told), Some(Question::Nodes(most, left))))
         }
         Question::RowsAt(keys) => {
-            let left = take_values(alloc, tree, keys, reply, work)?;
+            let (rows, left) = read_values(alloc, keys, reply)?;
             if left.is_empty() {
-                return Ok(None);
+                return Ok((Reply::Rows(rows), None));
             }
-            Ok(Some(Question::RowsAt(left)))
+            Ok((Reply::Rows(rows), Some(Question::RowsAt(left))))
         }
         Question::RowsIn(gaps) => {
-            let left = take_parts(alloc, tree, gaps, reply, work)?;
+            let (rows, left) = read_parts(alloc, gaps, reply)?;
             if left.is_empty() {
-                return Ok(None);
+                return Ok((Reply::Rows(rows), None));
             }
-            Ok(Some(Question::RowsIn(left)))
+            Ok((Reply::Rows(rows), Some(Question::RowsIn(left))))
         }
     }
 }

@@ -32,6 +32,25 @@ pub enum SessionError {
     Limit(Limit),
 }
 
+/// Why a catch-up by a tree that is kept anywhere ended early. Nothing is joined then.
+#[derive(Debug, Drop)]
+pub enum TakeError<E> {
+    /// For a reason for which a catch-up of a replica ends.
+    Session(SessionError),
+    /// The tree couldn't be read.
+    Tree(E),
+}
+
+impl<E: Drop> From<SessionError> for TakeError<E> {
+    ghost use Rattle.merkle_wire.specs.declared.session_error.TakeError.TheVariants.{Session};
+
+    ghost from_gives = { λ error fault. fault ≡ Session error };
+
+    fn from(error: SessionError) -> Self {
+        TakeError::Session(error)
+    }
+}
+
 impl From<AllocError> for SessionError {
     ghost use Rattle.merkle_wire.specs.declared.session_error.SessionError.TheVariants.{Memory};
 

@@ -5,12 +5,13 @@ ghost use Rattle.merkle_bytes.specs.Reading.{Reads};
 ghost use Rattle.merkle_bytes.specs.Refusals.{IsMalformed, IsRefusal};
 ghost use Rattle.merkle_bytes.specs.Options.{IsOption};
 ghost use Rattle.merkle_tree_theory.specs.State.{map_of};
-ghost use Rattle.merkle_wire.specs.Settings.{format_byte, settings_bytes, AreOwnSettings, AreSettings, IsDigested, IsNoFormat, NoSettings};
+ghost use Rattle.merkle_wire.specs.Settings.{format_byte, settings_bytes, AreOwnSettings, AreSettings, AreSettingsBy, IsDigested, IsNoFormat, NoSettings};
 ghost use Rattle.merkle_wire.specs.Steady.{IsKeyOf};
 
+use crate::kept_tree::{KeptTree, first_key};
 use merkle_bytes::{Decode, Encode, Expected, ReadError, Reader, encode_count};
 use merkle_digest::{Hasher, Key};
-use merkle_replica::{Join, Replica};
+use merkle_replica::{Join, RowHasher};
 use merkle_search_tree::MerkleSearchTree;
 use merkle_search_tree::builder::PageFormat;
 use std::alloc::{AllocError, Global};
@@ -86,75 +87,77 @@ pub(crate) fn decode_settings<K: Decode>(reader: &mut Reader<'_>) -> Result<Sett
     })
 }
 
-/// The settings of a replica.
-pub(crate) fn settings_of<K: Key + Drop, V: Join, H: Hasher<N, K> + Hasher<N, V>, const N: usize>(
-    alloc: Global,
-    replica: &Replica<K, V, H, N>,
-) -> Result<Settings<K>, AllocError>
-    ensures settings { IfOk result (AreOwnSettings ⟦<H as Hasher<N, K>>⟧.digest_of N replica.now.tree) }
-    ensures keys { IfOk result (AreSettings (IsKeyOf K.cmp replica.now.rows)) }
-{
-    let tree = replica.tree();
-    Ok(Settings {
-        level_base: tree.level_base().get(),
-        page_format: tree.page_format(),
-        digest_bytes: N as u64,
-        sample: sample_of(alloc, replica)?,
-    })
-}
-
-/// The settings of a tree.
-pub(crate) fn settings_of_tree<K: Key + Drop, V, H: Hasher<N, K>, const N: usize>(
+/// The settings of a tree in memory.
+pub(crate) fn settings_of<K: Key + Drop, V: Join, H: RowHasher<N, K, V>, const N: usize>(
     alloc: Global,
     tree: &MerkleSearchTree<K, V, H, N>,
 ) -> Result<Settings<K>, AllocError>
-    ensures settings { IfOk result (AreOwnSettings H.digest_of N tree.now) }
+    ensures settings { IfOk result (AreOwnSettings ⟦<H as Hasher<N, K>>⟧.digest_of N tree.now) }
     ensures keys { IfOk result (AreSettings (IsKeyOf K.cmp (map_of tree.now))) }
 {
     Ok(Settings {
         level_base: tree.level_base().get(),
         page_format: tree.page_format(),
         digest_bytes: N as u64,
-        sample: sample_of_tree(alloc, tree)?,
+        sample: sample_of(alloc, tree)?,
     })
 }
 
 /// The first key of a tree with its digest, where it has a key.
-fn sample_of_tree<K: Key + Drop, V, H: Hasher<N, K>, const N: usize>(
+fn sample_of<K: Key + Drop, V: Join, H: RowHasher<N, K, V>, const N: usize>(
     alloc: Global,
     tree: &MerkleSearchTree<K, V, H, N>,
 ) -> Result<Option<(K, Vec<u8>)>, AllocError>
-    ensures digested { IfOk result (IsDigested (H.digest_of tree.now.hasher)) }
+    ensures digested { IfOk result (IsDigested (⟦<H as Hasher<N, K>>⟧.digest_of tree.now.hasher)) }
     ensures own { IfOk result (IsOption (λ sample. IsKeyOf K.cmp (map_of tree.now) sample.0)) }
 {
-    match tree.node_iter()?.next() {
-        None => Ok(None),
-        Some(node) => {
-            let key = node.key().clone()?;
-            let digest = tree.key_digest(&key);
-            let bytes = Vec::from_slice(alloc, digest.as_bytes().as_slice())?;
-            Ok(Some((key, bytes)))
-        }
-    }
+    let Some(key) = first_key(tree)? else {
+        return Ok(None);
+    };
+    let digest = tree.key_digest(&key);
+    let bytes = Vec::from_slice(alloc, digest.as_bytes().as_slice())?;
+    Ok(Some((key, bytes)))
 }
 
-/// The first key of a replica with its digest, where it has a row.
-fn sample_of<K: Key + Drop, V: Join, H: Hasher<N, K> + Hasher<N, V>, const N: usize>(
-    alloc: Global,
-    replica: &Replica<K, V, H, N>,
-) -> Result<Option<(K, Vec<u8>)>, AllocError>
-    ensures digested { IfOk result (IsDigested (⟦<H as Hasher<N, K>>⟧.digest_of replica.now.tree.hasher)) }
-    ensures own { IfOk result (IsOption (λ sample. IsKeyOf K.cmp replica.now.rows sample.0)) }
+/// The settings of a tree that is kept anywhere.
+pub(crate) fn settings_by<
+    K: Key + Drop,
+    V: Join,
+    H: RowHasher<N, K, V>,
+    T: KeptTree<N, K, V, H>,
+    const N: usize,
+>(alloc: Global, tree: &mut T) -> Result<Settings<K>, T::Error>
+    ensures settings { IfOk result (AreSettingsBy (⟦<H as Hasher<N, K>>⟧.digest_of (T.kept tree.old).digests.hasher) N (T.kept tree.old).digests) }
+    ensures keys { IfOk result (AreSettings (IsKeyOf K.cmp (T.kept tree.old).digests.map)) }
+    ensures kept { T.kept tree.new ≡ T.kept tree.old }
 {
-    match replica.rows().first() {
-        None => Ok(None),
-        Some(row) => {
-            let key = row.0.clone()?;
-            let digest = replica.tree().key_digest(&key);
-            let bytes = Vec::from_slice(alloc, digest.as_bytes().as_slice())?;
-            Ok(Some((key, bytes)))
-        }
-    }
+    let sample = sample_by(alloc, tree)?;
+    Ok(Settings {
+        level_base: tree.level_base().get(),
+        page_format: tree.page_format(),
+        digest_bytes: N as u64,
+        sample,
+    })
+}
+
+/// A key of a tree with its digest, where it has a key.
+fn sample_by<
+    K: Key + Drop,
+    V: Join,
+    H: RowHasher<N, K, V>,
+    T: KeptTree<N, K, V, H>,
+    const N: usize,
+>(alloc: Global, tree: &mut T) -> Result<Option<(K, Vec<u8>)>, T::Error>
+    ensures digested { IfOk result (IsDigested (⟦<H as Hasher<N, K>>⟧.digest_of (T.kept tree.old).digests.hasher)) }
+    ensures own { IfOk result (IsOption (λ sample. IsKeyOf K.cmp (T.kept tree.old).digests.map sample.0)) }
+    ensures kept { T.kept tree.new ≡ T.kept tree.old }
+{
+    let Some(key) = tree.some_key()? else {
+        return Ok(None);
+    };
+    let digest = tree.digest_of_key(&key);
+    let bytes = Vec::from_slice(alloc, digest.as_bytes().as_slice())?;
+    Ok(Some((key, bytes)))
 }
 
 /// Whether these are the settings of the tree.

@@ -1,161 +1,198 @@
-//! What came of pages, rows and values, read and compared with what this side has.
-ghost use Rattle.std.specs.Prelude.{◌≡◌, [], length, ◌+◌, IsSome, OnOk, IfErr};
-ghost use Rattle.merkle_wire.specs.Faults.{IsRefusedFor};
-ghost use Rattle.merkle_wire.specs.Gaps.{between};
-ghost use Rattle.merkle_wire.specs.Steps.{RefusesNodes, RefusesOutline, RefusesPart, RefusesRows};
-ghost use Rattle.merkle_wire.specs.Steps.{AddsBehind, AddsItsRows, TakesDigests, TakesNodes, TakesOutline, TakesPart, TakesRows, TakesValue};
-ghost use Rattle.merkle_wire.specs.Steps.{TakesBelow, TakesPage, TakesPages};
-ghost use Rattle.merkle_wire.specs.Unfit.{NoDigests, NoPage, NoPageDigest, NoPageDigests, NoValue};
+//! What came, compared with what this side has.
+ghost use Rattle.std.specs.Prelude.{◌≡◌, OnOk};
+ghost use Rattle.merkle_wire.specs.Gaps.{between, owned_gap};
+ghost use Rattle.merkle_wire.specs.ItsRows.{ForRowsOf};
+ghost use Rattle.merkle_wire.specs.Reads.{nodes_read, outline_read, outlines_read, page_read};
+ghost use Rattle.merkle_wire.specs.Takes.{AddsBelow, AddsGapsBeside, IsReplyTaken};
+ghost use Rattle.merkle_wire.specs.Taking.{AddsKeys, AddsRows, AreTaken, IsRootTaken, IsTaken};
 
+use crate::coming::{NodeRead, OutlineRead, PageRead};
 use crate::gaps::OwnedGap;
-use crate::pages::decode_page;
-use crate::session_error::SessionError;
-use crate::sifting::{has_digest, has_nodes, has_page, has_value};
+use crate::kept_tree::KeptTree;
+use crate::replies::{OutlineOver, Reply};
+use crate::sifting::{has_digest, has_nodes, has_value};
 use crate::wanted::Wanted;
-use crate::within::{keys_lie_in, rows_lie_in};
 use crate::work::Work;
-use merkle_bytes::{Decode, Expected, KeyRun, Reader, decode_run};
 use merkle_digest::{Key, PageDigest};
 use merkle_replica::{Join, RowHasher};
-use merkle_search_tree::{Gap, MerkleSearchTree};
-use std::alloc::AllocError;
+use merkle_search_tree::Gap;
 
-/// Takes what came of the page over a gap: its outline, or its nodes alone.
-pub(crate) fn take_outline<
-    K: Key + Decode,
-    V: Join + Decode,
+/// The part of the peer's rows below which a side asks for all of them.
+const FEWEST: u64 = 4;
+
+/// Takes what a reply told. `count` is about how many rows this side has.
+pub(crate) fn take_reply<
+    K: Key + Drop,
+    V: Join + Drop,
     H: RowHasher<N, K, V>,
+    T: KeptTree<N, K, V, H>,
     const N: usize,
->(
-    reader: &mut Reader<'_>,
-    tree: &MerkleSearchTree<K, V, H, N>,
-    with_pages: bool,
-    gap: &OwnedGap<K>,
-    work: &mut Work<K, V>,
-) -> Result<(), SessionError>
-    requires { IsSome tree.now.root_hash }
-    ensures taken { OnOk result (TakesOutline H.laws N K.encoding V.encoding tree.now gap.now
-        reader.old reader.new work.old work.new) }
-    ensures refused { IfErr result (RefusesOutline K.cmp K.is_value V.is_value K.encoding V.encoding N with_pages gap.now reader.old) }
+>(tree: &mut T, count: u64, came: Reply<'_, K, V>, work: &mut Work<K, V>) -> Result<(), T::Error>
+    ensures taken { OnOk result (ForRowsOf H.laws (T.kept tree.old).digests (λ local. IsReplyTaken H.laws local came.entry work.old work.new)) }
+    ensures kept { T.kept tree.new ≡ T.kept tree.old }
 {
-    let mut run = KeyRun::behind(reader.alloc(), gap.after.as_ref())?;
-    let [kind] = reader.array::<1>()?;
-    if kind == 0 {
-        take_rows(reader, tree, gap, &mut run, work)?;
-        return Ok(());
+    match came {
+        Reply::Root(rows, digest) => {
+            take_root(tree, has_few(count, rows), &digest, work)?;
+            Ok(())
+        }
+        Reply::Outlines(told) => {
+            take_outlines(tree, told, work)?;
+            Ok(())
+        }
+        Reply::Rows(rows) => {
+            take_all(tree, rows, work)?;
+            Ok(())
+        }
     }
-    if kind == 1 {
-        take_digests(reader, tree, gap, &mut run, work)?;
-        return Ok(());
-    }
-    if kind == 2 && with_pages {
-        take_page(reader, tree, gap, &mut run, work)?;
-        return Ok(());
-    }
-    Err(SessionError::Malformed(reader.unexpected(Expected::Kind)))
 }
 
-/// Takes rows in a gap.
-fn take_rows<K: Key + Decode, V: Join + Decode, H: RowHasher<N, K, V>, const N: usize>(
-    reader: &mut Reader<'_>,
-    tree: &MerkleSearchTree<K, V, H, N>,
-    gap: &OwnedGap<K>,
-    run: &mut KeyRun,
+/// Whether a side with this many rows has few of those of a peer with this many: it asks for all then.
+fn has_few(own: u64, count: u64) -> bool {
+    own < count / FEWEST
+}
+
+/// Takes the digest of the peer's root page, where it has a row. With `has_few` all rows are asked for, where this side hasn't the page.
+fn take_root<
+    K: Key + Drop,
+    V: Join + Drop,
+    H: RowHasher<N, K, V>,
+    T: KeptTree<N, K, V, H>,
+    const N: usize,
+>(
+    tree: &mut T,
+    has_few: bool,
+    digest: &Option<PageDigest>,
     work: &mut Work<K, V>,
-) -> Result<(), SessionError>
-    ensures taken { OnOk result (TakesRows H.laws K.encoding V.encoding tree.now run.old gap.now
-        reader.old reader.new work.old work.new) }
-    ensures refused { IfErr result (RefusesRows K.cmp K.is_value V.is_value K.encoding V.encoding run.old gap.now reader.old) }
+) -> Result<(), T::Error>
+    ensures taken { OnOk result (ForRowsOf H.laws (T.kept tree.old).digests (λ local. IsRootTaken H.laws local digest.now work.old work.new)) }
+    ensures kept { T.kept tree.new ≡ T.kept tree.old }
 {
-    let before = reader.left().len();
-    let rows = decode_run::<(K, V)>(run, reader)?;
-    if !rows_lie_in(&rows, gap) {
-        return Err(SessionError::NotInGap);
+    let Some(digest) = digest else {
+        return Ok(());
+    };
+    if tree.is_page(&Gap::everywhere(), digest)? {
+        return Ok(());
     }
-    work.note_bytes(before.saturating_sub(reader.left().len()));
-    take_all(tree, rows, work)?;
+    if has_few {
+        work.add_whole(OwnedGap::everywhere())?;
+        return Ok(());
+    }
+    work.add_below(OwnedGap::everywhere())?;
     Ok(())
 }
 
-/// Takes those of the rows that this side doesn't have.
-fn take_all<K: Key + Drop, V: Join + Drop, H: RowHasher<N, K, V>, const N: usize>(
-    tree: &MerkleSearchTree<K, V, H, N>,
-    rows: Vec<(K, V)>,
+/// Takes what came of the pages over gaps.
+fn take_outlines<
+    K: Key + Drop,
+    V: Join + Drop,
+    H: RowHasher<N, K, V>,
+    T: KeptTree<N, K, V, H>,
+    const N: usize,
+>(tree: &mut T, told: Vec<OutlineOver<'_, K, V>>, work: &mut Work<K, V>) -> Result<(), T::Error>
+    ensures taken { OnOk result (ForRowsOf H.laws (T.kept tree.old).digests
+        (λ local. AreTaken H.laws local (outlines_read told.entry.items) work.old work.new)) }
+    ensures kept { T.kept tree.new ≡ T.kept tree.old }
+{
+    'told: for outline in told {
+        let (gap, came) = outline;
+        take_outline(tree, &gap, came, work)?;
+    }
+    Ok(())
+}
+
+/// Takes what came of the page over a gap: its outline, or its nodes alone.
+fn take_outline<
+    K: Key + Drop,
+    V: Join + Drop,
+    H: RowHasher<N, K, V>,
+    T: KeptTree<N, K, V, H>,
+    const N: usize,
+>(
+    tree: &mut T,
+    gap: &OwnedGap<K>,
+    came: OutlineRead<'_, K, V>,
     work: &mut Work<K, V>,
-) -> Result<(), AllocError>
-    ensures { OnOk result (AddsItsRows H.laws tree.now rows.items work.old work.new) }
+) -> Result<(), T::Error>
+    ensures taken { OnOk result (ForRowsOf H.laws (T.kept tree.old).digests
+        (λ local. IsTaken H.laws local (owned_gap gap.now) (outline_read came.entry) work.old work.new)) }
+    ensures kept { T.kept tree.new ≡ T.kept tree.old }
+{
+    match came {
+        OutlineRead::Rows(rows, bytes) => {
+            work.note_bytes(bytes);
+            take_all(tree, rows, work)?;
+            Ok(())
+        }
+        OutlineRead::Digests(nodes) => {
+            take_nodes(tree, nodes, work)?;
+            Ok(())
+        }
+        OutlineRead::Page(page) => {
+            take_page(tree, gap, &page, work)?;
+            Ok(())
+        }
+    }
+}
+
+/// Takes those of the rows that this side doesn't have.
+fn take_all<
+    K: Key + Drop,
+    V: Join + Drop,
+    H: RowHasher<N, K, V>,
+    T: KeptTree<N, K, V, H>,
+    const N: usize,
+>(tree: &mut T, rows: Vec<(K, V)>, work: &mut Work<K, V>) -> Result<(), T::Error>
+    ensures taken { OnOk result (ForRowsOf H.laws (T.kept tree.old).digests (λ local. AddsRows H.laws local rows.items work.old work.new)) }
+    ensures kept { T.kept tree.new ≡ T.kept tree.old }
 {
     'rows: for row in rows {
-        let is_there = has_value(tree, &row.0, &row.1);
+        let is_there = has_value(tree, &row.0, &row.1)?;
         work.take_row(row, is_there)?;
     }
     Ok(())
 }
 
-/// Takes keys in a gap, with the digests of their values.
-fn take_digests<K: Key + Decode, V: Join + Drop, H: RowHasher<N, K, V>, const N: usize>(
-    reader: &mut Reader<'_>,
-    tree: &MerkleSearchTree<K, V, H, N>,
-    gap: &OwnedGap<K>,
-    run: &mut KeyRun,
-    work: &mut Work<K, V>,
-) -> Result<(), SessionError>
-    ensures taken { OnOk result (TakesDigests H.laws N K.encoding tree.now run.old gap.now
-        reader.old reader.new work.old work.new) }
-    ensures refused { IfErr result (RefusesNodes K.cmp K.is_value K.encoding N run.old gap.now reader.old) }
+/// Takes the keys of those nodes that this side doesn't have.
+fn take_nodes<
+    K: Key + Drop,
+    V: Join + Drop,
+    H: RowHasher<N, K, V>,
+    T: KeptTree<N, K, V, H>,
+    const N: usize,
+>(tree: &mut T, nodes: Vec<NodeRead<'_, K>>, work: &mut Work<K, V>) -> Result<(), T::Error>
+    ensures taken { OnOk result (ForRowsOf H.laws (T.kept tree.old).digests
+        (λ local. AddsKeys H.laws local (nodes_read nodes.entry.items) work.old work.new)) }
+    ensures kept { T.kept tree.new ≡ T.kept tree.old }
 {
-    let keys = decode_run::<Wanted<K>>(run, reader)?;
-    if !keys_lie_in(&keys, gap) {
-        return Err(SessionError::NotInGap);
-    }
-    take_nodes(reader, tree, keys, work)?;
-    Ok(())
-}
-
-/// Takes those of the keys that this side doesn't have with the digest that comes for each.
-fn take_nodes<K: Key + Drop, V: Join + Drop, H: RowHasher<N, K, V>, const N: usize>(
-    reader: &mut Reader<'_>,
-    tree: &MerkleSearchTree<K, V, H, N>,
-    keys: Vec<Wanted<K>>,
-    work: &mut Work<K, V>,
-) -> Result<(), SessionError>
-    ensures taken { OnOk result (TakesNodes H.laws tree.now N keys.items reader.old reader.new work.old work.new) }
-    ensures refused { IfErr result (IsRefusedFor (NoDigests N (length keys.items) reader.old.left.now)) }
-{
-    'keys: for wanted in keys {
-        let digest = reader.slice(N)?;
-        let is_there = has_digest(tree, &wanted.key, digest);
+    'nodes: for node in nodes {
+        let (wanted, digest) = node;
+        let is_there = has_digest(tree, &wanted.key, digest)?;
         work.take_key(wanted, is_there)?;
     }
     Ok(())
 }
 
 /// Takes a page that has others below it.
-fn take_page<K: Key + Decode, V: Join + Drop, H: RowHasher<N, K, V>, const N: usize>(
-    reader: &mut Reader<'_>,
-    tree: &MerkleSearchTree<K, V, H, N>,
+fn take_page<
+    K: Key + Drop,
+    V: Join + Drop,
+    H: RowHasher<N, K, V>,
+    T: KeptTree<N, K, V, H>,
+    const N: usize,
+>(
+    tree: &mut T,
     gap: &OwnedGap<K>,
-    run: &mut KeyRun,
+    page: &PageRead<K>,
     work: &mut Work<K, V>,
-) -> Result<(), SessionError>
-    requires { IsSome tree.now.root_hash }
-    ensures taken { OnOk result (TakesPage H.laws N K.encoding tree.now run.old gap.now
-        reader.old reader.new work.old work.new) }
-    ensures refused { IfErr result (IsRefusedFor (NoPage K.cmp K.is_value K.encoding run.old gap.now reader.old.left.now)) }
+) -> Result<(), T::Error>
+    ensures taken { OnOk result (ForRowsOf H.laws (T.kept tree.old).digests
+        (λ local. IsTaken H.laws local (owned_gap gap.now) (page_read page.now) work.old work.new)) }
+    ensures kept { T.kept tree.new ≡ T.kept tree.old }
 {
-    let digest = reader.array::<16>()?;
-    let before = reader.left().len();
-    let keys = decode_run::<Wanted<K>>(run, reader)?;
-    let bytes = before.saturating_sub(reader.left().len());
-    if keys.is_empty() {
-        return Err(SessionError::NoNode);
-    }
-    if !keys_lie_in(&keys, gap) {
-        return Err(SessionError::NotInGap);
-    }
-    take_pages(reader, tree, gap, &keys, work)?;
-    if has_nodes(tree, &keys, &digest) {
-        work.note_same(keys.len(), bytes);
+    take_pages(tree, gap, &page.below, &page.last, work)?;
+    if has_nodes(tree, &page.below, &page.digest)? {
+        work.note_same(page.below.len(), page.bytes);
         return Ok(());
     }
     let own = OwnedGap::between(gap.after.as_ref(), gap.before.as_ref())?;
@@ -163,109 +200,59 @@ fn take_page<K: Key + Decode, V: Join + Drop, H: RowHasher<N, K, V>, const N: us
     Ok(())
 }
 
-/// Takes the digests of the pages before the keys and after the last of them.
-fn take_pages<K: Key + Decode, V: Join + Drop, H: RowHasher<N, K, V>, const N: usize>(
-    reader: &mut Reader<'_>,
-    tree: &MerkleSearchTree<K, V, H, N>,
+/// Takes the digests of the pages before the nodes of a page and after the last of them.
+fn take_pages<
+    K: Key + Drop,
+    V: Join + Drop,
+    H: RowHasher<N, K, V>,
+    T: KeptTree<N, K, V, H>,
+    const N: usize,
+>(
+    tree: &mut T,
     gap: &OwnedGap<K>,
-    keys: &[Wanted<K>],
+    below: &[(Option<PageDigest>, Wanted<K>)],
+    last: &Option<PageDigest>,
     work: &mut Work<K, V>,
-) -> Result<(), SessionError>
-    requires { IsSome tree.now.root_hash }
-    ensures taken { OnOk result (TakesPages H.laws tree.now gap.now keys.now reader.old reader.new work.old work.new) }
-    ensures refused { IfErr result (IsRefusedFor (NoPageDigests (length keys.now + 1) reader.old.left.now)) }
+) -> Result<(), T::Error>
+    ensures added { OnOk result (ForRowsOf H.laws (T.kept tree.old).digests
+        (λ local. AddsGapsBeside H.laws local (owned_gap gap.now) below.now last.now work.old work.new)) }
+    ensures kept { T.kept tree.new ≡ T.kept tree.old }
 {
     let mut after = gap.after.as_ref();
-    'keys: for wanted in keys {
-        take_below(reader, tree, after, Some(&wanted.key), work)?;
-        after = Some(&wanted.key);
+    'nodes: for node in below {
+        take_below(tree, after, Some(&node.1.key), &node.0, work)?;
+        after = Some(&node.1.key);
     }
-    take_below(reader, tree, after, gap.before.as_ref(), work)?;
+    take_below(tree, after, gap.before.as_ref(), last, work)?;
     Ok(())
 }
 
 /// Adds the gap between two bounds, where the page that fills it is one that this side doesn't have.
-fn take_below<K: Key + Drop, V: Join + Drop, H: RowHasher<N, K, V>, const N: usize>(
-    reader: &mut Reader<'_>,
-    tree: &MerkleSearchTree<K, V, H, N>,
+fn take_below<
+    K: Key + Drop,
+    V: Join + Drop,
+    H: RowHasher<N, K, V>,
+    T: KeptTree<N, K, V, H>,
+    const N: usize,
+>(
+    tree: &mut T,
     after: Option<&K>,
     before: Option<&K>,
+    digest: &Option<PageDigest>,
     work: &mut Work<K, V>,
-) -> Result<(), SessionError>
-    requires { IsSome tree.now.root_hash }
-    ensures taken { OnOk result (TakesBelow H.laws tree.now (between after.entry before.entry)
-        reader.old reader.new work.old work.new) }
-    ensures refused { IfErr result (IsRefusedFor (NoPageDigest reader.old.left.now)) }
+) -> Result<(), T::Error>
+    ensures added { OnOk result (ForRowsOf H.laws (T.kept tree.old).digests
+        (λ local. AddsBelow H.laws local (between after.entry before.entry) digest.now work.old work.new)) }
+    ensures kept { T.kept tree.new ≡ T.kept tree.old }
 {
-    let Some(digest) = decode_page(reader)? else {
+    let Some(digest) = digest else {
         return Ok(());
     };
     let gap = Gap { after, before };
-    if has_page(tree, &gap, &digest) {
+    if tree.is_page(&gap, digest)? {
         return Ok(());
     }
     let own = OwnedGap::between(gap.after, gap.before)?;
     work.add_below(own)?;
-    Ok(())
-}
-
-/// Takes the value at a key that was asked for, where the peer has it and this side doesn't.
-pub(crate) fn take_value<K: Key + Decode, V: Join + Decode, H: RowHasher<N, K, V>, const N: usize>(
-    reader: &mut Reader<'_>,
-    tree: &MerkleSearchTree<K, V, H, N>,
-    wanted: Wanted<K>,
-    work: &mut Work<K, V>,
-) -> Result<(), SessionError>
-    ensures taken { OnOk result (TakesValue H.laws tree.now V.encoding wanted reader.old reader.new work.old work.new) }
-    ensures refused { IfErr result (IsRefusedFor (NoValue V.is_value V.encoding reader.old.left.now)) }
-{
-    let Some(value) = Option::<V>::decode(reader)? else {
-        return Ok(());
-    };
-    let is_there = has_value(tree, &wanted.key, &value);
-    work.take_row((wanted.key, value), is_there)?;
-    Ok(())
-}
-
-/// Takes the rows in a gap, or the first of them, and adds the gap after these, where there are more.
-pub(crate) fn take_part<K: Key + Decode, V: Join + Decode, H: RowHasher<N, K, V>, const N: usize>(
-    reader: &mut Reader<'_>,
-    tree: &MerkleSearchTree<K, V, H, N>,
-    gap: &OwnedGap<K>,
-    left: &mut Vec<OwnedGap<K>>,
-    work: &mut Work<K, V>,
-) -> Result<(), SessionError>
-    ensures taken { OnOk result (TakesPart H.laws N K.encoding V.encoding tree.now gap.now reader.old reader.new
-        left.old left.new work.old work.new) }
-    ensures refused { IfErr result (RefusesPart K.cmp K.is_value V.is_value K.encoding V.encoding gap.now reader.old) }
-{
-    let mut run = KeyRun::behind(reader.alloc(), gap.after.as_ref())?;
-    let rows = decode_run::<(K, V)>(&mut run, reader)?;
-    if !rows_lie_in(&rows, gap) {
-        return Err(SessionError::NotInGap);
-    }
-    if reader.flag()? {
-        take_all(tree, rows, work)?;
-        return Ok(());
-    }
-    add_behind(&rows, gap, left)?;
-    take_all(tree, rows, work)?;
-    Ok(())
-}
-
-/// Adds what is left of a gap after the last of the rows.
-fn add_behind<K: Key, V>(
-    rows: &[(K, V)],
-    gap: &OwnedGap<K>,
-    left: &mut Vec<OwnedGap<K>>,
-) -> Result<(), SessionError>
-    ensures added { OnOk result (AddsBehind K.cmp rows.now gap.now left.old.items left.new.items) }
-    ensures refused { IfErr result (IsRefusedFor (rows.now ≡ [])) }
-{
-    let Some(last) = rows.last() else {
-        return Err(SessionError::NothingCame);
-    };
-    let own = OwnedGap::between(Some(&last.0), gap.before.as_ref())?;
-    left.push(own)?;
     Ok(())
 }

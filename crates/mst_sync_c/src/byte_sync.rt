@@ -26,8 +26,8 @@ use merkle_digest::SipHasher;
 use merkle_search_tree::MerkleSearchTree;
 use merkle_search_tree::builder::{Builder, PageFormat};
 use merkle_wire::{
-    AnswerError, CatchingUp, KeptError, MOST_BYTES, Next, Question, SessionError, answer_by,
-    decode_question, refusal,
+    AnswerError, CatchingUp, KeptError, MOST_BYTES, Next, Question, SessionError, TakeError,
+    answer_by, decode_question, refusal,
 };
 use std::alloc::{AllocError, Global};
 use std::num::NonZeroU8;
@@ -183,9 +183,13 @@ impl ByteSync {
                 self.message = Vec::new(alloc);
                 Some(self.keep(alloc, rows))
             }
-            Err(error) => {
+            Err(TakeError::Session(error)) => {
                 self.message = Vec::new(alloc);
                 Some(Taken::Failed(status_of(&error)))
+            }
+            Err(TakeError::Tree(_)) => {
+                self.message = Vec::new(alloc);
+                Some(Taken::Failed(MEMORY))
             }
         }
     }

@@ -1,9 +1,8 @@
-use Rattle.std.proofs.Common.{◌≡◌, sym, subst, ◌∙◌}
+use Rattle.std.proofs.Common.{◌≡◌, sym, subst}
 use Rattle.key_order.specs.Map.{SameMap}
 use Rattle.merkle_replica.specs.Contents.{tree_map}
 use Rattle.merkle_replica.proofs.SideLaws.{laws_of}
 use Rattle.merkle_wire.specs.ItsRows.{side_with}
-use Rattle.merkle_wire.specs.Next.{IsNext}
 use Rattle.examples.proofs.exchanging.exchange_by_trees.Goals as goal
 
 pub returns-in-Ok-take_by-clause-exchanged : goal.returns-in-Ok-take_by-clause-exchanged

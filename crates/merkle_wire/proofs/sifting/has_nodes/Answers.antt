@@ -9,27 +9,32 @@ use Rattle.merkle_digest.specs.Sip24.{Holds}
 use Rattle.merkle_replica.specs.Contents.{tree_map}
 use Rattle.merkle_replica.proofs.Descents.{same_get}
 use Rattle.merkle_replica.proofs.SideLaws.{laws_of}
-use Rattle.merkle_tree_theory.specs.State.{map_of}
-use Rattle.merkle_wire.specs.ItsRows.{side_with}
+use Rattle.merkle_wire.specs.ItsRows.{side_of}
 use Rattle.merkle_wire.specs.Outlines.{digest_of_all}
+use Rattle.merkle_wire.specs.Reads.{below_keys}
 use Rattle.merkle_wire.proofs.ItemsMore.{map_more}
 use Rattle.merkle_wire.proofs.sifting.has_nodes.Goals as goal
 
-pub keys-init : goal.keys-init
-keys-init g c = ([], refl, c.new-sip.ensures)
+pub nodes-init : goal.nodes-init
+nodes-init g c = record { kept = refl; ds = []; there = refl; written = c.new-sip.ensures }
 
-pub keys-preserved : goal.keys-preserved
-keys-preserved g c =
-    let at = get g.K.Ord.cmp (map_of c.args.tree.now) in
-    let ds = c.keys.invariant.0 in
-    let own = c.in-Some.own.now in
-    let keys = map (λ w. w.key) (take c.keys.wanted-index c.args.keys.now) in (
-      ds ++ own ∷ [],
-      ap (map at) (map_more (λ w. w.key) c.args.keys.now c.keys.wanted-index c.wanted-item.result c.keys-test.true c.wanted-item.is) ∙ map-append at keys _
-          ∙ ap₂ (λ xs ys. xs ++ ys) c.keys.invariant.1 (ap (λ o. o ∷ []) (sym c.in-Some.ensures)) ∙ sym (map-append Some ds (own ∷ [])),
-      subst (Holds c.write.new.self zero_key) (ap (λ b. flat_map (λ d. d) ds ++ b) (c.as_bytes.ensures ∙ sym (append-nil own)) ∙ sym (flat_map-append (λ (d : List ℕ). d) ds (own ∷ [])))
-          (c.write.ensures zero_key (flat_map (λ d. d) ds) c.keys.invariant.2),
-    )
+pub nodes-preserved : goal.nodes-preserved
+nodes-preserved g c =
+    let tree = (g.T.KeptTree.kept c.args.tree.now).digests in
+    let at = get g.K.Ord.cmp tree.map in
+    let kept = c.nodes.invariant in
+    let node = c.node-item.result in
+    let own = c.in-Some.own in
+    let keys = below_keys (take c.nodes.node-index c.args.nodes.now) in
+    let found : at node.1.key ≡ Some own = sym (subst (λ t. c.in_ok-digest_at.field-0 ≡ get g.K.Ord.cmp t.digests.map node.1.key) kept.kept c.in_ok-digest_at.ensures.digest) ∙ c.in-Some.is in
+    record {
+      kept = c.digest_at.ensures.kept ∙ kept.kept;
+      ds = kept.ds ++ own ∷ [];
+      there = ap (map at) (map_more (λ b. b.1.key) c.args.nodes.now c.nodes.node-index node c.nodes-test.true c.node-item.is) ∙ map-append at keys _
+          ∙ ap₂ (λ xs ys. xs ++ ys) kept.there (ap (λ o. o ∷ []) found) ∙ sym (map-append Some kept.ds (own ∷ []));
+      written = subst (Holds c.write.new.self zero_key) (ap (λ b. flat_map (λ d. d) kept.ds ++ b) (c.as_bytes.ensures ∙ sym (append-nil own)) ∙ sym (flat_map-append (λ (d : List ℕ). d) kept.ds (own ∷ [])))
+          (c.write.ensures zero_key (flat_map (λ d. d) kept.ds) kept.written);
+    }
 
 -- what is made of each, where one is of nothing, isn't what there is
 none_at : {X A B : Type 0} (f : A → Option B) (h : X → A) (xs : List X) (i : ℕ) (x : X) → i < length xs → x ≡ get_or xs i x → f (h x) ≡ None → (ds : List B) → map f (map h xs) ≡ map Some ds → ⊥
@@ -60,28 +65,34 @@ one_list (x ∷ ds) (y ∷ es) e =
 pub returns-in-None-clause-lacked : goal.returns-in-None-clause-lacked
 returns-in-None-clause-lacked g c = rw g.met.H.RowHasher.laws_are (λ e rows kept (ds, own, is).
     let laws = laws_of g.K.Ord.cmp g.K.KeyBytes.bytes_of g.H.Hasher-1.digest_of g.V.PartialEq.eq g.V.Join.join_of g.H.Hasher-2.digest_of in
-    let of = same_get g.K.Ord.cmp g.met.K.Ord.total (map_of c.args.tree.now) (tree_map laws (side_with c.args.tree.now rows)) kept in
-    none_at (get g.K.Ord.cmp (map_of c.args.tree.now)) (λ w. w.key) c.args.keys.now c.keys.wanted-index c.wanted-item.result c.keys-test.true c.wanted-item.is
-    (sym c.in-None.ensures) ds (same_all of (map (λ w. w.key) c.args.keys.now) ∙ own))
+    let tree = (g.T.KeptTree.kept c.args.tree.now).digests in
+    let of = same_get g.K.Ord.cmp g.met.K.Ord.total tree.map (tree_map laws (side_of tree rows)) kept in
+    let node = c.node-item.result in
+    let none : get g.K.Ord.cmp tree.map node.1.key ≡ None = sym (subst (λ t. c.in_ok-digest_at.field-0 ≡ get g.K.Ord.cmp t.digests.map node.1.key) c.nodes.invariant.kept c.in_ok-digest_at.ensures.digest) ∙ c.in-None.is in
+    none_at (get g.K.Ord.cmp tree.map) (λ b. b.1.key) c.args.nodes.now c.nodes.node-index node c.nodes-test.true c.node-item.is
+    none ds (same_all of (below_keys c.args.nodes.now) ∙ own))
 
 pub returns-clause-there : goal.returns-clause-there
 returns-clause-there g c = rw g.met.H.RowHasher.laws_are (λ t rows kept.
     let laws = laws_of g.K.Ord.cmp g.K.KeyBytes.bytes_of g.H.Hasher-1.digest_of g.V.PartialEq.eq g.V.Join.join_of g.H.Hasher-2.digest_of in
-    let of = same_get g.K.Ord.cmp g.met.K.Ord.total (map_of c.args.tree.now) (tree_map laws (side_with c.args.tree.now rows)) kept in
-    let all = ap (λ xs. map (get g.K.Ord.cmp (map_of c.args.tree.now)) (map (λ w. w.key) xs)) (take_all c.keys.wanted-index c.args.keys.now c.keys-test.false) in (
-      c.keys.invariant.0,
-      sym (same_all of (map (λ w. w.key) c.args.keys.now)) ∙ sym all ∙ c.keys.invariant.1,
-      sym (c.finish128.ensures zero_key (flat_map (λ d. d) c.keys.invariant.0) c.keys.invariant.2) ∙ (bytes_decides c.finish128.result c.args.digest.now).0 (sym c.eq.ensures ∙ t),
+    let tree = (g.T.KeptTree.kept c.args.tree.now).digests in
+    let so = c.nodes.invariant in
+    let of = same_get g.K.Ord.cmp g.met.K.Ord.total tree.map (tree_map laws (side_of tree rows)) kept in
+    let all = ap (λ xs. map (get g.K.Ord.cmp tree.map) (below_keys xs)) (take_all c.nodes.node-index c.args.nodes.now c.nodes-test.false) in (
+      so.ds,
+      sym (same_all of (below_keys c.args.nodes.now)) ∙ sym all ∙ so.there,
+      sym (c.finish128.ensures zero_key (flat_map (λ d. d) so.ds) so.written) ∙ (bytes_decides c.finish128.result c.args.digest.now).0 (sym c.eq.ensures ∙ t),
     ))
 
 pub returns-clause-lacked : goal.returns-clause-lacked
 returns-clause-lacked g c = rw g.met.H.RowHasher.laws_are (λ no rows kept (es, own, is).
     let laws = laws_of g.K.Ord.cmp g.K.KeyBytes.bytes_of g.H.Hasher-1.digest_of g.V.PartialEq.eq g.V.Join.join_of g.H.Hasher-2.digest_of in
-    let of = same_get g.K.Ord.cmp g.met.K.Ord.total (map_of c.args.tree.now) (tree_map laws (side_with c.args.tree.now rows)) kept in
-    let ds = c.keys.invariant.0 in
-    let all = ap (λ xs. map (get g.K.Ord.cmp (map_of c.args.tree.now)) (map (λ w. w.key) xs)) (take_all c.keys.wanted-index c.args.keys.now c.keys-test.false) in
-    let same : ds ≡ es = one_list ds es (sym c.keys.invariant.1 ∙ all ∙ same_all of (map (λ w. w.key) c.args.keys.now) ∙ own) in
-    let digests : c.finish128.result ≡ c.args.digest.now = c.finish128.ensures zero_key (flat_map (λ d. d) ds) c.keys.invariant.2 ∙ ap digest_of_all same ∙ is in
+    let tree = (g.T.KeptTree.kept c.args.tree.now).digests in
+    let so = c.nodes.invariant in
+    let of = same_get g.K.Ord.cmp g.met.K.Ord.total tree.map (tree_map laws (side_of tree rows)) kept in
+    let all = ap (λ xs. map (get g.K.Ord.cmp tree.map) (below_keys xs)) (take_all c.nodes.node-index c.args.nodes.now c.nodes-test.false) in
+    let same : so.ds ≡ es = one_list so.ds es (sym so.there ∙ all ∙ same_all of (below_keys c.args.nodes.now) ∙ own) in
+    let digests : c.finish128.result ≡ c.args.digest.now = c.finish128.ensures zero_key (flat_map (λ d. d) so.ds) so.written ∙ ap digest_of_all same ∙ is in
     let yes : c.eq.result ≡ true = c.eq.ensures ∙ (bytes_decides c.finish128.result c.args.digest.now).1 digests in
     let never : true ≡ false = sym yes ∙ no in
     cc)

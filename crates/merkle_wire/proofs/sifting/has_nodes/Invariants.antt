@@ -3,11 +3,14 @@ use Rattle.std.specs.List.{flat_map}
 use Rattle.key_order.specs.Map.{get}
 use Rattle.merkle_digest.specs.SipHash.{zero_key}
 use Rattle.merkle_digest.specs.Sip24.{Holds}
-use Rattle.merkle_tree_theory.specs.State.{map_of}
+use Rattle.merkle_wire.specs.Reads.{below_keys}
 use Rattle.merkle_wire.proofs.sifting.has_nodes.Given as goal
 
--- the first keys are there, and their digests are written
-abbrev pub invariant-keys : goal.invariant-keys
-invariant-keys g l =
-    (ds : List (List ℕ)) × (map (get g.K.Ord.cmp (map_of l.tree)) (map (λ w. w.key) (take l.wanted-index l.keys)) ≡ map Some ds)
-    × Holds l.sip zero_key (flat_map (λ d. d) ds)
+-- the keys of the first nodes are there, and their digests are written
+abbrev pub invariant-nodes : goal.invariant-nodes
+invariant-nodes g l = record {
+  kept : g.T.KeptTree.kept l.tree ≡ g.T.KeptTree.kept l.fn.tree;
+  ds : List (List ℕ);
+  there : map (get g.K.Ord.cmp ((g.T.KeptTree.kept l.fn.tree).digests.map)) (below_keys (take l.node-index l.nodes)) ≡ map Some ds;
+  written : Holds l.sip zero_key (flat_map (λ d. d) ds);
+}

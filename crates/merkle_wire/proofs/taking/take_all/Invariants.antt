@@ -1,6 +1,6 @@
 use Rattle.std.proofs.Common.{◌≡◌, ◌++◌, length}
 use Rattle.std.specs.Vec.Iter.{into_iter_items, into_iter_len}
-use Rattle.merkle_wire.specs.ItsRows.{ForItsRows}
+use Rattle.merkle_wire.specs.ItsRows.{ForRowsOf}
 use Rattle.merkle_wire.specs.Taking.{new_rows}
 use Rattle.merkle_wire.proofs.taking.take_all.Given as goal
 
@@ -9,5 +9,6 @@ abbrev pub invariant-rows : goal.invariant-rows
 invariant-rows g l = record {
   left : l.yielded ++ into_iter_items l.row-iterator ≡ l.fn.rows.items;
   count : into_iter_len l.row-iterator ≡ length (into_iter_items l.row-iterator);
-  taken : ForItsRows g.H.RowHasher.laws l.tree (λ local. l.work ≡ record l.fn.work { rows = l.fn.work.rows ++ new_rows g.H.RowHasher.laws local l.yielded });
+  kept : g.T.KeptTree.kept l.tree ≡ g.T.KeptTree.kept l.fn.tree;
+  taken : ForRowsOf g.H.RowHasher.laws (g.T.KeptTree.kept l.fn.tree).digests (λ local. l.work ≡ record l.fn.work { rows = l.fn.work.rows ++ new_rows g.H.RowHasher.laws local l.yielded });
 }

@@ -1,55 +1,46 @@
-use Rattle.std.proofs.Common.{◌+◌, [], length, take, map, Some, sym, subst, arith}
-use Rattle.std.proofs.lemmas.List.{take_all, length-map, length-take}
-use Rattle.std.proofs.lemmas.Result.{err_from_is_err_and}
+use Rattle.std.proofs.Common.{◌++◌, ◌∷◌, [], take, Some, refl, ap, sym, subst, ◌∙◌}
+use Rattle.std.proofs.lemmas.List.{take_all, take_more}
 use Rattle.merkle_search_tree.specs.Items.{bound_of}
 use Rattle.merkle_wire.specs.Gaps.{owned_gap}
-use Rattle.merkle_wire.proofs.ItemsMore.{map_more}
-use Rattle.merkle_wire.proofs.NewGaps.{ArePagesSoFar, pages_none, pages_more_of, pages_end}
-use Rattle.merkle_wire.proofs.Fronts.{refused_for}
-use Rattle.merkle_wire.proofs.Unfit.{no_pages}
+use Rattle.merkle_wire.specs.ItsRows.{ForRowsOf, side_of}
+use Rattle.merkle_wire.specs.Takes.{AddsBelow}
+use Rattle.merkle_wire.proofs.NewGaps.{AreGapsSoFar, gaps_none, gaps_more_of, gaps_end}
 use Rattle.merkle_wire.proofs.taking.take_pages.Goals as goal
 
-pub keys-init : goal.keys-init
-keys-init g c =
-    let laws = g.H.RowHasher.laws in
-    let begun = c.args.reader.now.left.now in
-    let gap = owned_gap c.args.gap.now in
-    subst (λ b. ArePagesSoFar laws c.args.tree.now gap b [] begun begun c.args.work.now c.args.work.now) (sym c.as_ref-after.ensures.value) (pages_none laws c.args.tree.now gap begun c.args.work.now)
-
-pub keys-preserved : goal.keys-preserved
-keys-preserved g c =
+pub nodes-init : goal.nodes-init
+nodes-init g c =
     let laws = g.H.RowHasher.laws in
     let gap = owned_gap c.args.gap.now in
-    let w = c.wanted-item.result in
-    let below = c.in_ok-take_below.ensures.taken in
-    subst (λ ks. ArePagesSoFar laws c.args.tree.now gap (Some w.key) ks c.args.reader.now.left.now c.take_below.new.reader.left.now c.args.work.now c.take_below.new.work)
-    (sym (map_more (λ x. x.key) c.args.keys.now c.keys.wanted-index w c.keys-test.true c.wanted-item.is))
-    (pages_more_of laws c.args.tree.now gap (bound_of c.keys.after) (map (λ x. x.key) (take c.keys.wanted-index c.args.keys.now)) w.key c.args.reader.now.left.now c.keys.reader.left.now c.take_below.new.reader.left.now
-    c.args.work.now c.keys.work c.take_below.new.work below.0 below.1 c.keys.invariant below.2 below.3 below.4 below.5)
+    record {
+      kept = refl;
+      so = λ rows of. let local = side_of (g.T.KeptTree.kept c.args.tree.now).digests rows in
+          subst (λ b. AreGapsSoFar laws local gap b [] c.args.work.now c.args.work.now) (sym c.as_ref-after.ensures.value) (gaps_none laws local gap c.args.work.now);
+    }
 
-pub returns-clause-taken : goal.returns-clause-taken
-returns-clause-taken g c =
+pub nodes-preserved : goal.nodes-preserved
+nodes-preserved g c =
     let laws = g.H.RowHasher.laws in
     let gap = owned_gap c.args.gap.now in
-    let keys = map (λ x. x.key) c.args.keys.now in
-    let so = subst (λ xs. ArePagesSoFar laws c.args.tree.now gap (bound_of c.keys.after) (map (λ x. x.key) xs) c.args.reader.now.left.now c.keys.reader.left.now c.args.work.now c.keys.work)
-    (take_all c.keys.wanted-index c.args.keys.now c.keys-test.false) c.keys.invariant in
-    let below = rw c.as_ref.ensures.value at c.in_ok-take_below-2.ensures.taken in
-    pages_end laws c.args.tree.now gap (bound_of c.keys.after) keys c.args.reader.now.left.now c.keys.reader.left.now c.take_below-2.new.reader.left.now
-    c.args.work.now c.keys.work c.take_below-2.new.work below.0 below.1 so below.2 below.3 below.4 below.5
+    let kept = c.nodes.invariant in
+    let below = c.args.below.now in
+    let i = c.nodes.node-index in
+    let node = c.node-item.result in
+    let added = subst (λ t. ForRowsOf laws t.digests (λ local. AddsBelow laws local (record { after = bound_of c.nodes.after; before = Some node.1.key }) node.0 c.nodes.work c.take_below.new.work)) kept.kept c.in_ok-take_below.ensures.added in
+    record {
+      kept = c.take_below.ensures.kept ∙ kept.kept;
+      so = λ rows of. let local = side_of (g.T.KeptTree.kept c.args.tree.now).digests rows in
+          subst (λ bs. AreGapsSoFar laws local gap (Some node.1.key) bs c.args.work.now c.take_below.new.work) (sym (take_more below i node c.nodes-test.true ∙ ap (λ z. take i below ++ z ∷ []) (sym c.node-item.is)))
+          (gaps_more_of laws local gap (bound_of c.nodes.after) (take i below) node c.args.work.now c.nodes.work c.take_below.new.work (kept.so rows of) (added rows of));
+    }
 
-pub returns-in_err-take_below-clause-refused : goal.returns-in_err-take_below-clause-refused
-returns-in_err-take_below-clause-refused g c =
-    let p = err_from_is_err_and c.from_residual.result c.from_residual.ensures.1 in
-    let so = c.keys.invariant in
-    rw (p.1, p.2) (refused_for _ _ c.in_err-take_below.field-0.0 (λ none.
-    no_pages (length c.args.keys.now + 1) c.args.reader.now.left.now c.keys.reader.left.now so.pages so.read so.lengths
-    (omega (arith, so.count, length-map (take c.keys.wanted-index c.args.keys.now) (λ x. x.key), length-take c.keys.wanted-index c.args.keys.now, c.keys-test.true)) none) c.in_err-take_below.ensures.refused)
-
-pub returns-in_err-take_below-2-clause-refused : goal.returns-in_err-take_below-2-clause-refused
-returns-in_err-take_below-2-clause-refused g c =
-    let p = err_from_is_err_and c.from_residual-in_err-take_below-2.result c.from_residual-in_err-take_below-2.ensures.1 in
-    let so = c.keys.invariant in
-    rw (p.1, p.2) (refused_for _ _ c.in_err-take_below-2.field-0.0 (λ none.
-    no_pages (length c.args.keys.now + 1) c.args.reader.now.left.now c.keys.reader.left.now so.pages so.read so.lengths
-    (omega (arith, so.count, length-map (take c.keys.wanted-index c.args.keys.now) (λ x. x.key), length-take c.keys.wanted-index c.args.keys.now)) none) c.in_err-take_below-2.ensures.refused)
+pub returns-clause-added : goal.returns-clause-added
+returns-clause-added g c = λ rows of.
+    let laws = g.H.RowHasher.laws in
+    let gap = owned_gap c.args.gap.now in
+    let local = side_of (g.T.KeptTree.kept c.args.tree.now).digests rows in
+    let below = c.args.below.now in
+    let last = c.args.last.now in
+    let added = subst (λ t. ForRowsOf laws t.digests (λ local. AddsBelow laws local (record { after = bound_of c.nodes.after; before = c.args.gap.now.before }) last c.nodes.work c.take_below-2.new.work)) c.nodes.invariant.kept
+    (rw c.as_ref.ensures.value at c.in_ok-take_below-2.ensures.added) in
+    gaps_end laws local gap (bound_of c.nodes.after) below last c.args.work.now c.nodes.work c.take_below-2.new.work
+    (subst (λ bs. AreGapsSoFar laws local gap (bound_of c.nodes.after) bs c.args.work.now c.nodes.work) (take_all c.nodes.node-index below c.nodes-test.false) (c.nodes.invariant.so rows of)) (added rows of)

@@ -1,0 +1,243 @@
+//! What came of a page, of a value or of the rows in a gap, as it is read.
+ghost use Rattle.std.specs.Prelude.{◌≡◌, ◌≢◌, ◌++◌, [], length, ◌+◌, map, flat_map, OnOk, IfOk, IfErr};
+ghost use Rattle.std.specs.List.{AllByRecursion};
+ghost use Rattle.merkle_bytes.specs.Reading.{Reads};
+ghost use Rattle.merkle_bytes.specs.Runs.{bound_key, row_behind, row_key, run_bytes};
+ghost use Rattle.merkle_wire.specs.Coming.{AscendIn, IsPageDigest, LiesIn};
+ghost use Rattle.merkle_wire.specs.Faults.{IsRefusedFor};
+ghost use Rattle.merkle_wire.specs.Gaps.{owned_gap};
+ghost use Rattle.merkle_wire.specs.Outlines.{keys_among, keys_told, outline_bytes, pages_bytes};
+ghost use Rattle.merkle_wire.specs.Reads.{AddsBehind, ReadsPart, ReadsValue, below_keys, digests_beside, nodes_bytes, nodes_read, outline_read, page_digests, page_keys};
+ghost use Rattle.merkle_wire.specs.Reads.{RefusesNodes, RefusesOutline, RefusesPart, RefusesRows};
+ghost use Rattle.merkle_wire.specs.Unfit.{NoDigests, NoPage, NoPageDigests, NoValue};
+
+use crate::gaps::OwnedGap;
+use crate::pages::decode_page;
+use crate::session_error::SessionError;
+use crate::wanted::Wanted;
+use crate::within::{keys_lie_in, rows_lie_in};
+use merkle_bytes::{Decode, Expected, KeyRun, Reader, decode_run};
+use merkle_digest::{Key, PageDigest};
+use merkle_replica::Join;
+
+/// A key that came, and the digest of its value.
+pub(crate) type NodeRead<'a, K> = (Wanted<K>, &'a [u8]);
+
+/// What came of the page over a gap.
+#[derive(Drop)]
+pub(crate) enum OutlineRead<'a, K, V> {
+    /// The rows of its nodes, and how many bytes they had.
+    Rows(Vec<(K, V)>, usize),
+    /// Its nodes.
+    Digests(Vec<NodeRead<'a, K>>),
+    /// The page, which has others below it.
+    Page(PageRead<K>),
+}
+
+/// A page that came.
+#[derive(Drop)]
+pub(crate) struct PageRead<K> {
+    /// The digest of its nodes.
+    pub(crate) digest: [u8; 16],
+    /// The digest of the page before each node, where there is one, and the key of the node.
+    pub(crate) below: Vec<(Option<PageDigest>, Wanted<K>)>,
+    /// The digest of the page after the last node, where there is one.
+    pub(crate) last: Option<PageDigest>,
+    /// How many bytes the keys had.
+    pub(crate) bytes: usize,
+}
+
+/// Reads what came of the page over a gap: its outline, or its nodes alone, where digests of values have this many bytes.
+pub(crate) fn read_outline<'a, K: Key + Decode, V: Join + Decode>(
+    reader: &mut Reader<'a>,
+    digest_bytes: usize,
+    with_pages: bool,
+    gap: &OwnedGap<K>,
+) -> Result<OutlineRead<'a, K, V>, SessionError>
+    ensures read { IfOk result (λ came. Reads reader.old
+        (outline_bytes K.encoding V.encoding (bound_key K.encoding [] gap.now.after) (outline_read came)) reader.new) }
+    ensures lies { IfOk result (λ came. LiesIn K.cmp digest_bytes (owned_gap gap.now) (outline_read came)) }
+    ensures refused { IfErr result (RefusesOutline K.cmp K.is_value V.is_value K.encoding V.encoding digest_bytes with_pages gap.now reader.old) }
+{
+    let mut run = KeyRun::behind(reader.alloc(), gap.after.as_ref())?;
+    let [kind] = reader.array::<1>()?;
+    if kind == 0 {
+        let before = reader.left().len();
+        let rows = read_rows(reader, gap, &mut run)?;
+        let bytes = before.saturating_sub(reader.left().len());
+        return Ok(OutlineRead::Rows(rows, bytes));
+    }
+    if kind == 1 {
+        let nodes = read_nodes(reader, digest_bytes, gap, &mut run)?;
+        return Ok(OutlineRead::Digests(nodes));
+    }
+    if kind == 2 && with_pages {
+        let page = read_page(reader, gap, &mut run)?;
+        return Ok(OutlineRead::Page(page));
+    }
+    Err(SessionError::Malformed(reader.unexpected(Expected::Kind)))
+}
+
+/// Reads rows in a gap.
+fn read_rows<K: Key + Decode, V: Join + Decode>(
+    reader: &mut Reader<'_>,
+    gap: &OwnedGap<K>,
+    run: &mut KeyRun,
+) -> Result<Vec<(K, V)>, SessionError>
+    ensures read { IfOk result (λ rows. Reads reader.old
+        (run_bytes (row_behind K.encoding V.encoding) (row_key K.encoding) run.old rows.items) reader.new) }
+    ensures lie { IfOk result (λ rows. AscendIn K.cmp (owned_gap gap.now) (map (λ r. r.0) rows.items)) }
+    ensures refused { IfErr result (RefusesRows K.cmp K.is_value V.is_value K.encoding V.encoding run.old gap.now reader.old) }
+{
+    let rows = decode_run::<(K, V)>(run, reader)?;
+    if !rows_lie_in(&rows, gap) {
+        return Err(SessionError::NotInGap);
+    }
+    Ok(rows)
+}
+
+/// Reads keys in a gap, with the digests of their values, of this many bytes each.
+fn read_nodes<'a, K: Key + Decode>(
+    reader: &mut Reader<'a>,
+    digest_bytes: usize,
+    gap: &OwnedGap<K>,
+    run: &mut KeyRun,
+) -> Result<Vec<NodeRead<'a, K>>, SessionError>
+    ensures read { IfOk result (λ nodes. Reads reader.old (nodes_bytes K.encoding run.old (nodes_read nodes.items)) reader.new) }
+    ensures lie { IfOk result (λ nodes. AscendIn K.cmp (owned_gap gap.now) (keys_among (nodes_read nodes.items))) }
+    ensures lengths { IfOk result (λ nodes. AllByRecursion (λ d. length d.1 ≡ digest_bytes) (nodes_read nodes.items)) }
+    ensures refused { IfErr result (RefusesNodes K.cmp K.is_value K.encoding digest_bytes run.old gap.now reader.old) }
+{
+    let keys = decode_run::<Wanted<K>>(run, reader)?;
+    if !keys_lie_in(&keys, gap) {
+        return Err(SessionError::NotInGap);
+    }
+    let nodes = read_digests(reader, digest_bytes, keys)?;
+    Ok(nodes)
+}
+
+/// Reads the digest of the value at each of the keys, of this many bytes.
+fn read_digests<'a, K: Key + Drop>(
+    reader: &mut Reader<'a>,
+    digest_bytes: usize,
+    keys: Vec<Wanted<K>>,
+) -> Result<Vec<NodeRead<'a, K>>, SessionError>
+    ensures keys { IfOk result (λ nodes. keys_among (nodes_read nodes.items) ≡ map (λ w. w.key) keys.items) }
+    ensures read { IfOk result (λ nodes. Reads reader.old (flat_map (λ d. d.1) (nodes_read nodes.items)) reader.new) }
+    ensures lengths { IfOk result (λ nodes. AllByRecursion (λ d. length d.1 ≡ digest_bytes) (nodes_read nodes.items)) }
+    ensures refused { IfErr result (IsRefusedFor (NoDigests digest_bytes (length keys.items) reader.old.left.now)) }
+{
+    let mut nodes = Vec::new(reader.alloc());
+    'keys: for wanted in keys {
+        let digest = reader.slice(digest_bytes)?;
+        nodes.push((wanted, digest))?;
+    }
+    Ok(nodes)
+}
+
+/// Reads a page that has others below it.
+fn read_page<K: Key + Decode>(
+    reader: &mut Reader<'_>,
+    gap: &OwnedGap<K>,
+    run: &mut KeyRun,
+) -> Result<PageRead<K>, SessionError>
+    ensures read { IfOk result (λ page. Reads reader.old
+        (page.digest ++ (keys_told K.encoding run.old (page_keys page) ++ pages_bytes (page_digests page))) reader.new) }
+    ensures some { IfOk result (λ page. page_keys page ≢ []) }
+    ensures lie { IfOk result (λ page. AscendIn K.cmp (owned_gap gap.now) (page_keys page)) }
+    ensures digest { IfOk result (λ page. length page.digest ≡ 16) }
+    ensures digests { IfOk result (λ page. AllByRecursion IsPageDigest (page_digests page)) }
+    ensures refused { IfErr result (IsRefusedFor (NoPage K.cmp K.is_value K.encoding run.old gap.now reader.old.left.now)) }
+{
+    let digest = reader.array::<16>()?;
+    let before = reader.left().len();
+    let keys = decode_run::<Wanted<K>>(run, reader)?;
+    let bytes = before.saturating_sub(reader.left().len());
+    if keys.is_empty() {
+        return Err(SessionError::NoNode);
+    }
+    if !keys_lie_in(&keys, gap) {
+        return Err(SessionError::NotInGap);
+    }
+    let (below, last) = read_pages(reader, keys)?;
+    Ok(PageRead {
+        digest,
+        below,
+        last,
+        bytes,
+    })
+}
+
+/// Reads the digests of the pages before the keys and after the last of them, each where there is one.
+fn read_pages<K: Key + Drop>(
+    reader: &mut Reader<'_>,
+    keys: Vec<Wanted<K>>,
+) -> Result<(Vec<(Option<PageDigest>, Wanted<K>)>, Option<PageDigest>), SessionError>
+    ensures keys { IfOk result (λ pages. below_keys pages.0.items ≡ map (λ w. w.key) keys.items) }
+    ensures read { IfOk result (λ pages. Reads reader.old (pages_bytes (digests_beside pages.0.items pages.1)) reader.new) }
+    ensures digests { IfOk result (λ pages. AllByRecursion IsPageDigest (digests_beside pages.0.items pages.1)) }
+    ensures refused { IfErr result (IsRefusedFor (NoPageDigests (length keys.items + 1) reader.old.left.now)) }
+{
+    let mut below = Vec::new(reader.alloc());
+    'keys: for wanted in keys {
+        let page = decode_page(reader)?;
+        below.push((page, wanted))?;
+    }
+    let last = decode_page(reader)?;
+    Ok((below, last))
+}
+
+/// Reads the value at a key that was asked for, and adds the row, where the peer has one.
+pub(crate) fn read_value<K: Key + Decode, V: Join + Decode>(
+    reader: &mut Reader<'_>,
+    wanted: Wanted<K>,
+    rows: &mut Vec<(K, V)>,
+) -> Result<(), SessionError>
+    ensures read { OnOk result (ReadsValue V.encoding wanted reader.old reader.new rows.old.items rows.new.items) }
+    ensures refused { IfErr result (IsRefusedFor (NoValue V.is_value V.encoding reader.old.left.now)) }
+{
+    let Some(value) = Option::<V>::decode(reader)? else {
+        return Ok(());
+    };
+    rows.push((wanted.key, value))?;
+    Ok(())
+}
+
+/// Reads the rows in a gap, or the first of them, and adds them, and the gap after these, where there are more.
+pub(crate) fn read_part<K: Key + Decode, V: Join + Decode>(
+    reader: &mut Reader<'_>,
+    gap: &OwnedGap<K>,
+    rows: &mut Vec<(K, V)>,
+    left: &mut Vec<OwnedGap<K>>,
+) -> Result<(), SessionError>
+    ensures read { OnOk result (ReadsPart K.cmp K.encoding V.encoding gap.now reader.old reader.new rows.old.items rows.new.items
+        left.old.items left.new.items) }
+    ensures refused { IfErr result (RefusesPart K.cmp K.is_value V.is_value K.encoding V.encoding gap.now reader.old) }
+{
+    let mut run = KeyRun::behind(reader.alloc(), gap.after.as_ref())?;
+    let mut part = read_rows(reader, gap, &mut run)?;
+    if reader.flag()? {
+        rows.append(&mut part)?;
+        return Ok(());
+    }
+    add_behind(&part, gap, left)?;
+    rows.append(&mut part)?;
+    Ok(())
+}
+
+/// Adds what is left of a gap after the last of the rows.
+fn add_behind<K: Key, V>(
+    rows: &[(K, V)],
+    gap: &OwnedGap<K>,
+    left: &mut Vec<OwnedGap<K>>,
+) -> Result<(), SessionError>
+    ensures added { OnOk result (AddsBehind K.cmp rows.now gap.now left.old.items left.new.items) }
+    ensures refused { IfErr result (IsRefusedFor (rows.now ≡ [])) }
+{
+    let Some(last) = rows.last() else {
+        return Err(SessionError::NothingCame);
+    };
+    let own = OwnedGap::between(Some(&last.0), gap.before.as_ref())?;
+    left.push(own)?;
+    Ok(())
+}
