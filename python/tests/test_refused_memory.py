@@ -70,8 +70,8 @@ def sweep(name, call, check):
 def main():
     from mst import Tree
 
-    from .test_replica import joined, said_by
-    from .test_sync_tree import Side, asks_at, asks_in, rows_of
+    from .common import Side, joined, rows_of, said_by
+    from .test_sync_tree import asks_at, asks_in
 
     left, right = [{b"%d" % i: b"%d" % step * 20 for i in range(0, 120, step)} for step in (2, 3)]
     side, theirs, refusing, said = Side(left), Side(right), ctypes.CDLL(None), []
